@@ -1,0 +1,4 @@
+mod Rows
+pub mod Ranges
+pub mod Sizes
+pub mod ApplicationLemmas

@@ -1,0 +1,72 @@
+//! A file identifier, a range of the flat image, and the sizes of a card's files.
+
+/// The identifier of an elementary file.
+#[derive(Clone, Copy, Debug, Default, PartialEq, Eq)]
+pub struct Fid(pub u16);
+
+impl Fid {
+    /// Chip identification.
+    pub const ICC: Fid = Fid(0x0002);
+    /// Identification of the integrated circuit.
+    pub const IC: Fid = Fid(0x0005);
+    /// Application_Identification, which tells the sizes of the other files.
+    pub const APPLICATION: Fid = Fid(0x0501);
+    /// Events_Data.
+    pub const EVENTS: Fid = Fid(0x0502);
+    /// Faults_Data.
+    pub const FAULTS: Fid = Fid(0x0503);
+    /// Driver_Activity_Data, the string of days.
+    pub const ACTIVITY: Fid = Fid(0x0504);
+    /// Vehicles_Used.
+    pub const VEHICLES: Fid = Fid(0x0505);
+    /// Places.
+    pub const PLACES: Fid = Fid(0x0506);
+    /// Current_Usage.
+    pub const CURRENT_USE: Fid = Fid(0x0507);
+    /// Control_Activity_Data.
+    pub const CONTROL: Fid = Fid(0x0508);
+    /// Card_Download.
+    pub const DOWNLOAD: Fid = Fid(0x050E);
+    /// Identification of the card and of its holder.
+    pub const IDENTIFICATION: Fid = Fid(0x0520);
+    /// Driving_Licence_Info.
+    pub const LICENCE: Fid = Fid(0x0521);
+    /// Specific_Conditions.
+    pub const CONDITIONS: Fid = Fid(0x0522);
+    /// Card_Certificate.
+    pub const CARD_CERTIFICATE: Fid = Fid(0xC100);
+    /// CA_Certificate.
+    pub const CA_CERTIFICATE: Fid = Fid(0xC108);
+}
+
+/// A range of the flat image: `len` bytes from place `base` on.
+#[derive(Clone, Copy, Debug, Default, PartialEq, Eq)]
+pub struct Range {
+    pub base: u32,
+    pub len: u32,
+}
+
+/// An elementary file: its identifier, its size in bytes, and whether the unit updates it.
+#[derive(Clone, Copy, Debug, Default, PartialEq, Eq)]
+pub struct CardFile {
+    pub fid: Fid,
+    pub size: u32,
+    pub updated: bool,
+}
+
+/// What Application_Identification tells beside the card type, which is that of a driver card.
+#[derive(Clone, Copy, Debug, Default, PartialEq, Eq)]
+pub struct Application {
+    /// The version of the card's structure.
+    pub structure: u16,
+    /// Events of each type, 6 to 12.
+    pub events: u8,
+    /// Faults of each type, 12 to 24.
+    pub faults: u8,
+    /// The length of the string of days in bytes, even, 5544 to 13776.
+    pub activity: u16,
+    /// Vehicle entries, 84 to 200.
+    pub vehicles: u16,
+    /// Place entries, 84 to 112.
+    pub places: u8,
+}

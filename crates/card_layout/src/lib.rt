@@ -1,0 +1,8 @@
+//! The files of a driver card, as one flat image: their order, identifiers, sizes and places
+//! (Annex IB, Appendix 2, section 4), and the file Application_Identification, which tells the
+//! sizes. The definitions stand in `specs/`; this crate holds the small types that they speak of.
+#![tactic(auto)]
+
+mod files;
+
+pub use files::{Application, CardFile, Fid, Range};

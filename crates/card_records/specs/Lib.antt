@@ -1,0 +1,3 @@
+pub mod Vehicles
+pub mod Events
+pub mod CurrentUses

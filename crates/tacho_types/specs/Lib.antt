@@ -1,0 +1,5 @@
+pub mod Numbers
+pub mod Decimal
+pub mod CardNumber
+pub mod Places
+pub mod Calendar

@@ -1,0 +1,27 @@
+-- Times, odometer values and distances in bytes (Appendix 1), with the highest byte first.
+use Rattle.std.specs.Prelude.{ℕ, List}
+use Rattle.byteorder.specs.Endian.{big_number, big_bytes}
+use Rattle.tacho_types.specs.declared.numbers.TimeReal.{TimeReal}
+use Rattle.tacho_types.specs.declared.numbers.Odometer.{Odometer}
+use Rattle.tacho_types.specs.declared.numbers.Distance.{Distance}
+
+-- TimeReal: four bytes
+abbrev pub time_bytes : TimeReal → List ℕ
+time_bytes v = big_bytes 4 v.0
+
+abbrev pub time_of : List ℕ → TimeReal
+time_of bytes = record { 0 = big_number 4 bytes }
+
+-- OdometerShort: three bytes
+abbrev pub odometer_bytes : Odometer → List ℕ
+odometer_bytes v = big_bytes 3 v.0
+
+abbrev pub odometer_of : List ℕ → Odometer
+odometer_of bytes = record { 0 = big_number 3 bytes }
+
+-- Distance: two bytes
+abbrev pub distance_bytes : Distance → List ℕ
+distance_bytes v = big_bytes 2 v.0
+
+abbrev pub distance_of : List ℕ → Distance
+distance_of bytes = record { 0 = big_number 2 bytes }
