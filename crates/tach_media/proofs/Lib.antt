@@ -1,0 +1,8 @@
+pub mod Lending
+pub mod Chunks
+pub mod Images
+pub mod Ranges
+pub mod Runs
+mod MediumRows
+mod MemoryLaws
+mod Parts

@@ -1,0 +1,52 @@
+-- Rows of the crash model, computed from its definitions.
+use Rattle.std.proofs.Common.{◌≡◌, refl, List, ℕ, [], ◌∷◌, true, false, inl}
+use Rattle.tach_media.specs.Medium.{put}
+use Rattle.tach_media.specs.Counting.{failed_once}
+use Rattle.tach_media.specs.Log.{image_left, image_after, MightLeave}
+use Rattle.tach_media.specs.declared.log.Entry.{Entry}
+use Rattle.tach_media.specs.declared.log.Left.TheVariants.{Before, After, Torn}
+
+abbrev six : List ℕ
+six = 0 ∷ 1 ∷ 2 ∷ 3 ∷ 4 ∷ 5 ∷ []
+
+-- a write of two bytes at place 3
+put_two : put 3 (8 ∷ 9 ∷ []) six ≡ 0 ∷ 1 ∷ 2 ∷ 8 ∷ 9 ∷ 5 ∷ []
+put_two = refl
+
+-- what a stop leaves of a write of four bytes, and of five
+before_four : image_left Before 1 (9 ∷ 9 ∷ 9 ∷ 9 ∷ []) six ≡ six
+before_four = refl
+
+after_four : image_left After 1 (9 ∷ 9 ∷ 9 ∷ 9 ∷ []) six ≡ 0 ∷ 9 ∷ 9 ∷ 9 ∷ 9 ∷ 5 ∷ []
+after_four = refl
+
+torn_four : image_left (Torn 7) 1 (9 ∷ 9 ∷ 9 ∷ 9 ∷ []) six ≡ six
+torn_four = refl
+
+torn_five : image_left (Torn 7) 1 (9 ∷ 9 ∷ 9 ∷ 9 ∷ 9 ∷ []) six ≡ 0 ∷ 7 ∷ 7 ∷ 7 ∷ 7 ∷ 7 ∷ []
+torn_five = refl
+
+-- two writes, whose bytes stand one after the other
+abbrev two_writes : List Entry
+two_writes = record { place = 0; len = 1; left = After } ∷ record { place = 4; len = 2; left = After } ∷ []
+
+after_two : image_after two_writes (7 ∷ 8 ∷ 9 ∷ []) six ≡ 7 ∷ 1 ∷ 2 ∷ 3 ∷ 8 ∷ 9 ∷ []
+after_two = refl
+
+-- since both had ended a stop leaves the new image alone
+since_both : (c : List ℕ) → MightLeave two_writes (7 ∷ 8 ∷ 9 ∷ []) six 2 c → c ≡ 7 ∷ 1 ∷ 2 ∷ 3 ∷ 8 ∷ 9 ∷ []
+since_both c left = left
+
+-- since the first had ended it might have left the image between them
+since_first : MightLeave two_writes (7 ∷ 8 ∷ 9 ∷ []) six 1 (7 ∷ 1 ∷ 2 ∷ 3 ∷ 4 ∷ 5 ∷ [])
+since_first = inl (record { outside = record { before = refl; after = refl; same_length = refl }; whole = λ short. inl refl })
+
+-- a failure breaks what works, and only that
+first_failure : failed_once (record { works = true; faults = 2; breakdowns = 0 }) ≡ record { works = false; faults = 3; breakdowns = 1 }
+first_failure = refl
+
+next_failure : failed_once (record { works = false; faults = 3; breakdowns = 1 }) ≡ record { works = false; faults = 4; breakdowns = 1 }
+next_failure = refl
+
+last_failure : failed_once (record { works = false; faults = 18446744073709551615; breakdowns = 1 }) ≡ record { works = false; faults = 18446744073709551615; breakdowns = 1 }
+last_failure = refl

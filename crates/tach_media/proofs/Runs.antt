@@ -1,0 +1,146 @@
+-- How a run of device calls goes on.
+use Rattle.std.proofs.Common.{true, sym, ◌≡◌, inl, inr, ⊎_elim, ℕ, Bool, false, List, Option, Some, None, is_some, option_map, IfSome, refl, ◌∙◌, ap, subst, arith}
+use Rattle.tach_media.specs.Medium.{State, IsCoherent, LeavesOnly, Reads, HasCause, IsSettled, Unchanged}
+
+-- no call yet
+pub starts : (s : State) (R : List ℕ → List ℕ → Type 0) → LeavesOnly s s R
+starts s R = record { size = refl; writable = refl; lenders = refl; tells = refl; later = omega arith; since = λ t c le left. inl left; now = λ c left. inl left; keeps = λ t c le left. left }
+
+-- a run, said more weakly
+pub weaken : {old new : State} {R S : List ℕ → List ℕ → Type 0} → LeavesOnly old new S → ((x c : List ℕ) → old.image ≡ Some x → S x c → R x c) → LeavesOnly old new R
+weaken {old} {new} {R} {S} run weaker = record {
+  size = run.size;
+  writable = run.writable;
+  lenders = run.lenders;
+  tells = run.tells;
+  later = run.later;
+  since = λ t c le left. ⊎_elim inl (λ here. inr (relate c here)) (run.since t c le left);
+  now = λ c left. ⊎_elim inl (λ here. inr (relate c here)) (run.now c left);
+  keeps = run.keeps;
+}
+  where
+    relate : (c : List ℕ) → ((x : List ℕ) × (old.image ≡ Some x) × S x c) → ((x : List ℕ) × (old.image ≡ Some x) × R x c)
+    relate c here = (here.0, here.1, weaker here.0 c here.1 here.2)
+
+-- one where an option with an equal test has one
+pub told_too : (o p : Option (List ℕ)) (y : List ℕ) → is_some o ≡ is_some p → o ≡ Some y → (x : List ℕ) × (p ≡ Some x)
+told_too o (Some x) y same is = (x, refl)
+told_too o None y same is = absurd (grind (arith, same, ap is_some is))
+
+-- reads alone, which leave no image that was not left before
+pub from_reads : {old new : State} {R : List ℕ → List ℕ → Type 0} → LeavesOnly old new Unchanged → LeavesOnly old new R
+from_reads run = weaken run (λ x c was none. absurd none)
+
+-- A run goes on with another, whose images are so related to the one before the first.
+pub goes_on : {old mid new : State} {R S : List ℕ → List ℕ → Type 0} → LeavesOnly old mid R → LeavesOnly mid new S
+    → ((x y c : List ℕ) → old.image ≡ Some x → mid.image ≡ Some y → S y c → R x c) → LeavesOnly old new R
+goes_on {old} {mid} {new} {R} {S} first next weaker = record {
+  size = next.size ∙ first.size;
+  writable = next.writable ∙ first.writable;
+  lenders = next.lenders ∙ first.lenders;
+  tells = next.tells ∙ first.tells;
+  later = omega (arith, first.later, next.later);
+  since = λ t c le left. ⊎_elim (first.since t c le) (λ here. inr (relate c here)) (next.since t c (omega (arith, le, first.later)) left);
+  now = λ c left. ⊎_elim (first.now c) (λ here. inr (relate c here)) (next.now c left);
+  keeps = λ t c le left. next.keeps t c (omega (arith, le, first.later)) (first.keeps t c le left);
+}
+  where
+    relate : (c : List ℕ) → ((y : List ℕ) × (mid.image ≡ Some y) × S y c) → ((x : List ℕ) × (old.image ≡ Some x) × R x c)
+    relate c here =
+        let before = told_too mid.image old.image here.0 first.tells here.1 in
+        (before.0, before.1, weaker before.0 here.0 c before.1 here.1 here.2)
+
+-- the same where the first run turned the image into one that is known
+pub goes_by : {old mid new : State} {R S : List ℕ → List ℕ → Type 0} (f : List ℕ → List ℕ) → LeavesOnly old mid R → mid.image ≡ option_map f old.image → LeavesOnly mid new S
+    → ((x c : List ℕ) → old.image ≡ Some x → S (f x) c → R x c) → LeavesOnly old new R
+goes_by {old} {mid} {new} {R} {S} f first known next weaker = goes_on first next (λ x y c was is here. weaker x c was (subst (λ (l : List ℕ). S l c) (turned x y was is) here))
+  where
+    turned : (x y : List ℕ) → old.image ≡ Some x → mid.image ≡ Some y → y ≡ f x
+    turned x y was is = let made : mid.image ≡ Some (f x) = known ∙ ap (option_map f) was in cc
+
+-- a run that adds no image
+pub goes_same : {old mid new : State} {R : List ℕ → List ℕ → Type 0} → LeavesOnly old mid R → LeavesOnly mid new Unchanged → LeavesOnly old new R
+goes_same first next = goes_on first next (λ x y c was is none. absurd none)
+
+-- reads before a run
+pub after_reads : {old mid new : State} {R : List ℕ → List ℕ → Type 0} → LeavesOnly old mid Unchanged → mid.image ≡ old.image → LeavesOnly mid new R → LeavesOnly old new R
+after_reads {old} {mid} {new} {R} first same next = goes_on (weaken first (λ x c was none. absurd none)) next (λ x y c was is here. subst (λ (l : List ℕ). R l c) (one x y was is) here)
+  where
+    one : (x y : List ℕ) → old.image ≡ Some x → mid.image ≡ Some y → y ≡ x
+    one x y was is = cc
+
+-- the image after two runs that turned it into known ones
+pub image_then : (o p q : Option (List ℕ)) (f h : List ℕ → List ℕ) → p ≡ option_map f o → q ≡ option_map h p → q ≡ option_map (λ x. h (f x)) o
+image_then o p q f h first next = next ∙ ap (option_map h) first ∙ twice o
+  where
+    twice : (o : Option (List ℕ)) → option_map h (option_map f o) ≡ option_map (λ x. h (f x)) o
+    twice None = refl
+    twice (Some x) = refl
+
+-- the cause of an answer after a run that answered Ok
+pub cause_after : {old mid new : State} {failed : Bool} → HasCause old mid false → HasCause mid new failed → HasCause old new failed
+cause_after {old} {mid} {new} {failed} first next = record {
+  works = next.works;
+  broken = λ was. absurd (grind (arith, first.broken was));
+  faults = omega (arith, first.faults, next.faults);
+  fault = λ f. omega (arith, first.faults, next.fault f);
+  breakdowns = omega (arith, first.breakdowns, next.breakdowns);
+  breaks = λ was f. rw (← first.unbroken refl) (next.breaks first.works f);
+  unbroken = λ f. next.unbroken f ∙ first.unbroken refl;
+  already = λ was. absurd (grind (arith, first.broken was));
+}
+
+-- what is said of a told image
+pub at_image : {o : Option (List ℕ)} (P : List ℕ → Type 0) {x : List ℕ} → o ≡ Some x → IfSome o P → P x
+at_image {o} P {x} is said = subst (λ (p : Option (List ℕ)). IfSome p P) is said
+
+-- what holds of the images before and after where they are told
+pub where_told : (o p : Option (List ℕ)) (R : List ℕ → List ℕ → Type 0) → ((x y : List ℕ) → o ≡ Some x → p ≡ Some y → R x y) → IfSome o (λ x. IfSome p (R x))
+where_told None p R all = tt
+where_told (Some x) None R all = tt
+where_told (Some x) (Some y) R all = all x y refl refl
+
+-- the image that a run turned into a known one
+pub turned_into : {o p : Option (List ℕ)} (f : List ℕ → List ℕ) {x y : List ℕ} → p ≡ option_map f o → o ≡ Some x → p ≡ Some y → y ≡ f x
+turned_into {o} {p} f {x} {y} known was is = let made : p ≡ Some (f x) = known ∙ ap (option_map f) was in cc
+
+-- from two facts of a told image to a third
+pub both_told : (o : Option (List ℕ)) {A B : List ℕ → Type 0} (C : List ℕ → Type 0) → IfSome o A → IfSome o B → ((x : List ℕ) → o ≡ Some x → A x → B x → C x) → IfSome o C
+both_told None C a b all = tt
+both_told (Some x) C a b all = all x refl a b
+
+-- the image after two runs, by what the two do to a told image
+pub image_both : (o p q : Option (List ℕ)) (f h k : List ℕ → List ℕ) → p ≡ option_map f o → q ≡ option_map h p → ((x : List ℕ) → o ≡ Some x → h (f x) ≡ k x) → q ≡ option_map k o
+image_both None p q f h k first next same = next ∙ ap (option_map h) first
+image_both (Some x) p q f h k first next same = next ∙ ap (option_map h) first ∙ ap Some (same x refl)
+
+-- reads go on with reads
+pub reads_then : {old mid new : State} {failed : Bool} → Reads old mid false → Reads mid new failed → Reads old new failed
+reads_then first next = record { same = λ fine. next.same fine ∙ first.same refl; leaves = goes_same first.leaves next.leaves; clock = next.clock ∙ first.clock; cause = cause_after first.cause next.cause }
+
+-- a `revive` leaves one of the images that a stop might have left before
+pub revived : {old new : State} → IsCoherent new → LeavesOnly old new Unchanged → (x : List ℕ) → new.image ≡ Some x → old.may_leave x
+revived {old} {new} whole run x is = ⊎_elim (λ was. was) (λ none. absurd none.2) (run.now x (whole.is_left x is))
+
+-- and on a medium that works it changes no byte
+pub unmoved : {old new : State} → IsCoherent old → IsCoherent new → old.works ≡ true → LeavesOnly old new Unchanged → (x : List ℕ) → new.image ≡ Some x → old.image ≡ Some x
+unmoved before after works run x is = before.only x works (revived after run x is)
+
+-- after an Ok a stop leaves the image alone
+pub only_image : {old new : State} → IsCoherent new → HasCause old new false → (x : List ℕ) → new.may_leave x → new.image ≡ Some x
+only_image whole cause x left = whole.only x cause.works left
+
+-- no read yet, on a medium that works
+pub no_reads : (s : State) → s.works ≡ true → Reads s s false
+no_reads s works = record {
+  same = λ fine. refl;
+  leaves = starts s Unchanged;
+  clock = refl;
+  cause = record { works = works; broken = λ was. sym was ∙ works; faults = omega arith; fault = λ f. absurd (cc); breakdowns = omega arith; breaks = λ was f. absurd (cc); unbroken = λ f. refl; already = λ was. refl };
+}
+
+-- reads leave settled what was
+pub still_settled : {old new : State} → Reads old new false → IsSettled old → IsSettled new
+still_settled {old} {new} reads settled c left =
+    let was : old.left_since old.clock c = ⊎_elim (λ l. l) (λ none. absurd none.2) (reads.leaves.since old.clock c (omega arith) (subst (λ (t : ℕ). new.left_since t c) reads.clock left)) in
+    reads.same refl ∙ settled c was

@@ -1,0 +1,11 @@
+pub mod Chip
+pub mod Commands
+pub mod Counting
+pub mod Log
+pub mod LogLaws
+pub mod Medium
+pub mod MemMedium
+pub mod MemStreams
+pub mod SliceMedium
+pub mod Streams
+pub mod Untold

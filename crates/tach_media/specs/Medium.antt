@@ -1,0 +1,135 @@
+-- What a medium tells of itself, and what its calls do to that.
+use Rattle.std.specs.Prelude.{◌≡◌, ◌⊎◌, ℕ, ◌+◌, ◌≤◌, ◌^◌, ◌-◌, min, Bool, true, false, not, List, [], ◌∷◌, ◌++◌, length, take, drop, Option, Some, is_some}
+use Rattle.std.specs.Borrow.{GName}
+
+-- A medium as far as it tells. One that doesn't tell its image tells of no image that a stop may leave.
+pub record State : Type 1 where
+  pub size : ℕ
+  -- the ranges that may be written, each by its place and its length
+  pub writable : List (ℕ × ℕ)
+  -- the image that a read gives
+  pub image : Option (List ℕ)
+  -- a stop may leave this image now
+  pub may_leave : List ℕ → Type 0
+  -- a stop might have left this image at a moment after that many writes had ended
+  pub left_since : ℕ → List ℕ → Type 0
+  -- how many writes were begun
+  pub clock : ℕ
+  -- no call has failed since the last `revive`
+  pub works : Bool
+  pub faults : ℕ
+  pub breakdowns : ℕ
+  -- the references through which it is reached, the outermost first
+  pub lenders : List GName
+
+-- What joins these meanings, at every moment.
+pub record IsCoherent (s : State) : Type 0 where
+  pub sized : (x : List ℕ) → s.image ≡ Some x → length x ≡ s.size
+  -- the image is one that a stop may leave, and the only one while the medium works
+  pub is_left : (x : List ℕ) → s.image ≡ Some x → s.may_leave x
+  pub only : (x : List ℕ) → s.works ≡ true → s.may_leave x → s.image ≡ Some x
+  -- this moment is one of those since an earlier one
+  pub counts_now : (t : ℕ) (x : List ℕ) → t ≤ s.clock → s.may_leave x → s.left_since t x
+  pub earlier : (t u : ℕ) (x : List ℕ) → t ≤ u → u ≤ s.clock → s.left_since u x → s.left_since t x
+
+-- the last value of a count
+abbrev pub last_count : ℕ
+last_count = 2 ^ 64 - 1
+
+-- a count has risen, or stands at its last value
+abbrev pub Rose : ℕ → ℕ → Type 0
+Rose before now = min (before + 1) last_count ≤ now
+
+-- the range lies inside one of these
+abbrev pub LiesInside : List (ℕ × ℕ) → ℕ → ℕ → Type 0
+LiesInside [] place len = ⊥
+LiesInside (range ∷ ranges) place len = ((range.0 ≤ place) × (place + len ≤ range.0 + range.1)) ⊎ LiesInside ranges place len
+
+-- an image with other bytes at a place
+abbrev pub put : ℕ → List ℕ → List ℕ → List ℕ
+put place bytes image = take place image ++ (bytes ++ drop (place + length bytes) image)
+
+-- the bytes of an image at a place
+abbrev pub bytes_at : List ℕ → ℕ → ℕ → List ℕ
+bytes_at image place len = take len (drop place image)
+
+-- two images that differ in this range alone
+pub record SameOutside (place len : ℕ) (old new : List ℕ) : Type 0 where
+  pub before : take place new ≡ take place old
+  pub after : drop (place + len) new ≡ drop (place + len) old
+  pub same_length : length new ≡ length old
+
+-- A write of these bytes that is cut short: of at most four all are written or none, of more there may be any bytes in the range.
+pub record IsPartlyWritten (place : ℕ) (bytes old new : List ℕ) : Type 0 where
+  pub outside : SameOutside place (length bytes) old new
+  pub whole : length bytes ≤ 4 → (new ≡ old) ⊎ (new ≡ put place bytes old)
+
+-- nothing is left but what was left before
+abbrev pub Unchanged : List ℕ → List ℕ → Type 0
+Unchanged old new = ⊥
+
+-- What a run of calls does. Where the image is told, a stop at a moment of the run leaves an image that is so related to
+-- the one before the run, and at no earlier moment another than was told before.
+pub record LeavesOnly (old new : State) (R : List ℕ → List ℕ → Type 0) : Type 0 where
+  pub size : new.size ≡ old.size
+  pub writable : new.writable ≡ old.writable
+  pub lenders : new.lenders ≡ old.lenders
+  pub tells : is_some new.image ≡ is_some old.image
+  pub later : old.clock ≤ new.clock
+  pub since : (t : ℕ) (c : List ℕ) → t ≤ old.clock → new.left_since t c → old.left_since t c ⊎ ((x : List ℕ) × (old.image ≡ Some x) × R x c)
+  pub now : (c : List ℕ) → new.may_leave c → old.may_leave c ⊎ ((x : List ℕ) × (old.image ≡ Some x) × R x c)
+  -- what might have been left before might still
+  pub keeps : (t : ℕ) (c : List ℕ) → t ≤ old.clock → old.left_since t c → new.left_since t c
+
+-- since its last write, a stop leaves the image alone
+abbrev pub IsSettled : State → Type 0
+IsSettled s = (c : List ℕ) → s.left_since s.clock c → s.image ≡ Some c
+
+-- What an answer says of the medium and its counts. `failed` is whether it is `Failed`.
+pub record HasCause (old new : State) (failed : Bool) : Type 0 where
+  pub works : new.works ≡ not failed
+  pub broken : old.works ≡ false → failed ≡ true
+  pub faults : old.faults ≤ new.faults
+  pub fault : failed ≡ true → Rose old.faults new.faults
+  pub breakdowns : old.breakdowns ≤ new.breakdowns
+  -- a failure breaks what works; no other call is a breakdown
+  pub breaks : old.works ≡ true → failed ≡ true → Rose old.breakdowns new.breakdowns
+  pub unbroken : failed ≡ false → new.breakdowns ≡ old.breakdowns
+  pub already : old.works ≡ false → new.breakdowns ≡ old.breakdowns
+
+-- What a call does that only reads.
+pub record Reads (old new : State) (failed : Bool) : Type 0 where
+  pub same : failed ≡ false → new.image ≡ old.image
+  pub leaves : LeavesOnly old new Unchanged
+  pub clock : new.clock ≡ old.clock
+  pub cause : HasCause old new failed
+
+-- a medium reached through a reference
+abbrev pub lent : GName → State → State
+lent name s = record s { lenders = name ∷ s.lenders }
+
+pub lent_coherent : (name : GName) (s : State) → IsCoherent s → IsCoherent (lent name s)
+lent_coherent name s whole = record { sized = whole.sized; is_left = whole.is_left; only = whole.only; counts_now = whole.counts_now; earlier = whole.earlier }
+
+-- as if the medium worked: a `revive` that fails is a breakdown too
+abbrev pub revivable : State → State
+revivable s = record s { works = true }
+
+-- a new medium in memory, with this image and no fault
+pub record IsNew (bytes : List ℕ) (s : State) : Type 0 where
+  pub size : s.size ≡ length bytes
+  pub writable : LiesInside s.writable 0 (length bytes)
+  pub image : s.image ≡ Some bytes
+  pub works : s.works ≡ true
+  pub clock : s.clock ≡ 0
+  pub settled : IsSettled s
+  pub faults : s.faults ≡ 0
+  pub breakdowns : s.breakdowns ≡ 0
+
+-- a medium of this size on which no call was made, and of which all may be written
+pub record IsUntouched (size : ℕ) (s : State) : Type 0 where
+  pub sized : s.size ≡ size
+  pub writable : LiesInside s.writable 0 size
+  pub clock : s.clock ≡ 0
+  pub faults : s.faults ≡ 0
+  pub breakdowns : s.breakdowns ≡ 0

@@ -1,0 +1,41 @@
+//! The outside of the tachograph: sources and sinks of bytes, media and chips that a stop may cut off at any
+//! moment, and what stands for each of them in memory, in a file, or where there is none.
+#![tactic(auto)]
+
+mod absent;
+mod absent_chip;
+mod chip;
+mod command;
+mod counts;
+mod fault;
+mod file;
+mod lent;
+mod log;
+mod medium;
+mod mem_medium;
+mod mem_streams;
+mod slice;
+mod std_streams;
+mod stop;
+mod stream;
+mod transfer;
+
+pub use absent::AbsentMedium;
+pub use absent_chip::AbsentChip;
+pub use chip::{Answer, Chip};
+pub use command::{CardState, Command, Directory, ElementaryFile};
+pub use counts::Counts;
+pub use fault::{Failed, Memory};
+pub use file::FileMedium;
+pub use log::{Entry, Left, Log};
+pub use medium::Medium;
+pub use mem_medium::MemMedium;
+pub use mem_streams::{MemSink, MemSource};
+pub use slice::SliceMedium;
+pub use std_streams::{StdSink, StdSource};
+pub use stop::Stop;
+pub use stream::{Sink, Source};
+pub use transfer::{TakeFault, put_all, take_all};
+
+#[cfg(test)]
+mod tests;
