@@ -1,0 +1,10 @@
+pub mod Adding
+pub mod Dense
+pub mod Filling
+pub mod Listing
+pub mod Newest
+pub mod Orders
+pub mod Others
+pub mod Places
+pub mod Putting
+pub mod Writing

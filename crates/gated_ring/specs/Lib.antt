@@ -1,0 +1,4 @@
+pub mod Change
+pub mod Loading
+pub mod Ring
+pub mod Steps

@@ -1,0 +1,435 @@
+ghost use Rattle.std.specs.Prelude.{◌≡◌, ◌≢◌, ◌≤◌, ◌<◌, ◌+◌, ◌^◌, length, take, drop, replicate, IfOk, OnOk, IfSome, is_err, option_map, true, IsTrue, IsFalse, IfErr, IsOk, ◌⊎◌, ◌*◌, ◌-◌};
+ghost use Rattle.std.specs.List.{range_with_len};
+ghost use Rattle.std.specs.Int.{from_be_bytes, w32};
+ghost use Rattle.tach_media.specs.Medium.{bytes_at, LeavesOnly, Reads, HasCause, LiesInside, IsPartlyWritten, IsSettled, Rose, last_count};
+ghost use Rattle.gated_ring.specs.Ring.{IsShape, FitsIn, size_of, is_pointer_width, place_of, gate_of, gate_bytes, is_there, IsNewest, pointer, PointsInside, number_at, next, taken};
+ghost use Rattle.gated_ring.specs.Change.{IsAdding, IsAdded, IsReplaced, IsReplacingEntry, IsClosed, IsSet, OrUnwritten};
+ghost use Rattle.gated_ring.specs.Steps.{pointer_bytes, freed, filled, pointed, replaced, placed, IsFilling, IsReplacing, IsPlacing, IsNewestOf};
+
+use crate::RingFault;
+use crate::fields::{number, write};
+use std::marker::Model;
+use tach_media::{Failed, Medium};
+
+/// A place and a shape inside a medium: a pointer, which may be absent, and then `count` places of `width` bytes.
+/// An entry is there where its gate, a number of four bytes, is not 0. Such are the card's files with a pointer to the
+/// newest record (Annex IB, Appendix 2, EF Vehicles_Used and EF Places) and the rings of the unit's memory (profile).
+///
+/// The list of a ring goes from the index after the pointer round to the pointer, through the entries that are there.
+///
+/// The medium handed to a call has the size that it had at loading. What the calls say of the entries holds where the
+/// pointer is below the count, as [`Ring::load`] has found it and each call leaves it.
+#[derive(Debug, PartialEq, Eq, Clone, Copy)]
+pub struct Ring {
+    base: u32,
+    width: u32,
+    count: u32,
+    pointer_width: u32,
+    gate: u32,
+}
+
+impl Model for Ring {
+    ghost use Rattle.gated_ring.specs.Ring.{Shape, IsShape};
+
+    ghost Value = { Shape };
+
+    ghost view = { λ r. record { base = r.base; width = r.width; count = r.count; pointer_width = r.pointer_width; gate = r.gate } };
+
+    ghost invariant = { λ r. IsShape (record { base = r.base; width = r.width; count = r.count; pointer_width = r.pointer_width; gate = r.gate }) };
+
+    ghost inverse = { λ s. record { base = s.base; width = s.width; count = s.count; pointer_width = s.pointer_width; gate = s.gate } };
+}
+
+impl Ring {
+    ghost use Rattle.gated_ring.specs.Loading.{IfBadPointer, ReadsPointer, has_failed};
+
+    /// Loads a ring at `base`, of `count` entries of `width` bytes behind a pointer of `pointer_width` bytes, which is 0
+    /// where the ring has no pointer, or 1, 2 or 4. The gate stands at `gate` in each entry.
+    ///
+    /// # Errors
+    ///
+    /// 1. `Failed` where the medium failed.
+    /// 2. `BadPointer` exactly where the pointer is not below `count`.
+    pub fn load<M: Medium>(
+        medium: &mut M,
+        base: u32,
+        width: u32,
+        count: u32,
+        pointer_width: u8,
+        gate: u32,
+    ) -> Result<Ring, RingFault>
+        requires inside { base + (pointer_width + count * width) ≤ (M.state medium.old).size }
+        requires some { 0 < count }
+        requires pointer { IsTrue (is_pointer_width pointer_width) }
+        requires holds { 0 < pointer_width → count ≤ 256 ^ pointer_width }
+        requires gate { gate + 4 ≤ width }
+        ensures ok { IfOk result (λ ring. ring ≡ record { base = base; width = width; count = count; pointer_width = pointer_width; gate = gate }) }
+        ensures known { IfOk result (λ ring. IfSome (M.state medium.old).image (PointsInside ring)) }
+        ensures bad { IfErr result (λ fault. IfBadPointer fault (λ v. (count ≤ v) × IfSome (M.state medium.old).image (λ x. number_at x base pointer_width ≡ v))) }
+        ensures without { pointer_width ≡ 0 → IsOk result }
+        ensures reads { ReadsPointer pointer_width (M.state medium.old) (M.state medium.new) (has_failed result) }
+    {
+        // so the ring ends below 2 ^ 32
+        let _size = medium.size();
+        let ring = Ring {
+            base,
+            width,
+            count,
+            pointer_width: pointer_width as u32,
+            gate,
+        };
+        if pointer_width > 0 {
+            let pointer = number(medium, base, pointer_width as u32)?;
+            if pointer >= count {
+                return Err(RingFault::BadPointer(pointer));
+            }
+        }
+        Ok(ring)
+    }
+
+    // Where an entry begins.
+    fn place_of(&self, index: u32) -> u32
+        requires { index < self.now.count }
+        ensures place { result ≡ place_of self.now index }
+        ensures low { self.now.base ≤ result }
+        ensures high { result + self.now.width ≤ self.now.base + size_of self.now }
+        ensures short { result + self.now.width < 2 ^ 32 }
+        ensures shape { IsShape self.now }
+    {
+        self.base + self.pointer_width + index * self.width
+    }
+
+    // The index after this one, round the end.
+    fn next(&self, index: u32) -> u32
+        requires { index < self.now.count }
+        ensures next { result ≡ next self.now index }
+        ensures below { result < self.now.count }
+    {
+        let count = self.count;
+        if index + 1 == count { 0 } else { index + 1 }
+    }
+
+    // Where an entry's gate begins.
+    fn gate_place(&self, index: u32) -> u32
+        requires { index < self.now.count }
+        ensures place { result ≡ gate_of self.now index }
+        ensures low { self.now.base ≤ result }
+        ensures high { result + 4 ≤ self.now.base + size_of self.now }
+        ensures short { result + 4 < 2 ^ 32 }
+        ensures shape { IsShape self.now }
+    {
+        self.place_of(index) + self.gate
+    }
+
+    // The number in an entry's gate.
+    fn gate<M: Medium>(&self, medium: &mut M, index: u32) -> Result<u32, Failed>
+        requires fits { FitsIn self.now (M.state medium.old) }
+        requires index { index < self.now.count }
+        ensures value { IfOk result (λ n. IfSome (M.state medium.old).image (λ x. n ≡ number_at x (gate_of self.now index) 4)) }
+        ensures shape { IsShape self.now }
+        ensures reads { Reads (M.state medium.old) (M.state medium.new) (is_err result) }
+    {
+        number(medium, self.gate_place(index), 4)
+    }
+
+    // The pointer. One past the end is read as 0.
+    fn last<M: Medium>(&self, medium: &mut M) -> Result<u32, Failed>
+        requires fits { FitsIn self.now (M.state medium.old) }
+        ensures last { IfOk result (λ last. IfSome (M.state medium.old).image (λ x. PointsInside self.now x → last ≡ pointer self.now x)) }
+        ensures below { IfOk result (λ last. last < self.now.count) }
+        ensures shape { IsShape self.now }
+        ensures reads { Reads (M.state medium.old) (M.state medium.new) (is_err result) }
+    {
+        let pointer = number(medium, self.base, self.pointer_width)?;
+        Ok(if pointer < self.count { pointer } else { 0 })
+    }
+
+    // The pointer and the index that the next entry takes.
+    fn choose<M: Medium>(&self, medium: &mut M) -> Result<(u32, u32), Failed>
+        requires fits { FitsIn self.now (M.state medium.old) }
+        ensures last { IfOk result (λ found. IfSome (M.state medium.old).image (λ x. PointsInside self.now x → found.0 ≡ pointer self.now x)) }
+        ensures index { IfOk result (λ found. IfSome (M.state medium.old).image (λ x. PointsInside self.now x → found.1 ≡ taken self.now x)) }
+        ensures below { IfOk result (λ found. found.1 < self.now.count) }
+        ensures shape { IsShape self.now }
+        ensures reads { Reads (M.state medium.old) (M.state medium.new) (is_err result) }
+    {
+        let last = self.last(medium)?;
+        let gate = self.gate(medium, last)?;
+        let index = if gate == 0 { last } else { self.next(last) };
+        Ok((last, index))
+    }
+
+    // Shuts an entry's gate where it is open.
+    fn free<M: Medium>(&self, medium: &mut M, index: u32) -> Result<(), Failed>
+        requires fits { FitsIn self.now (M.state medium.old) }
+        requires writable { LiesInside (M.state medium.old).writable (gate_of self.now index) 4 }
+        requires index { index < self.now.count }
+        ensures freed { OnOk result ((M.state medium.new).image ≡ option_map (freed self.now index) (M.state medium.old).image) }
+        ensures moments { LeavesOnly (M.state medium.old) (M.state medium.new) (IsPartlyWritten (gate_of self.now index) (replicate 4 0)) }
+        ensures shape { IsShape self.now }
+        ensures cause { HasCause (M.state medium.old) (M.state medium.new) (is_err result) }
+    {
+        let place = self.gate_place(index);
+        if number(medium, place, 4)? != 0 {
+            medium.write_at(place, &[0; 4])?;
+        }
+        Ok(())
+    }
+
+    // The bytes of an entry's beginning that stand in its gate, before it and behind it.
+    fn gate_bytes<'a>(&self, head: &'a [u8]) -> &'a [u8]
+        requires { self.now.gate + 4 ≤ length head.now }
+        ensures bytes { result.now ≡ gate_bytes self.now head.now }
+        ensures len { length result.now ≡ 4 }
+    {
+        let gate = self.gate as usize;
+        &head[gate..gate + 4]
+    }
+
+    fn front<'a>(&self, head: &'a [u8]) -> &'a [u8]
+        requires { self.now.gate + 4 ≤ length head.now }
+        ensures bytes { result.now ≡ take self.now.gate head.now }
+        ensures len { length result.now ≡ self.now.gate }
+    {
+        &head[..self.gate as usize]
+    }
+
+    fn back<'a>(&self, head: &'a [u8]) -> &'a [u8]
+        requires { self.now.gate + 4 ≤ length head.now }
+        ensures bytes { result.now ≡ drop (self.now.gate + 4) head.now }
+        ensures len { length result.now + self.now.gate + 4 ≡ length head.now }
+    {
+        &head[self.gate as usize + 4..]
+    }
+
+    // Writes the bytes of an entry beside its gate.
+    fn fill<M: Medium>(&self, medium: &mut M, index: u32, head: &[u8]) -> Result<(), Failed>
+        requires works { (M.state medium.old).works ≡ true }
+        requires fits { FitsIn self.now (M.state medium.old) }
+        requires writable { LiesInside (M.state medium.old).writable (place_of self.now index) (length head.now) }
+        requires index { index < self.now.count }
+        requires gate { self.now.gate + 4 ≤ length head.now }
+        requires width { length head.now ≤ self.now.width }
+        ensures filled { OnOk result ((M.state medium.new).image ≡ option_map (filled self.now index head.now) (M.state medium.old).image) }
+        ensures moments { LeavesOnly (M.state medium.old) (M.state medium.new) (IsFilling self.now index) }
+        ensures cause { HasCause (M.state medium.old) (M.state medium.new) (is_err result) }
+    {
+        write(medium, self.place_of(index), self.front(head))?;
+        write(medium, self.gate_place(index) + 4, self.back(head))
+    }
+
+    // Moves the pointer where it differs.
+    fn point<M: Medium>(&self, medium: &mut M, last: u32, index: u32) -> Result<(), Failed>
+        requires works { (M.state medium.old).works ≡ true }
+        requires fits { FitsIn self.now (M.state medium.old) }
+        requires writable { LiesInside (M.state medium.old).writable self.now.base self.now.pointer_width }
+        ensures pointed { OnOk result ((M.state medium.new).image ≡ option_map (pointed self.now last index) (M.state medium.old).image) }
+        ensures moments { LeavesOnly (M.state medium.old) (M.state medium.new) (IsPartlyWritten self.now.base (pointer_bytes self.now index)) }
+        ensures cause { HasCause (M.state medium.old) (M.state medium.new) (is_err result) }
+    {
+        if last == index {
+            return Ok(());
+        }
+        let bytes = index.to_be_bytes();
+        write(medium, self.base, &bytes[4 - self.pointer_width as usize..])
+    }
+
+    // Writes an entry at the index that is taken and moves the pointer there.
+    fn place<M: Medium>(
+        &self,
+        medium: &mut M,
+        last: u32,
+        taken: u32,
+        head: &[u8],
+    ) -> Result<(), Failed>
+        requires fits { FitsIn self.now (M.state medium.old) }
+        requires pointer { LiesInside (M.state medium.old).writable self.now.base self.now.pointer_width }
+        requires writable { LiesInside (M.state medium.old).writable (place_of self.now taken) (length head.now) }
+        requires taken { taken < self.now.count }
+        requires gate { self.now.gate + 4 ≤ length head.now }
+        requires width { length head.now ≤ self.now.width }
+        ensures placed { OnOk result ((M.state medium.new).image ≡ option_map (placed self.now last taken head.now) (M.state medium.old).image) }
+        ensures moments { LeavesOnly (M.state medium.old) (M.state medium.new) (IsPlacing self.now last taken head.now) }
+        ensures settled { OnOk result ((M.state medium.new).clock < last_count → IsSettled (M.state medium.new)) }
+        ensures clock { OnOk result (Rose (M.state medium.old).clock (M.state medium.new).clock) }
+        ensures cause { HasCause (M.state medium.old) (M.state medium.new) (is_err result) }
+    {
+        self.free(medium, taken)?;
+        self.fill(medium, taken, head)?;
+        self.point(medium, last, taken)?;
+        medium.write_at(self.gate_place(taken), self.gate_bytes(head))
+    }
+
+    // Writes an entry and leaves the pointer.
+    fn replace<M: Medium>(&self, medium: &mut M, index: u32, head: &[u8]) -> Result<(), Failed>
+        requires fits { FitsIn self.now (M.state medium.old) }
+        requires writable { LiesInside (M.state medium.old).writable (place_of self.now index) (length head.now) }
+        requires index { index < self.now.count }
+        requires gate { self.now.gate + 4 ≤ length head.now }
+        requires width { length head.now ≤ self.now.width }
+        ensures replaced { OnOk result ((M.state medium.new).image ≡ option_map (replaced self.now index head.now) (M.state medium.old).image) }
+        ensures moments { LeavesOnly (M.state medium.old) (M.state medium.new) (IsReplacing self.now index head.now) }
+        ensures settled { OnOk result ((M.state medium.new).clock < last_count → IsSettled (M.state medium.new)) }
+        ensures clock { OnOk result (Rose (M.state medium.old).clock (M.state medium.new).clock) }
+        ensures shape { IsShape self.now }
+        ensures cause { HasCause (M.state medium.old) (M.state medium.new) (is_err result) }
+    {
+        self.free(medium, index)?;
+        self.fill(medium, index, head)?;
+        medium.write_at(self.gate_place(index), self.gate_bytes(head))
+    }
+
+    /// Adds the newest entry, which begins with `head`, and answers its index: the pointer's own where no entry is there,
+    /// else the next. What the place has behind a head that is shorter than the entry stays as it was.
+    ///
+    /// The gate is shut first and opened last, so a stop at a moment of the call leaves the list before, that list
+    /// without the entry whose place is taken, or the new list.
+    pub fn add<M: Medium>(&mut self, medium: &mut M, head: &[u8]) -> Result<u32, Failed>
+        requires fits { FitsIn self.old (M.state medium.old) }
+        requires writable { LiesInside (M.state medium.old).writable self.old.base (size_of self.old) }
+        requires pointer { 0 < self.old.pointer_width }
+        requires gate { self.old.gate + 4 ≤ length head.now }
+        requires width { length head.now ≤ self.old.width }
+        requires open { from_be_bytes w32 (gate_bytes self.old head.now) ≢ 0 }
+        ensures shape { self.new ≡ self.old }
+        ensures index { IfOk result (λ index. IfSome (M.state medium.old).image (λ x. PointsInside self.old x → index ≡ taken self.old x)) }
+        ensures below { IfOk result (λ index. index < self.old.count) }
+        ensures added { OnOk result (IfSome (M.state medium.old).image (λ x. IfSome (M.state medium.new).image (IsAdded self.old head.now x))) }
+        ensures moments { LeavesOnly (M.state medium.old) (M.state medium.new) (IsAdding self.old head.now) }
+        ensures settled { OnOk result ((M.state medium.new).clock < last_count → IsSettled (M.state medium.new)) }
+        ensures clock { OnOk result (Rose (M.state medium.old).clock (M.state medium.new).clock) }
+        ensures cause { HasCause (M.state medium.old) (M.state medium.new) (is_err result) }
+    {
+        let (last, index) = self.choose(medium)?;
+        self.place(medium, last, index, head)?;
+        Ok(index)
+    }
+
+    /// Replaces an entry, there or not, by one that begins with `head`. What the place has behind a head that is shorter
+    /// than the entry stays as it was.
+    ///
+    /// A stop at a moment of the call leaves the entry as it was, none, or the new one.
+    pub fn put_at<M: Medium>(
+        &mut self,
+        medium: &mut M,
+        index: u32,
+        head: &[u8],
+    ) -> Result<(), Failed>
+        requires fits { FitsIn self.old (M.state medium.old) }
+        requires writable { LiesInside (M.state medium.old).writable (place_of self.old index) (length head.now) }
+        requires index { index < self.old.count }
+        requires gate { self.old.gate + 4 ≤ length head.now }
+        requires width { length head.now ≤ self.old.width }
+        requires open { from_be_bytes w32 (gate_bytes self.old head.now) ≢ 0 }
+        ensures shape { self.new ≡ self.old }
+        ensures replaced { OnOk result (IfSome (M.state medium.old).image (λ x. IfSome (M.state medium.new).image (IsReplaced self.old index head.now x))) }
+        ensures moments { LeavesOnly (M.state medium.old) (M.state medium.new) (IsReplacingEntry self.old index head.now) }
+        ensures settled { OnOk result ((M.state medium.new).clock < last_count → IsSettled (M.state medium.new)) }
+        ensures clock { OnOk result (Rose (M.state medium.old).clock (M.state medium.new).clock) }
+        ensures cause { HasCause (M.state medium.old) (M.state medium.new) (is_err result) }
+    {
+        self.replace(medium, index, head)
+    }
+
+    /// Writes 0 into the gate of an entry, which then is not there. A stop leaves it as it was or shut.
+    pub fn close_gate<M: Medium>(&mut self, medium: &mut M, index: u32) -> Result<(), Failed>
+        requires fits { FitsIn self.old (M.state medium.old) }
+        requires writable { LiesInside (M.state medium.old).writable (gate_of self.old index) 4 }
+        requires index { index < self.old.count }
+        ensures shape { self.new ≡ self.old }
+        ensures closed { OnOk result (IfSome (M.state medium.old).image (λ x. IfSome (M.state medium.new).image (IsClosed self.old index x))) }
+        ensures moments { LeavesOnly (M.state medium.old) (M.state medium.new) (OrUnwritten (IsClosed self.old index)) }
+        ensures settled { OnOk result ((M.state medium.new).clock < last_count → IsSettled (M.state medium.new)) }
+        ensures clock { OnOk result (Rose (M.state medium.old).clock (M.state medium.new).clock) }
+        ensures cause { HasCause (M.state medium.old) (M.state medium.new) (is_err result) }
+    {
+        medium.write_at(self.gate_place(index), &[0; 4])
+    }
+
+    /// Writes 1 to 4 bytes of an entry, at `offset` in it and beside its gate. A stop leaves all of them written or none.
+    pub fn set_small<M: Medium>(
+        &mut self,
+        medium: &mut M,
+        index: u32,
+        offset: u32,
+        bytes: &[u8],
+    ) -> Result<(), Failed>
+        requires fits { FitsIn self.old (M.state medium.old) }
+        requires writable { LiesInside (M.state medium.old).writable (place_of self.old index + offset) (length bytes.now) }
+        requires index { index < self.old.count }
+        requires some { 0 < length bytes.now }
+        requires few { length bytes.now ≤ 4 }
+        requires width { offset + length bytes.now ≤ self.old.width }
+        requires apart { (offset + length bytes.now ≤ self.old.gate) ⊎ (self.old.gate + 4 ≤ offset) }
+        ensures shape { self.new ≡ self.old }
+        ensures set { OnOk result (IfSome (M.state medium.old).image (λ x. IfSome (M.state medium.new).image (IsSet self.old index offset bytes.now x))) }
+        ensures moments { LeavesOnly (M.state medium.old) (M.state medium.new) (OrUnwritten (IsSet self.old index offset bytes.now)) }
+        ensures settled { OnOk result ((M.state medium.new).clock < last_count → IsSettled (M.state medium.new)) }
+        ensures clock { OnOk result (Rose (M.state medium.old).clock (M.state medium.new).clock) }
+        ensures cause { HasCause (M.state medium.old) (M.state medium.new) (is_err result) }
+    {
+        medium.write_at(self.place_of(index) + offset, bytes)
+    }
+
+    // The last index from one on and below another whose entry is there.
+    fn newest_in<M: Medium>(
+        &self,
+        medium: &mut M,
+        from: u32,
+        to: u32,
+    ) -> Result<Option<u32>, Failed>
+        requires works { (M.state medium.old).works ≡ true }
+        requires fits { FitsIn self.now (M.state medium.old) }
+        requires order { from ≤ to }
+        requires below { to ≤ self.now.count }
+        ensures below { IfOk result (λ newest. IfSome newest (λ index. index < self.now.count)) }
+        ensures newest { IfOk result (λ newest. IfSome (M.state medium.old).image (λ x. IsNewestOf self.now x (range_with_len from (to - from)) newest)) }
+        ensures reads { Reads (M.state medium.old) (M.state medium.new) (is_err result) }
+    {
+        let mut index = to;
+        while index > from {
+            index -= 1;
+            if self.gate(medium, index)? != 0 {
+                return Ok(Some(index));
+            }
+        }
+        Ok(None)
+    }
+
+    /// The index of the newest entry, or `None` exactly where the list is empty.
+    pub fn newest<M: Medium>(&self, medium: &mut M) -> Result<Option<u32>, Failed>
+        requires fits { FitsIn self.now (M.state medium.old) }
+        requires pointer { 0 < self.now.pointer_width }
+        ensures below { IfOk result (λ newest. IfSome newest (λ index. index < self.now.count)) }
+        ensures newest { IfOk result (λ newest. IfSome (M.state medium.old).image (λ x. PointsInside self.now x → IsNewest self.now x newest)) }
+        ensures reads { Reads (M.state medium.old) (M.state medium.new) (is_err result) }
+    {
+        let last = self.last(medium)?;
+        match self.newest_in(medium, 0, last + 1)? {
+            Some(index) => Ok(Some(index)),
+            None => self.newest_in(medium, last + 1, self.count),
+        }
+    }
+
+    /// Whether an entry is there, and then its beginning in `out`, which else stays as it was.
+    pub fn entry<M: Medium>(
+        &self,
+        medium: &mut M,
+        index: u32,
+        out: &mut [u8],
+    ) -> Result<bool, Failed>
+        requires fits { FitsIn self.now (M.state medium.old) }
+        requires index { index < self.now.count }
+        requires width { length out.old ≤ self.now.width }
+        ensures there { IfOk result (λ there. IfSome (M.state medium.old).image (λ x. there ≡ is_there self.now x index)) }
+        ensures bytes { IfOk result (λ there. IsTrue there → IfSome (M.state medium.old).image (λ x. out.new ≡ bytes_at x (place_of self.now index) (length out.old))) }
+        ensures none { IfOk result (λ there. IsFalse there → out.new ≡ out.old) }
+        ensures reads { Reads (M.state medium.old) (M.state medium.new) (is_err result) }
+    {
+        if self.gate(medium, index)? == 0 {
+            return Ok(false);
+        }
+        medium.read_at(self.place_of(index), out)?;
+        Ok(true)
+    }
+}
