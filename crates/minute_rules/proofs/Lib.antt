@@ -1,0 +1,13 @@
+pub mod EachSecond
+pub mod Runs
+pub mod Windows
+pub mod Still
+pub mod Picked
+pub mod Next
+pub mod Each
+pub mod Literal
+pub mod Tails
+pub mod Ranges
+pub mod Bridge
+pub mod Feeds
+pub mod Decides
