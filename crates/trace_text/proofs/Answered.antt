@@ -1,0 +1,81 @@
+-- What is answered over a text follows from what the text is judged to be.
+use Rattle.std.proofs.Common.{◌≡◌, ℕ, ◌≤◌, List, length, refl, sym, ap, subst, arith, inl, inr, false, Ok, Err, Some, Option}
+use Rattle.std.specs.Prelude.{Result, MatchResult, IfOk, IsErrAnd, ◌⊎◌, IfSome}
+use Rattle.std.specs.Io.KnownBytes.{Consumes, IsAtEnd}
+use Rattle.std.proofs.KnownBytes.{Consumes-whole}
+use Rattle.trace_text.specs.declared.trace.Form.{Form}
+use Rattle.trace_text.specs.declared.trace.Item.{Item}
+use Rattle.trace_text.specs.declared.trace.Trace.{Trace}
+use Rattle.trace_text.specs.declared.trace.TraceFault.{TraceFault}
+use Rattle.trace_text.specs.declared.trace.TraceFault.TheVariants.{ReadFault, BadLine, TooLong, Memory}
+use Rattle.trace_text.specs.Text.{lines_of}
+use Rattle.trace_text.specs.Trace.{IsTraceOf, IsWellFormed, ends_in_action}
+use Rattle.trace_text.specs.Judged.{IsTraceText, IsBadText, IsLongText, IsFailure}
+use Rattle.trace_text.specs.Reading.{IsFaultOf}
+use Rattle.std.specs.List.{AllByRecursion}
+use Rattle.trace_text.specs.Line.{InRange}
+use Rattle.trace_text.proofs.Totals.{last-closed, last-ranges}
+use Rattle.trace_text.proofs.Once.{no_bad_line, no_too_long, bad-one, long-one, bad-not_long, trace-one}
+
+-- what an answer says of lines
+abbrev pub Judges : Form → List (List ℕ) → Result Trace TraceFault → Type 0
+Judges form lines result = MatchResult result (λ t. IsTraceOf form lines t.start t.items) (IsFaultOf form lines)
+
+-- the bytes that were taken are the text that the source told
+pub told-text : (old new : Option (List ℕ)) (bytes text : List ℕ) → old ≡ Some text → Consumes old new bytes → IsAtEnd new → text ≡ bytes
+told-text old new bytes text told took end =
+    let P : Option (List ℕ) → Type 0 = λ o. IfSome o (λ t. t ≡ bytes) in
+    subst P told (Consumes-whole old new bytes (λ t. t ≡ bytes) took end refl)
+
+pub judges-bad : (form : Form) (text : List ℕ) (n : ℕ) (result : Result Trace TraceFault) → length text ≤ 16777216 → Judges form (lines_of text) result → result ≡ Err (BadLine n) → IsBadText form text n
+unfolding IsBadText
+judges-bad form text n result few judged is =
+    let P : Result Trace TraceFault → Type 0 = λ r. Judges form (lines_of text) r in (few, subst P is judged)
+
+pub judges-long : (form : Form) (text : List ℕ) (n : ℕ) (result : Result Trace TraceFault) → length text ≤ 16777216 → Judges form (lines_of text) result → result ≡ Err (TooLong n) → IsLongText form text n
+unfolding IsLongText
+judges-long form text n result few judged is =
+    let P : Result Trace TraceFault → Type 0 = λ r. Judges form (lines_of text) r in inr (few, subst P is judged)
+
+pub judges-trace : (form : Form) (text : List ℕ) (result : Result Trace TraceFault) → length text ≤ 16777216 → Judges form (lines_of text) result → IfOk result (λ t. IsTraceText form text t.start t.items)
+unfolding IsTraceText
+judges-trace form text (Ok t) few judged = (few, judged)
+judges-trace form text (Err fault) few judged = tt
+
+pub reads-trace : (form : Form) (text : List ℕ) (start : ℕ) (items : List Item) (result : Result Trace TraceFault) → Judges form (lines_of text) result → IsTraceText form text start items → MatchResult result (λ t. (t.start ≡ start) × (t.items ≡ items)) IsFailure
+unfolding IsTraceText
+reads-trace form text start items (Ok t) judged is = trace-one form (lines_of text) t.start start t.items items judged is.1
+reads-trace form text start items (Err ReadFault) judged is = tt
+reads-trace form text start items (Err Memory) judged is = tt
+reads-trace form text start items (Err (BadLine n)) judged is = no_bad_line form (lines_of text) start n items is.1 judged
+reads-trace form text start items (Err (TooLong n)) judged is = no_too_long form (lines_of text) start n items is.1 judged
+
+pub finds-bad : (form : Form) (text : List ℕ) (n : ℕ) (result : Result Trace TraceFault) → Judges form (lines_of text) result → IsBadText form text n → IsErrAnd result (λ fault. (fault ≡ BadLine n) ⊎ IsFailure fault)
+unfolding IsBadText
+finds-bad form text n (Ok t) judged is = no_bad_line form (lines_of text) t.start n t.items judged is.1
+finds-bad form text n (Err ReadFault) judged is = inr tt
+finds-bad form text n (Err Memory) judged is = inr tt
+finds-bad form text n (Err (BadLine m)) judged is = inl (ap BadLine (bad-one form (lines_of text) m n judged is.1))
+finds-bad form text n (Err (TooLong m)) judged is = absurd (bad-not_long form (lines_of text) n m is.1 judged)
+
+pub finds-long : (form : Form) (text : List ℕ) (n : ℕ) (result : Result Trace TraceFault) → length text ≤ 16777216 → Judges form (lines_of text) result → IsLongText form text n → IsErrAnd result (λ fault. (fault ≡ TooLong n) ⊎ IsFailure fault)
+unfolding IsLongText
+finds-long form text n result few judged (inl long) = absurd (omega (arith, long.0))
+finds-long form text n (Ok t) few judged (inr is) = no_too_long form (lines_of text) t.start n t.items judged is.1
+finds-long form text n (Err ReadFault) few judged (inr is) = inr tt
+finds-long form text n (Err Memory) few judged (inr is) = inr tt
+finds-long form text n (Err (BadLine m)) few judged (inr is) = absurd (bad-not_long form (lines_of text) m n judged is.1)
+finds-long form text n (Err (TooLong m)) few judged (inr is) = inl (ap TooLong (long-one form (lines_of text) m n judged is.1))
+
+-- a trace that was read is well formed
+pub trace-well_formed : (form : Form) (lines : List (List ℕ)) (result : Result Trace TraceFault) → Judges form lines result → IfOk result (λ t. IsWellFormed t.start t.items)
+trace-well_formed form lines (Ok t) judged =
+    let P : List Item → Type 0 = λ is. ends_in_action is ≡ false in
+    let Q : List Item → Type 0 = λ is. AllByRecursion InRange is in
+    record {
+      first = judged.spells.first;
+      within = judged.within;
+      each = subst Q (sym judged.items_are) (last-ranges form judged.written judged.spells.each);
+      closed = subst P (sym judged.items_are) (last-closed judged.written);
+    }
+trace-well_formed form lines (Err fault) judged = tt

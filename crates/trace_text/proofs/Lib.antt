@@ -1,0 +1,9 @@
+pub mod Pieces
+pub mod Lines
+pub mod Texts
+pub mod Spelled
+pub mod Totals
+pub mod LinesRead
+pub mod Fronts
+pub mod Once
+pub mod Answered

@@ -1,0 +1,6 @@
+use Rattle.trace_text.proofs.LinesRead.{start-bad}
+use Rattle.trace_text.proofs.reading.Reading.take_start.Goals as goal
+
+pub returns-in_default-clause-fault : goal.returns-in_default-clause-fault
+returns-in_default-clause-fault c = λ lines behind is.
+    start-bad lines behind c.args.line.now c.args.self.now is c.requires.first c.requires.counted c.in_default.ensures.none

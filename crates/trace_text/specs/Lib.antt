@@ -1,0 +1,6 @@
+pub mod Text
+pub mod Line
+pub mod Model
+pub mod Trace
+pub mod Judged
+pub mod Reading

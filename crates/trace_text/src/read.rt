@@ -1,0 +1,78 @@
+//! Reading a trace from a source.
+ghost use Rattle.std.specs.Prelude.{◌≡◌, ℕ, ◌<◌, ◌≤◌, ◌∷◌, List, length, IfOk, IfErr, OnOk, IsErrOf, IsErrAnd, ◌⊎◌, Some, Err, MatchResult};
+ghost use Rattle.std.specs.Io.KnownBytes.{IsAtEnd};
+ghost use Rattle.tach_media.specs.Medium.{Rose};
+ghost use Rattle.trace_text.specs.declared.trace.Item.{Item};
+ghost use Rattle.trace_text.specs.Text.{lines_of};
+ghost use Rattle.trace_text.specs.Trace.{IsTraceOf, IsWellFormed};
+ghost use Rattle.trace_text.specs.Judged.{IsTraceText, IsBadText, IsLongText, IsFailure};
+ghost use Rattle.trace_text.specs.Reading.{IsFaultOf};
+
+use crate::fields::first_piece;
+use crate::reading::Reading;
+use crate::trace::{Form, Trace, TraceFault};
+use std::alloc::Global;
+use tach_media::{Source, TakeFault, take_all};
+
+/// The most bytes of a source.
+const MOST_BYTES: u32 = 16777216;
+
+/// Reads a trace of this form to the source's end.
+#[tactic(auto, unfolding(crate::specs::Judged::IsTraceText, crate::specs::Judged::IsBadText, crate::specs::Judged::IsLongText))]
+pub fn read_trace<S: Source>(alloc: Global, source: &mut S, form: Form) -> Result<Trace, TraceFault>
+    // What is read is the trace that the source told, and nothing of the source is left.
+    ensures trace { (text : List ℕ) → S.left source.old ≡ Some text → IfOk result (λ t. IsTraceText form text t.start t.items) }
+    ensures end { OnOk result (IsAtEnd (S.left source.new)) }
+    // It is well formed, whether or not the source tells its content.
+    ensures well_formed { IfOk result (λ t. IsWellFormed t.start t.items) }
+
+    // Each refusal has its cause.
+    ensures bad_line { (text : List ℕ) (n : ℕ) → S.left source.old ≡ Some text → result ≡ Err (TraceFault.BadLine n) → IsBadText form text n }
+    ensures too_long { (text : List ℕ) (n : ℕ) → S.left source.old ≡ Some text → result ≡ Err (TraceFault.TooLong n) → IsLongText form text n }
+    ensures read_fault { IsErrOf result TraceFault.ReadFault → Rose (S.faults source.old) (S.faults source.new) }
+    ensures later { S.faults source.old ≤ S.faults source.new }
+
+    // And each cause its refusal, unless the source fails or memory runs out.
+    ensures reads { (text : List ℕ) (start : ℕ) (items : List Item) → S.left source.old ≡ Some text → IsTraceText form text start items
+        → MatchResult result (λ t. (t.start ≡ start) × (t.items ≡ items)) IsFailure }
+    ensures finds_bad_line { (text : List ℕ) (n : ℕ) → S.left source.old ≡ Some text → IsBadText form text n
+        → IsErrAnd result (λ fault. (fault ≡ TraceFault.BadLine n) ⊎ IsFailure fault) }
+    ensures finds_too_long { (text : List ℕ) (n : ℕ) → S.left source.old ≡ Some text → IsLongText form text n
+        → IsErrAnd result (λ fault. (fault ≡ TraceFault.TooLong n) ⊎ IsFailure fault) }
+{
+    let text = match take_all(alloc, source, MOST_BYTES) {
+        Ok(text) => text,
+        Err(TakeFault::ReadFault) => return Err(TraceFault::ReadFault),
+        Err(TakeFault::TooLong) => return Err(TraceFault::TooLong(0)),
+        Err(TakeFault::Memory) => return Err(TraceFault::Memory),
+    };
+    trace_of(alloc, text.as_slice(), form)
+}
+
+/// The trace of a text.
+fn trace_of(alloc: Global, text: &[u8], form: Form) -> Result<Trace, TraceFault>
+    requires { length text.now ≤ 16777216 }
+    ensures { MatchResult result (λ t. IsTraceOf form (lines_of text.now) t.start t.items) (IsFaultOf form (lines_of text.now)) }
+{
+    let mut reading = Reading::new(alloc, form);
+    let mut rest = text;
+    while !rest.is_empty() {
+        let (line, behind) = next_line(rest);
+        reading.take(line)?;
+        rest = behind;
+    }
+    reading.finish()
+}
+
+/// The first line, and the lines behind it.
+fn next_line(text: &[u8]) -> (&[u8], &[u8])
+    requires { 0 < length text.now }
+    ensures lines { lines_of text.now ≡ result.0.now ∷ lines_of result.1.now }
+    ensures shorter { length result.1.now < length text.now }
+{
+    let (line, behind) = first_piece(text, b'\n');
+    match behind {
+        Some(rest) => (line, rest),
+        None => (line, b""),
+    }
+}

@@ -1,0 +1,126 @@
+//! A trace: its first second and its items, and how the text of one can be wrong.
+ghost use Rattle.std.specs.Prelude.{◌≡◌, ◌==◌, ◌<◌, [], ◌∷◌, ◌++◌, OnOk, OnErr, length, slice_get, Some};
+ghost use Rattle.trace_text.specs.Line.{knows};
+
+use activity_codec::{Pick, Slot};
+use std::alloc::Global;
+use std::marker::Model;
+use tach_media::Memory;
+
+/// Which lines may follow the `start` line.
+#[derive(Clone, Copy, Debug, PartialEq, Eq)]
+pub enum Form {
+    /// `run` and `select`.
+    Minutes,
+    /// All that a run can have; as yet `run` and `select`.
+    Whole,
+}
+
+/// What is asked of the unit at the start of a second.
+#[derive(Clone, Copy, Debug, PartialEq, Eq)]
+pub enum Action {
+    /// An activity is selected by hand.
+    Select { slot: Slot, pick: Pick },
+}
+
+/// A line of a trace behind its `start` line.
+#[derive(Clone, Copy, Debug, PartialEq, Eq)]
+pub enum Item {
+    /// So many seconds, 1 to 34560000, at a speed in km/h.
+    Run { seconds: u32, speed: u8 },
+    /// An action at the start of the second that follows.
+    Act(Action),
+}
+
+impl Form {
+    /// Whether a line of this kind is one of the form's.
+    pub fn has(self, item: Item) -> bool
+        ensures { result ≡ knows self item }
+    {
+        match (self, item) {
+            (Form::Minutes | Form::Whole, Item::Run { .. }) => true,
+            (Form::Minutes | Form::Whole, Item::Act(Action::Select { .. })) => true,
+        }
+    }
+}
+
+/// A list of items.
+#[derive(Drop)]
+pub struct Items {
+    list: Vec<Item>,
+}
+
+impl Model for Items {
+    ghost use Rattle.std.specs.Prelude.{List};
+    ghost use Rattle.trace_text.specs.declared.trace.Item.{Item as Each};
+
+    ghost Value = { List Each };
+
+    ghost view = { λ s. s.list.items };
+}
+
+impl Items {
+    /// The empty list, which takes no memory.
+    pub fn new(alloc: Global) -> Self
+        ensures { result ≡ [] }
+    {
+        Items {
+            list: Vec::new(alloc),
+        }
+    }
+
+    /// Adds an item at the end.
+    pub fn push(&mut self, item: Item) -> Result<(), Memory>
+        ensures ok { OnOk result (self.new ≡ self.old ++ item ∷ []) }
+        ensures err { OnErr result (self.new ≡ self.old) }
+    {
+        if self.list.push(item).is_err() {
+            return Err(Memory);
+        }
+        Ok(())
+    }
+
+    /// How many items it has.
+    pub fn len(&self) -> usize
+        ensures { result ≡ length self.now }
+    {
+        self.list.len()
+    }
+
+    /// Whether it has none.
+    pub fn is_empty(&self) -> bool
+        ensures { result ≡ (length self.now == 0) }
+    {
+        self.list.is_empty()
+    }
+
+    /// The item at an index.
+    pub fn get(&self, index: usize) -> &Item
+        requires { index < length self.now }
+        ensures { slice_get self.now index ≡ Some result.now }
+    {
+        &self.list[index]
+    }
+}
+
+/// A trace. The second that is put in where no run follows the actions at the end is one of its items.
+#[derive(Drop)]
+pub struct Trace {
+    /// The first second, in seconds since 1970-01-01 00:00 GMT: 86400 to 4294880895.
+    pub start: u32,
+    /// What follows the `start` line.
+    pub items: Items,
+}
+
+/// Why no trace was read.
+#[derive(Clone, Copy, Debug, PartialEq, Eq)]
+pub enum TraceFault {
+    /// The source failed.
+    ReadFault,
+    /// This line, from 1, is the first outside the grammar.
+    BadLine(u32),
+    /// At this line, from 1, a limit is passed first; 0 where the source has more than 16777216 bytes.
+    TooLong(u32),
+    /// Out of memory.
+    Memory,
+}

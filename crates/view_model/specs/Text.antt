@@ -1,0 +1,69 @@
+-- The text of a view (profile).
+use Rattle.std.specs.Prelude.{◌≡◌, ℕ, ◌+◌, ◌/◌, ◌%◌, Bool, true, false, List, [], ◌∷◌, ◌++◌, codes}
+use Rattle.activity_codec.specs.declared.values.Slot.{Slot}
+use Rattle.activity_codec.specs.declared.values.Slot.TheVariants.{Driver, CoDriver}
+use Rattle.activity_codec.specs.declared.values.Activity.{Activity}
+use Rattle.activity_codec.specs.declared.values.Activity.TheVariants.{Rest, Available, Work, Driving}
+use Rattle.tacho_types.specs.Calendar.{IsDateText}
+use Rattle.view_model.specs.declared.State.{State}
+use Rattle.view_model.specs.declared.UnitShown.{UnitShown}
+use Rattle.view_model.specs.declared.CardShown.{CardShown}
+use Rattle.view_model.specs.declared.Viewed.{Viewed}
+use Rattle.view_model.specs.declared.Line.{Line}
+use Rattle.view_model.specs.Lines.{same_unit, same_card, day_of, lines_of}
+
+abbrev pub two_digits : ℕ → List ℕ
+two_digits n = (48 + n / 10) ∷ (48 + n % 10) ∷ []
+
+-- the time of day of a minute, as `09:05`
+abbrev pub clock_text : ℕ → List ℕ
+clock_text minute = two_digits (minute % 1440 / 60) ++ codes ":" ++ two_digits (minute % 60)
+
+abbrev pub slot_word : Slot → List ℕ
+slot_word Driver = codes "driver"
+slot_word CoDriver = codes "codriver"
+
+abbrev pub activity_word : Activity → List ℕ
+activity_word Rest = codes "rest"
+activity_word Available = codes "available"
+activity_word Work = codes "work"
+activity_word Driving = codes "drive"
+
+-- whether a card was present
+abbrev pub presence_word : Bool → List ℕ
+presence_word true = codes "in"
+presence_word false = codes "out"
+
+abbrev pub crew_word : Bool → List ℕ
+crew_word true = codes "crew"
+crew_word false = codes "single"
+
+abbrev pub state_words : State → List ℕ
+state_words state = activity_word state.act ++ codes "," ++ presence_word state.present
+
+-- `driver=ACT,IN codriver=ACT,IN CREW`
+abbrev pub unit_words : UnitShown → List ℕ
+unit_words shown =
+    codes "driver=" ++ state_words shown.driver ++ codes " codriver=" ++ state_words shown.codriver ++ codes " " ++ crew_word shown.crew
+
+-- `SLOT=ACT CREW`
+abbrev pub card_words : CardShown → List ℕ
+card_words shown = slot_word shown.slot ++ codes "=" ++ activity_word shown.act ++ codes " " ++ crew_word shown.crew
+
+-- a line behind its date: ` HH:MM-HH:MM WORDS`
+abbrev pub line_text : {X : Type 0} → (X → List ℕ) → Line X → List ℕ
+line_text words line = codes " " ++ clock_text line.first ++ codes "-" ++ clock_text line.last ++ codes " " ++ words line.shown ++ codes "\n"
+
+-- the text of lines, one after another
+abbrev pub IsTextOf : {X : Type 0} → (X → List ℕ) → List (Line X) → List ℕ → Type 0
+IsTextOf words [] text = text ≡ []
+IsTextOf words (line ∷ lines) text =
+    (date : List ℕ) × (rest : List ℕ) × IsDateText (day_of line.first) date × (text ≡ date ++ line_text words line ++ rest) × IsTextOf words lines rest
+
+-- the view text of a unit's minutes
+unfoldable pub IsUnitView : List (Viewed UnitShown) → List ℕ → Type 0
+IsUnitView minutes text = IsTextOf unit_words (lines_of same_unit minutes) text
+
+-- the view text of a card's minutes
+unfoldable pub IsCardView : List (Viewed CardShown) → List ℕ → Type 0
+IsCardView minutes text = IsTextOf card_words (lines_of same_card minutes) text
