@@ -1,0 +1,154 @@
+-- A span that is fed with the items of a trace has the trace's seconds.
+use Rattle.std.proofs.Common.{◌≡◌, ◌∙◌, ℕ, suc, zero, ◌+◌, List, [], ◌∷◌, ◌++◌, take, drop, refl, ap, sym, arith, append_assoc, append-nil, length-append}
+use Rattle.std.specs.Prelude.{map, filter, slice_get, Some}
+use Rattle.std.specs.List.{AllByRecursion}
+use Rattle.std.proofs.lemmas.List.{map-append}
+use Rattle.std.proofs.lemmas.List.Elements.{filter-append}
+use Rattle.std.proofs.lemmas.List.Sums.{sum_by-cons}
+use Rattle.activity_codec.specs.declared.values.Slot.{Slot}
+use Rattle.activity_codec.specs.declared.values.Pick.{Pick}
+use Rattle.minute_model.specs.declared.Rule.{Rule}
+use Rattle.minute_model.specs.declared.Rule.TheVariants.{Original}
+use Rattle.minute_model.specs.Second.{Second}
+use Rattle.minute_model.specs.Minute.{decided}
+use Rattle.minute_model.specs.Span.{Span, begin, end_of, fed, picked, decided_in}
+use Rattle.run_model.specs.Trace as model
+use Rattle.run_model.specs.Trace.{TraceSecond, Insert, Withdraw, Tear, Place, driven, seconds_from, seconds_of}
+use Rattle.run_model.specs.Span.{picks_of, span_of}
+use Rattle.trace_text.specs.declared.trace.Action.TheVariants.{Select}
+use Rattle.trace_text.specs.declared.trace.Item.{Item}
+use Rattle.trace_text.specs.declared.trace.Item.TheVariants.{Run, Act}
+use Rattle.trace_text.specs.Line.{InRange}
+use Rattle.trace_text.specs.Trace.{item_seconds, total_seconds}
+use Rattle.trace_text.specs.Model.{line_of, trace_span}
+use Rattle.tacho.specs.Feeding.{fed_many, fed_item, fed_items}
+
+-- one item more
+fed_items-more : (span : Span) (items : List Item) (item : Item) → fed_items span (items ++ item ∷ []) ≡ fed_item (fed_items span items) item
+fed_items-more span [] item = refl
+fed_items-more span (first ∷ items) item = fed_items-more (fed_item span first) items item
+
+-- the first of n + 1 seconds, and then the others
+fed_many-first : (span : Span) (speed n : ℕ) → fed_many span speed (suc n) ≡ fed_many (fed span speed) speed n
+fed_many-first span speed zero = refl
+fed_many-first span speed (suc n) = ap (λ (k : Span). fed k speed) (fed_many-first span speed n)
+
+-- the selections among some actions and one more
+picks_of-more : (actions : List model.Action) (slot : Slot) (pick : Pick) → picks_of (actions ++ model.Select slot pick ∷ []) ≡ picks_of actions ++ (slot, pick) ∷ []
+picks_of-more [] slot pick = refl
+picks_of-more (model.Select s p ∷ actions) slot pick = ap (λ (ps : List (Slot × Pick)). (s, p) ∷ ps) (picks_of-more actions slot pick)
+picks_of-more (Insert s card ∷ actions) slot pick = picks_of-more actions slot pick
+picks_of-more (Withdraw s ∷ actions) slot pick = picks_of-more actions slot pick
+picks_of-more (Tear s ∷ actions) slot pick = picks_of-more actions slot pick
+picks_of-more (Place s ending country region ∷ actions) slot pick = picks_of-more actions slot pick
+
+-- one second at the end of a span
+one-more : (xs : List Second) (x : Second) (ys : List Second) → (xs ++ x ∷ []) ++ ys ≡ xs ++ x ∷ ys
+one-more xs x ys = append_assoc xs (x ∷ []) ys
+
+-- the seconds with power of some seconds and of others
+span_of-append : (xs ys : List TraceSecond) → span_of (xs ++ ys) ≡ span_of xs ++ span_of ys
+span_of-append xs ys =
+    let f : TraceSecond → Second = λ s. record { number = s.number; speed = s.speed; picks = picks_of s.actions } in
+    ap (map f) (filter-append (λ (s : TraceSecond). s.has_power) xs ys) ∙ map-append f (filter (λ (s : TraceSecond). s.has_power) xs) (filter (λ (s : TraceSecond). s.has_power) ys)
+
+end-fed : (span : Span) (speed : ℕ) → end_of (fed span speed) ≡ end_of span + 1
+end-fed span speed = omega (arith, length-append span.seconds (record { number = end_of span; speed = speed; picks = span.pending } ∷ []))
+
+-- what seconds at one speed add to a span
+fed_many-seconds : (span : Span) (waiting : List model.Action) (speed n : ℕ) → span.pending ≡ picks_of waiting → (fed_many span speed n).seconds ≡ span.seconds ++ span_of (driven n (end_of span) speed waiting)
+fed_many-seconds span waiting speed zero is = sym (append-nil span.seconds)
+fed_many-seconds span waiting speed (suc n) is =
+    let first : Second = record { number = end_of span; speed = speed; picks = picks_of waiting } in
+    let same : (fed span speed).seconds ≡ span.seconds ++ first ∷ [] = ap (λ (ps : List (Slot × Pick)). span.seconds ++ record { number = end_of span; speed = speed; picks = ps } ∷ []) is in
+    ap (λ (k : Span). k.seconds) (fed_many-first span speed n)
+    ∙ fed_many-seconds (fed span speed) [] speed n refl
+    ∙ ap (λ (m : ℕ). (fed span speed).seconds ++ span_of (driven n m speed [])) (end-fed span speed)
+    ∙ ap (λ (xs : List Second). xs ++ span_of (driven n (end_of span + 1) speed [])) same
+    ∙ one-more span.seconds first (span_of (driven n (end_of span + 1) speed []))
+
+fed_many-end : (span : Span) (speed n : ℕ) → end_of (fed_many span speed n) ≡ end_of span + n
+fed_many-end span speed zero = omega arith
+fed_many-end span speed (suc n) = end-fed (fed_many span speed n) speed ∙ omega (arith, fed_many-end span speed n)
+
+fed_many-pending : (span : Span) (speed n : ℕ) → (fed_many span speed (suc n)).pending ≡ []
+fed_many-pending span speed n = refl
+
+-- what the items of a trace add to a span
+fed_items-seconds : (span : Span) (waiting : List model.Action) (items : List Item) → AllByRecursion InRange items → span.pending ≡ picks_of waiting → (fed_items span items).seconds ≡ span.seconds ++ span_of (seconds_from (end_of span) waiting (map line_of items))
+fed_items-seconds span waiting [] all is = sym (append-nil span.seconds)
+fed_items-seconds span waiting (Act (Select slot pick) ∷ items) all is =
+    fed_items-seconds (picked span slot pick) (waiting ++ model.Select slot pick ∷ []) items all.1 (ap (λ (ps : List (Slot × Pick)). ps ++ (slot, pick) ∷ []) is ∙ sym (picks_of-more waiting slot pick))
+fed_items-seconds span waiting (Run zero speed ∷ items) all is = absurd (omega (arith, all.0.0))
+fed_items-seconds span waiting (Run (suc n) speed ∷ items) all is =
+    let now = driven (suc n) (end_of span) speed waiting in
+    let later : ℕ → List TraceSecond = λ m. seconds_from m [] (map line_of items) in
+    fed_items-seconds (fed_many span speed (suc n)) [] items all.1 refl
+    ∙ ap (λ (m : ℕ). (fed_many span speed (suc n)).seconds ++ span_of (later m)) (fed_many-end span speed (suc n))
+    ∙ ap (λ (xs : List Second). xs ++ span_of (later (end_of span + suc n))) (fed_many-seconds span waiting speed (suc n) is)
+    ∙ append_assoc span.seconds (span_of now) (span_of (later (end_of span + suc n)))
+    ∙ ap (λ (xs : List Second). span.seconds ++ xs) (sym (span_of-append now (later (end_of span + suc n))))
+
+-- what feeding leaves as it was
+fed_many-rule : (span : Span) (speed n : ℕ) → (fed_many span speed n).rule ≡ span.rule
+fed_many-rule span speed zero = refl
+fed_many-rule span speed (suc n) = fed_many-rule span speed n
+
+fed_many-settlings : (span : Span) (speed n : ℕ) → (fed_many span speed n).settlings ≡ span.settlings
+fed_many-settlings span speed zero = refl
+fed_many-settlings span speed (suc n) = fed_many-settlings span speed n
+
+fed_items-rule : (span : Span) (items : List Item) → (fed_items span items).rule ≡ span.rule
+fed_items-rule span [] = refl
+fed_items-rule span (Act (Select slot pick) ∷ items) = fed_items-rule (picked span slot pick) items
+fed_items-rule span (Run n speed ∷ items) = fed_items-rule (fed_many span speed n) items ∙ fed_many-rule span speed n
+
+fed_items-settlings : (span : Span) (items : List Item) → (fed_items span items).settlings ≡ span.settlings
+fed_items-settlings span [] = refl
+fed_items-settlings span (Act (Select slot pick) ∷ items) = fed_items-settlings (picked span slot pick) items
+fed_items-settlings span (Run n speed ∷ items) = fed_items-settlings (fed_many span speed n) items ∙ fed_many-settlings span speed n
+
+-- the seconds of a fed span are those of the trace
+pub fed-span : (start : ℕ) (items : List Item) → AllByRecursion InRange items → (fed_items (begin Original start) items).seconds ≡ trace_span start items
+unfolding seconds_of
+fed-span start items all =
+    let e : end_of (begin Original start) ≡ start = omega arith in
+    fed_items-seconds (begin Original start) [] items all refl ∙ ap (λ (m : ℕ). span_of (seconds_from m [] (map line_of items))) e
+
+-- so its decided minutes are those of the trace
+pub decided-items : (start : ℕ) (items : List Item) → AllByRecursion InRange items → decided_in (fed_items (begin Original start) items) ≡ decided Original (trace_span start items) []
+decided-items start items all =
+    let span = fed_items (begin Original start) items in
+    ap (λ (r : Rule). decided r span.seconds span.settlings) (fed_items-rule (begin Original start) items)
+    ∙ ap (λ (xs : List Second). decided Original xs span.settlings) (fed-span start items all)
+    ∙ ap (λ (ts : List ℕ). decided Original (trace_span start items) ts) (fed_items-settlings (begin Original start) items)
+
+-- the item at an index, and what is before and behind it
+take-at : {T : Type 0} → (xs : List T) (i : ℕ) (x : T) → slice_get xs i ≡ Some x → take (suc i) xs ≡ take i xs ++ x ∷ []
+take-at [] i x h = cc
+take-at (y ∷ xs) zero x h = let e : y ≡ x = cc in rw e refl
+take-at (y ∷ xs) (suc i) x h = ap (λ (ys : List _). y ∷ ys) (take-at xs i x h)
+
+drop-at : {T : Type 0} → (xs : List T) (i : ℕ) (x : T) → slice_get xs i ≡ Some x → drop i xs ≡ x ∷ drop (suc i) xs
+drop-at [] i x h = cc
+drop-at (y ∷ xs) zero x h = let e : y ≡ x = cc in rw e refl
+drop-at (y ∷ xs) (suc i) x h = drop-at xs i x h
+
+pub total-at : (items : List Item) (i : ℕ) (item : Item) → slice_get items i ≡ Some item → total_seconds (drop i items) ≡ item_seconds item + total_seconds (drop (suc i) items)
+total-at items i item h = ap total_seconds (drop-at items i item h) ∙ sum_by-cons item_seconds item (drop (suc i) items)
+
+pub fed_items-at : (span : Span) (items : List Item) (i : ℕ) (item : Item) → slice_get items i ≡ Some item → fed_items span (take (suc i) items) ≡ fed_item (fed_items span (take i items)) item
+fed_items-at span items i item h = ap (fed_items span) (take-at items i item h) ∙ fed_items-more span (take i items) item
+
+-- a fed span ends behind its seconds, which are numbered one after another
+pub fed_items-end : (span : Span) (items : List Item) → end_of (fed_items span items) ≡ end_of span + total_seconds items
+fed_items-end span [] = omega arith
+fed_items-end span (Act (Select slot pick) ∷ items) =
+    fed_items-end (picked span slot pick) items ∙ omega (arith, sum_by-cons item_seconds (Act (Select slot pick)) items)
+fed_items-end span (Run n speed ∷ items) =
+    fed_items-end (fed_many span speed n) items ∙ omega (arith, sum_by-cons item_seconds (Run n speed) items, fed_many-end span speed n)
+
+-- with no second no minute is decided
+pub decided-begin : (rule : Rule) (start : ℕ) → decided_in (begin rule start) ≡ []
+unfolding decided
+decided-begin rule start = refl

@@ -1,0 +1,5 @@
+pub mod Views
+pub mod OneWord
+pub mod Fed
+pub mod Below
+pub mod EndLaws

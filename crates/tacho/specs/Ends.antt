@@ -1,0 +1,42 @@
+-- How a call ends, and its status (profile).
+use Rattle.std.specs.Prelude.{ℕ}
+use Rattle.trace_text.specs.declared.trace.TraceFault.{TraceFault}
+use Rattle.trace_text.specs.declared.trace.TraceFault.TheVariants as trace
+use Rattle.tacho.specs.declared.top.Fault.{Fault}
+use Rattle.tacho.specs.declared.top.Fault.TheVariants.{Done, Usage, BadTrace, TooLong, ReadFault, WriteFault, Memory}
+
+abbrev pub status_of : Fault → ℕ
+status_of Done = 0
+status_of Usage = 2
+status_of (BadTrace n) = 3
+status_of (TooLong n) = 3
+status_of ReadFault = 7
+status_of WriteFault = 8
+status_of Memory = 10
+
+-- the end where no trace was read
+abbrev pub refusal_of : TraceFault → Fault
+refusal_of trace.ReadFault = ReadFault
+refusal_of (trace.BadLine n) = BadTrace n
+refusal_of (trace.TooLong n) = TooLong n
+refusal_of trace.Memory = Memory
+
+-- the source failed, or memory ran out
+abbrev pub IsUnread : Fault → Type 0
+IsUnread ReadFault = Unit {0}
+IsUnread Memory = Unit {0}
+IsUnread Done = ⊥
+IsUnread Usage = ⊥
+IsUnread (BadTrace n) = ⊥
+IsUnread (TooLong n) = ⊥
+IsUnread WriteFault = ⊥
+
+-- the source or the sink failed, or memory ran out
+abbrev pub IsUnprinted : Fault → Type 0
+IsUnprinted ReadFault = Unit {0}
+IsUnprinted WriteFault = Unit {0}
+IsUnprinted Memory = Unit {0}
+IsUnprinted Done = ⊥
+IsUnprinted Usage = ⊥
+IsUnprinted (BadTrace n) = ⊥
+IsUnprinted (TooLong n) = ⊥

@@ -1,0 +1,5 @@
+pub mod Forms
+pub mod View
+pub mod Feeding
+pub mod Minutes
+pub mod Ends

@@ -1,0 +1,102 @@
+//! The decided minutes of a trace.
+ghost use Rattle.std.specs.Prelude.{◌≡◌, ◌+◌, ◌≤◌, ◌++◌, IfOk, OnOk, map, false};
+ghost use Rattle.minute_model.specs.Span.{Span, decided_in};
+ghost use Rattle.minute_rules.specs.Kept.{StandsFor};
+ghost use Rattle.trace_text.specs.Trace.{IsWellFormed, item_seconds};
+ghost use Rattle.tacho.specs.Feeding.{fed_many, fed_item};
+ghost use Rattle.tacho.specs.Minutes.{without_card, minutes_shown};
+
+use activity_codec::Activity;
+use minute_rules::{Minute, Minutes, Rule};
+use std::alloc::{AllocError, Global};
+use trace_text::{Action, Item, Trace};
+use view_model::{State, UnitShown, Viewed};
+
+/// The decided minutes of the one span of a trace, as a unit without a card shows them.
+pub fn minutes_of(alloc: Global, trace: &Trace) -> Result<Vec<Viewed<UnitShown>>, AllocError>
+    requires { IsWellFormed trace.now.start trace.now.items }
+    ensures { IfOk result (λ all. all.items ≡ minutes_shown trace.now.start trace.now.items) }
+{
+    let mut minutes = Minutes::new(Rule::Original, trace.start);
+    let mut all = Vec::new(alloc);
+    for i in 0..trace.items.len() {
+        let item = *trace.items.get(i);
+        feed_item(&mut minutes, &mut all, item)?;
+    }
+    Ok(all)
+}
+
+/// One item.
+fn feed_item(
+    minutes: &mut Minutes,
+    all: &mut Vec<Viewed<UnitShown>>,
+    item: Item,
+) -> Result<(), AllocError>
+    requires { minutes.old.next + item_seconds item ≤ 4294967295 }
+    ensures stands { (span : Span) → StandsFor minutes.old span → OnOk result (StandsFor minutes.new (fed_item span item)) }
+    ensures all { (span : Span) → StandsFor minutes.old span → all.old.items ≡ map without_card (decided_in span)
+        → OnOk result (all.new.items ≡ map without_card (decided_in (fed_item span item))) }
+    ensures next { OnOk result (minutes.new.next ≡ minutes.old.next + item_seconds item) }
+{
+    match item {
+        Item::Run { seconds, speed } => run(minutes, all, seconds, speed),
+        Item::Act(Action::Select { slot, pick }) => {
+            minutes.select(slot, pick);
+            Ok(())
+        }
+    }
+}
+
+/// So many seconds at this speed.
+fn run(
+    minutes: &mut Minutes,
+    all: &mut Vec<Viewed<UnitShown>>,
+    seconds: u32,
+    speed: u8,
+) -> Result<(), AllocError>
+    requires { minutes.old.next + seconds ≤ 4294967295 }
+    ensures stands { (span : Span) → StandsFor minutes.old span → OnOk result (StandsFor minutes.new (fed_many span speed seconds)) }
+    ensures all { (span : Span) → StandsFor minutes.old span → all.old.items ≡ map without_card (decided_in span)
+        → OnOk result (all.new.items ≡ map without_card (decided_in (fed_many span speed seconds))) }
+    ensures next { OnOk result (minutes.new.next ≡ minutes.old.next + seconds) }
+{
+    for i in 0..seconds {
+        let decided = minutes.feed(speed);
+        show(all, decided.as_slice())?;
+    }
+    Ok(())
+}
+
+/// Minutes at the end.
+fn show(all: &mut Vec<Viewed<UnitShown>>, minutes: &[Minute]) -> Result<(), AllocError>
+    ensures { OnOk result (all.new.items ≡ all.old.items ++ map without_card minutes.now) }
+{
+    for minute in minutes {
+        all.push(with_no_card(*minute))?;
+    }
+    Ok(())
+}
+
+/// What a unit without a card shows of a minute.
+fn with_no_card(minute: Minute) -> Viewed<UnitShown>
+    ensures { result ≡ without_card minute }
+{
+    Viewed {
+        minute: minute.minute,
+        shown: UnitShown {
+            driver: out(minute.driver),
+            codriver: out(minute.codriver),
+            crew: false,
+        },
+    }
+}
+
+/// A slot with no card.
+fn out(act: Activity) -> State
+    ensures { result ≡ record { act = act; present = false } }
+{
+    State {
+        act,
+        present: false,
+    }
+}

@@ -1,0 +1,75 @@
+//! The words of the command line.
+ghost use Rattle.std.specs.Prelude.{◌≡◌, ◌==◌, ◌↔◌, ◌<◌, [], ◌∷◌, ◌++◌, IsTrue, OnOk, OnErr, length, slice_get, Some};
+ghost use Rattle.tacho.specs.Forms.{minutes_form};
+
+use std::alloc::Global;
+use std::marker::Model;
+use tach_media::Memory;
+
+/// A list of texts.
+#[derive(Drop)]
+pub struct Words {
+    list: Vec<String>,
+    alloc: Global,
+}
+
+impl Model for Words {
+    ghost use Rattle.std.specs.Prelude.{List, ℕ, map, string_bytes};
+
+    ghost Value = { List (List ℕ) };
+
+    ghost view = { λ w. map string_bytes w.list.items };
+}
+
+impl Words {
+    /// No words, which take no memory.
+    pub fn new(alloc: Global) -> Self
+        ensures { result ≡ [] }
+    {
+        Words {
+            list: Vec::new(alloc),
+            alloc,
+        }
+    }
+
+    /// Adds a word at the end.
+    pub fn push(&mut self, word: &str) -> Result<(), Memory>
+        ensures ok { OnOk result (self.new ≡ self.old ++ word.now ∷ []) }
+        ensures err { OnErr result (self.new ≡ self.old) }
+    {
+        let text = String::from_str(self.alloc, word)?;
+        if self.list.push(text).is_err() {
+            return Err(Memory);
+        }
+        Ok(())
+    }
+
+    /// How many words there are.
+    pub fn len(&self) -> usize
+        ensures { result ≡ length self.now }
+    {
+        self.list.len()
+    }
+
+    /// Whether there are none.
+    pub fn is_empty(&self) -> bool
+        ensures { result ≡ (length self.now == 0) }
+    {
+        self.list.is_empty()
+    }
+
+    /// The word at an index.
+    pub fn get(&self, index: usize) -> &str
+        requires { index < length self.now }
+        ensures { slice_get self.now index ≡ Some result.now }
+    {
+        self.list[index].as_str()
+    }
+
+    /// Whether these words are the form `minutes`. The test takes no memory.
+    pub fn is_minutes(&self) -> bool
+        ensures { IsTrue result ↔ (self.now ≡ minutes_form) }
+    {
+        self.len() == 1 && self.get(0) == "minutes"
+    }
+}
