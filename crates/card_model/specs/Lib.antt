@@ -1,0 +1,6 @@
+pub mod Bytes
+pub mod Days
+pub mod Image
+pub mod Walk
+pub mod Checks
+pub mod Changes

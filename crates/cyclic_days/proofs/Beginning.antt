@@ -1,0 +1,314 @@
+-- The writes of a new day.
+use Rattle.std.proofs.Common.{◌≡◌, ◌≢◌, ◌⊎◌, inl, inr, ⊎_elim, ℕ, ◌+◌, ◌*◌, ◌/◌, ◌%◌, ◌<◌, ◌≤◌, Bool, true, false, cond, List, [], ◌∷◌, ◌++◌, length, drop, refl, sym, ◌∙◌, ap, subst, arith, lit≤, append_assoc}
+use Rattle.std.specs.Prelude.{◌==◌}
+use Rattle.std.proofs.lemmas.Bool.Decides.{nat_tests}
+use Rattle.std.proofs.lemmas.List.{append-nil}
+use Rattle.tach_media.specs.Medium.{put, bytes_at, SameOutside}
+use Rattle.tach_media.specs.LogLaws.{put_outside}
+use Rattle.tach_media.proofs.Images.{outside_same, outside_then, outside_wider, part_before}
+use Rattle.card_model.specs.Days.{last_len, Day, len_of, total, far, body, record_of, records, IsDay, AreDays}
+use Rattle.card_model.specs.Bytes.{number, two_bytes}
+use Rattle.card_model.specs.Changes.{next_counter, new_day, IsLater, IsNext}
+use Rattle.card_model.specs.Image.{Shape, IsShape, oldest_of, newest_of, circle_of, IsPointer, IsPlace, spot, Holds, at}
+use Rattle.cyclic_days.specs.Steps.{preceded, filled, measured, begun, IsBeginStep, IsPlacing, IsPlaced}
+use Rattle.card_model.proofs.Circle.{put_back}
+use Rattle.card_model.proofs.Lists.{records_length, previous_of, records-append, far_last}
+use Rattle.cyclic_days.proofs.Lists.{strict_words, few_strict}
+use Rattle.cyclic_days.proofs.Places.{Stands, stands, points}
+use Rattle.card_model.proofs.Circle.{circle_length}
+use Rattle.card_model.proofs.Reading.{place_then, fills}
+use Rattle.cyclic_days.proofs.Holding.{beyond}
+use Rattle.cyclic_days.proofs.Rounds.{Covered, rounds, covers, spot_is, rounding_outside, round_outside}
+use Rattle.card_model.proofs.Lists.{last_len_is}
+
+-- what stands before a further day
+precedes : (q : ℕ) (d : Day) (ds : List Day) → previous_of q (d ∷ ds) ≡ last_len (d ∷ ds)
+precedes q d [] = refl
+precedes q d (e ∷ ds) = precedes (len_of d) e ds
+
+far_more : (days : List Day) (d : Day) → far (days ++ d ∷ []) ≡ total days
+far_more = far_last
+
+-- the days before a later date
+before_later : (date : ℕ) (d : Day) (ds : List Day) (m : ℕ) → AreDays date (d ∷ ds) → IsLater m (d ∷ ds) → date < m
+before_later date d [] m are later = omega (arith, are.0, later)
+before_later date d (e ∷ ds) m are later = omega (arith, are.0, before_later d.date e ds m are.2 later)
+
+-- a later day may follow
+follows : (date : ℕ) (d : Day) (ds : List Day) (e : Day) → AreDays date (d ∷ ds) → IsLater e.date (d ∷ ds) → IsDay e → AreDays date (d ∷ (ds ++ e ∷ []))
+follows date d [] e are later is = (are.0, are.1, (later, is, tt))
+follows date d (f ∷ ds) e are later is = (are.0, are.1, follows d.date f ds e are.2 later is)
+
+follows_any : (days : List Day) (e : Day) → AreDays 0 days → IsLater e.date days → IsDay e → AreDays 0 (days ++ e ∷ [])
+follows_any [] e are later is = (later, is, tt)
+follows_any (d ∷ ds) e are later is = follows 0 d ds e are later is
+
+counter_short : (days : List Day) → next_counter days ≤ 9999
+counter_short [] = lit≤ tt
+counter_short (d ∷ []) = grind (arith, nat_tests)
+counter_short (d ∷ e ∷ ds) = counter_short (e ∷ ds)
+
+pub new_is : (days : List Day) (date : ℕ) (words : List ℕ) → IsNext days date words → IsDay (new_day days date words)
+new_is days date words next = record { midnight = next.midnight; decimal = counter_short days; most = few_strict words next.ordered; ordered = strict_words words next.ordered }
+
+-- the writes before the pointer, on what is free
+three : (len m : ℕ) (bytes rest : List ℕ) → 4 ≤ length rest → put 2 (two_bytes m) (put 4 bytes (put 0 (two_bytes len) rest)) ≡ two_bytes len ++ (two_bytes m ++ (bytes ++ drop (length bytes) (drop 4 rest)))
+three len m bytes [] le = absurd (omega (arith, le))
+three len m bytes (a ∷ []) le = absurd (omega (arith, le))
+three len m bytes (a ∷ b ∷ []) le = absurd (omega (arith, le))
+three len m bytes (a ∷ b ∷ c ∷ []) le = absurd (omega (arith, le))
+three len m bytes (a ∷ b ∷ c ∷ d ∷ rest) le =
+    let zero_more : 0 + length bytes ≡ length bytes = omega arith in
+    ap (λ (l : List ℕ). put 2 (two_bytes m) l) (put_back 0 bytes (len / 256 ∷ len % 256 ∷ c ∷ d ∷ []) rest)
+    ∙ ap (λ (k : ℕ). two_bytes len ++ (two_bytes m ++ (bytes ++ drop k rest))) zero_more
+
+same_start : (size o n p : ℕ) → n < size → p < size → o < size → IsPlace size o 0 n → IsPlace size o 0 p → n ≡ p
+same_start size o n p n_below p_below o_below first next = ⊎_elim
+    (λ a. ⊎_elim (λ b. omega (arith, a, b)) (λ b. absurd (omega (arith, b, o_below))) next) (λ a. absurd (omega (arith, a, o_below))) first
+
+-- What the code read: the newest day's place, its length, and the bytes of the new one.
+module _ (r : Shape) (shape : IsShape r) (x : List ℕ) (inside : r.base + (4 + r.size) ≤ length x) (n p len date : ℕ) (words bytes : List ℕ) (few : length words ≤ 2)
+    (n_is : IsPointer r.size (newest_of r x) → n ≡ newest_of r x) (n_pointer : IsPointer r.size n) (len_is : (days : List Day) → Holds r x days → len ≡ last_len days)
+    (p_place : IsPlace r.size n len p) (p_pointer : IsPointer r.size p)
+    (bytes_is : (days : List Day) → Holds r x days → bytes ≡ body (new_day days date words)) (bytes_long : length bytes ≡ 8 + 2 * length words) where
+  abbrev y1 : List ℕ
+  y1 = preceded r p len x
+
+  abbrev y2 : List ℕ
+  y2 = filled r p len bytes x
+
+  abbrev y3 : List ℕ
+  y3 = measured r p len bytes x
+
+  abbrev z : List ℕ
+  z = begun r n p len bytes x
+
+  abbrev a : ℕ
+  a = spot r.size p 2
+
+  abbrev b : ℕ
+  b = spot r.size p 4
+
+  a_is : IsPlace r.size p 2 a × IsPointer r.size a
+  a_is = spot_is r.size p 2 shape.even p_pointer refl (omega (arith, shape.low))
+
+  b_is : IsPlace r.size p 4 b × IsPointer r.size b
+  b_is = spot_is r.size p 4 shape.even p_pointer refl (omega (arith, shape.low))
+
+  two_fit : (m : ℕ) → IsPointer r.size m → m + 2 ≤ r.size
+  two_fit m pointer = omega (arith, pointer.below, pointer.even, shape.even)
+
+  module _ (days : List Day) (h : Holds r x days) (next : IsNext days date words) (room : total days + (12 + 2 * length words) ≤ r.size) where
+    abbrev k : ℕ
+    k = total days
+
+    abbrev o : ℕ
+    o = oldest_of r x
+
+    abbrev new : Day
+    new = new_day days date words
+
+    newest_place : IsPlace r.size o (far days) n
+    newest_place = subst (λ (m : ℕ). IsPlace r.size o (far days) m) (sym (n_is h.newest)) h.distance
+
+    whole : far days + len ≡ k
+    whole = omega (arith, len_is days h, last_len_is days)
+
+    p_far : IsPlace r.size o k p
+    p_far = subst (λ (m : ℕ). IsPlace r.size o m p) whole (place_then r.size o (far days) n len p h.oldest.below n_pointer.below p_pointer.below (omega (arith, whole, room)) newest_place p_place)
+
+    a_far : IsPlace r.size o (k + 2) a
+    a_far = place_then r.size o k p 2 a h.oldest.below p_pointer.below a_is.1.below (omega (arith, room)) p_far a_is.0
+
+    b_far : IsPlace r.size o (k + 4) b
+    b_far = place_then r.size o k p 4 b h.oldest.below p_pointer.below b_is.1.below (omega (arith, room)) p_far b_is.0
+
+    s1 : Stands r k (two_bytes len) x y1
+    s1 = stands r x inside k p (two_bytes len) h.oldest.below p_far (two_fit p p_pointer) (omega (arith, room))
+
+    y1_inside : r.base + (4 + r.size) ≤ length y1
+    y1_inside = omega (arith, inside, s1.outside.same_length)
+
+    free_fits : k + 4 + length bytes ≤ r.size
+    free_fits = omega (arith, room, bytes_long)
+
+    s2 : Stands r (k + 4) bytes y1 y2
+    s2 = rounds r y1 y1_inside (k + 4) b bytes (omega (arith, s1.oldest, h.oldest.below)) b_is.1.below (subst (λ (m : ℕ). IsPlace r.size m (k + 4) b) (sym s1.oldest) b_far) free_fits
+
+    y2_inside : r.base + (4 + r.size) ≤ length y2
+    y2_inside = omega (arith, y1_inside, s2.outside.same_length)
+
+    o_same : oldest_of r y2 ≡ o
+    o_same = s2.oldest ∙ s1.oldest
+
+    s3 : Stands r (k + 2) (two_bytes (4 + length bytes)) y2 y3
+    s3 = stands r y2 y2_inside (k + 2) a (two_bytes (4 + length bytes)) (omega (arith, o_same, h.oldest.below)) (subst (λ (m : ℕ). IsPlace r.size m (k + 2) a) (sym o_same) a_far) (two_fit a a_is.1) (omega (arith, room))
+
+    y3_inside : r.base + (4 + r.size) ≤ length y3
+    y3_inside = omega (arith, y2_inside, s3.outside.same_length)
+
+    -- while the length does not stand, an empty string is empty
+    empty_1 : days ≡ [] → number (bytes_at (circle_of r y1) 2 2) ≡ 0
+    empty_1 none =
+        let at : k ≡ 0 = ap total none in
+        ap (λ (l : List ℕ). number (bytes_at l 2 2)) (s1.circle ∙ ap (λ (m : ℕ). put m (two_bytes len) (circle_of r x)) at) ∙ h.empty none
+
+    pub held_1 : (g : Holds r y1 days) × (g.rest ≡ put 0 (two_bytes len) h.rest) × (g.previous ≡ h.previous)
+    held_1 = beyond r shape x inside days k 0 (two_bytes len) y1 h (omega arith) s1 empty_1
+
+    pub held_c : (c : List ℕ) → Covered r (k + 4) (length bytes) y1 c → Holds r c days
+    held_c c cover = (beyond r shape y1 y1_inside days (k + 4) 4 cover.bytes c held_1.0 refl cover.stands empty).0
+      where
+        empty : days ≡ [] → number (bytes_at (circle_of r c) 2 2) ≡ 0
+        empty none =
+            let fits : k + 4 + length cover.bytes ≤ length (circle_of r y1) = omega (arith, circle_length r y1 y1_inside, cover.long, free_fits) in
+            ap (λ (l : List ℕ). number (bytes_at l 2 2)) cover.stands.circle
+            ∙ ap number (part_before (k + 4) (length cover.bytes) 2 2 (circle_of r y1) (put (k + 4) cover.bytes (circle_of r y1)) (put_outside (k + 4) cover.bytes (circle_of r y1) fits) (omega arith)) ∙ empty_1 none
+
+    pub held_2 : Holds r y2 days
+    held_2 = held_c y2 (record { bytes = bytes; long = omega arith; stands = s2 })
+
+    -- what the string is then
+    rest_long : 4 + length bytes ≤ length h.rest
+    rest_long = omega (arith, fills r shape x inside days h, free_fits)
+
+    circle_3 : circle_of r y3 ≡ records h.previous days ++ (record_of len new ++ drop (length bytes) (drop 4 h.rest))
+    circle_3 =
+        let front = records h.previous days in
+        let m = 4 + length bytes in
+        let front_length : length front ≡ k = records_length h.previous days in
+        let none : length front + 0 ≡ k = omega (arith, front_length) in
+        let m_is : m ≡ len_of new = omega (arith, bytes_long) in
+        s3.circle ∙ ap (λ (l : List ℕ). put (k + 2) (two_bytes m) l) (s2.circle ∙ ap (λ (l : List ℕ). put (k + 4) bytes l) (s1.circle ∙ ap (λ (l : List ℕ). put k (two_bytes len) l) h.spelled))
+        ∙ ap (λ (j : ℕ). put (k + 2) (two_bytes m) (put (k + 4) bytes (put j (two_bytes len) (front ++ h.rest)))) (sym none)
+        ∙ ap (λ (j : ℕ). put (j + 2) (two_bytes m) (put (j + 4) bytes (put (length front + 0) (two_bytes len) (front ++ h.rest)))) (sym front_length)
+        ∙ ap (λ (l : List ℕ). put (length front + 2) (two_bytes m) (put (length front + 4) bytes l)) (put_back 0 (two_bytes len) front h.rest)
+        ∙ ap (λ (l : List ℕ). put (length front + 2) (two_bytes m) l) (put_back 4 bytes front (put 0 (two_bytes len) h.rest))
+        ∙ put_back 2 (two_bytes m) front (put 4 bytes (put 0 (two_bytes len) h.rest))
+        ∙ ap (λ (l : List ℕ). front ++ l) (three len m bytes h.rest (omega (arith, rest_long)))
+        ∙ ap (λ (j : ℕ). front ++ (two_bytes len ++ (two_bytes j ++ (bytes ++ drop (length bytes) (drop 4 h.rest))))) m_is
+        ∙ ap (λ (l : List ℕ). front ++ (two_bytes len ++ (two_bytes (len_of new) ++ (l ++ drop (length bytes) (drop 4 h.rest))))) (bytes_is days h)
+
+    first_of : List Day → ℕ → ℕ
+    first_of [] q = len
+    first_of (d ∷ ds) q = q
+
+    spelled_with : (ds : List Day) (q : ℕ) (rest : List ℕ) → len ≡ last_len ds → records q ds ++ (record_of len new ++ rest) ≡ records (first_of ds q) (ds ++ new ∷ []) ++ rest
+    unfolding first_of
+    spelled_with [] q rest len_known = ap (λ (l : List ℕ). l ++ rest) (sym (append-nil (record_of len new)))
+    spelled_with (d ∷ ds) q rest len_known =
+        let e = previous_of q (d ∷ ds) in
+        let e_is : len ≡ e = len_known ∙ sym (precedes q d ds) in
+        ap (λ (m : ℕ). records q (d ∷ ds) ++ (record_of m new ++ rest)) e_is ∙ sym (append_assoc (records q (d ∷ ds)) (record_of e new) rest)
+        ∙ ap (λ (l : List ℕ). (records q (d ∷ ds) ++ l) ++ rest) (sym (append-nil (record_of e new))) ∙ ap (λ (l : List ℕ). l ++ rest) (sym (records-append q (d ∷ ds) (new ∷ [])))
+
+    -- once the pointer is there too
+    pub commit : (c : List ℕ) → oldest_of r c ≡ oldest_of r y3 → newest_of r c ≡ p → circle_of r c ≡ circle_of r y3 → Holds r c (days ++ new ∷ [])
+    commit c oldest newest circle =
+        let o_is : oldest_of r c ≡ o = oldest ∙ s3.oldest ∙ o_same in
+        record {
+          oldest = subst (λ (m : ℕ). IsPointer r.size m) (sym o_is) h.oldest;
+          newest = subst (λ (m : ℕ). IsPointer r.size m) (sym newest) p_pointer;
+          distance = subst (λ (m : ℕ). IsPlace r.size m (far (days ++ new ∷ [])) (newest_of r c)) (sym o_is)
+              (subst (λ (m : ℕ). IsPlace r.size o (far (days ++ new ∷ [])) m) (sym newest) (subst (λ (m : ℕ). IsPlace r.size o m p) (sym (far_last days new)) p_far));
+          previous = first_of days h.previous;
+          rest = drop (length bytes) (drop 4 h.rest);
+          spelled = circle ∙ circle_3 ∙ spelled_with days h.previous (drop (length bytes) (drop 4 h.rest)) (len_is days h);
+          empty = λ none. absurd (nothing days none);
+          ordered = follows_any days new h.ordered next.later (new_is days date words next);
+        }
+      where
+        nothing : (ds : List Day) → ds ++ new ∷ [] ≡ [] → ⊥
+        nothing [] none = cc
+        nothing (g ∷ ds) none = cc
+
+    -- before the pointer is moved
+    pub held_3 : (days ≡ [] → ⊥) → Holds r y3 days
+    held_3 some = (beyond r shape y2 y2_inside days (k + 2) 2 (two_bytes (4 + length bytes)) y3 held_2 refl s3 (λ none. absurd (some none))).0
+
+    n_same : newest_of r y3 ≡ n
+    n_same = s3.newest ∙ s2.newest ∙ s1.newest ∙ sym (n_is h.newest)
+
+    pub commit_same : n ≡ p → Holds r y3 (days ++ new ∷ [])
+    commit_same same = commit y3 refl (n_same ∙ same) refl
+
+    pub commit_put : Holds r (put (r.base + 2) (two_bytes p) y3) (days ++ new ∷ [])
+    commit_put = let s = points r y3 y3_inside p in commit (put (r.base + 2) (two_bytes p) y3) s.oldest s.newest s.circle
+
+    empty_same : days ≡ [] → n ≡ p
+    empty_same none =
+        same_start r.size o n p n_pointer.below p_pointer.below h.oldest.below (subst (λ (m : ℕ). IsPlace r.size o m n) (ap far none) newest_place) (subst (λ (m : ℕ). IsPlace r.size o m p) (ap total none) p_far)
+
+    -- the pointer differs, so there are days
+    pub held_before : n ≢ p → Holds r y3 days
+    held_before other = held_3 (λ none. other (empty_same none))
+
+    pub after_length : Holds r y3 days ⊎ Holds r y3 (days ++ new ∷ [])
+    after_length = by days refl
+      where
+        by : (ds : List Day) → days ≡ ds → Holds r y3 days ⊎ Holds r y3 (days ++ new ∷ [])
+        by [] is = inr (commit_same (empty_same is))
+        by (d ∷ ds) is = inl (held_3 (λ none. let absurd_is : d ∷ ds ≡ [] = sym is ∙ none in cc))
+
+  -- the frame, whatever the image holds
+  short : length bytes ≤ r.size
+  short = omega (arith, bytes_long, few, shape.low)
+
+  in_string : (q n : ℕ) (u v : List ℕ) → q + n ≤ r.size → SameOutside (at r q) n u v → SameOutside r.base (4 + r.size) u v
+  in_string q n u v fits same = outside_wider r.base (4 + r.size) (at r q) n u v same (omega arith) (omega (arith, fits))
+
+  y1_outside : SameOutside r.base (4 + r.size) x y1
+  y1_outside = in_string p 2 x y1 (two_fit p p_pointer) (put_outside (at r p) (two_bytes len) x (omega (arith, two_fit p p_pointer, inside)))
+
+  y1_in : r.base + (4 + r.size) ≤ length y1
+  y1_in = omega (arith, inside, y1_outside.same_length)
+
+  y2_outside : SameOutside r.base (4 + r.size) x y2
+  y2_outside = outside_then r.base (4 + r.size) x y1 y2 y1_outside (round_outside r y1 y1_in b bytes b_is.1.below short)
+
+  y2_in : r.base + (4 + r.size) ≤ length y2
+  y2_in = omega (arith, inside, y2_outside.same_length)
+
+  y3_outside : SameOutside r.base (4 + r.size) x y3
+  y3_outside = outside_then r.base (4 + r.size) x y2 y3 y2_outside (in_string a 2 y2 y3 (two_fit a a_is.1) (put_outside (at r a) (two_bytes (4 + length bytes)) y2 (omega (arith, two_fit a a_is.1, y2_in))))
+
+  y3_in : r.base + (4 + r.size) ≤ length y3
+  y3_in = omega (arith, inside, y3_outside.same_length)
+
+  abbrev y4 : List ℕ
+  y4 = put (r.base + 2) (two_bytes p) y3
+
+  y4_outside : SameOutside r.base (4 + r.size) x y4
+  y4_outside = outside_then r.base (4 + r.size) x y3 y4 y3_outside (points r y3 y3_in p).outside
+
+  pub placed : IsPlaced r date words x z
+  placed = by (n == p) refl
+    where
+      by : (test : Bool) → (n == p) ≡ test → IsPlaced r date words x (cond test y3 y4)
+      by true test = let same : n ≡ p = grind (arith, nat_tests, test) in record { outside = y3_outside; list = λ days h next room. commit_same days h next room same }
+      by false test = record { outside = y4_outside; list = λ days h next room. commit_put days h next room }
+
+  at_x : IsPlacing r date words x x
+  at_x = record { outside = outside_same r.base (4 + r.size) x; list = λ days h next room. inl h }
+
+  at_1 : IsPlacing r date words x y1
+  at_1 = record { outside = y1_outside; list = λ days h next room. inl (held_1 days h next room).0 }
+
+  at_2 : IsPlacing r date words x y2
+  at_2 = record { outside = y2_outside; list = λ days h next room. inl (held_2 days h next room) }
+
+  at_3 : IsPlacing r date words x y3
+  at_3 = record { outside = y3_outside; list = λ days h next room. after_length days h next room }
+
+  at_4 : IsPlacing r date words x y4
+  at_4 = record { outside = y4_outside; list = λ days h next room. inr (commit_put days h next room) }
+
+  pub placing : (c : List ℕ) → IsBeginStep r n p len bytes x c → IsPlacing r date words x c
+  placing c (inl part) = ⊎_elim (λ is. subst (λ (l : List ℕ). IsPlacing r date words x l) (sym is) at_x) (λ is. subst (λ (l : List ℕ). IsPlacing r date words x l) (sym is) at_1) (part.whole (lit≤ tt))
+  placing c (inr (inl round)) = record {
+    outside = outside_then r.base (4 + r.size) x y1 c y1_outside (rounding_outside r y1 y1_in b bytes b_is.1.below short c round);
+    list = λ days h next room. inl (held_c days h next room c (covers r y1 (y1_inside days h next room) (total days + 4) b bytes (held_1 days h next room).0.oldest.below b_is.1.below
+        (subst (λ (m : ℕ). IsPlace r.size m (total days + 4) b) (sym (s1 days h next room).oldest) (b_far days h next room)) (free_fits days h next room) c round));
+  }
+  placing c (inr (inr (inl part))) = ⊎_elim (λ is. subst (λ (l : List ℕ). IsPlacing r date words x l) (sym is) at_2) (λ is. subst (λ (l : List ℕ). IsPlacing r date words x l) (sym is) at_3) (part.whole (lit≤ tt))
+  placing c (inr (inr (inr (other, part)))) = ⊎_elim (λ is. subst (λ (l : List ℕ). IsPlacing r date words x l) (sym is) at_3) (λ is. subst (λ (l : List ℕ). IsPlacing r date words x l) (sym is) at_4) (part.whole (lit≤ tt))

@@ -1,0 +1,19 @@
+use Rattle.std.proofs.Common.{◌≡◌, ℕ, List, Option, refl, ◌∙◌, ap, IfSome}
+use Rattle.gated_ring.specs.Ring.{number_at}
+use Rattle.tach_media.proofs.Runs.{reads_then, both_told}
+use Rattle.unit_model.specs.Decoding.{first_failing}
+use Rattle.unit_memory.specs.Judging.{rings_of}
+use Rattle.unit_memory.proofs.Told.{carried}
+use Rattle.unit_memory.proofs.judge.bad_ring.Goals as goal
+
+pub returns-clause-found : goal.returns-clause-found
+returns-clause-found g c =
+    let image = (g.M.Medium.state c.args.unit.now).image in
+    let n = c.in_ok-insertion.insertion in
+    let p = c.in_ok-place.place in
+    let insertion : IfSome image (λ x. n ≡ number_at x 2115044 4) = c.in_ok-insertion.ensures.value in
+    let place : IfSome image (λ x. p ≡ number_at x 2379240 4) = carried (λ x. p ≡ number_at x 2379240 4) (c.in_ok-insertion.ensures.reads.same refl) c.in_ok-place.ensures.value in
+    both_told image _ insertion place (λ x is insertion place. c.ring_place.ensures ∙ (λ i. first_failing (rings_of (insertion i) (place i))))
+
+pub returns-clause-reads : goal.returns-clause-reads
+returns-clause-reads g c = reads_then c.in_ok-insertion.ensures.reads c.in_ok-place.ensures.reads

@@ -1,0 +1,95 @@
+-- How an image is judged, field after field, where of the days before only the latest date is known.
+use Rattle.std.specs.Prelude.{◌≡◌, ℕ, ◌+◌, ◌-◌, ◌*◌, ◌/◌, ◌%◌, max, Bool, true, false, ◌&&◌, ◌||◌, ◌==◌, Option, Some, None, Result, Ok, Err, List, [], ◌∷◌, ◌++◌, nat_le, nat_lt, is_some, if◌then◌else◌}
+use Rattle.std.specs.List.{range_with_len}
+use Rattle.gated_ring.specs.Ring.{pointer}
+use Rattle.unit_model.specs.declared.layout.TheConstants.{VERSION, LAST_KEPT, ODOMETER, OVER_COUNT, DAY_ODOMETER, DAY_COUNT, DAY_WORDS, DAY_WORD_LIMIT, DAY_SLOTS, INSERTIONS, PLACES, LAST_MINUTE, HIGHEST_ODOMETER}
+use Rattle.unit_model.specs.Image.{number_of, last_kept, odometer_at, day_ring, slot_place, slot_date, slot_odometer, slot_count, slot_words}
+use Rattle.unit_model.specs.Decoding.{Check, check, word_checks, first_bad_place}
+use Rattle.unit_memory.specs.Walks.{walk_start, walk_from}
+use Rattle.unit_memory.specs.declared.words.Scan.{Scan}
+use Rattle.unit_memory.specs.declared.walk.Density.{Density}
+use Rattle.unit_memory.specs.declared.walk.Density.TheVariants.{Empty, Filled, Ended, Broken}
+use Rattle.unit_memory.specs.declared.walk.Walk.{Walk}
+use Rattle.unit_memory.specs.declared.judge.Judged.{Judged}
+
+-- the first failing place, with one field more
+abbrev pub or_failing : Option ℕ → ℕ → Bool → Option ℕ
+or_failing (Some p) place passes = Some p
+or_failing None place passes = if passes then None else Some place
+
+abbrev pub or_else : Option ℕ → Option ℕ → Option ℕ
+or_else (Some p) o = Some p
+or_else None o = o
+
+-- the fields in front, by their numbers
+abbrev pub front_of : (version kept : ℕ) → (has_today : Bool) → (odometer overs : ℕ) → List Check
+front_of version kept has_today odometer overs =
+    check VERSION.place (version == 1)
+    ∷ check LAST_KEPT.place (nat_le kept LAST_MINUTE && (kept == 0 || has_today))
+    ∷ check ODOMETER.place (nat_le odometer HIGHEST_ODOMETER)
+    ∷ check OVER_COUNT.place (nat_le overs 255)
+    ∷ []
+
+abbrev pub front_by : (kept : ℕ) → (has_today : Bool) → List ℕ → List Check
+front_by kept has_today image = front_of (number_of image VERSION) kept has_today (odometer_at image) (number_of image OVER_COUNT)
+
+-- the pointers of insertions and places
+abbrev pub rings_of : (insertion place : ℕ) → List Check
+rings_of insertion place = check INSERTIONS.place (nat_lt insertion 2048) ∷ check PLACES.place (nat_lt place 255) ∷ []
+
+-- the place of the first word that may not stand there
+abbrev pub failed_of : Result Scan ℕ → Option ℕ
+failed_of (Ok s) = None
+failed_of (Err p) = Some p
+
+-- a date behind days of which this is the latest, 0 where there is none
+abbrev pub date_passes : (kept latest date : ℕ) → Bool
+date_passes kept latest date =
+    date % 86400 == 0 && (nat_lt latest date && (nat_le (date / 86400) (kept / 1440) || nat_le (latest / 86400) (kept / 1440)))
+
+-- the fields of a day in front of its words
+abbrev pub day_front : (place : ℕ) → (passes : Bool) → (odometer count : ℕ) → List Check
+day_front place passes odometer count =
+    check place passes
+    ∷ check (place + DAY_ODOMETER.place) (nat_le odometer HIGHEST_ODOMETER)
+    ∷ check (place + DAY_COUNT.place) (nat_le 2 count && nat_le count DAY_WORD_LIMIT)
+    ∷ []
+
+abbrev pub day_checks_by : (kept latest date : ℕ) → List ℕ → ℕ → List Check
+day_checks_by kept latest date image i =
+    check (slot_place i) (date_passes kept latest date)
+    ∷ check (slot_place i + DAY_ODOMETER.place) (nat_le (slot_odometer image i) HIGHEST_ODOMETER)
+    ∷ check (slot_place i + DAY_COUNT.place) (nat_le 2 (slot_count image i) && nat_le (slot_count image i) DAY_WORD_LIMIT)
+    ∷ word_checks (slot_place i + DAY_WORDS.place) [] (slot_words image i (slot_count image i))
+
+abbrev pub slot_checks_by : (kept latest : ℕ) → List ℕ → ℕ → List Check
+slot_checks_by kept latest image i = if slot_date image i == 0 then [] else day_checks_by kept latest (slot_date image i) image i
+
+-- the slots of these indices, one after the other
+abbrev pub slots_by : (kept : ℕ) → List ℕ → (latest : ℕ) → List ℕ → List Check
+slots_by kept image latest [] = []
+slots_by kept image latest (i ∷ is) = slot_checks_by kept latest image i ++ slots_by kept image (max latest (slot_date image i)) is
+
+abbrev pub is_whole : Density → Bool
+is_whole Empty = true
+is_whole Filled = true
+is_whole Ended = true
+is_whole Broken = false
+
+abbrev pub pointer_passes : (kept p : ℕ) → Walk → Bool
+pointer_passes kept p walk = nat_lt p DAY_SLOTS && (is_whole walk.density && (nat_le (walk.last_date / 86400) (kept / 1440) || walk.last_index == p))
+
+-- the index of the oldest place
+abbrev pub turn_at : ℕ → ℕ
+turn_at p = if nat_lt p DAY_SLOTS then p + 1 else DAY_SLOTS
+
+-- the slots from the oldest place to the end, and then from the front on
+abbrev pub walk_round : (day turn : ℕ) → List ℕ → Walk
+walk_round day turn image = walk_from day image (walk_from day image walk_start (range_with_len turn (366 - turn))) (range_with_len 0 turn)
+
+-- what judging an image tells
+pub record IsJudged (j : Judged) (image : List ℕ) : Type 0 where
+  pub bad : j.bad ≡ first_bad_place image
+  pub kept : j.kept ≡ last_kept image
+  pub pointer_is : j.pointer ≡ pointer day_ring image
+  pub walk : j.walk ≡ walk_round (last_kept image / 1440) (turn_at (pointer day_ring image)) image

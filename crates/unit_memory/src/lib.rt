@@ -1,0 +1,21 @@
+//! The memory of a unit (profile): a new unit, whether an image decodes, and what it says of the vehicle.
+#![tactic(auto)]
+
+mod fault;
+mod fields;
+mod format;
+mod judge;
+mod memory;
+mod walk;
+mod words;
+
+pub use fault::UnitFault;
+pub use fields::number;
+pub use format::{Identity, format_unit};
+pub use judge::{Judged, judge_image};
+pub use memory::UnitMemory;
+pub use walk::{Density, Walk, walk_on};
+pub use words::{Scan, scan_day};
+
+#[cfg(test)]
+mod tests;

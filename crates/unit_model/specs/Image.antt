@@ -1,0 +1,70 @@
+-- What the image of a unit says of its days and minutes (profile).
+use Rattle.std.specs.Prelude.{◌≡◌, ℕ, ◌+◌, ◌*◌, List, map}
+use Rattle.std.specs.List.{range_with_len}
+use Rattle.tach_media.specs.Medium.{State, LiesInside}
+use Rattle.gated_ring.specs.Ring.{Shape, number_at, ring_list, indices as ring_indices}
+use Rattle.unit_model.specs.declared.layout.Field.{Field}
+use Rattle.unit_model.specs.declared.layout.TheConstants.{DAYS, DAY_SLOTS, DAY_SLOT_SIZE, DAY_DATE, DAY_ODOMETER, DAY_COUNT, DAY_WORDS, LAST_KEPT, ODOMETER}
+use Rattle.unit_model.specs.Days.{UnitDay, Day, UnitMinute, days_shown, minutes_of}
+
+-- a medium that is a unit's: it has its size, and all of it may be written
+pub record IsUnit (s : State) : Type 0 where
+  pub sized : s.size ≡ 2485808
+  pub writable : LiesInside s.writable 0 2485808
+
+-- the number in a field
+abbrev pub number_of : List ℕ → Field → ℕ
+number_of image f = number_at image f.place f.size
+
+-- the last-kept minute, 0 for none
+unfoldable pub last_kept : List ℕ → ℕ
+last_kept image = number_of image LAST_KEPT
+
+-- the stored odometer, in kilometres
+unfoldable pub odometer_at : List ℕ → ℕ
+odometer_at image = number_of image ODOMETER
+
+-- the ring of the day slots: a pointer of four bytes, and a slot is there where its date is not 0
+abbrev pub day_ring : Shape
+day_ring = record { base = DAYS.place; width = DAY_SLOT_SIZE; count = DAY_SLOTS; pointer_width = 4; gate = DAY_DATE.place }
+
+-- where the slot of an index begins
+abbrev pub slot_place : ℕ → ℕ
+slot_place i = DAYS.place + 4 + i * DAY_SLOT_SIZE
+
+-- so many words from a place on
+abbrev pub words_at : List ℕ → (place count : ℕ) → List ℕ
+words_at image place count = map (λ j. number_at image (place + 2 * j) 2) (range_with_len 0 count)
+
+-- the day of a slot's bytes: the words that its count covers
+abbrev pub unit_day : List ℕ → UnitDay
+unit_day slot = record { date = number_of slot DAY_DATE; words = words_at slot DAY_WORDS.place (number_of slot DAY_COUNT) }
+
+-- the indices of the slots that are there, oldest first
+unfoldable pub indices : List ℕ → List ℕ
+indices image = ring_indices day_ring image
+
+-- the days of these slots
+unfoldable pub unit_days : List ℕ → List UnitDay
+unit_days image = map unit_day (ring_list day_ring image)
+
+-- the recorded days of a unit image, with their minutes up to the last-kept one
+unfoldable pub recorded : List ℕ → List Day
+recorded image = days_shown (last_kept image) (unit_days image)
+
+-- the minutes of a unit image: CREW from the driver's word
+unfoldable pub unit_minutes : List ℕ → List UnitMinute
+unit_minutes image = minutes_of (recorded image)
+
+-- a slot's fields, by their places in the image; it begins with its date
+abbrev pub slot_date : List ℕ → ℕ → ℕ
+slot_date image i = number_at image (slot_place i) DAY_DATE.size
+
+abbrev pub slot_odometer : List ℕ → ℕ → ℕ
+slot_odometer image i = number_at image (slot_place i + DAY_ODOMETER.place) DAY_ODOMETER.size
+
+abbrev pub slot_count : List ℕ → ℕ → ℕ
+slot_count image i = number_at image (slot_place i + DAY_COUNT.place) DAY_COUNT.size
+
+abbrev pub slot_words : List ℕ → ℕ → ℕ → List ℕ
+slot_words image i count = words_at image (slot_place i + DAY_WORDS.place) count

@@ -1,0 +1,24 @@
+-- The fields of a unit's image, one after the other, as one table (profile).
+use Rattle.std.specs.Prelude.{ℕ, ◌+◌, Bool, ◌&&◌, ◌==◌, List, [], ◌∷◌}
+use Rattle.unit_model.specs.declared.layout.Field.{Field}
+use Rattle.unit_model.specs.declared.layout.TheConstants.{VERSION, VIN, REGISTRATION, SPEED_LIMIT, IDENTIFICATION, SENSOR, STATE_CERTIFICATE, UNIT_CERTIFICATE, SPARE, LAST_KEPT, ODOMETER, FIRST_OVER, OVER_COUNT, SPARE_COUNTS, OWED, SPARE_ROWS, DAYS, INSERTIONS, PLACES, EVENTS, OVERS, FAULTS, SPARE_FAULTS, SPEEDS, DAY_DATE, DAY_ODOMETER, DAY_COUNT, DAY_SPARE, DAY_WORDS, ROW_SESSION, ROW_NUMBER, ROW_SPARE, ROW_CELLS, CELL_MINUTE, CELL_WORD}
+
+abbrev pub image_fields : List Field
+image_fields =
+    VERSION ∷ VIN ∷ REGISTRATION ∷ SPEED_LIMIT ∷ IDENTIFICATION ∷ SENSOR ∷ STATE_CERTIFICATE ∷ UNIT_CERTIFICATE ∷ SPARE
+    ∷ LAST_KEPT ∷ ODOMETER ∷ FIRST_OVER ∷ OVER_COUNT ∷ SPARE_COUNTS ∷ OWED ∷ SPARE_ROWS
+    ∷ DAYS ∷ INSERTIONS ∷ PLACES ∷ EVENTS ∷ OVERS ∷ FAULTS ∷ SPARE_FAULTS ∷ SPEEDS ∷ []
+
+abbrev pub slot_fields : List Field
+slot_fields = DAY_DATE ∷ DAY_ODOMETER ∷ DAY_COUNT ∷ DAY_SPARE ∷ DAY_WORDS ∷ []
+
+abbrev pub row_fields : List Field
+row_fields = ROW_SESSION ∷ ROW_NUMBER ∷ ROW_SPARE ∷ ROW_CELLS ∷ []
+
+abbrev pub cell_fields : List Field
+cell_fields = CELL_MINUTE ∷ CELL_WORD ∷ []
+
+-- the fields stand one after the other, from a place to an end
+abbrev pub are_adjacent : (place end : ℕ) → List Field → Bool
+are_adjacent place end [] = place == end
+are_adjacent place end (f ∷ fs) = f.place == place && are_adjacent (place + f.size) end fs

@@ -1,0 +1,6 @@
+pub mod Layout
+pub mod Days
+pub mod Image
+pub mod Retention
+pub mod Decoding
+pub mod NewImage

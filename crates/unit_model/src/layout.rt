@@ -1,0 +1,176 @@
+//! The layout of a unit's image, version 1 (profile): each field with its place and its size in bytes. A number stands with
+//! its highest byte first. Days, insertions and places begin with a pointer of four bytes.
+
+/// A field of the image: its place and its size in bytes. The fields of a day slot, of an owed row and of a cell have places
+/// that are counted from its own begin.
+#[derive(Clone, Copy, Debug, PartialEq, Eq)]
+pub struct Field {
+    pub place: u32,
+    pub size: u32,
+}
+
+/// The size of the image in bytes.
+pub const IMAGE_SIZE: u32 = 2_485_808;
+
+/// 1; 0 while the unit is formatted.
+pub const VERSION: Field = Field { place: 0, size: 4 };
+
+pub const VIN: Field = Field { place: 4, size: 17 };
+
+pub const REGISTRATION: Field = Field {
+    place: 21,
+    size: 15,
+};
+
+pub const SPEED_LIMIT: Field = Field { place: 36, size: 1 };
+
+pub const IDENTIFICATION: Field = Field {
+    place: 37,
+    size: 116,
+};
+
+pub const SENSOR: Field = Field {
+    place: 153,
+    size: 20,
+};
+
+pub const STATE_CERTIFICATE: Field = Field {
+    place: 173,
+    size: 194,
+};
+
+pub const UNIT_CERTIFICATE: Field = Field {
+    place: 367,
+    size: 194,
+};
+/// Zeros.
+pub const SPARE: Field = Field {
+    place: 561,
+    size: 3,
+};
+/// The minute that was kept last, 0 for none.
+pub const LAST_KEPT: Field = Field {
+    place: 564,
+    size: 4,
+};
+/// In kilometres.
+pub const ODOMETER: Field = Field {
+    place: 568,
+    size: 4,
+};
+/// The begin of the first over speeding.
+pub const FIRST_OVER: Field = Field {
+    place: 572,
+    size: 4,
+};
+/// The number of over speedings, at most 255.
+pub const OVER_COUNT: Field = Field {
+    place: 576,
+    size: 4,
+};
+/// Zeros.
+pub const SPARE_COUNTS: Field = Field {
+    place: 580,
+    size: 44,
+};
+/// Eight rows of entries that are owed to a card.
+pub const OWED: Field = Field {
+    place: 624,
+    size: 384,
+};
+/// Zeros.
+pub const SPARE_ROWS: Field = Field {
+    place: 1008,
+    size: 16,
+};
+/// A pointer and 366 day slots.
+pub const DAYS: Field = Field {
+    place: 1024,
+    size: 2_114_020,
+};
+/// A pointer and 2048 insertions of 129 bytes.
+pub const INSERTIONS: Field = Field {
+    place: 2_115_044,
+    size: 264_196,
+};
+/// A pointer and 255 places of 28 bytes.
+pub const PLACES: Field = Field {
+    place: 2_379_240,
+    size: 7144,
+};
+/// Ten events of 83 bytes for each of the types 01, 03, 04, 05, 06, 08.
+pub const EVENTS: Field = Field {
+    place: 2_386_384,
+    size: 4980,
+};
+/// Ten events of over speeding of 31 bytes.
+pub const OVERS: Field = Field {
+    place: 2_391_364,
+    size: 310,
+};
+/// 24 faults of 82 bytes.
+pub const FAULTS: Field = Field {
+    place: 2_391_674,
+    size: 1968,
+};
+/// Zeros.
+pub const SPARE_FAULTS: Field = Field {
+    place: 2_393_642,
+    size: 2,
+};
+/// A pointer and 1440 blocks of 64 bytes; zeros.
+pub const SPEEDS: Field = Field {
+    place: 2_393_644,
+    size: 92_164,
+};
+
+/// How many day slots there are, and how many bytes each has.
+pub const DAY_SLOTS: u32 = 366;
+
+pub const DAY_SLOT_SIZE: u32 = 5776;
+/// How many words a day slot has room for.
+pub const DAY_WORD_LIMIT: u32 = 2880;
+
+/// In a day slot: its date, a time in seconds that is a multiple of 86400; 0 in an empty slot.
+pub const DAY_DATE: Field = Field { place: 0, size: 4 };
+/// In a day slot: the odometer when the day was begun.
+pub const DAY_ODOMETER: Field = Field { place: 4, size: 4 };
+/// In a day slot: how many words it has.
+pub const DAY_COUNT: Field = Field { place: 8, size: 2 };
+/// In a day slot: zeros.
+pub const DAY_SPARE: Field = Field { place: 10, size: 6 };
+/// In a day slot: the words, of two bytes each.
+pub const DAY_WORDS: Field = Field {
+    place: 16,
+    size: 5760,
+};
+
+/// How many owed rows there are, and how many bytes each has.
+pub const OWED_ROWS: u32 = 8;
+
+pub const OWED_ROW_SIZE: u32 = 48;
+/// How many cells an owed row has, and how many bytes each has.
+pub const CELLS: u32 = 4;
+
+pub const CELL_SIZE: u32 = 6;
+
+/// In an owed row: the session time of its card; 0 in an empty row.
+pub const ROW_SESSION: Field = Field { place: 0, size: 4 };
+/// In an owed row: the card number.
+pub const ROW_NUMBER: Field = Field { place: 4, size: 18 };
+/// In an owed row: zeros.
+pub const ROW_SPARE: Field = Field { place: 22, size: 2 };
+/// In an owed row: the cells; that of minute m is m modulo 4.
+pub const ROW_CELLS: Field = Field {
+    place: 24,
+    size: 24,
+};
+/// In a cell: the minute; 0 in an empty cell.
+pub const CELL_MINUTE: Field = Field { place: 0, size: 4 };
+/// In a cell: the word.
+pub const CELL_WORD: Field = Field { place: 4, size: 2 };
+
+/// The last minute that the unit may keep, and the highest odometer that it may hold.
+pub const LAST_MINUTE: u32 = 71_582_788;
+
+pub const HIGHEST_ODOMETER: u32 = 9_999_999;
