@@ -16,6 +16,3 @@ pub use judge::{Judged, judge_image};
 pub use memory::UnitMemory;
 pub use walk::{Density, Walk, walk_on};
 pub use words::{Scan, scan_day};
-
-#[cfg(test)]
-mod tests;
