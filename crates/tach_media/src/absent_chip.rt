@@ -1,4 +1,5 @@
 ghost use Rattle.std.specs.Prelude.{◌≡◌, ℕ, None, false, refl, [], ◌∷◌};
+ghost use Rattle.tach_media.specs.Medium.{IsUntouched};
 
 use crate::{Answer, Chip, Failed};
 
@@ -11,7 +12,9 @@ pub struct AbsentChip {
 }
 
 impl AbsentChip {
-    pub fn new(size: u32) -> AbsentChip {
+    pub fn new(size: u32) -> AbsentChip
+        ensures { IsUntouched size (⟦<AbsentChip as Chip>⟧.state result) }
+    {
         AbsentChip {
             size,
             faults: 0,
@@ -30,6 +33,8 @@ impl Chip for AbsentChip {
     ghost use Rattle.tach_media.specs.Untold.{untold};
 
     ghost coherent = { λ m. untold m.size ((0, m.size) ∷ []) 0 false m.faults m.breakdowns };
+
+    ghost ten = { λ m bytes is. Prim.cc };
 
     fn size(&self) -> u32 {
         self.size

@@ -1,4 +1,5 @@
 ghost use Rattle.std.specs.Prelude.{◌≡◌, ◌≤◌, ◌<◌, [], length, option_map, OnOk, OnErr, is_err};
+ghost use Rattle.std.specs.Option.{ForSome};
 ghost use Rattle.tach_media.specs.declared.command.CardState.{CardState};
 ghost use Rattle.tach_media.specs.Medium.{State, IsCoherent, LeavesOnly, IsSettled, HasCause, Unchanged, Rose, put, last_count, revivable};
 ghost use Rattle.tach_media.specs.Chip.{outcome_of, Does, IsAnswered, IsIssued, just_issued, after_reset};
@@ -52,6 +53,9 @@ pub trait Chip {
         ensures cause { HasCause (revivable (state self.old)) (state self.new) (is_err result) };
 
     ghost coherent: { (c : Self) → IsCoherent (state c) };
+
+    // Application_Identification has ten bytes.
+    ghost ten: { (c : Self) → ForSome (card c).application (λ bytes. length bytes ≡ 10) };
 }
 
 impl<C: Chip> Chip for &mut C {
@@ -62,6 +66,8 @@ impl<C: Chip> Chip for &mut C {
     ghost card = { λ c. C.card c.now };
 
     ghost coherent = { λ c. lent_coherent c.ghost_name (C.state c.now) (C.coherent c.now) };
+
+    ghost ten = { λ c. C.ten c.now };
 
     fn size(&self) -> u32 {
         (**self).size()

@@ -1,0 +1,34 @@
+-- Parts of Application_Identification.
+use Rattle.std.proofs.Common.{◌≡◌, ℕ, ◌+◌, ◌-◌, ◌≤◌, List, length, take, drop, Option, Some, None, IfSome, refl, sym, ◌∙◌, ap, subst, arith}
+use Rattle.std.proofs.lemmas.List.{take-take, drop-drop, drop-take}
+use Rattle.tach_media.specs.Medium.{State, IsCoherent, bytes_at}
+use Rattle.tach_media.specs.declared.command.CardState.{CardState}
+use Rattle.card_commands.specs.Performing.{IsSound}
+
+-- a part of the file is a part of the image
+pub part_of : (x bytes : List ℕ) (offset n : ℕ) → offset + n ≤ 10 → bytes ≡ bytes_at x 33 10 → bytes_at bytes offset n ≡ bytes_at x (33 + offset) n
+part_of x bytes offset n fits is =
+    let k = 10 - offset in
+    let whole : offset + k ≡ 10 = omega (arith, fits) in
+    ap (λ (l : List ℕ). bytes_at l offset n) is
+    ∙ ap (λ (m : ℕ). take n (drop offset (take m (drop 33 x)))) (sym whole)
+    ∙ ap (take n) (drop-take offset k (drop 33 x))
+    ∙ take-take n k (drop offset (drop 33 x)) (omega (arith, fits))
+    ∙ ap (take n) (drop-drop offset 33 x)
+
+-- what is so of a value that is there
+pub where_some : {A : Type 0} {o : Option A} (P : A → Type 0) {x : A} → o ≡ Some x → P x → IfSome o P
+where_some {A} {o} P {x} is holds = subst (λ (p : Option A). IfSome p P) (sym is) holds
+
+-- what is so of a told image
+pub where_told : (o : Option (List ℕ)) {P : List ℕ → Type 0} (Q : List ℕ → Type 0) → IfSome o P → ((x : List ℕ) → P x → Q x) → IfSome o Q
+where_told None Q said weaker = said
+where_told (Some x) Q said weaker = weaker x said
+
+pub if_told : (o : Option (List ℕ)) (P : List ℕ → Type 0) → ((x : List ℕ) → o ≡ Some x → P x) → IfSome o P
+if_told None P holds = tt
+if_told (Some x) P holds = holds x refl
+
+-- the bytes by which a card goes stand in its image
+pub goes_by_image : (card : CardState) (works : _) (s : State) (bytes : List ℕ) → IsCoherent s → IsSound card works s → card.application ≡ Some bytes → IfSome s.image (λ x. bytes ≡ bytes_at x 33 10)
+goes_by_image card works s bytes whole sound is = if_told s.image _ (λ x told. sym (sound.agrees bytes is x (whole.is_left x told)))

@@ -1,0 +1,43 @@
+use Rattle.std.proofs.Common.{rules, ◌≡◌, ℕ, ◌/◌, ◌%◌, [], ◌∷◌, ◌++◌, true, false, is_err, List, refl, sym, ◌∙◌, ap}
+use Rattle.tach_media.specs.Commands.{command_of}
+use Rattle.tach_media.specs.Chip.{outcome_of}
+use Rattle.card_commands.proofs.Waking.{fails_at_once, goes_on_with, answered, does_same, performed_same}
+use Rattle.card_commands.proofs.sim_card.SimCardChip.transmit.Goals as goal
+
+pub returns-in_err-wake-clause-image : goal.returns-in_err-wake-clause-image
+returns-in_err-wake-clause-image g c =
+    let failed : true ≡ is_err c.from_residual.result = search rules in
+    let old = g.M.Medium.state c.args.self.now.medium in
+    let new = g.M.Medium.state c.wake.new.self.medium in
+    let card = c.args.self.now.card in
+    does_same card card (command_of c.args.command.now) (command_of c.args.command.now) old new true _ refl refl failed
+    (fails_at_once (outcome_of card c.args.command.now).effect old new c.in_err-wake.ensures.reads)
+
+pub returns-in_err-status-clause-image : goal.returns-in_err-status-clause-image
+returns-in_err-status-clause-image g c =
+    let failed : true ≡ is_err c.from_residual-in_err-status.result = search rules in
+    let old = g.M.Medium.state c.args.self.now.medium in
+    let mid = g.M.Medium.state c.wake.new.self.medium in
+    let new = g.M.Medium.state c.perform.new.self.medium in
+    let card = c.args.self.now.card in
+    goes_on_with (outcome_of card c.args.command.now).effect old mid new _ c.in_ok-wake.ensures.reads
+    (does_same card c.wake.new.self.card (command_of c.args.command.now) c.read_command.result mid new true _ c.wake.ensures.card c.read_command.ensures.value failed c.in_err-status.ensures.image)
+
+pub returns-clause-image : goal.returns-clause-image
+returns-clause-image g c =
+    let old = g.M.Medium.state c.args.self.now.medium in
+    let mid = g.M.Medium.state c.wake.new.self.medium in
+    let new = g.M.Medium.state c.perform.new.self.medium in
+    let card = c.args.self.now.card in
+    goes_on_with (outcome_of card c.args.command.now).effect old mid new false c.in_ok-wake.ensures.reads
+    (does_same card c.wake.new.self.card (command_of c.args.command.now) c.read_command.result mid new false false c.wake.ensures.card c.read_command.ensures.value refl c.in_ok-status.ensures.image)
+
+pub returns-clause-answered : goal.returns-clause-answered
+returns-clause-answered g c =
+    let old = g.M.Medium.state c.args.self.now.medium in
+    let mid = g.M.Medium.state c.wake.new.self.medium in
+    let given = c.perform.new.answer.items in
+    let status = c.in_ok-status.status in
+    answered c.args.command.now old.image c.args.self.now.card c.perform.new.self.card given _ status
+    (performed_same c.args.self.now.card c.wake.new.self.card c.perform.new.self.card (command_of c.args.command.now) c.read_command.result old.image mid.image given status c.wake.ensures.card c.read_command.ensures.value (c.in_ok-wake.ensures.reads.same refl) c.in_ok-status.ensures.performed)
+    c.conclude.ensures

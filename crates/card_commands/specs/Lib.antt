@@ -1,0 +1,5 @@
+pub mod Front
+pub mod Performing
+pub mod Ports
+pub mod Sending
+pub mod Written

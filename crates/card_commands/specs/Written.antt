@@ -1,0 +1,24 @@
+-- The bytes of a command as a unit writes it.
+use Rattle.std.specs.Prelude.{ℕ, ◌+◌, ◌/◌, ◌%◌, ◌==◌, ◌<◌, ◌≤◌, if◌then◌else◌, List, [], ◌∷◌, ◌++◌, length}
+use Rattle.card_layout.specs.declared.files.Fid.{Fid}
+use Rattle.tach_media.specs.declared.command.Command.{Command}
+use Rattle.tach_media.specs.declared.command.Command.TheVariants.{Application, Select, Read, Update}
+use Rattle.tach_media.specs.Commands.{tachograph_name}
+
+-- class, instruction, P1 and P2, and the length
+abbrev pub header : ℕ → ℕ → ℕ → ℕ → List ℕ
+header instruction p1 p2 len = 0x00 ∷ instruction ∷ p1 ∷ p2 ∷ len ∷ []
+
+-- a command's bytes
+abbrev pub bytes_of : Command → List ℕ
+bytes_of Application = header 0xA4 0x04 0x0C 6 ++ tachograph_name
+bytes_of (Select fid) = header 0xA4 0x02 0x0C 2 ++ (fid.0 / 256 ∷ fid.0 % 256 ∷ [])
+bytes_of (Read offset len) = header 0xB0 (offset / 256) (offset % 256) (len % 256)
+bytes_of (Update offset bytes) = header 0xD6 (offset / 256) (offset % 256) (length bytes.items) ++ bytes.items
+
+-- a command that can be written: its offset is below 32768, a read is of 1 to 256 bytes, an update of at least one
+abbrev pub IsWritable : Command → Type 0
+IsWritable Application = Unit {0}
+IsWritable (Select fid) = Unit {0}
+IsWritable (Read offset len) = (offset < 32768) × (1 ≤ len) × (len ≤ 256)
+IsWritable (Update offset bytes) = (offset < 32768) × (0 < length bytes.items)
