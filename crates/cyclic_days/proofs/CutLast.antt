@@ -75,6 +75,14 @@ module _ (r : Shape) (shape : IsShape r) (x : List ℕ) (inside : r.base + (4 + 
       let read : h.len ≡ len_of d = len_is h q d rest same in
       (len_known (ap (λ (k : ℕ). k % 2) read ∙ len_even d) (omega (arith, read, len_most d is)) ∙ read, date_is h q d rest same)
 
+  -- where the length is short there is no day
+  pub none_where_short : len < 14 → (days : List Day) → Holds r x days → days ≡ []
+  none_where_short short [] g = refl
+  none_where_short short (e ∷ es) g =
+      let s = split (λ e. Unit {0}) (e ∷ es) (some_newest (e ∷ es) (λ none. cc)) in
+      let h = subst (λ (l : List Day). Holds r x l) s.is g in
+      absurd (omega (arith, short, (newest_read s.older s.newest h).0, len_least s.newest (day_is 0 s.older s.newest [] h.ordered)))
+
   -- nothing is cut
   pub cut_none : len < 14 → IsCutLast r minute x x
   cut_none short = record { outside = outside_same r.base (4 + r.size) x; list = by }

@@ -18,6 +18,7 @@ pub mod Places
 pub mod Retention
 pub mod Rounds
 pub mod Rows
+pub mod Settling
 pub mod Starting
 pub mod Told
 pub mod Trimming

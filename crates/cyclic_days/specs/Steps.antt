@@ -1,10 +1,10 @@
 -- What the steps of a write on the string do.
-use Rattle.std.specs.Prelude.{◌⊎◌, ℕ, ◌+◌, ◌-◌, ◌<◌, ◌≤◌, ◌≢◌, List, [], ◌∷◌, ◌++◌, length, take, drop, nat_le, ◌==◌, if◌then◌else◌, ◌*◌}
+use Rattle.std.specs.Prelude.{◌≡◌, ◌⊎◌, ℕ, ◌+◌, ◌-◌, ◌<◌, ◌≤◌, ◌≢◌, List, [], ◌∷◌, ◌++◌, length, take, drop, nat_le, ◌==◌, if◌then◌else◌, ◌*◌}
 use Rattle.tach_media.specs.Medium.{State, put, SameOutside, IsPartlyWritten, IsSettled, last_count}
 use Rattle.card_model.specs.Bytes.{two_bytes}
 use Rattle.card_model.specs.Days.{Day, total}
 use Rattle.card_model.specs.Changes.{Remain, with_newest, OnNewest, with_word, TakesWord, with_km, new_day, IsNext}
-use Rattle.card_model.specs.Image.{Shape, Holds, at, spot}
+use Rattle.card_model.specs.Image.{Shape, Holds, IsPointer, at, oldest_of, spot}
 
 -- the image after the oldest day was dropped, where the next one begins at a place
 abbrev pub dropped : Shape → ℕ → List ℕ → List ℕ
@@ -86,6 +86,10 @@ pub record IsPlaced (r : Shape) (date : ℕ) (words x y : List ℕ) : Type 0 whe
 pub record SameDays (r : Shape) (x c : List ℕ) : Type 0 where
   pub outside : SameOutside r.base (4 + r.size) x c
   pub list : (days : List Day) → Holds r x days → Holds r c days
+
+-- there is no length before the oldest day, and all else is as before
+abbrev pub IsMended : Shape → List ℕ → List ℕ → Type 0
+IsMended r x y = IsPointer r.size (oldest_of r x) → y ≡ put (at r (oldest_of r x)) (two_bytes 0) x
 
 -- the newest day, which there is, has another distance
 pub record IsMeasured (r : Shape) (km : ℕ) (x y : List ℕ) : Type 0 where

@@ -1,6 +1,6 @@
 -- The newest days go, those later than a date.
-use Rattle.std.specs.Prelude.{◌≡◌, ◌⊎◌, ℕ, ◌+◌, ◌<◌, ◌≤◌, List, [], ◌∷◌, ◌++◌, length, nat_le, Bool, false, not}
-use Rattle.tach_media.specs.Medium.{SameOutside}
+use Rattle.std.specs.Prelude.{◌≡◌, ◌⊎◌, ℕ, ◌+◌, ◌<◌, ◌≤◌, List, [], ◌∷◌, ◌++◌, length, nat_le, Bool, false, not, IfSome}
+use Rattle.tach_media.specs.Medium.{State, SameOutside, Reads, IsSettled, last_count}
 use Rattle.card_model.specs.Days.{Day}
 use Rattle.card_model.specs.Image.{Shape, Holds}
 use Rattle.card_model.specs.Changes.{with_newest, until, date_of, cut, trimmed}
@@ -58,3 +58,11 @@ pub record IsTrim (r : Shape) (minute : ℕ) (x y : List ℕ) : Type 0 where
 pub record IsTrimMoment (r : Shape) (minute : ℕ) (x c : List ℕ) : Type 0 where
   pub outside : SameOutside r.base (4 + r.size) x c
   pub list : (days : List Day) → Holds r x days → ((kept : List Day) × Shorter (date_of minute) 0 days kept × Holds r c kept) ⊎ Holds r c (trimmed minute days)
+
+-- a call that writes, or only reads
+abbrev pub WritesOrReads : State → State → Type 0
+WritesOrReads old new = (new.clock < last_count → IsSettled new) ⊎ Reads old new false
+
+-- a call that writes, or only reads where there is no day
+abbrev pub WritesWhereDays : Shape → State → State → Type 0
+WritesWhereDays r old new = (new.clock < last_count → IsSettled new) ⊎ (Reads old new false × IfSome old.image (λ x. (days : List Day) → Holds r x days → days ≡ []))

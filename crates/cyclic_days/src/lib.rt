@@ -6,9 +6,11 @@ mod days;
 mod fault;
 mod head;
 mod load;
-mod trim;
 mod walk;
 
 pub use days::Days;
 pub use fault::DaysFault;
 pub use head::DayHead;
+
+#[cfg(test)]
+mod tests;

@@ -1,9 +1,11 @@
-use Rattle.std.proofs.Common.{◌≡◌, ◌+◌, List, ℕ, Option, IfSome, arith, refl, sym, ◌∙◌, subst}
+use Rattle.std.proofs.Common.{◌≡◌, ◌+◌, List, [], ℕ, inl, false, Option, IfSome, arith, refl, sym, ◌∙◌, subst}
+use Rattle.tach_media.specs.Medium.{Reads}
 use Rattle.tach_media.proofs.Runs.{goes_on, goes_same, at_image, where_told, cause_after}
 use Rattle.card_model.specs.Days.{Day}
 use Rattle.card_model.specs.Image.{Holds}
 use Rattle.cyclic_days.specs.Trim.{IsTrimming, IsTrimmed, IsShortened, newest_later}
-use Rattle.cyclic_days.proofs.Told.{through_both}
+use Rattle.cyclic_days.proofs.Settling.{none_later, then_reads}
+use Rattle.cyclic_days.proofs.Told.{if_told, through_both}
 use Rattle.cyclic_days.proofs.Trimming.{trimming_then, trimming_one, trimming_part, trimming_fewer, trimmed, too_many}
 use Rattle.cyclic_days.proofs.days.Days.drop_later.Goals as goal
 
@@ -48,6 +50,9 @@ loop-later-preserved g c =
           trimming_fewer r date (i + 0) x d (trimming_then r date i 0 x y d
           (at_image (IsTrimming r date i x) is (at_image (λ x. IfSome (g.M.Medium.state c.loop-later.medium).image (IsTrimming r date i x)) was inv.made))
           (trimming_part r date y d (λ days h. sym (at_image (λ y. (days : List Day) → Holds r y days → c.loop-later.later ≡ newest_later date days) is inv.later days h) ∙ c.loop-later-test.true) step)))) again.reads.leaves;
+      settled = then_reads (inl c.in_ok-drop_newest.ensures.settled) again.reads;
+      empty = if_told (g.M.Medium.state c.args.medium.now).image _ (λ x was h. absurd (none_later r date c.loop-later.later c.loop-later-test.true x was h
+          (at_image (λ x. Holds r x [] → Reads (g.M.Medium.state c.args.medium.now) (g.M.Medium.state c.loop-later.medium) false) was inv.empty h) inv.later));
       later = subst (λ (o : Option (List ℕ)). IfSome o (λ y. (days : List Day) → Holds r y days → c.in_ok-later-2.later ≡ newest_later date days)) (sym (again.reads.same refl)) again.later;
     }
 
@@ -70,3 +75,19 @@ returns-after-loop-later-clause-trimmed g c =
     where_told (g.M.Medium.state c.args.medium.now).image _ (IsTrimmed r date) (λ x y was is.
     trimmed r date i x y (at_image (IsTrimming r date i x) is (at_image (λ x. IfSome (g.M.Medium.state c.loop-later.medium).image (IsTrimming r date i x)) was inv.made))
     (λ days kept h s k. sym (at_image (λ y. (days : List Day) → Holds r y days → c.loop-later.later ≡ newest_later date days) is inv.later kept k) ∙ c.loop-later-test.false))
+
+pub returns-in_err-drop_newest-clause-empty : goal.returns-in_err-drop_newest-clause-empty
+returns-in_err-drop_newest-clause-empty g c =
+    let r = c.args.self.now in
+    let date = c.args.date in
+    let inv = c.loop-later.invariant in
+    if_told (g.M.Medium.state c.args.medium.now).image _ (λ x was h. absurd (none_later r date c.loop-later.later c.loop-later-test.true x was h
+    (at_image (λ x. Holds r x [] → Reads (g.M.Medium.state c.args.medium.now) (g.M.Medium.state c.loop-later.medium) false) was inv.empty h) inv.later))
+
+pub returns-in_err-later-2-clause-empty : goal.returns-in_err-later-2-clause-empty
+returns-in_err-later-2-clause-empty g c =
+    let r = c.args.self.now in
+    let date = c.args.date in
+    let inv = c.loop-later.invariant in
+    if_told (g.M.Medium.state c.args.medium.now).image _ (λ x was h. absurd (none_later r date c.loop-later.later c.loop-later-test.true x was h
+    (at_image (λ x. Holds r x [] → Reads (g.M.Medium.state c.args.medium.now) (g.M.Medium.state c.loop-later.medium) false) was inv.empty h) inv.later))

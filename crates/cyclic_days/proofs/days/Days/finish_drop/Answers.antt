@@ -4,7 +4,7 @@ use Rattle.tach_media.specs.Medium.{put}
 use Rattle.tach_media.proofs.Runs.{weaken, after_reads, at_image, where_told, turned_into}
 use Rattle.card_model.specs.Bytes.{two_bytes}
 use Rattle.card_model.specs.Image.{IsPointer, oldest_of, at}
-use Rattle.cyclic_days.specs.Steps.{SameDays}
+use Rattle.cyclic_days.specs.Steps.{IsMended, SameDays}
 use Rattle.cyclic_days.proofs.Mending.{first_mended, while_mending}
 use Rattle.cyclic_days.proofs.days.Days.finish_drop.Goals as goal
 
@@ -27,3 +27,12 @@ returns-clause-same g c =
     subst (λ (l : List ℕ). SameDays r x l) (sym z_is)
     (first_mended r found.ensures.shape x (omega (arith, c.requires.fits, (g.met.M.Medium.coherent c.args.medium.now).sized x was)) found.oldest found.ensures.pointer 0
     (at_image (λ x. IsPointer r.size (oldest_of r x) → found.oldest ≡ oldest_of r x) was found.ensures.oldest)))) c.put_two.ensures.written
+
+pub returns-clause-mended : goal.returns-clause-mended
+returns-clause-mended g c =
+    let r = c.args.self.now in
+    let found = c.in_ok-oldest in
+    let f = put (at r found.oldest) (two_bytes 0) in
+    on_ok_weaker c.put_two.result (λ made. where_told (g.M.Medium.state c.args.medium.now).image _ (IsMended r) (λ x z was is pointer.
+    turned_into f (made ∙ ap (option_map f) (found.ensures.reads.same refl)) was is
+    ∙ ap (λ (p : ℕ). put (at r p) (two_bytes 0) x) (at_image (λ x. IsPointer r.size (oldest_of r x) → found.oldest ≡ oldest_of r x) was found.ensures.oldest pointer))) c.put_two.ensures.written

@@ -1,0 +1,489 @@
+ghost use Rattle.std.specs.Prelude.{◌≡◌, IfOk};
+
+use crate::{DayHead, Days, DaysFault};
+use card_layout::Range;
+use std::alloc::Global;
+use std::test::Fail;
+use tach_media::{Left, Medium, MemMedium, Memory, Stop};
+use tacho_types::{Distance, TimeReal};
+
+const TORN: Left = Left::Torn(0x55);
+
+// 2010-03-01
+const MARCH: u32 = 1267401600;
+
+// The file of days that fills a medium, with a string of 5544 bytes.
+const FILE: Range = Range { base: 0, len: 5548 };
+
+// A medium of these bytes, whose call of that number fails.
+fn medium(alloc: Global, image: Vec<u8>, call: u64, left: Left) -> Result<MemMedium, Memory> {
+    let mut stops = Vec::new(alloc);
+    stops.push(Stop { call, left }).map_err(|_| Memory)?;
+    if image.len() != 5548 {
+        return Err(Memory);
+    }
+    MemMedium::new(alloc, image, 64, 512, stops)
+}
+
+// A medium of these bytes that no stop breaks.
+fn steady(alloc: Global, image: Vec<u8>) -> Result<MemMedium, Memory> {
+    medium(alloc, image, u64::MAX, Left::Before)
+}
+
+// A file of days that begins with these bytes, with zeros behind them.
+fn file(alloc: Global, front: &[u8]) -> Result<Vec<u8>, Memory> {
+    let mut bytes = front.to_vec(alloc)?;
+    bytes.resize(5548, 0)?;
+    Ok(bytes)
+}
+
+// An empty string whose pointers are 5538.
+fn empty(alloc: Global) -> Result<Vec<u8>, Memory> {
+    file(alloc, &[0x15, 0xA2, 0x15, 0xA2])
+}
+
+// A day of one word, with its number as its date and its counter.
+fn record(day: u32) -> [u8; 14] {
+    let date = day % 1000 * 86400;
+    [
+        0,
+        if day == 1 { 0 } else { 14 },
+        0,
+        14,
+        (date / 16777216) as u8,
+        (date / 65536 % 256) as u8,
+        (date / 256 % 256) as u8,
+        (date % 256) as u8,
+        (day / 100 % 10) as u8,
+        (day / 10 % 10 * 16 + day % 10) as u8,
+        0,
+        0,
+        0,
+        0,
+    ]
+}
+
+// A string full of 396 days of one word, the newest at 5530.
+fn full(alloc: Global) -> Result<Vec<u8>, Memory> {
+    let mut bytes = [0, 0, 0x15, 0x9A].to_vec(alloc)?;
+    for day in 1..397 {
+        bytes.extend_from_slice(&record(day))?;
+    }
+    Ok(bytes)
+}
+
+// The days of the file, not loaded.
+fn days() -> Days
+    ensures { result ≡ record { base = 0; size = 5544 } }
+{
+    Days::of(FILE)
+}
+
+fn load(medium: &mut MemMedium) -> Result<(), DaysFault> {
+    if medium.size() != 5548 {
+        return Err(DaysFault::Failed);
+    }
+    Days::load(medium, FILE)?;
+    Ok(())
+}
+
+fn add_change(medium: &mut MemMedium, word: u16) -> Result<(), DaysFault> {
+    if medium.size() != 5548 {
+        return Err(DaysFault::Failed);
+    }
+    Ok(days().add_change(medium, word)?)
+}
+
+// Begins a day of one word.
+fn begin_day(medium: &mut MemMedium, date: u32) -> Result<(), DaysFault> {
+    if medium.size() != 5548 {
+        return Err(DaysFault::Failed);
+    }
+    Ok(days().begin_day(medium, TimeReal(date), &[0])?)
+}
+
+fn finish_drop(medium: &mut MemMedium) -> Result<(), DaysFault> {
+    if medium.size() != 5548 {
+        return Err(DaysFault::Failed);
+    }
+    Ok(days().finish_drop(medium)?)
+}
+
+fn set_distance(medium: &mut MemMedium, km: u16) -> Result<(), DaysFault> {
+    if medium.size() != 5548 {
+        return Err(DaysFault::Failed);
+    }
+    Ok(days().set_distance(medium, Distance(km))?)
+}
+
+fn trim(medium: &mut MemMedium, minute: u32) -> Result<(), DaysFault> {
+    if medium.size() != 5548 {
+        return Err(DaysFault::Failed);
+    }
+    Ok(days().trim(medium, minute)?)
+}
+
+fn first(medium: &mut MemMedium) -> Result<Option<DayHead>, DaysFault> {
+    if medium.size() != 5548 {
+        return Err(DaysFault::Failed);
+    }
+    Ok(days().first(medium)?)
+}
+
+fn last(medium: &mut MemMedium) -> Result<Option<DayHead>, DaysFault> {
+    if medium.size() != 5548 {
+        return Err(DaysFault::Failed);
+    }
+    Ok(days().last(medium)?)
+}
+
+fn after(medium: &mut MemMedium, day: &DayHead) -> Result<Option<DayHead>, DaysFault> {
+    if medium.size() != 5548 || day.place >= 5548 {
+        return Err(DaysFault::Failed);
+    }
+    Ok(days().after(medium, day)?)
+}
+
+fn before(medium: &mut MemMedium, day: &DayHead) -> Result<Option<DayHead>, DaysFault> {
+    if medium.size() != 5548 || day.place >= 5548 {
+        return Err(DaysFault::Failed);
+    }
+    Ok(days().before(medium, day)?)
+}
+
+fn word(medium: &mut MemMedium, day: &DayHead, index: u16) -> Result<u16, DaysFault> {
+    if medium.size() != 5548 || day.place >= 5548 || index >= day.words {
+        return Err(DaysFault::Failed);
+    }
+    Ok(days().word(medium, day, index)?)
+}
+
+// Four bytes of the file.
+fn bytes_at(medium: &mut MemMedium, place: u32) -> Result<[u8; 4], DaysFault> {
+    let mut out = [0; 4];
+    if medium.size() != 5548 || place > 5544 {
+        return Err(DaysFault::Failed);
+    }
+    medium.read_at(place, &mut out)?;
+    Ok(out)
+}
+
+// How many days the walk from the oldest meets.
+fn forward(medium: &mut MemMedium) -> Result<u32, DaysFault> {
+    let mut head = first(&mut *medium)?;
+    for count in 0..1000 {
+        let Some(day) = head else { return Ok(count) };
+        head = after(&mut *medium, &day)?;
+    }
+    Ok(1000)
+}
+
+// How many days the walk from the newest meets.
+fn back(medium: &mut MemMedium) -> Result<u32, DaysFault> {
+    let mut head = last(&mut *medium)?;
+    for count in 0..1000 {
+        let Some(day) = head else { return Ok(count) };
+        head = before(&mut *medium, &day)?;
+    }
+    Ok(1000)
+}
+
+// How many days the string holds by the walk both ways, and how many words the newest has.
+fn held(medium: &mut MemMedium) -> Result<(u32, u32, u16), DaysFault> {
+    load(&mut *medium)?;
+    let forward = forward(&mut *medium)?;
+    let back = back(&mut *medium)?;
+    let words = last(medium)?.map_or(0, |day| day.words);
+    Ok((forward, back, words))
+}
+
+#[test]
+fn a_date_breaks_over_the_end(rt: HostRuntime) -> Result<(), Fail> {
+    let alloc = rt.alloc();
+    let mut medium = steady(alloc, empty(alloc)?)?;
+    begin_day(&mut medium, MARCH)?;
+    assert_eq!(rt; bytes_at(&mut medium, 5544)?, [0, 14, 0x4B, 0x8B]);
+    assert_eq!(rt; bytes_at(&mut medium, 4)?, [0x03, 0x80, 0, 1]);
+    assert_eq!(rt; held(&mut medium)?, (1, 1, 1));
+    Ok(())
+}
+
+#[test]
+fn the_oldest_day_goes_where_the_string_is_full(rt: HostRuntime) -> Result<(), Fail> {
+    let alloc = rt.alloc();
+    let mut medium = steady(alloc, full(alloc)?)?;
+    assert_eq!(rt; held(&mut medium)?, (396, 396, 1));
+    add_change(&mut medium, 0x1805)?;
+    assert_eq!(rt; bytes_at(&mut medium, 0)?, [0, 14, 0x15, 0x9A]);
+    assert_eq!(rt; bytes_at(&mut medium, 4 + 14)?, [0, 0, 0, 14]);
+    assert_eq!(rt; bytes_at(&mut medium, 4)?, [0x18, 0x05, 0, 14]);
+    assert_eq!(rt; bytes_at(&mut medium, 4 + 5530)?, [0, 14, 0, 16]);
+    assert_eq!(rt; held(&mut medium)?, (395, 395, 2));
+    Ok(())
+}
+
+// What is held after a change of the full string that is stopped so, and after another change then.
+fn stopped_change(
+    alloc: Global,
+    call: u64,
+    left: Left,
+) -> Result<((u32, u32, u16), (u32, u32, u16)), Fail> {
+    let mut medium = medium(alloc, full(alloc)?, call, left)?;
+    if add_change(&mut medium, 0x1805).is_ok() {
+        return Err(Fail::from("not stopped"));
+    }
+    medium.revive()?;
+    let found = held(&mut medium)?;
+    finish_drop(&mut medium)?;
+    add_change(&mut medium, 0x1806)?;
+    Ok((found, held(&mut medium)?))
+}
+
+// A write of the change, how it ends, and how many days and words of the newest there are then.
+const CHANGE_STOPS: [(u64, Left, u32, u16); 12] = [
+    // the oldest pointer
+    (4, Left::Before, 396, 1),
+    (4, TORN, 396, 1),
+    (4, Left::After, 395, 1),
+    // the length before the oldest day
+    (5, Left::Before, 395, 1),
+    (5, TORN, 395, 1),
+    (5, Left::After, 395, 1),
+    // the word
+    (8, Left::Before, 395, 1),
+    (8, TORN, 395, 1),
+    (8, Left::After, 395, 1),
+    // the length
+    (9, Left::Before, 395, 1),
+    (9, TORN, 395, 1),
+    (9, Left::After, 395, 2),
+];
+
+#[test]
+fn a_stopped_change_goes_on(rt: HostRuntime) -> Result<(), Fail> {
+    let alloc = rt.alloc();
+    for (call, left, days, words) in CHANGE_STOPS {
+        let (found, then) = stopped_change(alloc, call, left)?;
+        assert_eq!(rt; found, (days, days, words));
+        assert_eq!(rt; then, (395, 395, words.saturating_add(1)));
+    }
+    Ok(())
+}
+
+// What is held after a day of this file that is stopped so, and after the next day.
+fn stopped_day(
+    alloc: Global,
+    image: Vec<u8>,
+    call: u64,
+    left: Left,
+) -> Result<((u32, u32, u16), (u32, u32, u16)), Fail> {
+    let mut medium = medium(alloc, image, call, left)?;
+    if begin_day(&mut medium, MARCH).is_ok() {
+        return Err(Fail::from("not stopped"));
+    }
+    medium.revive()?;
+    let found = held(&mut medium)?;
+    finish_drop(&mut medium)?;
+    begin_day(&mut medium, MARCH + 86400)?;
+    Ok((found, held(&mut medium)?))
+}
+
+// A write of the day, how it ends, and how many days there are then.
+const DAY_STOPS: [(u64, Left, u32); 12] = [
+    // the length before it
+    (8, Left::Before, 0),
+    (8, TORN, 0),
+    (8, Left::After, 0),
+    // its body to the end of the string
+    (9, Left::Before, 0),
+    (9, TORN, 0),
+    (9, Left::After, 0),
+    // and from its begin
+    (10, Left::Before, 0),
+    (10, TORN, 0),
+    (10, Left::After, 0),
+    // its length
+    (11, Left::Before, 0),
+    (11, TORN, 0),
+    (11, Left::After, 1),
+];
+
+#[test]
+fn a_stopped_first_day_is_there_or_not(rt: HostRuntime) -> Result<(), Fail> {
+    let alloc = rt.alloc();
+    for (call, left, days) in DAY_STOPS {
+        let (found, then) = stopped_day(alloc, empty(alloc)?, call, left)?;
+        assert_eq!(rt; (found.0, found.1), (days, days));
+        assert_eq!(rt; then, (days.saturating_add(1), days.saturating_add(1), 1));
+    }
+    Ok(())
+}
+
+// A write of a day of the full string, how it ends, and how many days there are then, and after the next day.
+const FULL_DAY_STOPS: [(u64, Left, u32, u32); 12] = [
+    // the oldest pointer
+    (4, Left::Before, 396, 396),
+    (4, Left::After, 395, 396),
+    // the length before the oldest day
+    (5, Left::Before, 395, 396),
+    (5, Left::After, 395, 396),
+    // the length before the new day
+    (12, Left::Before, 395, 396),
+    (12, Left::After, 395, 396),
+    // its body
+    (13, TORN, 395, 396),
+    (13, Left::After, 395, 396),
+    // its length
+    (14, Left::Before, 395, 396),
+    (14, Left::After, 395, 396),
+    // the newest pointer
+    (15, Left::Before, 395, 396),
+    (15, Left::After, 396, 396),
+];
+
+#[test]
+fn a_stopped_day_of_a_full_string_is_there_or_not(rt: HostRuntime) -> Result<(), Fail> {
+    let alloc = rt.alloc();
+    for (call, left, days, next) in FULL_DAY_STOPS {
+        let (found, then) = stopped_day(alloc, full(alloc)?, call, left)?;
+        assert_eq!(rt; found, (days, days, 1));
+        assert_eq!(rt; then, (next, next, 1));
+    }
+    Ok(())
+}
+
+// Two days: one of three words at 0, one of one word at 18.
+const TWO_DAYS: [u8; 36] = [
+    0, 0, 0, 18, 0, 0, 0, 18, 0, 1, 0x51, 0x80, 0, 1, 0, 0, 0, 0, 0x18, 5, 0x28, 5, 0, 18, 0, 14,
+    0, 2, 0xA3, 0, 0, 2, 0, 0, 0, 0,
+];
+
+// Where the file of two days fails with these bytes at a place.
+fn damaged(alloc: Global, place: usize, bytes: [u8; 4]) -> Result<Option<u32>, Fail> {
+    let mut front = TWO_DAYS;
+    if place > 32 {
+        return Err(Fail::from("place"));
+    }
+    front[place..place + 4].copy_from_slice(&bytes);
+    let mut medium = steady(alloc, file(alloc, &front)?)?;
+    match load(&mut medium) {
+        Ok(()) => Ok(None),
+        Err(DaysFault::BadDays(place)) => Ok(Some(place)),
+        Err(DaysFault::Failed) => Err(Fail::from("failed")),
+    }
+}
+
+// Four bytes at a place of the file of two days, and where it fails with them.
+const DAMAGES: [(usize, [u8; 4], Option<u32>); 44] = [
+    // the pointers: below the length and even
+    (0, [0, 0, 0, 18], None),
+    (0, [0x15, 0xA8, 0, 18], Some(0)),
+    (0, [0x15, 0xA6, 0, 18], Some(4)),
+    (0, [0, 1, 0, 18], Some(0)),
+    (0, [0, 1, 0, 1], Some(0)),
+    (0, [0, 0, 0x15, 0xA8], Some(2)),
+    (0, [0, 0, 0x15, 0xA6], Some(38)),
+    (0, [0, 0, 0, 17], Some(2)),
+    // a day that begins past the newest pointer, or at it
+    (0, [0, 0, 0, 16], Some(2)),
+    (0, [0, 0, 0, 20], Some(2)),
+    (0, [0, 0, 0, 0], None),
+    (0, [0, 18, 0, 18], None),
+    // the string is empty
+    (0, [0, 36, 0, 36], None),
+    (4, [0, 0, 0, 0], Some(6)),
+    // a length: 14 to 2892 and even
+    (4, [0, 0, 0, 12], Some(6)),
+    (4, [0, 0, 0, 13], Some(6)),
+    (4, [0, 0, 0, 14], Some(20)),
+    (4, [0, 0, 0, 15], Some(6)),
+    (4, [0, 0, 0x0B, 0x4C], Some(24)),
+    (4, [0, 0, 0x0B, 0x4E], Some(6)),
+    (22, [0, 18, 0, 12], Some(24)),
+    // the length of the day before
+    (4, [0, 99, 0, 18], None),
+    (22, [0, 14, 0, 14], Some(22)),
+    (22, [0, 0, 0, 14], Some(22)),
+    (22, [0, 14, 0, 13], Some(24)),
+    // the date
+    (8, [0, 1, 0x51, 0x7F], Some(8)),
+    (8, [0, 1, 0x51, 0x81], Some(8)),
+    (8, [0, 0, 0, 0], Some(8)),
+    (26, [0, 1, 0x51, 0x80], Some(26)),
+    (26, [0, 0, 0, 0], Some(26)),
+    (28, [0xA3, 1, 0x0A, 0], Some(26)),
+    // the counter
+    (12, [0x99, 0x99, 0, 0], None),
+    (12, [0x0A, 0, 0, 0], Some(12)),
+    (12, [0xA0, 0, 0, 0], Some(12)),
+    (12, [0, 0x0A, 0, 0], Some(12)),
+    (12, [0, 0xA0, 0, 0], Some(12)),
+    (30, [0, 0x0A, 0, 0], Some(30)),
+    // the words: the first at minute 0, none earlier than the one before it, each below 1440
+    (16, [0x18, 0, 0x18, 5], None),
+    (16, [0, 1, 0x18, 5], Some(16)),
+    (18, [0x18, 0, 0x28, 5], None),
+    (18, [0x18, 6, 0x28, 5], Some(20)),
+    (18, [0x1D, 0x9F, 0x2D, 0x9F], None),
+    (18, [0x1D, 0xA0, 0x2D, 0x9F], Some(18)),
+    (32, [0, 0, 0, 1], Some(34)),
+];
+
+#[test]
+fn a_damaged_string_fails_at_its_place(rt: HostRuntime) -> Result<(), Fail> {
+    let alloc = rt.alloc();
+    for (place, bytes, fails) in DAMAGES {
+        assert_eq!(rt;
+            damaged(alloc, place, bytes)?,
+            fails,
+            "{bytes:?} at {place}"
+        );
+    }
+    Ok(())
+}
+
+// A word for each of the first minutes of a day.
+fn put_words(bytes: &mut Vec<u8>, count: u16) -> Result<(), Memory> {
+    for minute in 0..count {
+        bytes.extend_from_slice(&minute.to_be_bytes())?;
+    }
+    Ok(())
+}
+
+// Two days of so many words, 1440 and 1320, that fill the string; the length of the second ends with this byte.
+fn long_days(alloc: Global, low: u8) -> Result<Vec<u8>, Memory> {
+    let mut bytes = [
+        0, 0, 0x0B, 0x4C, 0, 0, 0x0B, 0x4C, 0, 1, 0x51, 0x80, 0, 1, 0, 0,
+    ]
+    .to_vec(alloc)?;
+    put_words(&mut bytes, 1440)?;
+    bytes.extend_from_slice(&[0x0B, 0x4C, 0x0A, low, 0, 2, 0xA3, 0, 0, 2, 0, 0])?;
+    put_words(&mut bytes, 1320)?;
+    Ok(bytes)
+}
+
+#[test]
+fn a_length_reaches_the_end_of_the_string(rt: HostRuntime) -> Result<(), Fail> {
+    let alloc = rt.alloc();
+    let mut good = steady(alloc, long_days(alloc, 0x5C)?)?;
+    assert_eq!(rt; held(&mut good)?, (2, 2, 1320));
+    let mut bad = steady(alloc, long_days(alloc, 0x5E)?)?;
+    assert_eq!(rt; load(&mut bad), Err(DaysFault::BadDays(2898)));
+    Ok(())
+}
+
+#[test]
+fn a_trim_leaves_no_later_word(rt: HostRuntime) -> Result<(), Fail> {
+    let alloc = rt.alloc();
+    let mut medium = steady(alloc, file(alloc, &TWO_DAYS)?)?;
+    set_distance(&mut medium, 7)?;
+    let day = last(&mut medium)?.ok_or("no day")?;
+    assert_eq!(rt; (day.place, day.km.0), (18, 7));
+    trim(&mut medium, 1444)?;
+    let day = last(&mut medium)?.ok_or("no day")?;
+    assert_eq!(rt; (day.place, day.words), (0, 1));
+    assert_eq!(rt; word(&mut medium, &day, 0)?, 0);
+    trim(&mut medium, 1439)?;
+    assert_eq!(rt; held(&mut medium)?, (0, 0, 0));
+    Ok(())
+}
