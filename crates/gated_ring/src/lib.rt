@@ -6,6 +6,7 @@ mod fields;
 mod ring;
 
 pub use fault::RingFault;
+pub use fields::number;
 pub use ring::Ring;
 
 #[cfg(test)]

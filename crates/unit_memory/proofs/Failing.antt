@@ -1,5 +1,5 @@
 -- The first failing place of more fields.
-use Rattle.std.proofs.Common.{◌≡◌, ℕ, ◌+◌, Bool, true, false, cond, List, [], ◌∷◌, ◌++◌, Option, Some, None, refl, ◌∙◌, ap, sym}
+use Rattle.std.proofs.Common.{◌≡◌, ℕ, Bool, true, false, cond, List, [], ◌∷◌, ◌++◌, Option, Some, None, refl, ◌∙◌}
 use Rattle.unit_model.specs.Decoding.{Check, first_failing}
 use Rattle.unit_memory.specs.Judging.{or_failing, or_else}
 

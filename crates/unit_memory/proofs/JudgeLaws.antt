@@ -3,18 +3,17 @@ use Rattle.std.proofs.Common.{◌≡◌, ◌≢◌, ℕ, zero, suc, ◌+◌, ◌
 use Rattle.std.specs.Prelude.{◌==◌, ◌&&◌, ◌||◌, nat_le, nat_lt, flat_map}
 use Rattle.std.specs.List.{list_any, range_with_len}
 use Rattle.std.proofs.lemmas.Bool.Decides.{nat_tests}
-use Rattle.std.proofs.lemmas.Bool.{cases_lt}
 use Rattle.std.proofs.lemmas.List.{append-nil}
 use Rattle.gated_ring.specs.Ring.{pointer, is_there, next, order, indices as ring_indices}
 use Rattle.gated_ring.proofs.Orders.{range_split}
-use Rattle.unit_model.specs.Image.{last_kept, day_ring, slot_date, indices}
-use Rattle.unit_model.specs.Decoding.{Check, check, first_failing, front_checks, cell_checks, ring_checks, slot_checks, checks, first_bad_place, has_day, is_pointer_good, is_last_good, are_dense, indices_before, slot_day}
+use Rattle.unit_model.specs.Image.{last_kept, day_ring, indices}
+use Rattle.unit_model.specs.Decoding.{Check, check, first_failing, front_checks, cell_checks, ring_checks, slot_checks, checks, first_bad_place, has_day, is_pointer_good, is_last_good, are_dense, indices_before}
 use Rattle.unit_memory.specs.Walks.{walk_start, walk_from}
 use Rattle.unit_memory.specs.Judging.{or_failing, or_else, slots_by, front_by, is_whole, pointer_passes, turn_at, walk_round}
 use Rattle.unit_memory.specs.declared.walk.Walk.{Walk}
 use Rattle.unit_memory.proofs.Failing.{failing_append}
 use Rattle.unit_memory.proofs.Walking.{walk_append}
-use Rattle.unit_memory.proofs.WalkLaws.{last_from, latest_over, walk_latest, walk_density, walk_last, walk_today, is_day, slots_same}
+use Rattle.unit_memory.proofs.WalkLaws.{last_from, walk_latest, walk_density, walk_last, walk_today, is_day, slots_same}
 
 any_append : (p : ℕ → Bool) (a b : List ℕ) → list_any p (a ++ b) ≡ (list_any p a || list_any p b)
 any_append p [] b = refl

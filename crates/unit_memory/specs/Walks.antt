@@ -1,5 +1,5 @@
 -- What the dates of day slots say, one after the other.
-use Rattle.std.specs.Prelude.{ℕ, ◌/◌, max, ◌==◌, if◌then◌else◌, Option, Some, None, List, [], ◌∷◌}
+use Rattle.std.specs.Prelude.{ℕ, ◌/◌, max, ◌==◌, if◌then◌else◌, Some, None, List, [], ◌∷◌}
 use Rattle.unit_model.specs.Image.{slot_date}
 use Rattle.unit_memory.specs.declared.walk.Density.{Density}
 use Rattle.unit_memory.specs.declared.walk.Density.TheVariants.{Empty, Filled, Ended, Broken}

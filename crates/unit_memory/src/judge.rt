@@ -6,9 +6,9 @@ ghost use Rattle.unit_model.specs.Decoding.{first_failing, cell_checks, cell_pla
 ghost use Rattle.unit_model.specs.Days.{word_minute};
 ghost use Rattle.unit_memory.specs.Judging.{or_failing, or_else, date_passes, day_checks_by, slot_checks_by, slots_by, front_of, front_by, rings_of, day_front, failed_of, pointer_passes, turn_at, walk_round, IsJudged};
 
-use crate::fields::number;
 use crate::walk::{Density, Walk, walk_on};
 use crate::words::{Scan, scan_day};
+use gated_ring::number;
 use tach_media::{Failed, Medium};
 use unit_model::layout::{
     CELL_SIZE, CELL_WORD, CELLS, DAY_COUNT, DAY_ODOMETER, DAY_SLOT_SIZE, DAY_SLOTS, DAY_WORD_LIMIT,

@@ -2,7 +2,6 @@
 #![tactic(auto)]
 
 mod fault;
-mod fields;
 mod format;
 mod judge;
 mod memory;
@@ -10,9 +9,12 @@ mod walk;
 mod words;
 
 pub use fault::UnitFault;
-pub use fields::number;
 pub use format::{Identity, format_unit};
+pub use gated_ring::number;
 pub use judge::{Judged, judge_image};
 pub use memory::UnitMemory;
 pub use walk::{Density, Walk, walk_on};
 pub use words::{Scan, scan_day};
+
+#[cfg(test)]
+mod tests;

@@ -3,7 +3,7 @@ ghost use Rattle.std.specs.List.{range_with_len};
 ghost use Rattle.tach_media.specs.Medium.{Reads};
 ghost use Rattle.unit_memory.specs.Walks.{after_day, after_gap, next_walk, walk_from};
 
-use crate::fields::number;
+use gated_ring::number;
 use tach_media::{Failed, Medium};
 use unit_model::layout::{DAY_SLOT_SIZE, DAYS};
 

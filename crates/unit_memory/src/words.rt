@@ -3,7 +3,7 @@ ghost use Rattle.tach_media.specs.Medium.{Reads};
 ghost use Rattle.unit_model.specs.Image.{slot_place, slot_words};
 ghost use Rattle.unit_memory.specs.Scans.{next_scan, driver_next, codriver_next, start, scan_from, is_first_good};
 
-use crate::fields::number;
+use gated_ring::number;
 use tach_media::{Failed, Medium};
 use unit_model::layout::{DAY_SLOT_SIZE, DAY_WORDS, DAYS};
 

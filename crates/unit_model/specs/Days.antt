@@ -2,7 +2,7 @@
 use Rattle.std.specs.Prelude.{ℕ, ◌+◌, ◌-◌, ◌*◌, ◌/◌, ◌%◌, Bool, ◌&&◌, List, [], ◌∷◌, ◌++◌, length, drop, map, filter, nat_le, ◌==◌, if◌then◌else◌, fold, flat_map}
 use Rattle.std.specs.List.{range_with_len}
 use Rattle.activity_codec.specs.Words.{activity_numbered}
-use Rattle.unit_model.specs.declared.state.State.{State}
+use Rattle.view_model.specs.declared.State.{State}
 
 -- a word's slot, the bits of its state (CREW, no card, activity), and its minute of the day (Appendix 1, ActivityChangeInfo)
 abbrev pub word_slot : ℕ → ℕ

@@ -1,6 +1,5 @@
-use Rattle.std.proofs.Common.{◌-◌, ◌≡◌, ◌≤◌, true, false, option_map}
+use Rattle.std.proofs.Common.{◌-◌, ◌≡◌, ◌≤◌, false, option_map}
 use Rattle.tach_media.specs.Medium.{LeavesOnly, HasCause, IsPartlyWritten, put}
-use Rattle.unit_model.specs.Image.{IsUnit}
 use Rattle.unit_model.specs.NewImage.{zeros}
 use Rattle.unit_memory.proofs.format.clear.Given as goal
 

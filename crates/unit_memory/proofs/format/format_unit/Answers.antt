@@ -1,6 +1,6 @@
-use Rattle.std.proofs.Common.{◌≡◌, ℕ, [], ◌∷◌, List, length, ◌∙◌, arith, Some, ap, subst}
+use Rattle.std.proofs.Common.{◌≡◌, ℕ, List, ◌∙◌, arith, Some}
 use Rattle.std.specs.Int.{to_be_bytes, w32}
-use Rattle.tach_media.specs.Medium.{put, IsPartlyWritten}
+use Rattle.tach_media.specs.Medium.{put}
 use Rattle.tach_media.proofs.Ranges.{lies_part, lies_still}
 use Rattle.tach_media.proofs.Runs.{weaken, goes_by, image_then, image_both}
 use Rattle.unit_model.specs.NewImage.{zeros, new_image}

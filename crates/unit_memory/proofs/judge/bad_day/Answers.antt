@@ -1,5 +1,4 @@
 use Rattle.std.proofs.Common.{◌≡◌, ℕ, ◌+◌, ◌*◌, List, [], Option, None, Result, refl, sym, ◌∙◌, ap, IfSome}
-use Rattle.gated_ring.specs.Ring.{number_at}
 use Rattle.unit_model.specs.Image.{slot_place, slot_odometer, slot_count, slot_words}
 use Rattle.unit_model.specs.Decoding.{first_failing, word_checks}
 use Rattle.unit_memory.specs.Scans.{start, scan_from}

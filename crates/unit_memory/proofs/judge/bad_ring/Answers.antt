@@ -1,4 +1,4 @@
-use Rattle.std.proofs.Common.{◌≡◌, ℕ, List, Option, refl, ◌∙◌, ap, IfSome}
+use Rattle.std.proofs.Common.{◌≡◌, refl, ◌∙◌, IfSome}
 use Rattle.gated_ring.specs.Ring.{number_at}
 use Rattle.tach_media.proofs.Runs.{reads_then, both_told}
 use Rattle.unit_model.specs.Decoding.{first_failing}

@@ -1,4 +1,4 @@
-use Rattle.std.proofs.Common.{Bool, subst, ◌≡◌, ℕ, ◌+◌, ◌-◌, ◌/◌, List, Option, Some, None, is_some, refl, sym, ◌∙◌, ap, arith, IfSome}
+use Rattle.std.proofs.Common.{◌≡◌, ℕ, ◌-◌, ◌/◌, None, is_some, refl, ◌∙◌, ap, arith}
 use Rattle.std.specs.List.{range_with_len}
 use Rattle.gated_ring.specs.Ring.{number_at, pointer}
 use Rattle.tach_media.proofs.Runs.{reads_then, at_image}
@@ -6,7 +6,6 @@ use Rattle.unit_model.specs.Image.{last_kept, day_ring}
 use Rattle.unit_model.specs.Decoding.{first_failing, cell_checks, ring_checks}
 use Rattle.unit_memory.specs.Walks.{walk_start, walk_from}
 use Rattle.unit_memory.specs.Judging.{or_else, or_failing, front_by, slots_by, turn_at, walk_round, pointer_passes}
-use Rattle.unit_memory.specs.declared.walk.Walk.{Walk}
 use Rattle.unit_memory.proofs.JudgeLaws.{judged_whole}
 use Rattle.unit_memory.proofs.Told.{carried, told_all, err_true, reads_failed}
 use Rattle.unit_memory.proofs.judge.judge_image.Goals as goal
