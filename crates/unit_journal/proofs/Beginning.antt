@@ -1,0 +1,491 @@
+-- The moments of a new day's writes, and what they leave.
+use Rattle.std.proofs.Common.{None, ◌≡◌, ◌≢◌, ◌⊎◌, inl, inr, ⊎_elim, ℕ, zero, suc, ◌+◌, ◌-◌, ◌*◌, ◌/◌, ◌%◌, ◌<◌, ◌≤◌, Bool, true, false, not, cond, List, [], ◌∷◌, ◌++◌, length, drop, map, filter, refl, sym, ◌∙◌, ap, subst, arith, length-append, length-drop, lit≤, min}
+use Rattle.std.specs.Prelude.{◌==◌, ◌&&◌, nat_le, nat_lt}
+use Rattle.std.specs.Int.{from_be_bytes, to_be_bytes, w16, w32}
+use Rattle.std.proofs.lemmas.Bool.Decides.{nat_tests}
+use Rattle.std.proofs.lemmas.Bool.{cases_lt}
+use Rattle.std.proofs.lemmas.Nat.{from_be_bytes-to_be_bytes_4}
+use Rattle.std.proofs.lemmas.List.{length-map}
+use Rattle.tach_media.specs.Medium.{SameOutside}
+use Rattle.tach_media.specs.LogLaws.{put_outside}
+use Rattle.gated_ring.specs.Ring.{number_at, pointer, is_there, entry_at, taken}
+use Rattle.gated_ring.specs.Change.{IsAdding, IsAdded}
+use Rattle.unit_model.specs.Days.{word_slot, word_minute, word_of, bare, state_at, UnitMinute, Day, UnitDay, day_of, day_shown, days_shown, filled, newest_of, Each, minute_by}
+use Rattle.unit_journal.specs.Changes.{change, changes, first_state, first_states, further_words}
+use Rattle.unit_model.specs.Image.{day_ring, slot_place, last_kept, odometer_at, unit_day, unit_days, recorded, indices, slot_date, slot_odometer, slot_count, slot_words}
+use Rattle.std.specs.List.{list_all}
+use Rattle.unit_model.specs.Decoding.{Decodes, has_day, word_checks}
+use Rattle.unit_journal.proofs.Checks.{passes, and_join, IsGood, still}
+use Rattle.unit_journal.proofs.StillDecodes.{counted_good}
+use Rattle.unit_journal.proofs.WordsGood.{changes_good, good_low}
+use Rattle.unit_journal.proofs.KeptDecodes.{behind_good, index_there, mark_good}
+use Rattle.unit_journal.proofs.AddedDecodes.{HasToday, any_at, or_right, eq_true, shut_good, open_good}
+use Rattle.unit_journal.specs.Image.{Notes, IsNotes, Agrees, written, free_place, DiffersBehind, SameBesides, IsGivenUp, IsKeeping, with_kept, with_words, head_of, new_head, further, IsFurther, IsBeginning}
+use Rattle.unit_journal.proofs.States.{slot_of, minute_of, minutes_by}
+use Rattle.unit_journal.proofs.Commits.{begun_at}
+use Rattle.unit_journal.proofs.Growth.{day_later}
+use Rattle.unit_journal.proofs.Numbers.{number_before, number_after, number_put4, short_number, number_in, words_in, AreShort}
+use Rattle.unit_journal.proofs.Slots.{day_at, IsSlot, slot_days, slot_behind, slot_front, slot_counted}
+use Rattle.unit_journal.proofs.Besides.{HasOdometer, front_then, front_of, front_at, besides_then, besides_front, besides_days, few_slots}
+use Rattle.unit_journal.proofs.Behind.{behind_written}
+use Rattle.unit_journal.proofs.Keeping.{changes_few, changes_short, recorded_is}
+use Rattle.unit_journal.proofs.Turning.{others_of, others_each, taken_below, IsReady, adding_days, added_pointer, added_indices, added_older, added_next, added_entry}
+
+-- where no day is later, all are shown
+shown_all : (k : ℕ) (days : List UnitDay) → Each (λ d. day_of d ≤ k / 1440) days → days_shown k days ≡ map (day_shown k) days
+shown_all k [] all = refl
+shown_all k (d ∷ days) all =
+    let on : nat_le (day_of d) (k / 1440) ≡ true = grind (arith, nat_tests, all.0) in
+    ap (λ (b : Bool). map (day_shown k) (cond b (d ∷ filter (λ d. nat_le (day_of d) (k / 1440)) days) (filter (λ d. nat_le (day_of d) (k / 1440)) days))) on
+    ∙ ap (λ (l : List Day). day_shown k d ∷ l) (shown_all k days all.1)
+
+each_drop : (P : UnitDay → Type 0) (n : ℕ) (days : List UnitDay) → Each P days → Each P (drop n days)
+each_drop P zero days all = all
+each_drop P (suc n) [] all = tt
+each_drop P (suc n) (d ∷ days) all = each_drop P n days all.1
+
+each_push : (P : UnitDay → Type 0) (days : List UnitDay) (d : UnitDay) → Each P days → P d → Each P (days ++ d ∷ [])
+each_push P [] d all one = (one, tt)
+each_push P (x ∷ days) d all one = (all.0, each_push P days d all.1 one)
+
+each_before : (a b : ℕ) → a < b → (days : List UnitDay) → Each (λ d. day_of d ≤ a) days → Each (λ d. day_of d < b) days
+each_before a b less [] all = tt
+each_before a b less (d ∷ days) all = (omega (arith, all.0, less), each_before a b less days all.1)
+
+each_later : (a b : ℕ) → a ≤ b → (days : List UnitDay) → Each (λ d. day_of d ≤ a) days → Each (λ d. day_of d ≤ b) days
+each_later a b le [] all = tt
+each_later a b le (d ∷ days) all = (omega (arith, all.0, le), each_later a b le days all.1)
+
+map_drop : {X Y : Type 0} (f : X → Y) (n : ℕ) (xs : List X) → map f (drop n xs) ≡ drop n (map f xs)
+map_drop f zero xs = refl
+map_drop f (suc n) [] = refl
+map_drop f (suc n) (x ∷ xs) = map_drop f n xs
+
+drop_push : (n : ℕ) (days : List UnitDay) (d : UnitDay) → n ≤ length days → drop n (days ++ d ∷ []) ≡ drop n days ++ d ∷ []
+drop_push zero days d le = refl
+drop_push (suc n) [] d le = absurd (omega arith)
+drop_push (suc n) (x ∷ days) d le = drop_push n days d (omega arith)
+
+shown_drop : (k n : ℕ) (days : List UnitDay) → Each (λ d. day_of d ≤ k / 1440) days → days_shown k (drop n days) ≡ drop n (days_shown k days)
+shown_drop k n days all = shown_all k (drop n days) (each_drop (λ d. day_of d ≤ k / 1440) n days all) ∙ map_drop (day_shown k) n days ∙ ap (drop n) (sym (shown_all k days all))
+
+shown_length : (k : ℕ) (days : List UnitDay) → Each (λ d. day_of d ≤ k / 1440) days → length (days_shown k days) ≡ length days
+shown_length k days all = ap length (shown_all k days all) ∙ length-map days (day_shown k)
+
+-- the day of a head
+head_day : (date odometer d c : ℕ) (rest : List ℕ) → date < 4294967296 → d < 16 → c < 16
+    → unit_day (head_of date odometer d c ++ rest) ≡ record { date = date; words = word_of 0 d 0 ∷ word_of 1 c 0 ∷ [] }
+head_day date odometer d c rest small s1 s2 =
+    let w0 : from_be_bytes w32 (0 ∷ 0 ∷ to_be_bytes w16 (word_of 0 d 0)) ≡ word_of 0 d 0 = short_number (word_of 0 d 0) (omega arith) in
+    let w1 : from_be_bytes w32 (0 ∷ 0 ∷ to_be_bytes w16 (word_of 1 c 0)) ≡ word_of 1 c 0 = short_number (word_of 1 c 0) (omega arith) in
+    λ i. record { date = from_be_bytes-to_be_bytes_4 date (omega (arith, small)) i; words = w0 i ∷ w1 i ∷ [] }
+
+-- the odometer of a head, and how many words it has
+head_odometer : (date odometer d c : ℕ) (rest : List ℕ) → odometer < 4294967296 → number_at (head_of date odometer d c ++ rest) 4 4 ≡ odometer
+head_odometer date odometer d c rest small = from_be_bytes-to_be_bytes_4 odometer (omega (arith, small))
+
+-- the first two words are good
+module _ (d c : ℕ) (s1 : d < 16) (s2 : c < 16) where
+  abbrev w0 : ℕ
+  w0 = word_of 0 d 0
+
+  abbrev w1 : ℕ
+  w1 = word_of 1 c 0
+
+  m0 : word_minute w0 ≡ 0
+  m0 = minute_of 0 d 0 (lit≤ tt) s1 (lit≤ tt)
+
+  m1 : word_minute w1 ≡ 0
+  m1 = minute_of 1 c 0 (lit≤ tt) s2 (lit≤ tt)
+
+  l0 : word_slot w0 ≡ 0
+  l0 = slot_of 0 d 0 (lit≤ tt) s1 (lit≤ tt)
+
+  l1 : word_slot w1 ≡ 1
+  l1 = slot_of 1 c 0 (lit≤ tt) s2 (lit≤ tt)
+
+  firsts_checks : (place : ℕ) → list_all passes (word_checks place [] (w0 ∷ w1 ∷ [])) ≡ true
+  firsts_checks place = λ i.
+      (nat_lt (m0 i) 1440 && (true && (l0 i == 0 && m0 i == 0)))
+      && ((nat_lt (m1 i) 1440 && (((nat_le (m0 i) (m1 i) && not (l0 i == l1 i && m0 i == m1 i)) && true) && (l1 i == 1 && m1 i == 0))) && true)
+
+-- the words of a new day by either spelling
+change_same : (s t d : ℕ) → change s t d d ≡ []
+change_same s t d = let same : (d == d) ≡ true = grind (arith, nat_tests) in ap (λ (b : Bool). cond b [] (word_of s d t ∷ [])) same
+
+pub new_spelled : (t d c : ℕ) → (word_of 0 (first_state t d) 0 ∷ word_of 1 (first_state t c) 0 ∷ []) ++ changes t (first_state t d) (first_state t c) d c ≡ first_states t d c ++ further_words t d c
+new_spelled t d c = by (t == 0)
+  where
+    by : (b : Bool) → (word_of 0 (cond b d bare) 0 ∷ word_of 1 (cond b c bare) 0 ∷ []) ++ changes t (cond b d bare) (cond b c bare) d c
+        ≡ cond b (word_of 0 d 0 ∷ word_of 1 c 0 ∷ []) (word_of 0 bare 0 ∷ word_of 1 bare 0 ∷ []) ++ cond b [] (changes t bare bare d c)
+    by true = (λ i. word_of 0 d 0 ∷ word_of 1 c 0 ∷ (change_same 0 t d i ++ change 1 t c c)) ∙ (λ i. word_of 0 d 0 ∷ word_of 1 c 0 ∷ change_same 1 t c i)
+    by false = refl
+
+first_short : (t d : ℕ) → d < 16 → first_state t d < 16
+first_short t d s = by (t == 0)
+  where
+    by : (b : Bool) → cond b d bare < 16
+    by true = s
+    by false = omega arith
+
+-- a new day has few words
+pub further_few : (m dn cn : ℕ) → 2 + length (further m dn cn) ≤ 2 * (m % 1440 + 1)
+further_few m dn cn = by (m % 1440 == 0) refl
+  where
+    by : (b : Bool) → (m % 1440 == 0) ≡ b → 2 + length (changes (m % 1440) (cond b dn bare) (cond b cn bare) dn cn) ≤ 2 * (m % 1440 + 1)
+    by true is = omega (arith, ap length (λ i. change_same 0 (m % 1440) dn i ++ change 1 (m % 1440) cn cn), ap length (change_same 1 (m % 1440) cn))
+    by false is = let isnt : m % 1440 ≢ 0 = grind (arith, nat_tests, is) in omega (arith, changes_few (m % 1440) bare bare dn cn, isnt)
+
+-- an image whose n days are closed, so that a new one can be added
+pub record IsClosed (n k m : ℕ) (it : UnitMinute) (begun : UnitDay) (odometer : ℕ) (x x2 : List ℕ) (known : pointer day_ring x2 < 366) : Type 0 where
+  pub odometer_is : odometer_at x2 ≡ odometer
+  pub sized : length x2 ≡ 2485808
+  pub kept : last_kept x2 ≡ k
+  pub kept_was : last_kept x ≡ k
+  pub besides : SameBesides x x2
+  pub recorded_are : days_shown k (unit_days x2) ≡ recorded x
+  pub all_now : Each (λ d. day_of d ≤ k / 1440) (unit_days x2)
+  pub commit : days_shown m (unit_days x2 ++ begun ∷ []) ≡ filled (recorded x) it
+  pub ready : IsReady x2 known
+  pub days : length (unit_days x2) ≡ n
+  pub good : IsGood x → IsGood x2
+  pub today : HasToday x2
+
+module _ (n k m dn cn odometer : ℕ) (small : m ≤ 71582788) (short : dn < 16) (short' : cn < 16) (later : k / 1440 < m / 1440) (x x2 : List ℕ) (known : pointer day_ring x2 < 366)
+    (closed : IsClosed n k m (minute_by m dn cn) (record { date = 86400 * (m / 1440); words = first_states (m % 1440) dn cn ++ further_words (m % 1440) dn cn }) odometer x x2 known) (far : odometer ≤ 9999999) where
+  abbrev it : UnitMinute
+  it = minute_by m dn cn
+
+  abbrev date : ℕ
+  date = 86400 * (m / 1440)
+
+  abbrev firsts : List ℕ
+  firsts = word_of 0 (first_state (m % 1440) dn) 0 ∷ word_of 1 (first_state (m % 1440) cn) 0 ∷ []
+
+  abbrev ws : List ℕ
+  ws = further m dn cn
+
+  abbrev begun : UnitDay
+  begun = record { date = date; words = first_states (m % 1440) dn cn ++ further_words (m % 1440) dn cn }
+
+  abbrev D : List UnitDay
+  D = unit_days x2
+
+  abbrev n0 : ℕ
+  n0 = length D - 365
+
+  abbrev t : ℕ
+  t = taken day_ring x2
+
+  abbrev F : List ℕ
+  F = others_of x2
+
+  date_day : date / 86400 ≡ m / 1440
+  date_day = omega arith
+
+  all_m : Each (λ d. day_of d ≤ m / 1440) (D ++ begun ∷ [])
+  all_m = each_push (λ d. day_of d ≤ m / 1440) D begun (each_later (k / 1440) (m / 1440) (omega arith) D closed.all_now) (omega (arith, date_day))
+
+  filled_length : length (filled (recorded x) it) ≡ length D + 1
+  filled_length = omega (arith, ap length closed.commit, shown_length m (D ++ begun ∷ []) all_m, length-append D (begun ∷ []))
+
+  recorded_length : length (recorded x) ≡ length D
+  recorded_length = sym (ap length closed.recorded_are) ∙ shown_length k D closed.all_now
+
+  abbrev Minutes : List ℕ → Type 0
+  Minutes c = (recorded c ≡ recorded x) ⊎ (IsGivenUp it x c ⊎ (recorded c ≡ newest_of 366 (filled (recorded x) it)))
+
+  -- while the oldest may be gone
+  given : (c : List ℕ) → recorded c ≡ drop n0 (recorded x) → Minutes c
+  given c is = ⊎_elim
+      (λ full.
+      let last : length D ≤ 366 = few_slots x2 known in
+      inr (inl (record { further = omega (arith, filled_length, full, last); newest = is ∙ ap (λ (n : ℕ). drop (n - 365) (recorded x)) (sym recorded_length) })))
+      (λ room. let none : n0 ≡ 0 = omega (arith, room) in inl (is ∙ ap (λ (n : ℕ). drop n (recorded x)) none))
+      (cases_lt 365 (length D))
+
+  shown_given : days_shown k (drop n0 D) ≡ drop n0 (recorded x)
+  shown_given = shown_drop k n0 D closed.all_now ∙ ap (drop n0) closed.recorded_are
+
+  -- a day that is later than the last-kept minute's counts for nothing
+  with_later : (c : List ℕ) (d : UnitDay) → last_kept c ≡ k → day_of d ≡ m / 1440 → unit_days c ≡ drop n0 D ++ d ∷ [] → Minutes c
+  with_later c d kept day is = given c (recorded_is c k kept ∙ ap (days_shown k) is ∙ day_later k (drop n0 D) d (omega (arith, day, later)) ∙ shown_given)
+
+  head_is : (rest : List ℕ) → unit_day (new_head m dn cn odometer ++ rest) ≡ record { date = date; words = firsts }
+  head_is rest = head_day date odometer (first_state (m % 1440) dn) (first_state (m % 1440) cn) rest (omega arith) (first_short (m % 1440) dn short) (first_short (m % 1440) cn short')
+
+  adding_kept : (c : List ℕ) → SameOutside 1024 2114020 x2 c → last_kept c ≡ k
+  unfolding last_kept
+  adding_kept c same = number_before 1024 2114020 564 4 x2 c same (omega arith) ∙ closed.kept
+
+  has_0 : HasOdometer odometer x x2
+  has_0 = record { kept = closed.kept ∙ sym closed.kept_was; odometer_is = closed.odometer_is }
+
+  -- the days that stay
+  days_F : Each (λ d. day_of d ≤ last_kept x2 / 1440) (map (day_at x2) F)
+  days_F = subst (λ (a : ℕ). Each (λ d. day_of d ≤ a / 1440) (map (day_at x2) F)) (sym closed.kept)
+      (subst (Each (λ d. day_of d ≤ k / 1440)) (sym closed.ready.days) (each_drop (λ d. day_of d ≤ k / 1440) n0 D closed.all_now))
+
+  firsts_good : (place : ℕ) → list_all passes (word_checks place [] firsts) ≡ true
+  firsts_good place = firsts_checks (first_state (m % 1440) dn) (first_state (m % 1440) cn) (first_short (m % 1440) dn short) (first_short (m % 1440) cn short') place
+
+  adding_good : (c : List ℕ) → IsAdding day_ring (new_head m dn cn odometer) x2 c → IsGood x2 → IsGood c
+  adding_good c adding good =
+      let step = adding.step known in
+      let kept_c : last_kept c ≡ last_kept x2 = adding_kept c adding.outside ∙ sym closed.kept in
+      let low : last_kept c ≤ 71582788 = omega (arith, adding_kept c adding.outside, later, small) in
+      let far_c : odometer_at c ≤ 9999999 = omega (arith, (front_then odometer 1024 2114020 x x2 c has_0 (omega arith) adding.outside).odometer_is, far) in
+      ⊎_elim
+      (λ same. subst IsGood (sym same) good)
+      (λ more. ⊎_elim
+      (λ less. shut_good x2 c known step.others step.pointer_is kept_c adding.outside less days_F closed.today low far_c good)
+      (λ whole.
+      let rest = drop 20 (entry_at day_ring x2 t) in
+      let day_c : day_at c t ≡ record { date = date; words = firsts } = ap unit_day whole.entry ∙ head_is rest in
+      let date_c : slot_date c t ≡ date = sym (number_in c (slot_place t) 5776 0 4 (omega arith) ∙ ap (λ (q : ℕ). number_at c q 4) (omega arith)) ∙ ap (λ (d : UnitDay). d.date) day_c in
+      let count_c : slot_count c t ≡ 2 = sym (number_in c (slot_place t) 5776 8 2 (omega arith)) ∙ ap (λ (e : List ℕ). number_at e 8 2) whole.entry in
+      let odometer_c : slot_odometer c t ≡ odometer =
+      sym (number_in c (slot_place t) 5776 4 4 (omega arith)) ∙ ap (λ (e : List ℕ). number_at e 4 4) whole.entry ∙ head_odometer date odometer (first_state (m % 1440) dn) (first_state (m % 1440) cn) rest (omega (arith, far)) in
+      let words_c : slot_words c t 2 ≡ firsts =
+      sym (words_in c (slot_place t) 5776 16 2 (omega arith)) ∙ ap (λ (n : ℕ). Rattle.unit_model.specs.Image.words_at (entry_at day_ring c t) 16 n) (sym (number_in c (slot_place t) 5776 8 2 (omega arith) ∙ count_c)) ∙ ap (λ (d : UnitDay). d.words) day_c in
+      open_good x2 c known step.others step.pointer_is kept_c adding.outside (new_head m dn cn odometer) whole days_F closed.today low far_c
+      (omega (arith, date_c)) (omega (arith, date_c, closed.kept, later)) (omega (arith, odometer_c, far)) count_c (ap (λ (l : List ℕ). list_all passes (word_checks (slot_place t + 16) [] l)) words_c ∙ firsts_good (slot_place t + 16)) good)
+      more)
+      step.list
+
+  adding_moment : (c : List ℕ) → IsAdding day_ring (new_head m dn cn odometer) x2 c → IsKeeping it odometer x c
+  adding_moment c adding = record {
+    front = front_of m odometer x c (front_then odometer 1024 2114020 x x2 c has_0 (omega arith) adding.outside);
+    outside = besides_then x x2 c closed.besides (besides_days 1024 2114020 x2 c (omega arith) (omega arith) adding.outside);
+    minutes = ⊎_elim
+        (λ same. inl (recorded_is c k (adding_kept c adding.outside) ∙ ap (days_shown k) same ∙ closed.recorded_are))
+        (λ more. ⊎_elim
+        (λ less. given c (recorded_is c k (adding_kept c adding.outside) ∙ ap (days_shown k) (less ∙ closed.ready.days) ∙ shown_given))
+        (λ whole. with_later c (record { date = date; words = firsts }) (adding_kept c adding.outside) date_day
+        (whole ∙ ap (λ (d : UnitDay). map (day_at x2) F ++ d ∷ []) (head_is (drop 20 (entry_at day_ring x2 t))) ∙ ap (λ (l : List UnitDay). l ++ record { date = date; words = firsts } ∷ []) closed.ready.days))
+        more)
+        (adding_days x2 known (new_head m dn cn odometer) c adding);
+    decodes = still x c (λ good. adding_good c adding (closed.good good));
+  }
+
+  ws_short : AreShort ws
+  ws_short = changes_short (m % 1440) (first_state (m % 1440) dn) (first_state (m % 1440) cn) dn cn (omega arith) short short'
+
+  ws_few : length ws ≤ 2
+  ws_few = changes_few (m % 1440) (first_state (m % 1440) dn) (first_state (m % 1440) cn) dn cn
+
+  module _ (y : List ℕ) (added : IsAdded day_ring (new_head m dn cn odometer) x2 y) where
+    below : t < 366
+    below = taken_below x2 known
+
+    others : Each (λ j. (j < 366) × (j ≢ t)) F
+    others = others_each x2 known
+
+    abbrev older : List UnitDay
+    older = map (day_at x2) F
+
+    day_y : day_at y t ≡ record { date = date; words = firsts }
+    day_y = ap unit_day (added_entry x2 known (new_head m dn cn odometer) y added) ∙ head_is (drop 20 (entry_at day_ring x2 t))
+
+    count_y : slot_count y t ≡ 2
+    count_y = sym (number_in y (slot_place t) 5776 8 2 (omega arith)) ∙ ap (λ (e : List ℕ). number_at e 8 2) (added_entry x2 known (new_head m dn cn odometer) y added)
+
+    slot_y : IsSlot t F older t k date 2 firsts y
+    slot_y = record {
+      sized = added.outside.same_length ∙ closed.sized;
+      pointer_is = added_pointer x2 known (new_head m dn cn odometer) y added;
+      kept = adding_kept y added.outside;
+      order_is = added_indices x2 known (new_head m dn cn odometer) y added;
+      next_is = added_next x2 known (new_head m dn cn odometer) y added;
+      older_are = added_older x2 known (new_head m dn cn odometer) y added;
+      date_is = sym (number_in y (slot_place t) 5776 0 4 (omega arith) ∙ ap (λ (q : ℕ). number_at y q 4) (omega arith)) ∙ ap (λ (d : UnitDay). d.date) day_y;
+      count_is = count_y;
+      words_are =
+          sym (words_in y (slot_place t) 5776 16 2 (omega arith)) ∙ ap (λ (n : ℕ). Rattle.unit_model.specs.Image.words_at (entry_at day_ring y t) 16 n) (sym (number_in y (slot_place t) 5776 8 2 (omega arith) ∙ count_y))
+          ∙ ap (λ (d : UnitDay). d.words) day_y;
+    }
+
+    abbrev y2 : List ℕ
+    y2 = written (free_place t 2) ws y
+
+    abbrev y3 : List ℕ
+    y3 = with_words t 2 ws y
+
+    abbrev z : List ℕ
+    z = with_kept m y3
+
+    behind : DiffersBehind t 2 y y2
+    behind = behind_written t 2 ws y below (omega (arith, ws_few)) slot_y.sized
+
+    slot_2 : IsSlot t F older t k date 2 firsts y2
+    slot_2 = slot_behind t below F others older t k date 2 (lit≤ tt) firsts y slot_y y2 behind
+
+    slot_3 : IsSlot t F older t k date (2 + length ws) (firsts ++ ws) y3
+    slot_3 = slot_counted t below F others older t k date 2 (lit≤ tt) firsts y slot_y ws ws_short (omega (arith, ws_few))
+
+    z_same : SameOutside 564 4 y3 z
+    z_same = put_outside 564 (to_be_bytes w32 m) y3 (omega (arith, slot_3.sized))
+
+    pub slot_z : IsSlot t F older t m date (2 + length ws) (firsts ++ ws) z
+    unfolding last_kept
+    slot_z = slot_front t below F others older t k date (2 + length ws) (omega (arith, ws_few)) (firsts ++ ws) y3 slot_3 564 4 m z z_same (omega arith) (number_put4 564 m y3 (omega (arith, slot_3.sized)) (omega (arith, small)))
+
+    of_slot : (n : ℕ) (words c : List ℕ) → n ≤ 2880 → IsSlot t F older t k date n words c → Minutes c
+    of_slot n words c few slot = with_later c (record { date = date; words = words }) slot.kept date_day
+        (slot_days t below F others older t k date n few words c slot ∙ ap (λ (l : List UnitDay). l ++ record { date = date; words = words } ∷ []) closed.ready.days)
+
+    pub kept_minutes : recorded z ≡ newest_of 366 (filled (recorded x) it)
+    kept_minutes =
+        recorded_is z m slot_z.kept ∙ ap (days_shown m) (slot_days t below F others older t m date (2 + length ws) (omega (arith, ws_few)) (firsts ++ ws) z slot_z
+        ∙ ap (λ (l : List UnitDay). l ++ record { date = date; words = firsts ++ ws } ∷ []) closed.ready.days
+        ∙ ap (λ (l : List ℕ). drop n0 D ++ record { date = date; words = l } ∷ []) (new_spelled (m % 1440) dn cn)
+        ∙ sym (drop_push n0 D begun (omega arith)))
+        ∙ shown_drop m n0 (D ++ begun ∷ []) all_m ∙ ap (drop n0) closed.commit
+        ∙ ap (λ (n : ℕ). drop n (filled (recorded x) it)) (omega (arith, filled_length))
+
+    besides_y : SameBesides x y
+    besides_y = besides_then x x2 y closed.besides (besides_days 1024 2114020 x2 y (omega arith) (omega arith) added.outside)
+
+    besides_2 : SameBesides x y2
+    besides_2 = besides_then x y y2 besides_y (besides_days (free_place t 2) 5756 y y2 (omega arith) (omega (arith, below)) behind)
+
+    besides_3 : SameBesides x y3
+    besides_3 = besides_then x y2 y3 besides_2 (besides_days (slot_place t + 8) 2 y2 y3 (omega arith) (omega (arith, below)) (put_outside (slot_place t + 8) (to_be_bytes w16 (2 + length ws)) y2 (omega (arith, below, slot_2.sized))))
+
+    pub besides_z : SameBesides x z
+    besides_z = besides_then x y3 z besides_3 (besides_front 564 4 y3 z (omega arith) (omega arith) z_same)
+
+    has_y : HasOdometer odometer x y
+    has_y = front_then odometer 1024 2114020 x x2 y has_0 (omega arith) added.outside
+
+    has_2 : HasOdometer odometer x y2
+    has_2 = front_then odometer (free_place t 2) 5756 x y y2 has_y (omega arith) behind
+
+    has_3 : HasOdometer odometer x y3
+    has_3 = front_then odometer (slot_place t + 8) 2 x y2 y3 has_2 (omega arith) (put_outside (slot_place t + 8) (to_be_bytes w16 (2 + length ws)) y2 (omega (arith, below, slot_2.sized)))
+
+    odometer_z : odometer_at z ≡ odometer
+    unfolding odometer_at
+    odometer_z = number_after 564 4 568 4 y3 z z_same (omega arith) ∙ has_3.odometer_is
+
+    abbrev j' : Notes
+    j' = record { kept = m; odometer = odometer; index = t; count = 2 + length ws; driver = dn; codriver = cn; stray = None; stored = 2 + length ws; day_count = min (n + 1) 366 }
+
+    pub new_notes : IsNotes j'
+    new_notes = record { kept = small; odometer = far; index = below; count = count_few; driver = short; codriver = short'; stray = λ s is. absurd (cc); day_count = omega arith; no_day = λ none. absurd (omega (arith, later, none)) }
+      where
+        count_few : 2 + length ws ≤ 2 * (m % 1440 + 1)
+        count_few = by (m % 1440 == 0) refl
+          where
+            by : (b : Bool) → (m % 1440 == 0) ≡ b → 2 + length (changes (m % 1440) (cond b dn bare) (cond b cn bare) dn cn) ≤ 2 * (m % 1440 + 1)
+            by true is = omega (arith, ap length (λ i. change_same 0 (m % 1440) dn i ++ change 1 (m % 1440) cn cn), ap length (change_same 1 (m % 1440) cn))
+            by false is = let isnt : m % 1440 ≢ 0 = grind (arith, nat_tests, is) in omega (arith, changes_few (m % 1440) bare bare dn cn, isnt)
+
+    low : Each (λ w. word_minute w ≤ m % 1440) (firsts ++ ws)
+    low = (
+      omega (arith, minute_of 0 (first_state (m % 1440) dn) 0 (lit≤ tt) (first_short (m % 1440) dn short) (lit≤ tt)),
+      (
+        omega (arith, minute_of 1 (first_state (m % 1440) cn) 0 (lit≤ tt) (first_short (m % 1440) cn short') (lit≤ tt)),
+        minutes_by 0 0 0 0 0 0 (omega arith) (omega arith) (omega arith) (omega arith) (λ u. u ≤ m % 1440) (m % 1440) (first_state (m % 1440) dn) (first_state (m % 1440) cn) dn cn (omega arith) short short' (omega arith),
+      ),
+    )
+
+    states : (state_at 0 (m % 1440) (first_states (m % 1440) dn cn ++ further_words (m % 1440) dn cn) ≡ dn) × (state_at 1 (m % 1440) (first_states (m % 1440) dn cn ++ further_words (m % 1440) dn cn) ≡ cn)
+    states = begun_at 0 m bare bare dn cn [] 0 [] tt refl tt refl refl short short' date date_day (omega (arith, later))
+
+    days_now : suc (length F) ≡ min (n + 1) 366
+    days_now = omega (arith, length-map F (day_at x2), ap length closed.ready.days, length-drop n0 D, closed.days)
+
+    pub new_agrees : Agrees j' z
+    unfolding odometer_at
+    new_agrees = record {
+      kept = slot_z.kept;
+      odometer = odometer_z;
+      pointer = omega (arith, slot_z.pointer_is, below);
+      none = λ zero_kept. absurd (omega (arith, later));
+      newest = λ any. (
+        F,
+        record {
+          order_is = slot_z.order_is;
+          next_is = slot_z.next_is;
+          dense = closed.ready.dense;
+          others = others;
+          days = days_now;
+          earlier = subst (Each (λ d. day_of d < m / 1440)) (sym (slot_z.older_are ∙ closed.ready.days)) (each_drop (λ d. day_of d < m / 1440) n0 D (each_before (k / 1440) (m / 1440) later D closed.all_now));
+          date = slot_z.date_is;
+          count = slot_z.count_is;
+          low = subst (Each (λ w. word_minute w ≤ m % 1440)) (sym slot_z.words_are) low;
+          driver = ap (state_at 0 (m % 1440)) (slot_z.words_are ∙ new_spelled (m % 1440) dn cn) ∙ states.0;
+          codriver = ap (state_at 1 (m % 1440)) (slot_z.words_are ∙ new_spelled (m % 1440) dn cn) ∙ states.1;
+        },
+      );
+    }
+
+    -- what was added is a moment of the adding
+    y_good : IsGood x → IsGood y
+    y_good good = adding_good y adding_y (closed.good good)
+      where
+        adding_y : IsAdding day_ring (new_head m dn cn odometer) x2 y
+        adding_y = record {
+          outside = added.outside;
+          step = λ known. record { others = added.others known; pointer_is = inr (added.list known).pointer_is; points = added.points known; list = inr (inr (added.list known)); dense = added.dense known };
+        }
+
+    y2_good : IsGood x → IsGood y2
+    y2_good good = behind_good y y2 t 2 below (lit≤ tt) behind count_y (y_good good)
+
+    all_checks : (place : ℕ) → list_all passes (word_checks place [] (firsts ++ ws)) ≡ true
+    all_checks place = by (m % 1440 == 0) refl
+      where
+        low_firsts : Each (λ w. word_minute w ≤ 0) firsts
+        low_firsts = (
+          omega (arith, minute_of 0 (first_state (m % 1440) dn) 0 (lit≤ tt) (first_short (m % 1440) dn short) (lit≤ tt)),
+          (omega (arith, minute_of 1 (first_state (m % 1440) cn) 0 (lit≤ tt) (first_short (m % 1440) cn short') (lit≤ tt)), tt),
+        )
+
+        by : (b : Bool) → (m % 1440 == 0) ≡ b → list_all passes (word_checks place [] (firsts ++ ws)) ≡ true
+        by true is =
+            let none : ws ≡ [] =
+            ap (λ (b : Bool). changes (m % 1440) (cond b dn bare) (cond b cn bare) dn cn) is ∙ (λ i. change_same 0 (m % 1440) dn i ++ change 1 (m % 1440) cn cn) ∙ change_same 1 (m % 1440) cn in
+            ap (λ (l : List ℕ). list_all passes (word_checks place [] (firsts ++ l))) none ∙ firsts_good place
+        by false is =
+            let isnt : m % 1440 ≢ 0 = grind (arith, nat_tests, is) in
+            (changes_good place (m % 1440) (first_state (m % 1440) dn) (first_state (m % 1440) cn) dn cn firsts (omega arith) short short' (good_low place 0 (m % 1440) firsts (firsts_good place) (lit≤ tt) low_firsts (omega (arith, isnt)))).checks
+
+    y3_good : IsGood x → IsGood y3
+    y3_good good = counted_good y2 y3 t below (put_outside (slot_place t + 8) (to_be_bytes w16 (2 + length ws)) y2 (omega (arith, below, slot_2.sized))) (2 + length ws) slot_3.count_is (omega arith) (omega (arith, ws_few))
+        (ap (λ (l : List ℕ). list_all passes (word_checks (slot_place t + 16) [] l)) slot_3.words_are ∙ all_checks (slot_place t + 16)) (y2_good good)
+
+    z_good : IsGood x → IsGood z
+    z_good good = mark_good y3 z z_same (omega (arith, slot_3.kept, slot_z.kept, later)) (omega (arith, slot_z.kept, small))
+        (or_right (last_kept z == 0) (has_day z (last_kept z / 1440)) (any_at (λ i. is_there day_ring z i && slot_date z i / 86400 == last_kept z / 1440) 0 366 t (omega arith) (omega (arith, below))
+        (and_join (is_there day_ring z t) (slot_date z t / 86400 == last_kept z / 1440) (index_there z F t slot_z.order_is) (eq_true (slot_date z t / 86400) (last_kept z / 1440) (omega (arith, slot_z.date_is, slot_z.kept)))))) (y3_good good)
+
+    pub kept_decodes : Decodes x → Decodes z
+    kept_decodes = still x z z_good
+
+    abbrev Moment : List ℕ → Type 0
+    Moment c = IsKeeping it odometer x c
+
+    at_2 : Moment y2
+    at_2 = record { front = front_of m odometer x y2 has_2; outside = besides_2; minutes = of_slot 2 firsts y2 (lit≤ tt) slot_2; decodes = still x y2 y2_good }
+
+    at_3 : Moment y3
+    at_3 = record { front = front_of m odometer x y3 has_3; outside = besides_3; minutes = of_slot (2 + length ws) (firsts ++ ws) y3 (omega (arith, ws_few)) slot_3; decodes = still x y3 y3_good }
+
+    at_z : Moment z
+    at_z = record { front = front_at m odometer x z slot_z.kept odometer_z; outside = besides_z; minutes = inr (inr kept_minutes); decodes = kept_decodes }
+
+    further_moment : (c : List ℕ) → IsFurther t m ws y c → Moment c
+    further_moment c (inl writing) = record {
+      front = front_of m odometer x c (front_then odometer (free_place t 2) 5756 x y c has_y (omega arith) writing);
+      outside = besides_then x y c besides_y (besides_days (free_place t 2) 5756 y c (omega arith) (omega (arith, below)) writing);
+      minutes = of_slot 2 firsts c (lit≤ tt) (slot_behind t below F others older t k date 2 (lit≤ tt) firsts y slot_y c writing);
+      decodes = still x c (λ good. behind_good y c t 2 below (lit≤ tt) writing count_y (y_good good));
+    }
+    further_moment c (inr (inl counting)) = ⊎_elim (λ absent. subst Moment (sym absent) at_2) (λ whole. subst Moment (sym whole) at_3) (counting.whole (lit≤ tt))
+    further_moment c (inr (inr keeping)) = ⊎_elim (λ absent. subst Moment (sym absent) at_3) (λ whole. subst Moment (sym whole) at_z) (keeping.whole (lit≤ tt))
+
+  pub begin_moment : (c : List ℕ) → IsBeginning m dn cn odometer x2 c → IsKeeping it odometer x c
+  begin_moment c (inl adding) = adding_moment c adding
+  begin_moment c (inr here) = further_moment here.0 here.1 c here.2

@@ -1,0 +1,109 @@
+-- What a `keep` leaves alone, and how many days there are.
+use Rattle.std.proofs.Common.{◌≡◌, ℕ, suc, ◌+◌, ◌-◌, ◌<◌, ◌≤◌, Bool, true, false, cond, List, [], ◌∷◌, length, drop, filter, inl, inr, refl, ◌∙◌, ap, arith, length-append, ◌/◌}
+use Rattle.std.proofs.lemmas.List.{length-map}
+use Rattle.std.specs.Prelude.{nat_le}
+use Rattle.std.specs.List.{range_with_len}
+use Rattle.std.proofs.lemmas.Bool.Decides.{nat_tests}
+use Rattle.std.proofs.lemmas.List.FromFn.{length-range_with_len}
+use Rattle.std.specs.Int.{to_be_bytes, w32}
+use Rattle.tach_media.specs.Medium.{SameOutside}
+use Rattle.tach_media.specs.LogLaws.{put_outside}
+use Rattle.tach_media.proofs.Images.{part_before, part_after, outside_wider}
+use Rattle.gated_ring.specs.Ring.{indices as ring_indices, pointer, is_there, next, order}
+use Rattle.unit_model.specs.Days.{Day, day_of, day_shown, newest_of}
+use Rattle.unit_model.specs.Image.{day_ring, last_kept, odometer_at, indices, unit_days, recorded}
+use Rattle.unit_journal.specs.Image.{SameBesides, IsFront, with_odometer}
+use Rattle.unit_journal.specs.Mends.{SameButRowsAndSlots}
+use Rattle.unit_journal.proofs.Numbers.{number_before, number_put4}
+use Rattle.unit_journal.proofs.Slots.{day_at, all_days}
+
+pub besides_none : (x : List ℕ) → SameBesides x x
+besides_none x = record { before = refl; between = refl; after = refl; same_length = refl }
+
+pub besides_then : (x y c : List ℕ) → SameBesides x y → SameBesides y c → SameBesides x c
+besides_then x y c first next = record { before = next.before ∙ first.before; between = next.between ∙ first.between; after = next.after ∙ first.after; same_length = next.same_length ∙ first.same_length }
+
+pub besides_front : (a n : ℕ) (x c : List ℕ) → 564 ≤ a → a + n ≤ 572 → SameOutside a n x c → SameBesides x c
+besides_front a n x c low high same = record {
+  before = (outside_wider 564 8 a n x c same low (omega (arith, high))).before;
+  between = part_after a n 572 452 x c same high;
+  after = (outside_wider 564 2114480 a n x c same low (omega (arith, high))).after;
+  same_length = same.same_length;
+}
+
+pub besides_days : (a n : ℕ) (x c : List ℕ) → 1024 ≤ a → a + n ≤ 2115044 → SameOutside a n x c → SameBesides x c
+besides_days a n x c low high same = record {
+  before = (outside_wider 564 2114480 a n x c same (omega (arith, low)) (omega (arith, high))).before;
+  between = part_before a n 572 452 x c same low;
+  after = (outside_wider 564 2114480 a n x c same (omega (arith, low)) (omega (arith, high))).after;
+  same_length = same.same_length;
+}
+
+-- what a `mend` leaves alone, by writes in the owed rows and in the day slots
+pub rows_outside : (x c : List ℕ) → SameOutside 624 384 x c → SameButRowsAndSlots x c
+rows_outside x c same = record { before = same.before; between = part_after 624 384 1008 20 x c same (omega arith); after = (outside_wider 624 2114420 624 384 x c same (omega arith) (omega arith)).after; same_length = same.same_length }
+
+pub slots_outside : (x c : List ℕ) → SameOutside 1028 2114016 x c → SameButRowsAndSlots x c
+slots_outside x c same = record { before = (outside_wider 624 2114420 1028 2114016 x c same (omega arith) (omega arith)).before; between = part_before 1028 2114016 1008 20 x c same (omega arith); after = same.after; same_length = same.same_length }
+
+pub outside_both : (x y c : List ℕ) → SameButRowsAndSlots x y → SameButRowsAndSlots y c → SameButRowsAndSlots x c
+outside_both x y c first next = record { before = next.before ∙ first.before; between = next.between ∙ first.between; after = next.after ∙ first.after; same_length = next.same_length ∙ first.same_length }
+
+-- writes among the days leave the last-kept minute and the odometer alone
+pub front_days : (a n : ℕ) (x c : List ℕ) → 572 ≤ a → SameOutside a n x c → (last_kept c ≡ last_kept x) × (odometer_at c ≡ odometer_at x)
+unfolding last_kept odometer_at
+front_days a n x c le same = (number_before a n 564 4 x c same (omega (arith, le)), number_before a n 568 4 x c same (omega (arith, le)))
+
+-- the odometer is the new one, the last-kept minute the old one
+pub record HasOdometer (odometer : ℕ) (x c : List ℕ) : Type 0 where
+  pub kept : last_kept c ≡ last_kept x
+  pub odometer_is : odometer_at c ≡ odometer
+
+pub front_odometer : (odometer : ℕ) (x : List ℕ) → length x ≡ 2485808 → odometer ≤ 9999999 → HasOdometer odometer x (with_odometer odometer x)
+unfolding last_kept odometer_at
+front_odometer odometer x sized far = record {
+  kept = number_before 568 4 564 4 x (with_odometer odometer x) (put_outside 568 (to_be_bytes w32 odometer) x (omega (arith, sized))) (omega arith);
+  odometer_is = number_put4 568 odometer x (omega (arith, sized)) (omega (arith, far));
+}
+
+pub front_then : (odometer a n : ℕ) (x y c : List ℕ) → HasOdometer odometer x y → 572 ≤ a → SameOutside a n y c → HasOdometer odometer x c
+front_then odometer a n x y c has le same = let both = front_days a n y c le same in record { kept = both.0 ∙ has.kept; odometer_is = both.1 ∙ has.odometer_is }
+
+pub front_of : (minute odometer : ℕ) (x c : List ℕ) → HasOdometer odometer x c → IsFront minute odometer x c
+front_of minute odometer x c has = inr (has.odometer_is, inl has.kept)
+
+pub front_at : (minute odometer : ℕ) (x c : List ℕ) → last_kept c ≡ minute → odometer_at c ≡ odometer → IsFront minute odometer x c
+front_at minute odometer x c kept is = inr (is, inr kept)
+
+filter_few : {X : Type 0} (p : X → Bool) (xs : List X) → length (filter p xs) ≤ length xs
+filter_few p [] = omega arith
+filter_few {X} p (x ∷ xs) = by (filter_few p xs) (p x)
+  where
+    by : length (filter p xs) ≤ length xs → (b : Bool) → length (cond b (x ∷ filter p xs) (filter p xs)) ≤ suc (length xs)
+    by few true = omega arith
+    by few false = omega arith
+
+-- at most as many days as slots
+pub few_slots : (x : List ℕ) → pointer day_ring x < 366 → length (unit_days x) ≤ 366
+unfolding indices ring_indices
+few_slots x known =
+    let i = next day_ring (pointer day_ring x) in
+    let i_below : i < 366 = next_below (pointer day_ring x) known in
+    let all = order day_ring i in
+    let there = filter (is_there day_ring x) all in
+    let days_length : length (unit_days x) ≡ length there = ap length (all_days x) ∙ length-map there (day_at x) in
+    let all_length : length all ≡ 366 = omega (arith, length-append (range_with_len i (366 - i)) (range_with_len 0 i), length-range_with_len i (366 - i), length-range_with_len 0 i) in
+    omega (arith, days_length, filter_few (is_there day_ring x) all, all_length)
+  where
+    next_below : (p : ℕ) → p < 366 → next day_ring p < 366
+    next_below p below = grind (arith, nat_tests)
+
+pub few_days : (x : List ℕ) → pointer day_ring x < 366 → length (recorded x) ≤ 366
+unfolding recorded
+few_days x known =
+    let days = unit_days x in
+    let shown = filter (λ d. nat_le (day_of d) (last_kept x / 1440)) days in
+    omega (arith, length-map shown (day_shown (last_kept x)), filter_few (λ d. nat_le (day_of d) (last_kept x / 1440)) days, few_slots x known)
+
+pub all_newest : (n : ℕ) (days : List Day) → length days ≤ n → newest_of n days ≡ days
+all_newest n days few = let none : length days - n ≡ 0 = omega arith in ap (λ (k : ℕ). drop k days) none

@@ -1,0 +1,327 @@
+-- The day of the last-kept minute is closed before a new one is added.
+use Rattle.std.proofs.Common.{◌≡◌, ◌≢◌, ◌⊎◌, inl, inr, ⊎_elim, ℕ, ◌+◌, ◌-◌, ◌*◌, ◌/◌, ◌%◌, ◌<◌, ◌≤◌, Bool, true, false, cond, List, [], ◌∷◌, ◌++◌, length, length-append, map, refl, sym, ◌∙◌, ap, subst, arith, lit≤}
+use Rattle.std.specs.Prelude.{◌==◌}
+use Rattle.std.specs.Int.{to_be_bytes, w16, w32}
+use Rattle.std.proofs.lemmas.Bool.Decides.{nat_tests}
+use Rattle.std.proofs.lemmas.List.{append-nil, length-map}
+use Rattle.tach_media.specs.Medium.{SameOutside, IsPartlyWritten}
+use Rattle.tach_media.specs.LogLaws.{put_outside}
+use Rattle.tach_media.proofs.Images.{part_after}
+use Rattle.gated_ring.specs.Ring.{number_at, pointer, entry_at, next}
+use Rattle.unit_model.specs.Days.{word_minute, bare, UnitMinute, Day, UnitDay, day_of, days_shown, filled, Each, minute_by}
+use Rattle.unit_journal.specs.Changes.{changes, closing_words, first_states, further_words}
+use Rattle.unit_model.specs.Image.{day_ring, slot_place, last_kept, odometer_at, unit_day, unit_days, recorded, indices, slot_words}
+use Rattle.std.specs.List.{list_all}
+use Rattle.std.proofs.lemmas.List.FromFn.{length-map-range_with_len}
+use Rattle.unit_model.specs.Decoding.{word_checks}
+use Rattle.unit_journal.proofs.Checks.{passes, IsGood, still}
+use Rattle.unit_journal.proofs.StillDecodes.{counted_good}
+use Rattle.unit_journal.proofs.WordsGood.{changes_good, good_low}
+use Rattle.unit_journal.proofs.KeptDecodes.{behind_good, index_there, last_day as last_checks, put_odometer_good, odometer_decodes}
+use Rattle.unit_journal.specs.Image.{Notes, IsNotes, IsNewestDay, Agrees, written, free_place, DiffersBehind, SameBesides, IsFront, IsKeeping, with_odometer, with_words, closed, IsClosing}
+use Rattle.unit_journal.proofs.Growth.{words_later, day_now}
+use Rattle.unit_journal.proofs.Commits.{next_day, closing_later, begun_is, begun_before, begun_at}
+use Rattle.unit_journal.proofs.Numbers.{number_before, number_put4}
+use Rattle.unit_journal.proofs.Slots.{day_at, all_days, IsSlot, slot_days, slot_behind, slot_front, slot_counted, in_front, same_indices}
+use Rattle.unit_journal.proofs.Besides.{HasOdometer, front_odometer, front_then, front_of, besides_then, besides_front, besides_days}
+use Rattle.unit_journal.proofs.Behind.{behind_written}
+use Rattle.unit_journal.proofs.Keeping.{changes_few, changes_short, recorded_is}
+use Rattle.unit_journal.proofs.Turning.{ready_behind, ready_empty}
+use Rattle.unit_journal.proofs.Beginning.{IsClosed}
+
+each_push : (P : UnitDay → Type 0) (days : List UnitDay) (d : UnitDay) → Each P days → P d → Each P (days ++ d ∷ [])
+each_push P [] d all one = (one, tt)
+each_push P (x ∷ days) d all one = (all.0, each_push P days d all.1 one)
+
+each_not_later : (a : ℕ) (days : List UnitDay) → Each (λ d. day_of d < a) days → Each (λ d. day_of d ≤ a) days
+each_not_later a [] all = tt
+each_not_later a (d ∷ days) all = (omega (arith, all.0), each_not_later a days all.1)
+
+-- a write in front of the days, behind the last-kept minute
+front_days : (x c : List ℕ) → SameOutside 568 4 x c → unit_days c ≡ unit_days x
+front_days x c same =
+    let entries : (j : ℕ) → entry_at day_ring c j ≡ entry_at day_ring x j = λ j. part_after 568 4 (slot_place j) 5776 x c same (omega arith) in
+    all_days c ∙ ap (map (day_at c)) (same_indices 0 x c (in_front 0 568 4 x c (omega arith) same)) ∙ (λ t. map (λ j. unit_day (entries j t)) (indices x)) ∙ sym (all_days x)
+
+front_kept : (x c : List ℕ) → SameOutside 568 4 x c → last_kept c ≡ last_kept x
+unfolding last_kept
+front_kept x c same = number_before 568 4 564 4 x c same (omega arith)
+
+pub front_recorded : (x c : List ℕ) → SameOutside 568 4 x c → recorded c ≡ recorded x
+front_recorded x c same =
+    recorded_is c (last_kept x) (front_kept x c same) ∙ ap (days_shown (last_kept x)) (front_days x c same) ∙ sym (recorded_is x (last_kept x) refl)
+
+-- the odometer, which is written first
+pub odometer_kept : (it : UnitMinute) (odometer : ℕ) (x c : List ℕ) → length x ≡ 2485808 → odometer ≤ 9999999 → IsPartlyWritten 568 (to_be_bytes w32 odometer) x c → IsKeeping it odometer x c
+odometer_kept it odometer x c sized far part = record {
+  front = ⊎_elim
+      (λ absent. inl (ap odometer_at absent, ap last_kept absent))
+      (λ whole. subst (IsFront it.minute odometer x) (sym whole) (front_of it.minute odometer x (with_odometer odometer x) (front_odometer odometer x sized far)))
+      (part.whole (lit≤ tt));
+  outside = besides_front 568 4 x c (omega arith) (omega arith) part.outside;
+  minutes = inl (front_recorded x c part.outside);
+  decodes = odometer_decodes odometer x c sized far part;
+}
+
+other_next : (i : ℕ) → i < 366 → i ≢ next day_ring i
+other_next i below = by (i + 1 == 366) refl
+  where
+    eq_of : (a b : ℕ) → (a == b) ≡ true → a ≡ b
+    eq_of a b is = grind (arith, nat_tests)
+
+    by : (b : Bool) → (i + 1 == 366) ≡ b → i ≢ cond b 0 (i + 1)
+    by true last same = absurd (omega (arith, eq_of (i + 1) 366 last, same))
+    by false more same = absurd (omega (arith, same))
+
+module _ (j : Notes) (ok : IsNotes j) (x : List ℕ) (sized : length x ≡ 2485808) (agrees : Agrees j x)
+    (m dn cn odometer : ℕ) (small : m ≤ 71582788) (short : dn < 16) (short' : cn < 16) (far : odometer ≤ 9999999) (later : j.kept / 1440 < m / 1440) where
+  abbrev k : ℕ
+  k = j.kept
+
+  abbrev it : UnitMinute
+  it = minute_by m dn cn
+
+  abbrev begun : UnitDay
+  begun = record { date = 86400 * (m / 1440); words = first_states (m % 1440) dn cn ++ further_words (m % 1440) dn cn }
+
+  abbrev x1 : List ℕ
+  x1 = with_odometer odometer x
+
+  its_day : 86400 * (m / 1440) / 86400 ≡ m / 1440
+  its_day = omega arith
+
+  x1_same : SameOutside 568 4 x x1
+  x1_same = put_outside 568 (to_be_bytes w32 odometer) x (omega (arith, sized))
+
+  x1_sized : length x1 ≡ 2485808
+  x1_sized = x1_same.same_length ∙ sized
+
+  x1_odometer : odometer_at x1 ≡ odometer
+  unfolding odometer_at
+  x1_odometer = number_put4 568 odometer x (omega (arith, sized)) (omega (arith, far))
+
+  besides_1 : SameBesides x x1
+  besides_1 = besides_front 568 4 x x1 (omega arith) (omega arith) x1_same
+
+  good_1 : IsGood x → IsGood x1
+  good_1 = put_odometer_good odometer x sized far
+
+  abbrev Result : List ℕ → Type 0
+  Result x2 = (known : pointer day_ring x2 < 366) × IsClosed j.day_count k m it begun odometer x x2 known
+
+  -- no day yet
+  module _ (none : k ≡ 0) where
+    x_indices : indices x1 ≡ []
+    x_indices = same_indices 0 x x1 (in_front 0 568 4 x x1 (omega arith) x1_same) ∙ agrees.none none
+
+    no_days : unit_days x1 ≡ []
+    no_days = all_days x1 ∙ ap (map (day_at x1)) x_indices
+
+    x1_known : pointer day_ring x1 < 366
+    x1_known = omega (arith, (in_front 0 568 4 x x1 (omega arith) x1_same).pointer_is, agrees.pointer)
+
+    x1_kept : last_kept x1 ≡ k
+    x1_kept = front_kept x x1 x1_same ∙ agrees.kept
+
+    nothing : days_shown k (unit_days x1) ≡ recorded x
+    nothing = sym (recorded_is x1 k x1_kept) ∙ front_recorded x x1 x1_same
+
+    x_recorded : recorded x ≡ []
+    x_recorded = sym nothing ∙ ap (days_shown k) no_days
+
+    first_day : Result x1
+    first_day = (
+      x1_known,
+      record {
+        odometer_is = x1_odometer;
+        sized = x1_sized;
+        kept = x1_kept;
+        kept_was = agrees.kept;
+        besides = besides_1;
+        recorded_are = nothing;
+        all_now = subst (Each (λ d. day_of d ≤ k / 1440)) (sym no_days) tt;
+        commit =
+            ap (λ (l : List UnitDay). days_shown m (l ++ begun ∷ [])) no_days ∙ day_now m begun its_day
+            ∙ ap (λ (d : Day). d ∷ []) (begun_is 0 m bare bare dn cn [] 0 [] tt refl tt refl refl short short' (86400 * (m / 1440)) its_day (omega (arith, later))
+            (begun_before 0 m bare bare dn cn [] 0 [] tt refl tt refl refl short short' (86400 * (m / 1440)) its_day (omega (arith, later)))
+            (begun_at 0 m bare bare dn cn [] 0 [] tt refl tt refl refl short short' (86400 * (m / 1440)) its_day (omega (arith, later))))
+            ∙ sym (ap (λ (l : List Day). filled l it) x_recorded);
+        ready = ready_empty x1 x1_known x_indices;
+        days = ap length no_days ∙ sym (ok.no_day none);
+        good = good_1;
+        today = inl (x1_kept ∙ none);
+      },
+    )
+
+  -- a day that is closed
+  module _ (some : 0 < k) where
+    abbrev i : ℕ
+    i = j.index
+
+    abbrev n : ℕ
+    n = j.count
+
+    abbrev js : List ℕ
+    js = (agrees.newest some).0
+
+    day : IsNewestDay j x js
+    day = (agrees.newest some).1
+
+    abbrev date : ℕ
+    date = 86400 * (k / 1440)
+
+    abbrev older : List UnitDay
+    older = map (day_at x) js
+
+    abbrev words : List ℕ
+    words = slot_words x i n
+
+    abbrev p : ℕ
+    p = pointer day_ring x
+
+    few : n ≤ 2880
+    few = omega (arith, ok.count)
+
+    date_day : date / 86400 ≡ k / 1440
+    date_day = omega arith
+
+    slot : IsSlot i js older p k date n words x
+    slot = record { sized = sized; pointer_is = refl; kept = agrees.kept; order_is = day.order_is; next_is = day.next_is; older_are = refl; date_is = day.date; count_is = day.count; words_are = refl }
+
+    slot_1 : IsSlot i js older p k date n words x1
+    slot_1 = slot_front i ok.index js day.others older p k date n few words x slot 568 4 k x1 x1_same (omega arith) (front_kept x x1 x1_same ∙ agrees.kept)
+
+    abbrev cs : List ℕ
+    cs = closing_words (k % 1440 + 1) j.driver j.codriver
+
+    cs_later : Each (λ w. k % 1440 < word_minute w) cs
+    cs_later = closing_later k m j.driver j.codriver dn cn older date words day.earlier date_day day.low day.driver day.codriver short short' (86400 * (m / 1440)) its_day later (k % 1440) (omega arith)
+
+    abbrev last_day : UnitDay
+    last_day = record { date = date; words = words ++ cs }
+
+    x_days : recorded x ≡ days_shown k (older ++ record { date = date; words = words } ∷ [])
+    x_days = recorded_is x k agrees.kept ∙ ap (days_shown k) (slot_days i ok.index js day.others older p k date n few words x slot)
+
+    -- from what stands in its slot
+    of_slot : (n' : ℕ) (x2 : List ℕ) → n' ≤ 2880 → IsSlot i js older p k date n' (words ++ cs) x2 → SameBesides x x2 → odometer_at x2 ≡ odometer → (IsGood x → IsGood x2) → Result x2
+    of_slot n' x2 few' slot_2 besides_2 odometer_is good =
+        let known : pointer day_ring x2 < 366 = omega (arith, slot_2.pointer_is, agrees.pointer) in
+        let days : unit_days x2 ≡ older ++ last_day ∷ [] = slot_days i ok.index js day.others older p k date n' few' (words ++ cs) x2 slot_2 in (
+          known,
+          record {
+            odometer_is = odometer_is;
+            sized = slot_2.sized;
+            kept = slot_2.kept;
+            kept_was = agrees.kept;
+            besides = besides_2;
+            recorded_are = ap (days_shown k) days ∙ words_later k older date words cs date_day cs_later ∙ sym x_days;
+            all_now = subst (Each (λ d. day_of d ≤ k / 1440)) (sym days) (each_push (λ d. day_of d ≤ k / 1440) older last_day (each_not_later (k / 1440) older day.earlier) (omega (arith, date_day)));
+            commit =
+                ap (λ (l : List UnitDay). days_shown m (l ++ begun ∷ [])) days
+                ∙ next_day k m j.driver j.codriver dn cn older date words day.earlier date_day day.low day.driver day.codriver short short' (86400 * (m / 1440)) its_day later
+                ∙ sym (ap (λ (l : List Day). filled l it) x_days);
+            ready = ready_behind x2 known i day.dense.0 ok.index day.dense.1 (slot_2.order_is ∙ ap (λ (l : List ℕ). l ++ i ∷ []) day.dense.2) slot_2.next_is;
+            days = omega (arith, ap length days, length-append older (last_day ∷ []), length-map js (day_at x), day.days);
+            good = good;
+            today = inr (i, ok.index, (λ same. other_next i ok.index (same ∙ slot_2.next_is)), index_there x2 js i slot_2.order_is, omega (arith, slot_2.date_is, slot_2.kept));
+          },
+        )
+
+    -- at 23:59 nothing is written
+    at_end : k % 1440 + 1 ≡ 1440 → Result x1
+    at_end is =
+        let test : (k % 1440 + 1 == 1440) ≡ true = grind (arith, nat_tests, is) in
+        let no_words : words ++ cs ≡ words = ap (λ (b : Bool). words ++ cond b [] (changes (k % 1440 + 1) j.driver j.codriver bare bare)) test ∙ append-nil words in
+        of_slot n x1 few (subst (λ (l : List ℕ). IsSlot i js older p k date n l x1) (sym no_words) slot_1) besides_1 x1_odometer good_1
+
+    module _ (open_one : k % 1440 < 1439) where
+      abbrev ws : List ℕ
+      ws = changes (k % 1440 + 1) j.driver j.codriver bare bare
+
+      is_open : (k % 1440 + 1 == 1440) ≡ false
+      is_open = grind (arith, nat_tests)
+
+      ws_few : length ws ≤ 2
+      ws_few = changes_few (k % 1440 + 1) j.driver j.codriver bare bare
+
+      fits : n + length ws ≤ 2880
+      fits = omega (arith, ok.count, ws_few, open_one)
+
+      abbrev y : List ℕ
+      y = written (free_place i n) ws x1
+
+      abbrev x2 : List ℕ
+      x2 = with_words i n ws x1
+
+      behind : DiffersBehind i n x1 y
+      behind = behind_written i n ws x1 ok.index fits x1_sized
+
+      count_same : SameOutside (slot_place i + 8) 2 y x2
+      count_same = put_outside (slot_place i + 8) (to_be_bytes w16 (n + length ws)) y (omega (arith, ok.index, behind.same_length, x1_sized))
+
+      besides_y : SameBesides x y
+      besides_y = besides_then x x1 y besides_1 (besides_days (free_place i n) (5760 - 2 * n) x1 y (omega arith) (omega (arith, ok.index, few)) behind)
+
+      besides_2 : SameBesides x x2
+      besides_2 = besides_then x y x2 besides_y (besides_days (slot_place i + 8) 2 y x2 (omega arith) (omega (arith, ok.index)) count_same)
+
+      slot_2 : IsSlot i js older p k date (n + length ws) (words ++ ws) x2
+      slot_2 = slot_counted i ok.index js day.others older p k date n few words x1 slot_1 ws (changes_short (k % 1440 + 1) j.driver j.codriver bare bare (omega (arith, open_one)) (omega arith) (omega arith)) fits
+
+      odometer_2 : odometer_at x2 ≡ odometer
+      unfolding odometer_at
+      odometer_2 = number_before (slot_place i + 8) 2 568 4 y x2 count_same (omega arith) ∙ number_before (free_place i n) (5760 - 2 * n) 568 4 x1 y behind (omega arith) ∙ number_put4 568 odometer x (omega (arith, sized)) (omega (arith, far))
+
+      good_y : IsGood x → IsGood y
+      good_y good = behind_good x1 y i n ok.index few behind slot_1.count_is (good_1 good)
+
+      good_2 : IsGood x → IsGood x2
+      good_2 good =
+          let last = last_checks x js i ok.index day.order_is good in
+          let place : ℕ = slot_place i + 16 in
+          let two : 2 ≤ n = omega (arith, last.low, day.count) in
+          let checks : list_all passes (word_checks place [] words) ≡ true = ap (λ (a : ℕ). list_all passes (word_checks place [] (slot_words x i a))) (sym day.count) ∙ last.words in
+          let length_is : length words ≡ n = length-map-range_with_len (λ a. number_at x (place + 2 * a) 2) 0 n in
+          counted_good y x2 i ok.index count_same (n + length ws) slot_2.count_is (omega (arith, two)) fits
+          (ap (λ (l : List ℕ). list_all passes (word_checks place [] l)) slot_2.words_are
+          ∙ (changes_good place (k % 1440 + 1) j.driver j.codriver bare bare words (omega (arith, open_one)) (omega arith) (omega arith) (good_low place (k % 1440) (k % 1440 + 1) words checks (omega (arith, two, length_is)) day.low (omega arith))).checks) (good_y good)
+
+      pub in_day : Result x2
+      in_day = of_slot (n + length ws) x2 fits (subst (λ (b : Bool). IsSlot i js older p k date (n + length ws) (words ++ cond b [] ws) x2) (sym is_open) slot_2) besides_2 odometer_2 good_2
+
+      same_recorded : (c : List ℕ) → IsSlot i js older p k date n words c → recorded c ≡ recorded x
+      same_recorded c at = recorded_is c k at.kept ∙ ap (days_shown k) (slot_days i ok.index js day.others older p k date n few words c at) ∙ sym x_days
+
+      has_1 : HasOdometer odometer x x1
+      has_1 = front_odometer odometer x sized far
+
+      has_y : HasOdometer odometer x y
+      has_y = front_then odometer (free_place i n) (5760 - 2 * n) x x1 y has_1 (omega arith) behind
+
+      has_2 : HasOdometer odometer x x2
+      has_2 = front_then odometer (slot_place i + 8) 2 x y x2 has_y (omega arith) count_same
+
+      pub closing_there : (c : List ℕ) → DiffersBehind i n x1 c ⊎ IsPartlyWritten (slot_place i + 8) (to_be_bytes w16 (n + length ws)) y c → IsKeeping it odometer x c
+      closing_there c (inl writing) = record {
+        front = front_of m odometer x c (front_then odometer (free_place i n) (5760 - 2 * n) x x1 c has_1 (omega arith) writing);
+        outside = besides_then x x1 c besides_1 (besides_days (free_place i n) (5760 - 2 * n) x1 c (omega arith) (omega (arith, ok.index, few)) writing);
+        minutes = inl (same_recorded c (slot_behind i ok.index js day.others older p k date n few words x1 slot_1 c writing));
+        decodes = still x c (λ good. behind_good x1 c i n ok.index few writing slot_1.count_is (good_1 good));
+      }
+      closing_there c (inr counting) = ⊎_elim
+          (λ absent. subst (IsKeeping it odometer x) (sym absent) (record { front = front_of m odometer x y has_y; outside = besides_y; minutes = inl (same_recorded y (slot_behind i ok.index js day.others older p k date n few words x1 slot_1 y behind)); decodes = still x y good_y }))
+          (λ whole. subst (IsKeeping it odometer x) (sym whole) (record { front = front_of m odometer x x2 has_2; outside = besides_2; minutes = inl (recorded_is x2 k slot_2.kept ∙ in_day.1.recorded_are); decodes = still x x2 good_2 }))
+          (counting.whole (lit≤ tt))
+
+  pub closing_moment : (c : List ℕ) → IsClosing j x1 c → IsKeeping it odometer x c
+  closing_moment c here = closing_there here.0 here.1 c here.2
+
+  -- in each case
+  pub is_closed : Result (closed j x1)
+  is_closed = by (k == 0) refl (k % 1440 + 1 == 1440) refl
+    where
+      by : (a : Bool) → (k == 0) ≡ a → (b : Bool) → (k % 1440 + 1 == 1440) ≡ b → Result (cond a x1 (cond b x1 (with_words j.index j.count (changes (k % 1440 + 1) j.driver j.codriver bare bare) x1)))
+      by true none b is = first_day (grind (arith, nat_tests, none))
+      by false some true is = let more : k ≢ 0 = grind (arith, nat_tests, some) in at_end (omega (arith, more)) (grind (arith, nat_tests, is))
+      by false some false is = let more : k ≢ 0 = grind (arith, nat_tests, some) in let isnt : k % 1440 + 1 ≢ 1440 = grind (arith, nat_tests, is) in in_day (omega (arith, more)) (omega (arith, isnt))

@@ -1,0 +1,312 @@
+-- The moments of a `keep` on the day of the last-kept minute, and what it leaves.
+use Rattle.std.proofs.Common.{None, ◌≡◌, ◌≢◌, inl, inr, ⊎_elim, ℕ, ◌+◌, ◌-◌, ◌*◌, ◌/◌, ◌%◌, ◌<◌, ◌≤◌, Bool, true, false, cond, List, [], ◌∷◌, ◌++◌, length, map, refl, sym, ◌∙◌, ap, subst, arith, length-append, lit≤}
+use Rattle.std.specs.Prelude.{◌==◌}
+use Rattle.std.specs.Int.{to_be_bytes, w16, w32}
+use Rattle.std.proofs.lemmas.Bool.Decides.{nat_tests}
+use Rattle.tach_media.specs.Medium.{SameOutside}
+use Rattle.tach_media.specs.LogLaws.{put_outside}
+use Rattle.gated_ring.specs.Ring.{number_at, pointer}
+use Rattle.unit_model.specs.Days.{word_minute, word_of, bare, state_at, UnitMinute, Day, UnitDay, day_of, days_shown, filled, newest_of, Each, minute_by}
+use Rattle.unit_journal.specs.Changes.{change, changes, new_words}
+use Rattle.unit_model.specs.Image.{day_ring, slot_place, last_kept, odometer_at, recorded, indices, slot_words}
+use Rattle.unit_journal.proofs.Checks.{passes, IsGood, still}
+use Rattle.unit_journal.proofs.StillDecodes.{counted_good}
+use Rattle.unit_journal.proofs.WordsGood.{new_good}
+use Rattle.unit_journal.proofs.KeptDecodes.{behind_good, day_good, last_day, put_odometer_good, odometer_decodes}
+use Rattle.std.specs.List.{list_all}
+use Rattle.std.proofs.lemmas.List.FromFn.{length-map-range_with_len}
+use Rattle.unit_model.specs.Decoding.{Decodes, word_checks}
+use Rattle.unit_journal.specs.Image.{Notes, IsNotes, IsNewestDay, Agrees, written, free_place, DiffersBehind, SameBesides, IsFront, IsKeeping, with_odometer, with_kept, with_words, IsGoing}
+use Rattle.unit_journal.proofs.States.{each_append, new_minutes, new_driver, new_codriver}
+use Rattle.unit_journal.proofs.Growth.{words_later}
+use Rattle.unit_journal.proofs.Commits.{state_on, same_day}
+use Rattle.unit_journal.proofs.Numbers.{number_before, number_after, number_put4, AreShort, written_outside}
+use Rattle.unit_journal.proofs.Slots.{day_at, IsSlot, slot_days, slot_behind, slot_front, slot_counted}
+use Rattle.unit_journal.proofs.Besides.{HasOdometer, front_odometer, front_then, front_of, front_at, besides_then, besides_front, besides_days, few_days, all_newest}
+
+-- how many words a minute brings
+pub change_few : (s t d e : ℕ) → length (change s t d e) ≤ 1
+change_few s t d e = by (d == e)
+  where
+    by : (b : Bool) → length (cond b [] (word_of s e t ∷ [])) ≤ 1
+    by true = lit≤ tt
+    by false = lit≤ tt
+
+pub changes_few : (t d c d' c' : ℕ) → length (changes t d c d' c') ≤ 2
+changes_few t d c d' c' = omega (arith, length-append (change 0 t d d') (change 1 t c c'), change_few 0 t d d', change_few 1 t c c')
+
+pub new_few : (n next t d c d' c' : ℕ) → n ≤ 2 * next → next ≤ t → n + length (new_words next t d c d' c') ≤ 2 * (t + 1)
+new_few n next t d c d' c' few le = by (next == t) refl
+  where
+    by : (b : Bool) → (next == t) ≡ b → n + length (cond b (changes t d c d' c') (changes next d c bare bare ++ changes t bare bare d' c')) ≤ 2 * (t + 1)
+    by true is = omega (arith, changes_few t d c d' c', few, le)
+    by false is =
+        let isnt : next ≢ t = grind (arith, nat_tests, is) in
+        omega (arith, length-append (changes next d c bare bare) (changes t bare bare d' c'), changes_few next d c bare bare, changes_few t bare bare d' c', few, le, isnt)
+
+short_append : (a b : List ℕ) → AreShort a → AreShort b → AreShort (a ++ b)
+short_append [] b left right = right
+short_append (w ∷ a) b left right = (left.0, short_append a b left.1 right)
+
+change_short : (s t d e : ℕ) → s < 2 → t < 1440 → e < 16 → AreShort (change s t d e)
+change_short s t d e s1 s2 s3 = by (d == e)
+  where
+    by : (b : Bool) → AreShort (cond b [] (word_of s e t ∷ []))
+    by true = tt
+    by false = (omega arith, tt)
+
+pub changes_short : (t d c d' c' : ℕ) → t < 1440 → d' < 16 → c' < 16 → AreShort (changes t d c d' c')
+changes_short t d c d' c' low s1 s2 = short_append (change 0 t d d') (change 1 t c c') (change_short 0 t d d' (omega arith) low s1) (change_short 1 t c c' (omega arith) low s2)
+
+pub new_short : (next t d c d' c' : ℕ) → next < 1440 → t < 1440 → d' < 16 → c' < 16 → AreShort (new_words next t d c d' c')
+new_short next t d c d' c' low low' s1 s2 = by (next == t)
+  where
+    by : (b : Bool) → AreShort (cond b (changes t d c d' c') (changes next d c bare bare ++ changes t bare bare d' c'))
+    by true = changes_short t d c d' c' low' s1 s2
+    by false = short_append (changes next d c bare bare) (changes t bare bare d' c') (changes_short next d c bare bare low (omega arith) (omega arith)) (changes_short t bare bare d' c' low' s1 s2)
+
+each_weaker : (t u : ℕ) → t ≤ u → (ws : List ℕ) → Each (λ w. word_minute w ≤ t) ws → Each (λ w. word_minute w ≤ u) ws
+each_weaker t u le [] all = tt
+each_weaker t u le (w ∷ ws) all = (omega (arith, all.0), each_weaker t u le ws all.1)
+
+pub each_earlier : (d d' : ℕ) → d ≤ d' → (days : List UnitDay) → Each (λ x. day_of x < d) days → Each (λ x. day_of x < d') days
+each_earlier d d' le [] all = tt
+each_earlier d d' le (x ∷ xs) all = (omega (arith, all.0), each_earlier d d' le xs all.1)
+
+pub recorded_is : (x : List ℕ) (k : ℕ) → last_kept x ≡ k → recorded x ≡ days_shown k (Rattle.unit_model.specs.Image.unit_days x)
+unfolding recorded
+recorded_is x k is = ap (λ (m : ℕ). days_shown m (Rattle.unit_model.specs.Image.unit_days x)) is
+
+module _ (j : Notes) (ok : IsNotes j) (x : List ℕ) (sized : length x ≡ 2485808) (agrees : Agrees j x) (some : 0 < j.kept)
+    (m dn cn odometer : ℕ) (small : m ≤ 71582788) (short : dn < 16) (short' : cn < 16) (far : odometer ≤ 9999999) (same : m / 1440 ≡ j.kept / 1440) (later : j.kept < m) where
+  abbrev k : ℕ
+  k = j.kept
+
+  abbrev i : ℕ
+  i = j.index
+
+  abbrev n : ℕ
+  n = j.count
+
+  abbrev js : List ℕ
+  js = (agrees.newest some).0
+
+  day : IsNewestDay j x js
+  day = (agrees.newest some).1
+
+  abbrev date : ℕ
+  date = 86400 * (k / 1440)
+
+  abbrev older : List UnitDay
+  older = map (day_at x) js
+
+  abbrev words : List ℕ
+  words = slot_words x i n
+
+  abbrev p : ℕ
+  p = pointer day_ring x
+
+  abbrev ws : List ℕ
+  ws = new_words (k % 1440 + 1) (m % 1440) j.driver j.codriver dn cn
+
+  abbrev it : UnitMinute
+  it = minute_by m dn cn
+
+  next_le : k % 1440 + 1 ≤ m % 1440
+  next_le = omega arith
+
+  few : n ≤ 2880
+  few = omega (arith, ok.count)
+
+  fits : n + length ws ≤ 2 * (m % 1440 + 1)
+  fits = new_few n (k % 1440 + 1) (m % 1440) j.driver j.codriver dn cn ok.count next_le
+
+  ws_short : AreShort ws
+  ws_short = new_short (k % 1440 + 1) (m % 1440) j.driver j.codriver dn cn (omega (arith, next_le)) (omega arith) short short'
+
+  date_day : date / 86400 ≡ k / 1440
+  date_day = omega arith
+
+  abbrev Slot : (last count : ℕ) → List ℕ → List ℕ → Type 0
+  Slot last count all c = IsSlot i js older p last date count all c
+
+  slot : Slot k n words x
+  slot = record { sized = sized; pointer_is = refl; kept = agrees.kept; order_is = day.order_is; next_is = day.next_is; older_are = refl; date_is = day.date; count_is = day.count; words_are = refl }
+
+  abbrev x1 : List ℕ
+  x1 = with_odometer odometer x
+
+  abbrev x2 : List ℕ
+  x2 = written (free_place i n) ws x1
+
+  abbrev x3 : List ℕ
+  x3 = with_words i n ws x1
+
+  abbrev y : List ℕ
+  y = with_kept m x3
+
+  x1_same : SameOutside 568 4 x x1
+  x1_same = put_outside 568 (to_be_bytes w32 odometer) x (omega (arith, sized))
+
+  front_slot : (c : List ℕ) → SameOutside 568 4 x c → Slot k n words c
+  unfolding last_kept
+  front_slot c same_c = slot_front i ok.index js day.others older p k date n few words x slot 568 4 k c same_c (omega arith) (number_before 568 4 564 4 x c same_c (omega arith) ∙ agrees.kept)
+
+  slot_1 : Slot k n words x1
+  slot_1 = front_slot x1 x1_same
+
+  slot_3 : Slot k (n + length ws) (words ++ ws) x3
+  slot_3 = slot_counted i ok.index js day.others older p k date n few words x1 slot_1 ws ws_short (omega (arith, fits))
+
+  fits' : n + length ws ≤ 2880
+  fits' = omega (arith, fits)
+
+  y_same : SameOutside 564 4 x3 y
+  y_same = put_outside 564 (to_be_bytes w32 m) x3 (omega (arith, slot_3.sized))
+
+  slot_y : Slot m (n + length ws) (words ++ ws) y
+  unfolding last_kept
+  slot_y = slot_front i ok.index js day.others older p k date (n + length ws) fits' (words ++ ws) x3 slot_3 564 4 m y y_same (omega arith) (number_put4 564 m x3 (omega (arith, slot_3.sized)) (omega (arith, small)))
+
+  x_recorded : recorded x ≡ days_shown k (older ++ record { date = date; words = words } ∷ [])
+  x_recorded = recorded_is x k agrees.kept ∙ ap (days_shown k) (slot_days i ok.index js day.others older p k date n few words x slot)
+
+  same_recorded : (c : List ℕ) → Slot k n words c → recorded c ≡ recorded x
+  same_recorded c at = recorded_is c k at.kept ∙ ap (days_shown k) (slot_days i ok.index js day.others older p k date n few words c at) ∙ sym x_recorded
+
+  recorded_3 : recorded x3 ≡ recorded x
+  recorded_3 =
+      recorded_is x3 k slot_3.kept ∙ ap (days_shown k) (slot_days i ok.index js day.others older p k date (n + length ws) fits' (words ++ ws) x3 slot_3)
+      ∙ words_later k older date words ws date_day (new_minutes (k % 1440 + 1) (m % 1440) j.driver j.codriver dn cn next_le (omega arith) short short' (λ u. k % 1440 < u) (omega arith) (omega (arith, next_le)))
+      ∙ sym x_recorded
+
+  recorded_y : recorded y ≡ newest_of 366 (filled (recorded x) it)
+  recorded_y =
+      let is : recorded y ≡ filled (recorded x) it =
+      recorded_is y m slot_y.kept ∙ ap (days_shown m) (slot_days i ok.index js day.others older p m date (n + length ws) fits' (words ++ ws) y slot_y)
+      ∙ same_day k m j.driver j.codriver dn cn older date words day.earlier date_day day.low day.driver day.codriver short short' same later
+      ∙ sym (ap (λ (l : List Day). filled l it) x_recorded) in
+      let count : length (filled (recorded x) it) ≤ 366 = omega (arith, ap length is, few_days y (omega (arith, slot_y.pointer_is, agrees.pointer))) in
+      is ∙ sym (all_newest 366 (filled (recorded x) it) count)
+
+  behind : DiffersBehind i n x1 x2
+  behind = written_outside (free_place i n) (5760 - 2 * n) ws x1 (omega (arith, fits')) (omega (arith, ok.index, few, slot_1.sized))
+
+  besides_1 : SameBesides x x1
+  besides_1 = besides_front 568 4 x x1 (omega arith) (omega arith) x1_same
+
+  besides_2 : SameBesides x x2
+  besides_2 = besides_then x x1 x2 besides_1 (besides_days (free_place i n) (5760 - 2 * n) x1 x2 (omega arith) (omega (arith, ok.index, few)) behind)
+
+  count_same : SameOutside (slot_place i + 8) 2 x2 x3
+  count_same = put_outside (slot_place i + 8) (to_be_bytes w16 (n + length ws)) x2 (omega (arith, ok.index, behind.same_length, slot_1.sized))
+
+  besides_3 : SameBesides x x3
+  besides_3 = besides_then x x2 x3 besides_2 (besides_days (slot_place i + 8) 2 x2 x3 (omega arith) (omega (arith, ok.index)) count_same)
+
+  pub besides_y : SameBesides x y
+  besides_y = besides_then x x3 y besides_3 (besides_front 564 4 x3 y (omega arith) (omega arith) y_same)
+
+  pub kept_minutes : recorded y ≡ newest_of 366 (filled (recorded x) it)
+  kept_minutes = recorded_y
+
+  slot_2 : Slot k n words x2
+  slot_2 = slot_behind i ok.index js day.others older p k date n few words x1 slot_1 x2 behind
+
+  has_1 : HasOdometer odometer x x1
+  has_1 = front_odometer odometer x sized far
+
+  has_2 : HasOdometer odometer x x2
+  has_2 = front_then odometer (free_place i n) (5760 - 2 * n) x x1 x2 has_1 (omega arith) behind
+
+  has_3 : HasOdometer odometer x x3
+  has_3 = front_then odometer (slot_place i + 8) 2 x x2 x3 has_2 (omega arith) count_same
+
+  odometer_y : odometer_at y ≡ odometer
+  unfolding odometer_at
+  odometer_y = number_after 564 4 568 4 x3 y y_same (omega arith) ∙ has_3.odometer_is
+
+  good_1 : IsGood x → IsGood x1
+  good_1 = put_odometer_good odometer x sized far
+
+  good_2 : IsGood x → IsGood x2
+  good_2 good = behind_good x1 x2 i n ok.index few behind slot_1.count_is (good_1 good)
+
+  good_3 : IsGood x → IsGood x3
+  good_3 good =
+      let last = last_day x js i ok.index day.order_is good in
+      let place : ℕ = slot_place i + 16 in
+      let two : 2 ≤ n = omega (arith, last.low, day.count) in
+      let checks : list_all passes (word_checks place [] words) ≡ true = ap (λ (a : ℕ). list_all passes (word_checks place [] (slot_words x i a))) (sym day.count) ∙ last.words in
+      let length_is : length words ≡ n = length-map-range_with_len (λ a. number_at x (place + 2 * a) 2) 0 n in
+      counted_good x2 x3 i ok.index count_same (n + length ws) slot_3.count_is (omega (arith, two)) fits'
+      (ap (λ (l : List ℕ). list_all passes (word_checks place [] l)) slot_3.words_are
+      ∙ new_good place (k % 1440) (k % 1440 + 1) (m % 1440) j.driver j.codriver dn cn words (omega arith) next_le (omega arith) short short' checks (omega (arith, two, length_is)) day.low) (good_2 good)
+
+  pub good_y : IsGood x → IsGood y
+  good_y good = day_good x3 y y_same (omega (arith, slot_3.kept, some)) (omega (arith, slot_3.kept, slot_y.kept, later)) (ap (λ (a : ℕ). a / 1440) slot_y.kept ∙ same ∙ sym (ap (λ (a : ℕ). a / 1440) slot_3.kept)) (omega (arith, slot_y.kept, small)) (good_3 good)
+
+  pub kept_decodes : Decodes x → Decodes y
+  kept_decodes = still x y good_y
+
+  abbrev Moment : List ℕ → Type 0
+  Moment c = IsKeeping it odometer x c
+
+  at_2 : Moment x2
+  at_2 = record { front = front_of m odometer x x2 has_2; outside = besides_2; minutes = inl (same_recorded x2 slot_2); decodes = still x x2 good_2 }
+
+  at_3 : Moment x3
+  at_3 = record { front = front_of m odometer x x3 has_3; outside = besides_3; minutes = inl recorded_3; decodes = still x x3 good_3 }
+
+  at_y : Moment y
+  at_y = record { front = front_at m odometer x y slot_y.kept odometer_y; outside = besides_y; minutes = inr (inr recorded_y); decodes = kept_decodes }
+
+  pub moments : (c : List ℕ) → IsGoing i n odometer m ws x c → Moment c
+  moments c (inl first) = record {
+    front = ⊎_elim
+        (λ absent. inl (ap odometer_at absent, ap last_kept absent))
+        (λ whole. subst (IsFront m odometer x) (sym whole) (front_of m odometer x x1 has_1))
+        (first.whole (lit≤ tt));
+    outside = besides_front 568 4 x c (omega arith) (omega arith) first.outside;
+    minutes = inl (same_recorded c (front_slot c first.outside));
+    decodes = odometer_decodes odometer x c sized far first;
+  }
+  moments c (inr (inl writing)) = record {
+    front = front_of m odometer x c (front_then odometer (free_place i n) (5760 - 2 * n) x x1 c has_1 (omega arith) writing);
+    outside = besides_then x x1 c besides_1 (besides_days (free_place i n) (5760 - 2 * n) x1 c (omega arith) (omega (arith, ok.index, few)) writing);
+    minutes = inl (same_recorded c (slot_behind i ok.index js day.others older p k date n few words x1 slot_1 c writing));
+    decodes = still x c (λ good. behind_good x1 c i n ok.index few writing slot_1.count_is (good_1 good));
+  }
+  moments c (inr (inr (inl counting))) = ⊎_elim (λ absent. subst Moment (sym absent) at_2) (λ whole. subst Moment (sym whole) at_3) (counting.whole (lit≤ tt))
+  moments c (inr (inr (inr keeping))) = ⊎_elim (λ absent. subst Moment (sym absent) at_3) (λ whole. subst Moment (sym whole) at_y) (keeping.whole (lit≤ tt))
+
+  abbrev j' : Notes
+  j' = record { kept = m; odometer = odometer; index = i; count = n + length ws; driver = dn; codriver = cn; stray = None; stored = n + length ws; day_count = j.day_count }
+
+  pub new_notes : IsNotes j'
+  new_notes = record { kept = small; odometer = far; index = ok.index; count = fits; driver = short; codriver = short'; stray = λ s is. absurd (cc); day_count = ok.day_count; no_day = λ none. absurd (omega (arith, none, later)) }
+
+  pub new_agrees : Agrees j' y
+  unfolding odometer_at
+  new_agrees = record {
+    kept = slot_y.kept;
+    odometer = odometer_y;
+    pointer = omega (arith, slot_y.pointer_is, agrees.pointer);
+    none = λ zero_kept. absurd (omega arith);
+    newest = λ any. (
+      js,
+      record {
+        order_is = slot_y.order_is;
+        next_is = slot_y.next_is;
+        dense = day.dense;
+        others = day.others;
+        days = day.days;
+        earlier = subst (Each (λ d. day_of d < m / 1440)) (sym slot_y.older_are) (each_earlier (k / 1440) (m / 1440) (omega arith) older day.earlier);
+        date = slot_y.date_is ∙ ap (λ (d : ℕ). 86400 * d) (sym same);
+        count = slot_y.count_is;
+        low = subst (Each (λ w. word_minute w ≤ m % 1440)) (sym slot_y.words_are) (each_append (λ w. word_minute w ≤ m % 1440) words ws (each_weaker (k % 1440) (m % 1440) (omega (arith, next_le)) words day.low) (new_minutes (k % 1440 + 1) (m % 1440) j.driver j.codriver dn cn next_le (omega arith) short short' (λ u. u ≤ m % 1440) next_le (omega arith)));
+        driver = ap (state_at 0 (m % 1440)) slot_y.words_are ∙ state_on 0 (k % 1440) j.driver (m % 1440) words ws day.low day.driver (omega (arith, next_le)) ∙ new_driver (k % 1440 + 1) (m % 1440) j.driver j.codriver dn cn next_le (omega arith) short short';
+        codriver = ap (state_at 1 (m % 1440)) slot_y.words_are ∙ state_on 1 (k % 1440) j.codriver (m % 1440) words ws day.low day.codriver (omega (arith, next_le)) ∙ new_codriver (k % 1440 + 1) (m % 1440) j.driver j.codriver dn cn next_le (omega arith) short short';
+      },
+    );
+  }

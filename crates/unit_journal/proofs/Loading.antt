@@ -1,0 +1,194 @@
+-- What `load` reads of an image that decodes.
+use Rattle.std.proofs.Common.{◌≡◌, ◌≢◌, ℕ, zero, suc, ◌+◌, ◌-◌, ◌*◌, ◌/◌, ◌%◌, ◌<◌, ◌≤◌, min, Bool, true, false, not, cond, List, [], ◌∷◌, ◌++◌, length, length-append, Option, Some, None, is_some, Result, Ok, Err, refl, sym, ◌∙◌, ap, subst, arith}
+use Rattle.std.specs.Prelude.{◌==◌, ◌&&◌, ◌||◌, nat_le, nat_lt, MatchOption, unwrap_or, IsTrue}
+use Rattle.std.specs.List.{range_with_len, list_all}
+use Rattle.std.proofs.lemmas.Bool.Decides.{nat_tests}
+use Rattle.gated_ring.specs.Ring.{pointer, is_there, entry_at}
+use Rattle.unit_model.specs.Days.{day_of, state_at, word_minute, Each}
+use Rattle.unit_model.specs.Image.{last_kept, odometer_at, day_ring, slot_place, unit_day, indices, slot_date, slot_count, slot_words, words_at}
+use Rattle.unit_model.specs.Decoding.{Check, checks, Decodes, first_failing, word_checks, first_bad_place, has_day, slot_day, is_date_good}
+use Rattle.unit_memory.specs.Scans.{start, scan_from}
+use Rattle.unit_memory.specs.Walks.{walk_start, next_walk, walk_from}
+use Rattle.unit_memory.specs.Judging.{failed_of, turn_at, walk_round}
+use Rattle.unit_memory.specs.declared.walk.Walk.{Walk}
+use Rattle.unit_memory.specs.declared.words.Scan.{Scan}
+use Rattle.unit_memory.proofs.Decoded.{IsDecoded, decoded}
+use Rattle.unit_memory.proofs.WalkLaws.{there_is, is_day}
+use Rattle.unit_memory.proofs.WordLaws.{all_words_fail}
+use Rattle.unit_memory.proofs.JudgeLaws.{has_today}
+use Rattle.unit_journal.specs.Image.{Notes, IsFoundBy, IsFound, IsStray, stray_of, stray_list, free_place, IsToday}
+use Rattle.unit_journal.specs.Today.{today_of, but_stray, recorded_days}
+use Rattle.unit_journal.proofs.Finding.{eq_of, placed, first_indices, apart}
+use Rattle.unit_journal.proofs.Scanning.{scanned_day}
+
+-- the index that a walk found is that of the day
+abbrev pub IsOfDay : (day : ℕ) → List ℕ → Option ℕ → Type 0
+IsOfDay day x o = MatchOption o (Unit {0}) (λ i. (i < 366) × (is_day day x i ≡ true))
+
+walk_of_day : (day : ℕ) (x : List ℕ) (s : Walk) (is : List ℕ) → Each (λ i. i < 366) is → IsOfDay day x s.today → IsOfDay day x (walk_from day x s is).today
+walk_of_day day x s [] below was = was
+walk_of_day day x s (i ∷ is) below was = walk_of_day day x (next_walk day s i (slot_date x i)) is below.1 (step (slot_date x i == 0) refl)
+  where
+    here : (slot_date x i == 0) ≡ false → (b : Bool) → (slot_date x i / 86400 == day) ≡ b → IsOfDay day x (cond b (Some i) s.today)
+    here some true is_today = (below.0, (λ t. (there_is x i ∙ ap not some) t && is_today t))
+    here some false other = was
+
+    step : (b : Bool) → (slot_date x i == 0) ≡ b → IsOfDay day x (cond {A = Walk} b (record { latest = s.latest; last_index = s.last_index; last_date = s.last_date; today = s.today; density = Rattle.unit_memory.specs.Walks.after_gap s.density })
+        (record { latest = Rattle.std.proofs.Common.max s.latest (slot_date x i); last_index = i; last_date = slot_date x i; today = cond (slot_date x i / 86400 == day) (Some i) s.today; density = Rattle.unit_memory.specs.Walks.after_day s.density })).today
+    step true none = was
+    step false some = here some (slot_date x i / 86400 == day) refl
+
+range_below : (a n : ℕ) → a + n ≤ 366 → Each (λ i. i < 366) (range_with_len a n)
+range_below a zero le = tt
+range_below a (suc n) le = (omega (arith, le), range_below (a + 1) n (omega (arith, le)))
+
+round_of_day : (day q : ℕ) (x : List ℕ) → q ≤ 366 → IsOfDay day x (walk_round day q x).today
+round_of_day day q x le = walk_of_day day x (walk_from day x walk_start (range_with_len q (366 - q))) (range_with_len 0 q) (range_below 0 q (omega (arith, le)))
+    (walk_of_day day x walk_start (range_with_len q (366 - q)) (range_below q (366 - q) (omega (arith, le))) tt)
+
+turn_low : (p : ℕ) → turn_at p ≤ 366
+turn_low p = by (Rattle.std.specs.Prelude.nat_lt p 366) refl
+  where
+    by : (b : Bool) → Rattle.std.specs.Prelude.nat_lt p 366 ≡ b → cond b (p + 1) 366 ≤ 366
+    by true is = let less : p < 366 = grind (arith, nat_tests, is) in omega (arith, less)
+    by false is = omega arith
+
+both_true : (a b : Bool) → (a && b) ≡ true → (a ≡ true) × (b ≡ true)
+both_true true b is = (refl, is)
+both_true false b is = absurd (cc)
+
+mult_of : (kept : ℕ) (before : List ℕ) (d : ℕ) → is_date_good kept before d ≡ true → d % 86400 ≡ 0
+mult_of kept before d is =
+    eq_of (d % 86400) 0 (both_true (d % 86400 == 0) (list_all (λ e. nat_lt e d) before && (nat_le (d / 86400) (kept / 1440) || list_all (λ e. nat_le (e / 86400) (kept / 1440)) before)) is).0
+
+-- what a scan of the day says
+pub scan_today : (kept i n : ℕ) (r : Result Scan ℕ) (x : List ℕ) → n ≡ min (slot_count x i) 2880 → slot_count x i ≤ 2880
+    → first_failing (word_checks (slot_place i + 16) [] (slot_words x i (slot_count x i))) ≡ None
+    → r ≡ scan_from (kept % 1440) (slot_place i + 16) 0 start (slot_words x i n)
+    → IsToday kept i (today_of (kept % 1440) n r).stored (today_of (kept % 1440) n r).count (today_of (kept % 1440) n r).driver (today_of (kept % 1440) n r).codriver x
+scan_today kept i n r x stored few none scan = by r refl
+  where
+    count_is : slot_count x i ≡ n
+    count_is = omega (arith, stored, few)
+
+    no_fault : failed_of (scan_from (kept % 1440) (slot_place i + 16) 0 start (slot_words x i n)) ≡ None
+    no_fault =
+        sym (all_words_fail (kept % 1440) (slot_place i + 16) (slot_words x i n)) ∙ ap (λ (k : ℕ). first_failing (word_checks (slot_place i + 16) [] (slot_words x i k))) (sym count_is) ∙ none
+
+    low_state : (u : ℕ) (ws : List ℕ) (slot : ℕ) → state_at slot u ws < 16
+    low_state u ws slot = state_low ws 4 (omega arith)
+      where
+        state_low : (ws : List ℕ) (c : ℕ) → c < 16 → Rattle.unit_model.specs.Days.state_after slot u c ws < 16
+        state_low [] c low = low
+        state_low (w ∷ ws) c low = state_low ws (Rattle.unit_model.specs.Days.state_by slot u c w) (one (Rattle.unit_model.specs.Days.word_slot w == slot && nat_le (word_minute w) u))
+          where
+            one : (b : Bool) → cond b (Rattle.unit_model.specs.Days.word_state w) c < 16
+            one true = omega arith
+            one false = low
+
+    by : (q : Result Scan ℕ) → r ≡ q → IsToday kept i (today_of (kept % 1440) n q).stored (today_of (kept % 1440) n q).count (today_of (kept % 1440) n q).driver (today_of (kept % 1440) n q).codriver x
+    by (Err p) is = let bad : Some p ≡ None = ap failed_of (sym is ∙ scan) ∙ no_fault in absurd (cc)
+    by (Ok s) is =
+        let d = scanned_day (kept % 1440) (slot_place i + 16) i n s x (sym scan ∙ is) in
+        let c : min s.count (2 * (kept % 1440 + 1)) ≡ s.count = omega (arith, d.few) in
+        let driver_low : s.driver < 16 = subst (λ (e : ℕ). e < 16) d.driver (low_state (kept % 1440) (slot_words x i s.count) 0) in
+        let codriver_low : s.codriver < 16 = subst (λ (e : ℕ). e < 16) d.codriver (low_state (kept % 1440) (slot_words x i s.count) 1) in
+        record {
+          stored_is = count_is;
+          cut = omega (arith, d.cut, c);
+          low = subst (λ (k : ℕ). Each (λ w. word_minute w ≤ kept % 1440) (slot_words x i k)) (sym c) d.low;
+          late = subst (λ (k : ℕ). Each (λ w. kept % 1440 < word_minute w) (words_at x (free_place i k) (n - k))) (sym c) d.late;
+          driver = ap (λ (k : ℕ). state_at 0 (kept % 1440) (slot_words x i k)) c ∙ d.driver ∙ (let e : s.driver ≡ s.driver % 16 = omega (arith, driver_low) in e);
+          codriver = ap (λ (k : ℕ). state_at 1 (kept % 1440) (slot_words x i k)) c ∙ d.codriver ∙ (let e : s.codriver ≡ s.codriver % 16 = omega (arith, codriver_low) in e);
+        }
+
+not_none : (n : ℕ) → 0 < n → (n == 0) ≡ false
+not_none n some = grind (arith, nat_tests)
+
+module _ (x : List ℕ) (none : first_bad_place x ≡ None) (i stored count driver codriver there day_count : ℕ) (w : Walk)
+    (walk_is : w ≡ walk_round (last_kept x / 1440) (turn_at (pointer day_ring x)) x) (i_is : i ≡ min (unwrap_or w.today 0) 365)
+    (today : 0 < last_kept x → slot_count x i ≤ 2880 → first_failing (word_checks (slot_place i + 16) [] (slot_words x i (slot_count x i))) ≡ None → IsToday (last_kept x) i stored count driver codriver x)
+    (there_are : pointer day_ring x < 366 → there ≡ length (indices x)) (day_count_is : day_count ≡ recorded_days (last_kept x) there (stray_of (last_kept x) (pointer day_ring x) (slot_date x (pointer day_ring x)))) where
+  ok : IsDecoded x
+  ok = decoded x none
+
+  abbrev stray : Option ℕ
+  stray = stray_of (last_kept x) (pointer day_ring x) (slot_date x (pointer day_ring x))
+
+  abbrev notes : Notes
+  notes = record { kept = last_kept x; odometer = odometer_at x; index = i; count = count; driver = driver; codriver = codriver; stray = stray; stored = stored; day_count = day_count }
+
+  of_day : 0 < last_kept x → (i < 366) × (is_day (last_kept x / 1440) x i ≡ true)
+  of_day some = by w.today (subst (λ (v : Walk). IsOfDay (last_kept x / 1440) x v.today) (sym walk_is) (round_of_day (last_kept x / 1440) (turn_at (pointer day_ring x)) x (turn_low (pointer day_ring x))))
+      (ap (λ (v : Walk). is_some v.today) walk_is ∙ has_today x ∙ ok.today some) i_is
+    where
+      by : (o : Option ℕ) → IsOfDay (last_kept x / 1440) x o → is_some o ≡ true → i ≡ min (unwrap_or o 0) 365 → (i < 366) × (is_day (last_kept x / 1440) x i ≡ true)
+      by None of is same = absurd (cc)
+      by (Some j) of is same = let one : j ≡ i = omega (arith, same, of.0) in (omega (arith, of.0, one), ap (is_day (last_kept x / 1440) x) (sym one) ∙ of.1)
+
+  -- a later day as a record
+  as_stray : (o : Option ℕ) → MatchOption o (Unit {0}) (λ s. (s < 366) × (pointer day_ring x ≡ s) × (last_kept x / 1440 < day_of (unit_day (entry_at day_ring x s)))) → MatchOption o (Unit {0}) (IsStray notes x)
+  as_stray None all = tt
+  as_stray (Some s) all = record { below = all.0; at_pointer = all.1; later = all.2 }
+
+  days_of : (older : List ℕ) (s : Option ℕ) → indices x ≡ (older ++ i ∷ []) ++ stray_list s → suc (length older) ≡ but_stray there s
+  days_of older None is = omega (arith, there_are ok.known, ap length is, length-append (older ++ i ∷ []) [], length-append older (i ∷ []))
+  days_of older (Some p) is = omega (arith, there_are ok.known, ap length is, length-append (older ++ i ∷ []) (p ∷ []), length-append older (i ∷ []))
+
+  found : IsFound notes stray stored x
+  found = record {
+    kept = refl;
+    odometer = refl;
+    pointer = ok.known;
+    none = λ first. first_indices x ok first;
+    newest = λ some.
+        let of = of_day some in
+        let parts = both_true (is_there day_ring x i) (slot_day x i == last_kept x / 1440) of.1 in
+        let slot = ok.slots i of.0 parts.0 in
+        let day_is : slot_date x i / 86400 ≡ last_kept x / 1440 = eq_of (slot_date x i / 86400) (last_kept x / 1440) parts.1 in
+        let place = placed x ok i of.0 parts.0 day_is in
+        let t = today some slot.count_high slot.words in
+        let whole : slot_date x i % 86400 ≡ 0 = mult_of (last_kept x) (Rattle.std.proofs.Common.map (slot_date x) (Rattle.unit_model.specs.Decoding.indices_before x i)) (slot_date x i) slot.date in (
+          place.0,
+          record {
+            order_is = place.1.order_is;
+            next_is = place.1.next_is;
+            dense = place.1.dense;
+            others = place.1.others;
+            days = days_of place.0 stray place.1.order_is ∙ sym (day_count_is ∙ ap (λ (b : Bool). cond b 0 (but_stray there stray)) (not_none (last_kept x) some));
+            earlier = place.1.earlier;
+            date = omega (arith, day_is, whole);
+            count = t.stored_is;
+            cut = t.cut;
+            stored_few = omega (arith, slot.count_high, t.stored_is);
+            low = t.low;
+            late = t.late;
+            driver = t.driver;
+            codriver = t.codriver;
+          },
+        );
+    apart = as_stray stray (apart x ok);
+  }
+
+  -- by other names of the same numbers
+  abbrev noted : (k o : ℕ) → Option ℕ → Notes
+  noted k o s = record { kept = k; odometer = o; index = i; count = count; driver = driver; codriver = codriver; stray = s; stored = stored; day_count = day_count }
+
+  pub found_as : (k o : ℕ) (s : Option ℕ) → k ≡ last_kept x → o ≡ odometer_at x → s ≡ stray → IsFoundBy (noted k o s) x
+  found_as k o s kept_is odometer_is stray_is = subst (λ (n : Notes). IsFoundBy n x) (sym are) found
+    where
+      are : noted k o s ≡ notes
+      are = λ j. noted (kept_is j) (odometer_is j) (stray_is j)
+
+none_fails : (cs : List Check) → IsTrue (list_all (λ c. c.passes) cs) → first_failing cs ≡ None
+none_fails [] all = refl
+none_fails (c ∷ cs) all = by c.passes refl (none_fails cs)
+  where
+    by : (b : Bool) → c.passes ≡ b → (IsTrue (list_all (λ c. c.passes) cs) → first_failing cs ≡ None) → first_failing (c ∷ cs) ≡ None
+    by true is rest = ap (λ (v : Bool). cond v (first_failing cs) (Some c.place)) is ∙ rest (subst (λ (v : Bool). IsTrue (v && list_all (λ c. c.passes) cs)) is all)
+    by false is rest = let bad : false ≡ true = subst (λ (v : Bool). IsTrue (v && list_all (λ c. c.passes) cs)) is all in absurd (cc)
+
+-- where a field fails, the image doesn't decode
+pub not_decoded : (x : List ℕ) (p : ℕ) → first_bad_place x ≡ Some p → Decodes x → ⊥
+unfolding first_bad_place Decodes
+not_decoded x p bad all = let none : Some p ≡ None = sym bad ∙ none_fails (checks x) all in absurd (cc)

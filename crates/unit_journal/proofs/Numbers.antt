@@ -1,0 +1,100 @@
+-- Numbers in images that are written.
+use Rattle.std.proofs.Common.{◌≡◌, ℕ, zero, suc, ◌+◌, ◌-◌, ◌*◌, ◌<◌, ◌≤◌, List, [], ◌∷◌, ◌++◌, length, take, drop, map, replicate, refl, sym, ◌∙◌, ap, arith}
+use Rattle.std.specs.List.{range_with_len}
+use Rattle.std.specs.Int.{from_be_bytes, to_be_bytes, byte_at, w16, w32}
+use Rattle.std.proofs.lemmas.Nat.{from_be_bytes-to_be_bytes_4}
+use Rattle.std.proofs.lemmas.List.{take-take, drop-take, drop-drop, map-append}
+use Rattle.tach_media.specs.Medium.{put, bytes_at, SameOutside}
+use Rattle.tach_media.specs.LogLaws.{put_outside}
+use Rattle.tach_media.proofs.Images.{part_before, part_after, part_put, outside_same, outside_wider, outside_then}
+use Rattle.gated_ring.specs.Ring.{number_at}
+use Rattle.unit_model.specs.Image.{words_at}
+use Rattle.unit_journal.specs.Image.{written}
+use Rattle.unit_journal.proofs.Growth.{map_range_same, range_add}
+
+pub number_same : (x c : List ℕ) (a n : ℕ) → bytes_at c a n ≡ bytes_at x a n → number_at c a n ≡ number_at x a n
+number_same x c a n same = ap (λ (b : List ℕ). from_be_bytes w32 (replicate (4 - n) 0 ++ b)) same
+
+pub number_before : (p len a n : ℕ) (x c : List ℕ) → SameOutside p len x c → a + n ≤ p → number_at c a n ≡ number_at x a n
+number_before p len a n x c same le = number_same x c a n (part_before p len a n x c same le)
+
+pub number_after : (p len a n : ℕ) (x c : List ℕ) → SameOutside p len x c → p + len ≤ a → number_at c a n ≡ number_at x a n
+number_after p len a n x c same le = number_same x c a n (part_after p len a n x c same le)
+
+pub number_put4 : (p n : ℕ) (x : List ℕ) → p + 4 ≤ length x → n < 4294967296 → number_at (put p (to_be_bytes w32 n) x) p 4 ≡ n
+number_put4 p n x le small = ap (λ (b : List ℕ). from_be_bytes w32 b) (part_put p (to_be_bytes w32 n) x le) ∙ from_be_bytes-to_be_bytes_4 n (omega arith)
+
+pub short_number : (n : ℕ) → n < 65536 → from_be_bytes w32 (0 ∷ 0 ∷ to_be_bytes w16 n) ≡ n
+short_number n small =
+    let e3 : byte_at 3 n ≡ 0 = omega arith in let e2 : byte_at 2 n ≡ 0 = omega arith in
+    (λ t. from_be_bytes w32 (sym e3 t ∷ sym e2 t ∷ byte_at 1 n ∷ byte_at 0 n ∷ [])) ∙ from_be_bytes-to_be_bytes_4 n (omega arith)
+
+pub number_put2 : (p n : ℕ) (x : List ℕ) → p + 2 ≤ length x → n < 65536 → number_at (put p (to_be_bytes w16 n) x) p 2 ≡ n
+number_put2 p n x le small = ap (λ (b : List ℕ). from_be_bytes w32 (0 ∷ 0 ∷ b)) (part_put p (to_be_bytes w16 n) x le) ∙ short_number n small
+
+-- a part of a part
+pub part_in : (x : List ℕ) (p w q n : ℕ) → q + n ≤ w → bytes_at (bytes_at x p w) q n ≡ bytes_at x (p + q) n
+part_in x p w q n le =
+    let k = w - q in
+    let whole : q + k ≡ w = omega (arith, le) in
+    ap (λ (m : ℕ). take n (drop q (take m (drop p x)))) (sym whole) ∙ ap (λ (l : List ℕ). take n l) (drop-take q k (drop p x))
+    ∙ take-take n k (drop q (drop p x)) (omega (arith, le)) ∙ ap (λ (l : List ℕ). take n l) (drop-drop q p x)
+
+pub number_in : (x : List ℕ) (p w q n : ℕ) → q + n ≤ w → number_at (bytes_at x p w) q n ≡ number_at x (p + q) n
+number_in x p w q n le = ap (λ (b : List ℕ). from_be_bytes w32 (replicate (4 - n) 0 ++ b)) (part_in x p w q n le)
+
+-- the words of images that are the same up to a place
+pub words_before : (p len a n : ℕ) (x c : List ℕ) → SameOutside p len x c → a + 2 * n ≤ p → words_at c a n ≡ words_at x a n
+words_before p len a n x c same le = map_range_same (λ j. number_at c (a + 2 * j) 2) (λ j. number_at x (a + 2 * j) 2) 0 n (λ j low high. number_before p len (a + 2 * j) 2 x c same (omega (arith, le)))
+
+pub words_after : (p len a n : ℕ) (x c : List ℕ) → SameOutside p len x c → p + len ≤ a → words_at c a n ≡ words_at x a n
+words_after p len a n x c same le = map_range_same (λ j. number_at c (a + 2 * j) 2) (λ j. number_at x (a + 2 * j) 2) 0 n (λ j low high. number_after p len (a + 2 * j) 2 x c same (omega (arith, le)))
+
+-- the words of a part
+pub words_in : (x : List ℕ) (p w a n : ℕ) → a + 2 * n ≤ w → words_at (bytes_at x p w) a n ≡ words_at x (p + a) n
+words_in x p w a n le = map_range_same (λ j. number_at (bytes_at x p w) (a + 2 * j) 2) (λ j. number_at x (p + a + 2 * j) 2) 0 n
+    (λ j low high. number_in x p w (a + 2 * j) 2 (omega (arith, le)) ∙ ap (λ (q : ℕ). number_at x q 2) (omega arith))
+
+-- words in two runs
+words_shift : (x : List ℕ) (a m n from : ℕ) → map (λ j. number_at x (a + 2 * j) 2) (range_with_len (m + from) n) ≡ map (λ j. number_at x (a + 2 * m + 2 * j) 2) (range_with_len from n)
+words_shift x a m zero from = refl
+words_shift x a m (suc n) from =
+    ap (λ (q : ℕ). number_at x q 2 ∷ map (λ j. number_at x (a + 2 * j) 2) (range_with_len (m + from + 1) n)) (omega arith)
+    ∙ ap (λ (q : ℕ). number_at x (a + 2 * m + 2 * from) 2 ∷ map (λ j. number_at x (a + 2 * j) 2) (range_with_len q n)) (omega arith)
+    ∙ ap (λ (l : List ℕ). number_at x (a + 2 * m + 2 * from) 2 ∷ l) (words_shift x a m n (from + 1))
+
+pub words_split : (x : List ℕ) (a m n : ℕ) → words_at x a (m + n) ≡ words_at x a m ++ words_at x (a + 2 * m) n
+words_split x a m n =
+    ap (map (λ j. number_at x (a + 2 * j) 2)) (range_add 0 m n) ∙ map-append (λ j. number_at x (a + 2 * j) 2) (range_with_len 0 m) (range_with_len (0 + m) n)
+    ∙ ap (λ (q : ℕ). words_at x a m ++ map (λ j. number_at x (a + 2 * j) 2) (range_with_len q n)) (omega arith)
+    ∙ ap (λ (l : List ℕ). words_at x a m ++ l) (words_shift x a m n 0)
+
+-- words that were written
+pub written_outside : (p room : ℕ) (ws x : List ℕ) → 2 * length ws ≤ room → p + room ≤ length x → SameOutside p room x (written p ws x)
+written_outside p room [] x fits inside = outside_same p room x
+written_outside p room (w ∷ ws) x fits inside =
+    let y = put p (to_be_bytes w16 w) x in
+    let first : SameOutside p 2 x y = put_outside p (to_be_bytes w16 w) x (omega (arith, fits, inside)) in
+    outside_then p room x y (written (p + 2) ws y) (outside_wider p room p 2 x y first (omega arith) (omega (arith, fits)))
+    (outside_wider p room (p + 2) (room - 2) y (written (p + 2) ws y) (written_outside (p + 2) (room - 2) ws y (omega (arith, fits)) (omega (arith, fits, inside, first.same_length))) (omega arith) (omega (arith, fits)))
+
+abbrev pub AreShort : List ℕ → Type 0
+AreShort [] = Unit {0}
+AreShort (w ∷ ws) = (w < 65536) × AreShort ws
+
+pub written_words : (p : ℕ) (ws x : List ℕ) → p + 2 * length ws ≤ length x → AreShort ws → words_at (written p ws x) p (length ws) ≡ ws
+written_words p [] x inside short = refl
+written_words p (w ∷ ws) x inside short =
+    let y = put p (to_be_bytes w16 w) x in
+    let z = written (p + 2) ws y in
+    let first : SameOutside p 2 x y = put_outside p (to_be_bytes w16 w) x (omega (arith, inside)) in
+    let rest : SameOutside (p + 2) (2 * length ws) y z = written_outside (p + 2) (2 * length ws) ws y (omega arith) (omega (arith, inside, first.same_length)) in
+    let one : suc (length ws) ≡ 1 + length ws = omega arith in
+    ap (words_at z p) one ∙ words_split z p 1 (length ws)
+    ∙ ap (λ (q : ℕ). number_at z q 2 ∷ words_at z (p + 2 * 1) (length ws)) (omega arith)
+    ∙ ap (λ (n : ℕ). n ∷ words_at z (p + 2) (length ws)) (number_before (p + 2) (2 * length ws) p 2 y z rest (omega arith) ∙ number_put2 p w x (omega (arith, inside)) short.0)
+    ∙ ap (λ (l : List ℕ). w ∷ l) (written_words (p + 2) ws y (omega (arith, inside, first.same_length)) short.1)
+
+pub written_append : (p : ℕ) (a b x : List ℕ) → written p (a ++ b) x ≡ written (p + 2 * length a) b (written p a x)
+written_append p [] b x = ap (λ (q : ℕ). written q b x) (omega arith)
+written_append p (w ∷ ws) b x = written_append (p + 2) ws b (put p (to_be_bytes w16 w) x) ∙ ap (λ (q : ℕ). written q b (written (p + 2) ws (put p (to_be_bytes w16 w) x))) (omega arith)

@@ -1,0 +1,253 @@
+-- What a journal keeps of the image of its unit, and what its calls leave there.
+use Rattle.std.specs.Option.{ForSome}
+use Rattle.std.specs.Prelude.{nat_le, Option, Some, None, MatchOption, replicate, if◌then◌else◌, ◌==◌, ◌≡◌, ◌≢◌, ◌⊎◌, ℕ, suc, ◌+◌, ◌-◌, ◌*◌, ◌/◌, ◌%◌, ◌<◌, ◌≤◌, List, [], ◌∷◌, ◌++◌, length, take, drop, map}
+use Rattle.std.specs.List.{range_with_len}
+use Rattle.std.specs.Int.{to_be_bytes, w16, w32}
+use Rattle.tach_media.specs.Medium.{put, bytes_at, SameOutside, IsPartlyWritten}
+use Rattle.gated_ring.specs.Ring.{Shape, pointer, entry_at, next, taken}
+use Rattle.gated_ring.specs.Change.{IsAdding, IsAdded}
+use Rattle.unit_model.specs.Days.{word_minute, state_at, UnitMinute, day_of, filled, newest_of, bare, word_of, Each}
+use Rattle.unit_model.specs.Decoding.{Decodes}
+use Rattle.unit_model.specs.Image.{day_ring, slot_place, last_kept, odometer_at, words_at, unit_day, indices, recorded, slot_date, slot_count, slot_words}
+use Rattle.unit_journal.specs.Changes.{new_words, changes, first_state}
+
+-- What a journal keeps of the image: the last-kept minute, the odometer, and of the last-kept minute's day its slot's index,
+-- how many words it has, and the bits of the states after them. As it was found: the index of a later day, and the stored count.
+-- And how many days are recorded, that day with them.
+pub record Notes : Type 0 where
+  pub kept : ℕ
+  pub odometer : ℕ
+  pub index : ℕ
+  pub count : ℕ
+  pub driver : ℕ
+  pub codriver : ℕ
+  pub stray : Option ℕ
+  pub stored : ℕ
+  pub day_count : ℕ
+
+-- the later day's index is one, and of the last-kept minute's day there is a word for each slot and minute at most;
+-- before the first minute no day is recorded
+pub record IsNotes (j : Notes) : Type 0 where
+  pub kept : j.kept ≤ 71582788
+  pub odometer : j.odometer ≤ 9999999
+  pub index : j.index < 366
+  pub count : j.count ≤ 2 * (j.kept % 1440 + 1)
+  pub driver : j.driver < 16
+  pub codriver : j.codriver < 16
+  pub stray : ForSome j.stray (λ s. s < 366)
+  pub day_count : j.day_count ≤ 366
+  pub no_day : j.kept ≡ 0 → j.day_count ≡ 0
+
+-- the indices behind one, round to it
+abbrev pub behind_index : ℕ → List ℕ
+behind_index i = range_with_len (i + 1) (366 - (i + 1)) ++ range_with_len 0 i
+
+-- The newest slot is that of the last-kept minute's day, behind these others, and the notes on it are right.
+pub record IsNewestDay (j : Notes) (x older : List ℕ) : Type 0 where
+  pub order_is : indices x ≡ older ++ j.index ∷ []
+  -- the next day takes the index behind it, and the slots that are there stand close together
+  pub next_is : taken day_ring x ≡ next day_ring j.index
+  pub dense : (missing : ℕ) × (missing ≤ 365) × (older ≡ drop missing (behind_index j.index))
+  pub others : Each (λ i. (i < 366) × (i ≢ j.index)) older
+  pub days : suc (length older) ≡ j.day_count
+  pub earlier : Each (λ d. day_of d < j.kept / 1440) (map (λ i. unit_day (entry_at day_ring x i)) older)
+  pub date : slot_date x j.index ≡ 86400 * (j.kept / 1440)
+  pub count : slot_count x j.index ≡ j.count
+  pub low : Each (λ w. word_minute w ≤ j.kept % 1440) (slot_words x j.index j.count)
+  pub driver : state_at 0 (j.kept % 1440) (slot_words x j.index j.count) ≡ j.driver
+  pub codriver : state_at 1 (j.kept % 1440) (slot_words x j.index j.count) ≡ j.codriver
+
+-- what the notes say is so: before the first minute no day is there
+pub record Agrees (j : Notes) (x : List ℕ) : Type 0 where
+  pub kept : last_kept x ≡ j.kept
+  pub odometer : odometer_at x ≡ j.odometer
+  pub pointer : pointer day_ring x < 366
+  pub none : j.kept ≡ 0 → indices x ≡ []
+  pub newest : 0 < j.kept → (older : List ℕ) × IsNewestDay j x older
+
+-- an image with words from a place on
+abbrev pub written : ℕ → List ℕ → List ℕ → List ℕ
+written place [] image = image
+written place (w ∷ ws) image = written (place + 2) ws (put place (to_be_bytes w16 w) image)
+
+-- the room behind the words of a slot that its count covers
+abbrev pub free_place : (index count : ℕ) → ℕ
+free_place i count = slot_place i + 16 + 2 * count
+
+-- images that differ in that room alone
+abbrev pub DiffersBehind : (index count : ℕ) → List ℕ → List ℕ → Type 0
+DiffersBehind i count x c = SameOutside (free_place i count) (5760 - 2 * count) x c
+
+-- nothing but the last-kept minute, the odometer and the days may have changed
+pub record SameBesides (x c : List ℕ) : Type 0 where
+  pub before : take 564 c ≡ take 564 x
+  pub between : bytes_at c 572 452 ≡ bytes_at x 572 452
+  pub after : drop 2115044 c ≡ drop 2115044 x
+  pub same_length : length c ≡ length x
+
+-- The oldest of 366 days is gone before a minute that begins a further one.
+pub record IsGivenUp (k : UnitMinute) (x c : List ℕ) : Type 0 where
+  pub further : length (filled (recorded x) k) ≡ 367
+  pub newest : recorded c ≡ newest_of 365 (recorded x)
+
+-- the odometer is written first: with the old one the last-kept minute is the old one too
+abbrev pub IsFront : (minute odometer : ℕ) → List ℕ → List ℕ → Type 0
+IsFront minute odometer x c =
+    ((odometer_at c ≡ odometer_at x) × (last_kept c ≡ last_kept x))
+    ⊎ ((odometer_at c ≡ odometer) × ((last_kept c ≡ last_kept x) ⊎ (last_kept c ≡ minute)))
+
+-- a moment of a `keep`: the recorded days are the old ones, the oldest gone where it makes room, or those with the minute
+pub record IsKeeping (k : UnitMinute) (odometer : ℕ) (x c : List ℕ) : Type 0 where
+  pub front : IsFront k.minute odometer x c
+  pub outside : SameBesides x c
+  pub minutes : (recorded c ≡ recorded x) ⊎ (IsGivenUp k x c ⊎ (recorded c ≡ newest_of 366 (filled (recorded x) k)))
+  -- and it still decodes
+  pub decodes : Decodes x → Decodes c
+
+-- after a `keep`
+pub record IsKept (k : UnitMinute) (x y : List ℕ) : Type 0 where
+  pub outside : SameBesides x y
+  pub minutes : recorded y ≡ newest_of 366 (filled (recorded x) k)
+  pub decodes : Decodes x → Decodes y
+
+-- the image after a `keep` on the day of the last-kept minute, and what its writes leave
+abbrev pub with_odometer : ℕ → List ℕ → List ℕ
+with_odometer odometer x = put 568 (to_be_bytes w32 odometer) x
+
+abbrev pub with_count : (index count : ℕ) → List ℕ → List ℕ
+with_count i count x = put (slot_place i + 8) (to_be_bytes w16 count) x
+
+abbrev pub with_kept : ℕ → List ℕ → List ℕ
+with_kept minute x = put 564 (to_be_bytes w32 minute) x
+
+abbrev pub with_words : (index count : ℕ) → List ℕ → List ℕ → List ℕ
+with_words i count ws x = with_count i (count + length ws) (written (free_place i count) ws x)
+
+-- a moment of the writes on one day
+abbrev pub IsGoing : (index count odometer minute : ℕ) → (ws x c : List ℕ) → Type 0
+IsGoing i count odometer minute ws x c =
+    IsPartlyWritten 568 (to_be_bytes w32 odometer) x c
+    ⊎ (DiffersBehind i count (with_odometer odometer x) c
+    ⊎ (IsPartlyWritten (slot_place i + 8) (to_be_bytes w16 (count + length ws)) (written (free_place i count) ws (with_odometer odometer x)) c
+    ⊎ IsPartlyWritten 564 (to_be_bytes w32 minute) (with_words i count ws (with_odometer odometer x)) c))
+
+abbrev pub gone_on : (index count odometer minute : ℕ) → (ws x : List ℕ) → List ℕ
+gone_on i count odometer minute ws x = with_kept minute (with_words i count ws (with_odometer odometer x))
+
+-- the words of a minute on the day that the notes are of
+abbrev pub words_on : Notes → (minute driver codriver : ℕ) → List ℕ
+words_on j minute driver codriver = new_words (j.kept % 1440 + 1) (minute % 1440) j.driver j.codriver driver codriver
+
+-- the notes after a minute on the same day
+abbrev pub notes_on : Notes → (minute driver codriver odometer : ℕ) → Notes
+notes_on j minute driver codriver odometer =
+    record { kept = minute; odometer = odometer; index = j.index; count = j.count + length (words_on j minute driver codriver); driver = driver; codriver = codriver; stray = None; stored = j.count + length (words_on j minute driver codriver); day_count = j.day_count }
+
+-- the beginning of a new day's slot: date, odometer, the count of two words, and these
+abbrev pub head_of : (date odometer driver codriver : ℕ) → List ℕ
+head_of date odometer driver codriver =
+    to_be_bytes w32 date ++ (to_be_bytes w32 odometer ++ (to_be_bytes w16 2 ++ (replicate 6 0 ++ (to_be_bytes w16 (word_of 0 driver 0) ++ to_be_bytes w16 (word_of 1 codriver 0)))))
+
+-- the head of the day of a minute
+abbrev pub new_head : (minute driver codriver odometer : ℕ) → List ℕ
+new_head minute driver codriver odometer =
+    head_of (86400 * (minute / 1440)) odometer (first_state (minute % 1440) driver) (first_state (minute % 1440) codriver)
+
+-- the words of a new day behind its first two
+abbrev pub further : (minute driver codriver : ℕ) → List ℕ
+further minute driver codriver = changes (minute % 1440) (first_state (minute % 1440) driver) (first_state (minute % 1440) codriver) driver codriver
+
+-- the image once the day of the last-kept minute is closed
+abbrev pub closed : Notes → List ℕ → List ℕ
+closed j x =
+    if j.kept == 0 then x else (if j.kept % 1440 + 1 == 1440 then x else with_words j.index j.count (changes (j.kept % 1440 + 1) j.driver j.codriver bare bare) x)
+
+-- a moment of the closing
+abbrev pub IsClosing : Notes → List ℕ → List ℕ → Type 0
+IsClosing j x c =
+    (0 < j.kept) × (j.kept % 1440 < 1439) × (DiffersBehind j.index j.count x c
+    ⊎ IsPartlyWritten (slot_place j.index + 8) (to_be_bytes w16 (j.count + length (changes (j.kept % 1440 + 1) j.driver j.codriver bare bare)))
+    (written (free_place j.index j.count) (changes (j.kept % 1440 + 1) j.driver j.codriver bare bare) x) c)
+
+-- a moment of the writes of a new day behind its `add`
+abbrev pub IsFurther : (index minute : ℕ) → (ws y c : List ℕ) → Type 0
+IsFurther i minute ws y c =
+    DiffersBehind i 2 y c
+    ⊎ (IsPartlyWritten (slot_place i + 8) (to_be_bytes w16 (2 + length ws)) (written (free_place i 2) ws y) c
+    ⊎ IsPartlyWritten 564 (to_be_bytes w32 minute) (with_words i 2 ws y) c)
+
+-- a moment of the writes of a new day
+abbrev pub IsBeginning : (minute driver codriver odometer : ℕ) → (x c : List ℕ) → Type 0
+IsBeginning minute driver codriver odometer x c =
+    IsAdding day_ring (new_head minute driver codriver odometer) x c
+    ⊎ ((y : List ℕ) × IsAdded day_ring (new_head minute driver codriver odometer) x y × IsFurther (taken day_ring x) minute (further minute driver codriver) y c)
+
+-- and what they leave
+pub record IsBegun (minute driver codriver odometer : ℕ) (x z : List ℕ) : Type 0 where
+  pub added : List ℕ
+  pub is_added : IsAdded day_ring (new_head minute driver codriver odometer) x added
+  pub is : z ≡ with_kept minute (with_words (taken day_ring x) 2 (further minute driver codriver) added)
+
+-- a journal's ring is that of the days, and its notes have their ranges
+pub record IsJournal (days : Shape) (j : Notes) : Type 0 where
+  pub days_are : days ≡ day_ring
+  pub notes : IsNotes j
+
+-- the notes after a minute on a new day, with so many days
+abbrev pub notes_begun : (index days minute driver codriver odometer : ℕ) → Notes
+notes_begun index days minute driver codriver odometer =
+    record { kept = minute; odometer = odometer; index = index; count = 2 + length (further minute driver codriver); driver = driver; codriver = codriver; stray = None; stored = 2 + length (further minute driver codriver); day_count = days }
+
+-- a day later than that of the last-kept minute, where one is there
+abbrev pub stray_list : Option ℕ → List ℕ
+stray_list None = []
+stray_list (Some s) = s ∷ []
+
+-- the day at an index where it is there and later than the last-kept minute's
+abbrev pub stray_of : (kept p date : ℕ) → Option ℕ
+stray_of kept p date = if date == 0 then None else (if nat_le (date / 86400) (kept / 1440) then None else Some p)
+
+-- that day stands at the pointer, where the next day would
+pub record IsStray (j : Notes) (x : List ℕ) (s : ℕ) : Type 0 where
+  pub below : s < 366
+  pub at_pointer : pointer day_ring x ≡ s
+  pub later : j.kept / 1440 < day_of (unit_day (entry_at day_ring x s))
+
+-- The last-kept minute's day as it was found: its count may cover later words, and a later day may stand behind it.
+pub record IsFoundDay (j : Notes) (stray : Option ℕ) (stored : ℕ) (x older : List ℕ) : Type 0 where
+  pub order_is : indices x ≡ (older ++ j.index ∷ []) ++ stray_list stray
+  pub next_is : MatchOption stray (taken day_ring x ≡ next day_ring j.index) (λ s. s ≡ next day_ring j.index)
+  pub dense : (missing : ℕ) × (missing ≤ 365) × (older ≡ drop missing (behind_index j.index))
+  pub others : Each (λ i. (i < 366) × (i ≢ j.index)) older
+  pub days : suc (length older) ≡ j.day_count
+  pub earlier : Each (λ d. day_of d < j.kept / 1440) (map (λ i. unit_day (entry_at day_ring x i)) older)
+  pub date : slot_date x j.index ≡ 86400 * (j.kept / 1440)
+  pub count : slot_count x j.index ≡ stored
+  pub cut : j.count ≤ stored
+  pub stored_few : stored ≤ 2880
+  pub low : Each (λ w. word_minute w ≤ j.kept % 1440) (slot_words x j.index j.count)
+  pub late : Each (λ w. j.kept % 1440 < word_minute w) (words_at x (free_place j.index j.count) (stored - j.count))
+  pub driver : state_at 0 (j.kept % 1440) (slot_words x j.index j.count) ≡ j.driver
+  pub codriver : state_at 1 (j.kept % 1440) (slot_words x j.index j.count) ≡ j.codriver
+
+-- what `load` finds in an image that decodes
+pub record IsFound (j : Notes) (stray : Option ℕ) (stored : ℕ) (x : List ℕ) : Type 0 where
+  pub kept : last_kept x ≡ j.kept
+  pub odometer : odometer_at x ≡ j.odometer
+  pub pointer : pointer day_ring x < 366
+  pub none : j.kept ≡ 0 → indices x ≡ stray_list stray
+  pub newest : 0 < j.kept → (older : List ℕ) × IsFoundDay j stray stored x older
+  pub apart : MatchOption stray (Unit {0}) (λ s. IsStray j x s)
+
+-- what `load` finds, as the notes say it
+abbrev pub IsFoundBy : Notes → List ℕ → Type 0
+IsFoundBy j x = IsFound j j.stray j.stored x
+
+-- What is read of the last-kept minute's day: its stored count, how many words are not later, and the bits of the states after them.
+pub record IsToday (kept i stored count by_driver by_codriver : ℕ) (x : List ℕ) : Type 0 where
+  pub stored_is : slot_count x i ≡ stored
+  pub cut : count ≤ stored
+  pub low : Each (λ w. word_minute w ≤ kept % 1440) (slot_words x i count)
+  pub late : Each (λ w. kept % 1440 < word_minute w) (words_at x (free_place i count) (stored - count))
+  pub driver : state_at 0 (kept % 1440) (slot_words x i count) ≡ by_driver
+  pub codriver : state_at 1 (kept % 1440) (slot_words x i count) ≡ by_codriver

@@ -1,0 +1,20 @@
+-- A minute that is kept: CREW is where both slots have a present card (Annex IB, section III).
+use Rattle.std.specs.Prelude.{ℕ, ◌+◌, ◌*◌, Bool, not, ◌&&◌}
+use Rattle.activity_codec.specs.declared.values.Activity.{Activity}
+use Rattle.activity_codec.specs.Words.{bit, activity_number}
+use Rattle.view_model.specs.declared.State.{State}
+use Rattle.unit_model.specs.Days.{UnitMinute}
+use Rattle.unit_journal.specs.declared.kept.KeptMinute.{KeptMinute}
+
+abbrev pub is_crew : KeptMinute → Bool
+is_crew k = k.driver.present && k.codriver.present
+
+abbrev pub kept_minute : KeptMinute → UnitMinute
+kept_minute k = record { minute = k.minute; driver = k.driver; codriver = k.codriver; crew = is_crew k }
+
+-- the bits of a state in a word: CREW, no card, activity
+abbrev pub bits_by : Activity → (present crew : Bool) → ℕ
+bits_by act present crew = 8 * bit crew + 4 * bit (not present) + activity_number act
+
+abbrev pub bits_of : State → Bool → ℕ
+bits_of s crew = bits_by s.act s.present crew

@@ -1,0 +1,122 @@
+-- What a mending at power-on leaves of an image: later cells emptied, a later day's gate shut, later words cut off (profile).
+use Rattle.std.specs.Prelude.{◌≡◌, ◌⊎◌, ℕ, zero, suc, ◌+◌, ◌*◌, ◌/◌, ◌%◌, ◌<◌, ◌≤◌, ◌==◌, if◌then◌else◌, nat_lt, nat_le, List, take, drop, map, filter, length, replicate, Option, Some, None}
+use Rattle.tach_media.specs.Medium.{State, IsSettled, last_count, put, bytes_at}
+use Rattle.unit_model.specs.declared.layout.TheConstants.{OWED, OWED_ROW_SIZE, ROW_CELLS}
+use Rattle.unit_model.specs.Days.{UnitDay, day_of, word_minute}
+use Rattle.unit_model.specs.Decoding.{Decodes, cell_place, cell_minute, cell_word}
+use Rattle.unit_model.specs.Image.{slot_place, last_kept, unit_days, recorded}
+use Rattle.unit_journal.specs.Image.{Notes, IsFound, IsFoundBy, with_count}
+
+-- what an owed row has before its cells: the session time and the card number
+abbrev pub row_head : List ℕ → ℕ → List ℕ
+row_head x r = bytes_at x (OWED.place + r * OWED_ROW_SIZE) ROW_CELLS.place
+
+-- the minute of a cell; a cell later than the last-kept minute is emptied
+abbrev pub minute_kept : (kept minute : ℕ) → ℕ
+minute_kept kept minute = if nat_lt kept minute then 0 else minute
+
+-- the words of the last-kept minute's day that are not later
+abbrev pub day_kept : ℕ → UnitDay → UnitDay
+day_kept kept d = if day_of d == kept / 1440 then record { date = d.date; words = filter (λ w. nat_le (word_minute w) (kept % 1440)) d.words } else d
+
+-- the days not later than that of the last-kept minute, without later words
+abbrev pub days_kept : ℕ → List UnitDay → List UnitDay
+days_kept kept days = map (day_kept kept) (filter (λ d. nat_le (day_of d) (kept / 1440)) days)
+
+-- nothing but the owed rows and the day slots may have changed
+pub record SameButRowsAndSlots (x c : List ℕ) : Type 0 where
+  pub before : take 624 c ≡ take 624 x
+  pub between : bytes_at c 1008 20 ≡ bytes_at x 1008 20
+  pub after : drop 2115044 c ≡ drop 2115044 x
+  pub same_length : length c ≡ length x
+
+-- in the owed rows nothing but the minutes of cells may have changed
+pub record SameButMinutes (x c : List ℕ) : Type 0 where
+  pub heads : (r : ℕ) → r < 8 → row_head c r ≡ row_head x r
+  pub words : (n : ℕ) → n < 32 → cell_word c n ≡ cell_word x n
+
+-- the gate of the later day, where one was found, is shut
+abbrev pub IsGateShut : Option ℕ → List ℕ → Type 0
+IsGateShut None x = Unit {0}
+IsGateShut (Some s) x = bytes_at x (slot_place s) 4 ≡ replicate 4 0
+
+-- what `mend` needs: the days as `load` found them, but for what a mend that was cut short has done already
+abbrev pub IsMendable : Notes → List ℕ → Type 0
+IsMendable j x = IsFoundBy j x ⊎ (IsGateShut j.stray x × (IsFound j None j.stored x ⊎ IsFound j None j.count x))
+
+-- a moment of a `mend`: no minute changes, each cell is as it was or mended, the image still decodes, and it may be mended again
+pub record IsMending (j : Notes) (x c : List ℕ) : Type 0 where
+  pub outside : SameButRowsAndSlots x c
+  pub rows : SameButMinutes x c
+  pub cells : (n : ℕ) → n < 32 → (cell_minute c n ≡ cell_minute x n) ⊎ (cell_minute c n ≡ minute_kept (last_kept x) (cell_minute x n))
+  pub minutes : recorded c ≡ recorded x
+  pub decodes : Decodes x → Decodes c
+  pub mendable : IsMendable j c
+
+-- after a `mend`: no cell, no day and no word is later than the last-kept minute, and those that are not later stay
+pub record IsMended (x y : List ℕ) : Type 0 where
+  pub outside : SameButRowsAndSlots x y
+  pub rows : SameButMinutes x y
+  pub cells : (n : ℕ) → n < 32 → cell_minute y n ≡ minute_kept (last_kept x) (cell_minute x n)
+  pub minutes : recorded y ≡ recorded x
+  pub decodes : Decodes x → Decodes y
+  pub days : unit_days y ≡ days_kept (last_kept x) (unit_days x)
+
+-- the notes after a `mend`
+abbrev pub notes_mended : Notes → Notes
+notes_mended j = record j { stray = None; stored = j.count }
+
+-- no cell, no day and no word is later than the last-kept minute
+pub record HasNothingLater (j : Notes) (x : List ℕ) : Type 0 where
+  pub stray : j.stray ≡ None
+  pub count : j.stored ≡ j.count
+  pub cells : (n : ℕ) → n < 32 → cell_minute x n ≤ j.kept
+
+-- Where a write was made, or the medium was settled before, it is settled.
+abbrev pub StaysSettled : (old new : State) → Type 0
+StaysSettled old new = (old.clock < new.clock) ⊎ IsSettled old → new.clock < last_count → IsSettled new
+
+-- the image with a later cell emptied
+abbrev pub cell_emptied : (kept n : ℕ) → List ℕ → List ℕ
+cell_emptied kept n x = if nat_lt kept (cell_minute x n) then put (cell_place n) (replicate 4 0) x else x
+
+-- the first n cells, one after the other
+unfoldable pub cells_emptied : (kept n : ℕ) → List ℕ → List ℕ
+cells_emptied kept zero x = x
+cells_emptied kept (suc n) x = cell_emptied kept n (cells_emptied kept n x)
+
+-- then the later day's gate is shut
+abbrev pub shut : Option ℕ → List ℕ → List ℕ
+shut None x = x
+shut (Some s) x = put (slot_place s) (replicate 4 0) x
+
+-- and the count is cut, where it differs
+abbrev pub cut_to : (index stored count : ℕ) → List ℕ → List ℕ
+cut_to i stored count x = if stored == count then x else with_count i count x
+
+-- the days after a `mend`, and the image
+abbrev pub trimmed : Notes → List ℕ → List ℕ
+trimmed j x = if j.kept == 0 then shut j.stray x else cut_to j.index j.stored j.count (shut j.stray x)
+
+abbrev pub mended : Notes → List ℕ → List ℕ
+mended j x = trimmed j (cells_emptied j.kept 32 x)
+
+-- the moments of the writes, each of which is whole or absent
+abbrev pub IsEmptying : (kept n : ℕ) → List ℕ → List ℕ → Type 0
+IsEmptying kept n x c = (c ≡ x) ⊎ (c ≡ cell_emptied kept n x)
+
+abbrev pub IsEmptyingAll : (kept : ℕ) → List ℕ → List ℕ → Type 0
+IsEmptyingAll kept x c = (n : ℕ) × (n ≤ 32) × (c ≡ cells_emptied kept n x)
+
+abbrev pub IsShutting : Option ℕ → List ℕ → List ℕ → Type 0
+IsShutting stray x c = (c ≡ x) ⊎ (c ≡ shut stray x)
+
+abbrev pub IsCutting : (index count : ℕ) → List ℕ → List ℕ → Type 0
+IsCutting i count x c = (c ≡ x) ⊎ (c ≡ with_count i count x)
+
+-- a moment of a `mend`, by its writes
+abbrev pub IsMendStep : Notes → List ℕ → List ℕ → Type 0
+IsMendStep j x c =
+    IsEmptyingAll j.kept x c
+    ⊎ (IsShutting j.stray (cells_emptied j.kept 32 x) c
+    ⊎ ((0 < j.kept) × IsCutting j.index j.count (shut j.stray (cells_emptied j.kept 32 x)) c))

@@ -1,0 +1,36 @@
+ghost use Rattle.std.specs.Prelude.{◌≡◌, ◌<◌};
+ghost use Rattle.activity_codec.specs.Words.{activity_number};
+ghost use Rattle.unit_journal.specs.Kept.{bits_of, is_crew};
+
+use crate::kept::KeptMinute;
+use activity_codec::Activity;
+use unit_model::State;
+
+// Whether both slots have a present card.
+pub fn is_crew(kept: &KeptMinute) -> bool
+    ensures { result ≡ is_crew kept.now }
+{
+    kept.driver.present && kept.codriver.present
+}
+
+// The bits of a state in a word: CREW, no card, activity.
+pub fn bits_of(state: State, crew: bool) -> u32
+    ensures bits { result ≡ bits_of state crew }
+    ensures short { result < 16 }
+{
+    let crew_bit = if crew { 8 } else { 0 };
+    let absent_bit = if state.present { 0 } else { 4 };
+    crew_bit + absent_bit + activity_bits(state.act)
+}
+
+fn activity_bits(act: Activity) -> u32
+    ensures bits { result ≡ activity_number act }
+    ensures short { result < 4 }
+{
+    match act {
+        Activity::Rest => 0,
+        Activity::Available => 1,
+        Activity::Work => 2,
+        Activity::Driving => 3,
+    }
+}

@@ -1,0 +1,51 @@
+ghost use Rattle.std.specs.Prelude.{◌≡◌, ℕ, ◌≤◌, ◌<◌, OnOk, IfSome, is_err, option_map};
+ghost use Rattle.tach_media.specs.Medium.{LeavesOnly, HasCause};
+ghost use Rattle.unit_model.specs.Decoding.{cell_place, cell_minute};
+ghost use Rattle.unit_model.specs.Image.{IsUnit};
+ghost use Rattle.unit_journal.specs.Mends.{StaysSettled, cell_emptied, cells_emptied, IsEmptying, IsEmptyingAll};
+
+use tach_media::{Failed, Medium};
+use unit_memory::number;
+use unit_model::layout::{CELL_SIZE, CELLS, OWED, OWED_ROW_SIZE, OWED_ROWS, ROW_CELLS};
+
+// Where the cell of a number begins, counted over all rows.
+fn cell_place(nth: u32) -> u32
+    requires { nth < 32 }
+    ensures place { result ≡ cell_place nth }
+    ensures below { result ≤ 1002 }
+{
+    OWED.place + nth / CELLS * OWED_ROW_SIZE + ROW_CELLS.place + nth % CELLS * CELL_SIZE
+}
+
+// Empties the cell of a number where it is later than the last-kept minute.
+fn empty_cell<M: Medium>(unit: &mut M, kept: u32, nth: u32) -> Result<(), Failed>
+    requires unit { IsUnit (M.state unit.old) }
+    requires nth { nth < 32 }
+    ensures emptied { OnOk result ((M.state unit.new).image ≡ option_map (cell_emptied kept nth) (M.state unit.old).image) }
+    ensures moments { LeavesOnly (M.state unit.old) (M.state unit.new) (IsEmptying kept nth) }
+    ensures idle { OnOk result (IfSome (M.state unit.old).image (λ x. cell_minute x nth ≤ kept → (M.state unit.new).clock ≡ (M.state unit.old).clock)) }
+    ensures settled { OnOk result (StaysSettled (M.state unit.old) (M.state unit.new)) }
+    ensures cause { HasCause (M.state unit.old) (M.state unit.new) (is_err result) }
+{
+    let place = cell_place(nth);
+    let minute = number(unit, place, 4)?;
+    if minute > kept {
+        unit.write_at(place, &[0; 4])?;
+    }
+    Ok(())
+}
+
+/// Empties the cells of the owed rows that are later than the last-kept minute, row by row, cell by cell.
+pub fn empty_cells<M: Medium>(unit: &mut M, kept: u32) -> Result<(), Failed>
+    requires unit { IsUnit (M.state unit.old) }
+    ensures emptied { OnOk result ((M.state unit.new).image ≡ option_map (cells_emptied kept 32) (M.state unit.old).image) }
+    ensures moments { LeavesOnly (M.state unit.old) (M.state unit.new) (IsEmptyingAll kept) }
+    ensures idle { OnOk result (IfSome (M.state unit.old).image (λ x. ((n : ℕ) → n < 32 → cell_minute x n ≤ kept) → (M.state unit.new).clock ≡ (M.state unit.old).clock)) }
+    ensures settled { OnOk result (StaysSettled (M.state unit.old) (M.state unit.new)) }
+    ensures cause { HasCause (M.state unit.old) (M.state unit.new) (is_err result) }
+{
+    for nth in 0..OWED_ROWS * CELLS {
+        empty_cell(unit, kept, nth)?;
+    }
+    Ok(())
+}

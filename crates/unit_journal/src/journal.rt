@@ -1,0 +1,440 @@
+ghost use Rattle.std.specs.Prelude.{IfErr, Some, None, ◌≡◌, ◌≤◌, ◌<◌, ◌+◌, ◌*◌, ◌-◌, ◌/◌, ◌%◌, min, length, IfOk, OnOk, OnErr, IfSome, is_err, option_map, true};
+ghost use Rattle.tach_media.specs.Medium.{LeavesOnly, Reads, HasCause, IsSettled, last_count};
+ghost use Rattle.unit_model.specs.Days.{UnitMinute, minute_by};
+ghost use Rattle.unit_model.specs.Image.{day_ring};
+ghost use Rattle.unit_journal.specs.Image.{Notes, IsNotes, Agrees, IsGoing, gone_on, words_on, notes_on, IsKeeping, IsKept, closed, IsClosing, IsBeginning, IsBegun, notes_begun};
+ghost use Rattle.unit_journal.specs.Mends.{StaysSettled, IsMendable, IsMending, IsMended, HasNothingLater, notes_mended, mended, IsMendStep};
+ghost use Rattle.unit_model.specs.Image.{IsUnit};
+ghost use Rattle.unit_journal.specs.Kept.{kept_minute};
+ghost use Rattle.gated_ring.specs.Ring.{pointer, taken};
+
+mod reading;
+
+use crate::bits::{bits_of, is_crew};
+use crate::cells::empty_cells;
+use crate::kept::KeptMinute;
+use crate::mend::{cut_count, shut_day};
+use crate::today::{day_ring, index_of, later_day, read_today, recorded_days, slots_there};
+use crate::words::{BARE, first, head, write_changes, write_new};
+use gated_ring::Ring;
+pub use reading::UnitDay;
+use std::marker::Model;
+use tach_media::{Failed, Medium};
+use tacho_types::Odometer;
+use unit_memory::{Judged, UnitFault, judge_image, number};
+use unit_model::layout::{
+    DAY_COUNT, DAY_SLOT_SIZE, DAY_SLOTS, DAYS, HIGHEST_ODOMETER, LAST_KEPT, LAST_MINUTE, ODOMETER,
+};
+
+/// What is known of a unit's minutes: the last-kept one, the odometer, and where the newest day goes on.
+#[derive(Drop)]
+pub struct Journal {
+    days: Ring,
+    kept: u32,
+    odometer: u32,
+    index: u32,
+    count: u32,
+    driver: u32,
+    codriver: u32,
+    stray: Option<u32>,
+    stored: u32,
+    day_count: u32,
+}
+
+impl Model for Journal {
+    ghost use Rattle.unit_journal.specs.Image.{Notes, IsJournal};
+
+    ghost Value = { Notes };
+
+    ghost view = { λ j. record { kept = j.kept; odometer = j.odometer; index = j.index; count = j.count; driver = j.driver; codriver = j.codriver; stray = j.stray; stored = j.stored; day_count = j.day_count } };
+
+    ghost invariant = { λ j. IsJournal j.days (record { kept = j.kept; odometer = j.odometer; index = j.index; count = j.count; driver = j.driver; codriver = j.codriver; stray = j.stray; stored = j.stored; day_count = j.day_count }) };
+}
+
+impl Journal {
+    ghost use Rattle.unit_memory.specs.Fault.{IfBadUnit, has_failed};
+    ghost use Rattle.unit_model.specs.Decoding.{Decodes, first_bad_place};
+    ghost use Rattle.unit_journal.specs.Image.{IsFoundBy};
+    ghost use Rattle.unit_memory.specs.Judging.{IsJudged};
+
+    /// Reads the journal of a unit whose image decodes; it writes nothing.
+    ///
+    /// # Errors
+    ///
+    /// `Failed` where the medium failed, and `BadUnit` with the place of the first field, in order of places, that fails.
+    pub fn load<M: Medium>(unit: &mut M) -> Result<Journal, UnitFault>
+        requires unit { (M.state unit.old).size ≡ 2485808 }
+        ensures found { IfOk result (λ journal. IfSome (M.state unit.old).image (IsFoundBy journal)) }
+        ensures decodes { OnOk result (IfSome (M.state unit.old).image Decodes) }
+        ensures bad { IfErr result (λ fault. IfBadUnit fault (λ p. IfSome (M.state unit.old).image (λ x. first_bad_place x ≡ Some p))) }
+        ensures reads { Reads (M.state unit.old) (M.state unit.new) (has_failed result) }
+    {
+        let judged = judge_image(unit)?;
+        match judged.bad {
+            Some(place) => Err(UnitFault::BadUnit(place)),
+            None => {
+                let journal = Journal::read(unit, judged)?;
+                Ok(journal)
+            }
+        }
+    }
+
+    // Reads the journal of a unit that was judged.
+    fn read<M: Medium>(unit: &mut M, judged: Judged) -> Result<Journal, UnitFault>
+        requires works { (M.state unit.old).works ≡ true }
+        requires unit { (M.state unit.old).size ≡ 2485808 }
+        requires good { judged.bad ≡ None }
+        requires judged { IfSome (M.state unit.old).image (IsJudged judged) }
+        ensures found { IfOk result (λ journal. IfSome (M.state unit.old).image (IsFoundBy journal)) }
+        ensures bad { IfErr result (λ fault. IfBadUnit fault (λ p. IfSome (M.state unit.old).image (λ x. ⊥))) }
+        ensures reads { Reads (M.state unit.old) (M.state unit.new) (has_failed result) }
+    {
+        let days = day_ring(unit)?;
+        let there = slots_there(unit)?;
+        let kept = judged.kept.min(LAST_MINUTE);
+        let pointer = judged.pointer.min(DAY_SLOTS - 1);
+        let index = index_of(judged.walk.today);
+        let odometer = number(unit, ODOMETER.place, ODOMETER.size)?.min(HIGHEST_ODOMETER);
+        let stray = later_day(unit, kept, pointer)?;
+        let today = read_today(unit, kept, index)?;
+        let day_count = recorded_days(kept, there, stray);
+        Ok(Journal {
+            days,
+            kept,
+            odometer,
+            index,
+            count: today.count,
+            driver: today.driver,
+            codriver: today.codriver,
+            stray,
+            stored: today.stored,
+            day_count,
+        })
+    }
+
+    /// The last-kept minute, 0 for none.
+    pub fn last_kept(&self) -> u32
+        ensures { result ≡ self.now.kept }
+    {
+        self.kept
+    }
+
+    /// The stored odometer, in kilometres.
+    pub fn odometer(&self) -> Odometer
+        ensures { result.0 ≡ self.now.odometer }
+    {
+        Odometer(self.odometer)
+    }
+
+    // The writes of a minute on the day of the last-kept one.
+    fn go_on<M: Medium>(
+        &mut self,
+        unit: &mut M,
+        minute: u32,
+        driver: u32,
+        codriver: u32,
+        odometer: u32,
+    ) -> Result<(), Failed>
+        requires unit { IsUnit (M.state unit.old) }
+        requires same { minute / 1440 ≡ self.old.kept / 1440 }
+        requires later { self.old.kept < minute }
+        requires small { minute ≤ 71582788 }
+        requires driver { driver < 16 }
+        requires codriver { codriver < 16 }
+        requires odometer { odometer ≤ 9999999 }
+        ensures notes { OnOk result (self.new ≡ notes_on self.old minute driver codriver odometer) }
+        ensures same { OnErr result (self.new ≡ self.old) }
+        ensures shape { IsNotes self.old }
+        ensures gone { OnOk result ((M.state unit.new).image ≡ option_map (gone_on self.old.index self.old.count odometer minute (words_on self.old minute driver codriver)) (M.state unit.old).image) }
+        ensures moments { LeavesOnly (M.state unit.old) (M.state unit.new) (IsGoing self.old.index self.old.count odometer minute (words_on self.old minute driver codriver)) }
+        ensures settled { OnOk result ((M.state unit.new).clock < last_count → IsSettled (M.state unit.new)) }
+        ensures cause { HasCause (M.state unit.old) (M.state unit.new) (is_err result) }
+    {
+        let next = self.kept % 1440 + 1;
+        unit.write_at(ODOMETER.place, &odometer.to_be_bytes())?;
+        let count = write_new(
+            unit,
+            self.index,
+            self.count,
+            next,
+            minute % 1440,
+            self.driver,
+            self.codriver,
+            driver,
+            codriver,
+        )?;
+        unit.write_at(
+            DAYS.place + 4 + self.index * DAY_SLOT_SIZE + DAY_COUNT.place,
+            &(count as u16).to_be_bytes(),
+        )?;
+        unit.write_at(LAST_KEPT.place, &minute.to_be_bytes())?;
+        self.kept = minute;
+        self.odometer = odometer;
+        self.count = count;
+        self.driver = driver;
+        self.codriver = codriver;
+        self.stray = None;
+        self.stored = count;
+        Ok(())
+    }
+
+    // Keeps a minute on the day of the last-kept one.
+    fn keep_on_day<M: Medium>(
+        &mut self,
+        unit: &mut M,
+        minute: u32,
+        driver: u32,
+        codriver: u32,
+        odometer: u32,
+    ) -> Result<(), Failed>
+        requires unit { IsUnit (M.state unit.old) }
+        requires agrees { IfSome (M.state unit.old).image (Agrees self.old) }
+        requires some { 0 < self.old.kept }
+        requires same { minute / 1440 ≡ self.old.kept / 1440 }
+        requires later { self.old.kept < minute }
+        requires small { minute ≤ 71582788 }
+        requires driver { driver < 16 }
+        requires codriver { codriver < 16 }
+        requires odometer { odometer ≤ 9999999 }
+        ensures notes { OnOk result ((self.new.kept ≡ minute) × (self.new.odometer ≡ odometer)) }
+        ensures same { OnErr result (self.new ≡ self.old) }
+        ensures agrees { OnOk result (IfSome (M.state unit.new).image (Agrees self.new)) }
+        ensures kept { OnOk result (IfSome (M.state unit.old).image (λ x. IfSome (M.state unit.new).image (IsKept (minute_by minute driver codriver) x))) }
+        ensures moments { LeavesOnly (M.state unit.old) (M.state unit.new) (IsKeeping (minute_by minute driver codriver) odometer) }
+        ensures settled { OnOk result ((M.state unit.new).clock < last_count → IsSettled (M.state unit.new)) }
+        ensures cause { HasCause (M.state unit.old) (M.state unit.new) (is_err result) }
+    {
+        self.go_on(unit, minute, driver, codriver, odometer)?;
+        Ok(())
+    }
+
+    // Closes the day of the last-kept minute, where it isn't at its end.
+    fn close<M: Medium>(&self, unit: &mut M) -> Result<(), Failed>
+        requires works { (M.state unit.old).works ≡ true }
+        requires unit { IsUnit (M.state unit.old) }
+        ensures closed { OnOk result ((M.state unit.new).image ≡ option_map (closed self.now) (M.state unit.old).image) }
+        ensures moments { LeavesOnly (M.state unit.old) (M.state unit.new) (IsClosing self.now) }
+        ensures shape { IsNotes self.now }
+        ensures cause { HasCause (M.state unit.old) (M.state unit.new) (is_err result) }
+    {
+        let _days = &self.days;
+        if self.kept == 0 {
+            return Ok(());
+        }
+        if self.kept % 1440 + 1 == 1440 {
+            return Ok(());
+        }
+        let next = self.kept % 1440 + 1;
+        let count = write_changes(
+            unit,
+            self.index,
+            self.count,
+            next,
+            self.driver,
+            self.codriver,
+            BARE,
+            BARE,
+        )?;
+        unit.write_at(
+            DAYS.place + 4 + self.index * DAY_SLOT_SIZE + DAY_COUNT.place,
+            &(count as u16).to_be_bytes(),
+        )?;
+        Ok(())
+    }
+
+    // The writes of a new day, with its first minute.
+    fn begin<M: Medium>(
+        &mut self,
+        unit: &mut M,
+        minute: u32,
+        driver: u32,
+        codriver: u32,
+        odometer: u32,
+    ) -> Result<(), Failed>
+        requires unit { IsUnit (M.state unit.old) }
+        requires known { IfSome (M.state unit.old).image (λ x. pointer day_ring x < 366) }
+        requires low { 1440 ≤ minute }
+        requires small { minute ≤ 71582788 }
+        requires driver { driver < 16 }
+        requires codriver { codriver < 16 }
+        requires odometer { odometer ≤ 9999999 }
+        ensures notes { OnOk result (IfSome (M.state unit.old).image (λ x. self.new ≡ notes_begun (taken day_ring x) (min (self.old.day_count + 1) 366) minute driver codriver odometer)) }
+        ensures kept { OnOk result ((self.new.kept ≡ minute) × (self.new.odometer ≡ odometer)) }
+        ensures same { OnErr result (self.new ≡ self.old) }
+        ensures begun { OnOk result (IfSome (M.state unit.old).image (λ x. IfSome (M.state unit.new).image (IsBegun minute driver codriver odometer x))) }
+        ensures moments { LeavesOnly (M.state unit.old) (M.state unit.new) (IsBeginning minute driver codriver odometer) }
+        ensures settled { OnOk result ((M.state unit.new).clock < last_count → IsSettled (M.state unit.new)) }
+        ensures cause { HasCause (M.state unit.old) (M.state unit.new) (is_err result) }
+    {
+        let day_count = (self.day_count + 1).min(DAY_SLOTS);
+        let first_driver = first(minute % 1440, driver);
+        let first_codriver = first(minute % 1440, codriver);
+        let head = head(
+            86400 * (minute / 1440),
+            odometer,
+            first_driver,
+            first_codriver,
+        );
+        let index = self.days.add(unit, &head)?;
+        let count = write_changes(
+            unit,
+            index,
+            2,
+            minute % 1440,
+            first_driver,
+            first_codriver,
+            driver,
+            codriver,
+        )?;
+        unit.write_at(
+            DAYS.place + 4 + index * DAY_SLOT_SIZE + DAY_COUNT.place,
+            &(count as u16).to_be_bytes(),
+        )?;
+        unit.write_at(LAST_KEPT.place, &minute.to_be_bytes())?;
+        self.kept = minute;
+        self.odometer = odometer;
+        self.index = index;
+        self.count = count;
+        self.driver = driver;
+        self.codriver = codriver;
+        self.stray = None;
+        self.stored = count;
+        self.day_count = day_count;
+        Ok(())
+    }
+
+    // Keeps a minute on a later day.
+    fn keep_on_new_day<M: Medium>(
+        &mut self,
+        unit: &mut M,
+        minute: u32,
+        driver: u32,
+        codriver: u32,
+        odometer: u32,
+    ) -> Result<(), Failed>
+        requires unit { IsUnit (M.state unit.old) }
+        requires agrees { IfSome (M.state unit.old).image (Agrees self.old) }
+        requires later { self.old.kept / 1440 < minute / 1440 }
+        requires small { minute ≤ 71582788 }
+        requires driver { driver < 16 }
+        requires codriver { codriver < 16 }
+        requires odometer { odometer ≤ 9999999 }
+        ensures notes { OnOk result ((self.new.kept ≡ minute) × (self.new.odometer ≡ odometer)) }
+        ensures same { OnErr result (self.new ≡ self.old) }
+        ensures agrees { OnOk result (IfSome (M.state unit.new).image (Agrees self.new)) }
+        ensures kept { OnOk result (IfSome (M.state unit.old).image (λ x. IfSome (M.state unit.new).image (IsKept (minute_by minute driver codriver) x))) }
+        ensures moments { LeavesOnly (M.state unit.old) (M.state unit.new) (IsKeeping (minute_by minute driver codriver) odometer) }
+        ensures settled { OnOk result ((M.state unit.new).clock < last_count → IsSettled (M.state unit.new)) }
+        ensures cause { HasCause (M.state unit.old) (M.state unit.new) (is_err result) }
+    {
+        unit.write_at(ODOMETER.place, &odometer.to_be_bytes())?;
+        self.close(unit)?;
+        self.begin(unit, minute, driver, codriver, odometer)?;
+        Ok(())
+    }
+
+    // Keeps a minute by the bits of its states.
+    fn keep_bits<M: Medium>(
+        &mut self,
+        unit: &mut M,
+        minute: u32,
+        driver: u32,
+        codriver: u32,
+        odometer: u32,
+    ) -> Result<(), Failed>
+        requires unit { IsUnit (M.state unit.old) }
+        requires agrees { IfSome (M.state unit.old).image (Agrees self.old) }
+        requires low { 1440 ≤ minute }
+        requires later { self.old.kept < minute }
+        requires small { minute ≤ 71582788 }
+        requires driver { driver < 16 }
+        requires codriver { codriver < 16 }
+        requires odometer { odometer ≤ 9999999 }
+        ensures notes { OnOk result ((self.new.kept ≡ minute) × (self.new.odometer ≡ odometer)) }
+        ensures same { OnErr result (self.new ≡ self.old) }
+        ensures agrees { OnOk result (IfSome (M.state unit.new).image (Agrees self.new)) }
+        ensures kept { OnOk result (IfSome (M.state unit.old).image (λ x. IfSome (M.state unit.new).image (IsKept (minute_by minute driver codriver) x))) }
+        ensures moments { LeavesOnly (M.state unit.old) (M.state unit.new) (IsKeeping (minute_by minute driver codriver) odometer) }
+        ensures settled { OnOk result ((M.state unit.new).clock < last_count → IsSettled (M.state unit.new)) }
+        ensures cause { HasCause (M.state unit.old) (M.state unit.new) (is_err result) }
+    {
+        if minute / 1440 == self.kept / 1440 {
+            return self.keep_on_day(unit, minute, driver, codriver, odometer);
+        }
+        self.keep_on_new_day(unit, minute, driver, codriver, odometer)
+    }
+
+    /// Keeps a minute: of the recorded days with it the newest 366 are retained, and a minute of its day that was not kept
+    /// before stands as no card, rest, single. The odometer is written first and the last-kept minute last, which counts.
+    ///
+    /// A stop at a moment of the call leaves the days before, their oldest gone where a further day begins, or the days
+    /// with the minute. After an error the journal is as it was.
+    pub fn keep<M: Medium>(&mut self, unit: &mut M, kept: &KeptMinute) -> Result<(), Failed>
+        requires unit { IsUnit (M.state unit.old) }
+        requires agrees { IfSome (M.state unit.old).image (Agrees self.old) }
+        requires low { 1440 ≤ kept.now.minute }
+        requires later { self.old.kept < kept.now.minute }
+        requires small { kept.now.minute ≤ 71582788 }
+        requires odometer { kept.now.odometer.0 ≤ 9999999 }
+        ensures notes { OnOk result ((self.new.kept ≡ kept.now.minute) × (self.new.odometer ≡ kept.now.odometer.0)) }
+        ensures same { OnErr result (self.new ≡ self.old) }
+        ensures agrees { OnOk result (IfSome (M.state unit.new).image (Agrees self.new)) }
+        ensures kept { OnOk result (IfSome (M.state unit.old).image (λ x. IfSome (M.state unit.new).image (IsKept (kept_minute kept.now) x))) }
+        ensures moments { LeavesOnly (M.state unit.old) (M.state unit.new) (IsKeeping (kept_minute kept.now) kept.now.odometer.0) }
+        ensures settled { OnOk result ((M.state unit.new).clock < last_count → IsSettled (M.state unit.new)) }
+        ensures cause { HasCause (M.state unit.old) (M.state unit.new) (is_err result) }
+    {
+        let crew = is_crew(kept);
+        let driver = bits_of(kept.driver, crew);
+        let codriver = bits_of(kept.codriver, crew);
+        self.keep_bits(unit, kept.minute, driver, codriver, kept.odometer.0)?;
+        Ok(())
+    }
+
+    /// Mends the unit at a power-on: empties each cell of the owed rows that is later than the last-kept minute, shuts the
+    /// gate of a later day, and cuts the later words off. It writes nothing where nothing is later (profile).
+    ///
+    /// At each moment of the call no minute has changed, and the unit may be mended again with the journal as it was.
+    ///
+    /// # Errors
+    ///
+    /// `Failed` where the medium failed; the journal is as it was.
+    pub fn mend<M: Medium>(&mut self, unit: &mut M) -> Result<(), Failed>
+        requires unit { IsUnit (M.state unit.old) }
+        requires mendable { IfSome (M.state unit.old).image (IsMendable self.old) }
+        ensures notes { OnOk result (self.new ≡ notes_mended self.old) }
+        ensures same { OnErr result (self.new ≡ self.old) }
+        ensures agrees { OnOk result (IfSome (M.state unit.new).image (Agrees self.new)) }
+        ensures mended { OnOk result (IfSome (M.state unit.old).image (λ x. IfSome (M.state unit.new).image (IsMended x))) }
+        ensures written { OnOk result ((M.state unit.new).image ≡ option_map (mended self.old) (M.state unit.old).image) }
+        ensures moments { LeavesOnly (M.state unit.old) (M.state unit.new) (IsMending self.old) }
+        ensures idle { OnOk result (IfSome (M.state unit.old).image (λ x. HasNothingLater self.old x → (M.state unit.new).clock ≡ (M.state unit.old).clock)) }
+        ensures settled { OnOk result (StaysSettled (M.state unit.old) (M.state unit.new)) }
+        ensures cause { HasCause (M.state unit.old) (M.state unit.new) (is_err result) }
+    {
+        self.write_mends(unit)?;
+        self.stray = None;
+        self.stored = self.count;
+        Ok(())
+    }
+
+    // The writes of a `mend`: the cells, the gate, the count.
+    fn write_mends<M: Medium>(&self, unit: &mut M) -> Result<(), Failed>
+        requires unit { IsUnit (M.state unit.old) }
+        ensures written { OnOk result ((M.state unit.new).image ≡ option_map (mended self.now) (M.state unit.old).image) }
+        ensures moments { LeavesOnly (M.state unit.old) (M.state unit.new) (IsMendStep self.now) }
+        ensures idle { OnOk result (IfSome (M.state unit.old).image (λ x. HasNothingLater self.now x → (M.state unit.new).clock ≡ (M.state unit.old).clock)) }
+        ensures shape { IsNotes self.now }
+        ensures settled { OnOk result (StaysSettled (M.state unit.old) (M.state unit.new)) }
+        ensures cause { HasCause (M.state unit.old) (M.state unit.new) (is_err result) }
+    {
+        let kept = self.kept;
+        empty_cells(unit, kept)?;
+        shut_day(unit, self.stray)?;
+        if kept == 0 {
+            return Ok(());
+        }
+        cut_count(unit, self.index, self.stored, self.count)?;
+        Ok(())
+    }
+}

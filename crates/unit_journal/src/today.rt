@@ -1,0 +1,174 @@
+ghost use Rattle.std.specs.Prelude.{◌≡◌, ◌≤◌, ◌<◌, ◌+◌, ◌*◌, ◌%◌, IfOk, IfErr, OnOk, IfSome, is_err, true, None, [], min, unwrap_or, length, ◌==◌, if◌then◌else◌};
+ghost use Rattle.std.specs.Option.{ForSome};
+ghost use Rattle.tach_media.specs.Medium.{Reads};
+ghost use Rattle.unit_model.specs.Decoding.{first_failing, word_checks};
+ghost use Rattle.unit_model.specs.Image.{day_ring, indices, slot_place, slot_date, slot_count, slot_words};
+ghost use Rattle.gated_ring.specs.Ring.{pointer};
+ghost use Rattle.unit_memory.specs.Fault.{IfBadUnit, has_failed};
+ghost use Rattle.unit_journal.specs.Image.{stray_of, IsToday};
+ghost use Rattle.unit_journal.specs.Today.{today_of, recorded_days};
+
+use crate::words::BARE;
+use gated_ring::{Ring, RingFault};
+use tach_media::{Failed, Medium};
+use unit_memory::{Scan, UnitFault, number, scan_day};
+use unit_model::layout::{DAY_COUNT, DAY_DATE, DAY_SLOT_SIZE, DAY_SLOTS, DAY_WORD_LIMIT, DAYS};
+
+/// What is read of the last-kept minute's day: its stored count, how many of its words are not later, and the bits of the
+/// states after them.
+#[derive(Clone, Copy, Debug, PartialEq, Eq)]
+pub struct Today {
+    pub stored: u32,
+    pub count: u32,
+    pub driver: u32,
+    pub codriver: u32,
+}
+
+/// The ring of the day slots, whose pointer is known to be an index.
+pub fn day_ring<M: Medium>(unit: &mut M) -> Result<Ring, UnitFault>
+    requires unit { (M.state unit.old).size ≡ 2485808 }
+    requires known { IfSome (M.state unit.old).image (λ x. pointer day_ring x < 366) }
+    ensures ring { IfOk result (λ ring. ring ≡ day_ring) }
+    ensures bad { IfErr result (λ fault. IfBadUnit fault (λ p. IfSome (M.state unit.old).image (λ x. ⊥))) }
+    ensures reads { Reads (M.state unit.old) (M.state unit.new) (has_failed result) }
+{
+    let ring = Ring::load(
+        unit,
+        DAYS.place,
+        DAY_SLOT_SIZE,
+        DAY_SLOTS,
+        4,
+        DAY_DATE.place,
+    );
+    match ring {
+        Ok(ring) => Ok(ring),
+        Err(RingFault::Failed) => Err(UnitFault::Failed),
+        Err(RingFault::BadPointer(_)) => Err(UnitFault::BadUnit(DAYS.place)),
+    }
+}
+
+/// How many day slots are there.
+pub fn slots_there<M: Medium>(unit: &mut M) -> Result<u32, Failed>
+    requires works { (M.state unit.old).works ≡ true }
+    requires unit { (M.state unit.old).size ≡ 2485808 }
+    ensures count { IfOk result (λ n. IfSome (M.state unit.old).image (λ x. pointer day_ring x < 366 → n ≡ length (indices x))) }
+    ensures few { IfOk result (λ n. n ≤ 366) }
+    ensures reads { Reads (M.state unit.old) (M.state unit.new) (is_err result) }
+{
+    let mut count = 0;
+    for index in 0..DAY_SLOTS {
+        let date = number(unit, DAYS.place + 4 + index * DAY_SLOT_SIZE, 4)?;
+        count = with_slot(count, date);
+    }
+    Ok(count)
+}
+
+// With the slot of one date more.
+fn with_slot(count: u32, date: u32) -> u32
+    requires { count < 366 }
+    ensures { result ≡ (if date == 0 then count else count + 1) }
+{
+    if date == 0 { count } else { count + 1 }
+}
+
+/// How many of the days that are there are recorded: a later one is not, and before the first minute none is.
+pub fn recorded_days(kept: u32, there: u32, stray: Option<u32>) -> u32
+    requires { there ≤ 366 }
+    ensures count { result ≡ recorded_days kept there stray }
+    ensures few { result ≤ 366 }
+    ensures none { kept ≡ 0 → result ≡ 0 }
+{
+    if kept == 0 {
+        return 0;
+    }
+    match stray {
+        Some(_) => there.saturating_sub(1),
+        None => there,
+    }
+}
+
+/// The index of the last-kept minute's day, where it was found; 0 where it was not.
+pub fn index_of(today: Option<u32>) -> u32
+    ensures index { result ≡ min (unwrap_or today 0) 365 }
+    ensures below { result < 366 }
+{
+    match today {
+        Some(index) => index.min(DAY_SLOTS - 1),
+        None => 0,
+    }
+}
+
+/// The index of the pointer, where the day that stands there is later than the last-kept minute's.
+pub fn later_day<M: Medium>(unit: &mut M, kept: u32, pointer: u32) -> Result<Option<u32>, Failed>
+    requires unit { (M.state unit.old).size ≡ 2485808 }
+    requires index { pointer < 366 }
+    ensures stray { IfOk result (λ stray. IfSome (M.state unit.old).image (λ x. stray ≡ stray_of kept pointer (slot_date x pointer))) }
+    ensures below { IfOk result (λ stray. ForSome stray (λ s. s < 366)) }
+    ensures reads { Reads (M.state unit.old) (M.state unit.new) (is_err result) }
+{
+    let date = number(unit, DAYS.place + 4 + pointer * DAY_SLOT_SIZE, 4)?;
+    Ok(stray_of(kept, pointer, date))
+}
+
+fn stray_of(kept: u32, pointer: u32, date: u32) -> Option<u32>
+    requires index { pointer < 366 }
+    ensures stray { result ≡ stray_of kept pointer date }
+    ensures below { ForSome result (λ s. s < 366) }
+{
+    if date == 0 {
+        return None;
+    }
+    if date / 86400 <= kept / 1440 {
+        return None;
+    }
+    Some(pointer)
+}
+
+/// Reads the last-kept minute's day; there is none where that minute is 0.
+pub fn read_today<M: Medium>(unit: &mut M, kept: u32, index: u32) -> Result<Today, Failed>
+    requires works { (M.state unit.old).works ≡ true }
+    requires unit { (M.state unit.old).size ≡ 2485808 }
+    requires index { index < 366 }
+    ensures found { IfOk result (λ today. IfSome (M.state unit.old).image (λ x. 0 < kept → slot_count x index ≤ 2880 → first_failing (word_checks (slot_place index + 16) [] (slot_words x index (slot_count x index))) ≡ None → IsToday kept index today.stored today.count today.driver today.codriver x)) }
+    ensures count { IfOk result (λ today. today.count ≤ 2 * (kept % 1440 + 1)) }
+    ensures driver { IfOk result (λ today. today.driver < 16) }
+    ensures codriver { IfOk result (λ today. today.codriver < 16) }
+    ensures reads { Reads (M.state unit.old) (M.state unit.new) (is_err result) }
+{
+    if kept == 0 {
+        return Ok(Today {
+            stored: 0,
+            count: 0,
+            driver: BARE,
+            codriver: BARE,
+        });
+    }
+    let place = DAYS.place + 4 + index * DAY_SLOT_SIZE + DAY_COUNT.place;
+    let stored = number(unit, place, DAY_COUNT.size)?.min(DAY_WORD_LIMIT);
+    let scan = scan_day(unit, index, stored, kept % 1440)?;
+    Ok(today_of(kept % 1440, stored, scan))
+}
+
+// What a scan says, within its ranges.
+fn today_of(last: u32, stored: u32, scan: Result<Scan, u32>) -> Today
+    requires { last < 1440 }
+    ensures today { result ≡ today_of last stored scan }
+    ensures count { result.count ≤ 2 * (last + 1) }
+    ensures driver { result.driver < 16 }
+    ensures codriver { result.codriver < 16 }
+{
+    match scan {
+        Ok(scan) => Today {
+            stored,
+            count: scan.count.min(2 * (last + 1)),
+            driver: scan.driver % 16,
+            codriver: scan.codriver % 16,
+        },
+        Err(_) => Today {
+            stored,
+            count: 0,
+            driver: BARE,
+            codriver: BARE,
+        },
+    }
+}
