@@ -5,7 +5,7 @@ use Rattle.trace_text.specs.declared.trace.TraceFault.{TraceFault}
 use Rattle.trace_text.specs.declared.trace.TraceFault.TheVariants as trace
 use Rattle.trace_text.specs.Judged.{IsFailure}
 use Rattle.tacho.specs.declared.top.Fault.{Fault}
-use Rattle.tacho.specs.declared.top.Fault.TheVariants.{Done, Usage, BadTrace, TooLong, ReadFault, WriteFault, Memory}
+use Rattle.tacho.specs.declared.top.Fault.TheVariants.{Done, Usage, BadTrace, TooLong, ReadFault, WriteFault, MediumFault, Memory}
 use Rattle.tacho.specs.Ends.{refusal_of, IsUnread, IsUnprinted}
 
 pub refusal-bad : (fault : TraceFault) (n : ℕ) → refusal_of fault ≡ BadTrace n → fault ≡ trace.BadLine n
@@ -46,6 +46,7 @@ prints-end Done is read write = absurd is
 prints-end Usage is read write = absurd is
 prints-end (BadTrace n) is read write = absurd is
 prints-end (TooLong n) is read write = absurd is
+prints-end (MediumFault device) is read write = absurd is
 
 -- where the source did not fail, it is the wanted end, or memory ran out
 pub wanted-end : (fault wanted : Fault) → (fault ≡ wanted) ⊎ IsUnread fault → (fault ≡ ReadFault → ⊥) → (fault ≡ wanted) ⊎ (fault ≡ Memory)
@@ -57,3 +58,4 @@ wanted-end Done wanted (inr is) read = absurd is
 wanted-end Usage wanted (inr is) read = absurd is
 wanted-end (BadTrace n) wanted (inr is) read = absurd is
 wanted-end (TooLong n) wanted (inr is) read = absurd is
+wanted-end (MediumFault device) wanted (inr is) read = absurd is

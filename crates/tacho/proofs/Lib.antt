@@ -3,3 +3,6 @@ pub mod OneWord
 pub mod Fed
 pub mod Below
 pub mod EndLaws
+pub mod Endings
+pub mod Formats
+pub mod WordForms

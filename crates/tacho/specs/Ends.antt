@@ -1,9 +1,9 @@
 -- How a call ends, and its status (profile).
-use Rattle.std.specs.Prelude.{ℕ}
+use Rattle.std.specs.Prelude.{ℕ, Bool, true, false, Result, Ok, Err}
 use Rattle.trace_text.specs.declared.trace.TraceFault.{TraceFault}
 use Rattle.trace_text.specs.declared.trace.TraceFault.TheVariants as trace
 use Rattle.tacho.specs.declared.top.Fault.{Fault}
-use Rattle.tacho.specs.declared.top.Fault.TheVariants.{Done, Usage, BadTrace, TooLong, ReadFault, WriteFault, Memory}
+use Rattle.tacho.specs.declared.top.Fault.TheVariants.{Done, Usage, BadTrace, TooLong, ReadFault, WriteFault, MediumFault, Memory}
 
 abbrev pub status_of : Fault → ℕ
 status_of Done = 0
@@ -12,6 +12,7 @@ status_of (BadTrace n) = 3
 status_of (TooLong n) = 3
 status_of ReadFault = 7
 status_of WriteFault = 8
+status_of (MediumFault device) = 9
 status_of Memory = 10
 
 -- the end where no trace was read
@@ -30,6 +31,7 @@ IsUnread Usage = ⊥
 IsUnread (BadTrace n) = ⊥
 IsUnread (TooLong n) = ⊥
 IsUnread WriteFault = ⊥
+IsUnread (MediumFault device) = ⊥
 
 -- the source or the sink failed, or memory ran out
 abbrev pub IsUnprinted : Fault → Type 0
@@ -40,3 +42,19 @@ IsUnprinted Done = ⊥
 IsUnprinted Usage = ⊥
 IsUnprinted (BadTrace n) = ⊥
 IsUnprinted (TooLong n) = ⊥
+IsUnprinted (MediumFault device) = ⊥
+
+-- how a call ends, by what its command answers
+abbrev pub end_of : {T : Type 0} → Result T Fault → Fault
+end_of (Ok done) = Done
+end_of (Err fault) = fault
+
+abbrev pub is_medium_fault : Fault → Bool
+is_medium_fault (MediumFault device) = true
+is_medium_fault Done = false
+is_medium_fault Usage = false
+is_medium_fault (BadTrace n) = false
+is_medium_fault (TooLong n) = false
+is_medium_fault ReadFault = false
+is_medium_fault WriteFault = false
+is_medium_fault Memory = false

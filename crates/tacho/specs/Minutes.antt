@@ -1,5 +1,8 @@
 -- What the command `minutes` shows of a trace.
-use Rattle.std.specs.Prelude.{ℕ, false, List, [], map}
+use Rattle.std.specs.Prelude.{◌≡◌, ◌⊎◌, ℕ, false, Option, Some, List, [], map}
+use Rattle.std.specs.Io.KnownBytes.{Appends, IsAtEnd}
+use Rattle.tach_media.specs.Medium.{Rose}
+use Rattle.tach_media.specs.Streams.{AppendsFront}
 use Rattle.minute_model.specs.declared.Minute.{Minute}
 use Rattle.minute_model.specs.declared.Rule.TheVariants.{Original}
 use Rattle.minute_model.specs.Minute.{decided}
@@ -9,7 +12,9 @@ use Rattle.view_model.specs.Text.{IsUnitView}
 use Rattle.trace_text.specs.declared.trace.Form.TheVariants.{Minutes}
 use Rattle.trace_text.specs.declared.trace.Item.{Item}
 use Rattle.trace_text.specs.Model.{trace_span}
-use Rattle.trace_text.specs.Judged.{IsTraceText}
+use Rattle.trace_text.specs.Judged.{IsTraceText, IsBadText, IsLongText}
+use Rattle.tacho.specs.declared.top.Fault.{Fault}
+use Rattle.tacho.specs.declared.top.Fault.TheVariants.{Done, BadTrace, TooLong, WriteFault, Memory}
 
 -- a minute with no card present
 abbrev pub without_card : Minute → Viewed UnitShown
@@ -32,3 +37,30 @@ pub record PrintsMinutes (text out : List ℕ) : Type 0 where
   pub items : List Item
   pub trace : IsTraceText Minutes text start items
   pub view : IsUnitView (minutes_shown start items) out
+
+-- what a source and a sink tell: what is left, what is held, and their counts of faults
+pub record Streams : Type 0 where
+  pub left : Option (List ℕ)
+  pub read_faults : ℕ
+  pub held : Option (List ℕ)
+  pub write_faults : ℕ
+
+-- How the command `minutes` ends.
+pub record EndsMinutes (old new : Streams) (fault : Fault) : Type 0 where
+  -- Done: the sink gained exactly the view text of the decided minutes of the source's trace, and nothing of the source is
+  -- left.
+  pub printed : (text : List ℕ) → old.left ≡ Some text → fault ≡ Done → (out : List ℕ) × PrintsMinutes text out × Appends old.held new.held out
+  pub read : fault ≡ Done → IsAtEnd new.left
+  -- Each refusal has its cause.
+  pub bad_trace : (text : List ℕ) (n : ℕ) → old.left ≡ Some text → fault ≡ BadTrace n → IsBadText Minutes text n
+  pub too_long : (text : List ℕ) (n : ℕ) → old.left ≡ Some text → fault ≡ TooLong n → IsLongText Minutes text n
+  -- And each cause its end, unless memory runs out: a trace is printed where neither stream fails, a bad or a long text is
+  -- refused by its line where the source does not fail.
+  pub prints : (text : List ℕ) (start : ℕ) (items : List Item) → old.left ≡ Some text → IsTraceText Minutes text start items
+      → (Rose old.read_faults new.read_faults → ⊥) → (Rose old.write_faults new.write_faults → ⊥) → (fault ≡ Done) ⊎ (fault ≡ Memory)
+  pub finds_bad_trace : (text : List ℕ) (n : ℕ) → old.left ≡ Some text → IsBadText Minutes text n
+      → (Rose old.read_faults new.read_faults → ⊥) → (fault ≡ BadTrace n) ⊎ (fault ≡ Memory)
+  pub finds_too_long : (text : List ℕ) (n : ℕ) → old.left ≡ Some text → IsLongText Minutes text n
+      → (Rose old.read_faults new.read_faults → ⊥) → (fault ≡ TooLong n) ⊎ (fault ≡ Memory)
+  -- At a write fault a front of what Done appends was appended.
+  pub front : (text : List ℕ) → old.left ≡ Some text → fault ≡ WriteFault → (out : List ℕ) × PrintsMinutes text out × AppendsFront old.held new.held out

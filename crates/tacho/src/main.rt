@@ -2,23 +2,20 @@
 //! with its status.
 #![tactic(auto)]
 
+mod forms;
 mod minutes;
 mod top;
 mod view;
 mod words;
 
+use card_commands::SimCard;
+use run_model::Device;
 use std::io::ErrorKind;
 use std::process::ExitCode;
 use std::{env, io};
-use tach_media::{AbsentChip, AbsentMedium, StdSink, StdSource};
-use top::{Ended, Fault, tacho};
+use tach_media::{FileMedium, StdSink, StdSource};
+use top::{CARD_SIZE, Ended, Fault, UNIT_SIZE, tacho};
 use words::Words;
-
-/// The size of the unit in bytes.
-const UNIT: u32 = 2485808;
-
-/// The size of a card in bytes.
-const CARD: u32 = 24959;
 
 /// The words behind the program's name. One that is no text is in no form.
 fn words_of(rt: &HostRuntime) -> Result<Words, Fault> {
@@ -40,7 +37,7 @@ fn words_of(rt: &HostRuntime) -> Result<Words, Fault> {
     Ok(words)
 }
 
-/// The top call over the program's streams. No device is there yet.
+/// The top call over the program's streams, and over the unit and the cards in the working folder's files.
 fn run(rt: &HostRuntime) -> Ended {
     match words_of(rt) {
         Ok(words) => tacho(
@@ -48,9 +45,9 @@ fn run(rt: &HostRuntime) -> Ended {
             &words,
             &mut StdSource::new(rt.stdin()),
             &mut StdSink::new(rt.stdout()),
-            &mut AbsentMedium::new(UNIT),
-            &mut AbsentChip::new(CARD),
-            &mut AbsentChip::new(CARD),
+            &mut FileMedium::new(rt, "unit.img", UNIT_SIZE),
+            &mut SimCard::new(FileMedium::new(rt, "card-a.img", CARD_SIZE)),
+            &mut SimCard::new(FileMedium::new(rt, "card-b.img", CARD_SIZE)),
         ),
         Err(fault) => Ended::of(fault),
     }
@@ -65,6 +62,9 @@ fn tell(rt: &HostRuntime, fault: Fault) -> io::Result<()> {
         Fault::TooLong(n) => eprintln!(rt; "too long at line {n}"),
         Fault::ReadFault => eprintln!(rt; "read fault"),
         Fault::WriteFault => eprintln!(rt; "write fault"),
+        Fault::MediumFault(Device::Unit) => eprintln!(rt; "medium fault unit"),
+        Fault::MediumFault(Device::CardA) => eprintln!(rt; "medium fault card-a"),
+        Fault::MediumFault(Device::CardB) => eprintln!(rt; "medium fault card-b"),
         Fault::Memory => eprintln!(rt; "out of memory"),
     }
 }
@@ -76,4 +76,8 @@ fn main(rt: HostRuntime) -> ExitCode {
 }
 
 #[cfg(test)]
+mod format_tests;
+#[cfg(test)]
 mod tests;
+#[cfg(test)]
+mod unit_tests;

@@ -1,32 +1,47 @@
+ghost use Rattle.std.specs.Prelude.{◌≡◌, IfOk};
+ghost use Rattle.tach_media.specs.MemMedium.{memory_state};
+
 use crate::top::{Fault, tacho};
 use crate::words::Words;
+use card_commands::SimCard;
 use std::alloc::{AllocError, Global};
 use std::process::Abort;
 use std::test::Fail;
-use tach_media::{AbsentChip, AbsentMedium, MemSink, MemSource, Memory};
+use tach_media::{AbsentMedium, MemMedium, MemSink, MemSource, Memory, Stop};
 
-/// How `minutes` ends over these streams, and what the sink then holds.
+/// A card in memory, each byte of which is 1. Its calls stop so.
+pub fn card_of_ones(alloc: Global, stops: Vec<Stop>) -> Result<SimCard<MemMedium>, Memory>
+    ensures { IfOk result (λ card. (memory_state card.medium.log card.medium.counts).size ≡ 24959) }
+{
+    let ones = vec![in alloc; 1u8; 24959]?;
+    let medium = MemMedium::new(alloc, ones, 8, 60000, stops)?;
+    Ok(SimCard::new(medium))
+}
+
+/// How the call ends over these streams, and what the sink then holds.
 fn ends(
     alloc: Global,
     words: &Words,
     mut source: MemSource,
     mut sink: MemSink,
-) -> Result<(Fault, Vec<u8>), AllocError> {
+) -> Result<(Fault, Vec<u8>), Memory> {
+    let mut card_a = card_of_ones(alloc, Vec::new(alloc))?;
+    let mut card_b = card_of_ones(alloc, Vec::new(alloc))?;
     let ended = tacho(
         alloc,
         words,
         &mut source,
         &mut sink,
         &mut AbsentMedium::new(2485808),
-        &mut AbsentChip::new(24959),
-        &mut AbsentChip::new(24959),
+        &mut card_a,
+        &mut card_b,
     );
     let held = sink.held().to_vec(alloc)?;
     Ok((ended.fault, held))
 }
 
 /// These words.
-fn words_of(alloc: Global, list: &[&str]) -> Result<Words, Memory> {
+pub fn words_of(alloc: Global, list: &[&str]) -> Result<Words, Memory> {
     let mut words = Words::new(alloc);
     for word in list {
         words.push(word)?;
@@ -226,7 +241,7 @@ fn a_source_has_at_most_16_mib(rt: HostRuntime) -> Result<(), Fail> {
 }
 
 /// That these words are in no form.
-fn unknown(rt: &(impl Abort + AllocGlobal), list: &[&str]) -> Result<(), Fail> {
+pub fn unknown(rt: &(impl Abort + AllocGlobal), list: &[&str]) -> Result<(), Fail> {
     let alloc = rt.alloc();
     let words = words_of(alloc, list)?;
     let source = MemSource::new(b"start 1267401600\n".to_vec(alloc)?, Vec::new(alloc));

@@ -1,5 +1,5 @@
 //! The words of the command line.
-ghost use Rattle.std.specs.Prelude.{◌≡◌, ◌==◌, ◌↔◌, ◌<◌, [], ◌∷◌, ◌++◌, IsTrue, OnOk, OnErr, length, slice_get, Some};
+ghost use Rattle.std.specs.Prelude.{◌≡◌, ◌==◌, ◌↔◌, ◌<◌, [], ◌∷◌, ◌++◌, IsTrue, IfSome, IfNone, OnOk, OnErr, length, slice_get, Some};
 ghost use Rattle.tacho.specs.Forms.{minutes_form};
 
 use std::alloc::Global;
@@ -71,5 +71,23 @@ impl Words {
         ensures { IsTrue result ↔ (self.now ≡ minutes_form) }
     {
         self.len() == 1 && self.get(0) == "minutes"
+    }
+
+    /// The words, where there are six.
+    pub fn six(&self) -> Option<(&str, &str, &str, &str, &str, &str)>
+        ensures found { IfSome result (λ w. self.now ≡ w.0.now ∷ w.1.now ∷ w.2.now ∷ w.3.now ∷ w.4.now ∷ w.5.now ∷ []) }
+        ensures none { IfNone result (length self.now ≡ 6 → ⊥) }
+    {
+        if self.len() != 6 {
+            return None;
+        }
+        Some((
+            self.get(0),
+            self.get(1),
+            self.get(2),
+            self.get(3),
+            self.get(4),
+            self.get(5),
+        ))
     }
 }

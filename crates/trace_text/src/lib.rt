@@ -7,6 +7,7 @@ mod read;
 mod reading;
 mod trace;
 
+pub use fields::number;
 pub use read::read_trace;
 pub use trace::{Action, Form, Item, Items, Trace, TraceFault};
 

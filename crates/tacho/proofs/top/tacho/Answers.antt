@@ -1,25 +1,34 @@
-use Rattle.std.proofs.Common.{◌∙◌, sym, ap, Err}
-use Rattle.tacho.specs.declared.top.Fault.TheVariants.{BadTrace, TooLong}
-use Rattle.tacho.proofs.EndLaws.{prints-end, wanted-end}
+use Rattle.run_model.specs.declared.Card.TheVariants.{A, B}
+use Rattle.tacho.specs.declared.forms.Form.TheVariants.{Minutes, FormatCard, FormatUnit}
+use Rattle.tacho.proofs.WordForms.{one-form}
 use Rattle.tacho.proofs.top.tacho.Goals as goal
 
-pub returns-in-Ok-clause-finds_bad_trace : goal.returns-in-Ok-clause-finds_bad_trace
-returns-in-Ok-clause-finds_bad_trace g c = λ text n words told is read. absurd (c.in-Ok.ensures.finds_bad_trace text n told is)
+pub returns-in-None-clause-minutes : goal.returns-in-None-clause-minutes
+returns-in-None-clause-minutes g c = λ asks. absurd (c.in-None.ensures.none Minutes asks)
 
-pub returns-in-Ok-clause-finds_too_long : goal.returns-in-Ok-clause-finds_too_long
-returns-in-Ok-clause-finds_too_long g c = λ text n words told is read. absurd (c.in-Ok.ensures.finds_too_long text n told is)
+pub returns-in-None-clause-format_a : goal.returns-in-None-clause-format_a
+returns-in-None-clause-format_a g c = λ identity asks. absurd (c.in-None.ensures.none (FormatCard A identity) asks)
 
-pub returns-in-Err-clause-bad_trace : goal.returns-in-Err-clause-bad_trace
-returns-in-Err-clause-bad_trace g c = λ text n told is. c.in-Err.ensures.bad_trace text n told (ap Err (sym c.of-in-Err.ensures.fault ∙ is))
+pub returns-in-None-clause-format_b : goal.returns-in-None-clause-format_b
+returns-in-None-clause-format_b g c = λ identity asks. absurd (c.in-None.ensures.none (FormatCard B identity) asks)
 
-pub returns-in-Err-clause-prints : goal.returns-in-Err-clause-prints
-returns-in-Err-clause-prints g c = λ text start items words told is read write.
-    rw c.of-in-Err.ensures.fault (prints-end c.in-Err.fault (c.in-Err.ensures.prints text start items told is) (λ e. read (c.in-Err.ensures.read_fault (ap Err e))) (λ e. write (c.in-Err.ensures.write_fault (ap Err e))))
+pub returns-in-Some-clause-format_a : goal.returns-in-Some-clause-format_a
+returns-in-Some-clause-format_a g c = λ identity asks.
+    rw c.after.ensures.fault (c.perform.ensures.format_a identity (one-form c.args.words.now c.in-Some.form (FormatCard A identity) c.in-Some.ensures.asked asks))
 
-pub returns-in-Err-clause-finds_bad_trace : goal.returns-in-Err-clause-finds_bad_trace
-returns-in-Err-clause-finds_bad_trace g c = λ text n words told is read.
-    rw c.of-in-Err.ensures.fault (wanted-end c.in-Err.fault (BadTrace n) (c.in-Err.ensures.finds_bad_trace text n told is) (λ e. read (c.in-Err.ensures.read_fault (ap Err e))))
+pub returns-in-Some-clause-format_b : goal.returns-in-Some-clause-format_b
+returns-in-Some-clause-format_b g c = λ identity asks.
+    rw c.after.ensures.fault (c.perform.ensures.format_b identity (one-form c.args.words.now c.in-Some.form (FormatCard B identity) c.in-Some.ensures.asked asks))
 
-pub returns-in-Err-clause-finds_too_long : goal.returns-in-Err-clause-finds_too_long
-returns-in-Err-clause-finds_too_long g c = λ text n words told is read.
-    rw c.of-in-Err.ensures.fault (wanted-end c.in-Err.fault (TooLong n) (c.in-Err.ensures.finds_too_long text n told is) (λ e. read (c.in-Err.ensures.read_fault (ap Err e))))
+pub returns-in-None-clause-format_a_state : goal.returns-in-None-clause-format_a_state
+returns-in-None-clause-format_a_state g c = λ identity asks some. absurd (c.in-None.ensures.none (FormatCard A identity) asks)
+
+pub returns-in-None-clause-format_b_state : goal.returns-in-None-clause-format_b_state
+returns-in-None-clause-format_b_state g c = λ identity asks some. absurd (c.in-None.ensures.none (FormatCard B identity) asks)
+
+pub returns-in-None-clause-format_unit : goal.returns-in-None-clause-format_unit
+returns-in-None-clause-format_unit g c = λ identity asks. absurd (c.in-None.ensures.none (FormatUnit identity) asks)
+
+pub returns-in-Some-clause-format_unit : goal.returns-in-Some-clause-format_unit
+returns-in-Some-clause-format_unit g c = λ identity asks.
+    rw c.after.ensures.fault (c.perform.ensures.format_unit identity (one-form c.args.words.now c.in-Some.form (FormatUnit identity) c.in-Some.ensures.asked asks))

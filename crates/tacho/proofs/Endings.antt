@@ -1,0 +1,53 @@
+-- How `minutes` ends, by what it answers.
+use Rattle.std.proofs.Common.{◌≡◌, ◌⊎◌, inl, refl, ℕ, List, ap}
+use Rattle.std.specs.Prelude.{Result, Ok, Err, Some, OnOk, IfErr, IsErrAnd}
+use Rattle.std.specs.Io.KnownBytes.{Appends, IsAtEnd}
+use Rattle.tach_media.specs.Medium.{Rose}
+use Rattle.tach_media.specs.Streams.{AppendsFront}
+use Rattle.run_model.specs.declared.Device.{Device}
+use Rattle.trace_text.specs.declared.trace.Form.TheVariants.{Minutes}
+use Rattle.trace_text.specs.declared.trace.Item.{Item}
+use Rattle.trace_text.specs.Judged.{IsTraceText, IsBadText, IsLongText}
+use Rattle.tacho.specs.declared.top.Fault.{Fault}
+use Rattle.tacho.specs.declared.top.Fault.TheVariants.{Done, Usage, BadTrace, TooLong, ReadFault, WriteFault, MediumFault}
+use Rattle.tacho.specs.Ends.{end_of, IsUnread, IsUnprinted}
+use Rattle.tacho.specs.Minutes.{PrintsMinutes, Streams, EndsMinutes}
+use Rattle.tacho.proofs.EndLaws.{prints-end, wanted-end}
+
+-- no end of `minutes` but at a refusal of the source, the sink or memory
+abbrev pub IsOther : Fault → Type 0
+IsOther fault = (fault ≡ Done → ⊥) × (fault ≡ Usage → ⊥) × ((device : Device) → fault ≡ MediumFault device → ⊥)
+
+pub ends-minutes : {T : Type 0} (old new : Streams) (r : Result T Fault)
+    → ((text : List ℕ) → old.left ≡ Some text → OnOk r ((out : List ℕ) × PrintsMinutes text out × Appends old.held new.held out))
+    → OnOk r (IsAtEnd new.left)
+    → ((text : List ℕ) (n : ℕ) → old.left ≡ Some text → r ≡ Err (BadTrace n) → IsBadText Minutes text n)
+    → ((text : List ℕ) (n : ℕ) → old.left ≡ Some text → r ≡ Err (TooLong n) → IsLongText Minutes text n)
+    → (r ≡ Err ReadFault → Rose old.read_faults new.read_faults)
+    → (r ≡ Err WriteFault → Rose old.write_faults new.write_faults)
+    → ((text : List ℕ) (start : ℕ) (items : List Item) → old.left ≡ Some text → IsTraceText Minutes text start items → IfErr r IsUnprinted)
+    → ((text : List ℕ) (n : ℕ) → old.left ≡ Some text → IsBadText Minutes text n → IsErrAnd r (λ fault. (fault ≡ BadTrace n) ⊎ IsUnread fault))
+    → ((text : List ℕ) (n : ℕ) → old.left ≡ Some text → IsLongText Minutes text n → IsErrAnd r (λ fault. (fault ≡ TooLong n) ⊎ IsUnread fault))
+    → ((text : List ℕ) → old.left ≡ Some text → r ≡ Err WriteFault → (out : List ℕ) × PrintsMinutes text out × AppendsFront old.held new.held out)
+    → IfErr r IsOther
+    → EndsMinutes old new (end_of r)
+ends-minutes old new (Ok u) printed read bad long read_fault write_fault prints finds_bad finds_long front other = record {
+  printed = λ text told is. printed text told;
+  read = λ is. read;
+  bad_trace = λ text n told is. absurd (cc);
+  too_long = λ text n told is. absurd (cc);
+  prints = λ text start items told is no_read no_write. inl refl;
+  finds_bad_trace = λ text n told is no_read. absurd (finds_bad text n told is);
+  finds_too_long = λ text n told is no_read. absurd (finds_long text n told is);
+  front = λ text told is. absurd (cc);
+}
+ends-minutes old new (Err fault) printed read bad long read_fault write_fault prints finds_bad finds_long front other = record {
+  printed = λ text told is. absurd (other.0 is);
+  read = λ is. absurd (other.0 is);
+  bad_trace = λ text n told is. bad text n told (ap Err is);
+  too_long = λ text n told is. long text n told (ap Err is);
+  prints = λ text start items told is no_read no_write. prints-end fault (prints text start items told is) (λ e. no_read (read_fault (ap Err e))) (λ e. no_write (write_fault (ap Err e)));
+  finds_bad_trace = λ text n told is no_read. wanted-end fault (BadTrace n) (finds_bad text n told is) (λ e. no_read (read_fault (ap Err e)));
+  finds_too_long = λ text n told is no_read. wanted-end fault (TooLong n) (finds_long text n told is) (λ e. no_read (read_fault (ap Err e)));
+  front = λ text told is. front text told (ap Err is);
+}

@@ -1,0 +1,65 @@
+-- How a device is made new (profile).
+use Rattle.std.specs.Prelude.{◌≡◌, ◌⊎◌, ℕ, ◌<◌, false, Option, option_map, List, [], ◌∷◌, ◌++◌, length, codes}
+use Rattle.std.specs.Io.KnownBytes.{Appends}
+use Rattle.tach_media.specs.Medium.{State, LeavesOnly, IsSettled, HasCause, Rose, bytes_at, last_count}
+use Rattle.tach_media.specs.Streams.{AppendsFront}
+use Rattle.run_model.specs.declared.Device.{Device}
+use Rattle.card_files.specs.declared.new_card.CardIdentity.{CardIdentity}
+use Rattle.card_files.specs.NewCard.{new_card}
+use Rattle.unit_model.specs.NewImage.{new_image}
+use Rattle.unit_memory.specs.declared.format.Identity.{Identity}
+use Rattle.tacho.specs.declared.top.Fault.{Fault}
+use Rattle.tacho.specs.declared.top.Fault.TheVariants.{Done, Usage, BadTrace, TooLong, ReadFault, WriteFault, MediumFault, Memory}
+use Rattle.tacho.specs.declared.top.TheConstants.{LARGEST}
+use Rattle.tacho.specs.Ends.{is_medium_fault}
+
+-- what is printed of a device that was made new
+abbrev pub formatted_line : List ℕ
+formatted_line = codes "formatted" ++ 10 ∷ []
+
+-- the flat image of a new card of the largest sizes
+abbrev pub card_image : CardIdentity → List ℕ
+card_image identity = new_card identity LARGEST
+
+-- the image of a new unit
+abbrev pub unit_image : Identity → List ℕ
+unit_image identity = new_image identity.vin identity.registration.0 identity.limit
+
+-- what a stop leaves of a card that is issued, beside the image before: one whose card type is 0, or the new one
+abbrev pub IsIssuing : (image old left : List ℕ) → Type 0
+IsIssuing image old left = ((length left ≡ length old) × (bytes_at left 33 1 ≡ 0 ∷ [])) ⊎ (left ≡ image)
+
+-- what a sink tells: what it holds, and its count of faults
+pub record SinkState : Type 0 where
+  pub held : Option (List ℕ)
+  pub faults : ℕ
+
+-- the image that is told is now this one
+abbrev pub IsMade : (image : List ℕ) (old new : State) → Type 0
+IsMade image old new = new.image ≡ option_map (λ _. image) old.image
+
+-- all is done, or the sink, this device or memory failed
+abbrev pub IsFormatEnd : Device → Fault → Type 0
+IsFormatEnd device Done = Unit {0}
+IsFormatEnd device WriteFault = Unit {0}
+IsFormatEnd device (MediumFault failed) = failed ≡ device
+IsFormatEnd device Memory = Unit {0}
+IsFormatEnd device Usage = ⊥
+IsFormatEnd device (BadTrace n) = ⊥
+IsFormatEnd device (TooLong n) = ⊥
+IsFormatEnd device ReadFault = ⊥
+
+-- How a command ends that makes a device new, and then prints so.
+pub record EndsFormat (device : Device) (image : List ℕ) (IsMoment : List ℕ → List ℕ → Type 0) (old new : State) (before after : SinkState) (fault : Fault) : Type 0 where
+  pub ends : IsFormatEnd device fault
+  pub done : fault ≡ Done → IsMade image old new × Appends before.held after.held formatted_line
+  -- a front of the line was printed, of the device that was made new
+  pub front : fault ≡ WriteFault → IsMade image old new × AppendsFront before.held after.held formatted_line
+  -- what a stop leaves, at each moment and at the end
+  pub moments : LeavesOnly old new IsMoment
+  pub settled : (fault ≡ Memory → ⊥) → is_medium_fault fault ≡ false → new.clock < last_count → IsSettled new
+  -- when a device fails, and when the sink
+  pub cause : (fault ≡ Memory → ⊥) → HasCause old new (is_medium_fault fault)
+  pub write_fault : fault ≡ WriteFault → Rose before.faults after.faults
+  -- where neither fails, all is done or memory ran out
+  pub finishes : (Rose old.faults new.faults → ⊥) → (Rose before.faults after.faults → ⊥) → (fault ≡ Done) ⊎ (fault ≡ Memory)
