@@ -4,4 +4,4 @@ pub mod Circle
 pub mod Reading
 pub mod Walking
 pub mod Judging
-mod Rows
+pub mod Rows

@@ -5,20 +5,20 @@ use Rattle.card_model.specs.Image.{Shape}
 use Rattle.card_model.specs.Walk.{days_of}
 use Rattle.card_model.specs.Checks.{first_bad}
 
-abbrev small : Shape
+abbrev pub small : Shape
 small = record { base = 0; size = 42 }
 
-abbrev whole : Shape
+abbrev pub whole : Shape
 whole = record { base = 0; size = 5544 }
 
-abbrev day : ℕ → List ℕ → Day
+abbrev pub day : ℕ → List ℕ → Day
 day n words = record { date = 86400 * n; counter = n; km = 0; words = words }
 
 -- a day begun at place 5538 has its date at places 5542, 5543, 0 and 1
-abbrev across : List ℕ
+abbrev pub across : List ℕ
 across = 0x15 ∷ 0xA2 ∷ 0x15 ∷ 0xA2 ∷ 0x03 ∷ 0x80 ∷ 0 ∷ 1 ∷ 0 ∷ 0 ∷ 0 ∷ 0 ∷ replicate 5530 0 ++ 0 ∷ 0 ∷ 0 ∷ 0x0E ∷ 0x4B ∷ 0x8B ∷ []
 
-abbrev first_day : Day
+abbrev pub first_day : Day
 first_day = record { date = 1267401600; counter = 1; km = 0; words = 0 ∷ [] }
 
 across_days : days_of whole across ≡ first_day ∷ []
@@ -26,7 +26,7 @@ unfolding days_of
 across_days = refl
 
 -- the writes of `begin_day` on an empty string leave it, and before the length stands there is no day
-abbrev empty_at_end : List ℕ
+abbrev pub empty_at_end : List ℕ
 empty_at_end = 0x15 ∷ 0xA2 ∷ 0x15 ∷ 0xA2 ∷ replicate 5544 0
 
 before_any : days_of whole empty_at_end ≡ []
@@ -34,13 +34,13 @@ unfolding days_of
 before_any = refl
 
 -- a string full of days of 14 bytes, here three in 42 bytes, takes a word: the oldest is dropped, and the word stands at places 0 and 1
-abbrev three_days : List ℕ
+abbrev pub three_days : List ℕ
 three_days = 0 ∷ 0 ∷ 0 ∷ 28 ∷
     0 ∷ 0 ∷ 0 ∷ 14 ∷ 0 ∷ 1 ∷ 0x51 ∷ 0x80 ∷ 0 ∷ 1 ∷ 0 ∷ 0 ∷ 0 ∷ 0 ∷
     0 ∷ 14 ∷ 0 ∷ 14 ∷ 0 ∷ 2 ∷ 0xA3 ∷ 0x00 ∷ 0 ∷ 2 ∷ 0 ∷ 0 ∷ 0 ∷ 0 ∷
     0 ∷ 14 ∷ 0 ∷ 14 ∷ 0 ∷ 3 ∷ 0xF4 ∷ 0x80 ∷ 0 ∷ 3 ∷ 0 ∷ 0 ∷ 0 ∷ 0 ∷ []
 
-abbrev two_days : List ℕ
+abbrev pub two_days : List ℕ
 two_days = 0 ∷ 14 ∷ 0 ∷ 28 ∷
     0x18 ∷ 5 ∷ 0 ∷ 14 ∷ 0 ∷ 1 ∷ 0x51 ∷ 0x80 ∷ 0 ∷ 1 ∷ 0 ∷ 0 ∷ 0 ∷ 0 ∷
     0 ∷ 0 ∷ 0 ∷ 14 ∷ 0 ∷ 2 ∷ 0xA3 ∷ 0x00 ∷ 0 ∷ 2 ∷ 0 ∷ 0 ∷ 0 ∷ 0 ∷

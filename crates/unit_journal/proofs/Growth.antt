@@ -7,6 +7,7 @@ use Rattle.std.proofs.lemmas.List.{append-nil, map-append}
 use Rattle.std.proofs.lemmas.List.Elements.{filter-append}
 use Rattle.std.proofs.lemmas.List.FromFn.{length-map-range_with_len, map-range_with_len_more}
 use Rattle.unit_model.specs.Days.{word_minute, bare, state_at, UnitMinute, Day, UnitDay, day_of, minute_at, shown, day_shown, days_shown, unknown_minute, padded, with_minute, new_day, filled, Each, minute_by}
+use Rattle.unit_memory.proofs.Scanning.{range_add}
 use Rattle.unit_journal.proofs.States.{state_after_append, state_later}
 
 -- two functions that agree on a range
@@ -14,12 +15,6 @@ pub map_range_same : {X : Type 0} (f h : ℕ → X) (a n : ℕ) → ((j : ℕ) �
 map_range_same f h a zero all = refl
 map_range_same {X} f h a (suc n) all =
     ap (λ (e : X). e ∷ map f (range_with_len (a + 1) n)) (all a (omega arith) (omega arith)) ∙ ap (λ (l : List X). h a ∷ l) (map_range_same f h (a + 1) n (λ j low high. all j (omega arith) (omega arith)))
-
-pub range_add : (a m n : ℕ) → range_with_len a (m + n) ≡ range_with_len a m ++ range_with_len (a + m) n
-range_add a zero n = ap (λ (k : ℕ). range_with_len a k) (omega arith) ∙ ap (λ (k : ℕ). range_with_len k n) (omega arith)
-range_add a (suc m) n =
-    let more : suc m + n ≡ suc (m + n) = omega arith in
-    ap (λ (k : ℕ). range_with_len a k) more ∙ ap (λ (l : List ℕ). a ∷ l) (range_add (a + 1) m n) ∙ ap (λ (k : ℕ). a ∷ range_with_len (a + 1) m ++ range_with_len k n) (omega arith)
 
 -- a day whose further minutes are unknown is the one before, padded
 pub shown_padded : (n N : ℕ) (d e : UnitDay) → day_of e ≡ day_of d → n ≤ N

@@ -23,6 +23,7 @@ use Rattle.unit_journal.proofs.Finding.{eq_of, last_good_at}
 use Rattle.unit_journal.proofs.Emptying.{IsEmptied, emptied}
 use Rattle.unit_journal.proofs.Fronting.{rows_recorded, rows_days, rows_mendable}
 use Rattle.unit_journal.proofs.Mending.{gate_outside, shut_pointer, shut_gate, other_there, shut_outside, shut_bytes, shut_kept, shut_odometer, shut_indices, shut_days, shut_unit_days, shut_recorded, shut_taken, other_entry, cut_outside, cut_gate, cut_still, cut_recorded, cut_days, cut_agrees, uncut_days, uncut_agrees}
+use Rattle.unit_journal.proofs.Shown.{found_agreed}
 
 each_apart : (x : List ℕ) (s a : ℕ) (js : List ℕ) → Each (λ d. day_of d < a) (map (day_at x) js) → a < day_of (day_at x s) → Each (λ j. j ≢ s) js
 each_apart x s a [] all later = tt
@@ -179,38 +180,6 @@ shut_is j ok (Some s) x sized below (inl found) =
     }
 shut_is j ok stray x sized below (inr (gate, inl found)) = subst (IsShut j stray x) (sym (shut_same_image stray x sized below gate)) (record { step = no_step j x; gate = gate; stored = j.stored; stored_is = inl refl; found = found })
 shut_is j ok stray x sized below (inr (gate, inr found)) = subst (IsShut j stray x) (sym (shut_same_image stray x sized below gate)) (record { step = no_step j x; gate = gate; stored = j.count; stored_is = inr refl; found = found })
-
--- a unit whose days are mended is one to be mended again
-found_again : (j : Notes) (z : List ℕ) → IsNotes j → Agrees j z → IsFound j None j.count z
-found_again j z ok agrees =
-    let none : j.count - j.count ≡ 0 = omega arith in
-    record {
-      kept = agrees.kept;
-      odometer = agrees.odometer;
-      pointer = agrees.pointer;
-      none = agrees.none;
-      newest = λ some.
-          let day = (agrees.newest some).1 in (
-            (agrees.newest some).0,
-            record {
-              order_is = day.order_is ∙ sym (append-nil ((agrees.newest some).0 ++ j.index ∷ []));
-              next_is = day.next_is;
-              dense = day.dense;
-              days = day.days;
-              others = day.others;
-              earlier = day.earlier;
-              date = day.date;
-              count = day.count;
-              cut = omega arith;
-              stored_few = omega (arith, ok.count);
-              low = day.low;
-              late = subst (λ (n : ℕ). Each (λ w. j.kept % 1440 < word_minute w) (words_at z (free_place j.index j.count) n)) (sym none) tt;
-              driver = day.driver;
-              codriver = day.codriver;
-            },
-          );
-      apart = tt;
-    }
 
 -- the notes without what was found are as right
 pub agrees_mended : (j : Notes) (z : List ℕ) → Agrees j z → Agrees (notes_mended j) z
@@ -403,7 +372,7 @@ module _ (j : Notes) (ok : IsNotes j) (x : List ℕ) (sized : length x ≡ 24858
 
   -- the count
   again_after : (z : List ℕ) → IsTrimmed j all z → IsMendable j z
-  again_after z done = inr (done.gate, inr (found_again j z ok done.agrees))
+  again_after z done = inr (done.gate, inr (found_agreed j ok z done.agrees))
 
   mending_after : (z : List ℕ) → IsTrimmed j all z → IsMending j x z
   mending_after z done = mending_then z done.outside done.good done.minutes (again_after z done)

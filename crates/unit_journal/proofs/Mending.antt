@@ -19,7 +19,8 @@ use Rattle.unit_journal.proofs.KeptDays.{kept_now}
 use Rattle.unit_journal.proofs.Checks.{IsGood}
 use Rattle.unit_journal.proofs.StillDecodes.{cut_good}
 use Rattle.unit_journal.proofs.Growth.{words_later, day_later}
-use Rattle.unit_journal.proofs.Numbers.{number_before, number_put2, words_after, words_split}
+use Rattle.unit_memory.proofs.Scanning.{words_split}
+use Rattle.unit_journal.proofs.Numbers.{number_before, number_put2, words_after}
 use Rattle.unit_journal.proofs.Slots.{day_at, all_days, IsSlot, slot_days, same_indices, same_taken, same_days, in_slot}
 use Rattle.unit_journal.proofs.Keeping.{recorded_is}
 

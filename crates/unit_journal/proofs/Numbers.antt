@@ -1,16 +1,16 @@
 -- Numbers in images that are written.
-use Rattle.std.proofs.Common.{◌≡◌, ℕ, zero, suc, ◌+◌, ◌-◌, ◌*◌, ◌<◌, ◌≤◌, List, [], ◌∷◌, ◌++◌, length, take, drop, map, replicate, refl, sym, ◌∙◌, ap, arith}
-use Rattle.std.specs.List.{range_with_len}
+use Rattle.std.proofs.Common.{◌≡◌, ℕ, suc, ◌+◌, ◌-◌, ◌*◌, ◌<◌, ◌≤◌, List, [], ◌∷◌, ◌++◌, length, take, drop, replicate, refl, sym, ◌∙◌, ap, arith}
 use Rattle.std.specs.Int.{from_be_bytes, to_be_bytes, byte_at, w16, w32}
 use Rattle.std.proofs.lemmas.Nat.{from_be_bytes-to_be_bytes_4}
-use Rattle.std.proofs.lemmas.List.{take-take, drop-take, drop-drop, map-append}
+use Rattle.std.proofs.lemmas.List.{take-take, drop-take, drop-drop}
 use Rattle.tach_media.specs.Medium.{put, bytes_at, SameOutside}
 use Rattle.tach_media.specs.LogLaws.{put_outside}
 use Rattle.tach_media.proofs.Images.{part_before, part_after, part_put, outside_same, outside_wider, outside_then}
 use Rattle.gated_ring.specs.Ring.{number_at}
 use Rattle.unit_model.specs.Image.{words_at}
 use Rattle.unit_journal.specs.Image.{written}
-use Rattle.unit_journal.proofs.Growth.{map_range_same, range_add}
+use Rattle.unit_memory.proofs.Scanning.{words_split}
+use Rattle.unit_journal.proofs.Growth.{map_range_same}
 
 pub number_same : (x c : List ℕ) (a n : ℕ) → bytes_at c a n ≡ bytes_at x a n → number_at c a n ≡ number_at x a n
 number_same x c a n same = ap (λ (b : List ℕ). from_be_bytes w32 (replicate (4 - n) 0 ++ b)) same
@@ -54,20 +54,6 @@ words_after p len a n x c same le = map_range_same (λ j. number_at c (a + 2 * j
 pub words_in : (x : List ℕ) (p w a n : ℕ) → a + 2 * n ≤ w → words_at (bytes_at x p w) a n ≡ words_at x (p + a) n
 words_in x p w a n le = map_range_same (λ j. number_at (bytes_at x p w) (a + 2 * j) 2) (λ j. number_at x (p + a + 2 * j) 2) 0 n
     (λ j low high. number_in x p w (a + 2 * j) 2 (omega (arith, le)) ∙ ap (λ (q : ℕ). number_at x q 2) (omega arith))
-
--- words in two runs
-words_shift : (x : List ℕ) (a m n from : ℕ) → map (λ j. number_at x (a + 2 * j) 2) (range_with_len (m + from) n) ≡ map (λ j. number_at x (a + 2 * m + 2 * j) 2) (range_with_len from n)
-words_shift x a m zero from = refl
-words_shift x a m (suc n) from =
-    ap (λ (q : ℕ). number_at x q 2 ∷ map (λ j. number_at x (a + 2 * j) 2) (range_with_len (m + from + 1) n)) (omega arith)
-    ∙ ap (λ (q : ℕ). number_at x (a + 2 * m + 2 * from) 2 ∷ map (λ j. number_at x (a + 2 * j) 2) (range_with_len q n)) (omega arith)
-    ∙ ap (λ (l : List ℕ). number_at x (a + 2 * m + 2 * from) 2 ∷ l) (words_shift x a m n (from + 1))
-
-pub words_split : (x : List ℕ) (a m n : ℕ) → words_at x a (m + n) ≡ words_at x a m ++ words_at x (a + 2 * m) n
-words_split x a m n =
-    ap (map (λ j. number_at x (a + 2 * j) 2)) (range_add 0 m n) ∙ map-append (λ j. number_at x (a + 2 * j) 2) (range_with_len 0 m) (range_with_len (0 + m) n)
-    ∙ ap (λ (q : ℕ). words_at x a m ++ map (λ j. number_at x (a + 2 * j) 2) (range_with_len q n)) (omega arith)
-    ∙ ap (λ (l : List ℕ). words_at x a m ++ l) (words_shift x a m n 0)
 
 -- words that were written
 pub written_outside : (p room : ℕ) (ws x : List ℕ) → 2 * length ws ≤ room → p + room ≤ length x → SameOutside p room x (written p ws x)

@@ -15,7 +15,8 @@ use Rattle.unit_model.specs.Days.{day_of, word_minute, Each}
 use Rattle.unit_model.specs.Image.{last_kept, day_ring, slot_place, unit_day, slot_date, slot_count, slot_words, words_at}
 use Rattle.unit_journal.specs.Image.{Notes, IsNotes, Agrees, IsFound, IsFoundDay, IsStray, stray_list, behind_index, free_place}
 use Rattle.unit_journal.specs.Reading.{AreRight, recorded_indices, covered_words, recorded_words, nth_index}
-use Rattle.unit_journal.proofs.Numbers.{number_in, words_split}
+use Rattle.unit_memory.proofs.Scanning.{words_split}
+use Rattle.unit_journal.proofs.Numbers.{number_in}
 use Rattle.unit_journal.proofs.Turning.{behind_length}
 
 le_true : (a b : ℕ) → a ≤ b → nat_le a b ≡ true
@@ -194,7 +195,7 @@ module _ (j : Notes) (ok : IsNotes j) (stray : Option ℕ) (stored : ℕ) (x : L
   }
 
 -- after `mend` and `keep` no later day is there, and no later word
-found_agreed : (j : Notes) (ok : IsNotes j) (x : List ℕ) → Agrees j x → IsFound j None j.count x
+pub found_agreed : (j : Notes) (ok : IsNotes j) (x : List ℕ) → Agrees j x → IsFound j None j.count x
 found_agreed j ok x agrees = record {
   kept = agrees.kept;
   odometer = agrees.odometer;

@@ -11,7 +11,8 @@ use Rattle.gated_ring.specs.Ring.{indices as ring_indices, number_at, pointer, i
 use Rattle.unit_model.specs.Days.{UnitDay, Each}
 use Rattle.unit_model.specs.Image.{day_ring, slot_place, last_kept, words_at, unit_day, indices, unit_days, slot_date, slot_count, slot_words}
 use Rattle.unit_journal.specs.Image.{written, free_place, DiffersBehind, with_words}
-use Rattle.unit_journal.proofs.Numbers.{number_before, number_after, number_put2, number_in, words_before, words_after, words_in, words_split, written_outside, written_words, AreShort}
+use Rattle.unit_memory.proofs.Scanning.{words_split}
+use Rattle.unit_journal.proofs.Numbers.{number_before, number_after, number_put2, number_in, words_before, words_after, words_in, written_outside, written_words, AreShort}
 
 -- the day of an index
 abbrev pub day_at : List ℕ → ℕ → UnitDay
