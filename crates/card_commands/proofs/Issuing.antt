@@ -1,5 +1,5 @@
 -- The images that a stop leaves of an issue, and the last of them.
-use Rattle.std.proofs.Common.{◌≡◌, ◌⊎◌, inl, inr, ⊎_elim, ℕ, ◌+◌, ◌-◌, ◌≤◌, List, [], ◌∷◌, ◌++◌, length, take, drop, Some, refl, sym, ◌∙◌, ap, subst, arith, append_assoc, length-drop}
+use Rattle.std.proofs.Common.{◌≡◌, ◌⊎◌, inl, inr, ⊎_elim, ℕ, ◌+◌, ◌-◌, ◌≤◌, List, [], ◌∷◌, ◌++◌, length, take, drop, sym, ◌∙◌, ap, subst, arith, append_assoc, length-drop}
 use Rattle.std.proofs.lemmas.List.{length-take-le, drop-drop, take_all, take-append-drop}
 use Rattle.tach_media.specs.Medium.{State, IsCoherent, LeavesOnly, SameOutside, IsPartlyWritten, bytes_at, put}
 use Rattle.tach_media.specs.Chip.{IsPartlyIssued, IsIssued}
@@ -107,8 +107,9 @@ module _ (image x : List ℕ) (least : 34 ≤ length image) (fits : length image
 pub old_aside : {old new : State} {R : List ℕ → List ℕ → Type 0} → IsCoherent old → LeavesOnly old new (λ x c. (c ≡ x) ⊎ R x c) → LeavesOnly old new R
 old_aside {old} {new} {R} whole run = record {
   size = run.size;
+  behind = run.behind;
   writable = run.writable;
-  lenders = run.lenders;
+  layers = run.layers;
   tells = run.tells;
   later = run.later;
   since = λ t c le left. ⊎_elim inl (λ here. ⊎_elim (λ same. inl (subst (λ (y : List ℕ). old.left_since t y) (sym same) (whole.counts_now t here.0 le (whole.is_left here.0 here.1)))) (λ so. inr (here.0, here.1, so)) here.2) (run.since t c le left);

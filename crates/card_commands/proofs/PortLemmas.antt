@@ -77,3 +77,7 @@ held app selected card card' s s' file port size same works chosen current = rec
   chosen = λ f is. chosen ∙ is;
   current = λ f is. let equal : file ≡ f = cc in subst (λ (e : ElementaryFile). is_under card'.directory e.fid ≡ true) equal current;
 }
+
+-- a port without the file that it held for selected
+pub resumable : {app : Application} {selected : Option ElementaryFile} {card : CardState} {s : State} → IsPort app selected card s → IsPort app None card s
+resumable {app} {selected} {card} {s} port = forgotten app selected card card s s port refl refl

@@ -1,4 +1,3 @@
-pub mod Front
 pub mod Performing
 pub mod Ports
 pub mod Sending

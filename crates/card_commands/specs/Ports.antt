@@ -1,5 +1,6 @@
 -- The flat image of a card, as a medium behind the card's commands.
-use Rattle.std.specs.Prelude.{◌≡◌, ℕ, ◌+◌, ◌≤◌, nat_lt, if◌then◌else◌, Bool, true, false, Result, Ok, Err, min, List, [], ◌∷◌, map, take, Option, Some, None, option_map, option_and_then, is_none, IfSome}
+use Rattle.std.proofs.Common.{arith}
+use Rattle.std.specs.Prelude.{◌≡◌, ℕ, ◌+◌, ◌-◌, ◌≤◌, nat_lt, if◌then◌else◌, Bool, true, false, Result, Ok, Err, min, List, [], ◌∷◌, map, Option, Some, None, option_and_then, is_none}
 use Rattle.std.specs.Option.{ForSome}
 use Rattle.card_layout.specs.declared.files.Application.{Application}
 use Rattle.card_layout.specs.declared.files.CardFile.{CardFile}
@@ -7,19 +8,32 @@ use Rattle.card_layout.specs.Application.{first_bad_field, application_of, IsApp
 use Rattle.card_layout.specs.Files.{files_of, image_size_of, updated_ranges}
 use Rattle.tach_media.specs.declared.command.CardState.{CardState}
 use Rattle.tach_media.specs.declared.command.ElementaryFile.{ElementaryFile}
-use Rattle.tach_media.specs.Medium.{State, Reads, bytes_at}
+use Rattle.tach_media.specs.Medium.{State, IsCoherent, Commands}
 use Rattle.tach_media.specs.Chip.{is_under}
 use Rattle.card_commands.specs.declared.loading.PortFault.{PortFault}
 use Rattle.card_commands.specs.declared.loading.PortFault.TheVariants.{Failed, BadApplication}
-use Rattle.card_commands.specs.Front.{front_of}
 
 -- the ranges that the unit may write, each by its place and its length: those of the updated files
 abbrev pub writable_of : Application → List (ℕ × ℕ)
 writable_of app = map (λ r. (r.base, r.len)) (updated_ranges app)
 
--- the flat image by these sizes as a medium
+-- The flat image by these sizes as a medium: the card's own images, of which no more is reached than the sizes tell.
 abbrev pub port_state : Application → State → State
-port_state app s = front_of (image_size_of app) (writable_of app) s
+port_state app s = record s {
+  size = min (image_size_of app) s.size;
+  behind = s.size - image_size_of app + s.behind;
+  writable = writable_of app;
+  layers = Commands app s.size s.writable ∷ s.layers;
+}
+
+pub port_coherent : (app : Application) (s : State) → IsCoherent s → IsCoherent (port_state app s)
+port_coherent app s whole = record {
+  sized = λ x is. omega (arith, whole.sized x is);
+  is_left = whole.is_left;
+  only = whole.only;
+  counts_now = whole.counts_now;
+  earlier = whole.earlier;
+}
 
 -- the file in which a place lies, where the first of the files begins at this base
 abbrev pub file_from : ℕ → List CardFile → ℕ → Option ElementaryFile

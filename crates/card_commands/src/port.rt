@@ -1,4 +1,4 @@
-ghost use Rattle.std.specs.Prelude.{◌≡◌, ◌≤◌, ◌<◌, ◌+◌, ◌^◌, true, false, length, take, Some, Ok, Err, OnOk, IfOk, IfErr, IfSome, is_err};
+ghost use Rattle.std.specs.Prelude.{◌≡◌, ◌≤◌, ◌<◌, ◌+◌, ◌^◌, true, false, length, take, Some, None, Ok, Err, OnOk, IfOk, IfErr, IfSome, is_err};
 ghost use Rattle.card_layout.specs.Application.{IsApplication};
 ghost use Rattle.card_layout.specs.Files.{image_size_of};
 ghost use Rattle.tach_media.specs.Medium.{Reads, bytes_at};
@@ -38,6 +38,19 @@ impl<C: Chip> Port<C> {
             chip,
             application,
             selected: Some(APPLICATION),
+        }
+    }
+
+    /// A port over a chip that goes by these sizes.
+    pub fn resume(chip: C, application: Application) -> Port<C>
+        requires { IsPort application None (C.card chip) (C.state chip) }
+        ensures chip { result.chip ≡ chip }
+        ensures sizes { result.application ≡ application }
+    {
+        Port {
+            chip,
+            application,
+            selected: None,
         }
     }
 
@@ -204,13 +217,11 @@ fn directory_of(fid: Fid) -> Directory
 }
 
 impl<C: Chip> Medium for Port<C> {
-    ghost use Rattle.card_layout.specs.Files.{image_size_of};
-    ghost use Rattle.card_commands.specs.Front.{front_coherent};
-    ghost use Rattle.card_commands.specs.Ports.{port_state, writable_of};
+    ghost use Rattle.card_commands.specs.Ports.{port_state, port_coherent};
 
     ghost state = { λ p. port_state p.application (C.state p.chip) };
 
-    ghost coherent = { λ p. front_coherent (image_size_of p.application) (writable_of p.application) (C.state p.chip) (C.coherent p.chip) };
+    ghost coherent = { λ p. port_coherent p.application (C.state p.chip) (C.coherent p.chip) };
 
     fn size(&self) -> u32 {
         image_size(&self.application)

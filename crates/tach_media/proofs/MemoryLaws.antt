@@ -22,8 +22,9 @@ module _ (h : History) (place : ℕ) (left : Left) (bytes : List ℕ) (whole : b
   pub adds : (k k' : Counts) → LeavesOnly (memory_state h k) (memory_state (add h place left bytes) k') (IsPartlyWritten place bytes)
   adds k k' = record {
     size = partly.outside.same_length;
+    behind = refl;
     writable = ap (λ (n : ℕ). (0, n) ∷ []) (partly.outside.same_length);
-    lenders = refl;
+    layers = refl;
     tells = refl;
     later = omega (arith, length-append h.entries (entry ∷ []));
     since = λ t c le was. ⊎_elim inl (λ part. inr (image_of h, refl, part))
@@ -36,7 +37,7 @@ pub settles : (h : History) (k : Counts) → IsSettled (memory_state h k)
 settles h k c left = ap Some (sym (settled h.entries h.written h.start c left))
 
 pub nothing_added : (h : History) (k k' : Counts) (R : List ℕ → List ℕ → Type 0) → LeavesOnly (memory_state h k) (memory_state h k') R
-nothing_added h k k' R = record { size = refl; writable = refl; lenders = refl; tells = refl; later = omega arith; since = λ t c le left. inl left; now = λ c left. inl left; keeps = λ t c le left. left }
+nothing_added h k k' R = record { size = refl; behind = refl; writable = refl; layers = refl; tells = refl; later = omega arith; since = λ t c le left. inl left; now = λ c left. inl left; keeps = λ t c le left. left }
 
 -- a write, whether or not it was begun
 writes_or_not : (h h' : History) (place : ℕ) (left : Left) (bytes : List ℕ) (begun : Bool) → bytes_of h.entries ≡ length h.written → place + length bytes ≤ length (image_of h)

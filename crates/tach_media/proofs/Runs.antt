@@ -4,14 +4,15 @@ use Rattle.tach_media.specs.Medium.{State, IsCoherent, LeavesOnly, Reads, HasCau
 
 -- no call yet
 pub starts : (s : State) (R : List ℕ → List ℕ → Type 0) → LeavesOnly s s R
-starts s R = record { size = refl; writable = refl; lenders = refl; tells = refl; later = omega arith; since = λ t c le left. inl left; now = λ c left. inl left; keeps = λ t c le left. left }
+starts s R = record { size = refl; behind = refl; writable = refl; layers = refl; tells = refl; later = omega arith; since = λ t c le left. inl left; now = λ c left. inl left; keeps = λ t c le left. left }
 
 -- a run, said more weakly
 pub weaken : {old new : State} {R S : List ℕ → List ℕ → Type 0} → LeavesOnly old new S → ((x c : List ℕ) → old.image ≡ Some x → S x c → R x c) → LeavesOnly old new R
 weaken {old} {new} {R} {S} run weaker = record {
   size = run.size;
+  behind = run.behind;
   writable = run.writable;
-  lenders = run.lenders;
+  layers = run.layers;
   tells = run.tells;
   later = run.later;
   since = λ t c le left. ⊎_elim inl (λ here. inr (relate c here)) (run.since t c le left);
@@ -36,8 +37,9 @@ pub goes_on : {old mid new : State} {R S : List ℕ → List ℕ → Type 0} →
     → ((x y c : List ℕ) → old.image ≡ Some x → mid.image ≡ Some y → S y c → R x c) → LeavesOnly old new R
 goes_on {old} {mid} {new} {R} {S} first next weaker = record {
   size = next.size ∙ first.size;
+  behind = next.behind ∙ first.behind;
   writable = next.writable ∙ first.writable;
-  lenders = next.lenders ∙ first.lenders;
+  layers = next.layers ∙ first.layers;
   tells = next.tells ∙ first.tells;
   later = omega (arith, first.later, next.later);
   since = λ t c le left. ⊎_elim (first.since t c le) (λ here. inr (relate c here)) (next.since t c (omega (arith, le, first.later)) left);

@@ -1,10 +1,19 @@
 -- What a medium tells of itself, and what its calls do to that.
 use Rattle.std.specs.Prelude.{◌≡◌, ◌⊎◌, ℕ, ◌+◌, ◌≤◌, ◌^◌, ◌-◌, min, Bool, true, false, not, List, [], ◌∷◌, ◌++◌, length, take, drop, Option, Some, is_some}
 use Rattle.std.specs.Borrow.{GName}
+use Rattle.card_layout.specs.declared.files.Application.{Application}
+
+-- Through what a memory is reached: a reference, or a card's commands by these sizes, where the card has this size, and
+-- these of its ranges may be written.
+pub data Layer : Type 0 where
+  Reference : GName → Layer
+  Commands : Application → (size : ℕ) → (writable : List (ℕ × ℕ)) → Layer
 
 -- A medium as far as it tells. One that doesn't tell its image tells of no image that a stop may leave.
 pub record State : Type 1 where
   pub size : ℕ
+  -- how many bytes its images have behind those that it reaches
+  pub behind : ℕ
   -- the ranges that may be written, each by its place and its length
   pub writable : List (ℕ × ℕ)
   -- the image that a read gives
@@ -19,12 +28,12 @@ pub record State : Type 1 where
   pub works : Bool
   pub faults : ℕ
   pub breakdowns : ℕ
-  -- the references through which it is reached, the outermost first
-  pub lenders : List GName
+  -- through what it is reached, the outermost first
+  pub layers : List Layer
 
 -- What joins these meanings, at every moment.
 pub record IsCoherent (s : State) : Type 0 where
-  pub sized : (x : List ℕ) → s.image ≡ Some x → length x ≡ s.size
+  pub sized : (x : List ℕ) → s.image ≡ Some x → length x ≡ s.size + s.behind
   -- the image is one that a stop may leave, and the only one while the medium works
   pub is_left : (x : List ℕ) → s.image ≡ Some x → s.may_leave x
   pub only : (x : List ℕ) → s.works ≡ true → s.may_leave x → s.image ≡ Some x
@@ -72,8 +81,9 @@ Unchanged old new = ⊥
 -- the one before the run, and at no earlier moment another than was told before.
 pub record LeavesOnly (old new : State) (R : List ℕ → List ℕ → Type 0) : Type 0 where
   pub size : new.size ≡ old.size
+  pub behind : new.behind ≡ old.behind
   pub writable : new.writable ≡ old.writable
-  pub lenders : new.lenders ≡ old.lenders
+  pub layers : new.layers ≡ old.layers
   pub tells : is_some new.image ≡ is_some old.image
   pub later : old.clock ≤ new.clock
   pub since : (t : ℕ) (c : List ℕ) → t ≤ old.clock → new.left_since t c → old.left_since t c ⊎ ((x : List ℕ) × (old.image ≡ Some x) × R x c)
@@ -106,7 +116,7 @@ pub record Reads (old new : State) (failed : Bool) : Type 0 where
 
 -- a medium reached through a reference
 abbrev pub lent : GName → State → State
-lent name s = record s { lenders = name ∷ s.lenders }
+lent name s = record s { layers = Reference name ∷ s.layers }
 
 pub lent_coherent : (name : GName) (s : State) → IsCoherent s → IsCoherent (lent name s)
 lent_coherent name s whole = record { sized = whole.sized; is_left = whole.is_left; only = whole.only; counts_now = whole.counts_now; earlier = whole.earlier }
@@ -118,6 +128,7 @@ revivable s = record s { works = true }
 -- a new medium in memory, with this image and no fault
 pub record IsNew (bytes : List ℕ) (s : State) : Type 0 where
   pub size : s.size ≡ length bytes
+  pub behind : s.behind ≡ 0
   pub writable : LiesInside s.writable 0 (length bytes)
   pub image : s.image ≡ Some bytes
   pub works : s.works ≡ true
@@ -129,6 +140,7 @@ pub record IsNew (bytes : List ℕ) (s : State) : Type 0 where
 -- a medium of this size on which no call was made, and of which all may be written
 pub record IsUntouched (size : ℕ) (s : State) : Type 0 where
   pub sized : s.size ≡ size
+  pub behind : s.behind ≡ 0
   pub writable : LiesInside s.writable 0 size
   pub clock : s.clock ≡ 0
   pub faults : s.faults ≡ 0

@@ -1,6 +1,6 @@
 -- What a medium in memory tells of itself.
 use Rattle.std.specs.Prelude.{◌≡◌, ℕ, ◌==◌, ◌&&◌, ◌||◌, not, is_some, Bool, List, [], ◌∷◌, length, Option, Some, find, option_map, unwrap_or, if◌then◌else◌}
-use Rattle.std.proofs.Common.{ap}
+use Rattle.std.proofs.Common.{ap, arith}
 use Rattle.tach_media.specs.Counting.{failed_once}
 use Rattle.tach_media.specs.Medium.{State, IsCoherent}
 use Rattle.tach_media.specs.Log.{History, image_of, MightLeave, add, has_room}
@@ -21,6 +21,7 @@ pub record MemView : Type 0 where
 abbrev pub memory_state : History → Counts → State
 memory_state h counts = record {
   size = length (image_of h);
+  behind = 0;
   writable = (0, length (image_of h)) ∷ [];
   image = Some (image_of h);
   may_leave = λ c. c ≡ image_of h;
@@ -29,12 +30,12 @@ memory_state h counts = record {
   works = counts.works;
   faults = counts.faults;
   breakdowns = counts.breakdowns;
-  lenders = [];
+  layers = [];
 }
 
 pub coherent : (h : History) (counts : Counts) → IsCoherent (memory_state h counts)
 coherent h counts = record {
-  sized = λ x is. ap length (cc);
+  sized = λ x is. let same : x ≡ image_of h = cc in omega (arith, ap length same);
   is_left = λ x is. cc;
   only = λ x works left. cc;
   counts_now = λ t c le left. now_counts h.entries h.written h.start t c le left;

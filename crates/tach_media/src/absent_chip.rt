@@ -24,7 +24,7 @@ impl AbsentChip {
 }
 
 impl Chip for AbsentChip {
-    ghost state = { λ m. record { size = m.size; writable = (0, m.size) ∷ []; image = None; may_leave = λ c. ⊥; left_since = λ t c. ⊥; clock = 0; works = false; faults = m.faults; breakdowns = m.breakdowns; lenders = [] } };
+    ghost state = { λ m. record { size = m.size; behind = 0; writable = (0, m.size) ∷ []; image = None; may_leave = λ c. ⊥; left_since = λ t c. ⊥; clock = 0; works = false; faults = m.faults; breakdowns = m.breakdowns; layers = [] } };
 
     ghost use Rattle.tach_media.specs.Chip.{just_issued};
 

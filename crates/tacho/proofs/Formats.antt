@@ -13,7 +13,7 @@ use Rattle.tacho.specs.declared.top.Fault.{Fault}
 use Rattle.tacho.specs.declared.top.Fault.TheVariants.{WriteFault, MediumFault}
 use Rattle.tacho.specs.declared.top.TheConstants.{LARGEST}
 use Rattle.tacho.specs.Ends.{end_of}
-use Rattle.tacho.specs.Formatting.{SinkState, EndsFormat, IsIssuing, IsMade, formatted_line}
+use Rattle.tacho.specs.Formatting.{IsCard, SinkState, EndsFormat, IsIssuing, IsMade, formatted_line}
 
 pub largest-size : image_size_of LARGEST ≡ 24959
 unfolding files_of
@@ -73,9 +73,9 @@ make-done device image R old new before after (Err fault) run made settled cause
       finishes = λ no_device no_sink. absurd (no_sink rose);
     })
 
-module _ (device : Device) (image : List ℕ) (old new : State) (whole : IsCoherent old) (size : length image ≡ 24959) (fits : old.size ≡ 24959) where
+module _ (device : Device) (image : List ℕ) (old new : State) (whole : IsCoherent old) (size : length image ≡ 24959) (card : IsCard old) where
   sized : (x : List ℕ) → old.image ≡ Some x → length x ≡ length image
-  sized x told = whole.sized x told ∙ fits ∙ sym size
+  sized x told = omega (arith, whole.sized x told, card.sized, card.behind, size)
 
   -- what a stop leaves of an issue that covers the card
   issuing : LeavesOnly old new (IsIssued image) → LeavesOnly old new (IsIssuing image)

@@ -13,6 +13,11 @@ use Rattle.tacho.specs.declared.top.Fault.TheVariants.{Done, Usage, BadTrace, To
 use Rattle.tacho.specs.declared.top.TheConstants.{LARGEST}
 use Rattle.tacho.specs.Ends.{is_medium_fault}
 
+-- a device that is a card's: it has the largest card's size, and no bytes behind
+pub record IsCard (s : State) : Type 0 where
+  pub sized : s.size ≡ 24959
+  pub behind : s.behind ≡ 0
+
 -- what is printed of a device that was made new
 abbrev pub formatted_line : List ℕ
 formatted_line = codes "formatted" ++ 10 ∷ []

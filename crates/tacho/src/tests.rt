@@ -1,5 +1,6 @@
-ghost use Rattle.std.specs.Prelude.{◌≡◌, IfOk};
+ghost use Rattle.std.specs.Prelude.{IfOk};
 ghost use Rattle.tach_media.specs.MemMedium.{memory_state};
+ghost use Rattle.tacho.specs.Formatting.{IsCard};
 
 use crate::top::{Fault, tacho};
 use crate::words::Words;
@@ -11,7 +12,7 @@ use tach_media::{AbsentMedium, MemMedium, MemSink, MemSource, Memory, Stop};
 
 /// A card in memory, each byte of which is 1. Its calls stop so.
 pub fn card_of_ones(alloc: Global, stops: Vec<Stop>) -> Result<SimCard<MemMedium>, Memory>
-    ensures { IfOk result (λ card. (memory_state card.medium.log card.medium.counts).size ≡ 24959) }
+    ensures { IfOk result (λ card. IsCard (memory_state card.medium.log card.medium.counts)) }
 {
     let ones = vec![in alloc; 1u8; 24959]?;
     let medium = MemMedium::new(alloc, ones, 8, 60000, stops)?;

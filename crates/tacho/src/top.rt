@@ -19,7 +19,7 @@ ghost use Rattle.trace_text.specs.Judged.{IsTraceText, IsBadText, IsLongText};
 ghost use Rattle.tacho.specs.declared.forms.Form.{Form as WordsForm};
 ghost use Rattle.tacho.specs.Forms.{Asks};
 ghost use Rattle.tacho.specs.Minutes.{PrintsMinutes, EndsMinutes, minutes_shown};
-ghost use Rattle.tacho.specs.Formatting.{EndsFormat, IsIssuing, formatted_line, card_image, unit_image};
+ghost use Rattle.tacho.specs.Formatting.{EndsFormat, IsCard, IsIssuing, formatted_line, card_image, unit_image};
 ghost use Rattle.tacho.specs.Ends.{status_of, refusal_of, end_of, IsUnread, IsUnprinted};
 
 use crate::forms::{Form, form_of};
@@ -127,8 +127,8 @@ pub fn tacho<S: Source, K: Sink, U: Medium, C: Chip>(
     card_b: &mut C,
 ) -> Ended
     requires unit { IsUnit (U.state unit.old) }
-    requires card_a_size { (C.state card_a.old).size ≡ CARD_SIZE }
-    requires card_b_size { (C.state card_b.old).size ≡ CARD_SIZE }
+    requires card_a { IsCard (C.state card_a.old) }
+    requires card_b { IsCard (C.state card_b.old) }
     ensures status { result.status ≡ status_of result.fault }
 
     // Usage comes exactly where the words are in no form. All is then as it was.
@@ -186,8 +186,8 @@ fn perform<S: Source, K: Sink, U: Medium, C: Chip>(
     card_b: &mut C,
 ) -> Result<(), Fault>
     requires unit { IsUnit (U.state unit.old) }
-    requires card_a_size { (C.state card_a.old).size ≡ CARD_SIZE }
-    requires card_b_size { (C.state card_b.old).size ≡ CARD_SIZE }
+    requires card_a { IsCard (C.state card_a.old) }
+    requires card_b { IsCard (C.state card_b.old) }
     ensures known { end_of result ≢ Fault.Usage }
 
     ensures minutes { form ≡ Form.Minutes → EndsMinutes
@@ -237,7 +237,7 @@ fn format_card<K: Sink, C: Chip>(
     card: &mut C,
     sink: &mut K,
 ) -> Result<(), Fault>
-    requires { (C.state card.old).size ≡ CARD_SIZE }
+    requires { IsCard (C.state card.old) }
     ensures ends { EndsFormat device (card_image identity.now) (IsIssuing (card_image identity.now)) (C.state card.old) (C.state card.new)
         (record { held = K.held sink.old; faults = K.faults sink.old }) (record { held = K.held sink.new; faults = K.faults sink.new }) (end_of result) }
     ensures state { result ≢ Err Fault.Memory → C.card card.new ≡ just_issued }

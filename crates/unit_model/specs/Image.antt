@@ -10,6 +10,7 @@ use Rattle.unit_model.specs.Days.{UnitDay, Day, UnitMinute, days_shown, minutes_
 -- a medium that is a unit's: it has its size, and all of it may be written
 pub record IsUnit (s : State) : Type 0 where
   pub sized : s.size ≡ 2485808
+  pub behind : s.behind ≡ 0
   pub writable : LiesInside s.writable 0 2485808
 
 -- the number in a field

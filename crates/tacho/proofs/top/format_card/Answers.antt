@@ -10,7 +10,7 @@ pub issue-requires-clause-least : goal.issue-requires-clause-least
 issue-requires-clause-least g c = omega (arith, c.as_slice.ensures.len, c.in-Ok.ensures.size, largest-size)
 
 pub issue-requires-clause-most : goal.issue-requires-clause-most
-issue-requires-clause-most g c = omega (arith, c.as_slice.ensures.len, c.in-Ok.ensures.size, largest-size, c.requires)
+issue-requires-clause-most g c = omega (arith, c.as_slice.ensures.len, c.in-Ok.ensures.size, largest-size, c.requires.sized)
 
 pub returns-then-is_err-clause-ends : goal.returns-then-is_err-clause-ends
 returns-then-is_err-clause-ends g c =

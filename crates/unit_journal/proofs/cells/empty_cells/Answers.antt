@@ -1,6 +1,7 @@
 use Rattle.std.proofs.Common.{◌≡◌, ℕ, ◌+◌, ◌<◌, ◌≤◌, ⊎_elim, length, Some, option_map, refl, sym, ◌∙◌, ap, arith, false}
 use Rattle.std.proofs.lemmas.Bool.{cases_lt}
 use Rattle.tach_media.proofs.Runs.{starts, goes_by, image_both, at_image, cause_after}
+use Rattle.unit_model.proofs.Sized.{unit_sized}
 use Rattle.unit_model.specs.Decoding.{cell_minute}
 use Rattle.unit_memory.proofs.Told.{told_all}
 use Rattle.unit_journal.specs.Mends.{IsEmptyingAll, cell_emptied, cells_emptied}
@@ -33,7 +34,7 @@ loop-nth-preserved g c =
       emptied = image_both old.image _ _ (cells_emptied k n) (cell_emptied k n) (cells_emptied k (n + 1)) was.emptied e.emptied (λ x is. sym (cells_more k n x));
       moments = goes_by (cells_emptied k n) was.moments was.emptied c.empty_cell.ensures.moments (λ x d is s. emptying_more k n x d (omega arith) s);
       idle = told_all old.image _ (λ x is low.
-          let sized : length x ≡ 2485808 = (g.met.M.Medium.coherent c.args.unit.now).sized x is ∙ c.requires.unit.sized in
+          let sized : length x ≡ 2485808 = unit_sized (g.met.M.Medium.coherent c.args.unit.now) c.requires.unit x is in
           let here : mid.image ≡ Some (cells_emptied k n x) = was.emptied ∙ ap (option_map (cells_emptied k n)) is in
           at_image (λ y. cell_minute y n ≤ k → new.clock ≡ mid.clock) here e.idle (next_not_later k n x sized (omega arith) (low n (omega arith)))
           ∙ at_image (λ x. ((m : ℕ) → m < 32 → cell_minute x m ≤ k) → mid.clock ≡ old.clock) is was.idle low);

@@ -1,5 +1,6 @@
 use Rattle.std.proofs.Common.{arith, ◌∙◌}
 use Rattle.tach_media.proofs.Runs.{goes_by}
+use Rattle.unit_model.proofs.Sized.{unit_sized}
 use Rattle.unit_journal.specs.Changes.{change}
 use Rattle.unit_journal.specs.Image.{free_place, written}
 use Rattle.unit_journal.proofs.Behind.{behind_after}
@@ -13,4 +14,4 @@ returns-clause-moments g c =
     let ws = change 0 c.args.minute c.args.driver c.args.new_driver in
     goes_by (written (free_place i n) ws) c.write_change.ensures.moments c.in_ok-count.ensures.written c.write_change-2.ensures.moments (λ x d was s.
     behind_after i n c.in_ok-count.count ws x d c.requires.index c.in_ok-count.ensures.count (omega (arith, c.in_ok-count.ensures.count, c.requires.room, change_few 0 c.args.minute c.args.driver c.args.new_driver))
-    ((g.met.M.Medium.coherent c.args.unit.now).sized x was ∙ c.requires.unit.sized) s)
+    (unit_sized (g.met.M.Medium.coherent c.args.unit.now) c.requires.unit x was) s)

@@ -2,6 +2,7 @@ use Rattle.std.proofs.Common.{◌≡◌, ℕ, ◌+◌, ◌-◌, ◌≤◌, List,
 use Rattle.tach_media.specs.Medium.{put}
 use Rattle.tach_media.proofs.Ranges.{lies_still}
 use Rattle.tach_media.proofs.Runs.{starts, goes_by, image_both, cause_after}
+use Rattle.unit_model.proofs.Sized.{unit_sized}
 use Rattle.unit_model.specs.NewImage.{zeros}
 use Rattle.unit_memory.proofs.Formatting.{idle, nothing_written, chunk_put, chunk_part, chunk_length}
 use Rattle.unit_memory.proofs.format.clear.Goals as goal
@@ -31,7 +32,7 @@ returns-in_err-write_at-clause-moments g c =
     let few : size ≤ 4096 = omega arith in
     goes_by (put from (zeros (at - from))) was.moments was.cleared c.write_at.ensures.moments (λ x d is part.
     chunk_part from (c.args.to - from) (at - from) size at x (omega (arith, was.low)) (omega (arith, was.low, was.high)) few (omega (arith, c.requires.order))
-    (omega (arith, c.requires.order, c.requires.inside, (g.met.M.Medium.coherent c.args.unit.now).sized x is ∙ c.requires.unit.sized)) d
+    (omega (arith, c.requires.order, c.requires.inside, unit_sized (g.met.M.Medium.coherent c.args.unit.now) c.requires.unit x is)) d
     (subst (λ (l : List ℕ). Rattle.tach_media.specs.Medium.IsPartlyWritten at (Rattle.std.proofs.Common.take size l) (put from (zeros (at - from)) x) d) c.chunk-zeros.ensures part))
 
 pub loop-at-preserved : goal.loop-at-preserved
@@ -47,11 +48,11 @@ loop-at-preserved g c =
       cleared = image_both (g.M.Medium.state c.args.unit.now).image _ _ (put from (zeros (at - from))) (put at (Rattle.std.proofs.Common.take size c.chunk-zeros.result)) (put from (zeros (at + size - from))) was.cleared c.in_ok-write_at.ensures.written (λ x is.
           ap (λ (l : List ℕ). put at (Rattle.std.proofs.Common.take size l) (put from (zeros (at - from)) x)) c.chunk-zeros.ensures
           ∙ chunk_put from (c.args.to - from) (at - from) size at x (omega (arith, was.low)) (omega (arith, was.low, was.high)) few (omega (arith, c.requires.order))
-          (omega (arith, c.requires.order, c.requires.inside, (g.met.M.Medium.coherent c.args.unit.now).sized x is ∙ c.requires.unit.sized))
+          (omega (arith, c.requires.order, c.requires.inside, unit_sized (g.met.M.Medium.coherent c.args.unit.now) c.requires.unit x is))
           ∙ ap (λ (n : ℕ). put from (zeros n) x) (omega (arith, was.low)));
       moments = goes_by (put from (zeros (at - from))) was.moments was.cleared c.write_at.ensures.moments (λ x d is part.
           chunk_part from (c.args.to - from) (at - from) size at x (omega (arith, was.low)) (omega (arith, was.low, was.high)) few (omega (arith, c.requires.order))
-          (omega (arith, c.requires.order, c.requires.inside, (g.met.M.Medium.coherent c.args.unit.now).sized x is ∙ c.requires.unit.sized)) d
+          (omega (arith, c.requires.order, c.requires.inside, unit_sized (g.met.M.Medium.coherent c.args.unit.now) c.requires.unit x is)) d
           (subst (λ (l : List ℕ). Rattle.tach_media.specs.Medium.IsPartlyWritten at (Rattle.std.proofs.Common.take size l) (put from (zeros (at - from)) x) d) c.chunk-zeros.ensures part));
       cause = cause_after was.cause c.in_ok-write_at.ensures.cause;
     }

@@ -3,6 +3,7 @@ use Rattle.std.specs.Int.{to_be_bytes, w32}
 use Rattle.tach_media.specs.Medium.{put}
 use Rattle.tach_media.proofs.Ranges.{lies_part, lies_still}
 use Rattle.tach_media.proofs.Runs.{weaken, goes_by, image_then, image_both}
+use Rattle.unit_model.proofs.Sized.{unit_sized}
 use Rattle.unit_model.specs.NewImage.{zeros, new_image}
 use Rattle.unit_memory.specs.Formats.{identified}
 use Rattle.unit_memory.proofs.Formatting.{moment_1, moment_2, moment_3, moment_4, all_written}
@@ -20,7 +21,7 @@ returns-in_err-identify-clause-moments g c =
     let v = c.args.identity.now.vin in
     let r = c.args.identity.now.registration.0 in
     let l = c.args.identity.now.limit in
-    let sized = λ (x : List ℕ) (is : (g.M.Medium.state c.args.unit.now).image ≡ Some x). (g.met.M.Medium.coherent c.args.unit.now).sized x is ∙ c.requires.unit.sized in
+    let sized = λ (x : List ℕ) (is : (g.M.Medium.state c.args.unit.now).image ≡ Some x). unit_sized (g.met.M.Medium.coherent c.args.unit.now) c.requires.unit x is in
     goes_by (put 0 (to_be_bytes w32 0)) (weaken c.write_at.ensures.moments (λ x d is part. moment_1 (new_image v r l) x (sized x is) d part)) c.in_ok-write_at.ensures.written c.identify.ensures.moments (λ x d is same.
     moment_2 (new_image v r l) x (sized x is) d same)
 
@@ -30,7 +31,7 @@ returns-in_err-clear-clause-moments g c =
     let r = c.args.identity.now.registration.0 in
     let l = c.args.identity.now.limit in
     let e = c.in_ok-identify.ensures in
-    let sized = λ (x : List ℕ) (is : (g.M.Medium.state c.args.unit.now).image ≡ Some x). (g.met.M.Medium.coherent c.args.unit.now).sized x is ∙ c.requires.unit.sized in
+    let sized = λ (x : List ℕ) (is : (g.M.Medium.state c.args.unit.now).image ≡ Some x). unit_sized (g.met.M.Medium.coherent c.args.unit.now) c.requires.unit x is in
     let first = put 0 (to_be_bytes w32 0) in
     goes_by (λ x. identified v r l (first x))
     (goes_by first (weaken c.write_at.ensures.moments (λ x d is part. moment_1 (new_image v r l) x (sized x is) d part)) c.in_ok-write_at.ensures.written c.identify.ensures.moments (λ x d is same.
@@ -44,7 +45,7 @@ returns-in_err-write_at-2-clause-moments g c =
     let r = c.args.identity.now.registration.0 in
     let l = c.args.identity.now.limit in
     let e = c.in_ok-identify.ensures in
-    let sized = λ (x : List ℕ) (is : (g.M.Medium.state c.args.unit.now).image ≡ Some x). (g.met.M.Medium.coherent c.args.unit.now).sized x is ∙ c.requires.unit.sized in
+    let sized = λ (x : List ℕ) (is : (g.M.Medium.state c.args.unit.now).image ≡ Some x). unit_sized (g.met.M.Medium.coherent c.args.unit.now) c.requires.unit x is in
     let first = put 0 (to_be_bytes w32 0) in
     let o = (g.M.Medium.state c.args.unit.now).image in
     let named = image_then o _ _ first (identified v r l) c.in_ok-write_at.ensures.written c.in_ok-identify.ensures.identified in
@@ -62,7 +63,7 @@ returns-clause-formatted g c =
     let r = c.args.identity.now.registration.0 in
     let l = c.args.identity.now.limit in
     let e = c.in_ok-identify.ensures in
-    let sized = λ (x : List ℕ) (is : (g.M.Medium.state c.args.unit.now).image ≡ Some x). (g.met.M.Medium.coherent c.args.unit.now).sized x is ∙ c.requires.unit.sized in
+    let sized = λ (x : List ℕ) (is : (g.M.Medium.state c.args.unit.now).image ≡ Some x). unit_sized (g.met.M.Medium.coherent c.args.unit.now) c.requires.unit x is in
     let first = put 0 (to_be_bytes w32 0) in
     let o = (g.M.Medium.state c.args.unit.now).image in
     let named = image_then o _ _ first (identified v r l) c.in_ok-write_at.ensures.written c.in_ok-identify.ensures.identified in
@@ -76,7 +77,7 @@ returns-clause-moments g c =
     let r = c.args.identity.now.registration.0 in
     let l = c.args.identity.now.limit in
     let e = c.in_ok-identify.ensures in
-    let sized = λ (x : List ℕ) (is : (g.M.Medium.state c.args.unit.now).image ≡ Some x). (g.met.M.Medium.coherent c.args.unit.now).sized x is ∙ c.requires.unit.sized in
+    let sized = λ (x : List ℕ) (is : (g.M.Medium.state c.args.unit.now).image ≡ Some x). unit_sized (g.met.M.Medium.coherent c.args.unit.now) c.requires.unit x is in
     let first = put 0 (to_be_bytes w32 0) in
     let o = (g.M.Medium.state c.args.unit.now).image in
     let named = image_then o _ _ first (identified v r l) c.in_ok-write_at.ensures.written c.in_ok-identify.ensures.identified in

@@ -2,6 +2,7 @@ use Rattle.std.proofs.Common.{◌≡◌, ℕ, [], ◌∷◌, List, length, ◌�
 use Rattle.tach_media.specs.Medium.{put}
 use Rattle.tach_media.proofs.Ranges.{lies_part, lies_still}
 use Rattle.tach_media.proofs.Runs.{weaken, goes_by, image_then}
+use Rattle.unit_model.proofs.Sized.{unit_sized}
 use Rattle.unit_memory.proofs.Formatting.{part_1, part_2, part_3}
 use Rattle.unit_memory.proofs.format.identify.Goals as goal
 
@@ -27,7 +28,7 @@ returns-in_err-write_at-2-clause-moments g c =
     let r = c.args.identity.now.registration.0 in
     let v_length : length v ≡ 17 = omega arith in
     let r_length : length r ≡ 15 = omega arith in
-    let sized = λ (x : List ℕ) (is : (g.M.Medium.state c.args.unit.now).image ≡ Rattle.std.proofs.Common.Some x). (g.met.M.Medium.coherent c.args.unit.now).sized x is ∙ c.requires.unit.sized in
+    let sized = λ (x : List ℕ) (is : (g.M.Medium.state c.args.unit.now).image ≡ Rattle.std.proofs.Common.Some x). unit_sized (g.met.M.Medium.coherent c.args.unit.now) c.requires.unit x is in
     goes_by (put 4 v) (weaken c.write_at.ensures.moments (λ x d is part. part_1 v v_length x d part)) c.in_ok-write_at.ensures.written c.write_at-2.ensures.moments (λ x d is part.
     part_2 v r c.args.identity.now.limit v_length r_length x (sized x is) d part)
 
@@ -38,7 +39,7 @@ returns-in_err-write_at-3-clause-moments g c =
     let l = c.args.identity.now.limit in
     let v_length : length v ≡ 17 = omega arith in
     let r_length : length r ≡ 15 = omega arith in
-    let sized = λ (x : List ℕ) (is : (g.M.Medium.state c.args.unit.now).image ≡ Rattle.std.proofs.Common.Some x). (g.met.M.Medium.coherent c.args.unit.now).sized x is ∙ c.requires.unit.sized in
+    let sized = λ (x : List ℕ) (is : (g.M.Medium.state c.args.unit.now).image ≡ Rattle.std.proofs.Common.Some x). unit_sized (g.met.M.Medium.coherent c.args.unit.now) c.requires.unit x is in
     goes_by (λ x. put 21 r (put 4 v x))
     (goes_by (put 4 v) (weaken c.write_at.ensures.moments (λ x d is part. part_1 v v_length x d part)) c.in_ok-write_at.ensures.written c.write_at-2.ensures.moments (λ x d is part.
     part_2 v r l v_length r_length x (sized x is) d part))
@@ -52,7 +53,7 @@ returns-clause-moments g c =
     let l = c.args.identity.now.limit in
     let v_length : length v ≡ 17 = omega arith in
     let r_length : length r ≡ 15 = omega arith in
-    let sized = λ (x : List ℕ) (is : (g.M.Medium.state c.args.unit.now).image ≡ Rattle.std.proofs.Common.Some x). (g.met.M.Medium.coherent c.args.unit.now).sized x is ∙ c.requires.unit.sized in
+    let sized = λ (x : List ℕ) (is : (g.M.Medium.state c.args.unit.now).image ≡ Rattle.std.proofs.Common.Some x). unit_sized (g.met.M.Medium.coherent c.args.unit.now) c.requires.unit x is in
     goes_by (λ x. put 21 r (put 4 v x))
     (goes_by (put 4 v) (weaken c.write_at.ensures.moments (λ x d is part. part_1 v v_length x d part)) c.in_ok-write_at.ensures.written c.write_at-2.ensures.moments (λ x d is part.
     part_2 v r l v_length r_length x (sized x is) d part))

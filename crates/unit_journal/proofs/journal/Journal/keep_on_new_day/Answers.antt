@@ -3,6 +3,7 @@ use Rattle.tach_media.proofs.Images.{partly_at}
 use Rattle.tach_media.proofs.Ranges.{lies_part}
 use Rattle.tach_media.proofs.Runs.{weaken, goes_by, image_then, at_image, where_told}
 use Rattle.gated_ring.specs.Ring.{pointer, taken}
+use Rattle.unit_model.proofs.Sized.{unit_sized}
 use Rattle.unit_model.specs.Days.{UnitMinute, minute_by}
 use Rattle.unit_model.specs.Image.{day_ring}
 use Rattle.unit_journal.specs.Image.{Notes, IsNotes, Agrees, IsKept, IsKeeping, IsBegun, with_odometer, closed, notes_begun}
@@ -26,7 +27,7 @@ returns-in_err-write_at-clause-moments g c =
     let old = g.M.Medium.state c.args.unit.now in
     let it : UnitMinute = minute_by m dn cn in
     let first = weaken {R = IsKeeping it odo} c.write_at.ensures.moments (λ x d was part.
-    odometer_kept it odo x d ((g.met.M.Medium.coherent c.args.unit.now).sized x was ∙ q.unit.sized) q.odometer (partly_at refl c.to_be_bytes.ensures part)) in
+    odometer_kept it odo x d (unit_sized (g.met.M.Medium.coherent c.args.unit.now) q.unit x was) q.odometer (partly_at refl c.to_be_bytes.ensures part)) in
     first
 
 pub returns-in_err-close-clause-moments : goal.returns-in_err-close-clause-moments
@@ -40,9 +41,9 @@ returns-in_err-close-clause-moments g c =
     let old = g.M.Medium.state c.args.unit.now in
     let it : UnitMinute = minute_by m dn cn in
     let first = weaken {R = IsKeeping it odo} c.write_at.ensures.moments (λ x d was part.
-    odometer_kept it odo x d ((g.met.M.Medium.coherent c.args.unit.now).sized x was ∙ q.unit.sized) q.odometer (partly_at refl c.to_be_bytes.ensures part)) in
+    odometer_kept it odo x d (unit_sized (g.met.M.Medium.coherent c.args.unit.now) q.unit x was) q.odometer (partly_at refl c.to_be_bytes.ensures part)) in
     let ok : IsNotes j = c.close.ensures.shape in
-    let sized : (x : List ℕ) → old.image ≡ Some x → length x ≡ 2485808 = λ x was. (g.met.M.Medium.coherent c.args.unit.now).sized x was ∙ q.unit.sized in
+    let sized : (x : List ℕ) → old.image ≡ Some x → length x ≡ 2485808 = λ x was. unit_sized (g.met.M.Medium.coherent c.args.unit.now) q.unit x was in
     let agrees : (x : List ℕ) → old.image ≡ Some x → Agrees j x = λ x was. at_image (Agrees j) was q.agrees in
     let known1 = wrote _ _ 568 c.to_be_bytes.ensures c.in_ok-write_at.ensures.written in
     let second = goes_by {R = IsKeeping it odo} (with_odometer odo) first known1 c.close.ensures.moments (λ x d was s. closing_moment j ok x (sized x was) (agrees x was) m dn cn odo q.small q.driver q.codriver q.odometer q.later d s) in
@@ -59,9 +60,9 @@ returns-in_err-begin-clause-moments g c =
     let old = g.M.Medium.state c.args.unit.now in
     let it : UnitMinute = minute_by m dn cn in
     let first = weaken {R = IsKeeping it odo} c.write_at.ensures.moments (λ x d was part.
-    odometer_kept it odo x d ((g.met.M.Medium.coherent c.args.unit.now).sized x was ∙ q.unit.sized) q.odometer (partly_at refl c.to_be_bytes.ensures part)) in
+    odometer_kept it odo x d (unit_sized (g.met.M.Medium.coherent c.args.unit.now) q.unit x was) q.odometer (partly_at refl c.to_be_bytes.ensures part)) in
     let ok : IsNotes j = c.close.ensures.shape in
-    let sized : (x : List ℕ) → old.image ≡ Some x → length x ≡ 2485808 = λ x was. (g.met.M.Medium.coherent c.args.unit.now).sized x was ∙ q.unit.sized in
+    let sized : (x : List ℕ) → old.image ≡ Some x → length x ≡ 2485808 = λ x was. unit_sized (g.met.M.Medium.coherent c.args.unit.now) q.unit x was in
     let agrees : (x : List ℕ) → old.image ≡ Some x → Agrees j x = λ x was. at_image (Agrees j) was q.agrees in
     let known1 = wrote _ _ 568 c.to_be_bytes.ensures c.in_ok-write_at.ensures.written in
     let second = goes_by {R = IsKeeping it odo} (with_odometer odo) first known1 c.close.ensures.moments (λ x d was s. closing_moment j ok x (sized x was) (agrees x was) m dn cn odo q.small q.driver q.codriver q.odometer q.later d s) in
@@ -83,9 +84,9 @@ returns-clause-moments g c =
     let old = g.M.Medium.state c.args.unit.now in
     let it : UnitMinute = minute_by m dn cn in
     let first = weaken {R = IsKeeping it odo} c.write_at.ensures.moments (λ x d was part.
-    odometer_kept it odo x d ((g.met.M.Medium.coherent c.args.unit.now).sized x was ∙ q.unit.sized) q.odometer (partly_at refl c.to_be_bytes.ensures part)) in
+    odometer_kept it odo x d (unit_sized (g.met.M.Medium.coherent c.args.unit.now) q.unit x was) q.odometer (partly_at refl c.to_be_bytes.ensures part)) in
     let ok : IsNotes j = c.close.ensures.shape in
-    let sized : (x : List ℕ) → old.image ≡ Some x → length x ≡ 2485808 = λ x was. (g.met.M.Medium.coherent c.args.unit.now).sized x was ∙ q.unit.sized in
+    let sized : (x : List ℕ) → old.image ≡ Some x → length x ≡ 2485808 = λ x was. unit_sized (g.met.M.Medium.coherent c.args.unit.now) q.unit x was in
     let agrees : (x : List ℕ) → old.image ≡ Some x → Agrees j x = λ x was. at_image (Agrees j) was q.agrees in
     let known1 = wrote _ _ 568 c.to_be_bytes.ensures c.in_ok-write_at.ensures.written in
     let second = goes_by {R = IsKeeping it odo} (with_odometer odo) first known1 c.close.ensures.moments (λ x d was s. closing_moment j ok x (sized x was) (agrees x was) m dn cn odo q.small q.driver q.codriver q.odometer q.later d s) in
@@ -107,9 +108,9 @@ begin-requires-clause-known g c =
     let old = g.M.Medium.state c.args.unit.now in
     let it : UnitMinute = minute_by m dn cn in
     let first = weaken {R = IsKeeping it odo} c.write_at.ensures.moments (λ x d was part.
-    odometer_kept it odo x d ((g.met.M.Medium.coherent c.args.unit.now).sized x was ∙ q.unit.sized) q.odometer (partly_at refl c.to_be_bytes.ensures part)) in
+    odometer_kept it odo x d (unit_sized (g.met.M.Medium.coherent c.args.unit.now) q.unit x was) q.odometer (partly_at refl c.to_be_bytes.ensures part)) in
     let ok : IsNotes j = c.close.ensures.shape in
-    let sized : (x : List ℕ) → old.image ≡ Some x → length x ≡ 2485808 = λ x was. (g.met.M.Medium.coherent c.args.unit.now).sized x was ∙ q.unit.sized in
+    let sized : (x : List ℕ) → old.image ≡ Some x → length x ≡ 2485808 = λ x was. unit_sized (g.met.M.Medium.coherent c.args.unit.now) q.unit x was in
     let agrees : (x : List ℕ) → old.image ≡ Some x → Agrees j x = λ x was. at_image (Agrees j) was q.agrees in
     let known1 = wrote _ _ 568 c.to_be_bytes.ensures c.in_ok-write_at.ensures.written in
     let second = goes_by {R = IsKeeping it odo} (with_odometer odo) first known1 c.close.ensures.moments (λ x d was s. closing_moment j ok x (sized x was) (agrees x was) m dn cn odo q.small q.driver q.codriver q.odometer q.later d s) in
@@ -130,9 +131,9 @@ returns-clause-kept g c =
     let old = g.M.Medium.state c.args.unit.now in
     let it : UnitMinute = minute_by m dn cn in
     let first = weaken {R = IsKeeping it odo} c.write_at.ensures.moments (λ x d was part.
-    odometer_kept it odo x d ((g.met.M.Medium.coherent c.args.unit.now).sized x was ∙ q.unit.sized) q.odometer (partly_at refl c.to_be_bytes.ensures part)) in
+    odometer_kept it odo x d (unit_sized (g.met.M.Medium.coherent c.args.unit.now) q.unit x was) q.odometer (partly_at refl c.to_be_bytes.ensures part)) in
     let ok : IsNotes j = c.close.ensures.shape in
-    let sized : (x : List ℕ) → old.image ≡ Some x → length x ≡ 2485808 = λ x was. (g.met.M.Medium.coherent c.args.unit.now).sized x was ∙ q.unit.sized in
+    let sized : (x : List ℕ) → old.image ≡ Some x → length x ≡ 2485808 = λ x was. unit_sized (g.met.M.Medium.coherent c.args.unit.now) q.unit x was in
     let agrees : (x : List ℕ) → old.image ≡ Some x → Agrees j x = λ x was. at_image (Agrees j) was q.agrees in
     let known1 = wrote _ _ 568 c.to_be_bytes.ensures c.in_ok-write_at.ensures.written in
     let second = goes_by {R = IsKeeping it odo} (with_odometer odo) first known1 c.close.ensures.moments (λ x d was s. closing_moment j ok x (sized x was) (agrees x was) m dn cn odo q.small q.driver q.codriver q.odometer q.later d s) in
@@ -162,9 +163,9 @@ returns-clause-agrees g c =
     let old = g.M.Medium.state c.args.unit.now in
     let it : UnitMinute = minute_by m dn cn in
     let first = weaken {R = IsKeeping it odo} c.write_at.ensures.moments (λ x d was part.
-    odometer_kept it odo x d ((g.met.M.Medium.coherent c.args.unit.now).sized x was ∙ q.unit.sized) q.odometer (partly_at refl c.to_be_bytes.ensures part)) in
+    odometer_kept it odo x d (unit_sized (g.met.M.Medium.coherent c.args.unit.now) q.unit x was) q.odometer (partly_at refl c.to_be_bytes.ensures part)) in
     let ok : IsNotes j = c.close.ensures.shape in
-    let sized : (x : List ℕ) → old.image ≡ Some x → length x ≡ 2485808 = λ x was. (g.met.M.Medium.coherent c.args.unit.now).sized x was ∙ q.unit.sized in
+    let sized : (x : List ℕ) → old.image ≡ Some x → length x ≡ 2485808 = λ x was. unit_sized (g.met.M.Medium.coherent c.args.unit.now) q.unit x was in
     let agrees : (x : List ℕ) → old.image ≡ Some x → Agrees j x = λ x was. at_image (Agrees j) was q.agrees in
     let known1 = wrote _ _ 568 c.to_be_bytes.ensures c.in_ok-write_at.ensures.written in
     let second = goes_by {R = IsKeeping it odo} (with_odometer odo) first known1 c.close.ensures.moments (λ x d was s. closing_moment j ok x (sized x was) (agrees x was) m dn cn odo q.small q.driver q.codriver q.odometer q.later d s) in

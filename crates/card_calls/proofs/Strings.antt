@@ -1,0 +1,27 @@
+-- The string of days behind a port.
+use Rattle.std.proofs.Common.{◌≡◌, ◌+◌, ◌*◌, ◌≤◌, ℕ, Option, inl, inr, arith, sym, subst}
+use Rattle.card_layout.specs.declared.files.Application.{Application}
+use Rattle.card_layout.specs.Files.{files_of, image_size_of}
+use Rattle.card_layout.proofs.Sizes.{largest_image}
+use Rattle.tach_media.specs.declared.command.CardState.{CardState}
+use Rattle.tach_media.specs.declared.command.ElementaryFile.{ElementaryFile}
+use Rattle.tach_media.specs.Medium.{State, LiesInside}
+use Rattle.card_model.specs.Image.{Shape}
+use Rattle.card_commands.specs.Ports.{IsPort, port_state, writable_of}
+use Rattle.cyclic_days.specs.Moments.{FitsIn}
+use Rattle.card_calls.specs.Strings.{days_at}
+
+inside : (app : Application) → 43 + 144 * app.events + 48 * app.faults + (4 + app.activity) ≤ image_size_of app
+unfolding files_of
+inside app = omega arith
+
+writable : (app : Application) → LiesInside (writable_of app) (43 + 144 * app.events + 48 * app.faults) (4 + app.activity)
+unfolding files_of
+writable app = inr (inr (inl (omega arith, omega arith)))
+
+module _ {app : Application} {selected : Option ElementaryFile} {card : CardState} {s : State} (port : IsPort app selected card s) {days : Shape} (at : days ≡ days_at app) where
+  pub days_fit : FitsIn days (port_state app s)
+  days_fit = subst (λ (r : Shape). FitsIn r (port_state app s)) (sym at) (omega (arith, inside app, largest_image app port.good, port.size))
+
+pub days_writable : (app : Application) {days : Shape} → days ≡ days_at app → LiesInside (writable_of app) days.base (4 + days.size)
+days_writable app at = subst (λ (r : Shape). LiesInside (writable_of app) r.base (4 + r.size)) (sym at) (writable app)

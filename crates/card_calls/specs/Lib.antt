@@ -1,0 +1,4 @@
+pub mod Lending
+pub mod Sessions
+pub mod Stops
+pub mod Strings

@@ -1,0 +1,12 @@
+//! Calls on a lent card through a port, said of the card itself.
+#![tactic(auto)]
+
+mod lending;
+mod open;
+mod plain;
+mod session;
+
+pub use lending::{Stop, add_word_by, add_word_on};
+pub use open::open;
+pub use plain::{Sessions, run_plain};
+pub use session::Session;
