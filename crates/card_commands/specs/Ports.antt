@@ -29,6 +29,7 @@ port_state app s = record s {
 pub port_coherent : (app : Application) (s : State) → IsCoherent s → IsCoherent (port_state app s)
 port_coherent app s whole = record {
   sized = λ x is. omega (arith, whole.sized x is);
+  left_sized = λ c left. omega (arith, whole.left_sized c left);
   is_left = whole.is_left;
   only = whole.only;
   counts_now = whole.counts_now;

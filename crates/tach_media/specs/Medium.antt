@@ -34,6 +34,7 @@ pub record State : Type 1 where
 -- What joins these meanings, at every moment.
 pub record IsCoherent (s : State) : Type 0 where
   pub sized : (x : List ℕ) → s.image ≡ Some x → length x ≡ s.size + s.behind
+  pub left_sized : (c : List ℕ) → s.may_leave c → length c ≡ s.size + s.behind
   -- the image is one that a stop may leave, and the only one while the medium works
   pub is_left : (x : List ℕ) → s.image ≡ Some x → s.may_leave x
   pub only : (x : List ℕ) → s.works ≡ true → s.may_leave x → s.image ≡ Some x
@@ -119,7 +120,7 @@ abbrev pub lent : GName → State → State
 lent name s = record s { layers = Reference name ∷ s.layers }
 
 pub lent_coherent : (name : GName) (s : State) → IsCoherent s → IsCoherent (lent name s)
-lent_coherent name s whole = record { sized = whole.sized; is_left = whole.is_left; only = whole.only; counts_now = whole.counts_now; earlier = whole.earlier }
+lent_coherent name s whole = record { sized = whole.sized; left_sized = whole.left_sized; is_left = whole.is_left; only = whole.only; counts_now = whole.counts_now; earlier = whole.earlier }
 
 -- as if the medium worked: a `revive` that fails is a breakdown too
 abbrev pub revivable : State → State

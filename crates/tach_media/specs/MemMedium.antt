@@ -36,6 +36,7 @@ memory_state h counts = record {
 pub coherent : (h : History) (counts : Counts) → IsCoherent (memory_state h counts)
 coherent h counts = record {
   sized = λ x is. let same : x ≡ image_of h = cc in omega (arith, ap length same);
+  left_sized = λ c left. omega (arith, ap length left);
   is_left = λ x is. cc;
   only = λ x works left. cc;
   counts_now = λ t c le left. now_counts h.entries h.written h.start t c le left;
