@@ -2,11 +2,11 @@
 #![tactic(auto)]
 
 mod lending;
-mod open;
+mod opening;
 mod plain;
 mod session;
 
 pub use lending::{Stop, add_word_by, add_word_on};
-pub use open::open;
+pub use opening::open;
 pub use plain::{Sessions, run_plain};
 pub use session::Session;

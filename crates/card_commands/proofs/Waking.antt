@@ -1,5 +1,5 @@
 -- A command that comes after a read of the medium.
-use Rattle.std.proofs.Common.{◌≡◌, ℕ, ◌/◌, ◌%◌, Bool, true, false, List, [], ◌∷◌, ◌++◌, Option, option_map, Result, refl, ◌∙◌, ap, subst}
+use Rattle.std.proofs.Common.{◌≡◌, ℕ, ◌/◌, ◌%◌, Bool, true, false, List, [], ◌∷◌, ◌++◌, Option, option_map, Result, refl, ◌∙◌, ap, subst, arith}
 use Rattle.tach_media.specs.Medium.{State, LeavesOnly, Reads, Rose, put}
 use Rattle.tach_media.specs.Chip.{Effect, nothing, gives, puts, Does, Writes, IsAnswered, outcome_from}
 use Rattle.tach_media.specs.Commands.{command_of}
@@ -12,7 +12,7 @@ use Rattle.card_commands.specs.Performing.{IsPerformed}
 pub fails_at_once : (effect : Effect) (old new : State) → Reads old new true → Does effect old new true
 fails_at_once nothing old new reads = reads
 fails_at_once (gives file offset len) old new reads = reads
-fails_at_once (puts place bytes) old new reads = record { written = λ no. absurd (cc); leaves = weaken reads.leaves (λ x c was none. absurd none); settled = λ no. absurd (cc); clock = λ no. absurd (cc); cause = reads.cause }
+fails_at_once (puts place bytes) old new reads = record { written = λ no. absurd (cc); leaves = weaken reads.leaves (λ x c was none. absurd none); settled = λ no. absurd (cc); clock = λ no. absurd (cc); few = omega (arith, reads.clock); cause = reads.cause }
 
 -- a read that went well, and then the command
 pub goes_on_with : (effect : Effect) (old mid new : State) (failed : Bool) → Reads old mid false → Does effect mid new failed → Does effect old new failed
@@ -23,6 +23,7 @@ goes_on_with (puts place bytes) old mid new failed reads does = record {
   leaves = after_reads reads.leaves (reads.same refl) does.leaves;
   settled = does.settled;
   clock = λ fine. subst (λ (n : ℕ). Rose n new.clock) reads.clock (does.clock fine);
+  few = omega (arith, reads.clock, does.few);
   cause = cause_after reads.cause does.cause;
 }
 

@@ -18,7 +18,7 @@ module _ (name : GName) {old new : State} where
 pub lent_does : (name : GName) (effect : Effect) (old new : State) (failed : Bool) → Does effect old new failed → Does effect (lent name old) (lent name new) failed
 lent_does name nothing old new failed does = lent_reads name does
 lent_does name (gives file offset len) old new failed does = lent_reads name does
-lent_does name (puts place bytes) old new failed does = record { written = does.written; leaves = lent_leaves name does.leaves; settled = does.settled; clock = does.clock; cause = lent_cause name does.cause }
+lent_does name (puts place bytes) old new failed does = record { written = does.written; leaves = lent_leaves name does.leaves; settled = does.settled; clock = does.clock; few = does.few; cause = lent_cause name does.cause }
 
 -- what a run through references says of the memory itself: the references are the same, and the run is
 module _ {a b : GName} {old new : State} where

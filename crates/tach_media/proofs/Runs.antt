@@ -1,6 +1,9 @@
 -- How a run of device calls goes on.
-use Rattle.std.proofs.Common.{true, sym, ◌≡◌, inl, inr, ⊎_elim, ℕ, Bool, false, List, Option, Some, None, is_some, option_map, IfSome, refl, ◌∙◌, ap, subst, arith}
-use Rattle.tach_media.specs.Medium.{State, IsCoherent, LeavesOnly, Reads, HasCause, IsSettled, Unchanged}
+use Rattle.std.proofs.Common.{true, sym, ◌≡◌, inl, inr, ⊎_elim, ℕ, Bool, false, List, length, Option, Some, None, is_some, option_map, IfSome, refl, ◌∙◌, ap, subst, arith}
+use Rattle.std.specs.Prelude.{◌+◌, ◌-◌, ◌<◌, ◌≤◌, ◌^◌, ◌⊎◌, min}
+use Rattle.std.proofs.lemmas.Bool.{cases_lt}
+use Rattle.std.specs.Prelude.{Result, Ok, Err, OnOk, is_err}
+use Rattle.tach_media.specs.Medium.{State, IsCoherent, LeavesOnly, Reads, Writes, StaysSettled, HasCause, IsSettled, Unchanged, Rose, last_count, most_writes, put, IsPartlyWritten}
 
 -- no call yet
 pub starts : (s : State) (R : List ℕ → List ℕ → Type 0) → LeavesOnly s s R
@@ -146,3 +149,137 @@ pub still_settled : {old new : State} → Reads old new false → IsSettled old 
 still_settled {old} {new} reads settled c left =
     let was : old.left_since old.clock c = ⊎_elim (λ l. l) (λ none. absurd none.2) (reads.leaves.since old.clock c (omega arith) (subst (λ (t : ℕ). new.left_since t c) reads.clock left)) in
     reads.same refl ∙ settled c was
+
+-- no call yet, nothing settled is unsettled
+pub settled_none : (s : State) → StaysSettled s s
+settled_none s before known = ⊎_elim (λ wrote. absurd (omega (arith, wrote))) (λ is. is) before
+
+-- what one run and then another leaves settled, the two leave settled
+pub settled_then : (old mid new : State) → mid.clock ≤ new.clock → StaysSettled old mid → StaysSettled mid new → StaysSettled old new
+settled_then old mid new le first next before known = ⊎_elim
+    (λ more. next (inl more) known)
+    (λ none. next (inr (first (wrote none before) (omega (arith, le, known)))) known)
+    (cases_lt mid.clock new.clock)
+  where
+    wrote : new.clock ≤ mid.clock → (old.clock < new.clock) ⊎ IsSettled old → (old.clock < mid.clock) ⊎ IsSettled old
+    wrote none (inl more) = inl (omega (arith, none, more))
+    wrote none (inr is) = inr is
+
+-- no write yet, on a medium that works
+pub no_writes : (s : State) (R : List ℕ → List ℕ → Type 0) → s.works ≡ true → Writes s s false 0 0 (λ x. x) R
+no_writes s R works = record {
+  written = λ fine. same s.image;
+  leaves = starts s R;
+  settled = λ fine. settled_none s;
+  begun = λ fine. omega arith;
+  clock = omega arith;
+  cause = (no_reads s works).cause;
+}
+  where
+    same : (o : Option (List ℕ)) → o ≡ option_map (λ x. x) o
+    same None = refl
+    same (Some x) = refl
+
+-- Writes go on with writes: `T` is what is left of both.
+pub writes_then : {old mid new : State} {failed : Bool} {l m l' m' : ℕ} {f h : List ℕ → List ℕ} {R S : List ℕ → List ℕ → Type 0} (T : List ℕ → List ℕ → Type 0)
+    → Writes old mid false l m f R → Writes mid new failed l' m' h S
+    → ((x c : List ℕ) → old.image ≡ Some x → R x c → T x c) → ((x c : List ℕ) → old.image ≡ Some x → S (f x) c → T x c) → Writes old new failed (l + l') (m + m') (λ x. h (f x)) T
+writes_then {old} {mid} {new} {failed} {l} {m} {l'} {m'} {f} {h} {R} {S} T first next before behind = record {
+  written = λ fine. image_then old.image mid.image new.image f h (first.written refl) (next.written fine);
+  leaves = goes_by f (weaken first.leaves before) (first.written refl) next.leaves behind;
+  settled = λ fine. settled_then old mid new next.leaves.later (first.settled refl) (next.settled fine);
+  begun = λ fine. omega (arith, first.begun refl, next.begun fine);
+  clock = omega (arith, first.clock, next.clock);
+  cause = cause_after first.cause next.cause;
+}
+
+-- reads before writes, and behind them
+pub reads_writes : {old mid new : State} {failed : Bool} {l m : ℕ} {f : List ℕ → List ℕ} {R : List ℕ → List ℕ → Type 0} → Reads old mid false → Writes mid new failed l m f R → Writes old new failed l m f R
+reads_writes {old} {mid} {new} {failed} {l} {m} {f} {R} first next = record {
+  written = λ fine. next.written fine ∙ ap (option_map f) (first.same refl);
+  leaves = after_reads first.leaves (first.same refl) next.leaves;
+  settled = λ fine. settled_then old mid new next.leaves.later (λ was known. ⊎_elim (λ more. absurd (omega (arith, more, first.clock))) (λ is. still_settled first is) was) (next.settled fine);
+  begun = λ fine. omega (arith, first.clock, next.begun fine);
+  clock = omega (arith, first.clock, next.clock);
+  cause = cause_after first.cause next.cause;
+}
+
+pub writes_reads : {old mid new : State} {failed : Bool} {l m : ℕ} {f : List ℕ → List ℕ} {R : List ℕ → List ℕ → Type 0} → Writes old mid false l m f R → Reads mid new failed → Writes old new failed l m f R
+writes_reads {old} {mid} {new} {failed} {l} {m} {f} {R} first next = record {
+  written = λ fine. next.same fine ∙ first.written refl;
+  leaves = goes_same first.leaves next.leaves;
+  settled = λ fine. settled_then old mid new next.leaves.later (first.settled refl) (λ was known. read fine was);
+  begun = λ fine. omega (arith, next.clock, first.begun refl);
+  clock = omega (arith, first.clock, next.clock);
+  cause = cause_after first.cause next.cause;
+}
+  where
+    read : failed ≡ false → (mid.clock < new.clock) ⊎ IsSettled mid → IsSettled new
+    read fine (inl more) = absurd (omega (arith, more, next.clock))
+    read fine (inr is) = still_settled (subst (λ (b : Bool). Reads mid new b) fine next) is
+
+-- the same said more weakly: other names of what is written, more moments, and a wider count
+pub writes_as : {old new : State} {failed : Bool} {l m l' m' : ℕ} {f h : List ℕ → List ℕ} {R T : List ℕ → List ℕ → Type 0} → Writes old new failed l m f R
+    → l' ≤ l → m ≤ m' → ((x : List ℕ) → f x ≡ h x) → ((x c : List ℕ) → old.image ≡ Some x → R x c → T x c) → Writes old new failed l' m' h T
+writes_as {old} {new} {failed} {l} {m} {l'} {m'} {f} {h} {R} {T} run low high same weaker = record {
+  written = λ fine. run.written fine ∙ named old.image;
+  leaves = weaken run.leaves weaker;
+  settled = run.settled;
+  begun = λ fine. omega (arith, low, run.begun fine);
+  clock = omega (arith, high, run.clock);
+  cause = run.cause;
+}
+  where
+    named : (o : Option (List ℕ)) → option_map f o ≡ option_map h o
+    named None = refl
+    named (Some x) = ap Some (same x)
+
+-- a run of writes of which one failed, among more
+pub writes_failed : {old new : State} {l m l' m' : ℕ} {f h : List ℕ → List ℕ} {R T : List ℕ → List ℕ → Type 0} → Writes old new true l m f R
+    → m ≤ m' → ((x c : List ℕ) → old.image ≡ Some x → R x c → T x c) → Writes old new true l' m' h T
+writes_failed run high weaker = record {
+  written = λ fine. absurd (cc);
+  leaves = weaken run.leaves weaker;
+  settled = λ fine. absurd (cc);
+  begun = λ fine. absurd (cc);
+  clock = omega (arith, high, run.clock);
+  cause = run.cause;
+}
+
+-- where a write was begun, it is settled after Ok
+pub settled_now : {old new : State} {failed : Bool} {l m : ℕ} {f : List ℕ → List ℕ} {R : List ℕ → List ℕ → Type 0} → Writes old new failed l m f R → failed ≡ false → 0 < l → new.clock < last_count → IsSettled new
+settled_now run fine some known = run.settled fine (inl (omega (arith, run.begun fine, some, known))) known
+
+-- one write that ended, and one that failed
+pub one_written : {old new : State} {place : ℕ} {bytes : List ℕ} → 0 < length bytes → length bytes ≤ 255
+    → new.image ≡ option_map (put place bytes) old.image → LeavesOnly old new (IsPartlyWritten place bytes)
+    → (0 < length bytes → new.clock < last_count → IsSettled new) → (0 < length bytes → Rose old.clock new.clock)
+    → new.clock ≤ old.clock + most_writes (length bytes) → HasCause old new false → Writes old new false 1 1 (put place bytes) (IsPartlyWritten place bytes)
+one_written {old} {new} {place} {bytes} some short written leaves settled clock few cause = record {
+  written = λ fine. written;
+  leaves = leaves;
+  settled = λ fine was known. settled some known;
+  begun = λ fine. clock some;
+  clock = omega (arith, few, short);
+  cause = cause;
+}
+
+pub one_failed : {old new : State} {place : ℕ} {bytes : List ℕ} → length bytes ≤ 255
+    → LeavesOnly old new (IsPartlyWritten place bytes) → new.clock ≤ old.clock + most_writes (length bytes) → HasCause old new true → Writes old new true 1 1 (put place bytes) (IsPartlyWritten place bytes)
+one_failed {old} {new} {place} {bytes} short leaves few cause = record {
+  written = λ fine. absurd (cc);
+  leaves = leaves;
+  settled = λ fine. absurd (cc);
+  begun = λ fine. absurd (cc);
+  clock = omega (arith, few, short);
+  cause = cause;
+}
+
+-- what holds of an answer that did not fail, and what a clause on Ok says of one
+pub on_ok : {A E P : Type 0} (r : Result A E) → (is_err r ≡ false → P) → OnOk r P
+on_ok (Ok a) f = f refl
+on_ok (Err e) f = tt
+
+pub ok_gives : {A E P : Type 0} (r : Result A E) → OnOk r P → is_err r ≡ false → P
+ok_gives (Ok a) said fine = said
+ok_gives (Err e) said fine = absurd (cc)

@@ -1,5 +1,5 @@
 -- What a card answers to a command, and what the command does to its flat image (Appendix 2, section 3.6).
-use Rattle.std.specs.Prelude.{◌≡◌, ◌⊎◌, ℕ, ◌+◌, ◌/◌, ◌%◌, ◌==◌, ◌||◌, not, nat_lt, if◌then◌else◌, Bool, true, false, Option, Some, None, option_map, option_and_then, IfSome, IsSomeAnd, is_none, Result, Ok, Err, List, [], ◌∷◌, ◌++◌, length, ◌<◌}
+use Rattle.std.specs.Prelude.{◌≡◌, ◌⊎◌, ℕ, ◌+◌, ◌/◌, ◌%◌, ◌==◌, ◌||◌, not, nat_lt, if◌then◌else◌, Bool, true, false, Option, Some, None, option_map, option_and_then, IfSome, IsSomeAnd, is_none, Result, Ok, Err, List, [], ◌∷◌, ◌++◌, length, ◌<◌, ◌≤◌}
 use Rattle.card_layout.specs.declared.files.Fid.{Fid}
 use Rattle.card_layout.specs.declared.files.Range.{Range}
 use Rattle.card_layout.specs.Application.{first_bad_field, application_of}
@@ -11,7 +11,7 @@ use Rattle.tach_media.specs.declared.command.Directory.TheVariants.{Master, Tach
 use Rattle.tach_media.specs.declared.command.ElementaryFile.{ElementaryFile}
 use Rattle.tach_media.specs.declared.command.CardState.{CardState}
 use Rattle.tach_media.specs.Commands.{command_of}
-use Rattle.tach_media.specs.Medium.{State, LeavesOnly, Reads, IsSettled, HasCause, SameOutside, IsPartlyWritten, bytes_at, put, Rose, last_count}
+use Rattle.tach_media.specs.Medium.{State, LeavesOnly, Reads, IsSettled, HasCause, SameOutside, IsPartlyWritten, bytes_at, put, Rose, last_count, most_writes}
 
 -- the state after a reset: the master file is current, and no file is selected
 abbrev pub after_reset : CardState → CardState
@@ -173,6 +173,7 @@ pub record Writes (place : ℕ) (bytes : List ℕ) (old new : State) (failed : B
   pub leaves : LeavesOnly old new (IsPartlyWritten place bytes)
   pub settled : failed ≡ false → new.clock < last_count → IsSettled new
   pub clock : failed ≡ false → Rose old.clock new.clock
+  pub few : new.clock ≤ old.clock + most_writes (length bytes)
   pub cause : HasCause old new failed
 
 -- what a command does to the image: each but an UPDATE BINARY that is done is a read

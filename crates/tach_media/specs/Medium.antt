@@ -1,5 +1,5 @@
 -- What a medium tells of itself, and what its calls do to that.
-use Rattle.std.specs.Prelude.{◌≡◌, ◌⊎◌, ℕ, ◌+◌, ◌≤◌, ◌^◌, ◌-◌, min, Bool, true, false, not, List, [], ◌∷◌, ◌++◌, length, take, drop, Option, Some, is_some}
+use Rattle.std.specs.Prelude.{◌≡◌, ◌⊎◌, ℕ, ◌+◌, ◌≤◌, ◌<◌, ◌^◌, ◌-◌, ◌/◌, min, max, Bool, true, false, not, List, [], ◌∷◌, ◌++◌, length, take, drop, Option, Some, is_some, option_map}
 use Rattle.std.specs.Borrow.{GName}
 use Rattle.card_layout.specs.declared.files.Application.{Application}
 
@@ -49,6 +49,10 @@ last_count = 2 ^ 64 - 1
 -- a count has risen, or stands at its last value
 abbrev pub Rose : ℕ → ℕ → Type 0
 Rose before now = min (before + 1) last_count ≤ now
+
+-- how many writes a call begins at most that writes so many bytes: a card takes 255 at once
+abbrev pub most_writes : ℕ → ℕ
+most_writes len = max 1 ((len + 254) / 255)
 
 -- the range lies inside one of these
 abbrev pub LiesInside : List (ℕ × ℕ) → ℕ → ℕ → Type 0
@@ -113,6 +117,20 @@ pub record Reads (old new : State) (failed : Bool) : Type 0 where
   pub same : failed ≡ false → new.image ≡ old.image
   pub leaves : LeavesOnly old new Unchanged
   pub clock : new.clock ≡ old.clock
+  pub cause : HasCause old new failed
+
+-- Where a write was made, or the medium was settled before, it is settled.
+abbrev pub StaysSettled : (old new : State) → Type 0
+StaysSettled old new = (old.clock < new.clock) ⊎ IsSettled old → new.clock < last_count → IsSettled new
+
+-- What a call does that writes: after Ok the image is turned by f, and a stop at a moment of the call leaves an image that is
+-- so related to the one before. It begins so many writes at least, after Ok, and at most.
+pub record Writes (old new : State) (failed : Bool) (least most : ℕ) (f : List ℕ → List ℕ) (R : List ℕ → List ℕ → Type 0) : Type 0 where
+  pub written : failed ≡ false → new.image ≡ option_map f old.image
+  pub leaves : LeavesOnly old new R
+  pub settled : failed ≡ false → StaysSettled old new
+  pub begun : failed ≡ false → min (old.clock + least) last_count ≤ new.clock
+  pub clock : new.clock ≤ old.clock + most
   pub cause : HasCause old new failed
 
 -- a medium reached through a reference

@@ -1,5 +1,5 @@
 ghost use Rattle.std.specs.Prelude.{◌≡◌, ◌≤◌, ◌<◌, ◌+◌, length, OnOk, IfSome, option_map, is_err};
-ghost use Rattle.tach_media.specs.Medium.{State, IsCoherent, LiesInside, IsPartlyWritten, Unchanged, bytes_at, put, LeavesOnly, Reads, IsSettled, HasCause, Rose, last_count, revivable};
+ghost use Rattle.tach_media.specs.Medium.{State, IsCoherent, LiesInside, IsPartlyWritten, Unchanged, bytes_at, put, LeavesOnly, Reads, IsSettled, HasCause, Rose, last_count, most_writes, revivable};
 
 use crate::Failed;
 
@@ -35,6 +35,7 @@ pub trait Medium {
         ensures moments { LeavesOnly (state self.old) (state self.new) (IsPartlyWritten place bytes.now) }
         ensures settled { OnOk result (0 < length bytes.now → (state self.new).clock < last_count → IsSettled (state self.new)) }
         ensures clock { OnOk result (0 < length bytes.now → Rose (state self.old).clock (state self.new).clock) }
+        ensures few { (state self.new).clock ≤ (state self.old).clock + most_writes (length bytes.now) }
         ensures cause { HasCause (state self.old) (state self.new) (is_err result) };
 
     /// Makes a medium work again after a failure, with one of the images that a stop may leave. Of a medium that works it

@@ -1,5 +1,5 @@
 ghost use Rattle.std.specs.Prelude.{◌≡◌, ◌↔◌, ◌⊎◌, ◌<◌, ◌≤◌, ◌^◌, ◌+◌, length, min, true, false, [], IfOk, IfSome, IsErr, IsOk, IsSome, OnOk, option_map, find, is_err, ◌==◌};
-ghost use Rattle.tach_media.specs.Medium.{IsNew, bytes_at, put, last_count, LeavesOnly, Reads, IsSettled, HasCause, IsPartlyWritten, Rose, Unchanged, revivable};
+ghost use Rattle.tach_media.specs.Medium.{IsNew, bytes_at, put, last_count, LeavesOnly, Reads, IsSettled, HasCause, IsPartlyWritten, Rose, Unchanged, most_writes, revivable};
 ghost use Rattle.tach_media.specs.Log.{has_room};
 ghost use Rattle.tach_media.specs.MemMedium.{memory_state, coherent, next_stop, read_fails, write_fails, log_after, counts_after};
 
@@ -95,6 +95,7 @@ impl Medium for MemMedium {
         ensures moments { LeavesOnly (memory_state self.old.log self.old.counts) (memory_state self.new.log self.new.counts) (IsPartlyWritten place bytes.now) }
         ensures settled { OnOk result (0 < length bytes.now → (memory_state self.new.log self.new.counts).clock < last_count → IsSettled (memory_state self.new.log self.new.counts)) }
         ensures clock { OnOk result (0 < length bytes.now → Rose (memory_state self.old.log self.old.counts).clock (memory_state self.new.log self.new.counts).clock) }
+        ensures few { (memory_state self.new.log self.new.counts).clock ≤ (memory_state self.old.log self.old.counts).clock + most_writes (length bytes.now) }
         ensures cause { HasCause (memory_state self.old.log self.old.counts) (memory_state self.new.log self.new.counts) (is_err result) }
 
         // It fails at a stop, on a broken medium, and where the log has no room.

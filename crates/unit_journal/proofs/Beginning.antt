@@ -6,7 +6,7 @@ use Rattle.std.proofs.lemmas.Bool.Decides.{nat_tests}
 use Rattle.std.proofs.lemmas.Bool.{cases_lt}
 use Rattle.std.proofs.lemmas.Nat.{from_be_bytes-to_be_bytes_4}
 use Rattle.std.proofs.lemmas.List.{length-map}
-use Rattle.tach_media.specs.Medium.{SameOutside}
+use Rattle.tach_media.specs.Medium.{SameOutside, IsPartlyWritten}
 use Rattle.tach_media.specs.LogLaws.{put_outside}
 use Rattle.gated_ring.specs.Ring.{number_at, pointer, is_there, entry_at, taken}
 use Rattle.gated_ring.specs.Change.{IsAdding, IsAdded}
@@ -20,7 +20,11 @@ use Rattle.unit_journal.proofs.StillDecodes.{counted_good}
 use Rattle.unit_journal.proofs.WordsGood.{changes_good, good_low}
 use Rattle.unit_journal.proofs.KeptDecodes.{behind_good, index_there, mark_good}
 use Rattle.unit_journal.proofs.AddedDecodes.{HasToday, any_at, or_right, eq_true, shut_good, open_good}
-use Rattle.unit_journal.specs.Image.{Notes, IsNotes, Agrees, written, free_place, DiffersBehind, SameBesides, IsGivenUp, IsKeeping, with_kept, with_words, head_of, new_head, further, IsFurther, IsBeginning}
+use Rattle.unit_journal.specs.Image.{Notes, IsNotes, Agrees, written, free_place, DiffersBehind, SameBesides, IsGivenUp, IsKeeping, with_kept, with_words, head_of, new_head, further}
+use Rattle.unit_journal.specs.Plans.{counted, mark, beginning, IsBeginning}
+use Rattle.unit_journal.proofs.Planned.{counted_put, counted_moment}
+use Rattle.write_plan.specs.Plan.{IsPartway}
+use Rattle.write_plan.proofs.Plans.{partway_either}
 use Rattle.unit_journal.proofs.States.{slot_of, minute_of, minutes_by}
 use Rattle.unit_journal.proofs.Commits.{begun_at}
 use Rattle.unit_journal.proofs.Growth.{day_later}
@@ -476,15 +480,24 @@ module _ (n k m dn cn odometer : ℕ) (small : m ≤ 71582788) (short : dn < 16)
     at_z : Moment z
     at_z = record { front = front_at m odometer x z slot_z.kept odometer_z; outside = besides_z; minutes = inr (inr kept_minutes); decodes = kept_decodes }
 
-    further_moment : (c : List ℕ) → IsFurther t m ws y c → Moment c
-    further_moment c (inl writing) = record {
+    counting_moment : (c : List ℕ) → DiffersBehind t 2 y c ⊎ IsPartlyWritten (slot_place t + 8) (to_be_bytes w16 (2 + length ws)) y2 c → Moment c
+    counting_moment c (inl writing) = record {
       front = front_of m odometer x c (front_then odometer (free_place t 2) 5756 x y c has_y (omega arith) writing);
       outside = besides_then x y c besides_y (besides_days (free_place t 2) 5756 y c (omega arith) (omega (arith, below)) writing);
       minutes = of_slot 2 firsts c (lit≤ tt) (slot_behind t below F others older t k date 2 (lit≤ tt) firsts y slot_y c writing);
       decodes = still x c (λ good. behind_good y c t 2 below (lit≤ tt) writing count_y (y_good good));
     }
-    further_moment c (inr (inl counting)) = ⊎_elim (λ absent. subst Moment (sym absent) at_2) (λ whole. subst Moment (sym whole) at_3) (counting.whole (lit≤ tt))
-    further_moment c (inr (inr keeping)) = ⊎_elim (λ absent. subst Moment (sym absent) at_3) (λ whole. subst Moment (sym whole) at_z) (keeping.whole (lit≤ tt))
+    counting_moment c (inr counting) = ⊎_elim (λ absent. subst Moment (sym absent) at_2) (λ whole. subst Moment (sym whole) at_3) (counting.whole (lit≤ tt))
+
+    mark_moment : (c : List ℕ) → IsPartway (mark m) y3 c → Moment c
+    mark_moment c (inl keeping) = ⊎_elim (λ absent. subst Moment (sym absent) at_3) (λ whole. subst Moment (sym whole) at_z) (keeping.whole (lit≤ tt))
+    mark_moment c (inr none) = absurd none
+
+    further_moment : (c : List ℕ) → IsPartway (beginning t m ws) y c → Moment c
+    further_moment c here = ⊎_elim
+        (λ part. counting_moment c (counted_moment t 2 ws y c below (omega (arith, ws_few)) slot_y.sized part))
+        (λ part. mark_moment c (subst (λ (z : List ℕ). IsPartway (mark m) z c) (counted_put t 2 ws y) part))
+        (partway_either (counted t 2 ws) (mark m) y c here)
 
   pub begin_moment : (c : List ℕ) → IsBeginning m dn cn odometer x2 c → IsKeeping it odometer x c
   begin_moment c (inl adding) = adding_moment c adding

@@ -18,7 +18,10 @@ use Rattle.unit_journal.proofs.Checks.{passes, IsGood, still}
 use Rattle.unit_journal.proofs.StillDecodes.{counted_good}
 use Rattle.unit_journal.proofs.WordsGood.{changes_good, good_low}
 use Rattle.unit_journal.proofs.KeptDecodes.{behind_good, index_there, last_day as last_checks, put_odometer_good, odometer_decodes}
-use Rattle.unit_journal.specs.Image.{Notes, IsNotes, IsNewestDay, Agrees, written, free_place, DiffersBehind, SameBesides, IsFront, IsKeeping, with_odometer, with_words, closed, IsClosing}
+use Rattle.unit_journal.specs.Image.{Notes, IsNotes, IsNewestDay, Agrees, written, free_place, DiffersBehind, SameBesides, IsFront, IsKeeping, with_odometer, with_words}
+use Rattle.unit_journal.specs.Plans.{counted, closing, turning}
+use Rattle.unit_journal.proofs.Planned.{counted_put, counted_moment}
+use Rattle.write_plan.specs.Plan.{put_all, IsPartway}
 use Rattle.unit_journal.proofs.Growth.{words_later, day_now}
 use Rattle.unit_journal.proofs.Commits.{next_day, closing_later, begun_is, begun_before, begun_at}
 use Rattle.unit_journal.proofs.Numbers.{number_before, number_put4}
@@ -314,14 +317,30 @@ module _ (j : Notes) (ok : IsNotes j) (x : List ℕ) (sized : length x ≡ 24858
           (λ whole. subst (IsKeeping it odometer x) (sym whole) (record { front = front_of m odometer x x2 has_2; outside = besides_2; minutes = inl (recorded_is x2 k slot_2.kept ∙ in_day.1.recorded_are); decodes = still x x2 good_2 }))
           (counting.whole (lit≤ tt))
 
-  pub closing_moment : (c : List ℕ) → IsClosing j x1 c → IsKeeping it odometer x c
-  closing_moment c here = closing_there here.0 here.1 c here.2
-
-  -- in each case
-  pub is_closed : Result (closed j x1)
-  is_closed = by (k == 0) refl (k % 1440 + 1 == 1440) refl
+  closing_moment : (c : List ℕ) → IsPartway (closing j) x1 c → IsKeeping it odometer x c
+  closing_moment c = by (k == 0) refl (k % 1440 + 1 == 1440) refl
     where
-      by : (a : Bool) → (k == 0) ≡ a → (b : Bool) → (k % 1440 + 1 == 1440) ≡ b → Result (cond a x1 (cond b x1 (with_words j.index j.count (changes (k % 1440 + 1) j.driver j.codriver bare bare) x1)))
+      by : (a : Bool) → (k == 0) ≡ a → (b : Bool) → (k % 1440 + 1 == 1440) ≡ b → IsPartway (cond a [] (cond b [] (counted j.index j.count (changes (k % 1440 + 1) j.driver j.codriver bare bare)))) x1 c → IsKeeping it odometer x c
+      by true none b is here = absurd here
+      by false some true is here = absurd here
+      by false some false is here =
+          let more : k ≢ 0 = grind (arith, nat_tests, some) in
+          let isnt : k % 1440 + 1 ≢ 1440 = grind (arith, nat_tests, is) in
+          closing_there (omega (arith, more)) (omega (arith, isnt)) c (counted_moment j.index j.count (changes (k % 1440 + 1) j.driver j.codriver bare bare) x1 c ok.index (fits (omega (arith, more)) (omega (arith, isnt))) x1_sized here)
+
+  -- a moment of the writes before the new day
+  pub turning_moment : (c : List ℕ) → IsPartway (turning j odometer) x c → IsKeeping it odometer x c
+  turning_moment c (inl first) = odometer_kept it odometer x c sized far first
+  turning_moment c (inr rest) = closing_moment c rest
+
+  -- and what they leave
+  pub is_turned : Result (put_all (turning j odometer) x)
+  is_turned = by (k == 0) refl (k % 1440 + 1 == 1440) refl
+    where
+      by : (a : Bool) → (k == 0) ≡ a → (b : Bool) → (k % 1440 + 1 == 1440) ≡ b → Result (put_all (cond a [] (cond b [] (counted j.index j.count (changes (k % 1440 + 1) j.driver j.codriver bare bare)))) x1)
       by true none b is = first_day (grind (arith, nat_tests, none))
       by false some true is = let more : k ≢ 0 = grind (arith, nat_tests, some) in at_end (omega (arith, more)) (grind (arith, nat_tests, is))
-      by false some false is = let more : k ≢ 0 = grind (arith, nat_tests, some) in let isnt : k % 1440 + 1 ≢ 1440 = grind (arith, nat_tests, is) in in_day (omega (arith, more)) (omega (arith, isnt))
+      by false some false is =
+          let more : k ≢ 0 = grind (arith, nat_tests, some) in
+          let isnt : k % 1440 + 1 ≢ 1440 = grind (arith, nat_tests, is) in
+          subst Result (sym (counted_put j.index j.count (changes (k % 1440 + 1) j.driver j.codriver bare bare) x1)) (in_day (omega (arith, more)) (omega (arith, isnt)))

@@ -1,9 +1,9 @@
 -- The moments of a `keep` on the day of the last-kept minute, and what it leaves.
 use Rattle.std.proofs.Common.{None, ◌≡◌, ◌≢◌, inl, inr, ⊎_elim, ℕ, ◌+◌, ◌-◌, ◌*◌, ◌/◌, ◌%◌, ◌<◌, ◌≤◌, Bool, true, false, cond, List, [], ◌∷◌, ◌++◌, length, map, refl, sym, ◌∙◌, ap, subst, arith, length-append, lit≤}
-use Rattle.std.specs.Prelude.{◌==◌}
+use Rattle.std.specs.Prelude.{◌==◌, ◌⊎◌}
 use Rattle.std.specs.Int.{to_be_bytes, w16, w32}
 use Rattle.std.proofs.lemmas.Bool.Decides.{nat_tests}
-use Rattle.tach_media.specs.Medium.{SameOutside}
+use Rattle.tach_media.specs.Medium.{SameOutside, IsPartlyWritten}
 use Rattle.tach_media.specs.LogLaws.{put_outside}
 use Rattle.gated_ring.specs.Ring.{number_at, pointer}
 use Rattle.unit_model.specs.Days.{word_minute, word_of, bare, state_at, UnitMinute, Day, UnitDay, day_of, days_shown, filled, newest_of, Each, minute_by}
@@ -16,7 +16,11 @@ use Rattle.unit_journal.proofs.KeptDecodes.{behind_good, day_good, last_day, put
 use Rattle.std.specs.List.{list_all}
 use Rattle.std.proofs.lemmas.List.FromFn.{length-map-range_with_len}
 use Rattle.unit_model.specs.Decoding.{Decodes, word_checks}
-use Rattle.unit_journal.specs.Image.{Notes, IsNotes, IsNewestDay, Agrees, written, free_place, DiffersBehind, SameBesides, IsFront, IsKeeping, with_odometer, with_kept, with_words, IsGoing}
+use Rattle.unit_journal.specs.Image.{Notes, IsNotes, IsNewestDay, Agrees, written, free_place, DiffersBehind, SameBesides, IsFront, IsKeeping, with_odometer, with_kept, with_words}
+use Rattle.unit_journal.specs.Plans.{counted, mark, going}
+use Rattle.unit_journal.proofs.Planned.{counted_put, counted_moment}
+use Rattle.write_plan.specs.Plan.{put_all, IsPartway}
+use Rattle.write_plan.proofs.Plans.{put_all-append, partway_either}
 use Rattle.unit_journal.proofs.States.{each_append, new_minutes, new_driver, new_codriver}
 use Rattle.unit_journal.proofs.Growth.{words_later}
 use Rattle.unit_journal.proofs.Commits.{state_on, same_day}
@@ -261,7 +265,23 @@ module _ (j : Notes) (ok : IsNotes j) (x : List ℕ) (sized : length x ≡ 24858
   at_y : Moment y
   at_y = record { front = front_at m odometer x y slot_y.kept odometer_y; outside = besides_y; minutes = inr (inr recorded_y); decodes = kept_decodes }
 
-  pub moments : (c : List ℕ) → IsGoing i n odometer m ws x c → Moment c
+  counting_moment : (c : List ℕ) → DiffersBehind i n x1 c ⊎ IsPartlyWritten (slot_place i + 8) (to_be_bytes w16 (n + length ws)) x2 c → Moment c
+  counting_moment c (inl writing) = record {
+    front = front_of m odometer x c (front_then odometer (free_place i n) (5760 - 2 * n) x x1 c has_1 (omega arith) writing);
+    outside = besides_then x x1 c besides_1 (besides_days (free_place i n) (5760 - 2 * n) x1 c (omega arith) (omega (arith, ok.index, few)) writing);
+    minutes = inl (same_recorded c (slot_behind i ok.index js day.others older p k date n few words x1 slot_1 c writing));
+    decodes = still x c (λ good. behind_good x1 c i n ok.index few writing slot_1.count_is (good_1 good));
+  }
+  counting_moment c (inr counting) = ⊎_elim (λ absent. subst Moment (sym absent) at_2) (λ whole. subst Moment (sym whole) at_3) (counting.whole (lit≤ tt))
+
+  mark_moment : (c : List ℕ) → IsPartway (mark m) x3 c → Moment c
+  mark_moment c (inl keeping) = ⊎_elim (λ absent. subst Moment (sym absent) at_3) (λ whole. subst Moment (sym whole) at_y) (keeping.whole (lit≤ tt))
+  mark_moment c (inr none) = absurd none
+
+  pub gone_is : put_all (going j m dn cn odometer) x ≡ y
+  gone_is = put_all-append (counted i n ws) (mark m) x1 ∙ ap (with_kept m) (counted_put i n ws x1)
+
+  pub moments : (c : List ℕ) → IsPartway (going j m dn cn odometer) x c → Moment c
   moments c (inl first) = record {
     front = ⊎_elim
         (λ absent. inl (ap odometer_at absent, ap last_kept absent))
@@ -271,14 +291,10 @@ module _ (j : Notes) (ok : IsNotes j) (x : List ℕ) (sized : length x ≡ 24858
     minutes = inl (same_recorded c (front_slot c first.outside));
     decodes = odometer_decodes odometer x c sized far first;
   }
-  moments c (inr (inl writing)) = record {
-    front = front_of m odometer x c (front_then odometer (free_place i n) (5760 - 2 * n) x x1 c has_1 (omega arith) writing);
-    outside = besides_then x x1 c besides_1 (besides_days (free_place i n) (5760 - 2 * n) x1 c (omega arith) (omega (arith, ok.index, few)) writing);
-    minutes = inl (same_recorded c (slot_behind i ok.index js day.others older p k date n few words x1 slot_1 c writing));
-    decodes = still x c (λ good. behind_good x1 c i n ok.index few writing slot_1.count_is (good_1 good));
-  }
-  moments c (inr (inr (inl counting))) = ⊎_elim (λ absent. subst Moment (sym absent) at_2) (λ whole. subst Moment (sym whole) at_3) (counting.whole (lit≤ tt))
-  moments c (inr (inr (inr keeping))) = ⊎_elim (λ absent. subst Moment (sym absent) at_3) (λ whole. subst Moment (sym whole) at_y) (keeping.whole (lit≤ tt))
+  moments c (inr rest) = ⊎_elim
+      (λ part. counting_moment c (counted_moment i n ws x1 c ok.index fits' slot_1.sized part))
+      (λ part. mark_moment c (subst (λ (z : List ℕ). IsPartway (mark m) z c) (counted_put i n ws x1) part))
+      (partway_either (counted i n ws) (mark m) x1 c rest)
 
   abbrev j' : Notes
   j' = record { kept = m; odometer = odometer; index = i; count = n + length ws; driver = dn; codriver = cn; stray = None; stored = n + length ws; day_count = j.day_count }

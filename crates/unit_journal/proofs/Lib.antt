@@ -33,3 +33,4 @@ pub mod Minutes
 pub mod Density
 pub mod ByChanges
 pub mod WholeDays
+pub mod Planned

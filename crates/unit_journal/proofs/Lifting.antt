@@ -5,7 +5,6 @@ use Rattle.tach_media.proofs.Ranges.{lies_part}
 use Rattle.gated_ring.specs.Ring.{Shape, size_of, pointer, taken}
 use Rattle.gated_ring.specs.Change.{IsAdding, IsAdded}
 use Rattle.unit_model.specs.Image.{day_ring}
-use Rattle.unit_journal.specs.Image.{IsFurther}
 
 pub adding_as : {r : Shape} {head head' x c : List ℕ} → r ≡ day_ring → head ≡ head' → IsAdding r head x c → IsAdding day_ring head' x c
 adding_as {r} {head} {head'} {x} {c} ring same adding = subst (λ (s : Shape). IsAdding s head' x c) ring (subst (λ (h : List ℕ). IsAdding r h x c) same adding)
@@ -15,9 +14,6 @@ added_as {r} {head} {head'} {x} {c} ring same added = subst (λ (s : Shape). IsA
 
 pub index_as : (r : Shape) (index : ℕ) (x : List ℕ) → r ≡ day_ring → (pointer r x < r.count → index ≡ taken r x) → pointer day_ring x < 366 → index ≡ taken day_ring x
 index_as r index x ring is known = (subst (λ (s : Shape). pointer s x < s.count → index ≡ taken s x) ring is) known
-
-pub further_as : (i t m : ℕ) (ws ws' y c : List ℕ) → i ≡ t → ws ≡ ws' → IsFurther i m ws y c → IsFurther t m ws' y c
-further_as i t m ws ws' y c index words here = subst (λ (l : List ℕ). IsFurther t m l y c) words (subst (λ (n : ℕ). IsFurther n m ws y c) index here)
 
 pub ring_inside : (ranges : List (ℕ × ℕ)) (r : Shape) → r ≡ day_ring → LiesInside ranges 0 2485808 → LiesInside ranges r.base (size_of r)
 ring_inside ranges r ring lies = subst (λ (s : Shape). LiesInside ranges s.base (size_of s)) (sym ring) (lies_part ranges 0 2485808 1024 2114020 (Rattle.std.proofs.Common.lit≤ tt) (Rattle.std.proofs.Common.lit≤ tt) lies)

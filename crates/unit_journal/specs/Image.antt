@@ -123,17 +123,6 @@ with_kept minute x = put 564 (to_be_bytes w32 minute) x
 abbrev pub with_words : (index count : ℕ) → List ℕ → List ℕ → List ℕ
 with_words i count ws x = with_count i (count + length ws) (written (free_place i count) ws x)
 
--- a moment of the writes on one day
-abbrev pub IsGoing : (index count odometer minute : ℕ) → (ws x c : List ℕ) → Type 0
-IsGoing i count odometer minute ws x c =
-    IsPartlyWritten 568 (to_be_bytes w32 odometer) x c
-    ⊎ (DiffersBehind i count (with_odometer odometer x) c
-    ⊎ (IsPartlyWritten (slot_place i + 8) (to_be_bytes w16 (count + length ws)) (written (free_place i count) ws (with_odometer odometer x)) c
-    ⊎ IsPartlyWritten 564 (to_be_bytes w32 minute) (with_words i count ws (with_odometer odometer x)) c))
-
-abbrev pub gone_on : (index count odometer minute : ℕ) → (ws x : List ℕ) → List ℕ
-gone_on i count odometer minute ws x = with_kept minute (with_words i count ws (with_odometer odometer x))
-
 -- the words of a minute on the day that the notes are of
 abbrev pub words_on : Notes → (minute driver codriver : ℕ) → List ℕ
 words_on j minute driver codriver = new_words (j.kept % 1440 + 1) (minute % 1440) j.driver j.codriver driver codriver
@@ -157,32 +146,7 @@ new_head minute driver codriver odometer =
 abbrev pub further : (minute driver codriver : ℕ) → List ℕ
 further minute driver codriver = changes (minute % 1440) (first_state (minute % 1440) driver) (first_state (minute % 1440) codriver) driver codriver
 
--- the image once the day of the last-kept minute is closed
-abbrev pub closed : Notes → List ℕ → List ℕ
-closed j x =
-    if j.kept == 0 then x else (if j.kept % 1440 + 1 == 1440 then x else with_words j.index j.count (changes (j.kept % 1440 + 1) j.driver j.codriver bare bare) x)
-
--- a moment of the closing
-abbrev pub IsClosing : Notes → List ℕ → List ℕ → Type 0
-IsClosing j x c =
-    (0 < j.kept) × (j.kept % 1440 < 1439) × (DiffersBehind j.index j.count x c
-    ⊎ IsPartlyWritten (slot_place j.index + 8) (to_be_bytes w16 (j.count + length (changes (j.kept % 1440 + 1) j.driver j.codriver bare bare)))
-    (written (free_place j.index j.count) (changes (j.kept % 1440 + 1) j.driver j.codriver bare bare) x) c)
-
--- a moment of the writes of a new day behind its `add`
-abbrev pub IsFurther : (index minute : ℕ) → (ws y c : List ℕ) → Type 0
-IsFurther i minute ws y c =
-    DiffersBehind i 2 y c
-    ⊎ (IsPartlyWritten (slot_place i + 8) (to_be_bytes w16 (2 + length ws)) (written (free_place i 2) ws y) c
-    ⊎ IsPartlyWritten 564 (to_be_bytes w32 minute) (with_words i 2 ws y) c)
-
--- a moment of the writes of a new day
-abbrev pub IsBeginning : (minute driver codriver odometer : ℕ) → (x c : List ℕ) → Type 0
-IsBeginning minute driver codriver odometer x c =
-    IsAdding day_ring (new_head minute driver codriver odometer) x c
-    ⊎ ((y : List ℕ) × IsAdded day_ring (new_head minute driver codriver odometer) x y × IsFurther (taken day_ring x) minute (further minute driver codriver) y c)
-
--- and what they leave
+-- what the writes of a new day leave
 pub record IsBegun (minute driver codriver odometer : ℕ) (x z : List ℕ) : Type 0 where
   pub added : List ℕ
   pub is_added : IsAdded day_ring (new_head minute driver codriver odometer) x added

@@ -4,3 +4,4 @@ pub mod Kept
 pub mod Mends
 pub mod Today
 pub mod Reading
+pub mod Plans

@@ -1,6 +1,6 @@
 -- What a mending at power-on leaves of an image: later cells emptied, a later day's gate shut, later words cut off (profile).
 use Rattle.std.specs.Prelude.{◌≡◌, ◌⊎◌, ℕ, zero, suc, ◌+◌, ◌*◌, ◌/◌, ◌%◌, ◌<◌, ◌≤◌, ◌==◌, if◌then◌else◌, nat_lt, nat_le, List, take, drop, map, filter, length, replicate, Option, Some, None}
-use Rattle.tach_media.specs.Medium.{State, IsSettled, last_count, put, bytes_at}
+use Rattle.tach_media.specs.Medium.{put, bytes_at}
 use Rattle.unit_model.specs.declared.layout.TheConstants.{OWED, OWED_ROW_SIZE, ROW_CELLS}
 use Rattle.unit_model.specs.Days.{UnitDay, day_of, word_minute}
 use Rattle.unit_model.specs.Decoding.{Decodes, cell_place, cell_minute, cell_word}
@@ -71,10 +71,6 @@ pub record HasNothingLater (j : Notes) (x : List ℕ) : Type 0 where
   pub stray : j.stray ≡ None
   pub count : j.stored ≡ j.count
   pub cells : (n : ℕ) → n < 32 → cell_minute x n ≤ j.kept
-
--- Where a write was made, or the medium was settled before, it is settled.
-abbrev pub StaysSettled : (old new : State) → Type 0
-StaysSettled old new = (old.clock < new.clock) ⊎ IsSettled old → new.clock < last_count → IsSettled new
 
 -- the image with a later cell emptied
 abbrev pub cell_emptied : (kept n : ℕ) → List ℕ → List ℕ

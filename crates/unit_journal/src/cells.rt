@@ -1,8 +1,8 @@
 ghost use Rattle.std.specs.Prelude.{◌≡◌, ℕ, ◌≤◌, ◌<◌, OnOk, IfSome, is_err, option_map};
-ghost use Rattle.tach_media.specs.Medium.{LeavesOnly, HasCause};
+ghost use Rattle.tach_media.specs.Medium.{LeavesOnly, HasCause, StaysSettled};
 ghost use Rattle.unit_model.specs.Decoding.{cell_place, cell_minute};
 ghost use Rattle.unit_model.specs.Image.{IsUnit};
-ghost use Rattle.unit_journal.specs.Mends.{StaysSettled, cell_emptied, cells_emptied, IsEmptying, IsEmptyingAll};
+ghost use Rattle.unit_journal.specs.Mends.{cell_emptied, cells_emptied, IsEmptying, IsEmptyingAll};
 
 use tach_media::{Failed, Medium};
 use unit_memory::number;

@@ -1,9 +1,11 @@
 ghost use Rattle.std.specs.Prelude.{IfErr, Some, None, ◌≡◌, ◌≤◌, ◌<◌, ◌+◌, ◌*◌, ◌-◌, ◌/◌, ◌%◌, min, length, IfOk, OnOk, OnErr, IfSome, is_err, option_map, true};
-ghost use Rattle.tach_media.specs.Medium.{LeavesOnly, Reads, HasCause, IsSettled, last_count};
+ghost use Rattle.tach_media.specs.Medium.{LeavesOnly, Reads, HasCause, IsSettled, last_count, StaysSettled};
 ghost use Rattle.unit_model.specs.Days.{UnitMinute, minute_by};
 ghost use Rattle.unit_model.specs.Image.{day_ring};
-ghost use Rattle.unit_journal.specs.Image.{Notes, IsNotes, Agrees, IsGoing, gone_on, words_on, notes_on, IsKeeping, IsKept, closed, IsClosing, IsBeginning, IsBegun, notes_begun};
-ghost use Rattle.unit_journal.specs.Mends.{StaysSettled, IsMendable, IsMending, IsMended, HasNothingLater, notes_mended, mended, IsMendStep};
+ghost use Rattle.unit_journal.specs.Image.{Notes, IsNotes, Agrees, notes_on, IsKeeping, IsKept, IsBegun, notes_begun};
+ghost use Rattle.write_plan.specs.Plan.{PutsAll, more, none};
+ghost use Rattle.unit_journal.specs.Plans.{going, turning, IsBeginning};
+ghost use Rattle.unit_journal.specs.Mends.{IsMendable, IsMending, IsMended, HasNothingLater, notes_mended, mended, IsMendStep};
 ghost use Rattle.unit_model.specs.Image.{IsUnit};
 ghost use Rattle.unit_journal.specs.Kept.{kept_minute};
 ghost use Rattle.gated_ring.specs.Ring.{pointer, taken};
@@ -14,8 +16,9 @@ use crate::bits::{bits_of, is_crew};
 use crate::cells::empty_cells;
 use crate::kept::KeptMinute;
 use crate::mend::{cut_count, shut_day};
+use crate::plan::{Writing, add_changes, add_count, add_further, add_new};
 use crate::today::{day_ring, index_of, later_day, read_today, recorded_days, slots_there};
-use crate::words::{BARE, first, head, write_changes, write_new};
+use crate::words::{BARE, new_head};
 use gated_ring::Ring;
 pub use reading::UnitDay;
 use std::marker::Model;
@@ -23,8 +26,9 @@ use tach_media::{Failed, Medium};
 use tacho_types::Odometer;
 use unit_memory::{Judged, UnitFault, judge_image, number};
 use unit_model::layout::{
-    DAY_COUNT, DAY_SLOT_SIZE, DAY_SLOTS, DAYS, HIGHEST_ODOMETER, LAST_KEPT, LAST_MINUTE, ODOMETER,
+    DAY_SLOTS, HIGHEST_ODOMETER, IMAGE_SIZE, LAST_KEPT, LAST_MINUTE, ODOMETER,
 };
+use write_plan::put_pieces;
 
 /// What is known of a unit's minutes: the last-kept one, the odometer, and where the newest day goes on.
 #[derive(Drop)]
@@ -145,15 +149,13 @@ impl Journal {
         ensures notes { OnOk result (self.new ≡ notes_on self.old minute driver codriver odometer) }
         ensures same { OnErr result (self.new ≡ self.old) }
         ensures shape { IsNotes self.old }
-        ensures gone { OnOk result ((M.state unit.new).image ≡ option_map (gone_on self.old.index self.old.count odometer minute (words_on self.old minute driver codriver)) (M.state unit.old).image) }
-        ensures moments { LeavesOnly (M.state unit.old) (M.state unit.new) (IsGoing self.old.index self.old.count odometer minute (words_on self.old minute driver codriver)) }
-        ensures settled { OnOk result ((M.state unit.new).clock < last_count → IsSettled (M.state unit.new)) }
-        ensures cause { HasCause (M.state unit.old) (M.state unit.new) (is_err result) }
+        ensures puts { PutsAll (M.state unit.old) (M.state unit.new) (is_err result) (going self.old minute driver codriver odometer) }
     {
         let next = self.kept % 1440 + 1;
-        unit.write_at(ODOMETER.place, &odometer.to_be_bytes())?;
-        let count = write_new(
-            unit,
+        let mut plan = Writing::new(0, IMAGE_SIZE);
+        plan.put(ODOMETER.place, &odometer.to_be_bytes());
+        let count = add_new(
+            &mut plan,
             self.index,
             self.count,
             next,
@@ -162,12 +164,10 @@ impl Journal {
             self.codriver,
             driver,
             codriver,
-        )?;
-        unit.write_at(
-            DAYS.place + 4 + self.index * DAY_SLOT_SIZE + DAY_COUNT.place,
-            &(count as u16).to_be_bytes(),
-        )?;
-        unit.write_at(LAST_KEPT.place, &minute.to_be_bytes())?;
+        );
+        add_count(&mut plan, self.index, count);
+        plan.put(LAST_KEPT.place, &minute.to_be_bytes());
+        put_pieces(unit, &plan)?;
         self.kept = minute;
         self.odometer = odometer;
         self.count = count;
@@ -204,29 +204,27 @@ impl Journal {
         ensures settled { OnOk result ((M.state unit.new).clock < last_count → IsSettled (M.state unit.new)) }
         ensures cause { HasCause (M.state unit.old) (M.state unit.new) (is_err result) }
     {
-        self.go_on(unit, minute, driver, codriver, odometer)?;
-        Ok(())
+        self.go_on(unit, minute, driver, codriver, odometer)
     }
 
-    // Closes the day of the last-kept minute, where it isn't at its end.
-    fn close<M: Medium>(&self, unit: &mut M) -> Result<(), Failed>
-        requires works { (M.state unit.old).works ≡ true }
-        requires unit { IsUnit (M.state unit.old) }
-        ensures closed { OnOk result ((M.state unit.new).image ≡ option_map (closed self.now) (M.state unit.old).image) }
-        ensures moments { LeavesOnly (M.state unit.old) (M.state unit.new) (IsClosing self.now) }
+    // The writes before a new day: the odometer, and what closes the day of the last-kept minute where it isn't at its end.
+    fn turning(&self, odometer: u32) -> Writing
+        requires { odometer ≤ 9999999 }
+        ensures plan { result ≡ more (none 0 2485808) (turning self.now odometer) }
         ensures shape { IsNotes self.now }
-        ensures cause { HasCause (M.state unit.old) (M.state unit.new) (is_err result) }
     {
         let _days = &self.days;
+        let mut plan = Writing::new(0, IMAGE_SIZE);
+        plan.put(ODOMETER.place, &odometer.to_be_bytes());
         if self.kept == 0 {
-            return Ok(());
-        }
-        if self.kept % 1440 + 1 == 1440 {
-            return Ok(());
+            return plan;
         }
         let next = self.kept % 1440 + 1;
-        let count = write_changes(
-            unit,
+        if next == 1440 {
+            return plan;
+        }
+        let count = add_changes(
+            &mut plan,
             self.index,
             self.count,
             next,
@@ -234,12 +232,9 @@ impl Journal {
             self.codriver,
             BARE,
             BARE,
-        )?;
-        unit.write_at(
-            DAYS.place + 4 + self.index * DAY_SLOT_SIZE + DAY_COUNT.place,
-            &(count as u16).to_be_bytes(),
-        )?;
-        Ok(())
+        );
+        add_count(&mut plan, self.index, count);
+        plan
     }
 
     // The writes of a new day, with its first minute.
@@ -267,30 +262,11 @@ impl Journal {
         ensures cause { HasCause (M.state unit.old) (M.state unit.new) (is_err result) }
     {
         let day_count = (self.day_count + 1).min(DAY_SLOTS);
-        let first_driver = first(minute % 1440, driver);
-        let first_codriver = first(minute % 1440, codriver);
-        let head = head(
-            86400 * (minute / 1440),
-            odometer,
-            first_driver,
-            first_codriver,
-        );
+        let head = new_head(minute, driver, codriver, odometer);
         let index = self.days.add(unit, &head)?;
-        let count = write_changes(
-            unit,
-            index,
-            2,
-            minute % 1440,
-            first_driver,
-            first_codriver,
-            driver,
-            codriver,
-        )?;
-        unit.write_at(
-            DAYS.place + 4 + index * DAY_SLOT_SIZE + DAY_COUNT.place,
-            &(count as u16).to_be_bytes(),
-        )?;
-        unit.write_at(LAST_KEPT.place, &minute.to_be_bytes())?;
+        let mut plan = Writing::new(0, IMAGE_SIZE);
+        let count = add_further(&mut plan, index, minute, driver, codriver);
+        put_pieces(unit, &plan)?;
         self.kept = minute;
         self.odometer = odometer;
         self.index = index;
@@ -327,10 +303,9 @@ impl Journal {
         ensures settled { OnOk result ((M.state unit.new).clock < last_count → IsSettled (M.state unit.new)) }
         ensures cause { HasCause (M.state unit.old) (M.state unit.new) (is_err result) }
     {
-        unit.write_at(ODOMETER.place, &odometer.to_be_bytes())?;
-        self.close(unit)?;
-        self.begin(unit, minute, driver, codriver, odometer)?;
-        Ok(())
+        let plan = self.turning(odometer);
+        put_pieces(unit, &plan)?;
+        self.begin(unit, minute, driver, codriver, odometer)
     }
 
     // Keeps a minute by the bits of its states.

@@ -1,8 +1,8 @@
 ghost use Rattle.std.specs.Prelude.{◌≡◌, ◌≤◌, ◌<◌, OnOk, is_err, option_map, None, true};
 ghost use Rattle.std.specs.Option.{ForSome};
-ghost use Rattle.tach_media.specs.Medium.{LeavesOnly, HasCause};
+ghost use Rattle.tach_media.specs.Medium.{LeavesOnly, HasCause, StaysSettled};
 ghost use Rattle.unit_model.specs.Image.{IsUnit};
-ghost use Rattle.unit_journal.specs.Mends.{StaysSettled, shut, cut_to, IsShutting, IsCutting};
+ghost use Rattle.unit_journal.specs.Mends.{shut, cut_to, IsShutting, IsCutting};
 
 use tach_media::{Failed, Medium};
 use unit_model::layout::{DAY_COUNT, DAY_SLOT_SIZE, DAYS};

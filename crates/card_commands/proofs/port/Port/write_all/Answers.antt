@@ -1,4 +1,5 @@
 use Rattle.std.proofs.Common.{rules, ◌≡◌, ℕ, ◌+◌, ◌-◌, ◌≤◌, true, is_err, length, take, drop, arith, ◌∙◌, ap, refl}
+use Rattle.std.proofs.lemmas.List.{length-take-le}
 use Rattle.tach_media.specs.Medium.{put}
 use Rattle.tach_media.proofs.Runs.{weaken, goes_by, cause_after, image_both}
 use Rattle.tach_media.proofs.Chunks.{chunk_first, chunk_more, chunk_next}
@@ -13,7 +14,7 @@ returns-in_err-write_part-clause-writes g c =
     let first = c.min-first.result in
     let part = c.in_err-write_part.ensures.writes in
     fails place bytes _ _ _ failed
-    (weaken part.leaves (λ x d was cut. chunk_first place bytes x first d (omega (arith, c.min-first.ensures)) (λ few. omega (arith, c.min-first.ensures, few)) cut)) part.cause
+    (weaken part.leaves (λ x d was cut. chunk_first place bytes x first d (omega (arith, c.min-first.ensures)) (λ few. omega (arith, c.min-first.ensures, few)) cut)) (omega (arith, part.few, c.min-first.ensures, length-take-le first bytes (omega (arith, c.min-first.ensures)))) part.cause
 
 pub loop-done-init : goal.loop-done-init
 loop-done-init g c =
@@ -28,6 +29,8 @@ loop-done-init g c =
       moments = weaken part.leaves (λ x d was cut. chunk_first place bytes x first d (omega (arith, c.min-first.ensures)) (λ few. omega (arith, c.min-first.ensures, few)) cut);
       settled = part.settled refl;
       clock = part.clock refl;
+      whole = λ more. omega (arith, c.min-first.ensures, more);
+      few = omega (arith, part.few, c.min-first.ensures, length-take-le first bytes (omega (arith, c.min-first.ensures)));
       cause = part.cause;
       selected = c.in_ok-write_part.ensures.selected;
       application = c.write_part.ensures.application;
@@ -47,6 +50,7 @@ returns-in_err-write_part-2-clause-writes g c =
     fails place bytes _ _ _ failed
     (goes_by (put place (take k bytes)) was.moments was.written part.leaves (λ x d told cut.
     chunk_next place bytes x k m d (omega (arith, c.min-next.ensures, more)) (omega (arith, was.long more, more)) (omega (arith, c.requires.inside, c.requires.file, size, (g.met.C.Chip.coherent c.args.self.now.chip).sized x told)) cut))
+    (omega (arith, part.few, was.few, was.whole more, c.min-next.ensures, more))
     (cause_after was.cause part.cause)
 
 pub loop-done-preserved : goal.loop-done-preserved
@@ -69,6 +73,8 @@ loop-done-preserved g c =
           chunk_next place bytes x k m d within (omega (arith, was.long more, more)) (omega (arith, c.requires.inside, c.requires.file, size, (g.met.C.Chip.coherent c.args.self.now.chip).sized x told)) cut);
       settled = part.settled refl;
       clock = omega (arith, was.clock, part.clock refl);
+      whole = λ rest. omega (arith, c.min-next.ensures, rest, more, was.whole more);
+      few = omega (arith, part.few, was.few, was.whole more, c.min-next.ensures, more);
       cause = cause_after was.cause part.cause;
       selected = c.in_ok-write_part-2.ensures.selected;
       application = c.write_part-in-loop-done.ensures.application ∙ was.application;

@@ -1,4 +1,4 @@
-use Rattle.std.proofs.Common.{◌≡◌, ◌≤◌, ◌<◌, ◌-◌, false, length, take, Some}
+use Rattle.std.proofs.Common.{◌≡◌, ◌≤◌, ◌<◌, ◌-◌, ◌+◌, ◌/◌, ◌%◌, false, length, take, Some}
 use Rattle.std.specs.Prelude.{option_map}
 use Rattle.tach_media.specs.Medium.{LeavesOnly, IsPartlyWritten, IsSettled, HasCause, Rose, put, last_count}
 use Rattle.card_commands.proofs.port.Port.write_all.Given as goal
@@ -14,6 +14,8 @@ invariant-loop-done g l =
       moments : LeavesOnly before now (IsPartlyWritten l.place l.bytes);
       settled : now.clock < last_count → IsSettled now;
       clock : Rose before.clock now.clock;
+      whole : l.done < length l.bytes → l.done % 255 ≡ 0;
+      few : now.clock ≤ before.clock + (l.done + 254) / 255;
       cause : HasCause before now false;
       selected : l.self.selected ≡ Some l.file;
       application : l.self.application ≡ l.fn.self.application;

@@ -1,0 +1,46 @@
+-- The writes of a minute, in their order.
+use Rattle.std.specs.Prelude.{if◌then◌else◌, ◌==◌, ℕ, ◌⊎◌, ◌+◌, ◌%◌, List, [], ◌∷◌, ◌++◌, length}
+use Rattle.std.specs.Int.{to_be_bytes, w16, w32}
+use Rattle.write_plan.specs.Plan.{Piece, piece, IsPartway}
+use Rattle.gated_ring.specs.Ring.{taken}
+use Rattle.gated_ring.specs.Change.{IsAdding, IsAdded}
+use Rattle.unit_model.specs.Days.{bare}
+use Rattle.unit_model.specs.Image.{day_ring, slot_place}
+use Rattle.unit_journal.specs.Changes.{changes}
+use Rattle.unit_journal.specs.Image.{Notes, free_place, words_on, new_head, further}
+
+-- words, from a place on
+abbrev pub word_pieces : ℕ → List ℕ → List Piece
+word_pieces place [] = []
+word_pieces place (w ∷ ws) = piece place (to_be_bytes w16 w) ∷ word_pieces (place + 2) ws
+
+-- words behind those of a slot, and then its count
+abbrev pub counted : (index count : ℕ) → List ℕ → List Piece
+counted i count ws = word_pieces (free_place i count) ws ++ piece (slot_place i + 8) (to_be_bytes w16 (count + length ws)) ∷ []
+
+-- the last-kept minute
+abbrev pub mark : ℕ → List Piece
+mark minute = piece 564 (to_be_bytes w32 minute) ∷ []
+
+-- a minute on the day of the last-kept one: the odometer, the words and their count, and the mark
+abbrev pub going : Notes → (minute driver codriver odometer : ℕ) → List Piece
+going j minute driver codriver odometer =
+    piece 568 (to_be_bytes w32 odometer) ∷ (counted j.index j.count (words_on j minute driver codriver) ++ mark minute)
+
+-- the end of the day of the last-kept minute
+abbrev pub closing : Notes → List Piece
+closing j = if j.kept == 0 then [] else (if j.kept % 1440 + 1 == 1440 then [] else counted j.index j.count (changes (j.kept % 1440 + 1) j.driver j.codriver bare bare))
+
+-- before a new day: the odometer, and the end of that day
+abbrev pub turning : Notes → (odometer : ℕ) → List Piece
+turning j odometer = piece 568 (to_be_bytes w32 odometer) ∷ closing j
+
+-- a new day behind its `add`: further words and their count, and the mark
+abbrev pub beginning : (index minute : ℕ) → (ws : List ℕ) → List Piece
+beginning i minute ws = counted i 2 ws ++ mark minute
+
+-- a moment of the writes of a new day
+abbrev pub IsBeginning : (minute driver codriver odometer : ℕ) → (x c : List ℕ) → Type 0
+IsBeginning minute driver codriver odometer x c =
+    IsAdding day_ring (new_head minute driver codriver odometer) x c
+    ⊎ ((y : List ℕ) × IsAdded day_ring (new_head minute driver codriver odometer) x y × IsPartway (beginning (taken day_ring x) minute (further minute driver codriver)) y c)
