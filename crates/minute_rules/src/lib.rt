@@ -1,10 +1,10 @@
 //! The class of each minute, from one second with power after another (Annex IB, section III.4).
 #![tactic(auto)]
 
-mod classes;
+mod counted;
 mod minutes;
-mod tail;
-mod window;
+mod slots;
+mod tally;
 
 pub use minute_model::{Minute, Rule};
 pub use minutes::{Decided, Minutes};

@@ -4,7 +4,7 @@ use Rattle.activity_codec.specs.declared.values.Slot.TheVariants.{Driver, CoDriv
 use Rattle.activity_codec.specs.declared.values.Activity.{Activity}
 use Rattle.activity_codec.specs.declared.values.Activity.TheVariants.{Rest, Available, Work, Driving}
 use Rattle.activity_codec.specs.declared.values.Pick.TheVariants as pick
-use Rattle.minute_model.specs.declared.Rule.TheVariants.{Original}
+use Rattle.minute_model.specs.declared.Rule.TheVariants.{Original, Amended}
 use Rattle.minute_model.specs.declared.Minute.{Minute}
 use Rattle.minute_model.specs.Minute.{decided}
 use Rattle.run_model.specs.Trace.{Select, Line, Run, Act, seconds_of}
@@ -67,3 +67,23 @@ first_from_the_stop = refl
 settles_after_two_minutes : decided Original (span_of (seconds_of 1267401600 (Run 60 40 ∷ Run 65 0 ∷ Act (Select Driver pick.Rest) ∷ Run 60 0 ∷ []))) (1267401720 ∷ []) ≡ minute 0 Driving Available 2400 ∷ minute 1 Work Available 2400 ∷ []
 unfolding decided seconds_of
 settles_after_two_minutes = refl
+
+-- twenty seconds of driving make a minute DRIVING by the original rule, and not by the amended one, which decides later
+abbrev short_drive : List Line
+short_drive = Run 20 40 ∷ Run 280 0 ∷ []
+
+drives_by_one_second : minutes short_drive ≡ minute 0 Driving Available 800 ∷ minute 1 Work Available 800 ∷ minute 2 Work Available 800 ∷ []
+unfolding decided seconds_of
+drives_by_one_second = refl
+
+works_by_the_longest : decided Amended (span_of (seconds_of 1267401600 short_drive)) [] ≡ minute 0 Work Available 800 ∷ minute 1 Work Available 800 ∷ []
+unfolding decided seconds_of
+works_by_the_longest = refl
+
+-- a minute between two whose longest is DRIVING is DRIVING by both
+abbrev stops_between : List Line
+stops_between = Run 60 40 ∷ Run 60 0 ∷ Run 60 40 ∷ Run 120 0 ∷ []
+
+drives_between : decided Amended (span_of (seconds_of 1267401600 stops_between)) [] ≡ minute 0 Driving Available 2400 ∷ minute 1 Driving Available 2400 ∷ []
+unfolding decided seconds_of
+drives_between = refl

@@ -1,14 +1,14 @@
 -- The decided minutes of a trace begin before the last second that is told.
-use Rattle.std.proofs.Common.{ℕ, suc, zero, ◌+◌, ◌*◌, ◌<◌, ◌≤◌, List, [], ◌∷◌, subst, arith}
+use Rattle.std.proofs.Common.{ℕ, ◌+◌, ◌*◌, ◌<◌, ◌≤◌, List, [], ◌∷◌, subst, arith}
 use Rattle.std.specs.Prelude.{map}
 use Rattle.std.specs.List.{AllByRecursion}
 use Rattle.minute_model.specs.declared.Rule.TheVariants.{Original}
 use Rattle.minute_model.specs.declared.Minute.{Minute}
 use Rattle.minute_model.specs.Second.{Second}
 use Rattle.minute_model.specs.Minute.{decided}
-use Rattle.minute_model.specs.Span.{Span, begin, end_of, picked, AreNumbered}
+use Rattle.minute_model.specs.Span.{Span, begin, end_of, fed_many, picked, AreSettled, AreNumbered}
 use Rattle.minute_model.proofs.Counted.{decided-ended}
-use Rattle.minute_rules.proofs.Feeds.{numbered-fed}
+use Rattle.minute_model.proofs.Spans.{fed_many-numbered}
 use Rattle.trace_text.specs.declared.trace.Action.TheVariants.{Select}
 use Rattle.trace_text.specs.declared.trace.Item.{Item}
 use Rattle.trace_text.specs.declared.trace.Item.TheVariants.{Run, Act}
@@ -16,17 +16,13 @@ use Rattle.trace_text.specs.Trace.{IsWellFormed}
 use Rattle.trace_text.specs.Model.{trace_span}
 use Rattle.view_model.specs.declared.UnitShown.{UnitShown}
 use Rattle.view_model.specs.declared.Viewed.{Viewed}
-use Rattle.tacho.specs.Feeding.{fed_many, fed_items}
+use Rattle.tacho.specs.Feeding.{fed_items}
 use Rattle.tacho.specs.Minutes.{without_card, minutes_shown}
-use Rattle.tacho.proofs.Fed.{fed-span, fed_items-end}
+use Rattle.tacho.proofs.Fed.{fed-span, fed_items-end, fed_items-rule, fed_items-settlings}
 
 -- the seconds of a span are numbered from its first one on
 abbrev IsNumbered : Span → Type 0
 IsNumbered span = AreNumbered span.first span.seconds
-
-fed_many-numbered : (span : Span) (speed n : ℕ) → IsNumbered span → IsNumbered (fed_many span speed n)
-fed_many-numbered span speed zero numbered = numbered
-fed_many-numbered span speed (suc n) numbered = numbered-fed (fed_many span speed n) speed (fed_many-numbered span speed n numbered)
 
 fed_items-numbered : (span : Span) (items : List Item) → IsNumbered span → IsNumbered (fed_items span items)
 fed_items-numbered span [] numbered = numbered
@@ -34,13 +30,16 @@ fed_items-numbered span (Act (Select slot pick) ∷ items) numbered = fed_items-
 fed_items-numbered span (Run n speed ∷ items) numbered = fed_items-numbered (fed_many span speed n) items (fed_many-numbered span speed n numbered)
 
 -- minutes that have ended before a second begin before it
-shown-below : (end : ℕ) (minutes : List Minute) → end ≤ 4294880896 → AllByRecursion (λ (m : Minute). 60 * m.minute + 180 ≤ end) minutes → AllByRecursion (λ (v : Viewed UnitShown). v.minute < 71582788) (map without_card minutes)
+shown-below : (end : ℕ) (minutes : List Minute) → end ≤ 4294880896 → AllByRecursion (λ (m : Minute). 60 * m.minute + 60 ≤ end) minutes → AllByRecursion (λ (v : Viewed UnitShown). v.minute < 71582788) (map without_card minutes)
 shown-below end [] le all = tt
 shown-below end (m ∷ minutes) le all = (omega (arith, all.0, le), shown-below end minutes le all.1)
 
 pub trace-below : (start : ℕ) (items : List Item) → IsWellFormed start items → AllByRecursion (λ (v : Viewed UnitShown). v.minute < 71582788) (minutes_shown start items)
 trace-below start items well =
     let span = fed_items (begin Original start) items in
-    let ended = decided-ended Original span.first span.seconds (fed_items-numbered (begin Original start) items tt) in
-    let P : List Second → Type 0 = λ xs. AllByRecursion (λ (m : Minute). 60 * m.minute + 180 ≤ end_of span) (decided Original xs []) in
+    let none = fed_items-settlings (begin Original start) items in
+    let rule = fed_items-rule (begin Original start) items in
+    let settled : AreSettled span = rw none tt in
+    let ended = rw (rule, none) at (decided-ended span (fed_items-numbered (begin Original start) items tt) settled) in
+    let P : List Second → Type 0 = λ xs. AllByRecursion (λ (m : Minute). 60 * m.minute + 60 ≤ end_of span) (decided Original xs []) in
     shown-below (end_of span) (decided Original (trace_span start items) []) (omega (arith, fed_items-end (begin Original start) items, well.within.1)) (subst P (fed-span start items well.each) ended)

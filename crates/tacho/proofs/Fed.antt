@@ -1,5 +1,5 @@
 -- A span that is fed with the items of a trace has the trace's seconds.
-use Rattle.std.proofs.Common.{◌≡◌, ◌∙◌, ℕ, suc, zero, ◌+◌, List, [], ◌∷◌, ◌++◌, take, drop, refl, ap, sym, arith, append_assoc, append-nil, length-append}
+use Rattle.std.proofs.Common.{◌≡◌, ◌∙◌, ℕ, suc, zero, ◌+◌, List, [], ◌∷◌, ◌++◌, take, drop, refl, ap, sym, arith, append_assoc, append-nil}
 use Rattle.std.specs.Prelude.{map, filter, slice_get, Some}
 use Rattle.std.specs.List.{AllByRecursion}
 use Rattle.std.proofs.lemmas.List.{map-append}
@@ -11,7 +11,8 @@ use Rattle.minute_model.specs.declared.Rule.{Rule}
 use Rattle.minute_model.specs.declared.Rule.TheVariants.{Original}
 use Rattle.minute_model.specs.Second.{Second}
 use Rattle.minute_model.specs.Minute.{decided}
-use Rattle.minute_model.specs.Span.{Span, begin, end_of, fed, picked, decided_in}
+use Rattle.minute_model.specs.Span.{Span, begin, end_of, fed, fed_many, picked, decided_in}
+use Rattle.minute_model.proofs.Spans.{end-fed, fed_many-first, fed_many-end, fed_many-rule, fed_many-settlings}
 use Rattle.run_model.specs.Trace as model
 use Rattle.run_model.specs.Trace.{TraceSecond, Insert, Withdraw, Tear, Place, driven, seconds_from, seconds_of}
 use Rattle.run_model.specs.Span.{picks_of, span_of}
@@ -21,17 +22,12 @@ use Rattle.trace_text.specs.declared.trace.Item.TheVariants.{Run, Act}
 use Rattle.trace_text.specs.Line.{InRange}
 use Rattle.trace_text.specs.Trace.{item_seconds, total_seconds}
 use Rattle.trace_text.specs.Model.{line_of, trace_span}
-use Rattle.tacho.specs.Feeding.{fed_many, fed_item, fed_items}
+use Rattle.tacho.specs.Feeding.{fed_item, fed_items}
 
 -- one item more
 fed_items-more : (span : Span) (items : List Item) (item : Item) → fed_items span (items ++ item ∷ []) ≡ fed_item (fed_items span items) item
 fed_items-more span [] item = refl
 fed_items-more span (first ∷ items) item = fed_items-more (fed_item span first) items item
-
--- the first of n + 1 seconds, and then the others
-fed_many-first : (span : Span) (speed n : ℕ) → fed_many span speed (suc n) ≡ fed_many (fed span speed) speed n
-fed_many-first span speed zero = refl
-fed_many-first span speed (suc n) = ap (λ (k : Span). fed k speed) (fed_many-first span speed n)
 
 -- the selections among some actions and one more
 picks_of-more : (actions : List model.Action) (slot : Slot) (pick : Pick) → picks_of (actions ++ model.Select slot pick ∷ []) ≡ picks_of actions ++ (slot, pick) ∷ []
@@ -52,9 +48,6 @@ span_of-append xs ys =
     let f : TraceSecond → Second = λ s. record { number = s.number; speed = s.speed; picks = picks_of s.actions } in
     ap (map f) (filter-append (λ (s : TraceSecond). s.has_power) xs ys) ∙ map-append f (filter (λ (s : TraceSecond). s.has_power) xs) (filter (λ (s : TraceSecond). s.has_power) ys)
 
-end-fed : (span : Span) (speed : ℕ) → end_of (fed span speed) ≡ end_of span + 1
-end-fed span speed = omega (arith, length-append span.seconds (record { number = end_of span; speed = speed; picks = span.pending } ∷ []))
-
 -- what seconds at one speed add to a span
 fed_many-seconds : (span : Span) (waiting : List model.Action) (speed n : ℕ) → span.pending ≡ picks_of waiting → (fed_many span speed n).seconds ≡ span.seconds ++ span_of (driven n (end_of span) speed waiting)
 fed_many-seconds span waiting speed zero is = sym (append-nil span.seconds)
@@ -66,10 +59,6 @@ fed_many-seconds span waiting speed (suc n) is =
     ∙ ap (λ (m : ℕ). (fed span speed).seconds ++ span_of (driven n m speed [])) (end-fed span speed)
     ∙ ap (λ (xs : List Second). xs ++ span_of (driven n (end_of span + 1) speed [])) same
     ∙ one-more span.seconds first (span_of (driven n (end_of span + 1) speed []))
-
-fed_many-end : (span : Span) (speed n : ℕ) → end_of (fed_many span speed n) ≡ end_of span + n
-fed_many-end span speed zero = omega arith
-fed_many-end span speed (suc n) = end-fed (fed_many span speed n) speed ∙ omega (arith, fed_many-end span speed n)
 
 fed_many-pending : (span : Span) (speed n : ℕ) → (fed_many span speed (suc n)).pending ≡ []
 fed_many-pending span speed n = refl
@@ -90,20 +79,12 @@ fed_items-seconds span waiting (Run (suc n) speed ∷ items) all is =
     ∙ ap (λ (xs : List Second). span.seconds ++ xs) (sym (span_of-append now (later (end_of span + suc n))))
 
 -- what feeding leaves as it was
-fed_many-rule : (span : Span) (speed n : ℕ) → (fed_many span speed n).rule ≡ span.rule
-fed_many-rule span speed zero = refl
-fed_many-rule span speed (suc n) = fed_many-rule span speed n
-
-fed_many-settlings : (span : Span) (speed n : ℕ) → (fed_many span speed n).settlings ≡ span.settlings
-fed_many-settlings span speed zero = refl
-fed_many-settlings span speed (suc n) = fed_many-settlings span speed n
-
-fed_items-rule : (span : Span) (items : List Item) → (fed_items span items).rule ≡ span.rule
+pub fed_items-rule : (span : Span) (items : List Item) → (fed_items span items).rule ≡ span.rule
 fed_items-rule span [] = refl
 fed_items-rule span (Act (Select slot pick) ∷ items) = fed_items-rule (picked span slot pick) items
 fed_items-rule span (Run n speed ∷ items) = fed_items-rule (fed_many span speed n) items ∙ fed_many-rule span speed n
 
-fed_items-settlings : (span : Span) (items : List Item) → (fed_items span items).settlings ≡ span.settlings
+pub fed_items-settlings : (span : Span) (items : List Item) → (fed_items span items).settlings ≡ span.settlings
 fed_items-settlings span [] = refl
 fed_items-settlings span (Act (Select slot pick) ∷ items) = fed_items-settlings (picked span slot pick) items
 fed_items-settlings span (Run n speed ∷ items) = fed_items-settlings (fed_many span speed n) items ∙ fed_many-settlings span speed n

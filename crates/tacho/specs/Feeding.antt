@@ -1,14 +1,9 @@
 -- A span, fed with the items of a trace.
-use Rattle.std.specs.Prelude.{ℕ, suc, zero, List, [], ◌∷◌}
-use Rattle.minute_model.specs.Span.{Span, fed, picked}
+use Rattle.std.specs.Prelude.{List, [], ◌∷◌}
+use Rattle.minute_model.specs.Span.{Span, fed_many, picked}
 use Rattle.trace_text.specs.declared.trace.Action.TheVariants.{Select}
 use Rattle.trace_text.specs.declared.trace.Item.{Item}
 use Rattle.trace_text.specs.declared.trace.Item.TheVariants.{Run, Act}
-
--- so many more seconds at this speed
-abbrev pub fed_many : Span → ℕ → ℕ → Span
-fed_many span speed zero = span
-fed_many span speed (suc n) = fed (fed_many span speed n) speed
 
 -- one more item
 abbrev pub fed_item : Span → Item → Span

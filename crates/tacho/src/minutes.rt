@@ -1,14 +1,16 @@
 //! The decided minutes of a trace.
-ghost use Rattle.std.specs.Prelude.{◌≡◌, ◌+◌, ◌≤◌, ◌++◌, IfOk, OnOk, map, false};
-ghost use Rattle.minute_model.specs.Span.{Span, decided_in};
+ghost use Rattle.std.specs.Prelude.{◌≡◌, ◌+◌, ◌<◌, ◌≤◌, ◌++◌, IfOk, OnOk, map, false};
+ghost use Rattle.minute_model.specs.Span.{Span, fed_many, decided_in};
 ghost use Rattle.minute_rules.specs.Kept.{StandsFor};
 ghost use Rattle.trace_text.specs.Trace.{IsWellFormed, item_seconds};
-ghost use Rattle.tacho.specs.Feeding.{fed_many, fed_item};
+ghost use Rattle.tacho.specs.Feeding.{fed_item};
 ghost use Rattle.tacho.specs.Minutes.{without_card, minutes_shown};
 
-use activity_codec::Activity;
+use activity_codec::{Activity, Steps};
 use minute_rules::{Minute, Minutes, Rule};
 use std::alloc::{AllocError, Global};
+use std::marker::Brand;
+use std::sync::ledger::{Blank, Ledger};
 use trace_text::{Action, Item, Trace};
 use view_model::{State, UnitShown, Viewed};
 
@@ -60,9 +62,33 @@ fn run(
         → OnOk result (all.new.items ≡ map without_card (decided_in (fed_many span speed seconds))) }
     ensures next { OnOk result (minutes.new.next ≡ minutes.old.next + seconds) }
 {
-    for i in 0..seconds {
-        let decided = minutes.feed(speed);
+    run_pieces::<Brand>(minutes, all, seconds, speed, Blank::new(1))
+}
+
+/// `run`, at most a minute at a time, by steps that nobody counts.
+fn run_pieces<L: Ledger>(
+    minutes: &mut Minutes,
+    all: &mut Vec<Viewed<UnitShown>>,
+    seconds: u32,
+    speed: u8,
+    blank: Blank,
+) -> Result<(), AllocError>
+    requires name { blank.name ≡ L.name }
+    requires parts { blank.parts ≡ L.parts }
+    requires some { 0 < blank.parts }
+    requires fits { minutes.old.next + seconds ≤ 4294967295 }
+    ensures stands { (span : Span) → StandsFor minutes.old span → OnOk result (StandsFor minutes.new (fed_many span speed seconds)) }
+    ensures all { (span : Span) → StandsFor minutes.old span → all.old.items ≡ map without_card (decided_in span)
+        → OnOk result (all.new.items ≡ map without_card (decided_in (fed_many span speed seconds))) }
+    ensures next { OnOk result (minutes.new.next ≡ minutes.old.next + seconds) }
+{
+    let mut steps = Steps::<L>::new(blank);
+    let mut left = seconds;
+    while left > 0 {
+        let n = left.min(60 - minutes.next() % 60);
+        let decided = minutes.feed_run(n, speed, &mut steps);
         show(all, decided.as_slice())?;
+        left -= n;
     }
     Ok(())
 }

@@ -1,0 +1,197 @@
+//! What is counted of one minute.
+ghost use Rattle.std.specs.Prelude.{◌≡◌, ◌+◌, ◌*◌, ◌≤◌, map, length};
+ghost use Rattle.std.specs.List.{AllByRecursion};
+ghost use Rattle.activity_codec.specs.Activity.{is_driving};
+ghost use Rattle.minute_rules.specs.Counted.{Fits, closed, opened, with_driver, with_codriver, moved, waited, waits_on, past_waited, drivers_longest, class_by};
+
+use crate::tally::Tally;
+use activity_codec::{Activity, Steps};
+use arrayvec::ArrayVec;
+use minute_model::Rule;
+use std::sync::ledger::Ledger;
+
+/// How many minutes before that of the next second are kept: as many as may be undecided, and one more.
+pub const PAST: usize = 5;
+
+/// How long after a stop rest or availability may still be selected for it, in seconds.
+const WAIT: u32 = 120;
+
+/// What is counted of one minute.
+#[derive(Clone, Copy, Debug, Default, PartialEq, Eq)]
+pub struct Counted {
+    /// The driver's seconds whose activity is settled.
+    pub driver: Tally,
+    /// The driver's seconds since the stop for which rest or availability may still be selected. They come last.
+    pub open_seconds: u32,
+    /// Whether it has a moving second.
+    pub drives: bool,
+    /// The co-driver's seconds.
+    pub codriver: Tally,
+    /// The sum of the speeds of the span's seconds up to the minute's last.
+    pub travelled: u64,
+}
+
+impl Counted {
+    /// The open seconds get this activity.
+    pub fn closed(self, act: Activity) -> Self
+        requires { self.driver.going_seconds + self.open_seconds ≤ 4294967295 }
+        ensures { result ≡ closed act self }
+    {
+        Counted {
+            driver: self.driver.with(act, self.open_seconds),
+            open_seconds: 0,
+            drives: self.drives,
+            codriver: self.codriver,
+            travelled: self.travelled,
+        }
+    }
+
+    /// So many more of the driver's seconds.
+    pub fn with_driver(self, act: Activity, seconds: u32) -> Self
+        requires { self.driver.going_seconds + seconds ≤ 4294967295 }
+        ensures { result ≡ with_driver act seconds self }
+    {
+        Counted {
+            driver: self.driver.with(act, seconds),
+            open_seconds: self.open_seconds,
+            drives: self.drives,
+            codriver: self.codriver,
+            travelled: self.travelled,
+        }
+    }
+
+    /// So many more of the co-driver's seconds.
+    pub fn with_codriver(self, act: Activity, seconds: u32) -> Self
+        requires { self.codriver.going_seconds + seconds ≤ 4294967295 }
+        ensures { result ≡ with_codriver act seconds self }
+    {
+        Counted {
+            driver: self.driver,
+            open_seconds: self.open_seconds,
+            drives: self.drives,
+            codriver: self.codriver.with(act, seconds),
+            travelled: self.travelled,
+        }
+    }
+
+    /// So many more of the driver's seconds at speed 0: they are open till the 120th second after the stop.
+    pub fn waited(self, waiting: Option<u32>, act: Activity, seconds: u32) -> Self
+        requires { self.driver.going_seconds + self.open_seconds + seconds ≤ 4294967295 }
+        ensures { result ≡ waited waiting act seconds self }
+    {
+        let Some(count) = waiting else {
+            return self.with_driver(act, seconds);
+        };
+        let left = WAIT.saturating_sub(count);
+        if seconds <= left {
+            return self.opened(seconds);
+        }
+        self.opened(left)
+            .closed(Activity::Work)
+            .with_driver(act, seconds - left)
+    }
+
+    /// So many more open seconds.
+    fn opened(self, seconds: u32) -> Self
+        requires { self.open_seconds + seconds ≤ 4294967295 }
+        ensures { result ≡ opened seconds self }
+    {
+        Counted {
+            driver: self.driver,
+            open_seconds: self.open_seconds + seconds,
+            drives: self.drives,
+            codriver: self.codriver,
+            travelled: self.travelled,
+        }
+    }
+
+    /// So many more moving seconds.
+    pub fn moved(self, seconds: u32, speed: u8) -> Self
+        requires driver { self.driver.going_seconds + seconds ≤ 4294967295 }
+        requires codriver { self.codriver.going_seconds + seconds ≤ 4294967295 }
+        requires travelled { self.travelled ≤ 255 * 4294967295 }
+        ensures { result ≡ moved seconds speed self }
+    {
+        Counted {
+            driver: self.driver.with(Activity::Driving, seconds),
+            open_seconds: self.open_seconds,
+            drives: true,
+            codriver: self.codriver.with(Activity::Available, seconds),
+            travelled: self.travelled + seconds as u64 * speed as u64,
+        }
+    }
+
+    /// The driver's longest activity: what is open counts as WORK.
+    pub fn drivers_longest(self) -> Activity
+        requires { Fits 4294967295 self }
+        ensures { result ≡ drivers_longest self }
+    {
+        self.driver
+            .with(Activity::Work, self.open_seconds)
+            .longest()
+    }
+}
+
+/// The open seconds of these minutes get this activity.
+pub fn close_all<L: Ledger>(minutes: &mut [Counted], act: Activity, steps: &mut Steps<L>)
+    requires { AllByRecursion (Fits 4294967295) minutes.old }
+    ensures closed { minutes.new ≡ map (closed act) minutes.old }
+    ensures cost { steps.new ≡ steps.old + length minutes.old }
+{
+    for i in 0..minutes.len() {
+        minutes[i] = minutes[i].closed(act);
+        steps.tick();
+    }
+}
+
+/// Where the wait since the stop ends in the next seconds, the open seconds get WORK.
+pub fn end_late<L: Ledger>(
+    past: &mut ArrayVec<Counted, PAST>,
+    waiting: Option<u32>,
+    seconds: u32,
+    steps: &mut Steps<L>,
+)
+    requires { AllByRecursion (Fits 4294967295) past.old.items }
+    ensures kept { past.new.items ≡ past_waited waiting seconds past.old.items }
+    ensures cost { steps.new ≤ steps.old + 5 }
+{
+    if let Some(count) = waiting {
+        if seconds > WAIT.saturating_sub(count) {
+            close_all(past.as_mut_slice(), Activity::Work, steps);
+        }
+    }
+}
+
+/// How long the driver has waited after the next seconds.
+pub fn still_waiting(waiting: Option<u32>, seconds: u32) -> Option<u32>
+    ensures { result ≡ waits_on waiting seconds }
+{
+    let count = waiting?;
+    if seconds > WAIT.saturating_sub(count) {
+        return None;
+    }
+    Some(count + seconds)
+}
+
+/// The driver's class of a minute, by it and the minutes before and after it.
+pub fn driver_class(rule: Rule, before: Counted, this: Counted, after: Counted) -> Activity
+    requires { Fits 4294967295 before × Fits 4294967295 this × Fits 4294967295 after }
+    ensures { result ≡ class_by rule before this after }
+{
+    let driving = match rule {
+        Rule::Original => this.drives || (before.drives && after.drives),
+        Rule::Amended => drives(before.drivers_longest()) && drives(after.drivers_longest()),
+    };
+    if driving {
+        Activity::Driving
+    } else {
+        this.drivers_longest()
+    }
+}
+
+/// Whether it is DRIVING.
+fn drives(act: Activity) -> bool
+    ensures { result ≡ is_driving act }
+{
+    matches!(act, Activity::Driving)
+}

@@ -1,0 +1,59 @@
+//! Runs of equal seconds, counted as they come.
+ghost use Rattle.std.specs.Prelude.{◌≡◌, ◌+◌, ◌≤◌};
+ghost use Rattle.minute_rules.specs.Tally.{with_run, longest_in};
+
+use activity_codec::Activity;
+
+/// The longest finished run of equal seconds, the latest of equally long ones, and the run that goes on.
+#[derive(Clone, Copy, Debug, Default, PartialEq, Eq)]
+pub struct Tally {
+    pub best: Activity,
+    pub best_seconds: u32,
+    pub going: Activity,
+    pub going_seconds: u32,
+}
+
+impl Tally {
+    /// So many more seconds of this activity.
+    pub fn with(self, act: Activity, seconds: u32) -> Self
+        requires { self.going_seconds + seconds ≤ 4294967295 }
+        ensures { result ≡ with_run self act seconds }
+    {
+        if seconds == 0 {
+            return self;
+        }
+        if act == self.going {
+            return Tally {
+                best: self.best,
+                best_seconds: self.best_seconds,
+                going: self.going,
+                going_seconds: self.going_seconds + seconds,
+            };
+        }
+        if self.going_seconds < self.best_seconds {
+            return Tally {
+                best: self.best,
+                best_seconds: self.best_seconds,
+                going: act,
+                going_seconds: seconds,
+            };
+        }
+        Tally {
+            best: self.going,
+            best_seconds: self.going_seconds,
+            going: act,
+            going_seconds: seconds,
+        }
+    }
+
+    /// The activity of the longest run, the latest of equally long ones.
+    pub fn longest(self) -> Activity
+        ensures { result ≡ longest_in self }
+    {
+        if self.best_seconds > self.going_seconds {
+            self.best
+        } else {
+            self.going
+        }
+    }
+}
