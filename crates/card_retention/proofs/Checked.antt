@@ -1,0 +1,151 @@
+-- A closed card that passes the checks of its words: a repair would leave no more than its words.
+use Rattle.std.proofs.Common.{◌≡◌, ⊎_elim, ℕ, suc, ◌+◌, ◌/◌, ◌%◌, ◌<◌, ◌≤◌, Bool, true, false, cond, not, ◌&&◌, Option, Some, List, [], ◌∷◌, length, refl, sym, ap, subst, arith}
+use Rattle.std.specs.Prelude.{nat_eq, nat_lt, nat_le}
+use Rattle.std.proofs.lemmas.Bool.Decides.{nat_tests}
+use Rattle.std.proofs.lemmas.Bool.{cases_lt}
+use Rattle.activity_codec.specs.declared.entries.Entry.{Entry}
+use Rattle.activity_codec.specs.Words.{word_absent}
+use Rattle.card_model.specs.Days.{Day, AreDays, IsDay, AreWords, Ascend, minute_of}
+use Rattle.card_model.specs.Changes.{with_newest, until, early, with_early, OnNewest, date_of, cut, trimmed}
+use Rattle.card_retention.specs.Expected.{more, Counted}
+use Rattle.card_retention.specs.Shown.{Bound, Grows, sizes, last_word, is_open, owing, EndsAbsent, Sound, Sound.Flat, Sound.Tail, Rests, Lives}
+use Rattle.card_retention.specs.Entries.{newest_word, IsChecked}
+use Rattle.card_retention.proofs.Entering.{both, is_same}
+use Rattle.card_retention.proofs.Trims.{trimmed_cases}
+use Rattle.card_retention.proofs.Flat.{UpTo, early_all, flat_newest}
+
+at_most : (m n : ℕ) → m ≤ n → nat_le m n ≡ true
+at_most m n le = grind (arith, nat_tests)
+
+le_of : (m n : ℕ) → nat_le m n ≡ true → m ≤ n
+le_of m n is = grind (arith, nat_tests)
+
+same_is : (m n : ℕ) → m ≡ n → nat_eq m n ≡ true
+same_is m n is = grind (arith, nat_tests)
+
+-- where a trim cuts nothing the last word is not behind it
+pub early_last : (m : ℕ) (ws : List ℕ) → AreWords ws → early m ws ≡ ws → minute_of (last_word ws) ≤ m
+early_last m [] are is = absurd are
+early_last m (w ∷ ws) are is = go w ws is
+  where
+    go : (w : ℕ) (ws : List ℕ) → early m (w ∷ ws) ≡ w ∷ ws → minute_of (last_word (w ∷ ws)) ≤ m
+    go w [] is = by (nat_le (minute_of w) m) refl is
+      where
+        by : (b : Bool) → nat_le (minute_of w) m ≡ b → cond b (w ∷ []) [] ≡ w ∷ [] → minute_of w ≤ m
+        by true t x = le_of (minute_of w) m t
+        by false t x = absurd (none x)
+          where
+            none : [] ≡ w ∷ [] → ⊥
+            none x = cc
+    go w (v ∷ ws) is = by (nat_le (minute_of w) m) is (go v ws)
+      where
+        by : (b : Bool) → cond b (w ∷ early m (v ∷ ws)) [] ≡ w ∷ v ∷ ws → (early m (v ∷ ws) ≡ v ∷ ws → minute_of (last_word (v ∷ ws)) ≤ m) → minute_of (last_word (v ∷ ws)) ≤ m
+        by true x rest = rest (tail x)
+          where
+            tail : w ∷ early m (v ∷ ws) ≡ w ∷ v ∷ ws → early m (v ∷ ws) ≡ v ∷ ws
+            tail x = cc
+        by false x rest = absurd (none x)
+          where
+            none : [] ≡ w ∷ v ∷ ws → ⊥
+            none x = cc
+
+early_few : (m : ℕ) (ws : List ℕ) → length (early m ws) ≤ length ws
+early_few m [] = omega arith
+early_few m (w ∷ ws) = by (early_few m ws) (nat_le (minute_of w) m)
+  where
+    by : length (early m ws) ≤ length ws → (b : Bool) → length (cond b (w ∷ early m ws) []) ≤ length (w ∷ ws)
+    by rest true = omega (arith, rest)
+    by rest false = omega arith
+
+-- one day, cut, with the closing word
+module _ (mark : ℕ) where
+  one_cut : (n : ℕ) (d : Day) (ds : List Day) → d.date ≤ date_of mark → IsDay d → IsChecked mark (d ∷ ds) → (ds ≡ [] → mark < d.date / 60 + minute_of (last_word d.words)) → Grows (owing n mark (cut mark d ∷ [])) (sizes (d ∷ ds))
+  one_cut n d ds low is checked behind = by (nat_eq d.date (date_of mark)) refl
+    where
+      by : (c : Bool) → nat_eq d.date (date_of mark) ≡ c → Grows (owing n mark (cond c (with_early (mark % 1440) d) d ∷ [])) (sizes (d ∷ ds))
+      by true at = go (is_open mark (with_early (mark % 1440) d ∷ [])) refl (nat_lt (suc mark) n)
+        where
+          few : length (early (mark % 1440) d.words) ≤ length d.words
+          few = early_few (mark % 1440) d.words
+
+          fewer : is_open mark (with_early (mark % 1440) d ∷ []) ≡ true → length (early (mark % 1440) d.words) < length d.words
+          fewer o =
+              let parts = both (nat_eq d.date (date_of (suc mark))) (not (word_absent (last_word (early (mark % 1440) d.words)))) o in
+              let date : d.date ≡ date_of (suc mark) = is_same d.date (date_of (suc mark)) parts.0 in
+              let here : d.date ≡ date_of mark = is_same d.date (date_of mark) at in
+              ⊎_elim
+              (λ (none : ds ≡ [] × (early (mark % 1440) d.words ≡ d.words)). absurd (omega (arith, behind none.0, here, early_last (mark % 1440) d.words is.ordered none.1)))
+              (λ rest. ⊎_elim (λ less. less) (λ (midnight : suc mark % 1440 ≡ 0). absurd (omega (arith, midnight, here, date))) rest)
+              (checked.0 here (present (word_absent (last_word (early (mark % 1440) d.words))) parts.1))
+            where
+              present : (a : Bool) → not a ≡ true → a ≡ false
+              present true x = absurd (cc)
+              present false x = refl
+
+          go : (o : Bool) → is_open mark (with_early (mark % 1440) d ∷ []) ≡ o → (g : Bool) → Grows (cond (o && g) (more (sizes (with_early (mark % 1440) d ∷ []))) (sizes (with_early (mark % 1440) d ∷ []))) (sizes (d ∷ ds))
+          go true o true = (refl, omega (arith, fewer o), tt)
+          go true o false = (refl, few, tt)
+          go false o g = (refl, few, tt)
+      by false at = go (nat_eq d.date (date_of (suc mark))) (nat_lt (suc mark) n) (apart d.date (date_of (suc mark)) (earlier d.date (date_of mark) low at))
+        where
+          -- a day before the mark's
+          earlier : (a b : ℕ) → a ≤ b → nat_eq a b ≡ false → a < b
+          earlier a b le t = grind (arith, nat_tests)
+
+          apart : (a b : ℕ) → a < date_of mark → nat_eq a (date_of (suc mark)) ≡ false
+          apart a b lt = not_same a (date_of (suc mark)) (omega (arith, lt))
+            where
+              not_same : (a b : ℕ) → a < b → nat_eq a b ≡ false
+              not_same a b lt = grind (arith, nat_tests)
+
+          go : (o g : Bool) → o ≡ false → Grows (cond ((o && not (word_absent (last_word d.words))) && g) (more (sizes (d ∷ []))) (sizes (d ∷ []))) (sizes (d ∷ ds))
+          go false g is = (refl, omega arith, tt)
+          go true g is = absurd (cc)
+
+pub under : (n mark date : ℕ) (ds : List Day) → AreDays date ds → IsChecked mark ds → mark < newest_word ds → Grows (owing n mark (trimmed mark ds)) (sizes ds)
+under n mark date [] are checked behind = tt
+under n mark date (d ∷ []) are checked behind = by (nat_le d.date (date_of mark)) refl
+  where
+    by : (b : Bool) → nat_le d.date (date_of mark) ≡ b → Grows (owing n mark (with_newest (cut mark) (cond b (d ∷ []) []))) (sizes (d ∷ []))
+    by false is = tt
+    by true is = one_cut mark n d [] (le_of d.date (date_of mark) is) are.1 checked (λ _. behind)
+under n mark date (d ∷ e ∷ ds) are checked behind = by (nat_le d.date (date_of mark)) refl (under n mark d.date (e ∷ ds) are.2 checked.1 behind)
+  where
+    owed : (x : Day) (xs : List Day) (b : Bool) → Grows (cond b (more (sizes (x ∷ xs))) (sizes (x ∷ xs))) (sizes (e ∷ ds)) → Grows (cond b (more (sizes (d ∷ x ∷ xs))) (sizes (d ∷ x ∷ xs))) (sizes (d ∷ e ∷ ds))
+    owed x xs true g = (refl, omega arith, g)
+    owed x xs false g = (refl, omega arith, g)
+
+    nothing : (x : Day) → d ∷ e ∷ ds ≡ [] → ⊥
+    nothing x is = cc
+
+    by : (b : Bool) → nat_le d.date (date_of mark) ≡ b → Grows (owing n mark (trimmed mark (e ∷ ds))) (sizes (e ∷ ds)) → Grows (owing n mark (trimmed mark (d ∷ e ∷ ds))) (sizes (d ∷ e ∷ ds))
+    by false is rest = subst (λ (l : List Day). Grows (owing n mark l) (sizes (d ∷ e ∷ ds))) (sym (ap (λ (b : Bool). with_newest (cut mark) (cond b (d ∷ until (date_of mark) (e ∷ ds)) [])) is)) tt
+    by true is rest = ⊎_elim
+        (λ short. ⊎_elim
+        (λ none. subst (λ (l : List Day). Grows (owing n mark l) (sizes (d ∷ e ∷ ds))) (sym none) tt)
+        (λ one. subst (λ (l : List Day). Grows (owing n mark l) (sizes (d ∷ e ∷ ds))) (sym one) (one_cut mark n d (e ∷ ds) (le_of d.date (date_of mark) is) are.1 checked (λ none. absurd (some none)))) short.1)
+        (λ t. subst (λ (l : List Day). Grows (owing n mark l) (sizes (d ∷ e ∷ ds))) (sym t.whole)
+        (owed t.first t.rest (is_open mark (t.first ∷ t.rest) && nat_lt (suc mark) n) (subst (λ (l : List Day). Grows (owing n mark l) (sizes (e ∷ ds))) t.less rest)))
+        (trimmed_cases mark date d (e ∷ ds) are)
+      where
+        some : e ∷ ds ≡ [] → ⊥
+        some is = cc
+
+no_word_behind : (mark date : ℕ) (d : Day) (ds : List Day) → AreDays date (d ∷ ds) → newest_word (d ∷ ds) ≤ mark → OnNewest (UpTo mark) (d ∷ ds)
+no_word_behind mark date d [] are le = record { day = omega (arith, le, are.1.midnight); last = λ here. words d.words are.1.ordered (omega (arith, le, here)) }
+  where
+    words : (ws : List ℕ) → AreWords ws → minute_of (last_word ws) ≤ mark % 1440 → early (mark % 1440) ws ≡ ws
+    words [] are le = absurd are
+    words (w ∷ ws) are le = early_all 0 (mark % 1440) (w ∷ ws) (omega arith, omega (arith, are.0), subst (λ (k : ℕ). Ascend k ws) (sym are.0) are.1) le
+no_word_behind mark date d (e ∷ ds) are le = no_word_behind mark d.date e ds are.2 le
+
+-- A CLOSED CARD is sound
+pub closed_sound : (mark top : ℕ) (before : Option Entry) (ds : List Day) → AreDays 0 ds → IsChecked mark ds → (mark < newest_word ds → EndsAbsent ds) → newest_word ds ≤ top → ((p : Entry) → before ≡ Some p → p.minute ≤ mark) → Sound mark top before ds
+closed_sound mark top before [] are checked ends le entry = Flat refl
+closed_sound mark top before (d ∷ ds) are checked ends le entry = ⊎_elim
+    (λ behind. Tail (ends behind) (λ n. under n mark 0 (d ∷ ds) are checked behind) (λ p is. omega (arith, entry p is, behind, le)))
+    (λ none. Flat (flat_newest mark 0 (d ∷ ds) are (no_word_behind mark 0 d ds are none)))
+    (cases_lt mark (newest_word (d ∷ ds)))
+
+pub closed_lives : (size : ℕ) (slack : Bound) (covered from mark : ℕ) (c : Counted) (ds : List Day) → (r : Rests size slack covered from mark c ds) → newest_word ds ≤ covered → IsChecked mark ds → (mark < newest_word ds → EndsAbsent ds) → Lives size slack covered from mark c ds
+closed_lives size slack covered from mark c ds r word checked ends = record { rests = r; sound = closed_sound mark r.top c.before ds r.ordered checked ends (omega (arith, word, r.words)) (λ p is. (r.entry p is).1) }

@@ -1,0 +1,4 @@
+pub mod Expected
+pub mod Shown
+pub mod Entries
+pub mod Retains
