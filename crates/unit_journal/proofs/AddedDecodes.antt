@@ -14,13 +14,13 @@ use Rattle.gated_ring.proofs.Orders.{rest, rest_each, order_first, order_last, e
 use Rattle.unit_model.specs.Days.{word_minute, day_of, Each}
 use Rattle.unit_model.specs.Image.{last_kept, odometer_at, day_ring, slot_place, indices, slot_date, slot_odometer, slot_count, slot_words}
 use Rattle.unit_model.specs.Decoding.{check, cell_place, slot_checks, slot_day, day_checks, has_day, is_last_good, are_dense, is_filled_on, indices_before, is_date_good, word_checks}
-use Rattle.unit_journal.specs.Image.{behind_index}
-use Rattle.unit_journal.proofs.Numbers.{number_before, number_after, number_in}
-use Rattle.unit_journal.proofs.Slots.{day_at}
+use Rattle.unit_model.specs.Writing.{behind_index}
+use Rattle.unit_model.proofs.Numbers.{number_before, number_after, number_in}
+use Rattle.unit_model.proofs.Slots.{day_at}
 use Rattle.unit_journal.proofs.Finding.{last_good_at}
-use Rattle.unit_journal.proofs.Turning.{others_of, taken_below}
-use Rattle.unit_journal.proofs.Checks.{passes, and_split, and_join, le_true, le_of, IsGood, front_by}
-use Rattle.unit_journal.proofs.StillDecodes.{DayPasses, slot_by, day_join}
+use Rattle.unit_model.proofs.Turning.{others_of, taken_below}
+use Rattle.unit_model.proofs.Checks.{passes, and_split, and_join, le_true, le_of, IsGood, front_by}
+use Rattle.unit_model.proofs.StillDecodes.{DayPasses, slot_by, day_join}
 use Rattle.unit_journal.proofs.KeptDecodes.{entry_as}
 
 le_false : (a b : ℕ) → b < a → nat_le a b ≡ false

@@ -1,39 +1,44 @@
 -- The moments of a new day's writes, and what they leave.
-use Rattle.std.proofs.Common.{None, ◌≡◌, ◌≢◌, ◌⊎◌, inl, inr, ⊎_elim, ℕ, zero, suc, ◌+◌, ◌-◌, ◌*◌, ◌/◌, ◌%◌, ◌<◌, ◌≤◌, Bool, true, false, not, cond, List, [], ◌∷◌, ◌++◌, length, drop, map, filter, refl, sym, ◌∙◌, ap, subst, arith, length-append, length-drop, lit≤, min}
+use Rattle.std.proofs.Common.{None, ◌≡◌, ◌≢◌, ◌⊎◌, inl, inr, ⊎_elim, ℕ, zero, suc, ◌+◌, ◌-◌, ◌*◌, ◌/◌, ◌%◌, ◌<◌, ◌≤◌, Bool, true, false, not, cond, List, [], ◌∷◌, ◌++◌, length, drop, map, filter, refl, sym, ◌∙◌, ap, subst, arith, length-append, length-drop, lit≤, min, replicate}
 use Rattle.std.specs.Prelude.{◌==◌, ◌&&◌, nat_le, nat_lt}
 use Rattle.std.specs.Int.{from_be_bytes, to_be_bytes, w16, w32}
 use Rattle.std.proofs.lemmas.Bool.Decides.{nat_tests}
-use Rattle.std.proofs.lemmas.Bool.{cases_lt}
+use Rattle.std.proofs.lemmas.Bool.{cases_lt, cases_eq}
 use Rattle.std.proofs.lemmas.Nat.{from_be_bytes-to_be_bytes_4}
-use Rattle.std.proofs.lemmas.List.{length-map}
-use Rattle.tach_media.specs.Medium.{SameOutside, IsPartlyWritten}
+use Rattle.std.proofs.lemmas.List.{length-map, map-append}
+use Rattle.tach_media.specs.Medium.{SameOutside, IsPartlyWritten, bytes_at}
 use Rattle.tach_media.specs.LogLaws.{put_outside}
-use Rattle.gated_ring.specs.Ring.{number_at, pointer, is_there, entry_at, taken}
+use Rattle.gated_ring.specs.Ring.{number_at, pointer, is_there, entry_at, taken, newest_of}
 use Rattle.gated_ring.specs.Change.{IsAdding, IsAdded}
-use Rattle.unit_model.specs.Days.{word_slot, word_minute, word_of, bare, state_at, UnitMinute, Day, UnitDay, day_of, day_shown, days_shown, filled, newest_of, Each, minute_by}
-use Rattle.unit_journal.specs.Changes.{change, changes, first_state, first_states, further_words}
-use Rattle.unit_model.specs.Image.{day_ring, slot_place, last_kept, odometer_at, unit_day, unit_days, recorded, indices, slot_date, slot_odometer, slot_count, slot_words}
+use Rattle.unit_model.specs.Days.{word_slot, word_minute, word_of, bare, state_at, UnitMinute, Day, UnitDay, day_of, day_shown, days_shown, filled, Each, minute_by}
+use Rattle.unit_model.specs.Changes.{change, changes, first_state, first_states, further_words}
+use Rattle.unit_model.specs.Image.{day_ring, slot_place, last_kept, odometer_at, unit_day, unit_days, day_head, unit_heads, spare_bytes, recorded, indices, slot_date, slot_odometer, slot_count, slot_words}
 use Rattle.std.specs.List.{list_all}
 use Rattle.unit_model.specs.Decoding.{Decodes, has_day, word_checks}
-use Rattle.unit_journal.proofs.Checks.{passes, and_join, IsGood, still}
-use Rattle.unit_journal.proofs.StillDecodes.{counted_good}
-use Rattle.unit_journal.proofs.WordsGood.{changes_good, good_low}
+use Rattle.unit_model.proofs.Checks.{passes, and_join, IsGood, still}
+use Rattle.unit_model.proofs.StillDecodes.{counted_good}
+use Rattle.unit_model.proofs.WordsGood.{changes_good, good_low}
 use Rattle.unit_journal.proofs.KeptDecodes.{behind_good, index_there, mark_good}
 use Rattle.unit_journal.proofs.AddedDecodes.{HasToday, any_at, or_right, eq_true, shut_good, open_good}
-use Rattle.unit_journal.specs.Image.{Notes, IsNotes, Agrees, written, free_place, DiffersBehind, SameBesides, IsGivenUp, IsKeeping, with_kept, with_words, head_of, new_head, further}
+use Rattle.unit_journal.specs.Image.{Notes, IsNotes, Agrees, SameBesides, IsGivenUp, AreHeads, IsKeeping, head_of, new_head, further}
+use Rattle.unit_model.specs.Writing.{written, free_place, DiffersBehind, with_kept, with_words}
+use Rattle.unit_model.specs.Retention.{retained, last_day}
+use Rattle.unit_model.proofs.Retention.{begins_of}
+use Rattle.unit_journal.specs.DaysWith.{begun_day, days_with, HasDays}
+use Rattle.unit_journal.proofs.DaysWith.{drop_push, spare_front, spare_behind, spare_count}
 use Rattle.unit_journal.specs.Plans.{counted, mark, beginning, IsBeginning}
 use Rattle.unit_journal.proofs.Planned.{counted_put, counted_moment}
 use Rattle.write_plan.specs.Plan.{IsPartway}
 use Rattle.write_plan.proofs.Plans.{partway_either}
-use Rattle.unit_journal.proofs.States.{slot_of, minute_of, minutes_by}
-use Rattle.unit_journal.proofs.Commits.{begun_at}
-use Rattle.unit_journal.proofs.Growth.{day_later}
-use Rattle.unit_journal.proofs.Numbers.{number_before, number_after, number_put4, short_number, number_in, words_in, AreShort}
-use Rattle.unit_journal.proofs.Slots.{day_at, IsSlot, slot_days, slot_behind, slot_front, slot_counted}
-use Rattle.unit_journal.proofs.Besides.{HasOdometer, front_then, front_of, front_at, besides_then, besides_front, besides_days, few_slots}
+use Rattle.unit_model.proofs.States.{slot_of, minute_of, minutes_by}
+use Rattle.unit_model.proofs.Commits.{begun_at}
+use Rattle.unit_model.proofs.Growth.{day_later}
+use Rattle.unit_model.proofs.Numbers.{number_before, number_after, number_put4, short_number, part_in, number_in, words_in, AreShort}
+use Rattle.unit_model.proofs.Slots.{day_at, IsSlot, slot_days, slot_behind, slot_front, slot_counted}
+use Rattle.unit_journal.proofs.Besides.{HasOdometer, front_then, before_mark, behind_mark, besides_then, besides_front, besides_days, few_slots}
 use Rattle.unit_journal.proofs.Behind.{behind_written}
 use Rattle.unit_journal.proofs.Keeping.{changes_few, changes_short, recorded_is}
-use Rattle.unit_journal.proofs.Turning.{others_of, others_each, taken_below, IsReady, adding_days, added_pointer, added_indices, added_older, added_next, added_entry}
+use Rattle.unit_model.proofs.Turning.{others_of, others_each, taken_below, IsReady, adding_days, added_pointer, added_indices, added_older, added_next, added_entry}
 
 -- where no day is later, all are shown
 shown_all : (k : ℕ) (days : List UnitDay) → Each (λ d. day_of d ≤ k / 1440) days → days_shown k days ≡ map (day_shown k) days
@@ -65,24 +70,24 @@ map_drop f zero xs = refl
 map_drop f (suc n) [] = refl
 map_drop f (suc n) (x ∷ xs) = map_drop f n xs
 
-drop_push : (n : ℕ) (days : List UnitDay) (d : UnitDay) → n ≤ length days → drop n (days ++ d ∷ []) ≡ drop n days ++ d ∷ []
-drop_push zero days d le = refl
-drop_push (suc n) [] d le = absurd (omega arith)
-drop_push (suc n) (x ∷ days) d le = drop_push n days d (omega arith)
-
 shown_drop : (k n : ℕ) (days : List UnitDay) → Each (λ d. day_of d ≤ k / 1440) days → days_shown k (drop n days) ≡ drop n (days_shown k days)
 shown_drop k n days all = shown_all k (drop n days) (each_drop (λ d. day_of d ≤ k / 1440) n days all) ∙ map_drop (day_shown k) n days ∙ ap (drop n) (sym (shown_all k days all))
+
+last_shown : (a k : ℕ) (days : List UnitDay) → Each (λ d. day_of d ≤ a) days → last_day (map (day_shown k) days) ≤ a
+last_shown a k [] all = omega arith
+last_shown a k (d ∷ []) all = all.0
+last_shown a k (d ∷ e ∷ days) all = last_shown a k (e ∷ days) all.1
 
 shown_length : (k : ℕ) (days : List UnitDay) → Each (λ d. day_of d ≤ k / 1440) days → length (days_shown k days) ≡ length days
 shown_length k days all = ap length (shown_all k days all) ∙ length-map days (day_shown k)
 
 -- the day of a head
-head_day : (date odometer d c : ℕ) (rest : List ℕ) → date < 4294967296 → d < 16 → c < 16
-    → unit_day (head_of date odometer d c ++ rest) ≡ record { date = date; words = word_of 0 d 0 ∷ word_of 1 c 0 ∷ [] }
-head_day date odometer d c rest small s1 s2 =
+head_day : (date odometer d c : ℕ) (rest : List ℕ) → date < 4294967296 → odometer < 4294967296 → d < 16 → c < 16
+    → unit_day (head_of date odometer d c ++ rest) ≡ record { date = date; odometer = odometer; words = word_of 0 d 0 ∷ word_of 1 c 0 ∷ [] }
+head_day date odometer d c rest small far s1 s2 =
     let w0 : from_be_bytes w32 (0 ∷ 0 ∷ to_be_bytes w16 (word_of 0 d 0)) ≡ word_of 0 d 0 = short_number (word_of 0 d 0) (omega arith) in
     let w1 : from_be_bytes w32 (0 ∷ 0 ∷ to_be_bytes w16 (word_of 1 c 0)) ≡ word_of 1 c 0 = short_number (word_of 1 c 0) (omega arith) in
-    λ i. record { date = from_be_bytes-to_be_bytes_4 date (omega (arith, small)) i; words = w0 i ∷ w1 i ∷ [] }
+    λ i. record { date = from_be_bytes-to_be_bytes_4 date (omega (arith, small)) i; odometer = from_be_bytes-to_be_bytes_4 odometer (omega (arith, far)) i; words = w0 i ∷ w1 i ∷ [] }
 
 -- the odometer of a head, and how many words it has
 head_odometer : (date odometer d c : ℕ) (rest : List ℕ) → odometer < 4294967296 → number_at (head_of date odometer d c ++ rest) 4 4 ≡ odometer
@@ -141,7 +146,7 @@ further_few m dn cn = by (m % 1440 == 0) refl
     by false is = let isnt : m % 1440 ≢ 0 = grind (arith, nat_tests, is) in omega (arith, changes_few (m % 1440) bare bare dn cn, isnt)
 
 -- an image whose n days are closed, so that a new one can be added
-pub record IsClosed (n k m : ℕ) (it : UnitMinute) (begun : UnitDay) (odometer : ℕ) (x x2 : List ℕ) (known : pointer day_ring x2 < 366) : Type 0 where
+pub record IsClosed (n k m dn cn odometer : ℕ) (x x2 : List ℕ) (known : pointer day_ring x2 < 366) : Type 0 where
   pub odometer_is : odometer_at x2 ≡ odometer
   pub sized : length x2 ≡ 2485808
   pub kept : last_kept x2 ≡ k
@@ -149,14 +154,17 @@ pub record IsClosed (n k m : ℕ) (it : UnitMinute) (begun : UnitDay) (odometer 
   pub besides : SameBesides x x2
   pub recorded_are : days_shown k (unit_days x2) ≡ recorded x
   pub all_now : Each (λ d. day_of d ≤ k / 1440) (unit_days x2)
-  pub commit : days_shown m (unit_days x2 ++ begun ∷ []) ≡ filled (recorded x) it
+  pub commit : days_shown m (unit_days x2 ++ begun_day m dn cn odometer ∷ []) ≡ filled (recorded x) (minute_by m dn cn)
+  pub written : days_with (last_kept x) m dn cn odometer (unit_days x) ≡ unit_days x2 ++ begun_day m dn cn odometer ∷ []
+  pub heads : unit_heads x2 ≡ unit_heads x
+  pub spare : (i : ℕ) → spare_bytes x2 i ≡ spare_bytes x i
   pub ready : IsReady x2 known
   pub days : length (unit_days x2) ≡ n
   pub good : IsGood x → IsGood x2
   pub today : HasToday x2
 
 module _ (n k m dn cn odometer : ℕ) (small : m ≤ 71582788) (short : dn < 16) (short' : cn < 16) (later : k / 1440 < m / 1440) (x x2 : List ℕ) (known : pointer day_ring x2 < 366)
-    (closed : IsClosed n k m (minute_by m dn cn) (record { date = 86400 * (m / 1440); words = first_states (m % 1440) dn cn ++ further_words (m % 1440) dn cn }) odometer x x2 known) (far : odometer ≤ 9999999) where
+    (closed : IsClosed n k m dn cn odometer x x2 known) (far : odometer ≤ 9999999) where
   abbrev it : UnitMinute
   it = minute_by m dn cn
 
@@ -170,7 +178,7 @@ module _ (n k m dn cn odometer : ℕ) (small : m ≤ 71582788) (short : dn < 16)
   ws = further m dn cn
 
   abbrev begun : UnitDay
-  begun = record { date = date; words = first_states (m % 1440) dn cn ++ further_words (m % 1440) dn cn }
+  begun = begun_day m dn cn odometer
 
   abbrev D : List UnitDay
   D = unit_days x2
@@ -197,14 +205,17 @@ module _ (n k m dn cn odometer : ℕ) (small : m ≤ 71582788) (short : dn < 16)
   recorded_length = sym (ap length closed.recorded_are) ∙ shown_length k D closed.all_now
 
   abbrev Minutes : List ℕ → Type 0
-  Minutes c = (recorded c ≡ recorded x) ⊎ (IsGivenUp it x c ⊎ (recorded c ≡ newest_of 366 (filled (recorded x) it)))
+  Minutes c = (recorded c ≡ recorded x) ⊎ IsGivenUp it x c
+
+  recorded_last : last_day (recorded x) ≤ k / 1440
+  recorded_last = omega (arith, ap last_day (sym closed.recorded_are ∙ shown_all k D closed.all_now), last_shown (k / 1440) k D closed.all_now)
 
   -- while the oldest may be gone
   given : (c : List ℕ) → recorded c ≡ drop n0 (recorded x) → Minutes c
   given c is = ⊎_elim
       (λ full.
       let last : length D ≤ 366 = few_slots x2 known in
-      inr (inl (record { further = omega (arith, filled_length, full, last); newest = is ∙ ap (λ (n : ℕ). drop (n - 365) (recorded x)) (sym recorded_length) })))
+      inr (record { full = omega (arith, recorded_length, full, last); begins = begins_of m (recorded x) (omega (arith, recorded_last, later)); newest = is ∙ ap (λ (n : ℕ). drop (n - 365) (recorded x)) (sym recorded_length) }))
       (λ room. let none : n0 ≡ 0 = omega (arith, room) in inl (is ∙ ap (λ (n : ℕ). drop n (recorded x)) none))
       (cases_lt 365 (length D))
 
@@ -215,8 +226,38 @@ module _ (n k m dn cn odometer : ℕ) (small : m ≤ 71582788) (short : dn < 16)
   with_later : (c : List ℕ) (d : UnitDay) → last_kept c ≡ k → day_of d ≡ m / 1440 → unit_days c ≡ drop n0 D ++ d ∷ [] → Minutes c
   with_later c d kept day is = given c (recorded_is c k kept ∙ ap (days_shown k) is ∙ day_later k (drop n0 D) d (omega (arith, day, later)) ∙ shown_given)
 
-  head_is : (rest : List ℕ) → unit_day (new_head m dn cn odometer ++ rest) ≡ record { date = date; words = firsts }
-  head_is rest = head_day date odometer (first_state (m % 1440) dn) (first_state (m % 1440) cn) rest (omega arith) (first_short (m % 1440) dn short) (first_short (m % 1440) cn short')
+  -- the dates and odometers
+  abbrev H : List (ℕ × ℕ)
+  H = unit_heads x
+
+  later_day : last_kept x / 1440 < m / 1440
+  later_day = omega (arith, closed.kept_was, later)
+
+  heads_length : length H ≡ length D
+  unfolding unit_heads
+  heads_length = ap length (sym closed.heads) ∙ length-map D day_head
+
+  heads_drop : (c : List ℕ) → unit_days c ≡ drop n0 D → unit_heads c ≡ drop n0 H
+  unfolding unit_heads
+  heads_drop c is = ap (map day_head) is ∙ map_drop day_head n0 D ∙ ap (drop n0) closed.heads
+
+  heads_less : (c : List ℕ) → unit_days c ≡ drop n0 D → AreHeads m odometer x c
+  heads_less c is = inr (later_day, inl (heads_drop c is ∙ ap (λ (n : ℕ). drop (n - 365) H) (sym heads_length)))
+
+  heads_push : (c : List ℕ) (words : List ℕ) → unit_days c ≡ drop n0 D ++ record { date = date; odometer = odometer; words = words } ∷ [] → unit_heads c ≡ drop n0 H ++ (date, odometer) ∷ []
+  unfolding unit_heads
+  heads_push c words is = ap (map day_head) is ∙ map-append day_head (drop n0 D) (record { date = date; odometer = odometer; words = words } ∷ [])
+      ∙ ap (λ (l : List (ℕ × ℕ)). l ++ (date, odometer) ∷ []) (map_drop day_head n0 D ∙ ap (drop n0) closed.heads)
+
+  heads_more : (c : List ℕ) (words : List ℕ) → unit_days c ≡ drop n0 D ++ record { date = date; odometer = odometer; words = words } ∷ [] → AreHeads m odometer x c
+  heads_more c words is = inr (
+    later_day,
+    inr (heads_push c words is ∙ sym (drop_push n0 H (date, odometer) (omega (arith, heads_length)))
+        ∙ ap (λ (n : ℕ). drop n (H ++ (date, odometer) ∷ [])) (omega (arith, heads_length, length-append H ((date, odometer) ∷ [])))),
+  )
+
+  head_is : (rest : List ℕ) → unit_day (new_head m dn cn odometer ++ rest) ≡ record { date = date; odometer = odometer; words = firsts }
+  head_is rest = head_day date odometer (first_state (m % 1440) dn) (first_state (m % 1440) cn) rest (omega arith) (omega (arith, far)) (first_short (m % 1440) dn short) (first_short (m % 1440) cn short')
 
   adding_kept : (c : List ℕ) → SameOutside 1024 2114020 x2 c → last_kept c ≡ k
   unfolding last_kept
@@ -245,7 +286,7 @@ module _ (n k m dn cn odometer : ℕ) (small : m ≤ 71582788) (short : dn < 16)
       (λ less. shut_good x2 c known step.others step.pointer_is kept_c adding.outside less days_F closed.today low far_c good)
       (λ whole.
       let rest = drop 20 (entry_at day_ring x2 t) in
-      let day_c : day_at c t ≡ record { date = date; words = firsts } = ap unit_day whole.entry ∙ head_is rest in
+      let day_c : day_at c t ≡ record { date = date; odometer = odometer; words = firsts } = ap unit_day whole.entry ∙ head_is rest in
       let date_c : slot_date c t ≡ date = sym (number_in c (slot_place t) 5776 0 4 (omega arith) ∙ ap (λ (q : ℕ). number_at c q 4) (omega arith)) ∙ ap (λ (d : UnitDay). d.date) day_c in
       let count_c : slot_count c t ≡ 2 = sym (number_in c (slot_place t) 5776 8 2 (omega arith)) ∙ ap (λ (e : List ℕ). number_at e 8 2) whole.entry in
       let odometer_c : slot_odometer c t ≡ odometer =
@@ -257,18 +298,29 @@ module _ (n k m dn cn odometer : ℕ) (small : m ≤ 71582788) (short : dn < 16)
       more)
       step.list
 
+  heads_as : (c : List ℕ) → unit_days c ≡ D → unit_heads c ≡ unit_heads x2
+  unfolding unit_heads
+  heads_as c is = ap (map day_head) is
+
   adding_moment : (c : List ℕ) → IsAdding day_ring (new_head m dn cn odometer) x2 c → IsKeeping it odometer x c
   adding_moment c adding = record {
-    front = front_of m odometer x c (front_then odometer 1024 2114020 x x2 c has_0 (omega arith) adding.outside);
-    outside = besides_then x x2 c closed.besides (besides_days 1024 2114020 x2 c (omega arith) (omega arith) adding.outside);
-    minutes = ⊎_elim
+    side = before_mark it odometer x c (front_then odometer 1024 2114020 x x2 c has_0 (omega arith) adding.outside) (⊎_elim
         (λ same. inl (recorded_is c k (adding_kept c adding.outside) ∙ ap (days_shown k) same ∙ closed.recorded_are))
         (λ more. ⊎_elim
         (λ less. given c (recorded_is c k (adding_kept c adding.outside) ∙ ap (days_shown k) (less ∙ closed.ready.days) ∙ shown_given))
-        (λ whole. with_later c (record { date = date; words = firsts }) (adding_kept c adding.outside) date_day
-        (whole ∙ ap (λ (d : UnitDay). map (day_at x2) F ++ d ∷ []) (head_is (drop 20 (entry_at day_ring x2 t))) ∙ ap (λ (l : List UnitDay). l ++ record { date = date; words = firsts } ∷ []) closed.ready.days))
+        (λ whole. with_later c (record { date = date; odometer = odometer; words = firsts }) (adding_kept c adding.outside) date_day
+        (whole ∙ ap (λ (d : UnitDay). map (day_at x2) F ++ d ∷ []) (head_is (drop 20 (entry_at day_ring x2 t))) ∙ ap (λ (l : List UnitDay). l ++ record { date = date; odometer = odometer; words = firsts } ∷ []) closed.ready.days))
+        more)
+        (adding_days x2 known (new_head m dn cn odometer) c adding));
+    heads = ⊎_elim
+        (λ same. inl (heads_as c same ∙ closed.heads))
+        (λ more. ⊎_elim
+        (λ less. heads_less c (less ∙ closed.ready.days))
+        (λ whole. heads_more c firsts
+        (whole ∙ ap (λ (d : UnitDay). map (day_at x2) F ++ d ∷ []) (head_is (drop 20 (entry_at day_ring x2 t))) ∙ ap (λ (l : List UnitDay). l ++ record { date = date; odometer = odometer; words = firsts } ∷ []) closed.ready.days))
         more)
         (adding_days x2 known (new_head m dn cn odometer) c adding);
+    outside = besides_then x x2 c closed.besides (besides_days 1024 2114020 x2 c (omega arith) (omega arith) adding.outside);
     decodes = still x c (λ good. adding_good c adding (closed.good good));
   }
 
@@ -288,13 +340,13 @@ module _ (n k m dn cn odometer : ℕ) (small : m ≤ 71582788) (short : dn < 16)
     abbrev older : List UnitDay
     older = map (day_at x2) F
 
-    day_y : day_at y t ≡ record { date = date; words = firsts }
+    day_y : day_at y t ≡ record { date = date; odometer = odometer; words = firsts }
     day_y = ap unit_day (added_entry x2 known (new_head m dn cn odometer) y added) ∙ head_is (drop 20 (entry_at day_ring x2 t))
 
     count_y : slot_count y t ≡ 2
     count_y = sym (number_in y (slot_place t) 5776 8 2 (omega arith)) ∙ ap (λ (e : List ℕ). number_at e 8 2) (added_entry x2 known (new_head m dn cn odometer) y added)
 
-    slot_y : IsSlot t F older t k date 2 firsts y
+    slot_y : IsSlot t F older t k date odometer 2 firsts y
     slot_y = record {
       sized = added.outside.same_length ∙ closed.sized;
       pointer_is = added_pointer x2 known (new_head m dn cn odometer) y added;
@@ -303,6 +355,7 @@ module _ (n k m dn cn odometer : ℕ) (small : m ≤ 71582788) (short : dn < 16)
       next_is = added_next x2 known (new_head m dn cn odometer) y added;
       older_are = added_older x2 known (new_head m dn cn odometer) y added;
       date_is = sym (number_in y (slot_place t) 5776 0 4 (omega arith) ∙ ap (λ (q : ℕ). number_at y q 4) (omega arith)) ∙ ap (λ (d : UnitDay). d.date) day_y;
+      odometer_is = sym (number_in y (slot_place t) 5776 4 4 (omega arith)) ∙ ap (λ (d : UnitDay). d.odometer) day_y;
       count_is = count_y;
       words_are =
           sym (words_in y (slot_place t) 5776 16 2 (omega arith)) ∙ ap (λ (n : ℕ). Rattle.unit_model.specs.Image.words_at (entry_at day_ring y t) 16 n) (sym (number_in y (slot_place t) 5776 8 2 (omega arith) ∙ count_y))
@@ -321,31 +374,63 @@ module _ (n k m dn cn odometer : ℕ) (small : m ≤ 71582788) (short : dn < 16)
     behind : DiffersBehind t 2 y y2
     behind = behind_written t 2 ws y below (omega (arith, ws_few)) slot_y.sized
 
-    slot_2 : IsSlot t F older t k date 2 firsts y2
-    slot_2 = slot_behind t below F others older t k date 2 (lit≤ tt) firsts y slot_y y2 behind
+    slot_2 : IsSlot t F older t k date odometer 2 firsts y2
+    slot_2 = slot_behind t below F others older t k date odometer 2 (lit≤ tt) firsts y slot_y y2 behind
 
-    slot_3 : IsSlot t F older t k date (2 + length ws) (firsts ++ ws) y3
-    slot_3 = slot_counted t below F others older t k date 2 (lit≤ tt) firsts y slot_y ws ws_short (omega (arith, ws_few))
+    slot_3 : IsSlot t F older t k date odometer (2 + length ws) (firsts ++ ws) y3
+    slot_3 = slot_counted t below F others older t k date odometer 2 (lit≤ tt) firsts y slot_y ws ws_short (omega (arith, ws_few))
 
     z_same : SameOutside 564 4 y3 z
     z_same = put_outside 564 (to_be_bytes w32 m) y3 (omega (arith, slot_3.sized))
 
-    pub slot_z : IsSlot t F older t m date (2 + length ws) (firsts ++ ws) z
+    pub slot_z : IsSlot t F older t m date odometer (2 + length ws) (firsts ++ ws) z
     unfolding last_kept
-    slot_z = slot_front t below F others older t k date (2 + length ws) (omega (arith, ws_few)) (firsts ++ ws) y3 slot_3 564 4 m z z_same (omega arith) (number_put4 564 m y3 (omega (arith, slot_3.sized)) (omega (arith, small)))
+    slot_z = slot_front t below F others older t k date odometer (2 + length ws) (omega (arith, ws_few)) (firsts ++ ws) y3 slot_3 564 4 m z z_same (omega arith) (number_put4 564 m y3 (omega (arith, slot_3.sized)) (omega (arith, small)))
 
-    of_slot : (n : ℕ) (words c : List ℕ) → n ≤ 2880 → IsSlot t F older t k date n words c → Minutes c
-    of_slot n words c few slot = with_later c (record { date = date; words = words }) slot.kept date_day
-        (slot_days t below F others older t k date n few words c slot ∙ ap (λ (l : List UnitDay). l ++ record { date = date; words = words } ∷ []) closed.ready.days)
+    of_slot : (n : ℕ) (words c : List ℕ) → n ≤ 2880 → IsSlot t F older t k date odometer n words c → Minutes c
+    of_slot n words c few slot = with_later c (record { date = date; odometer = odometer; words = words }) slot.kept date_day
+        (slot_days t below F others older t k date odometer n few words c slot ∙ ap (λ (l : List UnitDay). l ++ record { date = date; odometer = odometer; words = words } ∷ []) closed.ready.days)
 
-    pub kept_minutes : recorded z ≡ newest_of 366 (filled (recorded x) it)
+    slot_written : (q n : ℕ) (words c : List ℕ) → n ≤ 2880 → IsSlot t F older t q date odometer n words c → unit_days c ≡ drop n0 D ++ record { date = date; odometer = odometer; words = words } ∷ []
+    slot_written q n words c few slot = slot_days t below F others older t q date odometer n few words c slot ∙ ap (λ (l : List UnitDay). l ++ record { date = date; odometer = odometer; words = words } ∷ []) closed.ready.days
+
+    heads_slot : (n : ℕ) (words c : List ℕ) (q : ℕ) → n ≤ 2880 → IsSlot t F older t q date odometer n words c → AreHeads m odometer x c
+    heads_slot n words c q few slot = heads_more c words (slot_written q n words c few slot)
+
+    z_days : unit_days z ≡ drop n0 (D ++ begun ∷ [])
+    z_days =
+        slot_written m (2 + length ws) (firsts ++ ws) z (omega (arith, ws_few)) slot_z
+        ∙ ap (λ (l : List ℕ). drop n0 D ++ record { date = date; odometer = odometer; words = l } ∷ []) (new_spelled (m % 1440) dn cn)
+        ∙ sym (drop_push n0 D begun (omega arith))
+
+    pub kept_minutes : recorded z ≡ retained (recorded x) it
     kept_minutes =
-        recorded_is z m slot_z.kept ∙ ap (days_shown m) (slot_days t below F others older t m date (2 + length ws) (omega (arith, ws_few)) (firsts ++ ws) z slot_z
-        ∙ ap (λ (l : List UnitDay). l ++ record { date = date; words = firsts ++ ws } ∷ []) closed.ready.days
-        ∙ ap (λ (l : List ℕ). drop n0 D ++ record { date = date; words = l } ∷ []) (new_spelled (m % 1440) dn cn)
-        ∙ sym (drop_push n0 D begun (omega arith)))
-        ∙ shown_drop m n0 (D ++ begun ∷ []) all_m ∙ ap (drop n0) closed.commit
+        recorded_is z m slot_z.kept ∙ ap (days_shown m) z_days ∙ shown_drop m n0 (D ++ begun ∷ []) all_m ∙ ap (drop n0) closed.commit
         ∙ ap (λ (n : ℕ). drop n (filled (recorded x) it)) (omega (arith, filled_length))
+
+    spare_added : (i : ℕ) → i < 366 → (spare_bytes y i ≡ spare_bytes x2 i) ⊎ ((i ≡ t) × (spare_bytes y i ≡ replicate 6 0))
+    spare_added i low = ⊎_elim
+        (λ here. inr (here, ap (spare_bytes y) here ∙ sym (part_in y (slot_place t) 5776 10 6 (omega arith)) ∙ ap (λ (e : List ℕ). bytes_at e 10 6) (added_entry x2 known (new_head m dn cn odometer) y added)))
+        (λ other. inl (sym (part_in y (slot_place i) 5776 10 6 (omega arith)) ∙ ap (λ (e : List ℕ). bytes_at e 10 6) (added.others known i low other).0 ∙ part_in x2 (slot_place i) 5776 10 6 (omega arith)))
+        (cases_eq i t)
+
+    z_spare : (i : ℕ) → spare_bytes z i ≡ spare_bytes y i
+    z_spare i =
+        spare_front 564 4 y3 z (omega arith) z_same i
+        ∙ spare_count t y2 y3 (put_outside (slot_place t + 8) (to_be_bytes w16 (2 + length ws)) y2 (omega (arith, below, slot_2.sized))) i
+        ∙ spare_behind t 2 y y2 (lit≤ tt) behind i
+
+    pub kept_days : HasDays m dn cn odometer x z
+    kept_days = record {
+      days = z_days ∙ ap (λ (n : ℕ). drop n (D ++ begun ∷ [])) (omega (arith, length-append D (begun ∷ []))) ∙ sym (ap (newest_of 366) closed.written);
+      spare = λ i low. ⊎_elim
+          (λ same. inl (z_spare i ∙ same ∙ closed.spare i))
+          (λ new. inr (later_day, new.0 ∙ sym slot_z.pointer_is, z_spare i ∙ new.1))
+          (spare_added i low);
+    }
+
+    pub kept_last : last_kept z ≡ it.minute
+    kept_last = slot_z.kept
 
     besides_y : SameBesides x y
     besides_y = besides_then x x2 y closed.besides (besides_days 1024 2114020 x2 y (omega arith) (omega arith) added.outside)
@@ -395,7 +480,7 @@ module _ (n k m dn cn odometer : ℕ) (small : m ≤ 71582788) (short : dn < 16)
     )
 
     states : (state_at 0 (m % 1440) (first_states (m % 1440) dn cn ++ further_words (m % 1440) dn cn) ≡ dn) × (state_at 1 (m % 1440) (first_states (m % 1440) dn cn ++ further_words (m % 1440) dn cn) ≡ cn)
-    states = begun_at 0 m bare bare dn cn [] 0 [] tt refl tt refl refl short short' date date_day (omega (arith, later))
+    states = begun_at 0 m bare bare dn cn [] 0 0 [] tt refl tt refl refl short short' date odometer date_day (omega (arith, later))
 
     days_now : suc (length F) ≡ min (n + 1) 366
     days_now = omega (arith, length-map F (day_at x2), ap length closed.ready.days, length-drop n0 D, closed.days)
@@ -417,6 +502,7 @@ module _ (n k m dn cn odometer : ℕ) (small : m ≤ 71582788) (short : dn < 16)
           days = days_now;
           earlier = subst (Each (λ d. day_of d < m / 1440)) (sym (slot_z.older_are ∙ closed.ready.days)) (each_drop (λ d. day_of d < m / 1440) n0 D (each_before (k / 1440) (m / 1440) later D closed.all_now));
           date = slot_z.date_is;
+          few = omega (arith, ws_few);
           count = slot_z.count_is;
           low = subst (Each (λ w. word_minute w ≤ m % 1440)) (sym slot_z.words_are) low;
           driver = ap (state_at 0 (m % 1440)) (slot_z.words_are ∙ new_spelled (m % 1440) dn cn) ∙ states.0;
@@ -472,19 +558,19 @@ module _ (n k m dn cn odometer : ℕ) (small : m ≤ 71582788) (short : dn < 16)
     Moment c = IsKeeping it odometer x c
 
     at_2 : Moment y2
-    at_2 = record { front = front_of m odometer x y2 has_2; outside = besides_2; minutes = of_slot 2 firsts y2 (lit≤ tt) slot_2; decodes = still x y2 y2_good }
+    at_2 = record { side = before_mark it odometer x y2 has_2 (of_slot 2 firsts y2 (lit≤ tt) slot_2); heads = heads_slot 2 firsts y2 k (lit≤ tt) slot_2; outside = besides_2; decodes = still x y2 y2_good }
 
     at_3 : Moment y3
-    at_3 = record { front = front_of m odometer x y3 has_3; outside = besides_3; minutes = of_slot (2 + length ws) (firsts ++ ws) y3 (omega (arith, ws_few)) slot_3; decodes = still x y3 y3_good }
+    at_3 = record { side = before_mark it odometer x y3 has_3 (of_slot (2 + length ws) (firsts ++ ws) y3 (omega (arith, ws_few)) slot_3); heads = heads_slot (2 + length ws) (firsts ++ ws) y3 k (omega (arith, ws_few)) slot_3; outside = besides_3; decodes = still x y3 y3_good }
 
     at_z : Moment z
-    at_z = record { front = front_at m odometer x z slot_z.kept odometer_z; outside = besides_z; minutes = inr (inr kept_minutes); decodes = kept_decodes }
+    at_z = record { side = behind_mark it odometer x z slot_z.kept odometer_z kept_minutes; heads = heads_slot (2 + length ws) (firsts ++ ws) z m (omega (arith, ws_few)) slot_z; outside = besides_z; decodes = kept_decodes }
 
     counting_moment : (c : List ℕ) → DiffersBehind t 2 y c ⊎ IsPartlyWritten (slot_place t + 8) (to_be_bytes w16 (2 + length ws)) y2 c → Moment c
     counting_moment c (inl writing) = record {
-      front = front_of m odometer x c (front_then odometer (free_place t 2) 5756 x y c has_y (omega arith) writing);
+      side = before_mark it odometer x c (front_then odometer (free_place t 2) 5756 x y c has_y (omega arith) writing) (of_slot 2 firsts c (lit≤ tt) (slot_behind t below F others older t k date odometer 2 (lit≤ tt) firsts y slot_y c writing));
+      heads = heads_slot 2 firsts c k (lit≤ tt) (slot_behind t below F others older t k date odometer 2 (lit≤ tt) firsts y slot_y c writing);
       outside = besides_then x y c besides_y (besides_days (free_place t 2) 5756 y c (omega arith) (omega (arith, below)) writing);
-      minutes = of_slot 2 firsts c (lit≤ tt) (slot_behind t below F others older t k date 2 (lit≤ tt) firsts y slot_y c writing);
       decodes = still x c (λ good. behind_good y c t 2 below (lit≤ tt) writing count_y (y_good good));
     }
     counting_moment c (inr counting) = ⊎_elim (λ absent. subst Moment (sym absent) at_2) (λ whole. subst Moment (sym whole) at_3) (counting.whole (lit≤ tt))

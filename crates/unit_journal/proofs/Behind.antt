@@ -2,8 +2,8 @@
 use Rattle.std.proofs.Common.{◌≡◌, ℕ, ◌+◌, ◌-◌, ◌*◌, ◌<◌, ◌≤◌, List, length, arith, subst, sym, refl, Option, None, Some, IfSome, option_map, Bool, true}
 use Rattle.tach_media.specs.Medium.{put, State, HasCause}
 use Rattle.tach_media.proofs.Images.{outside_wider, outside_then}
-use Rattle.unit_journal.specs.Image.{free_place, written, DiffersBehind}
-use Rattle.unit_journal.proofs.Numbers.{written_outside}
+use Rattle.unit_model.specs.Writing.{free_place, written, DiffersBehind}
+use Rattle.unit_model.proofs.Numbers.{written_outside}
 
 pub behind_written : (i n : ℕ) (ws x : List ℕ) → i < 366 → n + length ws ≤ 2880 → length x ≡ 2485808 → DiffersBehind i n x (written (free_place i n) ws x)
 behind_written i n ws x below fits sized = written_outside (free_place i n) (5760 - 2 * n) ws x (omega (arith, fits)) (omega (arith, fits, below, sized))

@@ -1,7 +1,7 @@
 -- What a `keep` leaves alone, and how many days there are.
 use Rattle.std.proofs.Common.{◌≡◌, ℕ, suc, ◌+◌, ◌-◌, ◌<◌, ◌≤◌, Bool, true, false, cond, List, [], ◌∷◌, length, drop, filter, inl, inr, refl, ◌∙◌, ap, arith, length-append, ◌/◌}
 use Rattle.std.proofs.lemmas.List.{length-map}
-use Rattle.std.specs.Prelude.{nat_le}
+use Rattle.std.specs.Prelude.{◌⊎◌, nat_le}
 use Rattle.std.specs.List.{range_with_len}
 use Rattle.std.proofs.lemmas.Bool.Decides.{nat_tests}
 use Rattle.std.proofs.lemmas.List.FromFn.{length-range_with_len}
@@ -10,12 +10,14 @@ use Rattle.tach_media.specs.Medium.{SameOutside}
 use Rattle.tach_media.specs.LogLaws.{put_outside}
 use Rattle.tach_media.proofs.Images.{part_before, part_after, outside_wider}
 use Rattle.gated_ring.specs.Ring.{indices as ring_indices, pointer, is_there, next, order}
-use Rattle.unit_model.specs.Days.{Day, day_of, day_shown, newest_of}
+use Rattle.unit_model.specs.Days.{Day, UnitMinute, day_of, day_shown, newest_of}
 use Rattle.unit_model.specs.Image.{day_ring, last_kept, odometer_at, indices, unit_days, recorded}
-use Rattle.unit_journal.specs.Image.{SameBesides, IsFront, with_odometer}
+use Rattle.unit_model.specs.Retention.{retained}
+use Rattle.unit_journal.specs.Image.{SameBesides, IsGivenUp, IsBeforeMark, IsBehindMark}
+use Rattle.unit_model.specs.Writing.{with_odometer}
 use Rattle.unit_journal.specs.Mends.{SameButRowsAndSlots}
-use Rattle.unit_journal.proofs.Numbers.{number_before, number_put4}
-use Rattle.unit_journal.proofs.Slots.{day_at, all_days}
+use Rattle.unit_model.proofs.Numbers.{number_before, number_put4}
+use Rattle.unit_model.proofs.Slots.{day_at, all_days}
 
 pub besides_none : (x : List ℕ) → SameBesides x x
 besides_none x = record { before = refl; between = refl; after = refl; same_length = refl }
@@ -69,11 +71,18 @@ front_odometer odometer x sized far = record {
 pub front_then : (odometer a n : ℕ) (x y c : List ℕ) → HasOdometer odometer x y → 572 ≤ a → SameOutside a n y c → HasOdometer odometer x c
 front_then odometer a n x y c has le same = let both = front_days a n y c le same in record { kept = both.0 ∙ has.kept; odometer_is = both.1 ∙ has.odometer_is }
 
-pub front_of : (minute odometer : ℕ) (x c : List ℕ) → HasOdometer odometer x c → IsFront minute odometer x c
-front_of minute odometer x c has = inr (has.odometer_is, inl has.kept)
+-- the side of a moment before the mark, and behind it
+abbrev pub Side : (k : UnitMinute) (odometer : ℕ) (x c : List ℕ) → Type 0
+Side k odometer x c = IsBeforeMark k odometer x c ⊎ IsBehindMark k odometer x c
 
-pub front_at : (minute odometer : ℕ) (x c : List ℕ) → last_kept c ≡ minute → odometer_at c ≡ odometer → IsFront minute odometer x c
-front_at minute odometer x c kept is = inr (is, inr kept)
+pub before_first : (k : UnitMinute) (odometer : ℕ) (x c : List ℕ) → (last_kept c ≡ last_kept x) × (odometer_at c ≡ odometer_at x) → recorded c ≡ recorded x → Side k odometer x c
+before_first k odometer x c same minutes = inl (record { last = same.0; odometer_is = inl same.1; minutes = inl minutes })
+
+pub before_mark : (k : UnitMinute) (odometer : ℕ) (x c : List ℕ) → HasOdometer odometer x c → (recorded c ≡ recorded x) ⊎ IsGivenUp k x c → Side k odometer x c
+before_mark k odometer x c has minutes = inl (record { last = has.kept; odometer_is = inr has.odometer_is; minutes = minutes })
+
+pub behind_mark : (k : UnitMinute) (odometer : ℕ) (x c : List ℕ) → last_kept c ≡ k.minute → odometer_at c ≡ odometer → recorded c ≡ retained (recorded x) k → Side k odometer x c
+behind_mark k odometer x c last is minutes = inr (record { last = last; odometer_is = is; minutes = minutes })
 
 filter_few : {X : Type 0} (p : X → Bool) (xs : List X) → length (filter p xs) ≤ length xs
 filter_few p [] = omega arith

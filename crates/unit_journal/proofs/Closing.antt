@@ -1,5 +1,5 @@
 -- The day of the last-kept minute is closed before a new one is added.
-use Rattle.std.proofs.Common.{◌≡◌, ◌≢◌, ◌⊎◌, inl, inr, ⊎_elim, ℕ, ◌+◌, ◌-◌, ◌*◌, ◌/◌, ◌%◌, ◌<◌, ◌≤◌, Bool, true, false, cond, List, [], ◌∷◌, ◌++◌, length, length-append, map, refl, sym, ◌∙◌, ap, subst, arith, lit≤}
+use Rattle.std.proofs.Common.{◌≡◌, ◌≢◌, ◌⊎◌, inl, inr, ⊎_elim, ℕ, ◌+◌, ◌-◌, ◌*◌, ◌/◌, ◌%◌, ◌<◌, ◌≤◌, Bool, true, false, cond, List, [], ◌∷◌, ◌++◌, length, length-append, append_assoc, map, refl, sym, ◌∙◌, ap, subst, arith, lit≤}
 use Rattle.std.specs.Prelude.{◌==◌}
 use Rattle.std.specs.Int.{to_be_bytes, w16, w32}
 use Rattle.std.proofs.lemmas.Bool.Decides.{nat_tests}
@@ -9,27 +9,30 @@ use Rattle.tach_media.specs.LogLaws.{put_outside}
 use Rattle.tach_media.proofs.Images.{part_after}
 use Rattle.gated_ring.specs.Ring.{number_at, pointer, entry_at, next}
 use Rattle.unit_model.specs.Days.{word_minute, bare, UnitMinute, Day, UnitDay, day_of, days_shown, filled, Each, minute_by}
-use Rattle.unit_journal.specs.Changes.{changes, closing_words, first_states, further_words}
-use Rattle.unit_model.specs.Image.{day_ring, slot_place, last_kept, odometer_at, unit_day, unit_days, recorded, indices, slot_words}
+use Rattle.unit_model.specs.Changes.{changes, closing_words}
+use Rattle.unit_model.specs.Image.{day_ring, slot_place, last_kept, odometer_at, unit_day, unit_days, day_head, unit_heads, spare_bytes, recorded, indices, slot_odometer, slot_words}
 use Rattle.std.specs.List.{list_all}
 use Rattle.std.proofs.lemmas.List.FromFn.{length-map-range_with_len}
 use Rattle.unit_model.specs.Decoding.{word_checks}
-use Rattle.unit_journal.proofs.Checks.{passes, IsGood, still}
-use Rattle.unit_journal.proofs.StillDecodes.{counted_good}
-use Rattle.unit_journal.proofs.WordsGood.{changes_good, good_low}
+use Rattle.unit_model.proofs.Checks.{passes, IsGood, still}
+use Rattle.unit_model.proofs.StillDecodes.{counted_good}
+use Rattle.unit_model.proofs.WordsGood.{changes_good, good_low}
 use Rattle.unit_journal.proofs.KeptDecodes.{behind_good, index_there, last_day as last_checks, put_odometer_good, odometer_decodes}
-use Rattle.unit_journal.specs.Image.{Notes, IsNotes, IsNewestDay, Agrees, written, free_place, DiffersBehind, SameBesides, IsFront, IsKeeping, with_odometer, with_words}
+use Rattle.unit_journal.specs.Image.{Notes, IsNotes, IsNewestDay, Agrees, SameBesides, IsKeeping}
+use Rattle.unit_model.specs.Writing.{written, free_place, DiffersBehind, with_odometer, with_words}
+use Rattle.unit_journal.specs.DaysWith.{begun_day, days_with}
+use Rattle.unit_journal.proofs.DaysWith.{with_last, with_next, spare_front, spare_behind, spare_count}
 use Rattle.unit_journal.specs.Plans.{counted, closing, turning}
 use Rattle.unit_journal.proofs.Planned.{counted_put, counted_moment}
 use Rattle.write_plan.specs.Plan.{put_all, IsPartway}
-use Rattle.unit_journal.proofs.Growth.{words_later, day_now}
-use Rattle.unit_journal.proofs.Commits.{next_day, closing_later, begun_is, begun_before, begun_at}
-use Rattle.unit_journal.proofs.Numbers.{number_before, number_put4}
-use Rattle.unit_journal.proofs.Slots.{day_at, all_days, IsSlot, slot_days, slot_behind, slot_front, slot_counted, in_front, same_indices}
-use Rattle.unit_journal.proofs.Besides.{HasOdometer, front_odometer, front_then, front_of, besides_then, besides_front, besides_days}
+use Rattle.unit_model.proofs.Growth.{words_later, day_now}
+use Rattle.unit_model.proofs.Commits.{next_day, closing_later, begun_is, begun_before, begun_at}
+use Rattle.unit_model.proofs.Numbers.{number_before, number_put4}
+use Rattle.unit_model.proofs.Slots.{day_at, all_days, IsSlot, slot_days, slot_heads, slot_behind, slot_front, slot_counted, in_front, same_indices}
+use Rattle.unit_journal.proofs.Besides.{HasOdometer, front_odometer, front_then, before_first, before_mark, besides_then, besides_front, besides_days}
 use Rattle.unit_journal.proofs.Behind.{behind_written}
 use Rattle.unit_journal.proofs.Keeping.{changes_few, changes_short, recorded_is}
-use Rattle.unit_journal.proofs.Turning.{ready_behind, ready_empty}
+use Rattle.unit_model.proofs.Turning.{ready_behind, ready_empty}
 use Rattle.unit_journal.proofs.Beginning.{IsClosed}
 
 each_push : (P : UnitDay → Type 0) (days : List UnitDay) (d : UnitDay) → Each P days → P d → Each P (days ++ d ∷ [])
@@ -54,15 +57,19 @@ pub front_recorded : (x c : List ℕ) → SameOutside 568 4 x c → recorded c �
 front_recorded x c same =
     recorded_is c (last_kept x) (front_kept x c same) ∙ ap (days_shown (last_kept x)) (front_days x c same) ∙ sym (recorded_is x (last_kept x) refl)
 
+front_heads : (x c : List ℕ) → SameOutside 568 4 x c → unit_heads c ≡ unit_heads x
+unfolding unit_heads
+front_heads x c same = ap (map day_head) (front_days x c same)
+
 -- the odometer, which is written first
 pub odometer_kept : (it : UnitMinute) (odometer : ℕ) (x c : List ℕ) → length x ≡ 2485808 → odometer ≤ 9999999 → IsPartlyWritten 568 (to_be_bytes w32 odometer) x c → IsKeeping it odometer x c
 odometer_kept it odometer x c sized far part = record {
-  front = ⊎_elim
-      (λ absent. inl (ap odometer_at absent, ap last_kept absent))
-      (λ whole. subst (IsFront it.minute odometer x) (sym whole) (front_of it.minute odometer x (with_odometer odometer x) (front_odometer odometer x sized far)))
+  side = ⊎_elim
+      (λ absent. before_first it odometer x c (ap last_kept absent, ap odometer_at absent) (front_recorded x c part.outside))
+      (λ whole. before_mark it odometer x c (subst (HasOdometer odometer x) (sym whole) (front_odometer odometer x sized far)) (inl (front_recorded x c part.outside)))
       (part.whole (lit≤ tt));
+  heads = inl (front_heads x c part.outside);
   outside = besides_front 568 4 x c (omega arith) (omega arith) part.outside;
-  minutes = inl (front_recorded x c part.outside);
   decodes = odometer_decodes odometer x c sized far part;
 }
 
@@ -85,7 +92,7 @@ module _ (j : Notes) (ok : IsNotes j) (x : List ℕ) (sized : length x ≡ 24858
   it = minute_by m dn cn
 
   abbrev begun : UnitDay
-  begun = record { date = 86400 * (m / 1440); words = first_states (m % 1440) dn cn ++ further_words (m % 1440) dn cn }
+  begun = begun_day m dn cn odometer
 
   abbrev x1 : List ℕ
   x1 = with_odometer odometer x
@@ -110,7 +117,7 @@ module _ (j : Notes) (ok : IsNotes j) (x : List ℕ) (sized : length x ≡ 24858
   good_1 = put_odometer_good odometer x sized far
 
   abbrev Result : List ℕ → Type 0
-  Result x2 = (known : pointer day_ring x2 < 366) × IsClosed j.day_count k m it begun odometer x x2 known
+  Result x2 = (known : pointer day_ring x2 < 366) × IsClosed j.day_count k m dn cn odometer x x2 known
 
   -- no day yet
   module _ (none : k ≡ 0) where
@@ -145,10 +152,13 @@ module _ (j : Notes) (ok : IsNotes j) (x : List ℕ) (sized : length x ≡ 24858
         all_now = subst (Each (λ d. day_of d ≤ k / 1440)) (sym no_days) tt;
         commit =
             ap (λ (l : List UnitDay). days_shown m (l ++ begun ∷ [])) no_days ∙ day_now m begun its_day
-            ∙ ap (λ (d : Day). d ∷ []) (begun_is 0 m bare bare dn cn [] 0 [] tt refl tt refl refl short short' (86400 * (m / 1440)) its_day (omega (arith, later))
-            (begun_before 0 m bare bare dn cn [] 0 [] tt refl tt refl refl short short' (86400 * (m / 1440)) its_day (omega (arith, later)))
-            (begun_at 0 m bare bare dn cn [] 0 [] tt refl tt refl refl short short' (86400 * (m / 1440)) its_day (omega (arith, later))))
+            ∙ ap (λ (d : Day). d ∷ []) (begun_is 0 m bare bare dn cn [] 0 0 [] tt refl tt refl refl short short' (86400 * (m / 1440)) odometer its_day (omega (arith, later))
+            (begun_before 0 m bare bare dn cn [] 0 0 [] tt refl tt refl refl short short' (86400 * (m / 1440)) odometer its_day (omega (arith, later)))
+            (begun_at 0 m bare bare dn cn [] 0 0 [] tt refl tt refl refl short short' (86400 * (m / 1440)) odometer its_day (omega (arith, later))))
             ∙ sym (ap (λ (l : List Day). filled l it) x_recorded);
+        written = ap (days_with (last_kept x) m dn cn odometer) (all_days x ∙ ap (map (day_at x)) (agrees.none none)) ∙ sym (ap (λ (l : List UnitDay). l ++ begun ∷ []) no_days);
+        heads = front_heads x x1 x1_same;
+        spare = spare_front 568 4 x x1 (omega arith) x1_same;
         ready = ready_empty x1 x1_known x_indices;
         days = ap length no_days ∙ sym (ok.no_day none);
         good = good_1;
@@ -173,6 +183,9 @@ module _ (j : Notes) (ok : IsNotes j) (x : List ℕ) (sized : length x ≡ 24858
     abbrev date : ℕ
     date = 86400 * (k / 1440)
 
+    abbrev o : ℕ
+    o = slot_odometer x i
+
     abbrev older : List UnitDay
     older = map (day_at x) js
 
@@ -188,29 +201,32 @@ module _ (j : Notes) (ok : IsNotes j) (x : List ℕ) (sized : length x ≡ 24858
     date_day : date / 86400 ≡ k / 1440
     date_day = omega arith
 
-    slot : IsSlot i js older p k date n words x
-    slot = record { sized = sized; pointer_is = refl; kept = agrees.kept; order_is = day.order_is; next_is = day.next_is; older_are = refl; date_is = day.date; count_is = day.count; words_are = refl }
+    slot : IsSlot i js older p k date o n words x
+    slot = record { sized = sized; pointer_is = refl; kept = agrees.kept; order_is = day.order_is; next_is = day.next_is; older_are = refl; date_is = day.date; odometer_is = refl; count_is = day.count; words_are = refl }
 
-    slot_1 : IsSlot i js older p k date n words x1
-    slot_1 = slot_front i ok.index js day.others older p k date n few words x slot 568 4 k x1 x1_same (omega arith) (front_kept x x1 x1_same ∙ agrees.kept)
+    slot_1 : IsSlot i js older p k date o n words x1
+    slot_1 = slot_front i ok.index js day.others older p k date o n few words x slot 568 4 k x1 x1_same (omega arith) (front_kept x x1 x1_same ∙ agrees.kept)
 
     abbrev cs : List ℕ
     cs = closing_words (k % 1440 + 1) j.driver j.codriver
 
     cs_later : Each (λ w. k % 1440 < word_minute w) cs
-    cs_later = closing_later k m j.driver j.codriver dn cn older date words day.earlier date_day day.low day.driver day.codriver short short' (86400 * (m / 1440)) its_day later (k % 1440) (omega arith)
+    cs_later = closing_later k m j.driver j.codriver dn cn older date o words day.earlier date_day day.low day.driver day.codriver short short' (86400 * (m / 1440)) odometer its_day later (k % 1440) (omega arith)
 
     abbrev last_day : UnitDay
-    last_day = record { date = date; words = words ++ cs }
+    last_day = record { date = date; odometer = o; words = words ++ cs }
 
-    x_days : recorded x ≡ days_shown k (older ++ record { date = date; words = words } ∷ [])
-    x_days = recorded_is x k agrees.kept ∙ ap (days_shown k) (slot_days i ok.index js day.others older p k date n few words x slot)
+    x_days : recorded x ≡ days_shown k (older ++ record { date = date; odometer = o; words = words } ∷ [])
+    x_days = recorded_is x k agrees.kept ∙ ap (days_shown k) (slot_days i ok.index js day.others older p k date o n few words x slot)
+
+    x_heads : unit_heads x ≡ map day_head older ++ (date, o) ∷ []
+    x_heads = slot_heads i ok.index js day.others older p k date o n few words x slot
 
     -- from what stands in its slot
-    of_slot : (n' : ℕ) (x2 : List ℕ) → n' ≤ 2880 → IsSlot i js older p k date n' (words ++ cs) x2 → SameBesides x x2 → odometer_at x2 ≡ odometer → (IsGood x → IsGood x2) → Result x2
-    of_slot n' x2 few' slot_2 besides_2 odometer_is good =
+    of_slot : (n' : ℕ) (x2 : List ℕ) → n' ≤ 2880 → IsSlot i js older p k date o n' (words ++ cs) x2 → SameBesides x x2 → odometer_at x2 ≡ odometer → ((q : ℕ) → spare_bytes x2 q ≡ spare_bytes x q) → (IsGood x → IsGood x2) → Result x2
+    of_slot n' x2 few' slot_2 besides_2 odometer_is spare good =
         let known : pointer day_ring x2 < 366 = omega (arith, slot_2.pointer_is, agrees.pointer) in
-        let days : unit_days x2 ≡ older ++ last_day ∷ [] = slot_days i ok.index js day.others older p k date n' few' (words ++ cs) x2 slot_2 in (
+        let days : unit_days x2 ≡ older ++ last_day ∷ [] = slot_days i ok.index js day.others older p k date o n' few' (words ++ cs) x2 slot_2 in (
           known,
           record {
             odometer_is = odometer_is;
@@ -218,12 +234,20 @@ module _ (j : Notes) (ok : IsNotes j) (x : List ℕ) (sized : length x ≡ 24858
             kept = slot_2.kept;
             kept_was = agrees.kept;
             besides = besides_2;
-            recorded_are = ap (days_shown k) days ∙ words_later k older date words cs date_day cs_later ∙ sym x_days;
+            recorded_are = ap (days_shown k) days ∙ words_later k older date o words cs date_day cs_later ∙ sym x_days;
             all_now = subst (Each (λ d. day_of d ≤ k / 1440)) (sym days) (each_push (λ d. day_of d ≤ k / 1440) older last_day (each_not_later (k / 1440) older day.earlier) (omega (arith, date_day)));
             commit =
                 ap (λ (l : List UnitDay). days_shown m (l ++ begun ∷ [])) days
-                ∙ next_day k m j.driver j.codriver dn cn older date words day.earlier date_day day.low day.driver day.codriver short short' (86400 * (m / 1440)) its_day later
+                ∙ next_day k m j.driver j.codriver dn cn older date o words day.earlier date_day day.low day.driver day.codriver short short' (86400 * (m / 1440)) odometer its_day later
                 ∙ sym (ap (λ (l : List Day). filled l it) x_days);
+            written =
+                (λ t. days_with (agrees.kept t) m dn cn odometer (slot_days i ok.index js day.others older p k date o n few words x slot t))
+                ∙ with_last k m dn cn odometer older (record { date = date; odometer = o; words = words })
+                ∙ ap (λ (l : List UnitDay). older ++ l) (with_next k m dn cn odometer (record { date = date; odometer = o; words = words }) (omega (arith, date_day, later))
+                ∙ (λ t. record { date = date; odometer = o; words = words ++ closing_words (k % 1440 + 1) (day.driver t) (day.codriver t) } ∷ begun ∷ []))
+                ∙ sym (append_assoc older (last_day ∷ []) (begun ∷ [])) ∙ sym (ap (λ (l : List UnitDay). l ++ begun ∷ []) days);
+            heads = slot_heads i ok.index js day.others older p k date o n' few' (words ++ cs) x2 slot_2 ∙ sym x_heads;
+            spare = spare;
             ready = ready_behind x2 known i day.dense.0 ok.index day.dense.1 (slot_2.order_is ∙ ap (λ (l : List ℕ). l ++ i ∷ []) day.dense.2) slot_2.next_is;
             days = omega (arith, ap length days, length-append older (last_day ∷ []), length-map js (day_at x), day.days);
             good = good;
@@ -236,7 +260,7 @@ module _ (j : Notes) (ok : IsNotes j) (x : List ℕ) (sized : length x ≡ 24858
     at_end is =
         let test : (k % 1440 + 1 == 1440) ≡ true = grind (arith, nat_tests, is) in
         let no_words : words ++ cs ≡ words = ap (λ (b : Bool). words ++ cond b [] (changes (k % 1440 + 1) j.driver j.codriver bare bare)) test ∙ append-nil words in
-        of_slot n x1 few (subst (λ (l : List ℕ). IsSlot i js older p k date n l x1) (sym no_words) slot_1) besides_1 x1_odometer good_1
+        of_slot n x1 few (subst (λ (l : List ℕ). IsSlot i js older p k date o n l x1) (sym no_words) slot_1) besides_1 x1_odometer (spare_front 568 4 x x1 (omega arith) x1_same) good_1
 
     module _ (open_one : k % 1440 < 1439) where
       abbrev ws : List ℕ
@@ -269,8 +293,8 @@ module _ (j : Notes) (ok : IsNotes j) (x : List ℕ) (sized : length x ≡ 24858
       besides_2 : SameBesides x x2
       besides_2 = besides_then x y x2 besides_y (besides_days (slot_place i + 8) 2 y x2 (omega arith) (omega (arith, ok.index)) count_same)
 
-      slot_2 : IsSlot i js older p k date (n + length ws) (words ++ ws) x2
-      slot_2 = slot_counted i ok.index js day.others older p k date n few words x1 slot_1 ws (changes_short (k % 1440 + 1) j.driver j.codriver bare bare (omega (arith, open_one)) (omega arith) (omega arith)) fits
+      slot_2 : IsSlot i js older p k date o (n + length ws) (words ++ ws) x2
+      slot_2 = slot_counted i ok.index js day.others older p k date o n few words x1 slot_1 ws (changes_short (k % 1440 + 1) j.driver j.codriver bare bare (omega (arith, open_one)) (omega arith) (omega arith)) fits
 
       odometer_2 : odometer_at x2 ≡ odometer
       unfolding odometer_at
@@ -291,10 +315,13 @@ module _ (j : Notes) (ok : IsNotes j) (x : List ℕ) (sized : length x ≡ 24858
           ∙ (changes_good place (k % 1440 + 1) j.driver j.codriver bare bare words (omega (arith, open_one)) (omega arith) (omega arith) (good_low place (k % 1440) (k % 1440 + 1) words checks (omega (arith, two, length_is)) day.low (omega arith))).checks) (good_y good)
 
       pub in_day : Result x2
-      in_day = of_slot (n + length ws) x2 fits (subst (λ (b : Bool). IsSlot i js older p k date (n + length ws) (words ++ cond b [] ws) x2) (sym is_open) slot_2) besides_2 odometer_2 good_2
+      in_day = of_slot (n + length ws) x2 fits (subst (λ (b : Bool). IsSlot i js older p k date o (n + length ws) (words ++ cond b [] ws) x2) (sym is_open) slot_2) besides_2 odometer_2 (λ q. spare_count i y x2 count_same q ∙ spare_behind i n x1 y few behind q ∙ spare_front 568 4 x x1 (omega arith) x1_same q) good_2
 
-      same_recorded : (c : List ℕ) → IsSlot i js older p k date n words c → recorded c ≡ recorded x
-      same_recorded c at = recorded_is c k at.kept ∙ ap (days_shown k) (slot_days i ok.index js day.others older p k date n few words c at) ∙ sym x_days
+      same_recorded : (c : List ℕ) → IsSlot i js older p k date o n words c → recorded c ≡ recorded x
+      same_recorded c at = recorded_is c k at.kept ∙ ap (days_shown k) (slot_days i ok.index js day.others older p k date o n few words c at) ∙ sym x_days
+
+      same_heads : (c : List ℕ) → IsSlot i js older p k date o n words c → unit_heads c ≡ unit_heads x
+      same_heads c at = slot_heads i ok.index js day.others older p k date o n few words c at ∙ sym x_heads
 
       has_1 : HasOdometer odometer x x1
       has_1 = front_odometer odometer x sized far
@@ -307,14 +334,14 @@ module _ (j : Notes) (ok : IsNotes j) (x : List ℕ) (sized : length x ≡ 24858
 
       pub closing_there : (c : List ℕ) → DiffersBehind i n x1 c ⊎ IsPartlyWritten (slot_place i + 8) (to_be_bytes w16 (n + length ws)) y c → IsKeeping it odometer x c
       closing_there c (inl writing) = record {
-        front = front_of m odometer x c (front_then odometer (free_place i n) (5760 - 2 * n) x x1 c has_1 (omega arith) writing);
+        side = before_mark it odometer x c (front_then odometer (free_place i n) (5760 - 2 * n) x x1 c has_1 (omega arith) writing) (inl (same_recorded c (slot_behind i ok.index js day.others older p k date o n few words x1 slot_1 c writing)));
+        heads = inl (same_heads c (slot_behind i ok.index js day.others older p k date o n few words x1 slot_1 c writing));
         outside = besides_then x x1 c besides_1 (besides_days (free_place i n) (5760 - 2 * n) x1 c (omega arith) (omega (arith, ok.index, few)) writing);
-        minutes = inl (same_recorded c (slot_behind i ok.index js day.others older p k date n few words x1 slot_1 c writing));
         decodes = still x c (λ good. behind_good x1 c i n ok.index few writing slot_1.count_is (good_1 good));
       }
       closing_there c (inr counting) = ⊎_elim
-          (λ absent. subst (IsKeeping it odometer x) (sym absent) (record { front = front_of m odometer x y has_y; outside = besides_y; minutes = inl (same_recorded y (slot_behind i ok.index js day.others older p k date n few words x1 slot_1 y behind)); decodes = still x y good_y }))
-          (λ whole. subst (IsKeeping it odometer x) (sym whole) (record { front = front_of m odometer x x2 has_2; outside = besides_2; minutes = inl (recorded_is x2 k slot_2.kept ∙ in_day.1.recorded_are); decodes = still x x2 good_2 }))
+          (λ absent. subst (IsKeeping it odometer x) (sym absent) (record { side = before_mark it odometer x y has_y (inl (same_recorded y (slot_behind i ok.index js day.others older p k date o n few words x1 slot_1 y behind))); heads = inl (same_heads y (slot_behind i ok.index js day.others older p k date o n few words x1 slot_1 y behind)); outside = besides_y; decodes = still x y good_y }))
+          (λ whole. subst (IsKeeping it odometer x) (sym whole) (record { side = before_mark it odometer x x2 has_2 (inl (recorded_is x2 k slot_2.kept ∙ in_day.1.recorded_are)); heads = inl in_day.1.heads; outside = besides_2; decodes = still x x2 good_2 }))
           (counting.whole (lit≤ tt))
 
   closing_moment : (c : List ℕ) → IsPartway (closing j) x1 c → IsKeeping it odometer x c

@@ -7,9 +7,9 @@ use Rattle.gated_ring.proofs.Dense.{before_one, up_to_first, up_to_all, drop_all
 use Rattle.gated_ring.proofs.Orders.{Each, range_each, order_last, filter_last, filter_short, rest, rest_others}
 use Rattle.unit_model.specs.Image.{day_ring}
 use Rattle.unit_model.specs.Decoding.{are_dense, is_filled_on}
-use Rattle.unit_journal.specs.Image.{behind_index}
+use Rattle.unit_model.specs.Writing.{behind_index}
 use Rattle.unit_journal.proofs.Finding.{dense_tail}
-use Rattle.unit_journal.proofs.Turning.{behind_length}
+use Rattle.unit_model.proofs.Turning.{behind_length}
 
 -- no index stands twice in a list
 abbrev Apart : List ℕ → Type 0

@@ -8,7 +8,7 @@ use Rattle.tach_media.specs.LogLaws.{put_outside}
 use Rattle.tach_media.proofs.Images.{part_before, part_after, part_put, outside_same, outside_wider, outside_then}
 use Rattle.unit_model.specs.Decoding.{cell_place, cell_minute, cell_word}
 use Rattle.unit_journal.specs.Mends.{row_head, minute_kept, cells_emptied, cell_emptied, IsEmptying, IsEmptyingAll}
-use Rattle.unit_journal.proofs.Numbers.{number_before, number_after}
+use Rattle.unit_model.proofs.Numbers.{number_before, number_after}
 
 -- one cell lies behind another
 cell_order : (m n : ℕ) → m < n → cell_place m + 6 ≤ cell_place n

@@ -12,9 +12,10 @@ use Rattle.unit_model.specs.Days.{day_of, Each}
 use Rattle.unit_model.specs.Image.{last_kept, day_ring, slot_place, unit_day, indices, slot_date}
 use Rattle.unit_model.specs.Decoding.{are_dense, is_filled_on, is_last_good, is_date_good, indices_before, slot_day}
 use Rattle.unit_memory.proofs.Decoded.{IsDecoded}
-use Rattle.unit_journal.specs.Image.{behind_index, stray_list, stray_of}
-use Rattle.unit_journal.proofs.Numbers.{number_in}
-use Rattle.unit_journal.proofs.Turning.{behind_length}
+use Rattle.unit_model.specs.Writing.{behind_index}
+use Rattle.unit_journal.specs.Image.{stray_list, stray_of}
+use Rattle.unit_model.proofs.Numbers.{number_in}
+use Rattle.unit_model.proofs.Turning.{behind_length}
 
 pub eq_of : (a b : ℕ) → (a == b) ≡ true → a ≡ b
 eq_of a b is = grind (arith, nat_tests)
@@ -212,7 +213,7 @@ module _ (x : List ℕ) (ok : IsDecoded x) where
       by false some_p same = let some : p ≢ 0 = grind (arith, nat_tests, some_p) in absurd (omega (arith, some, same))
 
   -- the list of the slots
-  list_is : indices x ≡ filter t (B ++ p ∷ [])
+  pub list_is : indices x ≡ filter t (B ++ p ∷ [])
   unfolding indices ring_indices
   list_is = ap (filter t) (order_last day_ring p known)
 
@@ -312,7 +313,7 @@ module _ (x : List ℕ) (ok : IsDecoded x) where
     pub order : list_all (λ i. nat_lt (date i) (date j)) before ≡ true
     pub only : (date j / 86400 ≤ K) ⊎ (list_all (λ i. nat_le (date i / 86400) K) before ≡ true)
 
-  dated : (j : ℕ) (before : List ℕ) → j < 366 → t j ≡ true → indices_before x j ≡ before → IsDated j before
+  pub dated : (j : ℕ) (before : List ℕ) → j < 366 → t j ≡ true → indices_before x j ≡ before → IsDated j before
   dated j before below there is =
       let slot = ok.slots j below there in
       let good : is_date_good (last_kept x) (map date before) (date j) ≡ true = ap (λ (l : List ℕ). is_date_good (last_kept x) (map date l) (date j)) (sym is) ∙ slot.date in

@@ -5,28 +5,32 @@ use Rattle.std.specs.Int.{to_be_bytes, w16, w32}
 use Rattle.std.proofs.lemmas.Bool.Decides.{nat_tests}
 use Rattle.tach_media.specs.Medium.{SameOutside, IsPartlyWritten}
 use Rattle.tach_media.specs.LogLaws.{put_outside}
-use Rattle.gated_ring.specs.Ring.{number_at, pointer}
-use Rattle.unit_model.specs.Days.{word_minute, word_of, bare, state_at, UnitMinute, Day, UnitDay, day_of, days_shown, filled, newest_of, Each, minute_by}
-use Rattle.unit_journal.specs.Changes.{change, changes, new_words}
-use Rattle.unit_model.specs.Image.{day_ring, slot_place, last_kept, odometer_at, recorded, indices, slot_words}
-use Rattle.unit_journal.proofs.Checks.{passes, IsGood, still}
-use Rattle.unit_journal.proofs.StillDecodes.{counted_good}
-use Rattle.unit_journal.proofs.WordsGood.{new_good}
+use Rattle.gated_ring.specs.Ring.{number_at, pointer, newest_of}
+use Rattle.unit_model.specs.Days.{word_minute, word_of, bare, state_at, UnitMinute, Day, UnitDay, day_of, days_shown, filled, Each, minute_by}
+use Rattle.unit_model.specs.Changes.{change, changes, new_words}
+use Rattle.unit_model.specs.Retention.{retained}
+use Rattle.unit_journal.specs.DaysWith.{days_with, HasDays}
+use Rattle.unit_journal.proofs.DaysWith.{with_last, with_same, newest_all, spare_front, spare_behind, spare_count}
+use Rattle.unit_model.specs.Image.{day_ring, slot_place, last_kept, odometer_at, recorded, indices, unit_days, day_head, unit_heads, slot_odometer, slot_words}
+use Rattle.unit_model.proofs.Checks.{passes, IsGood, still}
+use Rattle.unit_model.proofs.StillDecodes.{counted_good}
+use Rattle.unit_model.proofs.WordsGood.{new_good}
 use Rattle.unit_journal.proofs.KeptDecodes.{behind_good, day_good, last_day, put_odometer_good, odometer_decodes}
 use Rattle.std.specs.List.{list_all}
 use Rattle.std.proofs.lemmas.List.FromFn.{length-map-range_with_len}
 use Rattle.unit_model.specs.Decoding.{Decodes, word_checks}
-use Rattle.unit_journal.specs.Image.{Notes, IsNotes, IsNewestDay, Agrees, written, free_place, DiffersBehind, SameBesides, IsFront, IsKeeping, with_odometer, with_kept, with_words}
+use Rattle.unit_journal.specs.Image.{Notes, IsNotes, IsNewestDay, Agrees, SameBesides, IsKeeping}
+use Rattle.unit_model.specs.Writing.{written, free_place, DiffersBehind, with_odometer, with_kept, with_words}
 use Rattle.unit_journal.specs.Plans.{counted, mark, going}
 use Rattle.unit_journal.proofs.Planned.{counted_put, counted_moment}
 use Rattle.write_plan.specs.Plan.{put_all, IsPartway}
 use Rattle.write_plan.proofs.Plans.{put_all-append, partway_either}
-use Rattle.unit_journal.proofs.States.{each_append, new_minutes, new_driver, new_codriver}
-use Rattle.unit_journal.proofs.Growth.{words_later}
-use Rattle.unit_journal.proofs.Commits.{state_on, same_day}
-use Rattle.unit_journal.proofs.Numbers.{number_before, number_after, number_put4, AreShort, written_outside}
-use Rattle.unit_journal.proofs.Slots.{day_at, IsSlot, slot_days, slot_behind, slot_front, slot_counted}
-use Rattle.unit_journal.proofs.Besides.{HasOdometer, front_odometer, front_then, front_of, front_at, besides_then, besides_front, besides_days, few_days, all_newest}
+use Rattle.unit_model.proofs.States.{each_append, new_minutes, new_driver, new_codriver}
+use Rattle.unit_model.proofs.Growth.{words_later}
+use Rattle.unit_model.proofs.Commits.{state_on, same_day}
+use Rattle.unit_model.proofs.Numbers.{number_before, number_after, number_put4, AreShort, written_outside}
+use Rattle.unit_model.proofs.Slots.{day_at, IsSlot, slot_days, slot_heads, slot_behind, slot_front, slot_counted}
+use Rattle.unit_journal.proofs.Besides.{HasOdometer, front_odometer, front_then, before_first, before_mark, behind_mark, besides_then, besides_front, besides_days, few_slots, few_days, all_newest}
 
 -- how many words a minute brings
 pub change_few : (s t d e : ℕ) → length (change s t d e) ≤ 1
@@ -101,6 +105,9 @@ module _ (j : Notes) (ok : IsNotes j) (x : List ℕ) (sized : length x ≡ 24858
   abbrev date : ℕ
   date = 86400 * (k / 1440)
 
+  abbrev o : ℕ
+  o = slot_odometer x i
+
   abbrev older : List UnitDay
   older = map (day_at x) js
 
@@ -132,10 +139,10 @@ module _ (j : Notes) (ok : IsNotes j) (x : List ℕ) (sized : length x ≡ 24858
   date_day = omega arith
 
   abbrev Slot : (last count : ℕ) → List ℕ → List ℕ → Type 0
-  Slot last count all c = IsSlot i js older p last date count all c
+  Slot last count all c = IsSlot i js older p last date o count all c
 
   slot : Slot k n words x
-  slot = record { sized = sized; pointer_is = refl; kept = agrees.kept; order_is = day.order_is; next_is = day.next_is; older_are = refl; date_is = day.date; count_is = day.count; words_are = refl }
+  slot = record { sized = sized; pointer_is = refl; kept = agrees.kept; order_is = day.order_is; next_is = day.next_is; older_are = refl; date_is = day.date; odometer_is = refl; count_is = day.count; words_are = refl }
 
   abbrev x1 : List ℕ
   x1 = with_odometer odometer x
@@ -154,13 +161,13 @@ module _ (j : Notes) (ok : IsNotes j) (x : List ℕ) (sized : length x ≡ 24858
 
   front_slot : (c : List ℕ) → SameOutside 568 4 x c → Slot k n words c
   unfolding last_kept
-  front_slot c same_c = slot_front i ok.index js day.others older p k date n few words x slot 568 4 k c same_c (omega arith) (number_before 568 4 564 4 x c same_c (omega arith) ∙ agrees.kept)
+  front_slot c same_c = slot_front i ok.index js day.others older p k date o n few words x slot 568 4 k c same_c (omega arith) (number_before 568 4 564 4 x c same_c (omega arith) ∙ agrees.kept)
 
   slot_1 : Slot k n words x1
   slot_1 = front_slot x1 x1_same
 
   slot_3 : Slot k (n + length ws) (words ++ ws) x3
-  slot_3 = slot_counted i ok.index js day.others older p k date n few words x1 slot_1 ws ws_short (omega (arith, fits))
+  slot_3 = slot_counted i ok.index js day.others older p k date o n few words x1 slot_1 ws ws_short (omega (arith, fits))
 
   fits' : n + length ws ≤ 2880
   fits' = omega (arith, fits)
@@ -170,25 +177,37 @@ module _ (j : Notes) (ok : IsNotes j) (x : List ℕ) (sized : length x ≡ 24858
 
   slot_y : Slot m (n + length ws) (words ++ ws) y
   unfolding last_kept
-  slot_y = slot_front i ok.index js day.others older p k date (n + length ws) fits' (words ++ ws) x3 slot_3 564 4 m y y_same (omega arith) (number_put4 564 m x3 (omega (arith, slot_3.sized)) (omega (arith, small)))
+  slot_y = slot_front i ok.index js day.others older p k date o (n + length ws) fits' (words ++ ws) x3 slot_3 564 4 m y y_same (omega arith) (number_put4 564 m x3 (omega (arith, slot_3.sized)) (omega (arith, small)))
 
-  x_recorded : recorded x ≡ days_shown k (older ++ record { date = date; words = words } ∷ [])
-  x_recorded = recorded_is x k agrees.kept ∙ ap (days_shown k) (slot_days i ok.index js day.others older p k date n few words x slot)
+  x_recorded : recorded x ≡ days_shown k (older ++ record { date = date; odometer = o; words = words } ∷ [])
+  x_recorded = recorded_is x k agrees.kept ∙ ap (days_shown k) (slot_days i ok.index js day.others older p k date o n few words x slot)
 
   same_recorded : (c : List ℕ) → Slot k n words c → recorded c ≡ recorded x
-  same_recorded c at = recorded_is c k at.kept ∙ ap (days_shown k) (slot_days i ok.index js day.others older p k date n few words c at) ∙ sym x_recorded
+  same_recorded c at = recorded_is c k at.kept ∙ ap (days_shown k) (slot_days i ok.index js day.others older p k date o n few words c at) ∙ sym x_recorded
+
+  x_heads : unit_heads x ≡ map day_head older ++ (date, o) ∷ []
+  x_heads = slot_heads i ok.index js day.others older p k date o n few words x slot
+
+  same_heads : (c : List ℕ) → Slot k n words c → unit_heads c ≡ unit_heads x
+  same_heads c at = slot_heads i ok.index js day.others older p k date o n few words c at ∙ sym x_heads
+
+  heads_3 : unit_heads x3 ≡ unit_heads x
+  heads_3 = slot_heads i ok.index js day.others older p k date o (n + length ws) fits' (words ++ ws) x3 slot_3 ∙ sym x_heads
+
+  heads_y : unit_heads y ≡ unit_heads x
+  heads_y = slot_heads i ok.index js day.others older p m date o (n + length ws) fits' (words ++ ws) y slot_y ∙ sym x_heads
 
   recorded_3 : recorded x3 ≡ recorded x
   recorded_3 =
-      recorded_is x3 k slot_3.kept ∙ ap (days_shown k) (slot_days i ok.index js day.others older p k date (n + length ws) fits' (words ++ ws) x3 slot_3)
-      ∙ words_later k older date words ws date_day (new_minutes (k % 1440 + 1) (m % 1440) j.driver j.codriver dn cn next_le (omega arith) short short' (λ u. k % 1440 < u) (omega arith) (omega (arith, next_le)))
+      recorded_is x3 k slot_3.kept ∙ ap (days_shown k) (slot_days i ok.index js day.others older p k date o (n + length ws) fits' (words ++ ws) x3 slot_3)
+      ∙ words_later k older date o words ws date_day (new_minutes (k % 1440 + 1) (m % 1440) j.driver j.codriver dn cn next_le (omega arith) short short' (λ u. k % 1440 < u) (omega arith) (omega (arith, next_le)))
       ∙ sym x_recorded
 
-  recorded_y : recorded y ≡ newest_of 366 (filled (recorded x) it)
+  recorded_y : recorded y ≡ retained (recorded x) it
   recorded_y =
       let is : recorded y ≡ filled (recorded x) it =
-      recorded_is y m slot_y.kept ∙ ap (days_shown m) (slot_days i ok.index js day.others older p m date (n + length ws) fits' (words ++ ws) y slot_y)
-      ∙ same_day k m j.driver j.codriver dn cn older date words day.earlier date_day day.low day.driver day.codriver short short' same later
+      recorded_is y m slot_y.kept ∙ ap (days_shown m) (slot_days i ok.index js day.others older p m date o (n + length ws) fits' (words ++ ws) y slot_y)
+      ∙ same_day k m j.driver j.codriver dn cn older date o words day.earlier date_day day.low day.driver day.codriver short short' same later
       ∙ sym (ap (λ (l : List Day). filled l it) x_recorded) in
       let count : length (filled (recorded x) it) ≤ 366 = omega (arith, ap length is, few_days y (omega (arith, slot_y.pointer_is, agrees.pointer))) in
       is ∙ sym (all_newest 366 (filled (recorded x) it) count)
@@ -208,14 +227,31 @@ module _ (j : Notes) (ok : IsNotes j) (x : List ℕ) (sized : length x ≡ 24858
   besides_3 : SameBesides x x3
   besides_3 = besides_then x x2 x3 besides_2 (besides_days (slot_place i + 8) 2 x2 x3 (omega arith) (omega (arith, ok.index)) count_same)
 
+  pub kept_last : last_kept y ≡ it.minute
+  kept_last = slot_y.kept
+
   pub besides_y : SameBesides x y
   besides_y = besides_then x x3 y besides_3 (besides_front 564 4 x3 y (omega arith) (omega arith) y_same)
 
-  pub kept_minutes : recorded y ≡ newest_of 366 (filled (recorded x) it)
+  pub kept_minutes : recorded y ≡ retained (recorded x) it
   kept_minutes = recorded_y
 
+  days_are : days_with (last_kept x) m dn cn odometer (unit_days x) ≡ unit_days y
+  days_are =
+      (λ t. days_with (agrees.kept t) m dn cn odometer (slot_days i ok.index js day.others older p k date o n few words x slot t))
+      ∙ with_last k m dn cn odometer older (record { date = date; odometer = o; words = words })
+      ∙ ap (λ (l : List UnitDay). older ++ l) (with_same k m dn cn odometer (record { date = date; odometer = o; words = words }) (date_day ∙ sym same)
+      ∙ (λ t. record { date = date; odometer = o; words = words ++ new_words (k % 1440 + 1) (m % 1440) (day.driver t) (day.codriver t) dn cn } ∷ []))
+      ∙ sym (slot_days i ok.index js day.others older p m date o (n + length ws) fits' (words ++ ws) y slot_y)
+
+  pub kept_days : HasDays m dn cn odometer x y
+  kept_days = record {
+    days = sym (ap (newest_of 366) days_are ∙ newest_all 366 (unit_days y) (few_slots y (omega (arith, slot_y.pointer_is, agrees.pointer))));
+    spare = λ j low. inl (spare_front 564 4 x3 y (omega arith) y_same j ∙ spare_count i x2 x3 count_same j ∙ spare_behind i n x1 x2 few behind j ∙ spare_front 568 4 x x1 (omega arith) x1_same j);
+  }
+
   slot_2 : Slot k n words x2
-  slot_2 = slot_behind i ok.index js day.others older p k date n few words x1 slot_1 x2 behind
+  slot_2 = slot_behind i ok.index js day.others older p k date o n few words x1 slot_1 x2 behind
 
   has_1 : HasOdometer odometer x x1
   has_1 = front_odometer odometer x sized far
@@ -257,19 +293,19 @@ module _ (j : Notes) (ok : IsNotes j) (x : List ℕ) (sized : length x ≡ 24858
   Moment c = IsKeeping it odometer x c
 
   at_2 : Moment x2
-  at_2 = record { front = front_of m odometer x x2 has_2; outside = besides_2; minutes = inl (same_recorded x2 slot_2); decodes = still x x2 good_2 }
+  at_2 = record { side = before_mark it odometer x x2 has_2 (inl (same_recorded x2 slot_2)); heads = inl (same_heads x2 slot_2); outside = besides_2; decodes = still x x2 good_2 }
 
   at_3 : Moment x3
-  at_3 = record { front = front_of m odometer x x3 has_3; outside = besides_3; minutes = inl recorded_3; decodes = still x x3 good_3 }
+  at_3 = record { side = before_mark it odometer x x3 has_3 (inl recorded_3); heads = inl heads_3; outside = besides_3; decodes = still x x3 good_3 }
 
   at_y : Moment y
-  at_y = record { front = front_at m odometer x y slot_y.kept odometer_y; outside = besides_y; minutes = inr (inr recorded_y); decodes = kept_decodes }
+  at_y = record { side = behind_mark it odometer x y slot_y.kept odometer_y recorded_y; heads = inl heads_y; outside = besides_y; decodes = kept_decodes }
 
   counting_moment : (c : List ℕ) → DiffersBehind i n x1 c ⊎ IsPartlyWritten (slot_place i + 8) (to_be_bytes w16 (n + length ws)) x2 c → Moment c
   counting_moment c (inl writing) = record {
-    front = front_of m odometer x c (front_then odometer (free_place i n) (5760 - 2 * n) x x1 c has_1 (omega arith) writing);
+    side = before_mark it odometer x c (front_then odometer (free_place i n) (5760 - 2 * n) x x1 c has_1 (omega arith) writing) (inl (same_recorded c (slot_behind i ok.index js day.others older p k date o n few words x1 slot_1 c writing)));
+    heads = inl (same_heads c (slot_behind i ok.index js day.others older p k date o n few words x1 slot_1 c writing));
     outside = besides_then x x1 c besides_1 (besides_days (free_place i n) (5760 - 2 * n) x1 c (omega arith) (omega (arith, ok.index, few)) writing);
-    minutes = inl (same_recorded c (slot_behind i ok.index js day.others older p k date n few words x1 slot_1 c writing));
     decodes = still x c (λ good. behind_good x1 c i n ok.index few writing slot_1.count_is (good_1 good));
   }
   counting_moment c (inr counting) = ⊎_elim (λ absent. subst Moment (sym absent) at_2) (λ whole. subst Moment (sym whole) at_3) (counting.whole (lit≤ tt))
@@ -283,12 +319,12 @@ module _ (j : Notes) (ok : IsNotes j) (x : List ℕ) (sized : length x ≡ 24858
 
   pub moments : (c : List ℕ) → IsPartway (going j m dn cn odometer) x c → Moment c
   moments c (inl first) = record {
-    front = ⊎_elim
-        (λ absent. inl (ap odometer_at absent, ap last_kept absent))
-        (λ whole. subst (IsFront m odometer x) (sym whole) (front_of m odometer x x1 has_1))
+    side = ⊎_elim
+        (λ absent. before_first it odometer x c (ap last_kept absent, ap odometer_at absent) (same_recorded c (front_slot c first.outside)))
+        (λ whole. before_mark it odometer x c (subst (HasOdometer odometer x) (sym whole) has_1) (inl (same_recorded c (front_slot c first.outside))))
         (first.whole (lit≤ tt));
+    heads = inl (same_heads c (front_slot c first.outside));
     outside = besides_front 568 4 x c (omega arith) (omega arith) first.outside;
-    minutes = inl (same_recorded c (front_slot c first.outside));
     decodes = odometer_decodes odometer x c sized far first;
   }
   moments c (inr rest) = ⊎_elim
@@ -319,6 +355,7 @@ module _ (j : Notes) (ok : IsNotes j) (x : List ℕ) (sized : length x ≡ 24858
         days = day.days;
         earlier = subst (Each (λ d. day_of d < m / 1440)) (sym slot_y.older_are) (each_earlier (k / 1440) (m / 1440) (omega arith) older day.earlier);
         date = slot_y.date_is ∙ ap (λ (d : ℕ). 86400 * d) (sym same);
+        few = fits';
         count = slot_y.count_is;
         low = subst (Each (λ w. word_minute w ≤ m % 1440)) (sym slot_y.words_are) (each_append (λ w. word_minute w ≤ m % 1440) words ws (each_weaker (k % 1440) (m % 1440) (omega (arith, next_le)) words day.low) (new_minutes (k % 1440 + 1) (m % 1440) j.driver j.codriver dn cn next_le (omega arith) short short' (λ u. u ≤ m % 1440) next_le (omega arith)));
         driver = ap (state_at 0 (m % 1440)) slot_y.words_are ∙ state_on 0 (k % 1440) j.driver (m % 1440) words ws day.low day.driver (omega (arith, next_le)) ∙ new_driver (k % 1440 + 1) (m % 1440) j.driver j.codriver dn cn next_le (omega arith) short short';

@@ -43,19 +43,19 @@ kept_earlier k (d ∷ days) all =
     let on : nat_le (day_of d) (k / 1440) ≡ true = grind (arith, nat_tests, all.0) in
     let there : (day_of d == k / 1440) ≡ false = grind (arith, nat_tests, all.0) in
     ap (λ (b : Bool). map (day_kept k) (cond b (d ∷ filter (λ d. nat_le (day_of d) (k / 1440)) days) (filter (λ d. nat_le (day_of d) (k / 1440)) days))) on
-    ∙ ap (λ (b : Bool). cond b (record { date = d.date; words = filter (λ w. nat_le (word_minute w) (k % 1440)) d.words }) d ∷ days_kept k days) there
+    ∙ ap (λ (b : Bool). cond b (record { date = d.date; odometer = d.odometer; words = filter (λ w. nat_le (word_minute w) (k % 1440)) d.words }) d ∷ days_kept k days) there
     ∙ ap (λ (l : List UnitDay). d ∷ l) (kept_earlier k days all.1)
 
 -- and of the last-kept minute's day the words that are not later
-pub kept_now : (k : ℕ) (older : List UnitDay) (date : ℕ) (words late : List ℕ) → date / 86400 ≡ k / 1440 → Each (λ d. day_of d < k / 1440) older
+pub kept_now : (k : ℕ) (older : List UnitDay) (date o : ℕ) (words late : List ℕ) → date / 86400 ≡ k / 1440 → Each (λ d. day_of d < k / 1440) older
     → Each (λ w. word_minute w ≤ k % 1440) words → Each (λ w. k % 1440 < word_minute w) late
-    → days_kept k (older ++ record { date = date; words = words ++ late } ∷ []) ≡ older ++ record { date = date; words = words } ∷ []
-kept_now k older date words late now earlier low high =
+    → days_kept k (older ++ record { date = date; odometer = o; words = words ++ late } ∷ []) ≡ older ++ record { date = date; odometer = o; words = words } ∷ []
+kept_now k older date o words late now earlier low high =
     let on : nat_le (date / 86400) (k / 1440) ≡ true = grind (arith, nat_tests, now) in
     let here : (date / 86400 == k / 1440) ≡ true = grind (arith, nat_tests, now) in
-    let all : UnitDay = record { date = date; words = words ++ late } in
+    let all : UnitDay = record { date = date; odometer = o; words = words ++ late } in
     kept_append k older (all ∷ [])
     ∙ ap (λ (l : List UnitDay). l ++ days_kept k (all ∷ [])) (kept_earlier k older earlier)
     ∙ ap (λ (b : Bool). older ++ map (day_kept k) (cond b (all ∷ []) [])) on
-    ∙ ap (λ (b : Bool). older ++ cond b (record { date = date; words = filter (λ w. nat_le (word_minute w) (k % 1440)) (words ++ late) }) all ∷ []) here
-    ∙ ap (λ (ws : List ℕ). older ++ record { date = date; words = ws } ∷ []) (not_late (k % 1440) words late low high)
+    ∙ ap (λ (b : Bool). older ++ cond b (record { date = date; odometer = o; words = filter (λ w. nat_le (word_minute w) (k % 1440)) (words ++ late) }) all ∷ []) here
+    ∙ ap (λ (ws : List ℕ). older ++ record { date = date; odometer = o; words = ws } ∷ []) (not_late (k % 1440) words late low high)

@@ -12,13 +12,13 @@ use Rattle.gated_ring.specs.Ring.{number_at, pointer, is_there, entry_at, next, 
 use Rattle.unit_model.specs.Days.{word_minute, Each}
 use Rattle.unit_model.specs.Image.{last_kept, odometer_at, day_ring, slot_place, indices, slot_date, slot_count, slot_words, words_at}
 use Rattle.unit_model.specs.Decoding.{check, cell_place, slot_checks, day_checks, has_day, is_pointer_good, is_last_good, are_dense, indices_before, is_date_good, word_checks, Decodes}
-use Rattle.unit_journal.specs.Image.{free_place, DiffersBehind, with_odometer}
+use Rattle.unit_model.specs.Writing.{free_place, DiffersBehind, with_odometer}
 use Rattle.unit_journal.proofs.Besides.{front_odometer as front_odometer_is}
-use Rattle.unit_journal.proofs.Numbers.{number_before, number_after, number_in, words_before, words_after, words_in}
-use Rattle.unit_journal.proofs.Slots.{SameButOne, in_slot, in_front, same_indices}
+use Rattle.unit_model.proofs.Numbers.{number_before, number_after, number_in, words_before, words_after, words_in}
+use Rattle.unit_model.proofs.Slots.{SameButOne, in_slot, in_front, same_indices}
 use Rattle.unit_journal.proofs.Finding.{all_there, each_last}
-use Rattle.unit_journal.proofs.Checks.{passes, and_split, and_join, le_true, le_of, IsGood, front_by, front_today, front_kept, front_odometer, still}
-use Rattle.unit_journal.proofs.StillDecodes.{day_split, SameDates, same_day, same_point, date_good, DayPasses, slot_by, day_still, out_good}
+use Rattle.unit_model.proofs.Checks.{passes, and_split, and_join, le_true, le_of, IsGood, front_by, front_today, front_kept, front_odometer, still}
+use Rattle.unit_model.proofs.StillDecodes.{day_split, SameDates, same_day, same_point, date_good, DayPasses, slot_by, day_still, out_good}
 
 -- a slot of which nothing has changed
 pub entry_as : (x c : List ℕ) (i : ℕ) → entry_at day_ring c i ≡ entry_at day_ring x i → is_date_good (last_kept c) (map (slot_date c) (indices_before c i)) (slot_date c i) ≡ true → DayPasses x i → DayPasses c i

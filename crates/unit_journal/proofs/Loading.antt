@@ -16,7 +16,8 @@ use Rattle.unit_memory.proofs.Decoded.{IsDecoded, decoded}
 use Rattle.unit_memory.proofs.WalkLaws.{there_is, is_day}
 use Rattle.unit_memory.proofs.WordLaws.{all_words_fail}
 use Rattle.unit_memory.proofs.JudgeLaws.{has_today}
-use Rattle.unit_journal.specs.Image.{Notes, IsFoundBy, IsFound, IsStray, stray_of, stray_list, free_place, IsToday}
+use Rattle.unit_journal.specs.Image.{Notes, IsFoundBy, IsFound, IsStray, stray_of, stray_list, IsToday}
+use Rattle.unit_model.specs.Writing.{free_place}
 use Rattle.unit_journal.specs.Today.{today_of, but_stray, recorded_days}
 use Rattle.unit_journal.proofs.Finding.{eq_of, placed, first_indices, apart}
 use Rattle.unit_journal.proofs.Scanning.{scanned_day}

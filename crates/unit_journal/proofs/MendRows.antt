@@ -4,13 +4,13 @@ use Rattle.unit_journal.specs.Mends.{days_kept, minute_kept, cells_emptied}
 
 -- kept up to 00:01: a word at 00:02 and the next day go
 kept_to : days_kept 21123361
-    (record { date = 1267315200; words = 0x2000 ∷ 0xA000 ∷ 0x3864 ∷ [] } ∷ record { date = 1267401600; words = 0x2000 ∷ 0xA000 ∷ 0x3801 ∷ 0xA801 ∷ 0x2002 ∷ [] }
-    ∷ record { date = 1267488000; words = 0x2000 ∷ 0xA000 ∷ [] } ∷ [])
-    ≡ record { date = 1267315200; words = 0x2000 ∷ 0xA000 ∷ 0x3864 ∷ [] } ∷ record { date = 1267401600; words = 0x2000 ∷ 0xA000 ∷ 0x3801 ∷ 0xA801 ∷ [] } ∷ []
+    (record { date = 1267315200; odometer = 5000; words = 0x2000 ∷ 0xA000 ∷ 0x3864 ∷ [] } ∷ record { date = 1267401600; odometer = 5000; words = 0x2000 ∷ 0xA000 ∷ 0x3801 ∷ 0xA801 ∷ 0x2002 ∷ [] }
+    ∷ record { date = 1267488000; odometer = 5000; words = 0x2000 ∷ 0xA000 ∷ [] } ∷ [])
+    ≡ record { date = 1267315200; odometer = 5000; words = 0x2000 ∷ 0xA000 ∷ 0x3864 ∷ [] } ∷ record { date = 1267401600; odometer = 5000; words = 0x2000 ∷ 0xA000 ∷ 0x3801 ∷ 0xA801 ∷ [] } ∷ []
 kept_to = refl
 
 -- nothing is kept: no day stays
-kept_none : days_kept 0 (record { date = 1267401600; words = 0x2000 ∷ 0xA000 ∷ [] } ∷ []) ≡ []
+kept_none : days_kept 0 (record { date = 1267401600; odometer = 5000; words = 0x2000 ∷ 0xA000 ∷ [] } ∷ []) ≡ []
 kept_none = refl
 
 next_minute : minute_kept 21123361 21123362 ≡ 0

@@ -7,21 +7,23 @@ use Rattle.std.proofs.lemmas.Bool.Decides.{nat_tests}
 use Rattle.std.proofs.lemmas.List.{append-nil}
 use Rattle.tach_media.specs.Medium.{put, bytes_at, SameOutside}
 use Rattle.tach_media.proofs.Images.{part_before, put_same, outside_same, outside_then}
-use Rattle.gated_ring.specs.Ring.{number_at, entry_at}
+use Rattle.gated_ring.specs.Ring.{number_at, pointer, entry_at}
 use Rattle.unit_model.specs.Days.{UnitDay, word_minute, day_of, Each}
 use Rattle.unit_model.specs.Decoding.{Decodes, cell_place, cell_minute, is_last_good}
 use Rattle.unit_model.specs.Image.{day_ring, slot_place, last_kept, recorded, indices, unit_days, slot_date, slot_words, words_at}
-use Rattle.unit_journal.specs.Image.{free_place, Notes, IsNotes, Agrees, with_count, IsStray, IsFoundDay, IsFound, IsFoundBy}
+use Rattle.unit_model.specs.Writing.{free_place, with_count}
+use Rattle.unit_journal.specs.Image.{Notes, IsNotes, Agrees, IsStray, IsFoundDay, IsFound, IsFoundBy}
+use Rattle.unit_journal.specs.Beside.{SameJournal}
 use Rattle.unit_journal.specs.Mends.{minute_kept, days_kept, SameButRowsAndSlots, SameButMinutes, IsGateShut, IsMendable, IsMending, IsMended, notes_mended, cells_emptied, shut, mended, IsMendStep}
-use Rattle.unit_journal.proofs.Numbers.{number_before, number_in, words_in}
-use Rattle.unit_journal.proofs.Slots.{day_at, all_days}
+use Rattle.unit_model.proofs.Numbers.{number_before, number_in, words_in}
+use Rattle.unit_model.proofs.Slots.{day_at, all_days}
 use Rattle.unit_journal.proofs.Besides.{rows_outside, slots_outside, outside_both}
 use Rattle.unit_journal.proofs.KeptDays.{kept_later}
-use Rattle.unit_journal.proofs.Checks.{IsGood, le_true, good_of, good_decodes}
-use Rattle.unit_journal.proofs.StillDecodes.{rows_good, shut_good}
+use Rattle.unit_model.proofs.Checks.{IsGood, le_true, good_of, good_decodes}
+use Rattle.unit_model.proofs.StillDecodes.{rows_good, shut_good}
 use Rattle.unit_journal.proofs.Finding.{eq_of, last_good_at}
 use Rattle.unit_journal.proofs.Emptying.{IsEmptied, emptied}
-use Rattle.unit_journal.proofs.Fronting.{rows_recorded, rows_days, rows_mendable}
+use Rattle.unit_journal.proofs.Beside.{beside, recorded_beside, days_beside, mendable_beside}
 use Rattle.unit_journal.proofs.Mending.{gate_outside, shut_pointer, shut_gate, other_there, shut_outside, shut_bytes, shut_kept, shut_odometer, shut_indices, shut_days, shut_unit_days, shut_recorded, shut_taken, other_entry, cut_outside, cut_gate, cut_still, cut_recorded, cut_days, cut_agrees, uncut_days, uncut_agrees}
 use Rattle.unit_journal.proofs.Shown.{found_agreed}
 
@@ -199,6 +201,7 @@ agrees_mended j z agrees = record {
           others = day.others;
           earlier = day.earlier;
           date = day.date;
+          few = day.few;
           count = day.count;
           low = day.low;
           driver = day.driver;
@@ -285,12 +288,20 @@ module _ (j : Notes) (ok : IsNotes j) (x : List ℕ) (sized : length x ≡ 24858
   kept_is (inr (gate, inl found)) = found.kept
   kept_is (inr (gate, inr found)) = found.kept
 
+  known_is : IsMendable j x → pointer day_ring x < 366
+  known_is (inl found) = found.pointer
+  known_is (inr (gate, inl found)) = found.pointer
+  known_is (inr (gate, inr found)) = found.pointer
+
   -- the cells
   abbrev at : ℕ → List ℕ
   at n = cells_emptied j.kept n x
 
   cells : (n : ℕ) → n ≤ 32 → IsEmptied j.kept x sized n (at n)
   cells n le = emptied j.kept x sized n le
+
+  cells_beside : (n : ℕ) → n ≤ 32 → SameJournal x (at n)
+  cells_beside n le = beside 624 384 x (at n) (inr (inl (omega arith, omega arith))) (cells n le).outside
 
   cell_as : (kept m before now : ℕ) → kept ≡ m → now ≡ minute_kept m before → now ≡ minute_kept kept before
   cell_as kept m before now same is = is ∙ ap (λ (k : ℕ). minute_kept k before) (sym same)
@@ -311,8 +322,8 @@ module _ (j : Notes) (ok : IsNotes j) (x : List ℕ) (sized : length x ≡ 24858
             (λ more. inl (c.left m more))
             (cases_lt m n);
         decodes = λ decodes. good_decodes (at n) (cells_good n le (good_of x decodes));
-        minutes = rows_recorded x (at n) 624 384 (omega arith) (omega arith) c.outside;
-        mendable = rows_mendable x (at n) 624 384 (omega arith) (omega arith) c.outside j mendable;
+        minutes = recorded_beside x (at n) (cells_beside n le) (known_is mendable);
+        mendable = mendable_beside x (at n) (cells_beside n le) j ok mendable;
       }
 
   abbrev all : List ℕ
@@ -328,7 +339,7 @@ module _ (j : Notes) (ok : IsNotes j) (x : List ℕ) (sized : length x ≡ 24858
   all_mending = mending_cells 32 (omega arith)
 
   all_days_same : unit_days all ≡ unit_days x
-  all_days_same = rows_days x all 624 384 (omega arith) (omega arith) emptied_all.outside
+  all_days_same = days_beside x all (cells_beside 32 (omega arith)) (known_is mendable)
 
   -- a step on the days leaves the rows alone
   cells_done : (c : List ℕ) → SameOutside 1028 2114016 all c → (n : ℕ) → n < 32 → cell_minute c n ≡ minute_kept (last_kept x) (cell_minute x n)
@@ -399,3 +410,14 @@ module _ (j : Notes) (ok : IsNotes j) (x : List ℕ) (sized : length x ≡ 24858
 
   pub mend_agrees : Agrees (notes_mended j) (mended j x)
   mend_agrees = agrees_mended j (mended j x) done_all.agrees
+
+-- after a `mend` no cell is later than the last-kept minute
+pub cells_mended : (x y : List ℕ) → IsMended x y → (n : ℕ) → n < 32 → cell_minute y n ≤ last_kept x
+cells_mended x y is n below = by (nat_lt (last_kept x) (cell_minute x n)) refl
+  where
+    not_more : (a b : ℕ) → nat_lt a b ≡ false → b ≤ a
+    not_more a b is = grind (arith, nat_tests)
+
+    by : (b : Bool) → nat_lt (last_kept x) (cell_minute x n) ≡ b → cell_minute y n ≤ last_kept x
+    by true late = let none : cell_minute y n ≡ 0 = is.cells n below ∙ ap (λ (b : Bool). cond {A = ℕ} b 0 (cell_minute x n)) late in omega (arith, none)
+    by false now = let same : cell_minute y n ≡ cell_minute x n = is.cells n below ∙ ap (λ (b : Bool). cond {A = ℕ} b 0 (cell_minute x n)) now in let low = not_more (last_kept x) (cell_minute x n) now in omega (arith, same, low)

@@ -12,25 +12,26 @@ use Rattle.gated_ring.specs.Ring.{indices as ring_indices, number_at, pointer, i
 use Rattle.gated_ring.proofs.Orders as orders
 use Rattle.gated_ring.proofs.Orders.{without_last}
 use Rattle.unit_model.specs.Days.{word_minute, state_at, UnitDay, day_of, days_shown, Each}
-use Rattle.unit_model.specs.Image.{day_ring, slot_place, last_kept, odometer_at, unit_day, unit_days, recorded, indices, slot_words, words_at}
-use Rattle.unit_journal.specs.Image.{free_place, Notes, IsNotes, Agrees, with_count, IsFoundDay}
+use Rattle.unit_model.specs.Image.{day_ring, slot_place, last_kept, odometer_at, unit_day, unit_days, recorded, indices, slot_words, words_at, slot_odometer}
+use Rattle.unit_model.specs.Writing.{free_place, with_count}
+use Rattle.unit_journal.specs.Image.{Notes, IsNotes, Agrees, IsFoundDay}
 use Rattle.unit_journal.specs.Mends.{days_kept}
 use Rattle.unit_journal.proofs.KeptDays.{kept_now}
-use Rattle.unit_journal.proofs.Checks.{IsGood}
-use Rattle.unit_journal.proofs.StillDecodes.{cut_good}
-use Rattle.unit_journal.proofs.Growth.{words_later, day_later}
-use Rattle.unit_memory.proofs.Scanning.{words_split}
-use Rattle.unit_journal.proofs.Numbers.{number_before, number_put2, words_after}
-use Rattle.unit_journal.proofs.Slots.{day_at, all_days, IsSlot, slot_days, same_indices, same_taken, same_days, in_slot}
+use Rattle.unit_model.proofs.Checks.{IsGood}
+use Rattle.unit_model.proofs.StillDecodes.{cut_good}
+use Rattle.unit_model.proofs.Growth.{words_later, day_later}
+use Rattle.unit_model.proofs.Words.{words_split}
+use Rattle.unit_model.proofs.Numbers.{number_before, number_put2, words_after}
+use Rattle.unit_model.proofs.Slots.{day_at, all_days, IsSlot, slot_days, same_indices, same_taken, same_days, in_slot}
 use Rattle.unit_journal.proofs.Keeping.{recorded_is}
 
 -- a count that covers fewer words
-module _ (i : ℕ) (below : i < 366) (js : List ℕ) (others : Each (λ j. (j < 366) × (j ≢ i)) js) (older : List UnitDay) (p k date n n' : ℕ) (few : n ≤ 2880) (fewer : n' ≤ n) (words words' : List ℕ) (x : List ℕ)
-    (slot : IsSlot i js older p k date n words x) (front : slot_words x i n' ≡ words') where
+module _ (i : ℕ) (below : i < 366) (js : List ℕ) (others : Each (λ j. (j < 366) × (j ≢ i)) js) (older : List UnitDay) (p k date o n n' : ℕ) (few : n ≤ 2880) (fewer : n' ≤ n) (words words' : List ℕ) (x : List ℕ)
+    (slot : IsSlot i js older p k date o n words x) (front : slot_words x i n' ≡ words') where
   count_same : SameOutside (slot_place i + 8) 2 x (with_count i n' x)
   count_same = put_outside (slot_place i + 8) (to_be_bytes w16 n') x (omega (arith, below, slot.sized))
 
-  pub slot_cut : IsSlot i js older p k date n' words' (with_count i n' x)
+  pub slot_cut : IsSlot i js older p k date o n' words' (with_count i n' x)
   unfolding last_kept
   slot_cut =
       let a = slot_place i + 8 in
@@ -44,6 +45,7 @@ module _ (i : ℕ) (below : i < 366) (js : List ℕ) (others : Each (λ j. (j < 
         next_is = same_taken i x c but ∙ slot.next_is;
         older_are = same_days i x c js but others ∙ slot.older_are;
         date_is = number_before a 2 (slot_place i) 4 x c count_same (omega arith) ∙ slot.date_is;
+        odometer_is = number_before a 2 (slot_place i + 4) 4 x c count_same (omega arith) ∙ slot.odometer_is;
         count_is = number_put2 a n' x (omega (arith, below, slot.sized)) (omega (arith, few, fewer));
         words_are = words_after a 2 (slot_place i + 16) n' x c count_same (omega arith) ∙ front;
       }
@@ -155,6 +157,9 @@ module _ (j : Notes) (ok : IsNotes j) (stored : ℕ) (x js : List ℕ) (sized : 
   abbrev date : ℕ
   date = 86400 * (j.kept / 1440)
 
+  abbrev o : ℕ
+  o = slot_odometer x i
+
   abbrev older : List UnitDay
   older = map (day_at x) js
 
@@ -170,14 +175,14 @@ module _ (j : Notes) (ok : IsNotes j) (stored : ℕ) (x js : List ℕ) (sized : 
   date_day : date / 86400 ≡ j.kept / 1440
   date_day = omega arith
 
-  slot : IsSlot i js older (pointer day_ring x) j.kept date stored (words ++ late) x
-  slot = record { sized = sized; pointer_is = refl; kept = kept; order_is = found.order_is ∙ append-nil (js ++ i ∷ []); next_is = found.next_is; older_are = refl; date_is = found.date; count_is = found.count; words_are = all_words }
+  slot : IsSlot i js older (pointer day_ring x) j.kept date o stored (words ++ late) x
+  slot = record { sized = sized; pointer_is = refl; kept = kept; order_is = found.order_is ∙ append-nil (js ++ i ∷ []); next_is = found.next_is; older_are = refl; date_is = found.date; odometer_is = refl; count_is = found.count; words_are = all_words }
 
   abbrev y : List ℕ
   y = with_count i n x
 
-  cut : IsSlot i js older (pointer day_ring x) j.kept date n words y
-  cut = slot_cut i ok.index js found.others older (pointer day_ring x) j.kept date stored n found.stored_few found.cut (words ++ late) words x slot refl
+  cut : IsSlot i js older (pointer day_ring x) j.kept date o n words y
+  cut = slot_cut i ok.index js found.others older (pointer day_ring x) j.kept date o stored n found.stored_few found.cut (words ++ late) words x slot refl
 
   few : n ≤ 2880
   few = omega (arith, found.cut, found.stored_few)
@@ -199,20 +204,20 @@ module _ (j : Notes) (ok : IsNotes j) (stored : ℕ) (x js : List ℕ) (sized : 
       (cases_lt i s)
 
   -- the days with all their words, and with those that are not later
-  all_days_are : unit_days x ≡ older ++ record { date = date; words = words ++ late } ∷ []
-  all_days_are = slot_days i ok.index js found.others older (pointer day_ring x) j.kept date stored found.stored_few (words ++ late) x slot
+  all_days_are : unit_days x ≡ older ++ record { date = date; odometer = o; words = words ++ late } ∷ []
+  all_days_are = slot_days i ok.index js found.others older (pointer day_ring x) j.kept date o stored found.stored_few (words ++ late) x slot
 
-  kept_days_are : days_kept j.kept (unit_days x) ≡ older ++ record { date = date; words = words } ∷ []
-  kept_days_are = ap (days_kept j.kept) all_days_are ∙ kept_now j.kept older date words late date_day found.earlier found.low found.late
+  kept_days_are : days_kept j.kept (unit_days x) ≡ older ++ record { date = date; odometer = o; words = words } ∷ []
+  kept_days_are = ap (days_kept j.kept) all_days_are ∙ kept_now j.kept older date o words late date_day found.earlier found.low found.late
 
   pub cut_days : unit_days y ≡ days_kept j.kept (unit_days x)
-  cut_days = slot_days i ok.index js found.others older (pointer day_ring x) j.kept date n few words y cut ∙ sym kept_days_are
+  cut_days = slot_days i ok.index js found.others older (pointer day_ring x) j.kept date o n few words y cut ∙ sym kept_days_are
 
   pub cut_recorded : recorded y ≡ recorded x
   cut_recorded =
-      recorded_is y j.kept cut.kept ∙ ap (days_shown j.kept) (slot_days i ok.index js found.others older (pointer day_ring x) j.kept date n few words y cut)
-      ∙ sym (words_later j.kept older date words late date_day found.late)
-      ∙ sym (recorded_is x j.kept kept ∙ ap (days_shown j.kept) (slot_days i ok.index js found.others older (pointer day_ring x) j.kept date stored found.stored_few (words ++ late) x slot))
+      recorded_is y j.kept cut.kept ∙ ap (days_shown j.kept) (slot_days i ok.index js found.others older (pointer day_ring x) j.kept date o n few words y cut)
+      ∙ sym (words_later j.kept older date o words late date_day found.late)
+      ∙ sym (recorded_is x j.kept kept ∙ ap (days_shown j.kept) (slot_days i ok.index js found.others older (pointer day_ring x) j.kept date o stored found.stored_few (words ++ late) x slot))
 
   pub cut_agrees : Agrees j y
   unfolding odometer_at
@@ -231,6 +236,7 @@ module _ (j : Notes) (ok : IsNotes j) (stored : ℕ) (x js : List ℕ) (sized : 
         days = found.days;
         earlier = subst (Each (λ d. day_of d < j.kept / 1440)) (sym cut.older_are) found.earlier;
         date = cut.date_is;
+        few = omega (arith, found.cut, found.stored_few);
         count = cut.count_is;
         low = subst (Each (λ w. word_minute w ≤ j.kept % 1440)) (sym cut.words_are) found.low;
         driver = ap (state_at 0 (j.kept % 1440)) cut.words_are ∙ found.driver;
@@ -242,7 +248,7 @@ module _ (j : Notes) (ok : IsNotes j) (stored : ℕ) (x js : List ℕ) (sized : 
   -- where nothing is to be cut
   pub uncut_days : stored ≡ n → unit_days x ≡ days_kept j.kept (unit_days x)
   uncut_days is =
-      slot_days i ok.index js found.others older (pointer day_ring x) j.kept date n few words x (record { sized = sized; pointer_is = refl; kept = kept; order_is = slot.order_is; next_is = slot.next_is; older_are = refl; date_is = found.date; count_is = found.count ∙ is; words_are = refl })
+      slot_days i ok.index js found.others older (pointer day_ring x) j.kept date o n few words x (record { sized = sized; pointer_is = refl; kept = kept; order_is = slot.order_is; next_is = slot.next_is; older_are = refl; date_is = found.date; odometer_is = refl; count_is = found.count ∙ is; words_are = refl })
       ∙ sym kept_days_are
 
   pub uncut_agrees : stored ≡ n → Agrees j x
@@ -261,6 +267,7 @@ module _ (j : Notes) (ok : IsNotes j) (stored : ℕ) (x js : List ℕ) (sized : 
         days = found.days;
         earlier = found.earlier;
         date = found.date;
+        few = omega (arith, found.cut, found.stored_few);
         count = found.count ∙ is;
         low = found.low;
         driver = found.driver;

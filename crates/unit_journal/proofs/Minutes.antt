@@ -5,13 +5,14 @@ use Rattle.std.proofs.lemmas.Bool.Decides.{nat_tests}
 use Rattle.std.proofs.lemmas.List.{length-map}
 use Rattle.std.proofs.lemmas.Option.{slice_get-map}
 use Rattle.unit_model.specs.Days.{word_slot, word_state, word_minute, state_by, state_after, state_at, bare, UnitMinute, minute_by, Day, day_of, minute_at, minutes_shown, day_shown, days_shown}
-use Rattle.unit_model.specs.Image.{last_kept, indices, recorded, slot_date, slot_count, slot_words}
+use Rattle.unit_model.specs.Image.{last_kept, indices, recorded, slot_date, slot_odometer, slot_count, slot_words}
 use Rattle.unit_journal.specs.Image.{Notes, IsNotes}
-use Rattle.unit_journal.specs.Reading.{AreRight, recorded_indices, covered_words, recorded_words}
-use Rattle.unit_journal.proofs.Growth.{map_range_same}
+use Rattle.unit_journal.specs.Reading.{AreRight}
+use Rattle.unit_model.specs.Image.{recorded_indices, covered_words, recorded_words}
+use Rattle.unit_model.proofs.Growth.{map_range_same}
 use Rattle.unit_journal.proofs.Keeping.{recorded_is}
 use Rattle.unit_journal.proofs.Shown.{date_in, shown}
-use Rattle.unit_journal.proofs.Slots.{day_at, day_is, all_days}
+use Rattle.unit_model.proofs.Slots.{day_at, day_is, all_days}
 
 filter_of : {X : Type 0} (p : X → Bool) (f : ℕ → X) (js : List ℕ) → filter p (map f js) ≡ map f (filter (λ j. p (f j)) js)
 filter_of p f [] = refl
@@ -21,7 +22,7 @@ filter_of {X} p f (j ∷ js) = by (filter_of p f js) (p (f j))
     by rest true = ap (λ (l : List X). f j ∷ l) rest
     by rest false = rest
 
-map_of : {X Y : Type 0} (h : X → Y) (f : ℕ → X) (js : List ℕ) → map h (map f js) ≡ map (λ j. h (f j)) js
+pub map_of : {X Y : Type 0} (h : X → Y) (f : ℕ → X) (js : List ℕ) → map h (map f js) ≡ map (λ j. h (f j)) js
 map_of h f [] = refl
 map_of {X} {Y} h f (j ∷ js) = ap (λ (l : List Y). h (f j) ∷ l) (map_of h f js)
 
@@ -62,6 +63,9 @@ module _ (x : List ℕ) (i : ℕ) (few : slot_count x i ≤ 2880) where
   abbrev date : ℕ
   date = slot_date x i
 
+  abbrev o : ℕ
+  o = slot_odometer x i
+
   abbrev all : List ℕ
   all = slot_words x i (slot_count x i)
 
@@ -69,7 +73,7 @@ module _ (x : List ℕ) (i : ℕ) (few : slot_count x i ≤ 2880) where
   covered = ap (slot_words x i) (let e : min (slot_count x i) 2880 ≡ slot_count x i = omega (arith, few) in e)
 
   abbrev Shows : Bool → Type 0
-  Shows b = day_shown k (record { date = date; words = all }) ≡ day_shown k (record { date = date; words = cond b (filter (λ w. nat_le (word_minute w) (k % 1440)) all) all })
+  Shows b = day_shown k (record { date = date; odometer = o; words = all }) ≡ day_shown k (record { date = date; odometer = o; words = cond b (filter (λ w. nat_le (word_minute w) (k % 1440)) all) all })
 
   same : (b : Bool) → (date / 86400 == k / 1440) ≡ b → Shows b
   same false is = refl
@@ -78,18 +82,18 @@ module _ (x : List ℕ) (i : ℕ) (few : slot_count x i ≤ 2880) where
       let n_is : minutes_shown k (date / 86400) ≡ k % 1440 + 1 = ap (λ (b : Bool). cond b (k % 1440 + 1) 1440) is in
       let state_is : (slot t : ℕ) → t ≤ k % 1440 → state_at slot t all ≡ state_at slot t low = λ slot t le. sym (state_without slot t (k % 1440) bare all le) in
       ap (λ (l : List UnitMinute). let d : Day = record { day = date / 86400; minutes = l } in d)
-      (map_range_same (minute_at (record { date = date; words = all })) (minute_at (record { date = date; words = low })) 0 (minutes_shown k (date / 86400))
+      (map_range_same (minute_at (record { date = date; odometer = o; words = all })) (minute_at (record { date = date; odometer = o; words = low })) 0 (minutes_shown k (date / 86400))
       (λ t from to. let le : t ≤ k % 1440 = omega (arith, to, n_is) in λ q. minute_by (1440 * (date / 86400) + t) (state_is 0 t le q) (state_is 1 t le q)))
 
   -- a day by its recorded words
-  pub day_by_words : day_shown k (day_at x i) ≡ day_shown k (record { date = date; words = recorded_words x i })
+  pub day_by_words : day_shown k (day_at x i) ≡ day_shown k (record { date = date; odometer = o; words = recorded_words x i })
   day_by_words =
       ap (day_shown k) (day_is x i (slot_count x i) refl few) ∙ same (date / 86400 == k / 1440) refl
-      ∙ ap (λ (l : List ℕ). day_shown k (record { date = date; words = cond (date / 86400 == k / 1440) (filter (λ w. nat_le (word_minute w) (k % 1440)) l) l })) (sym covered)
+      ∙ ap (λ (l : List ℕ). day_shown k (record { date = date; odometer = o; words = cond (date / 86400 == k / 1440) (filter (λ w. nat_le (word_minute w) (k % 1440)) l) l })) (sym covered)
 
 -- the n-th recorded day, by its recorded words
 pub recorded_at : (x : List ℕ) (n i : ℕ) → slice_get (recorded_indices x) n ≡ Some i → slot_count x i ≤ 2880
-    → slice_get (recorded x) n ≡ Some (day_shown (last_kept x) (record { date = slot_date x i; words = recorded_words x i }))
+    → slice_get (recorded x) n ≡ Some (day_shown (last_kept x) (record { date = slot_date x i; odometer = slot_odometer x i; words = recorded_words x i }))
 recorded_at x n i is few =
     ap (λ (l : List Day). slice_get l n) (recorded_are x) ∙ slice_get-map (λ i. day_shown (last_kept x) (day_at x i)) (recorded_indices x) n
     ∙ ap (option_map (λ i. day_shown (last_kept x) (day_at x i))) is ∙ ap Some (day_by_words x i few)

@@ -1,12 +1,12 @@
 -- What the writes of words and their count leave on the way.
-use Rattle.std.proofs.Common.{◌≡◌, ◌⊎◌, inl, inr, ⊎_elim, ℕ, ◌+◌, ◌-◌, ◌*◌, ◌<◌, ◌≤◌, List, [], ◌∷◌, ◌++◌, length, refl, sym, ◌∙◌, ap, subst, arith}
+use Rattle.std.proofs.Common.{◌≡◌, ◌⊎◌, inl, inr, ℕ, ◌+◌, ◌-◌, ◌*◌, ◌<◌, ◌≤◌, List, [], ◌∷◌, length, refl, ◌∙◌, ap, subst, arith}
 use Rattle.std.specs.Int.{to_be_bytes, w16}
 use Rattle.std.specs.List.{AllByRecursion}
 use Rattle.tach_media.specs.Medium.{put, IsPartlyWritten}
 use Rattle.write_plan.specs.Plan.{Piece, piece, IsInside, put_all, IsPartway}
 use Rattle.write_plan.proofs.Plans.{put_all-append, partway_either, partway_outside}
 use Rattle.unit_model.specs.Image.{slot_place}
-use Rattle.unit_journal.specs.Image.{free_place, written, with_count, with_words, with_kept, DiffersBehind}
+use Rattle.unit_model.specs.Writing.{free_place, written, with_count, with_words, with_kept, DiffersBehind}
 use Rattle.unit_journal.specs.Plans.{word_pieces, counted, mark, beginning}
 
 pub words_put : (place : ℕ) (ws x : List ℕ) → put_all (word_pieces place ws) x ≡ written place ws x

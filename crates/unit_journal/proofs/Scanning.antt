@@ -9,9 +9,9 @@ use Rattle.unit_memory.specs.declared.words.Scan.{Scan}
 use Rattle.std.proofs.lemmas.List.FromFn.{length-map-range_with_len}
 use Rattle.gated_ring.specs.Ring.{number_at}
 use Rattle.unit_model.specs.Image.{slot_place, slot_words, words_at}
-use Rattle.unit_journal.specs.Image.{free_place}
-use Rattle.unit_memory.proofs.Scanning.{words_split}
-use Rattle.unit_journal.proofs.States.{state_after_append, each_append}
+use Rattle.unit_model.specs.Writing.{free_place}
+use Rattle.unit_model.proofs.Words.{words_split}
+use Rattle.unit_model.proofs.States.{state_after_append, each_append}
 
 -- What holds of the words that were scanned: those not later come first, and the states are those after them.
 pub record IsScanned (kept : ℕ) (words : List ℕ) (s : Scan) : Type 0 where

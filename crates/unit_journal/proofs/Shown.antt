@@ -13,11 +13,13 @@ use Rattle.gated_ring.specs.Ring.{number_at, entry_at}
 use Rattle.gated_ring.proofs.Orders.{filter_last, filter_none}
 use Rattle.unit_model.specs.Days.{day_of, word_minute, Each}
 use Rattle.unit_model.specs.Image.{last_kept, day_ring, slot_place, unit_day, slot_date, slot_count, slot_words, words_at}
-use Rattle.unit_journal.specs.Image.{Notes, IsNotes, Agrees, IsFound, IsFoundDay, IsStray, stray_list, behind_index, free_place}
-use Rattle.unit_journal.specs.Reading.{AreRight, recorded_indices, covered_words, recorded_words, nth_index}
-use Rattle.unit_memory.proofs.Scanning.{words_split}
-use Rattle.unit_journal.proofs.Numbers.{number_in}
-use Rattle.unit_journal.proofs.Turning.{behind_length}
+use Rattle.unit_journal.specs.Image.{Notes, IsNotes, Agrees, IsFound, IsFoundDay, IsStray, stray_list}
+use Rattle.unit_model.specs.Writing.{behind_index, free_place}
+use Rattle.unit_journal.specs.Reading.{AreRight, nth_index}
+use Rattle.unit_model.specs.Image.{recorded_indices, covered_words, recorded_words}
+use Rattle.unit_model.proofs.Words.{words_split}
+use Rattle.unit_model.proofs.Numbers.{number_in}
+use Rattle.unit_model.proofs.Turning.{behind_length}
 
 le_true : (a b : ℕ) → a ≤ b → nat_le a b ≡ true
 le_true a b is = grind (arith, nat_tests)

@@ -1,5 +1,5 @@
 -- In an image that decodes each recorded day begins at its date, and its count is in range.
-use Rattle.std.proofs.Common.{◌≡◌, ◌≢◌, ℕ, ◌/◌, ◌%◌, ◌<◌, Bool, true, false, cond, List, [], ◌∷◌, length, map, filter, Some, None, refl, sym, ◌∙◌, ap, arith}
+use Rattle.std.proofs.Common.{◌≡◌, ◌≢◌, ℕ, ◌/◌, ◌%◌, ◌<◌, ◌≤◌, min, Bool, true, false, cond, List, [], ◌∷◌, length, map, filter, Some, None, refl, sym, ◌∙◌, ap, arith}
 use Rattle.std.specs.Prelude.{◌==◌, ◌&&◌, nat_le, nat_lt, All, slice_index_or, slice_get}
 use Rattle.std.specs.List.{list_all}
 use Rattle.std.proofs.lemmas.Bool.Decides.{nat_tests}
@@ -9,13 +9,16 @@ use Rattle.gated_ring.specs.Ring.{pointer, is_there, next, order, indices as rin
 use Rattle.gated_ring.proofs.Orders as orders
 use Rattle.gated_ring.proofs.Orders.{order_each, next_below}
 use Rattle.unit_model.specs.Days.{Day, day_shown, Each}
-use Rattle.unit_model.specs.Image.{last_kept, day_ring, indices, recorded, slot_date}
-use Rattle.unit_model.specs.Decoding.{Check, first_failing, first_bad_place, checks, Decodes, indices_before}
+use Rattle.unit_model.specs.Image.{last_kept, day_ring, indices, recorded, slot_date, slot_odometer}
+use Rattle.unit_model.specs.Decoding.{Check, first_failing, first_bad_place, checks, day_checks, Decodes, indices_before}
 use Rattle.unit_memory.proofs.Decoded.{IsDecoded, IsGoodSlot, decoded}
-use Rattle.unit_journal.specs.Reading.{recorded_indices, IsOfDate}
+use Rattle.unit_model.specs.Image.{recorded_indices}
+use Rattle.unit_journal.specs.Reading.{IsOfDate}
 use Rattle.unit_journal.proofs.Minutes.{recorded_are, recorded_length}
 use Rattle.unit_journal.proofs.Shown.{date_in, each_get}
-use Rattle.unit_journal.proofs.Slots.{day_at}
+use Rattle.unit_model.proofs.Slots.{day_at}
+use Rattle.unit_model.proofs.Checks.{le_of, good_of}
+use Rattle.unit_model.proofs.StillDecodes.{day_split}
 
 none_fails : (cs : List Check) → list_all (λ c. c.passes) cs ≡ true → first_failing cs ≡ None
 none_fails [] all = refl
@@ -65,10 +68,20 @@ module _ (x : List ℕ) (ok : IsDecoded x) where
   pub good_slot : (n i : ℕ) → slice_get (recorded_indices x) n ≡ Some i → IsGoodSlot x i
   good_slot n i is = let slot = each_get (IsSlot x) (recorded_indices x) n i recorded_each is in ok.slots i slot.0 slot.1
 
-  pub date_whole : (n i : ℕ) → slice_get (recorded_indices x) n ≡ Some i → slot_date x i % 86400 ≡ 0
-  date_whole n i is = zero_of (slot_date x i % 86400)
+  whole_at : (i : ℕ) → IsSlot x i → slot_date x i % 86400 ≡ 0
+  whole_at i slot = zero_of (slot_date x i % 86400)
       (first_of (slot_date x i % 86400 == 0) (list_all (λ d. nat_lt d (slot_date x i)) (map (slot_date x) (indices_before x i))
-      && (Rattle.std.specs.Prelude.◌||◌ (nat_le (slot_date x i / 86400) (last_kept x / 1440)) (list_all (λ d. nat_le (d / 86400) (last_kept x / 1440)) (map (slot_date x) (indices_before x i))))) (good_slot n i is).date)
+      && (Rattle.std.specs.Prelude.◌||◌ (nat_le (slot_date x i / 86400) (last_kept x / 1440)) (list_all (λ d. nat_le (d / 86400) (last_kept x / 1440)) (map (slot_date x) (indices_before x i))))) (ok.slots i slot.0 slot.1).date)
+
+  pub date_whole : (n i : ℕ) → slice_get (recorded_indices x) n ≡ Some i → slot_date x i % 86400 ≡ 0
+  date_whole n i is = whole_at i (each_get (IsSlot x) (recorded_indices x) n i recorded_each is)
+
+  pub dates_whole : Each (λ i. slot_date x i % 86400 ≡ 0) (recorded_indices x)
+  dates_whole = by (recorded_indices x) recorded_each
+    where
+      by : (js : List ℕ) → Each (IsSlot x) js → Each (λ i. slot_date x i % 86400 ≡ 0) js
+      by [] all = tt
+      by (i ∷ js) all = (whole_at i all.0, by js all.1)
 
   -- where no recorded day has a date, no recorded day is its day
   pub no_such_day : (date : ℕ) → date % 86400 ≡ 0 → IsOfDate x date None → All (λ d. d.day ≢ date / 86400) (recorded x)
@@ -81,3 +94,12 @@ module _ (x : List ℕ) (ok : IsDecoded x) where
       ap (λ (l : List Day). (slice_index_or l n d).day) (recorded_are x) ∙ ap (λ (e : Day). e.day) (get_or-map f (recorded_indices x) n 0 d below)
       ∙ ap (λ (k : ℕ). k / 86400) (date_in x i) in
       λ same. none n 0 below (omega (arith, day_is, same, whole, date_whole n i at))
+
+-- and no recorded day has a higher odometer than the highest
+pub odometer_whole : (x : List ℕ) → Decodes x → (n i : ℕ) → slice_get (recorded_indices x) n ≡ Some i → min (slot_odometer x i) 9999999 ≡ slot_odometer x i
+odometer_whole x decodes n i is =
+    let slot = each_get (IsSlot x) (recorded_indices x) n i (recorded_each x (decoded_of x decodes)) is in
+    let good = good_of x decodes in
+    let passes = day_split x i (sym (ap (λ (b : Bool). list_all (λ c. c.passes) (cond b (day_checks x i) [])) slot.1) ∙ good.slots i slot.0) in
+    let low : slot_odometer x i ≤ 9999999 = le_of (slot_odometer x i) 9999999 passes.odometer in
+    omega (arith, low)

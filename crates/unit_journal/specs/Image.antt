@@ -1,15 +1,16 @@
 -- What a journal keeps of the image of its unit, and what its calls leave there.
 use Rattle.std.specs.Option.{ForSome}
-use Rattle.std.specs.Prelude.{nat_le, Option, Some, None, MatchOption, replicate, if◌then◌else◌, ◌==◌, ◌≡◌, ◌≢◌, ◌⊎◌, ℕ, suc, ◌+◌, ◌-◌, ◌*◌, ◌/◌, ◌%◌, ◌<◌, ◌≤◌, List, [], ◌∷◌, ◌++◌, length, take, drop, map}
-use Rattle.std.specs.List.{range_with_len}
+use Rattle.std.specs.Prelude.{IsTrue, nat_le, Option, Some, None, MatchOption, replicate, if◌then◌else◌, ◌==◌, ◌≡◌, ◌≢◌, ◌⊎◌, ℕ, suc, ◌+◌, ◌-◌, ◌*◌, ◌/◌, ◌%◌, ◌<◌, ◌≤◌, List, [], ◌∷◌, ◌++◌, length, take, drop, map}
 use Rattle.std.specs.Int.{to_be_bytes, w16, w32}
-use Rattle.tach_media.specs.Medium.{put, bytes_at, SameOutside, IsPartlyWritten}
-use Rattle.gated_ring.specs.Ring.{Shape, pointer, entry_at, next, taken}
-use Rattle.gated_ring.specs.Change.{IsAdding, IsAdded}
-use Rattle.unit_model.specs.Days.{word_minute, state_at, UnitMinute, day_of, filled, newest_of, bare, word_of, Each}
+use Rattle.tach_media.specs.Medium.{bytes_at}
+use Rattle.gated_ring.specs.Ring.{Shape, pointer, entry_at, next, taken, newest_of}
+use Rattle.gated_ring.specs.Change.{IsAdded}
+use Rattle.unit_model.specs.Days.{word_minute, state_at, UnitMinute, day_of, word_of, Each}
+use Rattle.unit_model.specs.Retention.{retained, begins_day}
 use Rattle.unit_model.specs.Decoding.{Decodes}
-use Rattle.unit_model.specs.Image.{day_ring, slot_place, last_kept, odometer_at, words_at, unit_day, indices, recorded, slot_date, slot_count, slot_words}
-use Rattle.unit_journal.specs.Changes.{new_words, changes, first_state}
+use Rattle.unit_model.specs.Image.{day_ring, last_kept, odometer_at, words_at, unit_day, unit_heads, indices, recorded, slot_date, slot_count, slot_words}
+use Rattle.unit_model.specs.Writing.{behind_index, free_place, with_kept, with_words}
+use Rattle.unit_model.specs.Changes.{new_words, changes, first_state}
 
 -- What a journal keeps of the image: the last-kept minute, the odometer, and of the last-kept minute's day its slot's index,
 -- how many words it has, and the bits of the states after them. As it was found: the index of a later day, and the stored count.
@@ -38,10 +39,6 @@ pub record IsNotes (j : Notes) : Type 0 where
   pub day_count : j.day_count ≤ 366
   pub no_day : j.kept ≡ 0 → j.day_count ≡ 0
 
--- the indices behind one, round to it
-abbrev pub behind_index : ℕ → List ℕ
-behind_index i = range_with_len (i + 1) (366 - (i + 1)) ++ range_with_len 0 i
-
 -- The newest slot is that of the last-kept minute's day, behind these others, and the notes on it are right.
 pub record IsNewestDay (j : Notes) (x older : List ℕ) : Type 0 where
   pub order_is : indices x ≡ older ++ j.index ∷ []
@@ -52,6 +49,7 @@ pub record IsNewestDay (j : Notes) (x older : List ℕ) : Type 0 where
   pub days : suc (length older) ≡ j.day_count
   pub earlier : Each (λ d. day_of d < j.kept / 1440) (map (λ i. unit_day (entry_at day_ring x i)) older)
   pub date : slot_date x j.index ≡ 86400 * (j.kept / 1440)
+  pub few : j.count ≤ 2880
   pub count : slot_count x j.index ≡ j.count
   pub low : Each (λ w. word_minute w ≤ j.kept % 1440) (slot_words x j.index j.count)
   pub driver : state_at 0 (j.kept % 1440) (slot_words x j.index j.count) ≡ j.driver
@@ -65,19 +63,6 @@ pub record Agrees (j : Notes) (x : List ℕ) : Type 0 where
   pub none : j.kept ≡ 0 → indices x ≡ []
   pub newest : 0 < j.kept → (older : List ℕ) × IsNewestDay j x older
 
--- an image with words from a place on
-abbrev pub written : ℕ → List ℕ → List ℕ → List ℕ
-written place [] image = image
-written place (w ∷ ws) image = written (place + 2) ws (put place (to_be_bytes w16 w) image)
-
--- the room behind the words of a slot that its count covers
-abbrev pub free_place : (index count : ℕ) → ℕ
-free_place i count = slot_place i + 16 + 2 * count
-
--- images that differ in that room alone
-abbrev pub DiffersBehind : (index count : ℕ) → List ℕ → List ℕ → Type 0
-DiffersBehind i count x c = SameOutside (free_place i count) (5760 - 2 * count) x c
-
 -- nothing but the last-kept minute, the odometer and the days may have changed
 pub record SameBesides (x c : List ℕ) : Type 0 where
   pub before : take 564 c ≡ take 564 x
@@ -87,41 +72,45 @@ pub record SameBesides (x c : List ℕ) : Type 0 where
 
 -- The oldest of 366 days is gone before a minute that begins a further one.
 pub record IsGivenUp (k : UnitMinute) (x c : List ℕ) : Type 0 where
-  pub further : length (filled (recorded x) k) ≡ 367
+  pub full : length (recorded x) ≡ 366
+  pub begins : IsTrue (begins_day (k.minute ∷ []) (recorded x))
   pub newest : recorded c ≡ newest_of 365 (recorded x)
 
--- the odometer is written first: with the old one the last-kept minute is the old one too
-abbrev pub IsFront : (minute odometer : ℕ) → List ℕ → List ℕ → Type 0
-IsFront minute odometer x c =
-    ((odometer_at c ≡ odometer_at x) × (last_kept c ≡ last_kept x))
-    ⊎ ((odometer_at c ≡ odometer) × ((last_kept c ≡ last_kept x) ⊎ (last_kept c ≡ minute)))
+-- A moment before the mark is written: the last-kept minute is the old one, and so are the recorded days, their oldest gone
+-- where it makes room.
+pub record IsBeforeMark (k : UnitMinute) (odometer : ℕ) (x c : List ℕ) : Type 0 where
+  pub last : last_kept c ≡ last_kept x
+  pub odometer_is : (odometer_at c ≡ odometer_at x) ⊎ (odometer_at c ≡ odometer)
+  pub minutes : (recorded c ≡ recorded x) ⊎ IsGivenUp k x c
 
--- a moment of a `keep`: the recorded days are the old ones, the oldest gone where it makes room, or those with the minute
+-- and behind it: the last-kept minute is the new one, the odometer is its, and the recorded days are those with it
+pub record IsBehindMark (k : UnitMinute) (odometer : ℕ) (x c : List ℕ) : Type 0 where
+  pub last : last_kept c ≡ k.minute
+  pub odometer_is : odometer_at c ≡ odometer
+  pub minutes : recorded c ≡ retained (recorded x) k
+
+-- The dates and odometers of the days that are there: as they were, or where a further day is begun those of the newest 365,
+-- or with its own.
+abbrev pub AreHeads : (minute odometer : ℕ) → List ℕ → List ℕ → Type 0
+AreHeads minute odometer x c =
+    (unit_heads c ≡ unit_heads x)
+    ⊎ ((last_kept x / 1440 < minute / 1440)
+    × ((unit_heads c ≡ newest_of 365 (unit_heads x)) ⊎ (unit_heads c ≡ newest_of 366 (unit_heads x ++ (86400 * (minute / 1440), odometer) ∷ []))))
+
+-- a moment of a `keep`: the mark tells which days are recorded
 pub record IsKeeping (k : UnitMinute) (odometer : ℕ) (x c : List ℕ) : Type 0 where
-  pub front : IsFront k.minute odometer x c
+  pub side : IsBeforeMark k odometer x c ⊎ IsBehindMark k odometer x c
+  pub heads : AreHeads k.minute odometer x c
   pub outside : SameBesides x c
-  pub minutes : (recorded c ≡ recorded x) ⊎ (IsGivenUp k x c ⊎ (recorded c ≡ newest_of 366 (filled (recorded x) k)))
   -- and it still decodes
   pub decodes : Decodes x → Decodes c
 
 -- after a `keep`
 pub record IsKept (k : UnitMinute) (x y : List ℕ) : Type 0 where
+  pub last : last_kept y ≡ k.minute
   pub outside : SameBesides x y
-  pub minutes : recorded y ≡ newest_of 366 (filled (recorded x) k)
+  pub minutes : recorded y ≡ retained (recorded x) k
   pub decodes : Decodes x → Decodes y
-
--- the image after a `keep` on the day of the last-kept minute, and what its writes leave
-abbrev pub with_odometer : ℕ → List ℕ → List ℕ
-with_odometer odometer x = put 568 (to_be_bytes w32 odometer) x
-
-abbrev pub with_count : (index count : ℕ) → List ℕ → List ℕ
-with_count i count x = put (slot_place i + 8) (to_be_bytes w16 count) x
-
-abbrev pub with_kept : ℕ → List ℕ → List ℕ
-with_kept minute x = put 564 (to_be_bytes w32 minute) x
-
-abbrev pub with_words : (index count : ℕ) → List ℕ → List ℕ → List ℕ
-with_words i count ws x = with_count i (count + length ws) (written (free_place i count) ws x)
 
 -- the words of a minute on the day that the notes are of
 abbrev pub words_on : Notes → (minute driver codriver : ℕ) → List ℕ

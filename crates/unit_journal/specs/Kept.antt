@@ -1,10 +1,11 @@
 -- A minute that is kept: CREW is where both slots have a present card (Annex IB, section III).
-use Rattle.std.specs.Prelude.{ℕ, ◌+◌, ◌*◌, Bool, not, ◌&&◌}
+use Rattle.std.specs.Prelude.{ℕ, List, ◌+◌, ◌*◌, Bool, not, ◌&&◌}
 use Rattle.activity_codec.specs.declared.values.Activity.{Activity}
 use Rattle.activity_codec.specs.Words.{bit, activity_number}
 use Rattle.view_model.specs.declared.State.{State}
 use Rattle.unit_model.specs.Days.{UnitMinute}
 use Rattle.unit_journal.specs.declared.kept.KeptMinute.{KeptMinute}
+use Rattle.unit_journal.specs.DaysWith.{HasDays}
 
 abbrev pub is_crew : KeptMinute → Bool
 is_crew k = k.driver.present && k.codriver.present
@@ -18,3 +19,7 @@ bits_by act present crew = 8 * bit crew + 4 * bit (not present) + activity_numbe
 
 abbrev pub bits_of : State → Bool → ℕ
 bits_of s crew = bits_by s.act s.present crew
+
+-- what a `keep` of this minute leaves in the day slots
+abbrev pub HasDaysWith : KeptMinute → List ℕ → List ℕ → Type 0
+HasDaysWith k x y = HasDays k.minute (bits_of k.driver (is_crew k)) (bits_of k.codriver (is_crew k)) k.odometer.0 x y

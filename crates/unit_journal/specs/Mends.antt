@@ -5,7 +5,8 @@ use Rattle.unit_model.specs.declared.layout.TheConstants.{OWED, OWED_ROW_SIZE, R
 use Rattle.unit_model.specs.Days.{UnitDay, day_of, word_minute}
 use Rattle.unit_model.specs.Decoding.{Decodes, cell_place, cell_minute, cell_word}
 use Rattle.unit_model.specs.Image.{slot_place, last_kept, unit_days, recorded}
-use Rattle.unit_journal.specs.Image.{Notes, IsFound, IsFoundBy, with_count}
+use Rattle.unit_journal.specs.Image.{Notes, IsFound, IsFoundBy}
+use Rattle.unit_model.specs.Writing.{with_count}
 
 -- what an owed row has before its cells: the session time and the card number
 abbrev pub row_head : List ℕ → ℕ → List ℕ
@@ -17,7 +18,7 @@ minute_kept kept minute = if nat_lt kept minute then 0 else minute
 
 -- the words of the last-kept minute's day that are not later
 abbrev pub day_kept : ℕ → UnitDay → UnitDay
-day_kept kept d = if day_of d == kept / 1440 then record { date = d.date; words = filter (λ w. nat_le (word_minute w) (kept % 1440)) d.words } else d
+day_kept kept d = if day_of d == kept / 1440 then record { date = d.date; odometer = d.odometer; words = filter (λ w. nat_le (word_minute w) (kept % 1440)) d.words } else d
 
 -- the days not later than that of the last-kept minute, without later words
 abbrev pub days_kept : ℕ → List UnitDay → List UnitDay

@@ -6,8 +6,9 @@ use Rattle.gated_ring.specs.Ring.{taken}
 use Rattle.gated_ring.specs.Change.{IsAdding, IsAdded}
 use Rattle.unit_model.specs.Days.{bare}
 use Rattle.unit_model.specs.Image.{day_ring, slot_place}
-use Rattle.unit_journal.specs.Changes.{changes}
-use Rattle.unit_journal.specs.Image.{Notes, free_place, words_on, new_head, further}
+use Rattle.unit_model.specs.Changes.{changes}
+use Rattle.unit_journal.specs.Image.{Notes, words_on, new_head, further}
+use Rattle.unit_model.specs.Writing.{free_place}
 
 -- words, from a place on
 abbrev pub word_pieces : ℕ → List ℕ → List Piece

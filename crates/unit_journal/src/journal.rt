@@ -7,7 +7,8 @@ ghost use Rattle.write_plan.specs.Plan.{PutsAll, more, none};
 ghost use Rattle.unit_journal.specs.Plans.{going, turning, IsBeginning};
 ghost use Rattle.unit_journal.specs.Mends.{IsMendable, IsMending, IsMended, HasNothingLater, notes_mended, mended, IsMendStep};
 ghost use Rattle.unit_model.specs.Image.{IsUnit};
-ghost use Rattle.unit_journal.specs.Kept.{kept_minute};
+ghost use Rattle.unit_journal.specs.Kept.{kept_minute, HasDaysWith};
+ghost use Rattle.unit_journal.specs.DaysWith.{HasDays};
 ghost use Rattle.gated_ring.specs.Ring.{pointer, taken};
 
 mod reading;
@@ -118,14 +119,17 @@ impl Journal {
 
     /// The last-kept minute, 0 for none.
     pub fn last_kept(&self) -> u32
-        ensures { result ≡ self.now.kept }
+        ensures kept { result ≡ self.now.kept }
+        ensures few { result ≤ 71582788 }
+        ensures shape { IsNotes self.now }
     {
         self.kept
     }
 
     /// The stored odometer, in kilometres.
     pub fn odometer(&self) -> Odometer
-        ensures { result.0 ≡ self.now.odometer }
+        ensures odometer { result.0 ≡ self.now.odometer }
+        ensures few { result.0 ≤ 9999999 }
     {
         Odometer(self.odometer)
     }
@@ -200,6 +204,7 @@ impl Journal {
         ensures same { OnErr result (self.new ≡ self.old) }
         ensures agrees { OnOk result (IfSome (M.state unit.new).image (Agrees self.new)) }
         ensures kept { OnOk result (IfSome (M.state unit.old).image (λ x. IfSome (M.state unit.new).image (IsKept (minute_by minute driver codriver) x))) }
+        ensures days { OnOk result (IfSome (M.state unit.old).image (λ x. IfSome (M.state unit.new).image (HasDays minute driver codriver odometer x))) }
         ensures moments { LeavesOnly (M.state unit.old) (M.state unit.new) (IsKeeping (minute_by minute driver codriver) odometer) }
         ensures settled { OnOk result ((M.state unit.new).clock < last_count → IsSettled (M.state unit.new)) }
         ensures cause { HasCause (M.state unit.old) (M.state unit.new) (is_err result) }
@@ -299,6 +304,7 @@ impl Journal {
         ensures same { OnErr result (self.new ≡ self.old) }
         ensures agrees { OnOk result (IfSome (M.state unit.new).image (Agrees self.new)) }
         ensures kept { OnOk result (IfSome (M.state unit.old).image (λ x. IfSome (M.state unit.new).image (IsKept (minute_by minute driver codriver) x))) }
+        ensures days { OnOk result (IfSome (M.state unit.old).image (λ x. IfSome (M.state unit.new).image (HasDays minute driver codriver odometer x))) }
         ensures moments { LeavesOnly (M.state unit.old) (M.state unit.new) (IsKeeping (minute_by minute driver codriver) odometer) }
         ensures settled { OnOk result ((M.state unit.new).clock < last_count → IsSettled (M.state unit.new)) }
         ensures cause { HasCause (M.state unit.old) (M.state unit.new) (is_err result) }
@@ -329,6 +335,7 @@ impl Journal {
         ensures same { OnErr result (self.new ≡ self.old) }
         ensures agrees { OnOk result (IfSome (M.state unit.new).image (Agrees self.new)) }
         ensures kept { OnOk result (IfSome (M.state unit.old).image (λ x. IfSome (M.state unit.new).image (IsKept (minute_by minute driver codriver) x))) }
+        ensures days { OnOk result (IfSome (M.state unit.old).image (λ x. IfSome (M.state unit.new).image (HasDays minute driver codriver odometer x))) }
         ensures moments { LeavesOnly (M.state unit.old) (M.state unit.new) (IsKeeping (minute_by minute driver codriver) odometer) }
         ensures settled { OnOk result ((M.state unit.new).clock < last_count → IsSettled (M.state unit.new)) }
         ensures cause { HasCause (M.state unit.old) (M.state unit.new) (is_err result) }
@@ -341,9 +348,10 @@ impl Journal {
 
     /// Keeps a minute: of the recorded days with it the newest 366 are retained, and a minute of its day that was not kept
     /// before stands as no card, rest, single. The odometer is written first and the last-kept minute last, which counts.
+    /// A slot of which nothing has changed gets no word; a day that is begun has the odometer of its first minute.
     ///
     /// A stop at a moment of the call leaves the days before, their oldest gone where a further day begins, or the days
-    /// with the minute. After an error the journal is as it was.
+    /// with the minute: the last-kept minute tells which. After an error the journal is as it was.
     pub fn keep<M: Medium>(&mut self, unit: &mut M, kept: &KeptMinute) -> Result<(), Failed>
         requires unit { IsUnit (M.state unit.old) }
         requires agrees { IfSome (M.state unit.old).image (Agrees self.old) }
@@ -355,6 +363,7 @@ impl Journal {
         ensures same { OnErr result (self.new ≡ self.old) }
         ensures agrees { OnOk result (IfSome (M.state unit.new).image (Agrees self.new)) }
         ensures kept { OnOk result (IfSome (M.state unit.old).image (λ x. IfSome (M.state unit.new).image (IsKept (kept_minute kept.now) x))) }
+        ensures days { OnOk result (IfSome (M.state unit.old).image (λ x. IfSome (M.state unit.new).image (HasDaysWith kept.now x))) }
         ensures moments { LeavesOnly (M.state unit.old) (M.state unit.new) (IsKeeping (kept_minute kept.now) kept.now.odometer.0) }
         ensures settled { OnOk result ((M.state unit.new).clock < last_count → IsSettled (M.state unit.new)) }
         ensures cause { HasCause (M.state unit.old) (M.state unit.new) (is_err result) }

@@ -2,8 +2,9 @@ ghost use Rattle.std.specs.Prelude.{◌≡◌, ◌≤◌, ◌<◌, ◌+◌, ◌*
 ghost use Rattle.std.specs.Int.{to_be_bytes, w16};
 ghost use Rattle.write_plan.specs.Plan.{more, piece};
 ghost use Rattle.unit_model.specs.Image.{slot_place};
-ghost use Rattle.unit_journal.specs.Changes.{change, changes, new_words};
-ghost use Rattle.unit_journal.specs.Image.{free_place, further};
+ghost use Rattle.unit_model.specs.Changes.{change, changes, new_words};
+ghost use Rattle.unit_model.specs.Writing.{free_place};
+ghost use Rattle.unit_journal.specs.Image.{further};
 ghost use Rattle.unit_journal.specs.Plans.{word_pieces, beginning};
 
 use crate::words::{BARE, first};

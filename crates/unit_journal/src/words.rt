@@ -1,5 +1,5 @@
 ghost use Rattle.std.specs.Prelude.{◌≡◌, ◌≤◌, ◌<◌, ◌+◌, ◌*◌, ◌-◌, length, IfOk, OnOk, IfSome, is_err, option_map, true};
-ghost use Rattle.unit_journal.specs.Changes.{first_state};
+ghost use Rattle.unit_model.specs.Changes.{first_state};
 ghost use Rattle.unit_journal.specs.Image.{head_of, new_head};
 
 /// No card, rest, single.

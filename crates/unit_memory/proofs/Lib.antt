@@ -7,3 +7,4 @@ pub mod WordLaws
 pub mod WalkLaws
 pub mod JudgeLaws
 pub mod Decoded
+pub mod NewIdentity

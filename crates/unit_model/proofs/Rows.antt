@@ -1,9 +1,11 @@
 -- Worked rows, computed.
-use Rattle.std.proofs.Common.{◌≡◌, ℕ, List, [], ◌∷◌, replicate, refl, true, false, Some, None}
+use Rattle.std.proofs.Common.{◌≡◌, inl, inr, ℕ, ◌+◌, ◌*◌, List, [], ◌∷◌, map, drop, replicate, refl, true, false, Some, None}
 use Rattle.activity_codec.specs.declared.values.Activity.{Activity}
 use Rattle.unit_model.specs.declared.layout.TheConstants.{IMAGE_SIZE, DAY_SLOT_SIZE, OWED_ROW_SIZE, CELL_SIZE}
 use Rattle.unit_model.specs.Layout.{image_fields, slot_fields, row_fields, cell_fields, are_adjacent}
-use Rattle.unit_model.specs.Days.{days_shown, filled_all, minute_by, unknown_minute, minutes_of}
+use Rattle.std.specs.List.{range_with_len}
+use Rattle.unit_model.specs.Retention.{begins_day, UnitRetains}
+use Rattle.unit_model.specs.Days.{Day, days_shown, filled_all, minute_by, unknown_minute, minutes_of}
 use Rattle.unit_model.specs.Image.{unit_day}
 use Rattle.unit_model.specs.Decoding.{are_dense, is_date_good, word_checks, first_failing, cell_place}
 
@@ -27,23 +29,23 @@ last_cell = refl
 slot : List ℕ
 slot = 75 ∷ 139 ∷ 3 ∷ 128 ∷ 0 ∷ 0 ∷ 0 ∷ 0 ∷ 0 ∷ 4 ∷ 0 ∷ 0 ∷ 0 ∷ 0 ∷ 0 ∷ 0 ∷ 32 ∷ 0 ∷ 160 ∷ 0 ∷ 56 ∷ 1 ∷ 168 ∷ 1 ∷ replicate 5752 0
 
-row : unit_day slot ≡ record { date = 1267401600; words = 0x2000 ∷ 0xA000 ∷ 0x3801 ∷ 0xA801 ∷ [] }
+row : unit_day slot ≡ record { date = 1267401600; odometer = 0; words = 0x2000 ∷ 0xA000 ∷ 0x3801 ∷ 0xA801 ∷ [] }
 unfolding slot
 row = refl
 
-three_minutes : minutes_of (days_shown 21123362 (record { date = 1267401600; words = 0x2000 ∷ 0xA000 ∷ 0x3801 ∷ 0xA801 ∷ [] } ∷ []))
+three_minutes : minutes_of (days_shown 21123362 (record { date = 1267401600; odometer = 0; words = 0x2000 ∷ 0xA000 ∷ 0x3801 ∷ 0xA801 ∷ [] } ∷ []))
     ≡ record { minute = 21123360; driver = record { act = Activity.Rest; present = false }; codriver = record { act = Activity.Rest; present = false }; crew = false }
     ∷ record { minute = 21123361; driver = record { act = Activity.Driving; present = false }; codriver = record { act = Activity.Available; present = false }; crew = false }
     ∷ record { minute = 21123362; driver = record { act = Activity.Driving; present = false }; codriver = record { act = Activity.Available; present = false }; crew = false } ∷ []
 three_minutes = refl
 
 -- a driver with a card: the words 0000 A000 1801 A801; and both with a card
-with_card : minutes_of (days_shown 21123361 (record { date = 1267401600; words = 0x0000 ∷ 0xA000 ∷ 0x1801 ∷ 0xA801 ∷ [] } ∷ []))
+with_card : minutes_of (days_shown 21123361 (record { date = 1267401600; odometer = 0; words = 0x0000 ∷ 0xA000 ∷ 0x1801 ∷ 0xA801 ∷ [] } ∷ []))
     ≡ record { minute = 21123360; driver = record { act = Activity.Rest; present = true }; codriver = record { act = Activity.Rest; present = false }; crew = false }
     ∷ record { minute = 21123361; driver = record { act = Activity.Driving; present = true }; codriver = record { act = Activity.Available; present = false }; crew = false } ∷ []
 with_card = refl
 
-crew : minutes_of (days_shown 21123360 (record { date = 1267401600; words = 0x5800 ∷ 0xC800 ∷ [] } ∷ []))
+crew : minutes_of (days_shown 21123360 (record { date = 1267401600; odometer = 0; words = 0x5800 ∷ 0xC800 ∷ [] } ∷ []))
     ≡ record { minute = 21123360; driver = record { act = Activity.Driving; present = true }; codriver = record { act = Activity.Available; present = true }; crew = true } ∷ []
 crew = refl
 
@@ -72,3 +74,20 @@ word_rows : (first_failing (word_checks 1044 [] (0x2000 ∷ 0xA000 ∷ 0x3801 �
     × (first_failing (word_checks 1044 [] (0x2000 ∷ 0xA000 ∷ 0x3801 ∷ 0x2001 ∷ [])) ≡ Some 1050)
     × (first_failing (word_checks 1044 [] (0xA000 ∷ 0x2000 ∷ [])) ≡ Some 1044)
 word_rows = (refl, refl, refl, refl)
+
+-- 367 days, numbered from 1, of which the newest 366 are shown; and, where a further day may have been begun, the newest 365
+many_days : List Day
+many_days = map (λ d. record { day = d; minutes = [] }) (range_with_len 1 367)
+
+newest_shown : UnitRetains many_days [] (drop 1 many_days)
+unfolding many_days
+newest_shown = inl refl
+
+fewer_shown : UnitRetains many_days (1440 * 368 ∷ []) (drop 2 many_days)
+unfolding many_days
+fewer_shown = inr (refl, refl)
+
+-- but not where the minute that comes next is one of the last day
+same_day_next : begins_day ((1440 * 367 + 1439) ∷ []) many_days ≡ false
+unfolding many_days
+same_day_next = refl

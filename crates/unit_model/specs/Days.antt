@@ -57,9 +57,10 @@ pub record Day : Type 0 where
   pub day : ℕ
   pub minutes : List UnitMinute
 
--- a day as it is written: its date in seconds, and the words that its count covers
+-- a day as it is written: its date in seconds, its odometer, and the words that its count covers
 pub record UnitDay : Type 0 where
   pub date : ℕ
+  pub odometer : ℕ
   pub words : List ℕ
 
 abbrev pub day_of : UnitDay → ℕ

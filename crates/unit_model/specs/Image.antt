@@ -1,11 +1,11 @@
 -- What the image of a unit says of its days and minutes (profile).
-use Rattle.std.specs.Prelude.{◌≡◌, ℕ, ◌+◌, ◌*◌, List, map}
+use Rattle.std.specs.Prelude.{◌≡◌, ℕ, ◌+◌, ◌*◌, ◌/◌, ◌%◌, min, List, map, filter, nat_le, ◌==◌, if◌then◌else◌}
 use Rattle.std.specs.List.{range_with_len}
-use Rattle.tach_media.specs.Medium.{State, LiesInside}
+use Rattle.tach_media.specs.Medium.{State, LiesInside, bytes_at}
 use Rattle.gated_ring.specs.Ring.{Shape, number_at, ring_list, indices as ring_indices}
 use Rattle.unit_model.specs.declared.layout.Field.{Field}
-use Rattle.unit_model.specs.declared.layout.TheConstants.{DAYS, DAY_SLOTS, DAY_SLOT_SIZE, DAY_DATE, DAY_ODOMETER, DAY_COUNT, DAY_WORDS, LAST_KEPT, ODOMETER}
-use Rattle.unit_model.specs.Days.{UnitDay, Day, UnitMinute, days_shown, minutes_of}
+use Rattle.unit_model.specs.declared.layout.TheConstants.{DAYS, DAY_SLOTS, DAY_SLOT_SIZE, DAY_DATE, DAY_ODOMETER, DAY_COUNT, DAY_SPARE, DAY_WORDS, LAST_KEPT, ODOMETER}
+use Rattle.unit_model.specs.Days.{UnitDay, Day, UnitMinute, word_minute, days_shown, minutes_of}
 
 -- a medium that is a unit's: it has its size, and all of it may be written
 pub record IsUnit (s : State) : Type 0 where
@@ -37,9 +37,9 @@ slot_place i = DAYS.place + 4 + i * DAY_SLOT_SIZE
 abbrev pub words_at : List ℕ → (place count : ℕ) → List ℕ
 words_at image place count = map (λ j. number_at image (place + 2 * j) 2) (range_with_len 0 count)
 
--- the day of a slot's bytes: the words that its count covers
+-- the day of a slot's bytes: its date, its odometer, and the words that its count covers
 abbrev pub unit_day : List ℕ → UnitDay
-unit_day slot = record { date = number_of slot DAY_DATE; words = words_at slot DAY_WORDS.place (number_of slot DAY_COUNT) }
+unit_day slot = record { date = number_of slot DAY_DATE; odometer = number_of slot DAY_ODOMETER; words = words_at slot DAY_WORDS.place (number_of slot DAY_COUNT) }
 
 -- the indices of the slots that are there, oldest first
 unfoldable pub indices : List ℕ → List ℕ
@@ -48,6 +48,13 @@ indices image = ring_indices day_ring image
 -- the days of these slots
 unfoldable pub unit_days : List ℕ → List UnitDay
 unit_days image = map unit_day (ring_list day_ring image)
+
+-- the date and the odometer of each of them
+abbrev pub day_head : UnitDay → ℕ × ℕ
+day_head d = (d.date, d.odometer)
+
+unfoldable pub unit_heads : List ℕ → List (ℕ × ℕ)
+unit_heads image = map day_head (unit_days image)
 
 -- the recorded days of a unit image, with their minutes up to the last-kept one
 unfoldable pub recorded : List ℕ → List Day
@@ -67,5 +74,24 @@ slot_odometer image i = number_at image (slot_place i + DAY_ODOMETER.place) DAY_
 abbrev pub slot_count : List ℕ → ℕ → ℕ
 slot_count image i = number_at image (slot_place i + DAY_COUNT.place) DAY_COUNT.size
 
+-- the spare bytes behind the count
+abbrev pub spare_bytes : List ℕ → ℕ → List ℕ
+spare_bytes image i = bytes_at image (slot_place i + DAY_SPARE.place) DAY_SPARE.size
+
 abbrev pub slot_words : List ℕ → ℕ → ℕ → List ℕ
 slot_words image i count = words_at image (slot_place i + DAY_WORDS.place) count
+
+-- the indices of the recorded days' slots, oldest first: a day is recorded where it is not later than the last-kept minute's
+unfoldable pub recorded_indices : List ℕ → List ℕ
+recorded_indices x = filter (λ i. nat_le (slot_date x i / 86400) (last_kept x / 1440)) (indices x)
+
+-- the words that a slot's count covers; it has room for 2880
+abbrev pub covered_words : List ℕ → ℕ → List ℕ
+covered_words x i = slot_words x i (min (slot_count x i) 2880)
+
+-- the words of a recorded day: of the last-kept minute's day those that are not later
+abbrev pub recorded_words : List ℕ → ℕ → List ℕ
+recorded_words x i =
+    if slot_date x i / 86400 == last_kept x / 1440
+    then filter (λ w. nat_le (word_minute w) (last_kept x % 1440)) (covered_words x i)
+    else covered_words x i

@@ -4,3 +4,5 @@ pub mod Image
 pub mod Retention
 pub mod Decoding
 pub mod NewImage
+pub mod Changes
+pub mod Writing

@@ -9,6 +9,7 @@ use tacho_types::{Odometer, TimeReal};
 use unit_memory::number;
 use unit_model::layout::{
     DAY_COUNT, DAY_ODOMETER, DAY_SLOT_SIZE, DAY_SLOTS, DAY_WORD_LIMIT, DAY_WORDS, DAYS,
+    HIGHEST_ODOMETER,
 };
 
 /// A recorded day of the unit, as its slot has it (profile).
@@ -18,7 +19,7 @@ pub struct UnitDay {
     pub place: u32,
     /// Its 00:00 GMT.
     pub date: TimeReal,
-    /// In kilometres, when the day was begun.
+    /// In kilometres, when the day was begun; at most 9999999.
     pub odometer: Odometer,
     /// How many change words it has, at most 2880; of the last-kept minute's day those that are not later.
     pub words: u16,
@@ -37,7 +38,8 @@ fn whole_day<M: Medium>(unit: &mut M, index: u32, date: u32) -> Result<UnitDay, 
     requires unit { (M.state unit.old).size ≡ 2485808 }
     requires index { index < 366 }
     ensures known { IfOk result (λ day. (day.place ≡ slot_place index) × (day.date.0 ≡ date) × (day.words ≤ 2880)) }
-    ensures read { IfOk result (λ day. IfSome (M.state unit.old).image (λ x. (day.odometer.0 ≡ slot_odometer x index) × (day.words ≡ min (slot_count x index) 2880))) }
+    ensures odometer { IfOk result (λ day. day.odometer.0 ≤ 9999999) }
+    ensures read { IfOk result (λ day. IfSome (M.state unit.old).image (λ x. (day.odometer.0 ≡ min (slot_odometer x index) 9999999) × (day.words ≡ min (slot_count x index) 2880))) }
     ensures reads { Reads (M.state unit.old) (M.state unit.new) (is_err result) }
 {
     let place = slot_place(index);
@@ -46,7 +48,7 @@ fn whole_day<M: Medium>(unit: &mut M, index: u32, date: u32) -> Result<UnitDay, 
     Ok(UnitDay {
         place,
         date: TimeReal(date),
-        odometer: Odometer(odometer),
+        odometer: Odometer(odometer.min(HIGHEST_ODOMETER)),
         words: count.min(DAY_WORD_LIMIT) as u16,
     })
 }
@@ -90,6 +92,7 @@ impl Journal {
         ensures date { IfOk result (λ day. day.date.0 ≡ 86400 * (self.now.kept / 1440)) }
         ensures place { IfOk result (λ day. IsSlotPlace day.place) }
         ensures words { IfOk result (λ day. day.words ≤ 2880) }
+        ensures odometer { IfOk result (λ day. day.odometer.0 ≤ 9999999) }
         ensures reads { Reads (M.state unit.old) (M.state unit.new) (is_err result) }
     {
         let place = slot_place(self.index);
@@ -98,7 +101,7 @@ impl Journal {
         Ok(UnitDay {
             place,
             date: TimeReal(date),
-            odometer: Odometer(odometer),
+            odometer: Odometer(odometer.min(HIGHEST_ODOMETER)),
             words: self.count as u16,
         })
     }
@@ -111,6 +114,7 @@ impl Journal {
         ensures date { IfOk result (λ day. day.date.0 ≡ date) }
         ensures place { IfOk result (λ day. IsSlotPlace day.place) }
         ensures words { IfOk result (λ day. day.words ≤ 2880) }
+        ensures odometer { IfOk result (λ day. day.odometer.0 ≤ 9999999) }
         ensures reads { Reads (M.state unit.old) (M.state unit.new) (is_err result) }
     {
         let index = self.index_at(nth);
@@ -129,6 +133,7 @@ impl Journal {
         ensures day { IfOk result (λ day. IfSome (M.state unit.old).image (λ x. AreRight self.now x → (i : ℕ) × IsRecordedDay x nth i day)) }
         ensures place { IfOk result (λ day. IsSlotPlace day.place) }
         ensures words { IfOk result (λ day. day.words ≤ 2880) }
+        ensures odometer { IfOk result (λ day. day.odometer.0 ≤ 9999999) }
         ensures reads { Reads (M.state unit.old) (M.state unit.new) (is_err result) }
     {
         let nth = nth as u32;
@@ -146,7 +151,9 @@ impl Journal {
         requires other { date ≢ 86400 * (self.now.kept / 1440) }
         ensures found { IfOk result (λ found. IfSome (M.state unit.old).image (λ x. AreRight self.now x → IsOfDate x date found)) }
         ensures place { IfOk result (λ found. IfSome found (λ day. IsSlotPlace day.place)) }
+        ensures date { IfOk result (λ found. IfSome found (λ day. day.date.0 ≡ date)) }
         ensures words { IfOk result (λ found. IfSome found (λ day. day.words ≤ 2880)) }
+        ensures odometer { IfOk result (λ found. IfSome found (λ day. day.odometer.0 ≤ 9999999)) }
         ensures reads { ReadsIfAny (M.state unit.old) (M.state unit.new) (is_err result) }
     {
         for nth in 0..self.day_count - 1 {
@@ -169,7 +176,9 @@ impl Journal {
         requires unit { (M.state unit.old).size ≡ 2485808 }
         ensures found { IfOk result (λ found. IfSome (M.state unit.old).image (λ x. AreRight self.now x → IsOfDate x date.0 found)) }
         ensures place { IfOk result (λ found. IfSome found (λ day. IsSlotPlace day.place)) }
+        ensures date { IfOk result (λ found. IfSome found (λ day. day.date.0 ≡ date.0)) }
         ensures words { IfOk result (λ found. IfSome found (λ day. day.words ≤ 2880)) }
+        ensures odometer { IfOk result (λ found. IfSome found (λ day. day.odometer.0 ≤ 9999999)) }
         ensures reads { ReadsIfAny (M.state unit.old) (M.state unit.new) (is_err result) }
     {
         let last_date = self.last_date();

@@ -4,7 +4,8 @@ use Rattle.std.proofs.lemmas.List.FromFn.{map-range_with_len_more, length-map-ra
 use Rattle.tach_media.proofs.Runs.{reads_then, both_told}
 use Rattle.gated_ring.specs.Ring.{number_at}
 use Rattle.unit_model.specs.Image.{slot_place, slot_words, words_at}
-use Rattle.unit_memory.proofs.Scanning.{scan_more, scan_fails, words_split}
+use Rattle.unit_memory.proofs.Scanning.{scan_more, scan_fails}
+use Rattle.unit_model.proofs.Words.{words_split}
 use Rattle.unit_memory.proofs.words.scan_day.Goals as goal
 
 -- the words with one more

@@ -1,4 +1,4 @@
-use Rattle.std.proofs.Common.{rules, None, false, true, ◌≡◌, ℕ, min, ◌+◌, ◌<◌, ◌∙◌, arith, inl, inr, length, refl, ◌%◌, ◌≤◌, sym, ap, subst, List, Some, IfSome}
+use Rattle.std.proofs.Common.{None, false, true, ◌≡◌, ℕ, min, ◌+◌, ◌<◌, ◌∙◌, arith, inl, inr, refl, sym, ap, subst, List, Some, IfSome}
 use Rattle.tach_media.proofs.Runs.{weaken, goes_on, at_image, where_told, turned_into}
 use Rattle.write_plan.specs.Plan.{Pieces, PutsAll, IsPartway, put_all, more}
 use Rattle.gated_ring.specs.Ring.{Shape, pointer, taken}

@@ -1,12 +1,13 @@
-use Rattle.std.proofs.Common.{◌∙◌, sym, subst, arith, List, ℕ, Some, ◌≡◌, IfSome}
+use Rattle.std.proofs.Common.{◌∙◌, sym, subst, arith, ◌≡◌, IfSome}
 use Rattle.tach_media.proofs.Runs.{weaken, at_image, where_told, turned_into, settled_now, on_ok, ok_gives}
 use Rattle.unit_model.proofs.Sized.{unit_sized}
 use Rattle.write_plan.specs.Plan.{put_all}
 use Rattle.unit_model.specs.Days.{minute_by}
 use Rattle.unit_journal.specs.Image.{Notes, Agrees, IsKept, notes_on}
+use Rattle.unit_journal.specs.DaysWith.{HasDays}
 use Rattle.unit_journal.specs.Plans.{going}
 use Rattle.unit_journal.proofs.Behind.{after_run}
-use Rattle.unit_journal.proofs.Keeping.{moments, kept_minutes, kept_decodes, besides_y, new_agrees, gone_is}
+use Rattle.unit_journal.proofs.Keeping.{moments, kept_last, kept_days, kept_minutes, kept_decodes, besides_y, new_agrees, gone_is}
 use Rattle.unit_journal.proofs.journal.Journal.keep_on_day.Goals as goal
 
 pub returns-clause-moments : goal.returns-clause-moments
@@ -44,7 +45,21 @@ returns-clause-kept g c =
     subst (IsKept (minute_by m c.args.driver c.args.codriver) x)
     (sym (same ∙ gone_is j c.go_on.ensures.shape x sized agrees q.some m c.args.driver c.args.codriver c.args.odometer q.small q.driver q.codriver q.odometer q.same q.later))
     (record {
+      last = kept_last j c.go_on.ensures.shape x sized agrees q.some m c.args.driver c.args.codriver c.args.odometer q.small q.driver q.codriver q.odometer q.same q.later;
       outside = besides_y j c.go_on.ensures.shape x sized agrees q.some m c.args.driver c.args.codriver c.args.odometer q.small q.driver q.codriver q.odometer q.same q.later;
       decodes = kept_decodes j c.go_on.ensures.shape x sized agrees q.some m c.args.driver c.args.codriver c.args.odometer q.small q.driver q.codriver q.odometer q.same q.later;
       minutes = kept_minutes j c.go_on.ensures.shape x sized agrees q.some m c.args.driver c.args.codriver c.args.odometer q.small q.driver q.codriver q.odometer q.same q.later;
     })))
+
+pub returns-clause-days : goal.returns-clause-days
+returns-clause-days g c =
+    let j = c.args.self.now in
+    let q = c.requires in
+    let m = c.args.minute in
+    on_ok c.go_on.result (λ fine. where_told (g.M.Medium.state c.args.unit.now).image (g.M.Medium.state c.go_on.new.unit).image (HasDays m c.args.driver c.args.codriver c.args.odometer) (λ x y was is.
+    let agrees = at_image (Agrees j) was q.agrees in
+    let sized = unit_sized (g.met.M.Medium.coherent c.args.unit.now) q.unit x was in
+    let same : y ≡ put_all (going j m c.args.driver c.args.codriver c.args.odometer) x = turned_into _ (c.go_on.ensures.puts.written fine) was is in
+    subst (HasDays m c.args.driver c.args.codriver c.args.odometer x)
+    (sym (same ∙ gone_is j c.go_on.ensures.shape x sized agrees q.some m c.args.driver c.args.codriver c.args.odometer q.small q.driver q.codriver q.odometer q.same q.later))
+    (kept_days j c.go_on.ensures.shape x sized agrees q.some m c.args.driver c.args.codriver c.args.odometer q.small q.driver q.codriver q.odometer q.same q.later)))

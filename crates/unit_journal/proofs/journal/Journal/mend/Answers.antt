@@ -1,4 +1,4 @@
-use Rattle.std.proofs.Common.{◌≡◌, ◌∙◌, List, ℕ, length, Some, IfSome, sym, ap, subst}
+use Rattle.std.proofs.Common.{◌≡◌, List, ℕ, length, Some, IfSome, sym, ap, subst}
 use Rattle.tach_media.proofs.Runs.{weaken, at_image, where_told, turned_into}
 use Rattle.unit_model.proofs.Sized.{unit_sized}
 use Rattle.unit_journal.specs.Image.{Notes, Agrees}

@@ -20,7 +20,7 @@ returns-clause-day g c =
       day = record {
         place = c.in_ok-day.ensures.known.0 ∙ ap slot_place index_is;
         date = c.in_ok-day.ensures.known.1 ∙ dated;
-        odometer = read.0 ∙ ap (slot_odometer x) index_is;
+        odometer = read.0 ∙ ap (λ (i : ℕ). min (slot_odometer x i) 9999999) index_is;
         words_are = read.1 ∙ ap (λ (i : ℕ). min (slot_count x i) 2880) index_is ∙ sym (older_count j x n s c.requires.nth);
       };
     })

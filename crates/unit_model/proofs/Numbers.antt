@@ -8,9 +8,9 @@ use Rattle.tach_media.specs.LogLaws.{put_outside}
 use Rattle.tach_media.proofs.Images.{part_before, part_after, part_put, outside_same, outside_wider, outside_then}
 use Rattle.gated_ring.specs.Ring.{number_at}
 use Rattle.unit_model.specs.Image.{words_at}
-use Rattle.unit_journal.specs.Image.{written}
-use Rattle.unit_memory.proofs.Scanning.{words_split}
-use Rattle.unit_journal.proofs.Growth.{map_range_same}
+use Rattle.unit_model.specs.Writing.{written}
+use Rattle.unit_model.proofs.Words.{words_split}
+use Rattle.unit_model.proofs.Growth.{map_range_same}
 
 pub number_same : (x c : List ℕ) (a n : ℕ) → bytes_at c a n ≡ bytes_at x a n → number_at c a n ≡ number_at x a n
 number_same x c a n same = ap (λ (b : List ℕ). from_be_bytes w32 (replicate (4 - n) 0 ++ b)) same

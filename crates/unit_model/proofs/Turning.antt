@@ -12,8 +12,8 @@ use Rattle.gated_ring.proofs.Orders.{rest_each, order_first, order_last}
 use Rattle.gated_ring.proofs.Listing.{Chosen, chosen_below, ordered, taken_chosen, staying_there}
 use Rattle.unit_model.specs.Days.{UnitDay, Each}
 use Rattle.unit_model.specs.Image.{day_ring, unit_day, indices, unit_days}
-use Rattle.unit_journal.specs.Image.{behind_index}
-use Rattle.unit_journal.proofs.Slots.{day_at, all_days, map_map}
+use Rattle.unit_model.specs.Writing.{behind_index}
+use Rattle.unit_model.proofs.Slots.{day_at, all_days, map_map}
 
 each_from : (P : ℕ → Type 0) (js : List ℕ) → orders.Each P js → Each P js
 each_from P [] all = tt

@@ -3,7 +3,7 @@ use Rattle.std.proofs.Common.{◌≡◌, ◌≢◌, ℕ, zero, suc, ◌+◌, ◌
 use Rattle.std.specs.Prelude.{◌==◌, ◌&&◌, nat_le}
 use Rattle.std.proofs.lemmas.Bool.Decides.{nat_tests}
 use Rattle.unit_model.specs.Days.{word_slot, word_state, word_minute, word_of, bare, state_by, state_after, Each}
-use Rattle.unit_journal.specs.Changes.{change, changes, new_words}
+use Rattle.unit_model.specs.Changes.{change, changes, new_words}
 
 pub state_after_append : (s u c : ℕ) (a b : List ℕ) → state_after s u c (a ++ b) ≡ state_after s u (state_after s u c a) b
 state_after_append s u c [] b = refl

@@ -6,9 +6,9 @@ use Rattle.std.proofs.lemmas.Bool.Decides.{nat_tests}
 use Rattle.std.proofs.lemmas.List.{append-nil}
 use Rattle.unit_model.specs.Days.{word_slot, word_minute, word_of, bare, Each}
 use Rattle.unit_model.specs.Decoding.{word_checks, is_word_good, is_first_good}
-use Rattle.unit_journal.specs.Changes.{change, changes, new_words}
-use Rattle.unit_journal.proofs.States.{slot_of, minute_of}
-use Rattle.unit_journal.proofs.Checks.{passes, and_split, and_join}
+use Rattle.unit_model.specs.Changes.{change, changes, new_words}
+use Rattle.unit_model.proofs.States.{slot_of, minute_of}
+use Rattle.unit_model.proofs.Checks.{passes, and_split, and_join}
 
 -- one good word more
 checks_push : (place : ℕ) (before a : List ℕ) (w : ℕ) → list_all passes (word_checks place before a) ≡ true → is_word_good (before ++ a) w ≡ true → list_all passes (word_checks place before (a ++ w ∷ [])) ≡ true

@@ -7,8 +7,8 @@ use Rattle.std.proofs.lemmas.List.{append-nil, map-append}
 use Rattle.std.proofs.lemmas.List.Elements.{filter-append}
 use Rattle.std.proofs.lemmas.List.FromFn.{length-map-range_with_len, map-range_with_len_more}
 use Rattle.unit_model.specs.Days.{word_minute, bare, state_at, UnitMinute, Day, UnitDay, day_of, minute_at, shown, day_shown, days_shown, unknown_minute, padded, with_minute, new_day, filled, Each, minute_by}
-use Rattle.unit_memory.proofs.Scanning.{range_add}
-use Rattle.unit_journal.proofs.States.{state_after_append, state_later}
+use Rattle.unit_model.proofs.Words.{range_add}
+use Rattle.unit_model.proofs.States.{state_after_append, state_later}
 
 -- two functions that agree on a range
 pub map_range_same : {X : Type 0} (f h : ℕ → X) (a n : ℕ) → ((j : ℕ) → a ≤ j → j < a + n → f j ≡ h j) → map f (range_with_len a n) ≡ map h (range_with_len a n)
@@ -90,14 +90,14 @@ filled_next y k earlier =
     ap (λ (b : Bool). cond b (with_minute k y ∷ []) (padded 1440 y ∷ new_day k ∷ [])) there
 
 -- words of later minutes on the newest day count for nothing
-pub words_later : (k : ℕ) (older : List UnitDay) (date : ℕ) (words ws : List ℕ) → date / 86400 ≡ k / 1440 → Each (λ w. k % 1440 < word_minute w) ws
-    → days_shown k (older ++ record { date = date; words = words ++ ws } ∷ []) ≡ days_shown k (older ++ record { date = date; words = words } ∷ [])
-words_later k older date words ws now later =
-    days_append k older (record { date = date; words = words ++ ws } ∷ [])
-    ∙ ap (λ (l : List Day). days_shown k older ++ l) (day_now k (record { date = date; words = words ++ ws }) now
-    ∙ ap (λ (l : List UnitMinute). record { day = date / 86400; minutes = l } ∷ []) (map_range_same (minute_at (record { date = date; words = words ++ ws })) (minute_at (record { date = date; words = words })) 0 (k % 1440 + 1) (λ u low high. same_minute u (omega arith)))
-    ∙ sym (day_now k (record { date = date; words = words }) now))
-    ∙ sym (days_append k older (record { date = date; words = words } ∷ []))
+pub words_later : (k : ℕ) (older : List UnitDay) (date o : ℕ) (words ws : List ℕ) → date / 86400 ≡ k / 1440 → Each (λ w. k % 1440 < word_minute w) ws
+    → days_shown k (older ++ record { date = date; odometer = o; words = words ++ ws } ∷ []) ≡ days_shown k (older ++ record { date = date; odometer = o; words = words } ∷ [])
+words_later k older date o words ws now later =
+    days_append k older (record { date = date; odometer = o; words = words ++ ws } ∷ [])
+    ∙ ap (λ (l : List Day). days_shown k older ++ l) (day_now k (record { date = date; odometer = o; words = words ++ ws }) now
+    ∙ ap (λ (l : List UnitMinute). record { day = date / 86400; minutes = l } ∷ []) (map_range_same (minute_at (record { date = date; odometer = o; words = words ++ ws })) (minute_at (record { date = date; odometer = o; words = words })) 0 (k % 1440 + 1) (λ u low high. same_minute u (omega arith)))
+    ∙ sym (day_now k (record { date = date; odometer = o; words = words }) now))
+    ∙ sym (days_append k older (record { date = date; odometer = o; words = words } ∷ []))
   where
     weaker : (u : ℕ) → u ≤ k % 1440 → (xs : List ℕ) → Each (λ w. k % 1440 < word_minute w) xs → Each (λ w. u < word_minute w) xs
     weaker u le [] all = tt
@@ -106,5 +106,5 @@ words_later k older date words ws now later =
     same_state : (s u : ℕ) → u ≤ k % 1440 → state_at s u (words ++ ws) ≡ state_at s u words
     same_state s u le = state_after_append s u bare words ws ∙ state_later s u (state_at s u words) ws (weaker u le ws later)
 
-    same_minute : (u : ℕ) → u ≤ k % 1440 → minute_at (record { date = date; words = words ++ ws }) u ≡ minute_at (record { date = date; words = words }) u
+    same_minute : (u : ℕ) → u ≤ k % 1440 → minute_at (record { date = date; odometer = o; words = words ++ ws }) u ≡ minute_at (record { date = date; odometer = o; words = words }) u
     same_minute u le = λ i. minute_by (1440 * (date / 86400) + u) (same_state 0 u le i) (same_state 1 u le i)

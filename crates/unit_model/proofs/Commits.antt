@@ -3,9 +3,9 @@ use Rattle.std.proofs.Common.{◌≡◌, ◌≢◌, ℕ, ◌+◌, ◌*◌, ◌/�
 use Rattle.std.specs.Prelude.{◌==◌}
 use Rattle.std.proofs.lemmas.Bool.Decides.{nat_tests}
 use Rattle.unit_model.specs.Days.{word_of, word_minute, bare, state_by, state_after, state_at, UnitMinute, Day, UnitDay, day_of, minute_at, shown, days_shown, unknown_minute, padded, with_minute, new_day, filled, Each, minute_by}
-use Rattle.unit_journal.specs.Changes.{changes, new_words, closing_words, first_states, further_words}
-use Rattle.unit_journal.proofs.States.{state_after_append, state_later, state_stays, new_minutes, new_driver, new_codriver, gap_driver, gap_codriver, driver_by, codriver_by, minutes_by, by_word, by_other}
-use Rattle.unit_journal.proofs.Growth.{shown_padded, shown_with, days_append, day_now, day_before, days_before, filled_last, filled_same, filled_next}
+use Rattle.unit_model.specs.Changes.{changes, new_words, closing_words, first_states, further_words}
+use Rattle.unit_model.proofs.States.{state_after_append, state_later, state_stays, new_minutes, new_driver, new_codriver, gap_driver, gap_codriver, driver_by, codriver_by, minutes_by, by_word, by_other}
+use Rattle.unit_model.proofs.Growth.{shown_padded, shown_with, days_append, day_now, day_before, days_before, filled_last, filled_same, filled_next}
 
 -- a slot's state after more words, in a minute from the last-kept one on, or before it
 module _ (s t e u : ℕ) (words ws : List ℕ) (low : Each (λ w. word_minute w ≤ t) words) (known : state_at s t words ≡ e) where
@@ -15,10 +15,10 @@ module _ (s t e u : ℕ) (words ws : List ℕ) (low : Each (λ w. word_minute w 
   pub state_back : Each (λ w. u < word_minute w) ws → state_at s u (words ++ ws) ≡ state_at s u words
   state_back later = state_after_append s u bare words ws ∙ state_later s u (state_at s u words) ws later
 
-module _ (k m dc cc dn cn : ℕ) (older : List UnitDay) (date : ℕ) (words : List ℕ) (earlier : Each (λ d. day_of d < k / 1440) older) (now : date / 86400 ≡ k / 1440)
+module _ (k m dc cc dn cn : ℕ) (older : List UnitDay) (date o : ℕ) (words : List ℕ) (earlier : Each (λ d. day_of d < k / 1440) older) (now : date / 86400 ≡ k / 1440)
     (low : Each (λ w. word_minute w ≤ k % 1440) words) (driver : state_at 0 (k % 1440) words ≡ dc) (codriver : state_at 1 (k % 1440) words ≡ cc) (short : dn < 16) (short' : cn < 16) where
   abbrev old : UnitDay
-  old = record { date = date; words = words }
+  old = record { date = date; odometer = o; words = words }
 
   abbrev it : UnitMinute
   it = minute_by m dn cn
@@ -29,7 +29,7 @@ module _ (k m dc cc dn cn : ℕ) (older : List UnitDay) (date : ℕ) (words : Li
     ws = new_words (k % 1440 + 1) (m % 1440) dc cc dn cn
 
     abbrev day : UnitDay
-    day = record { date = date; words = words ++ ws }
+    day = record { date = date; odometer = o; words = words ++ ws }
 
     next_le : k % 1440 + 1 ≤ m % 1440
     next_le = omega arith
@@ -59,12 +59,12 @@ module _ (k m dc cc dn cn : ℕ) (older : List UnitDay) (date : ℕ) (words : Li
         ∙ ap (λ (l : List Day). days_shown k older ++ l) (filled_same (shown n old) it (now ∙ sym same)))
 
   -- a minute on a later day
-  module _ (date' : ℕ) (its_day : date' / 86400 ≡ m / 1440) (later : k / 1440 < m / 1440) where
+  module _ (date' o' : ℕ) (its_day : date' / 86400 ≡ m / 1440) (later : k / 1440 < m / 1440) where
     abbrev cs : List ℕ
     cs = closing_words (k % 1440 + 1) dc cc
 
     abbrev closed : UnitDay
-    closed = record { date = date; words = words ++ cs }
+    closed = record { date = date; odometer = o; words = words ++ cs }
 
     pub closing_later : (u : ℕ) → u < k % 1440 + 1 → Each (λ w. u < word_minute w) cs
     closing_later u less = by (k % 1440 + 1 == 1440) refl
@@ -94,13 +94,13 @@ module _ (k m dc cc dn cn : ℕ) (older : List UnitDay) (date : ℕ) (words : Li
     closed_gap u first less = λ i. minute_by (1440 * (date / 86400) + u) ((state_on 0 (k % 1440) dc u words cs low driver (omega arith) ∙ closed_driver u first less) i) ((state_on 1 (k % 1440) cc u words cs low codriver (omega arith) ∙ closed_codriver u first less) i)
 
     abbrev begun : UnitDay
-    begun = record { date = date'; words = first_states (m % 1440) dn cn ++ further_words (m % 1440) dn cn }
+    begun = record { date = date'; odometer = o'; words = first_states (m % 1440) dn cn ++ further_words (m % 1440) dn cn }
 
     pub begun_is : (begun_words : (u : ℕ) → u < m % 1440 → (state_at 0 u begun.words ≡ bare) × (state_at 1 u begun.words ≡ bare))
         → (state_at 0 (m % 1440) begun.words ≡ dn) × (state_at 1 (m % 1440) begun.words ≡ cn) → shown (m % 1440 + 1) begun ≡ new_day it
     begun_is before at =
         let minute : 1440 * (date' / 86400) + m % 1440 ≡ m = omega arith in
-        shown_with 0 (m % 1440) (record { date = date'; words = [] }) begun it refl (omega arith) refl (λ u none. absurd (omega arith))
+        shown_with 0 (m % 1440) (record { date = date'; odometer = o'; words = [] }) begun it refl (omega arith) refl (λ u none. absurd (omega arith))
         (λ u le less. λ i. minute_by (1440 * (date' / 86400) + u) ((before u less).0 i) ((before u less).1 i))
         (λ i. minute_by (minute i) (at.0 i) (at.1 i))
         ∙ ap (λ (d : ℕ). with_minute it (record { day = d; minutes = [] })) its_day

@@ -9,23 +9,24 @@ use Rattle.tach_media.specs.LogLaws.{put_outside}
 use Rattle.tach_media.proofs.Images.{part_before, part_after}
 use Rattle.gated_ring.specs.Ring.{indices as ring_indices, number_at, pointer, is_there, entry_at, next, order, taken}
 use Rattle.unit_model.specs.Days.{UnitDay, Each}
-use Rattle.unit_model.specs.Image.{day_ring, slot_place, last_kept, words_at, unit_day, indices, unit_days, slot_date, slot_count, slot_words}
-use Rattle.unit_journal.specs.Image.{written, free_place, DiffersBehind, with_words}
-use Rattle.unit_memory.proofs.Scanning.{words_split}
-use Rattle.unit_journal.proofs.Numbers.{number_before, number_after, number_put2, number_in, words_before, words_after, words_in, written_outside, written_words, AreShort}
+use Rattle.unit_model.specs.Image.{day_ring, slot_place, last_kept, words_at, unit_day, indices, unit_days, day_head, unit_heads, slot_date, slot_odometer, slot_count, slot_words}
+use Rattle.unit_model.specs.Writing.{written, free_place, DiffersBehind, with_words}
+use Rattle.unit_model.proofs.Words.{words_split}
+use Rattle.unit_model.proofs.Numbers.{number_before, number_after, number_put2, number_in, words_before, words_after, words_in, written_outside, written_words, AreShort}
 
 -- the day of an index
 abbrev pub day_at : List ℕ → ℕ → UnitDay
 day_at x i = unit_day (entry_at day_ring x i)
 
 -- the day by its places in the image
-pub day_is : (x : List ℕ) (i n : ℕ) → slot_count x i ≡ n → n ≤ 2880 → day_at x i ≡ record { date = slot_date x i; words = slot_words x i n }
+pub day_is : (x : List ℕ) (i n : ℕ) → slot_count x i ≡ n → n ≤ 2880 → day_at x i ≡ record { date = slot_date x i; odometer = slot_odometer x i; words = slot_words x i n }
 day_is x i n count few =
     let p = slot_place i in
     let date : number_at (entry_at day_ring x i) 0 4 ≡ slot_date x i = number_in x p 5776 0 4 (omega arith) ∙ ap (λ (q : ℕ). number_at x q 4) (omega arith) in
     let n_is : number_at (entry_at day_ring x i) 8 2 ≡ n = number_in x p 5776 8 2 (omega arith) ∙ count in
-    (λ t. record { date = date t; words = words_at (entry_at day_ring x i) 16 (n_is t) })
-    ∙ (λ t. record { date = slot_date x i; words = words_in x p 5776 16 n (omega (arith, few)) t })
+    let odometer : number_at (entry_at day_ring x i) 4 4 ≡ slot_odometer x i = number_in x p 5776 4 4 (omega arith) in
+    (λ t. record { date = date t; odometer = odometer t; words = words_at (entry_at day_ring x i) 16 (n_is t) })
+    ∙ (λ t. record { date = slot_date x i; odometer = slot_odometer x i; words = words_in x p 5776 16 n (omega (arith, few)) t })
 
 -- images that are the same in all indices but one, and in the pointer
 pub record SameButOne (i : ℕ) (x c : List ℕ) : Type 0 where
@@ -72,7 +73,7 @@ in_front i p n x c high same = record {
 }
 
 -- the newest day's slot, with what stands there
-pub record IsSlot (i : ℕ) (js : List ℕ) (older : List UnitDay) (p k date n : ℕ) (words x : List ℕ) : Type 0 where
+pub record IsSlot (i : ℕ) (js : List ℕ) (older : List UnitDay) (p k date o n : ℕ) (words x : List ℕ) : Type 0 where
   pub sized : length x ≡ 2485808
   pub pointer_is : pointer day_ring x ≡ p
   pub kept : last_kept x ≡ k
@@ -80,6 +81,7 @@ pub record IsSlot (i : ℕ) (js : List ℕ) (older : List UnitDay) (p k date n :
   pub next_is : taken day_ring x ≡ next day_ring i
   pub older_are : map (day_at x) js ≡ older
   pub date_is : slot_date x i ≡ date
+  pub odometer_is : slot_odometer x i ≡ o
   pub count_is : slot_count x i ≡ n
   pub words_are : slot_words x i n ≡ words
 
@@ -91,15 +93,20 @@ pub all_days : (x : List ℕ) → unit_days x ≡ map (day_at x) (indices x)
 unfolding unit_days indices ring_indices
 all_days x = map_map x (filter (is_there day_ring x) (order day_ring (next day_ring (pointer day_ring x))))
 
-module _ (i : ℕ) (below : i < 366) (js : List ℕ) (others : Each (λ j. (j < 366) × (j ≢ i)) js) (older : List UnitDay) (p k date n : ℕ) (few : n ≤ 2880) (words x : List ℕ) (slot : IsSlot i js older p k date n words x) where
+module _ (i : ℕ) (below : i < 366) (js : List ℕ) (others : Each (λ j. (j < 366) × (j ≢ i)) js) (older : List UnitDay) (p k date o n : ℕ) (few : n ≤ 2880) (words x : List ℕ) (slot : IsSlot i js older p k date o n words x) where
   -- the days are those before and this one
-  pub slot_days : unit_days x ≡ older ++ record { date = date; words = words } ∷ []
+  pub slot_days : unit_days x ≡ older ++ record { date = date; odometer = o; words = words } ∷ []
   slot_days =
       all_days x ∙ ap (map (day_at x)) slot.order_is ∙ map-append (day_at x) js (i ∷ []) ∙ ap (λ (l : List UnitDay). l ++ day_at x i ∷ []) slot.older_are
-      ∙ ap (λ (d : UnitDay). older ++ d ∷ []) (day_is x i n slot.count_is few ∙ (λ t. record { date = slot.date_is t; words = slot.words_are t }))
+      ∙ ap (λ (d : UnitDay). older ++ d ∷ []) (day_is x i n slot.count_is few ∙ (λ t. record { date = slot.date_is t; odometer = slot.odometer_is t; words = slot.words_are t }))
+
+  -- and their dates and odometers
+  pub slot_heads : unit_heads x ≡ map day_head older ++ (date, o) ∷ []
+  unfolding unit_heads
+  slot_heads = ap (map day_head) slot_days ∙ map-append day_head older (record { date = date; odometer = o; words = words } ∷ [])
 
   -- a write behind the words changes nothing of it
-  pub slot_behind : (c : List ℕ) → DiffersBehind i n x c → IsSlot i js older p k date n words c
+  pub slot_behind : (c : List ℕ) → DiffersBehind i n x c → IsSlot i js older p k date o n words c
   unfolding last_kept
   slot_behind c same =
       let q = free_place i n in
@@ -113,12 +120,13 @@ module _ (i : ℕ) (below : i < 366) (js : List ℕ) (others : Each (λ j. (j < 
         next_is = same_taken i x c but ∙ slot.next_is;
         older_are = same_days i x c js but others ∙ slot.older_are;
         date_is = number_before q room (slot_place i) 4 x c same (omega arith) ∙ slot.date_is;
+        odometer_is = number_before q room (slot_place i + 4) 4 x c same (omega arith) ∙ slot.odometer_is;
         count_is = number_before q room (slot_place i + 8) 2 x c same (omega arith) ∙ slot.count_is;
         words_are = words_before q room (slot_place i + 16) n x c same (omega arith) ∙ slot.words_are;
       }
 
   -- nor does one in front of the days, but of the last-kept minute
-  pub slot_front : (a len k' : ℕ) (c : List ℕ) → SameOutside a len x c → a + len ≤ 1024 → last_kept c ≡ k' → IsSlot i js older p k' date n words c
+  pub slot_front : (a len k' : ℕ) (c : List ℕ) → SameOutside a len x c → a + len ≤ 1024 → last_kept c ≡ k' → IsSlot i js older p k' date o n words c
   slot_front a len k' c same high kept =
       let but = in_front i a len x c high same in
       record {
@@ -129,12 +137,13 @@ module _ (i : ℕ) (below : i < 366) (js : List ℕ) (others : Each (λ j. (j < 
         next_is = same_taken i x c but ∙ slot.next_is;
         older_are = same_days i x c js but others ∙ slot.older_are;
         date_is = number_after a len (slot_place i) 4 x c same (omega (arith, high)) ∙ slot.date_is;
+        odometer_is = number_after a len (slot_place i + 4) 4 x c same (omega (arith, high)) ∙ slot.odometer_is;
         count_is = number_after a len (slot_place i + 8) 2 x c same (omega (arith, high)) ∙ slot.count_is;
         words_are = words_after a len (slot_place i + 16) n x c same (omega (arith, high)) ∙ slot.words_are;
       }
 
   -- more words, and then their count
-  pub slot_counted : (ws : List ℕ) → AreShort ws → n + length ws ≤ 2880 → IsSlot i js older p k date (n + length ws) (words ++ ws) (with_words i n ws x)
+  pub slot_counted : (ws : List ℕ) → AreShort ws → n + length ws ≤ 2880 → IsSlot i js older p k date o (n + length ws) (words ++ ws) (with_words i n ws x)
   unfolding last_kept
   slot_counted ws short fits =
       let q = free_place i n in
@@ -155,6 +164,7 @@ module _ (i : ℕ) (below : i < 366) (js : List ℕ) (others : Each (λ j. (j < 
         next_is = same_taken i y z but_z ∙ same_taken i x y but_y ∙ slot.next_is;
         older_are = same_days i y z js but_z others ∙ same_days i x y js but_y others ∙ slot.older_are;
         date_is = number_before a 2 (slot_place i) 4 y z count (omega arith) ∙ number_before q room (slot_place i) 4 x y behind (omega arith) ∙ slot.date_is;
+        odometer_is = number_before a 2 (slot_place i + 4) 4 y z count (omega arith) ∙ number_before q room (slot_place i + 4) 4 x y behind (omega arith) ∙ slot.odometer_is;
         count_is = number_put2 a n' y (omega (arith, below, slot.sized, behind.same_length)) (omega (arith, fits));
         words_are =
             words_after a 2 (slot_place i + 16) n' y z count (omega arith) ∙ words_split y (slot_place i + 16) n (length ws)

@@ -14,10 +14,10 @@ use Rattle.gated_ring.proofs.Orders.{rest, rest_others, order_last, each_append,
 use Rattle.unit_model.specs.Days.{word_slot, word_minute, Each}
 use Rattle.unit_model.specs.Image.{last_kept, odometer_at, day_ring, slot_place, indices, slot_date, slot_odometer, slot_count, slot_words, words_at}
 use Rattle.unit_model.specs.Decoding.{check, cell_place, cell_minute, cell_word, cell_check, slot_checks, slot_day, has_day, is_pointer_good, is_last_good, are_dense, indices_before, is_date_good, is_filled_on, is_word_good, is_first_good, day_checks, word_checks}
-use Rattle.unit_memory.proofs.Scanning.{words_split}
-use Rattle.unit_journal.proofs.Numbers.{number_before, number_after, words_before, words_after}
-use Rattle.unit_journal.proofs.Slots.{SameButOne, in_front, in_slot}
-use Rattle.unit_journal.proofs.Checks.{passes, le_true, le_of, and_split, and_join, IsGood, front_still}
+use Rattle.unit_model.proofs.Words.{words_split}
+use Rattle.unit_model.proofs.Numbers.{number_before, number_after, words_before, words_after}
+use Rattle.unit_model.proofs.Slots.{SameButOne, in_front, in_slot}
+use Rattle.unit_model.proofs.Checks.{passes, le_true, le_of, and_split, and_join, IsGood, front_still}
 
 -- images with the same last-kept minute, pointer and dates
 pub record SameDates (x c : List ℕ) : Type 0 where

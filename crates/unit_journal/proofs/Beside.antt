@@ -1,0 +1,352 @@
+-- Writes beside the bytes that a journal reads leave what it needs.
+use Rattle.std.proofs.Common.{◌≡◌, ◌⊎◌, inl, inr, ⊎_elim, ℕ, zero, suc, ◌+◌, ◌-◌, ◌*◌, ◌/◌, ◌%◌, ◌<◌, ◌≤◌, min, Bool, true, false, cond, List, [], ◌∷◌, ◌++◌, length, map, filter, Option, Some, None, refl, sym, ◌∙◌, ap, subst, arith}
+use Rattle.std.specs.Prelude.{◌==◌, ◌&&◌, ◌||◌, nat_le, nat_lt, MatchOption}
+use Rattle.std.specs.Option.{ForSome}
+use Rattle.std.specs.List.{list_all, list_any, range_with_len}
+use Rattle.std.proofs.lemmas.Bool.Decides.{nat_tests}
+use Rattle.tach_media.specs.Medium.{SameOutside, bytes_at}
+use Rattle.tach_media.proofs.Images.{part_before, part_after}
+use Rattle.gated_ring.specs.Ring.{number_at, pointer, is_there, entry_at, next, order, taken, indices as ring_indices}
+use Rattle.gated_ring.proofs.Orders as orders
+use Rattle.gated_ring.proofs.Orders.{next_below, order_each, each_append, each_filter, range_each, filter_same, map_same}
+use Rattle.unit_model.specs.declared.layout.TheConstants.{VERSION, OVER_COUNT}
+use Rattle.unit_model.specs.Days.{day_of, days_shown, state_at, word_minute, Each}
+use Rattle.unit_model.specs.Image.{number_of, day_ring, slot_place, last_kept, odometer_at, unit_day, unit_days, recorded, indices, slot_date, slot_count, slot_words, words_at}
+use Rattle.unit_model.specs.Decoding.{Decodes, cell_check, cell_minute, cell_word, slot_checks, front_checks, has_day, is_pointer_good, is_last_good, are_dense, indices_before, is_date_good}
+use Rattle.unit_journal.specs.Beside.{SameJournal, PassesBeside}
+use Rattle.unit_journal.specs.Image.{Notes, IsNotes, IsNewestDay, Agrees, IsFound, IsFoundBy, IsFoundDay, IsStray, stray_list}
+use Rattle.unit_model.specs.Writing.{free_place}
+use Rattle.unit_journal.specs.Mends.{IsGateShut, IsMendable}
+use Rattle.unit_journal.specs.Reading.{AreRight}
+use Rattle.unit_model.specs.Image.{recorded_indices, covered_words, recorded_words}
+use Rattle.unit_model.proofs.Checks.{passes, le_true, le_of, and_split, and_join, IsGood, good_of, front_kept, front_today, front_odometer, still}
+use Rattle.unit_model.proofs.Growth.{map_range_same}
+use Rattle.unit_journal.proofs.Keeping.{recorded_is}
+use Rattle.unit_model.proofs.Numbers.{number_same, part_in}
+use Rattle.unit_model.proofs.Slots.{day_at, all_days}
+use Rattle.unit_model.proofs.StillDecodes.{slot_by, day_still}
+
+-- a write beside them
+pub beside : (a n : ℕ) (x c : List ℕ) → (a + n ≤ 564) ⊎ (((572 ≤ a) × (a + n ≤ 1024)) ⊎ (2115044 ≤ a)) → SameOutside a n x c → SameJournal x c
+beside a n x c (inl low) same = record { front = part_after a n 564 8 x c same low; days = part_after a n 1024 2114020 x c same (omega (arith, low)); same_length = same.same_length }
+beside a n x c (inr (inl mid)) same = record { front = part_before a n 564 8 x c same (omega (arith, mid.0)); days = part_after a n 1024 2114020 x c same mid.1; same_length = same.same_length }
+beside a n x c (inr (inr high)) same = record { front = part_before a n 564 8 x c same (omega (arith, high)); days = part_before a n 1024 2114020 x c same (omega (arith, high)); same_length = same.same_length }
+
+pub beside_none : (x : List ℕ) → SameJournal x x
+beside_none x = record { front = refl; days = refl; same_length = refl }
+
+pub beside_then : (x y c : List ℕ) → SameJournal x y → SameJournal y c → SameJournal x c
+beside_then x y c first next = record { front = next.front ∙ first.front; days = next.days ∙ first.days; same_length = next.same_length ∙ first.same_length }
+
+all_below : (x : List ℕ) (js : List ℕ) → orders.Each (λ j. j < 366) js → orders.Each (λ j. j < 366) (filter (is_there day_ring x) js)
+all_below x js all = each_filter (λ j. j < 366) (is_there day_ring x) js all
+
+in_list : (a b : List ℕ) (i : ℕ) → orders.Each (λ j. j < 366) (a ++ i ∷ b) → i < 366
+in_list [] b i all = all.0
+in_list (j ∷ a) b i all = in_list a b i all.1
+
+two_below : (a b : List ℕ) (i : ℕ) → orders.Each (λ j. j < 366) ((a ++ i ∷ []) ++ b) → i < 366
+two_below [] b i all = all.0
+two_below (j ∷ a) b i all = two_below a b i all.1
+
+any_same : (P Q : ℕ → Bool) (js : List ℕ) → orders.Each (λ j. Q j ≡ P j) js → list_any Q js ≡ list_any P js
+any_same P Q [] all = refl
+any_same P Q (j ∷ js) all = (λ t. all.0 t || list_any Q js) ∙ ap (λ (b : Bool). P j || b) (any_same P Q js all.1)
+
+module _ (x c : List ℕ) (same : SameJournal x c) where
+  -- numbers and words among the days
+  part : (p n : ℕ) → 1024 ≤ p → p + n ≤ 2115044 → bytes_at c p n ≡ bytes_at x p n
+  part p n low high =
+      let q = p - 1024 in
+      let is : 1024 + q ≡ p = omega (arith, low) in
+      ap (λ (a : ℕ). bytes_at c a n) (sym is) ∙ sym (part_in c 1024 2114020 q n (omega (arith, low, high))) ∙ ap (λ (l : List ℕ). bytes_at l q n) same.days
+      ∙ part_in x 1024 2114020 q n (omega (arith, low, high)) ∙ ap (λ (a : ℕ). bytes_at x a n) is
+
+  number : (p n : ℕ) → 1024 ≤ p → p + n ≤ 2115044 → number_at c p n ≡ number_at x p n
+  number p n low high = number_same x c p n (part p n low high)
+
+  words : (p n : ℕ) → 1024 ≤ p → p + 2 * n ≤ 2115044 → words_at c p n ≡ words_at x p n
+  words p n low high = map_range_same (λ j. number_at c (p + 2 * j) 2) (λ j. number_at x (p + 2 * j) 2) 0 n (λ j from to. number (p + 2 * j) 2 (omega (arith, low)) (omega (arith, high, to)))
+
+  front : (q : ℕ) → q + 4 ≤ 8 → number_at c (564 + q) 4 ≡ number_at x (564 + q) 4
+  front q le = number_same x c (564 + q) 4 (sym (part_in c 564 8 q 4 le) ∙ ap (λ (l : List ℕ). bytes_at l q 4) same.front ∙ part_in x 564 8 q 4 le)
+
+  pub last_beside : last_kept c ≡ last_kept x
+  unfolding last_kept
+  last_beside = front 0 (omega arith)
+
+  pub odometer_beside : odometer_at c ≡ odometer_at x
+  unfolding odometer_at
+  odometer_beside = front 4 (omega arith)
+
+  pub pointer_beside : pointer day_ring c ≡ pointer day_ring x
+  pointer_beside = number 1024 4 (omega arith) (omega arith)
+
+  entry : (j : ℕ) → j < 366 → entry_at day_ring c j ≡ entry_at day_ring x j
+  entry j below = part (slot_place j) 5776 (omega arith) (omega (arith, below))
+
+  date : (j : ℕ) → j < 366 → slot_date c j ≡ slot_date x j
+  date j below = number (slot_place j) 4 (omega arith) (omega (arith, below))
+
+  there : (j : ℕ) → j < 366 → is_there day_ring c j ≡ is_there day_ring x j
+  there j below = ap (λ (n : ℕ). Rattle.std.proofs.Common.not (n == 0)) (number (slot_place j + 0) 4 (omega arith) (omega (arith, below)))
+
+  there_all : (js : List ℕ) → orders.Each (λ j. j < 366) js → filter (is_there day_ring c) js ≡ filter (is_there day_ring x) js
+  there_all js all = filter_same (is_there day_ring x) (is_there day_ring c) js (orders.each_weaker (λ j. j < 366) (λ j. is_there day_ring c j ≡ is_there day_ring x j) js there all)
+
+  has_beside : (day : ℕ) → has_day c day ≡ has_day x day
+  has_beside day = any_same (λ i. is_there day_ring x i && slot_date x i / 86400 == day) (λ i. is_there day_ring c i && slot_date c i / 86400 == day) (range_with_len 0 366)
+      (range_each (λ i. (is_there day_ring c i && slot_date c i / 86400 == day) ≡ (is_there day_ring x i && slot_date x i / 86400 == day)) 0 366 (λ i low high. let below : i < 366 = omega (arith, high) in λ t. there i below t && date i below t / 86400 == day))
+
+  -- where the pointer is an index
+  module _ (known : pointer day_ring x < 366) where
+    abbrev p : ℕ
+    p = pointer day_ring x
+
+    turn_below : orders.Each (λ j. j < 366) (order day_ring (next day_ring p))
+    turn_below = order_each day_ring (next day_ring p) (next_below day_ring p known)
+
+    each_below : orders.Each (λ j. j < 366) (indices x)
+    unfolding indices ring_indices
+    each_below = all_below x (order day_ring (next day_ring p)) turn_below
+
+    pub indices_beside : indices c ≡ indices x
+    unfolding indices ring_indices
+    indices_beside = (λ t. filter (is_there day_ring c) (order day_ring (next day_ring (pointer_beside t)))) ∙ there_all (order day_ring (next day_ring p)) turn_below
+
+    pub taken_beside : taken day_ring c ≡ taken day_ring x
+    taken_beside = (λ t. cond (is_there day_ring c (pointer_beside t)) (next day_ring (pointer_beside t)) (pointer_beside t)) ∙ (λ t. cond (there p known t) (next day_ring p) p)
+
+    day_same : (j : ℕ) → j < 366 → day_at c j ≡ day_at x j
+    day_same j below = ap unit_day (entry j below)
+
+    -- the days, and which of them are recorded
+    pub days_beside : unit_days c ≡ unit_days x
+    days_beside = all_days c ∙ ap (map (day_at c)) indices_beside ∙ days_same (indices x) each_below ∙ sym (all_days x)
+      where
+        days_same : (js : List ℕ) → orders.Each (λ j. j < 366) js → map (day_at c) js ≡ map (day_at x) js
+        days_same js all = map_same (day_at x) (day_at c) js (orders.each_weaker (λ j. j < 366) (λ j. day_at c j ≡ day_at x j) js day_same all)
+
+    pub recorded_beside : recorded c ≡ recorded x
+    recorded_beside = recorded_is c (last_kept x) last_beside ∙ ap (days_shown (last_kept x)) days_beside ∙ sym (recorded_is x (last_kept x) refl)
+
+    pub recorded_indices_beside : recorded_indices c ≡ recorded_indices x
+    unfolding recorded_indices
+    recorded_indices_beside =
+        ap (filter (λ i. nat_le (slot_date c i / 86400) (last_kept c / 1440))) indices_beside
+        ∙ filter_same (λ i. nat_le (slot_date x i / 86400) (last_kept x / 1440)) (λ i. nat_le (slot_date c i / 86400) (last_kept c / 1440)) (indices x)
+        (orders.each_weaker (λ j. j < 366) (λ i. nat_le (slot_date c i / 86400) (last_kept c / 1440) ≡ nat_le (slot_date x i / 86400) (last_kept x / 1440)) (indices x) (λ i below. λ t. nat_le (date i below t / 86400) (last_beside t / 1440)) each_below)
+
+    pub recorded_words_beside : (i : ℕ) → i < 366 → recorded_words c i ≡ recorded_words x i
+    recorded_words_beside i below =
+        let covered : covered_words c i ≡ covered_words x i =
+        ap (λ (n : ℕ). slot_words c i (min n 2880)) (number (slot_place i + 8) 2 (omega arith) (omega (arith, below))) ∙ words (slot_place i + 16) (min (slot_count x i) 2880) (omega arith) (omega (arith, below)) in
+        λ t. cond (date i below t / 86400 == last_beside t / 1440) (filter (λ w. nat_le (word_minute w) (last_beside t % 1440)) (covered t)) (covered t)
+
+    -- what the notes say
+    older_same : (P : Rattle.unit_model.specs.Days.UnitDay → Type 0) (a : List ℕ) (i : ℕ) → Each (λ j. (j < 366) × (Rattle.std.proofs.Common.◌≢◌ j i)) a → Each P (map (λ j. unit_day (entry_at day_ring x j)) a) → Each P (map (λ j. unit_day (entry_at day_ring c j)) a)
+    older_same P [] i below all = tt
+    older_same P (j ∷ a) i below all = (subst P (sym (day_same j below.0.0)) all.0, older_same P a i below.1 all.1)
+
+    newest_beside : (j : Notes) (older : List ℕ) → IsNewestDay j x older → IsNewestDay j c older
+    newest_beside j older day =
+        let below : j.index < 366 = in_list older [] j.index (subst (orders.Each (λ j. j < 366)) day.order_is each_below) in
+        let words_are : slot_words c j.index j.count ≡ slot_words x j.index j.count = words (slot_place j.index + 16) j.count (omega arith) (omega (arith, below, day.few)) in
+        record {
+          order_is = indices_beside ∙ day.order_is;
+          next_is = taken_beside ∙ day.next_is;
+          dense = day.dense;
+          others = day.others;
+          days = day.days;
+          earlier = older_same (λ d. day_of d < j.kept / 1440) older j.index day.others day.earlier;
+          date = date j.index below ∙ day.date;
+          few = day.few;
+          count = number (slot_place j.index + 8) 2 (omega arith) (omega (arith, below)) ∙ day.count;
+          low = subst (Each (λ w. word_minute w ≤ j.kept % 1440)) (sym words_are) day.low;
+          driver = ap (state_at 0 (j.kept % 1440)) words_are ∙ day.driver;
+          codriver = ap (state_at 1 (j.kept % 1440)) words_are ∙ day.codriver;
+        }
+
+    found_day_beside : (j : Notes) (stray : Option ℕ) (stored : ℕ) (older : List ℕ) → IsFoundDay j stray stored x older → IsFoundDay j stray stored c older
+    found_day_beside j stray stored older day =
+        let below : j.index < 366 = two_below older (stray_list stray) j.index (subst (orders.Each (λ j. j < 366)) day.order_is each_below) in
+        let words_are : slot_words c j.index j.count ≡ slot_words x j.index j.count = words (slot_place j.index + 16) j.count (omega arith) (omega (arith, below, day.cut, day.stored_few)) in
+        record {
+          order_is = indices_beside ∙ day.order_is;
+          next_is = next_beside stray day.next_is;
+          dense = day.dense;
+          others = day.others;
+          days = day.days;
+          earlier = older_same (λ d. day_of d < j.kept / 1440) older j.index day.others day.earlier;
+          date = date j.index below ∙ day.date;
+          count = number (slot_place j.index + 8) 2 (omega arith) (omega (arith, below)) ∙ day.count;
+          cut = day.cut;
+          stored_few = day.stored_few;
+          low = subst (Each (λ w. word_minute w ≤ j.kept % 1440)) (sym words_are) day.low;
+          late = subst (Each (λ w. j.kept % 1440 < word_minute w)) (sym (words (free_place j.index j.count) (stored - j.count) (omega arith) (omega (arith, below, day.cut, day.stored_few)))) day.late;
+          driver = ap (state_at 0 (j.kept % 1440)) words_are ∙ day.driver;
+          codriver = ap (state_at 1 (j.kept % 1440)) words_are ∙ day.codriver;
+        }
+      where
+        next_beside : (s : Option ℕ) → MatchOption s (taken day_ring x ≡ next day_ring j.index) (λ s. s ≡ next day_ring j.index) → MatchOption s (taken day_ring c ≡ next day_ring j.index) (λ s. s ≡ next day_ring j.index)
+        next_beside None is = taken_beside ∙ is
+        next_beside (Some s) is = is
+
+    stray_beside : (j : Notes) (stray : Option ℕ) → MatchOption stray (Unit {0}) (IsStray j x) → MatchOption stray (Unit {0}) (IsStray j c)
+    stray_beside j None is = tt
+    stray_beside j (Some s) is = record {
+      below = is.below;
+      at_pointer = pointer_beside ∙ is.at_pointer;
+      later = subst (λ (d : Rattle.unit_model.specs.Days.UnitDay). j.kept / 1440 < day_of d) (sym (day_same s is.below)) is.later;
+    }
+
+  pub agrees_beside : (j : Notes) → Agrees j x → Agrees j c
+  agrees_beside j agrees = record {
+    kept = last_beside ∙ agrees.kept;
+    odometer = odometer_beside ∙ agrees.odometer;
+    pointer = omega (arith, pointer_beside, agrees.pointer);
+    none = λ first. indices_beside agrees.pointer ∙ agrees.none first;
+    newest = λ some. let day = agrees.newest some in (day.0, newest_beside agrees.pointer j day.0 day.1);
+  }
+
+  found_as : (j : Notes) (stray : Option ℕ) (stored : ℕ) → IsFound j stray stored x → IsFound j stray stored c
+  found_as j stray stored found = record {
+    kept = last_beside ∙ found.kept;
+    odometer = odometer_beside ∙ found.odometer;
+    pointer = omega (arith, pointer_beside, found.pointer);
+    none = λ first. indices_beside found.pointer ∙ found.none first;
+    newest = λ some. let day = found.newest some in (day.0, found_day_beside found.pointer j stray stored day.0 day.1);
+    apart = stray_beside found.pointer j stray found.apart;
+  }
+
+  pub found_beside : (j : Notes) → IsFoundBy j x → IsFoundBy j c
+  found_beside j found = found_as j j.stray j.stored found
+
+  pub right_beside : (j : Notes) → AreRight j x → AreRight j c
+  right_beside j (inl found) = inl (found_beside j found)
+  right_beside j (inr agrees) = inr (agrees_beside j agrees)
+
+  gate_beside : (stray : Option ℕ) → ForSome stray (λ s. s < 366) → IsGateShut stray x → IsGateShut stray c
+  gate_beside None below gate = tt
+  gate_beside (Some s) below gate = part (slot_place s) 4 (omega arith) (omega (arith, below s refl)) ∙ gate
+
+  pub mendable_beside : (j : Notes) → IsNotes j → IsMendable j x → IsMendable j c
+  mendable_beside j ok (inl found) = inl (found_beside j found)
+  mendable_beside j ok (inr (gate, inl found)) = inr (gate_beside j.stray ok.stray gate, inl (found_as j None j.stored found))
+  mendable_beside j ok (inr (gate, inr found)) = inr (gate_beside j.stray ok.stray gate, inr (found_as j None j.count found))
+
+  -- the image still decodes where what else is judged passes
+  lt_true : (a b : ℕ) → a < b → nat_lt a b ≡ true
+  lt_true a b is = grind (arith, nat_tests)
+
+  eq_one : (a : ℕ) → a ≡ 1 → (a == 1) ≡ true
+  eq_one a is = grind (arith, nat_tests)
+
+  front_good : PassesBeside c → IsGood x → list_all passes (front_checks c) ≡ true
+  front_good ok good =
+      let k = last_kept c in
+      let overs : Bool = nat_le (number_of c OVER_COUNT) 255 && true in
+      let rest : Bool = nat_le (odometer_at c) 9999999 && overs in
+      let now = nat_le k 71582788 && (k == 0 || has_day c (k / 1440)) in
+      and_join (number_of c VERSION == 1) (now && rest) (eq_one (number_of c VERSION) ok.version)
+      (and_join now rest
+      (and_join (nat_le k 71582788) (k == 0 || has_day c (k / 1440)) (le_true k 71582788 (omega (arith, last_beside, front_kept x good.front)))
+      ((λ t. last_beside t == 0 || has_beside (last_beside t / 1440) t) ∙ front_today x good.front))
+      (and_join (nat_le (odometer_at c) 9999999) overs (le_true (odometer_at c) 9999999 (omega (arith, odometer_beside, front_odometer x good.front)))
+      (ap (λ (b : Bool). b && true) (le_true (number_of c OVER_COUNT) 255 ok.overs))))
+
+  cell_good : PassesBeside c → (n : ℕ) → n < 32 → (cell_check c n).passes ≡ true
+  cell_good ok n below = by (ok.cells n below)
+    where
+      or_true : (a b : Bool) → b ≡ true → (a || b) ≡ true
+      or_true true b is = refl
+      or_true false b is = is
+
+      zero_true : (a : ℕ) → a ≡ 0 → (a == 0) ≡ true
+      zero_true a is = grind (arith, nat_tests)
+
+      by : (cell_minute c n ≡ 0) ⊎ (word_minute (cell_word c n) < 1440) → (cell_check c n).passes ≡ true
+      by (inl empty) = ap (λ (b : Bool). b || nat_lt (word_minute (cell_word c n)) 1440) (zero_true (cell_minute c n) empty)
+      by (inr low) = or_true (cell_minute c n == 0) (nat_lt (word_minute (cell_word c n)) 1440) (lt_true (word_minute (cell_word c n)) 1440 low)
+
+  lt_of : (a b : ℕ) → nat_lt a b ≡ true → a < b
+  lt_of a b is = grind (arith, nat_tests)
+
+  last_same : (q : ℕ) (js : List ℕ) → orders.Each (λ j. j < 366) js → is_last_good c q js ≡ is_last_good x q js
+  last_same q [] below = refl
+  last_same q (i ∷ []) below = λ t. nat_le (date i below.0 t / 86400) (last_beside t / 1440) || i == q
+  last_same q (i ∷ j ∷ js) below = last_same q (j ∷ js) below.1
+
+  point_good : is_pointer_good x ≡ true → is_pointer_good c ≡ true
+  point_good good =
+      let p = pointer day_ring x in
+      let dense : Bool = are_dense (map (is_there day_ring x) (order day_ring (next day_ring p))) in
+      let known : p < 366 = lt_of p 366 (and_split (nat_lt p 366) (dense && is_last_good x p (indices x)) good).0 in
+      (λ t. nat_lt (pointer_beside t) 366 && (are_dense (map (is_there day_ring c) (order day_ring (next day_ring (pointer_beside t)))) && is_last_good c (pointer_beside t) (indices_beside known t)))
+      ∙ (λ t. nat_lt p 366 && (are_dense (map_same (is_there day_ring x) (is_there day_ring c) (order day_ring (next day_ring p)) (orders.each_weaker (λ j. j < 366) (λ j. is_there day_ring c j ≡ is_there day_ring x j) (order day_ring (next day_ring p)) there (turn_below known)) t) && last_same p (indices x) (each_below known) t))
+      ∙ good
+
+  before_below : (i : ℕ) → i < 366 → (q : ℕ) → orders.Each (λ j. j < 366) (cond (nat_le q i) (range_with_len q (i - q)) (range_with_len q (366 - q) ++ range_with_len 0 i))
+  before_below i below q = by (nat_le q i) refl
+    where
+      by : (b : Bool) → nat_le q i ≡ b → orders.Each (λ j. j < 366) (cond b (range_with_len q (i - q)) (range_with_len q (366 - q) ++ range_with_len 0 i))
+      by true is = range_each (λ j. j < 366) q (i - q) (λ j low high. omega (arith, low, high, below))
+      by false is = each_append (λ j. j < 366) (range_with_len q (366 - q)) (range_with_len 0 i) (range_each (λ j. j < 366) q (366 - q) (λ j low high. omega (arith, low, high))) (range_each (λ j. j < 366) 0 i (λ j low high. omega (arith, high, below)))
+
+  before_same : (i : ℕ) → i < 366 → map (slot_date c) (indices_before c i) ≡ map (slot_date x) (indices_before x i)
+  before_same i below =
+      let q : ℕ = pointer day_ring x + 1 in
+      let js : List ℕ = cond (nat_le q i) (range_with_len q (i - q)) (range_with_len q (366 - q) ++ range_with_len 0 i) in
+      (λ t. let r : ℕ = pointer_beside t + 1 in map (slot_date c) (filter (is_there day_ring c) (cond (nat_le r i) (range_with_len r (i - r)) (range_with_len r (366 - r) ++ range_with_len 0 i))))
+      ∙ ap (map (slot_date c)) (there_all js (before_below i below q))
+      ∙ map_same (slot_date x) (slot_date c) (filter (is_there day_ring x) js) (orders.each_weaker (λ j. j < 366) (λ j. slot_date c j ≡ slot_date x j) (filter (is_there day_ring x) js) date (all_below x js (before_below i below q)))
+
+  slot_good : (i : ℕ) → i < 366 → list_all passes (slot_checks x i) ≡ true → list_all passes (slot_checks c i) ≡ true
+  slot_good i below = slot_by x c i (there i below) (day_still x c i (λ t. is_date_good (last_beside t) (before_same i below t) (date i below t))
+      (number (slot_place i + 4) 4 (omega arith) (omega (arith, below))) (number (slot_place i + 8) 2 (omega arith) (omega (arith, below)))
+      (λ few. words (slot_place i + 16) (slot_count x i) (omega arith) (omega (arith, below, few))))
+
+  good_beside : PassesBeside c → IsGood x → IsGood c
+  good_beside ok good = record {
+    front = front_good ok good;
+    cells = cell_good ok;
+    point = point_good good.point;
+    slots = λ i below. slot_good i below (good.slots i below);
+    rings = and_join (nat_lt (number_at c 2115044 4) 2048) (nat_lt (number_at c 2379240 4) 255 && true) (lt_true (number_at c 2115044 4) 2048 ok.insertions)
+        (ap (λ (b : Bool). b && true) (lt_true (number_at c 2379240 4) 255 ok.places));
+  }
+
+  pub decodes_beside : PassesBeside c → Decodes x → Decodes c
+  decodes_beside ok = still x c (good_beside ok)
+
+-- what else is judged of an image that decodes
+eq_of : (a b : ℕ) → (a == b) ≡ true → a ≡ b
+eq_of a b is = grind (arith, nat_tests)
+
+less_of : (a b : ℕ) → nat_lt a b ≡ true → a < b
+less_of a b is = grind (arith, nat_tests)
+
+either_true : (a b : Bool) → (a || b) ≡ true → (a ≡ true) ⊎ (b ≡ true)
+either_true true b is = inl refl
+either_true false b is = inr is
+
+pub passes_beside : (x : List ℕ) → Decodes x → PassesBeside x
+passes_beside x decodes =
+    let good = good_of x decodes in
+    let k = last_kept x in
+    let now : Bool = nat_le k 71582788 && (k == 0 || has_day x (k / 1440)) in
+    let overs : Bool = nat_le (number_of x OVER_COUNT) 255 && true in
+    let rest : Bool = nat_le (odometer_at x) 9999999 && overs in
+    let first = and_split (number_of x VERSION == 1) (now && rest) good.front in
+    let last = and_split (nat_le (odometer_at x) 9999999) overs (and_split now rest first.1).1 in
+    let rings = and_split (nat_lt (number_at x 2115044 4) 2048) (nat_lt (number_at x 2379240 4) 255 && true) good.rings in
+    record {
+      version = eq_of (number_of x VERSION) 1 first.0;
+      overs = le_of (number_of x OVER_COUNT) 255 (and_split (nat_le (number_of x OVER_COUNT) 255) true last.1).0;
+      cells = λ n below. ⊎_elim
+          (λ empty. inl (eq_of (cell_minute x n) 0 empty))
+          (λ low. inr (less_of (word_minute (cell_word x n)) 1440 low))
+          (either_true (cell_minute x n == 0) (nat_lt (word_minute (cell_word x n)) 1440) (good.cells n below));
+      insertions = less_of (number_at x 2115044 4) 2048 rings.0;
+      places = less_of (number_at x 2379240 4) 255 (and_split (nat_lt (number_at x 2379240 4) 255) true rings.1).0;
+    }

@@ -1,0 +1,53 @@
+-- The days as they are written with one minute more, and the bytes of slots that no write touches.
+use Rattle.std.proofs.Common.{◌≡◌, ⊎_elim, ℕ, zero, suc, ◌+◌, ◌-◌, ◌*◌, ◌/◌, ◌<◌, ◌≤◌, Bool, true, false, cond, List, [], ◌∷◌, ◌++◌, length, drop, refl, ap, arith}
+use Rattle.std.specs.Prelude.{◌==◌}
+use Rattle.std.proofs.lemmas.Bool.{cases_lt}
+use Rattle.std.proofs.lemmas.Bool.Decides.{nat_tests}
+use Rattle.tach_media.specs.Medium.{SameOutside}
+use Rattle.tach_media.proofs.Images.{part_before, part_after}
+use Rattle.gated_ring.specs.Ring.{newest_of}
+use Rattle.unit_model.specs.Days.{UnitDay, day_of}
+use Rattle.unit_model.specs.Image.{slot_place, spare_bytes}
+use Rattle.unit_journal.specs.DaysWith.{day_with, closed_day, begun_day, days_with}
+use Rattle.unit_model.specs.Writing.{free_place, DiffersBehind}
+
+module _ (k m dn cn o : ℕ) where
+  -- only the last day changes
+  pub with_last : (days : List UnitDay) (d : UnitDay) → days_with k m dn cn o (days ++ d ∷ []) ≡ days ++ days_with k m dn cn o (d ∷ [])
+  with_last [] d = refl
+  with_last (e ∷ []) d = refl
+  with_last (e ∷ f ∷ days) d = ap (λ (l : List UnitDay). e ∷ l) (with_last (f ∷ days) d)
+
+  pub with_same : (d : UnitDay) → day_of d ≡ m / 1440 → days_with k m dn cn o (d ∷ []) ≡ day_with k m dn cn d ∷ []
+  with_same d same =
+      let here : (day_of d == m / 1440) ≡ true = grind (arith, nat_tests) in
+      ap (λ (b : Bool). cond b (day_with k m dn cn d ∷ []) (closed_day k d ∷ begun_day m dn cn o ∷ [])) here
+
+  pub with_next : (d : UnitDay) → day_of d < m / 1440 → days_with k m dn cn o (d ∷ []) ≡ closed_day k d ∷ begun_day m dn cn o ∷ []
+  with_next d earlier =
+      let there : (day_of d == m / 1440) ≡ false = grind (arith, nat_tests) in
+      ap (λ (b : Bool). cond b (day_with k m dn cn d ∷ []) (closed_day k d ∷ begun_day m dn cn o ∷ [])) there
+
+pub newest_all : {X : Type 0} (n : ℕ) (xs : List X) → length xs ≤ n → newest_of n xs ≡ xs
+newest_all n xs few = let none : length xs - n ≡ 0 = omega arith in ap (λ (k : ℕ). drop k xs) none
+
+pub drop_push : {X : Type 0} (n : ℕ) (xs : List X) (v : X) → n ≤ length xs → drop n (xs ++ v ∷ []) ≡ drop n xs ++ v ∷ []
+drop_push zero xs v le = refl
+drop_push (suc n) [] v le = absurd (omega arith)
+drop_push (suc n) (x ∷ xs) v le = drop_push n xs v (omega arith)
+
+-- the spare bytes of each slot stay where words, a count, the odometer or the last-kept minute are written
+pub spare_front : (a len : ℕ) (x c : List ℕ) → a + len ≤ 1024 → SameOutside a len x c → (j : ℕ) → spare_bytes c j ≡ spare_bytes x j
+spare_front a len x c high same j = part_after a len (slot_place j + 10) 6 x c same (omega (arith, high))
+
+pub spare_behind : (i n : ℕ) (x c : List ℕ) → n ≤ 2880 → DiffersBehind i n x c → (j : ℕ) → spare_bytes c j ≡ spare_bytes x j
+spare_behind i n x c few same j = ⊎_elim
+    (λ less. part_before (free_place i n) (5760 - 2 * n) (slot_place j + 10) 6 x c same (omega (arith, less)))
+    (λ more. part_after (free_place i n) (5760 - 2 * n) (slot_place j + 10) 6 x c same (omega (arith, more, few)))
+    (cases_lt j (i + 1))
+
+pub spare_count : (i : ℕ) (x c : List ℕ) → SameOutside (slot_place i + 8) 2 x c → (j : ℕ) → spare_bytes c j ≡ spare_bytes x j
+spare_count i x c same j = ⊎_elim
+    (λ less. part_before (slot_place i + 8) 2 (slot_place j + 10) 6 x c same (omega (arith, less)))
+    (λ more. part_after (slot_place i + 8) 2 (slot_place j + 10) 6 x c same (omega (arith, more)))
+    (cases_lt j i)
