@@ -1,7 +1,7 @@
 ghost use Rattle.std.specs.Prelude.{◌≡◌, ◌≤◌, None, IfOk, OnOk, IfSome, is_err};
 ghost use Rattle.tach_media.specs.Medium.{LeavesOnly, HasCause};
 ghost use Rattle.card_commands.specs.Ports.{IsPort};
-ghost use Rattle.cyclic_days.specs.Moments.{IsChanging, IsChanged};
+ghost use Rattle.cyclic_days.specs.Moments.{IfKnown, IsChanging, IsChanged};
 ghost use Rattle.card_calls.specs.Lending.{Anything};
 ghost use Rattle.card_calls.specs.Strings.{days_at};
 ghost use Rattle.card_calls.specs.Sessions.{IsInSession, IsHeld};
@@ -16,8 +16,8 @@ impl Session {
         requires { IsPort self.old.application None (C.card card.old) (C.state card.old) }
         ensures sizes { self.new.application ≡ self.old.application }
         ensures port { IsPort self.new.application None (C.card card.new) (C.state card.new) }
-        ensures moments { LeavesOnly (C.state card.old) (C.state card.new) (IsChanging (days_at self.old.application) word) }
-        ensures changed { OnOk result (IfSome (C.state card.old).image (λ x. IfSome (C.state card.new).image (IsChanged (days_at self.old.application) word x))) }
+        ensures moments { LeavesOnly (C.state card.old) (C.state card.new) (IfKnown self.old.days (IsChanging (days_at self.old.application) word)) }
+        ensures changed { OnOk result (IfSome (C.state card.old).image (λ x. IfSome (C.state card.new).image (IfKnown self.old.days (IsChanged (days_at self.old.application) word) x))) }
         ensures cause { HasCause (C.state card.old) (C.state card.new) (is_err result) }
     {
         let mut port = Port::resume(&mut *card, self.application);

@@ -1,24 +1,20 @@
 -- The two writes that add a word to the newest day.
-use Rattle.std.proofs.Common.{◌≡◌, inl, inr, ⊎_elim, ℕ, ◌+◌, ◌%◌, ◌<◌, ◌≤◌, List, [], ◌∷◌, ◌++◌, length, drop, sym, ◌∙◌, ap, subst, arith, lit≤}
-use Rattle.tach_media.specs.Medium.{put, bytes_at, SameOutside, IsPartlyWritten}
-use Rattle.tach_media.proofs.Images.{outside_same, outside_then, outside_wider}
+use Rattle.std.proofs.Common.{◌≡◌, ◌⊎◌, inl, inr, ⊎_elim, ℕ, ◌+◌, ◌%◌, ◌<◌, ◌≤◌, List, [], ◌∷◌, ◌++◌, length, take, drop, sym, ◌∙◌, ap, subst, arith, lit≤}
+use Rattle.tach_media.specs.Medium.{put, SameOutside}
+use Rattle.write_plan.specs.Plan.{piece, IsPartway}
 use Rattle.tach_media.specs.LogLaws.{put_outside}
-use Rattle.card_model.specs.Bytes.{number, two_bytes}
-use Rattle.card_model.specs.Days.{Day, len_of, total, IsDay}
+use Rattle.card_model.specs.Bytes.{two_bytes}
+use Rattle.card_model.specs.Days.{Day, len_of, total, last_len, IsDay}
 use Rattle.card_model.specs.Changes.{OnNewest, with_newest, with_word, TakesWord}
-use Rattle.card_model.specs.Image.{Shape, IsShape, oldest_of, newest_of, IsPointer, IsPlace, Holds, at}
-use Rattle.cyclic_days.specs.Steps.{IsAppending, IsAppended}
-use Rattle.card_model.proofs.Lists.{total-append, far_last, last_is}
-use Rattle.cyclic_days.proofs.Lists.{split, newest_on, with_last, longer_day}
-use Rattle.cyclic_days.proofs.Places.{Stands, stands}
-use Rattle.card_model.proofs.Reading.{place_then, len_read}
-use Rattle.card_model.proofs.Lists.{len_even, len_most}
+use Rattle.card_model.specs.Image.{Shape, IsShape, circle_of, oldest_of, newest_of, IsPointer, IsPlace, Holds, at}
+use Rattle.card_model.proofs.Lists.{total-append, far_last, last_is, last_len_last}
+use Rattle.cyclic_days.proofs.Lists.{Split, split, newest_on, with_last, longer_day}
+use Rattle.cyclic_days.proofs.Places.{Stands, stands, stands_front}
+use Rattle.card_model.proofs.Reading.{place_then}
 use Rattle.cyclic_days.proofs.Holding.{beyond, longer}
 
--- What the code read: the newest day's place and its length, and where the word and the length go.
-module _ (r : Shape) (shape : IsShape r) (x : List ℕ) (inside : r.base + (4 + r.size) ≤ length x) (w n len p q : ℕ)
-    (n_is : IsPointer r.size (newest_of r x) → n ≡ newest_of r x) (n_pointer : IsPointer r.size n)
-    (len_is : (q : ℕ) → IsPlace r.size n 2 q → q < r.size → number (bytes_at x (at r q) 2) % 2 ≡ 0 → number (bytes_at x (at r q) 2) ≤ 2892 → len ≡ number (bytes_at x (at r q) 2))
+-- Where the newest day begins and how long it is, and where the word and the length go.
+module _ (r : Shape) (shape : IsShape r) (x : List ℕ) (inside : r.base + (4 + r.size) ≤ length x) (w n len p q : ℕ) (n_is : n ≡ newest_of r x)
     (p_place : IsPlace r.size n len p) (p_pointer : IsPointer r.size p) (q_place : IsPlace r.size n 2 q) (q_pointer : IsPointer r.size q) where
   abbrev y : List ℕ
   y = put (at r p) (two_bytes w) x
@@ -35,33 +31,21 @@ module _ (r : Shape) (shape : IsShape r) (x : List ℕ) (inside : r.base + (4 + 
   y_same : SameOutside (at r p) 2 x y
   y_same = put_outside (at r p) (two_bytes w) x (omega (arith, p_fits, inside))
 
-  y_outside : SameOutside r.base (4 + r.size) x y
-  y_outside = outside_wider r.base (4 + r.size) (at r p) 2 x y y_same (omega arith) (omega (arith, p_fits))
-
   y_inside : r.base + (4 + r.size) ≤ length y
   y_inside = omega (arith, inside, y_same.same_length)
 
-  z_same : SameOutside (at r q) 2 y z
-  z_same = put_outside (at r q) (two_bytes (len + 2)) y (omega (arith, q_fits, y_inside))
+  module _ (older : List Day) (d : Day) (h : Holds r x (older ++ d ∷ [])) (takes : TakesWord w d) (len_found : len ≡ len_of d) (room : total older + len_of d + 2 ≤ r.size) where
+    n_pointer : IsPointer r.size n
+    n_pointer = subst (λ (m : ℕ). IsPointer r.size m) (sym n_is) h.newest
 
-  z_outside : SameOutside r.base (4 + r.size) x z
-  z_outside = outside_then r.base (4 + r.size) x y z y_outside (outside_wider r.base (4 + r.size) (at r q) 2 y z z_same (omega arith) (omega (arith, q_fits)))
-
-  module _ (older : List Day) (d : Day) (h : Holds r x (older ++ d ∷ [])) (takes : TakesWord w d) (room : total older + len_of d + 2 ≤ r.size) where
     day : IsDay d
     day = last_is 0 older d h.ordered
 
     newest_place : IsPlace r.size (oldest_of r x) (total older) n
-    newest_place = subst (λ (m : ℕ). IsPlace r.size (oldest_of r x) (total older) m) (sym (n_is h.newest)) (subst (λ (m : ℕ). IsPlace r.size (oldest_of r x) m (newest_of r x)) (far_last older d) h.distance)
+    newest_place = subst (λ (m : ℕ). IsPlace r.size (oldest_of r x) (total older) m) (sym n_is) (subst (λ (m : ℕ). IsPlace r.size (oldest_of r x) m (newest_of r x)) (far_last older d) h.distance)
 
     length_place : IsPlace r.size (oldest_of r x) (total older + 2) q
     length_place = place_then r.size (oldest_of r x) (total older) n 2 q h.oldest.below n_pointer.below q_pointer.below (omega (arith, room)) newest_place q_place
-
-    read : number (bytes_at x (at r q) 2) ≡ len_of d
-    read = len_read r shape x inside older d [] h q length_place q_fits
-
-    len_found : len ≡ len_of d
-    len_found = len_is q q_place q_pointer.below (ap (λ (m : ℕ). m % 2) read ∙ len_even d) (omega (arith, read, len_most d day)) ∙ read
 
     word_place : IsPlace r.size (oldest_of r x) (total older + len_of d) p
     word_place = place_then r.size (oldest_of r x) (total older) n (len_of d) p h.oldest.below n_pointer.below p_pointer.below (omega (arith, room)) newest_place (subst (λ (m : ℕ). IsPlace r.size n m p) len_found p_place)
@@ -79,46 +63,62 @@ module _ (r : Shape) (shape : IsShape r) (x : List ℕ) (inside : r.base + (4 + 
     written : (g : Holds r y (older ++ d ∷ [])) × (g.rest ≡ put 0 (two_bytes w) h.rest) × (g.previous ≡ h.previous)
     written = beyond r shape x inside (older ++ d ∷ []) (total older + len_of d) 0 (two_bytes w) y h (omega (arith, total-append older (d ∷ []))) word_stands (λ none. absurd (some none))
 
-    pub still : Holds r y (older ++ d ∷ [])
+    still : Holds r y (older ++ d ∷ [])
     still = written.0
 
     length_stands : Stands r (total older + 2) (two_bytes (len_of d + 2)) y z
     length_stands = subst (λ (m : ℕ). Stands r (total older + 2) (two_bytes (len_of d + 2)) y (put (at r q) (two_bytes (m + 2)) y)) (sym len_found)
         (stands r y y_inside (total older + 2) q (two_bytes (len_of d + 2)) still.oldest.below (subst (λ (m : ℕ). IsPlace r.size m (total older + 2) q) (sym word_stands.oldest) length_place) q_fits (omega (arith, room)))
 
-    pub counted : Holds r z (older ++ with_word w d ∷ [])
+    counted : Holds r z (older ++ with_word w d ∷ [])
     counted = longer r shape y y_inside older d w written.0 (drop 2 h.rest) z written.1 length_stands (longer_day w d day takes)
 
-  -- from the list of the days to its last
-  of_days : {T : Type 0} (days : List Day) → Holds r x days → OnNewest (TakesWord w) days → total days + 2 ≤ r.size
-      → ((older : List Day) (d : Day) → days ≡ older ++ d ∷ [] → Holds r x (older ++ d ∷ []) → TakesWord w d → total older + len_of d + 2 ≤ r.size → T) → T
-  of_days days h on room then_so =
-      let s = split (TakesWord w) days on in
-      let whole : total days ≡ total (s.older ++ s.newest ∷ []) = ap total s.is in
-      then_so s.older s.newest s.is (subst (λ (l : List Day). Holds r x l) s.is h) (newest_on (TakesWord w) s.older s.newest (subst (λ (l : List Day). OnNewest (TakesWord w) l) s.is on))
-      (omega (arith, room, whole, total-append s.older (s.newest ∷ [])))
+    counted_newest : newest_of r z ≡ newest_of r x
+    counted_newest = length_stands.newest ∙ word_stands.newest
 
-  pub appended : IsAppended r w x z
-  appended = record {
-    outside = z_outside;
-    list = λ days h on room. of_days days h on room (λ older d is g takes fits.
-        subst (λ (l : List Day). Holds r z l) (sym (ap (λ (l : List Day). with_newest (with_word w) l) is ∙ with_last (with_word w) older d)) (counted older d g takes fits));
-  }
+    counted_front : take 2 (circle_of r z) ≡ take 2 (circle_of r x)
+    counted_front = stands_front r y y_inside (total older + 2) (two_bytes (len_of d + 2)) z (omega arith) (omega (arith, room)) length_stands
+        ∙ stands_front r x inside (total older + len_of d) (two_bytes w) y (omega arith) room word_stands
 
-  at_x : IsAppending r w x x
-  at_x = record { outside = outside_same r.base (4 + r.size) x; list = λ days h on room. inl h }
+  -- The days that are there: the writes count the word, and before the second one nothing has changed.
+  module _ (days : List Day) (h : Holds r x days) (on : OnNewest (TakesWord w) days) (len_is : len ≡ last_len days) (room : total days + 2 ≤ r.size) where
+    ends : Split days
+    ends = split (TakesWord w) days on
 
-  at_y : IsAppending r w x y
-  at_y = record {
-    outside = y_outside;
-    list = λ days h on room. inl (of_days days h on room (λ older d is g takes fits. subst (λ (l : List Day). Holds r y l) (sym is) (still older d g takes fits)));
-  }
+    abbrev older : List Day
+    older = ends.older
 
-  at_z : IsAppending r w x z
-  at_z = record { outside = z_outside; list = λ days h on room. inr (appended.list days h on room) }
+    abbrev d : Day
+    d = ends.newest
 
-  pub while_word : (c : List ℕ) → IsPartlyWritten (at r p) (two_bytes w) x c → IsAppending r w x c
-  while_word c part = ⊎_elim (λ is. subst (λ (l : List ℕ). IsAppending r w x l) (sym is) at_x) (λ is. subst (λ (l : List ℕ). IsAppending r w x l) (sym is) at_y) (part.whole (lit≤ tt))
+    g : Holds r x (older ++ d ∷ [])
+    g = subst (λ (l : List Day). Holds r x l) ends.is h
 
-  pub while_length : (c : List ℕ) → IsPartlyWritten (at r q) (two_bytes (len + 2)) y c → IsAppending r w x c
-  while_length c part = ⊎_elim (λ is. subst (λ (l : List ℕ). IsAppending r w x l) (sym is) at_y) (λ is. subst (λ (l : List ℕ). IsAppending r w x l) (sym is) at_z) (part.whole (lit≤ tt))
+    takes : TakesWord w d
+    takes = newest_on (TakesWord w) older d (subst (λ (l : List Day). OnNewest (TakesWord w) l) ends.is on)
+
+    found : len ≡ len_of d
+    found = len_is ∙ ap last_len ends.is ∙ last_len_last older d
+
+    fits : total older + len_of d + 2 ≤ r.size
+    fits = omega (arith, room, ap total ends.is, total-append older (d ∷ []))
+
+    longer_days : with_newest (with_word w) days ≡ older ++ with_word w d ∷ []
+    longer_days = ap (λ (l : List Day). with_newest (with_word w) l) ends.is ∙ with_last (with_word w) older d
+
+    kept : Holds r y days
+    kept = subst (λ (l : List Day). Holds r y l) (sym ends.is) (still older d g takes found fits)
+
+    pub appended : Holds r z (with_newest (with_word w) days)
+    appended = subst (λ (l : List Day). Holds r z l) (sym longer_days) (counted older d g takes found fits)
+
+    pub newest_same : newest_of r z ≡ newest_of r x
+    newest_same = counted_newest older d g takes found fits
+
+    pub front_same : take 2 (circle_of r z) ≡ take 2 (circle_of r x)
+    front_same = counted_front older d g takes found fits
+
+    pub while_appending : (c : List ℕ) → IsPartway (piece (at r p) (two_bytes w) ∷ piece (at r q) (two_bytes (len + 2)) ∷ []) x c → Holds r c days ⊎ Holds r c (with_newest (with_word w) days)
+    while_appending c (inl part) = inl (⊎_elim (λ is. subst (λ (l : List ℕ). Holds r l days) (sym is) h) (λ is. subst (λ (l : List ℕ). Holds r l days) (sym is) kept) (part.whole (lit≤ tt)))
+    while_appending c (inr (inl part)) = ⊎_elim (λ is. inl (subst (λ (l : List ℕ). Holds r l days) (sym is) kept)) (λ is. inr (subst (λ (l : List ℕ). Holds r l (with_newest (with_word w) days)) (sym is) appended)) (part.whole (lit≤ tt))
+    while_appending c (inr (inr none)) = absurd none

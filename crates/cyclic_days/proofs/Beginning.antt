@@ -1,24 +1,24 @@
 -- The writes of a new day.
-use Rattle.std.proofs.Common.{◌≡◌, ◌≢◌, ◌⊎◌, inl, inr, ⊎_elim, ℕ, ◌+◌, ◌*◌, ◌/◌, ◌%◌, ◌<◌, ◌≤◌, Bool, true, false, cond, List, [], ◌∷◌, ◌++◌, length, drop, refl, sym, ◌∙◌, ap, subst, arith, lit≤, append_assoc}
+use Rattle.std.proofs.Common.{◌≡◌, ◌≢◌, ◌⊎◌, inl, inr, ⊎_elim, ℕ, ◌+◌, ◌*◌, ◌/◌, ◌%◌, ◌<◌, ◌≤◌, Bool, true, false, cond, List, [], ◌∷◌, ◌++◌, length, take, drop, refl, sym, ◌∙◌, ap, subst, arith, lit≤, append_assoc}
 use Rattle.std.specs.Prelude.{◌==◌}
 use Rattle.std.proofs.lemmas.Bool.Decides.{nat_tests}
 use Rattle.std.proofs.lemmas.List.{append-nil}
-use Rattle.tach_media.specs.Medium.{put, bytes_at, SameOutside}
+use Rattle.tach_media.specs.Medium.{put, bytes_at}
 use Rattle.tach_media.specs.LogLaws.{put_outside}
-use Rattle.tach_media.proofs.Images.{outside_same, outside_then, outside_wider, part_before}
+use Rattle.tach_media.proofs.Images.{part_before}
 use Rattle.card_model.specs.Days.{last_len, Day, len_of, total, far, body, record_of, records, IsDay, AreDays}
 use Rattle.card_model.specs.Bytes.{number, two_bytes}
 use Rattle.card_model.specs.Changes.{next_counter, new_day, IsLater, IsNext}
 use Rattle.card_model.specs.Image.{Shape, IsShape, oldest_of, newest_of, circle_of, IsPointer, IsPlace, spot, Holds, at}
-use Rattle.cyclic_days.specs.Steps.{preceded, filled, measured, begun, IsBeginStep, IsPlacing, IsPlaced}
+use Rattle.cyclic_days.specs.Steps.{preceded, filled, measured, begun, IsBeginStep}
 use Rattle.card_model.proofs.Circle.{put_back}
 use Rattle.card_model.proofs.Lists.{records_length, previous_of, records-append, far_last}
 use Rattle.cyclic_days.proofs.Lists.{strict_words, few_strict}
-use Rattle.cyclic_days.proofs.Places.{Stands, stands, points}
+use Rattle.cyclic_days.proofs.Places.{Stands, stands, points, stands_front}
 use Rattle.card_model.proofs.Circle.{circle_length}
 use Rattle.card_model.proofs.Reading.{place_then, fills}
 use Rattle.cyclic_days.proofs.Holding.{beyond}
-use Rattle.cyclic_days.proofs.Rounds.{Covered, rounds, covers, spot_is, rounding_outside, round_outside}
+use Rattle.cyclic_days.proofs.Rounds.{Covered, rounds, covers, spot_is}
 use Rattle.card_model.proofs.Lists.{last_len_is}
 
 -- what stands before a further day
@@ -66,11 +66,9 @@ same_start : (size o n p : ℕ) → n < size → p < size → o < size → IsPla
 same_start size o n p n_below p_below o_below first next = ⊎_elim
     (λ a. ⊎_elim (λ b. omega (arith, a, b)) (λ b. absurd (omega (arith, b, o_below))) next) (λ a. absurd (omega (arith, a, o_below))) first
 
--- What the code read: the newest day's place, its length, and the bytes of the new one.
+-- Where the newest day begins and how long it is, where the new one goes, and its bytes.
 module _ (r : Shape) (shape : IsShape r) (x : List ℕ) (inside : r.base + (4 + r.size) ≤ length x) (n p len date : ℕ) (words bytes : List ℕ) (few : length words ≤ 2)
-    (n_is : IsPointer r.size (newest_of r x) → n ≡ newest_of r x) (n_pointer : IsPointer r.size n) (len_is : (days : List Day) → Holds r x days → len ≡ last_len days)
-    (p_place : IsPlace r.size n len p) (p_pointer : IsPointer r.size p)
-    (bytes_is : (days : List Day) → Holds r x days → bytes ≡ body (new_day days date words)) (bytes_long : length bytes ≡ 8 + 2 * length words) where
+    (n_pointer : IsPointer r.size n) (p_place : IsPlace r.size n len p) (p_pointer : IsPointer r.size p) (bytes_long : length bytes ≡ 8 + 2 * length words) where
   abbrev y1 : List ℕ
   y1 = preceded r p len x
 
@@ -98,7 +96,8 @@ module _ (r : Shape) (shape : IsShape r) (x : List ℕ) (inside : r.base + (4 + 
   two_fit : (m : ℕ) → IsPointer r.size m → m + 2 ≤ r.size
   two_fit m pointer = omega (arith, pointer.below, pointer.even, shape.even)
 
-  module _ (days : List Day) (h : Holds r x days) (next : IsNext days date words) (room : total days + (12 + 2 * length words) ≤ r.size) where
+  module _ (days : List Day) (h : Holds r x days) (next : IsNext days date words) (room : total days + (12 + 2 * length words) ≤ r.size)
+      (n_is : n ≡ newest_of r x) (len_is : len ≡ last_len days) (bytes_is : bytes ≡ body (new_day days date words)) where
     abbrev k : ℕ
     k = total days
 
@@ -109,10 +108,10 @@ module _ (r : Shape) (shape : IsShape r) (x : List ℕ) (inside : r.base + (4 + 
     new = new_day days date words
 
     newest_place : IsPlace r.size o (far days) n
-    newest_place = subst (λ (m : ℕ). IsPlace r.size o (far days) m) (sym (n_is h.newest)) h.distance
+    newest_place = subst (λ (m : ℕ). IsPlace r.size o (far days) m) (sym n_is) h.distance
 
     whole : far days + len ≡ k
-    whole = omega (arith, len_is days h, last_len_is days)
+    whole = omega (arith, len_is, last_len_is days)
 
     p_far : IsPlace r.size o k p
     p_far = subst (λ (m : ℕ). IsPlace r.size o m p) whole (place_then r.size o (far days) n len p h.oldest.below n_pointer.below p_pointer.below (omega (arith, whole, room)) newest_place p_place)
@@ -187,7 +186,7 @@ module _ (r : Shape) (shape : IsShape r) (x : List ℕ) (inside : r.base + (4 + 
         ∙ put_back 2 (two_bytes m) front (put 4 bytes (put 0 (two_bytes len) h.rest))
         ∙ ap (λ (l : List ℕ). front ++ l) (three len m bytes h.rest (omega (arith, rest_long)))
         ∙ ap (λ (j : ℕ). front ++ (two_bytes len ++ (two_bytes j ++ (bytes ++ drop (length bytes) (drop 4 h.rest))))) m_is
-        ∙ ap (λ (l : List ℕ). front ++ (two_bytes len ++ (two_bytes (len_of new) ++ (l ++ drop (length bytes) (drop 4 h.rest))))) (bytes_is days h)
+        ∙ ap (λ (l : List ℕ). front ++ (two_bytes len ++ (two_bytes (len_of new) ++ (l ++ drop (length bytes) (drop 4 h.rest))))) bytes_is
 
     first_of : List Day → ℕ → ℕ
     first_of [] q = len
@@ -213,7 +212,7 @@ module _ (r : Shape) (shape : IsShape r) (x : List ℕ) (inside : r.base + (4 + 
               (subst (λ (m : ℕ). IsPlace r.size o (far (days ++ new ∷ [])) m) (sym newest) (subst (λ (m : ℕ). IsPlace r.size o m p) (sym (far_last days new)) p_far));
           previous = first_of days h.previous;
           rest = drop (length bytes) (drop 4 h.rest);
-          spelled = circle ∙ circle_3 ∙ spelled_with days h.previous (drop (length bytes) (drop 4 h.rest)) (len_is days h);
+          spelled = circle ∙ circle_3 ∙ spelled_with days h.previous (drop (length bytes) (drop 4 h.rest)) len_is;
           empty = λ none. absurd (nothing days none);
           ordered = follows_any days new h.ordered next.later (new_is days date words next);
         }
@@ -227,7 +226,7 @@ module _ (r : Shape) (shape : IsShape r) (x : List ℕ) (inside : r.base + (4 + 
     held_3 some = (beyond r shape y2 y2_inside days (k + 2) 2 (two_bytes (4 + length bytes)) y3 held_2 refl s3 (λ none. absurd (some none))).0
 
     n_same : newest_of r y3 ≡ n
-    n_same = s3.newest ∙ s2.newest ∙ s1.newest ∙ sym (n_is h.newest)
+    n_same = s3.newest ∙ s2.newest ∙ s1.newest ∙ sym n_is
 
     pub commit_same : n ≡ p → Holds r y3 (days ++ new ∷ [])
     commit_same same = commit y3 refl (n_same ∙ same) refl
@@ -250,65 +249,52 @@ module _ (r : Shape) (shape : IsShape r) (x : List ℕ) (inside : r.base + (4 + 
         by [] is = inr (commit_same (empty_same is))
         by (d ∷ ds) is = inl (held_3 (λ none. let absurd_is : d ∷ ds ≡ [] = sym is ∙ none in cc))
 
-  -- the frame, whatever the image holds
-  short : length bytes ≤ r.size
-  short = omega (arith, bytes_long, few, shape.low)
+    pub placed : Holds r z (days ++ new ∷ [])
+    placed = by (n == p) refl
+      where
+        by : (test : Bool) → (n == p) ≡ test → Holds r (cond test y3 (put (r.base + 2) (two_bytes p) y3)) (days ++ new ∷ [])
+        by true test = let same : n ≡ p = grind (arith, nat_tests, test) in commit_same same
+        by false test = commit_put
 
-  in_string : (q n : ℕ) (u v : List ℕ) → q + n ≤ r.size → SameOutside (at r q) n u v → SameOutside r.base (4 + r.size) u v
-  in_string q n u v fits same = outside_wider r.base (4 + r.size) (at r q) n u v same (omega arith) (omega (arith, fits))
+    pub newest_placed : newest_of r z ≡ p
+    newest_placed = by (n == p) refl
+      where
+        by : (test : Bool) → (n == p) ≡ test → newest_of r (cond test y3 (put (r.base + 2) (two_bytes p) y3)) ≡ p
+        by true test = let same : n ≡ p = grind (arith, nat_tests, test) in n_same ∙ same
+        by false test = (points r y3 y3_inside p).newest
 
-  y1_outside : SameOutside r.base (4 + r.size) x y1
-  y1_outside = in_string p 2 x y1 (two_fit p p_pointer) (put_outside (at r p) (two_bytes len) x (omega (arith, two_fit p p_pointer, inside)))
+    -- the first two bytes of the circle
+    circle_z : circle_of r z ≡ circle_of r y3
+    circle_z = by (n == p)
+      where
+        by : (test : Bool) → circle_of r (cond test y3 (put (r.base + 2) (two_bytes p) y3)) ≡ circle_of r y3
+        by true = refl
+        by false = (points r y3 y3_inside p).circle
 
-  y1_in : r.base + (4 + r.size) ≤ length y1
-  y1_in = omega (arith, inside, y1_outside.same_length)
+    front_3 : take 2 (circle_of r z) ≡ take 2 (circle_of r y1)
+    front_3 = ap (λ (l : List ℕ). take 2 l) circle_z ∙ stands_front r y2 y2_inside (k + 2) (two_bytes (4 + length bytes)) y3 (omega arith) (omega (arith, room)) s3
+        ∙ stands_front r y1 y1_inside (k + 4) bytes y2 (omega arith) free_fits s2
 
-  y2_outside : SameOutside r.base (4 + r.size) x y2
-  y2_outside = outside_then r.base (4 + r.size) x y1 y2 y1_outside (round_outside r y1 y1_in b bytes b_is.1.below short)
+    pub front_first : days ≡ [] → take 2 (circle_of r z) ≡ two_bytes 0
+    front_first none =
+        let len_none : len ≡ 0 = len_is ∙ ap last_len none in
+        front_3 ∙ ap (λ (l : List ℕ). take 2 l) s1.circle ∙ ap (λ (m : ℕ). take 2 (put m (two_bytes len) (circle_of r x))) (ap total none) ∙ ap two_bytes len_none
 
-  y2_in : r.base + (4 + r.size) ≤ length y2
-  y2_in = omega (arith, inside, y2_outside.same_length)
+    pub front_same : 2 ≤ k → take 2 (circle_of r z) ≡ take 2 (circle_of r x)
+    front_same some = front_3 ∙ stands_front r x inside k (two_bytes len) y1 some (omega (arith, room)) s1
 
-  y3_outside : SameOutside r.base (4 + r.size) x y3
-  y3_outside = outside_then r.base (4 + r.size) x y2 y3 y2_outside (in_string a 2 y2 y3 (two_fit a a_is.1) (put_outside (at r a) (two_bytes (4 + length bytes)) y2 (omega (arith, two_fit a a_is.1, y2_in))))
+    pub again : days ≡ [] → (oldest_of r z ≡ oldest_of r x) × (newest_of r z ≡ oldest_of r x)
+    again none = (oldest_z (n == p), newest_placed ∙ start)
+      where
+        oldest_z : (test : Bool) → oldest_of r (cond test y3 (put (r.base + 2) (two_bytes p) y3)) ≡ oldest_of r x
+        oldest_z true = s3.oldest ∙ o_same
+        oldest_z false = (points r y3 y3_inside p).oldest ∙ (s3.oldest ∙ o_same)
 
-  y3_in : r.base + (4 + r.size) ≤ length y3
-  y3_in = omega (arith, inside, y3_outside.same_length)
+        start : p ≡ oldest_of r x
+        start = let nothing = ap total none in ⊎_elim (λ is. omega (arith, is, nothing)) (λ is. absurd (omega (arith, is, nothing, h.oldest.below))) p_far
 
-  abbrev y4 : List ℕ
-  y4 = put (r.base + 2) (two_bytes p) y3
-
-  y4_outside : SameOutside r.base (4 + r.size) x y4
-  y4_outside = outside_then r.base (4 + r.size) x y3 y4 y3_outside (points r y3 y3_in p).outside
-
-  pub placed : IsPlaced r date words x z
-  placed = by (n == p) refl
-    where
-      by : (test : Bool) → (n == p) ≡ test → IsPlaced r date words x (cond test y3 y4)
-      by true test = let same : n ≡ p = grind (arith, nat_tests, test) in record { outside = y3_outside; list = λ days h next room. commit_same days h next room same }
-      by false test = record { outside = y4_outside; list = λ days h next room. commit_put days h next room }
-
-  at_x : IsPlacing r date words x x
-  at_x = record { outside = outside_same r.base (4 + r.size) x; list = λ days h next room. inl h }
-
-  at_1 : IsPlacing r date words x y1
-  at_1 = record { outside = y1_outside; list = λ days h next room. inl (held_1 days h next room).0 }
-
-  at_2 : IsPlacing r date words x y2
-  at_2 = record { outside = y2_outside; list = λ days h next room. inl (held_2 days h next room) }
-
-  at_3 : IsPlacing r date words x y3
-  at_3 = record { outside = y3_outside; list = λ days h next room. after_length days h next room }
-
-  at_4 : IsPlacing r date words x y4
-  at_4 = record { outside = y4_outside; list = λ days h next room. inr (commit_put days h next room) }
-
-  pub placing : (c : List ℕ) → IsBeginStep r n p len bytes x c → IsPlacing r date words x c
-  placing c (inl part) = ⊎_elim (λ is. subst (λ (l : List ℕ). IsPlacing r date words x l) (sym is) at_x) (λ is. subst (λ (l : List ℕ). IsPlacing r date words x l) (sym is) at_1) (part.whole (lit≤ tt))
-  placing c (inr (inl round)) = record {
-    outside = outside_then r.base (4 + r.size) x y1 c y1_outside (rounding_outside r y1 y1_in b bytes b_is.1.below short c round);
-    list = λ days h next room. inl (held_c days h next room c (covers r y1 (y1_inside days h next room) (total days + 4) b bytes (held_1 days h next room).0.oldest.below b_is.1.below
-        (subst (λ (m : ℕ). IsPlace r.size m (total days + 4) b) (sym (s1 days h next room).oldest) (b_far days h next room)) (free_fits days h next room) c round));
-  }
-  placing c (inr (inr (inl part))) = ⊎_elim (λ is. subst (λ (l : List ℕ). IsPlacing r date words x l) (sym is) at_2) (λ is. subst (λ (l : List ℕ). IsPlacing r date words x l) (sym is) at_3) (part.whole (lit≤ tt))
-  placing c (inr (inr (inr (other, part)))) = ⊎_elim (λ is. subst (λ (l : List ℕ). IsPlacing r date words x l) (sym is) at_3) (λ is. subst (λ (l : List ℕ). IsPlacing r date words x l) (sym is) at_4) (part.whole (lit≤ tt))
+    pub placing : (c : List ℕ) → IsBeginStep r n p len bytes x c → Holds r c days ⊎ Holds r c (days ++ new ∷ [])
+    placing c (inl part) = inl (⊎_elim (λ is. subst (λ (l : List ℕ). Holds r l days) (sym is) h) (λ is. subst (λ (l : List ℕ). Holds r l days) (sym is) held_1.0) (part.whole (lit≤ tt)))
+    placing c (inr (inl round)) = inl (held_c c (covers r y1 y1_inside (k + 4) b bytes held_1.0.oldest.below b_is.1.below (subst (λ (m : ℕ). IsPlace r.size m (k + 4) b) (sym s1.oldest) b_far) free_fits c round))
+    placing c (inr (inr (inl part))) = ⊎_elim (λ is. inl (subst (λ (l : List ℕ). Holds r l days) (sym is) held_2)) (λ is. subst (λ (l : List ℕ). Holds r l days ⊎ Holds r l (days ++ new ∷ [])) (sym is) after_length) (part.whole (lit≤ tt))
+    placing c (inr (inr (inr (other, part)))) = ⊎_elim (λ is. subst (λ (l : List ℕ). Holds r l days ⊎ Holds r l (days ++ new ∷ [])) (sym is) after_length) (λ is. inr (subst (λ (l : List ℕ). Holds r l (days ++ new ∷ [])) (sym is) commit_put)) (part.whole (lit≤ tt))

@@ -87,7 +87,7 @@ far_past [] d e es = omega arith
 far_past (f ∷ []) d e es = omega (arith, far_past [] d e es)
 far_past (f ∷ g ∷ older) d e es = omega (arith, far_past (g ∷ older) d e es)
 
-far_below : (r : Shape) (shape : IsShape r) (x : List ℕ) → r.base + (4 + r.size) ≤ length x → (days : List Day) → Holds r x days → far days < r.size
+pub far_below : (r : Shape) (shape : IsShape r) (x : List ℕ) → r.base + (4 + r.size) ≤ length x → (days : List Day) → Holds r x days → far days < r.size
 far_below r shape x inside [] h = omega (arith, shape.low)
 far_below r shape x inside (d ∷ ds) h = omega (arith, fills r shape x inside (d ∷ ds) h, last_len_is (d ∷ ds), last_least 0 d ds h.ordered)
 

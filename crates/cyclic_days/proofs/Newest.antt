@@ -19,7 +19,7 @@ use Rattle.card_model.proofs.Lists.{last_len_is}
 use Rattle.card_model.proofs.Numbers.{decimal_same}
 use Rattle.card_model.proofs.Lists.{last_least}
 
-counter_last : (ds : List Day) (d : Day) → next_counter (ds ++ d ∷ []) ≡ counter_after d.counter
+pub counter_last : (ds : List Day) (d : Day) → next_counter (ds ++ d ∷ []) ≡ counter_after d.counter
 counter_last [] d = refl
 counter_last (e ∷ []) d = refl
 counter_last (e ∷ f ∷ ds) d = counter_last (f ∷ ds) d

@@ -7,7 +7,7 @@ use Rattle.tach_media.proofs.Images.{part_before, part_after, part_put, outside_
 use Rattle.card_model.specs.Bytes.{number, two_bytes}
 use Rattle.card_model.specs.Image.{Shape, turned, oldest_of, newest_of, string_of, circle_of, IsPlace, at}
 use Rattle.card_model.proofs.Circle.{put_front, put_back, put_length, turned_put, turned_twice}
-use Rattle.card_model.proofs.Circle.{string_length}
+use Rattle.card_model.proofs.Circle.{string_length, circle_length}
 use Rattle.card_model.proofs.Numbers.{number_two}
 
 -- bytes that were written so far behind the oldest day, and nothing else
@@ -64,6 +64,12 @@ module _ (r : Shape) (x : List ℕ) (inside : r.base + (4 + r.size) ≤ length x
         circle = ap (λ (n : ℕ). turned n (string_of r y)) oldest ∙ ap (λ (l : List ℕ). turned (oldest_of r x) l) (string_put p b fits)
             ∙ turned_put s b (oldest_of r x) k p (omega (arith, below, s_length)) (omega (arith, fits, s_length)) (omega (arith, fits_too, s_length)) (subst (λ (n : ℕ). IsPlace n (oldest_of r x) k p) (sym s_length) place);
       }
+
+  -- a write behind them leaves the first two bytes
+  pub stands_front : (k : ℕ) (b y : List ℕ) → 2 ≤ k → k + length b ≤ r.size → Stands r k b x y → take 2 (circle_of r y) ≡ take 2 (circle_of r x)
+  stands_front k b y behind fits s =
+      let le : k + length b ≤ length (circle_of r x) = omega (arith, fits, circle_length r x inside) in
+      ap (λ (l : List ℕ). take 2 l) s.circle ∙ part_before k (length b) 0 2 (circle_of r x) (put k b (circle_of r x)) (put_outside k b (circle_of r x) le) (omega (arith, behind))
 
   -- the oldest pointer, moved to a place so far behind it
   pub turns : (k p : ℕ) → oldest_of r x < r.size → p < r.size → k ≤ r.size → IsPlace r.size (oldest_of r x) k p → Turned r k p x (put r.base (two_bytes p) x)

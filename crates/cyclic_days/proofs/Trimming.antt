@@ -171,7 +171,7 @@ trimming_then r date i j x y c first next = record {
 pub trimming_none : (r : Shape) (date : ℕ) (x : List ℕ) → IsTrimming r date 0 x x
 trimming_none r date x = record { outside = outside_same r.base (4 + r.size) x; list = λ days h. (days, record { gone = []; is = sym (append-nil days); later = tt; many = lit≤ tt }, h) }
 
-until_none : (date : ℕ) (gone : List Day) → AllLater date gone → until date gone ≡ []
+pub until_none : (date : ℕ) (gone : List Day) → AllLater date gone → until date gone ≡ []
 until_none date [] later = refl
 until_none date (g ∷ gs) later = let test : nat_le g.date date ≡ false = not_at_most g.date date later.0 in ap (λ (b : Bool). cond b (g ∷ until date gs) []) test
   where

@@ -2,4 +2,6 @@ pub mod Moments
 pub mod Steps
 pub mod Trim
 pub mod Heads
+pub mod Held
+pub mod Plans
 pub mod Loading

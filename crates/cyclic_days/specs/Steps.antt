@@ -1,41 +1,16 @@
 -- What the steps of a write on the string do.
-use Rattle.std.specs.Prelude.{◌≡◌, ◌⊎◌, ℕ, ◌+◌, ◌-◌, ◌<◌, ◌≤◌, ◌≢◌, List, [], ◌∷◌, ◌++◌, length, take, drop, nat_le, ◌==◌, if◌then◌else◌, ◌*◌}
-use Rattle.tach_media.specs.Medium.{State, put, SameOutside, IsPartlyWritten, IsSettled, last_count}
+use Rattle.std.specs.Prelude.{◌≡◌, ◌⊎◌, false, ℕ, ◌+◌, ◌-◌, ◌<◌, ◌≤◌, ◌≢◌, List, [], ◌∷◌, ◌++◌, length, take, drop, nat_le, ◌==◌, if◌then◌else◌, ◌*◌}
+use Rattle.tach_media.specs.Medium.{State, Reads, LeavesOnly, Unchanged, put, SameOutside, IsPartlyWritten, IsSettled, last_count}
 use Rattle.card_model.specs.Bytes.{two_bytes}
 use Rattle.card_model.specs.Days.{Day, total}
-use Rattle.card_model.specs.Changes.{Remain, with_newest, OnNewest, with_word, TakesWord, with_km, new_day, IsNext}
+use Rattle.card_model.specs.Changes.{with_newest, OnNewest, with_word, TakesWord, with_km, new_day, IsNext}
+use Rattle.cyclic_days.specs.Held.{Held, Knows}
 use Rattle.card_model.specs.Image.{Shape, Holds, IsPointer, at, oldest_of, spot}
-
--- the image after the oldest day was dropped, where the next one begins at a place
-abbrev pub dropped : Shape → ℕ → List ℕ → List ℕ
-dropped r next x = put (at r next) (two_bytes 0) (put r.base (two_bytes next) x)
-
--- a moment of these two writes
-abbrev pub IsDropStep : Shape → ℕ → List ℕ → List ℕ → Type 0
-IsDropStep r next x c = IsPartlyWritten r.base (two_bytes next) x c ⊎ IsPartlyWritten (at r next) (two_bytes 0) (put r.base (two_bytes next) x) c
 
 -- the days without the oldest where they do not fit
 abbrev pub roomier : ℕ → List Day → List Day
 roomier room [] = []
 roomier room (d ∷ ds) = if nat_le (total (d ∷ ds)) room then d ∷ ds else ds
-
--- a moment at which days are dropped
-pub record IsDropping (r : Shape) (new : ℕ) (x c : List ℕ) : Type 0 where
-  pub outside : SameOutside r.base (4 + r.size) x c
-  pub list : (days : List Day) → Holds r x days → (kept : List Day) × Remain (r.size - new) days kept × Holds r c kept
-
-pub record IsRoomier (r : Shape) (new : ℕ) (x y : List ℕ) : Type 0 where
-  pub outside : SameOutside r.base (4 + r.size) x y
-  pub list : (days : List Day) → Holds r x days → Holds r y (roomier (r.size - new) days)
-
--- a word is written behind the newest day, and then counted
-pub record IsAppending (r : Shape) (w : ℕ) (x c : List ℕ) : Type 0 where
-  pub outside : SameOutside r.base (4 + r.size) x c
-  pub list : (days : List Day) → Holds r x days → OnNewest (TakesWord w) days → total days + 2 ≤ r.size → Holds r c days ⊎ Holds r c (with_newest (with_word w) days)
-
-pub record IsAppended (r : Shape) (w : ℕ) (x y : List ℕ) : Type 0 where
-  pub outside : SameOutside r.base (4 + r.size) x y
-  pub list : (days : List Day) → Holds r x days → OnNewest (TakesWord w) days → total days + 2 ≤ r.size → Holds r y (with_newest (with_word w) days)
 
 -- bytes on the string, round its end
 abbrev pub put_round : Shape → ℕ → List ℕ → List ℕ → List ℕ
@@ -73,15 +48,6 @@ IsBeginStep r n p len bytes x c =
     ⊎ (IsPartlyWritten (at r (spot r.size p 2)) (two_bytes (4 + length bytes)) (filled r p len bytes x) c
     ⊎ IsPointing r n p (measured r p len bytes x) c))
 
--- a moment of the writes of a new day where there is room, and what they leave
-pub record IsPlacing (r : Shape) (date : ℕ) (words x c : List ℕ) : Type 0 where
-  pub outside : SameOutside r.base (4 + r.size) x c
-  pub list : (days : List Day) → Holds r x days → IsNext days date words → total days + (12 + 2 * length words) ≤ r.size → Holds r c days ⊎ Holds r c (days ++ new_day days date words ∷ [])
-
-pub record IsPlaced (r : Shape) (date : ℕ) (words x y : List ℕ) : Type 0 where
-  pub outside : SameOutside r.base (4 + r.size) x y
-  pub list : (days : List Day) → Holds r x days → IsNext days date words → total days + (12 + 2 * length words) ≤ r.size → Holds r y (days ++ new_day days date words ∷ [])
-
 -- the days are the same
 pub record SameDays (r : Shape) (x c : List ℕ) : Type 0 where
   pub outside : SameOutside r.base (4 + r.size) x c
@@ -100,6 +66,23 @@ pub record IsMeasuring (r : Shape) (km : ℕ) (x c : List ℕ) : Type 0 where
   pub outside : SameOutside r.base (4 + r.size) x c
   pub list : (days : List Day) → Holds r x days → days ≢ [] → Holds r c days ⊎ Holds r c (with_newest (with_km km) days)
 
+-- what is kept then is what the image tells then
+abbrev pub KnowsMeasured : (v next : Held) → ℕ → List ℕ → List ℕ → Type 0
+KnowsMeasured v next km x y = (days : List Day) → Knows v x days → days ≢ [] → Knows next y (with_newest (with_km km) days)
+
 -- a call that writes, or leaves the medium as it was
 abbrev pub SettlesIfSettled : State → State → Type 0
 SettlesIfSettled old new = (old.clock < last_count → IsSettled old) → new.clock < last_count → IsSettled new
+
+-- no call was made
+pub record IsIdle (old new : State) : Type 0 where
+  pub image : new.image ≡ old.image
+  pub leaves : LeavesOnly old new Unchanged
+  pub clock : new.clock ≡ old.clock
+  pub works : new.works ≡ old.works
+  pub faults : new.faults ≡ old.faults
+  pub breakdowns : new.breakdowns ≡ old.breakdowns
+
+-- a call that reads, or makes no call
+abbrev pub Looks : (old new : State) → Type 0
+Looks old new = Reads old new false ⊎ IsIdle old new

@@ -1,305 +1,134 @@
-ghost use Rattle.std.specs.Prelude.{◌≡◌, ◌≤◌, ◌<◌, ◌+◌, ◌%◌, ℕ, length, slice_index, IfOk, OnOk, IfSome, is_err, option_map, take, Some, None, []};
-ghost use Rattle.tach_media.specs.Medium.{LeavesOnly, Reads, HasCause, LiesInside, IsPartlyWritten, IsSettled, last_count, put, bytes_at};
+ghost use Rattle.std.specs.Prelude.{◌≡◌, ◌≢◌, ◌≤◌, ◌<◌, ◌+◌, ◌*◌, ◌%◌, ℕ, List, [], length, slice_get, slice_index, None, IfOk, IfErr, OnOk, IfSome, is_err};
+ghost use Rattle.std.specs.List.{last_or};
+ghost use Rattle.tach_media.specs.Medium.{LeavesOnly, Reads, HasCause, LiesInside, IsSettled, last_count};
+ghost use Rattle.card_model.specs.Checks.{first_bad};
 ghost use Rattle.card_model.specs.Days.{Day};
-ghost use Rattle.card_model.specs.Bytes.{number, two_bytes};
-ghost use Rattle.card_model.specs.Image.{Holds, IsAt, IsPlace, IsPointer, IsShape, at, newest_of, oldest_of, spot, string_of, turned};
+ghost use Rattle.card_model.specs.Image.{Holds, IsAt};
+ghost use Rattle.card_model.specs.Walk.{days_of};
+ghost use Rattle.cyclic_days.specs.Heads.{heads_of, IsAfter, IsBefore};
+ghost use Rattle.cyclic_days.specs.Held.{Knows, IsHeld, newest_len, tail_of, tail_in};
+ghost use Rattle.cyclic_days.specs.Loading.{shape_of, IfBadDays, has_failed};
 ghost use Rattle.cyclic_days.specs.Moments.{FitsIn};
-ghost use Rattle.cyclic_days.specs.Heads.{head_bytes, head_of};
-ghost use Rattle.cyclic_days.specs.Loading.{shape_of};
 
-mod trim;
+mod plan;
 mod write;
 
-use crate::DayHead;
-use crate::bytes::{read_two, write_two};
-use crate::head::RecordHead;
+use crate::circle::Circle;
+use crate::{DayHead, DaysFault, Tail};
 use card_layout::Range;
 use std::marker::Model;
 use tach_media::{Failed, Medium};
 
-/// The days of a string, which a medium holds.
+/// The days of a string, which a medium holds. The string's tail is kept between the calls, so that none reads what is
+/// known. After a `Failed` it is given up, and the string is loaded again.
 #[derive(Drop)]
 pub struct Days {
-    base: u32,
-    size: u32,
+    circle: Circle,
+    tail: Tail,
 }
 
 impl Model for Days {
-    ghost use Rattle.card_model.specs.Image.{Shape, IsShape};
+    ghost use Rattle.cyclic_days.specs.Held.{Held, IsHeld};
 
-    ghost Value = { Shape };
+    ghost Value = { Held };
 
-    ghost view = { λ r. record { base = r.base; size = r.size } };
+    ghost view = { λ d. record { shape = d.circle; tail = d.tail } };
 
-    ghost invariant = { λ r. IsShape (record { base = r.base; size = r.size }) };
+    ghost invariant = { λ d. IsHeld (record { shape = d.circle; tail = d.tail }) };
 }
 
 impl Days {
-    // The days of a range, which is the file of days.
-    pub(crate) fn of(range: Range) -> Days
-        requires { IsShape (shape_of range) }
-        ensures shape { result ≡ shape_of range }
-        ensures is { IsShape result }
+    /// The days of a range, which is the file Driver_Activity_Data. It writes nothing. `BadDays` comes exactly where the
+    /// string holds no list of days, with the place in the file where it first fails: the pointers; then of each day,
+    /// oldest first, its length, the length of the day before, its date, its counter and its words; and that the next
+    /// day begins at the newest pointer or before it.
+    pub fn load<M: Medium>(medium: &mut M, range: Range) -> Result<Days, DaysFault>
+        requires inside { range.base + range.len ≤ (M.state medium.old).size }
+        requires even { range.len % 2 ≡ 0 }
+        requires low { 5548 ≤ range.len }
+        requires high { range.len ≤ 13780 }
+        ensures shape { IfOk result (λ days. days.shape ≡ shape_of range) }
+        ensures days { IfOk result (λ days. IfSome (M.state medium.old).image (λ x. Knows days x (days_of (shape_of range) x))) }
+        ensures bad { IfErr result (λ fault. IfBadDays fault (λ p. IfSome (M.state medium.old).image (λ x. first_bad (shape_of range) x ≡ Some p))) }
+        ensures place { IfErr result (λ fault. IfBadDays fault (λ p. p < range.len)) }
+        ensures reads { Reads (M.state medium.old) (M.state medium.new) (has_failed result) }
     {
-        Days {
-            base: range.base,
-            size: range.len - 4,
+        let circle = Circle::load(medium, range)?;
+        let tail = circle.tail(medium)?;
+        Ok(Days { circle, tail })
+    }
+
+    /// The newest day's head, its latest word, and the bytes in use; `None` exactly where there is no day. It reads
+    /// nothing.
+    pub fn tail(&self) -> Option<Tail>
+        ensures tail { result ≡ tail_of self.now }
+        ensures newest { (x : List ℕ) (days : List Day) → Knows self.now x days → result ≡ tail_in self.now.shape x days }
+    {
+        if self.tail.used == 0 {
+            return None;
         }
+        Some(self.tail)
     }
 
-    // How many bytes the string has.
-    pub(crate) fn size(&self) -> u32
-        ensures { result ≡ self.now.size }
-    {
-        self.size
-    }
-
-    // A number, or 0 where it is no pointer.
-    pub(crate) fn pointer(&self, n: u32) -> u32
-        ensures same { IsPointer self.now.size n → result ≡ n }
-        ensures pointer { IsPointer self.now.size result }
-    {
-        let size = self.size;
-        if n < size && n % 2 == 0 { n } else { 0 }
-    }
-
-    // A number, or 0 where it is no length of a day.
-    pub(crate) fn day_len(n: u32) -> u32
-        ensures same { n % 2 ≡ 0 → n ≤ 2892 → result ≡ n }
-        ensures even { result % 2 ≡ 0 }
-        ensures most { result ≤ 2892 }
-    {
-        if n % 2 == 0 && n <= 2892 { n } else { 0 }
-    }
-
-    // The place so far behind another, round the end.
-    pub(crate) fn spot(&self, from: u32, distance: u32) -> u32
-        requires pointer { IsPointer self.now.size from }
-        requires even { distance % 2 ≡ 0 }
-        requires most { distance ≤ self.now.size }
-        ensures spot { result ≡ spot self.now.size from distance }
-        ensures place { IsPlace self.now.size from distance result }
-        ensures pointer { IsPointer self.now.size result }
-    {
-        let size = self.size;
-        let sum = from + distance;
-        if sum < size { sum } else { sum - size }
-    }
-
-    // How far a place lies behind another, round the end.
-    pub(crate) fn distance(&self, from: u32, to: u32) -> u32
-        requires pointer { IsPointer self.now.size from }
-        requires pointer_to { IsPointer self.now.size to }
-        ensures place { IsPlace self.now.size from result to }
-        ensures below { result < self.now.size }
-    {
-        let size = self.size;
-        if from <= to {
-            to - from
-        } else {
-            to + size - from
-        }
-    }
-
-    // The place so far before another, round the end.
-    pub(crate) fn back(&self, from: u32, distance: u32) -> u32
-        requires pointer { IsPointer self.now.size from }
-        requires even { distance % 2 ≡ 0 }
-        requires most { distance ≤ 2892 }
-        ensures place { IsPlace self.now.size result distance from }
-        ensures pointer { IsPointer self.now.size result }
-    {
-        let size = self.size;
-        if distance <= from {
-            from - distance
-        } else {
-            from + size - distance
-        }
-    }
-
-    // The oldest pointer.
-    pub(crate) fn oldest<M: Medium>(&self, medium: &mut M) -> Result<u32, Failed>
-        requires fits { FitsIn self.now (M.state medium.old) }
-        ensures oldest { IfOk result (λ p. IfSome (M.state medium.old).image (λ x. IsPointer self.now.size (oldest_of self.now x) → p ≡ oldest_of self.now x)) }
-        ensures pointer { IfOk result (λ p. IsPointer self.now.size p) }
-        ensures shape { IsShape self.now }
+    /// The head of the oldest day; `None` exactly where there is no day.
+    pub fn first<M: Medium>(&self, medium: &mut M) -> Result<Option<DayHead>, Failed>
+        requires fits { FitsIn self.now.shape (M.state medium.old) }
+        ensures first { IfOk result (λ o. IfSome (M.state medium.old).image (λ x. (days : List Day) → Holds self.now.shape x days → o ≡ slice_get (heads_of self.now.shape x days) 0)) }
+        ensures place { IfOk result (λ o. IfSome o (λ h. h.place < self.now.shape.size)) }
         ensures reads { Reads (M.state medium.old) (M.state medium.new) (is_err result) }
     {
-        let n = read_two(medium, self.base)?;
-        Ok(self.pointer(n))
+        self.circle.first(medium)
     }
 
-    // The newest pointer.
-    pub(crate) fn newest<M: Medium>(&self, medium: &mut M) -> Result<u32, Failed>
-        requires fits { FitsIn self.now (M.state medium.old) }
-        ensures newest { IfOk result (λ p. IfSome (M.state medium.old).image (λ x. IsPointer self.now.size (newest_of self.now x) → p ≡ newest_of self.now x)) }
-        ensures pointer { IfOk result (λ p. IsPointer self.now.size p) }
-        ensures shape { IsShape self.now }
+    /// The head of the newest day; `None` exactly where there is no day.
+    pub fn last<M: Medium>(&self, medium: &mut M) -> Result<Option<DayHead>, Failed>
+        requires fits { FitsIn self.now.shape (M.state medium.old) }
+        ensures last { IfOk result (λ o. IfSome (M.state medium.old).image (λ x. (days : List Day) → Holds self.now.shape x days → o ≡ last_or None (heads_of self.now.shape x days))) }
+        ensures place { IfOk result (λ o. IfSome o (λ h. h.place < self.now.shape.size)) }
         ensures reads { Reads (M.state medium.old) (M.state medium.new) (is_err result) }
     {
-        let n = read_two(medium, self.base + 2)?;
-        Ok(self.pointer(n))
+        self.circle.last(medium)
     }
 
-    // The length of the day at a place.
-    pub(crate) fn len_at<M: Medium>(&self, medium: &mut M, place: u32) -> Result<u32, Failed>
-        requires fits { FitsIn self.now (M.state medium.old) }
-        requires pointer { IsPointer self.now.size place }
-        ensures len { IfOk result (λ n. IfSome (M.state medium.old).image (λ x. (q : ℕ) → IsPlace self.now.size place 2 q → q < self.now.size
-            → number (bytes_at x (at self.now q) 2) % 2 ≡ 0 → number (bytes_at x (at self.now q) 2) ≤ 2892 → n ≡ number (bytes_at x (at self.now q) 2))) }
-        ensures even { IfOk result (λ n. n % 2 ≡ 0) }
-        ensures most { IfOk result (λ n. n ≤ 2892) }
-        ensures reads { Reads (M.state medium.old) (M.state medium.new) (is_err result) }
-    {
-        let field = self.base + 4 + self.spot(place, 2);
-        let n = read_two(medium, field)?;
-        Ok(Self::day_len(n))
-    }
-
-    // The length of the day before the one at a place.
-    pub(crate) fn previous_at<M: Medium>(&self, medium: &mut M, place: u32) -> Result<u32, Failed>
-        requires fits { FitsIn self.now (M.state medium.old) }
-        requires pointer { IsPointer self.now.size place }
-        ensures len { IfOk result (λ n. IfSome (M.state medium.old).image (λ x. number (bytes_at x (at self.now place) 2) % 2 ≡ 0 → number (bytes_at x (at self.now place) 2) ≤ 2892
-            → n ≡ number (bytes_at x (at self.now place) 2))) }
-        ensures even { IfOk result (λ n. n % 2 ≡ 0) }
-        ensures most { IfOk result (λ n. n ≤ 2892) }
-        ensures reads { Reads (M.state medium.old) (M.state medium.new) (is_err result) }
-    {
-        let field = self.base + 4 + place;
-        let n = read_two(medium, field)?;
-        Ok(Self::day_len(n))
-    }
-
-    // Reads bytes of the string that break over its end.
-    fn read_broken<M: Medium>(
+    /// The head of the day after one that is there; `None` exactly behind the newest. It follows the day's length.
+    pub fn after<M: Medium>(
         &self,
         medium: &mut M,
-        place: u32,
-        out: &mut [u8],
-    ) -> Result<(), Failed>
-        requires fits { FitsIn self.now (M.state medium.old) }
-        requires pointer { IsPointer self.now.size place }
-        requires breaks { self.now.size ≤ place + length out.old }
-        requires short { length out.old ≤ 12 }
-        ensures bytes { OnOk result (IfSome (M.state medium.old).image (λ x. out.new ≡ take (length out.old) (turned place (string_of self.now x)))) }
-        ensures reads { Reads (M.state medium.old) (M.state medium.new) (is_err result) }
-    {
-        let start = self.base + 4;
-        let room = (self.size - place) as usize;
-        let len = out.len();
-        medium.read_at(start + place, &mut out[0..room])?;
-        medium.read_at(start, &mut out[room..len])?;
-        Ok(())
-    }
-
-    // The twelve bytes at a place of the string, round its end.
-    fn twelve_at<M: Medium>(&self, medium: &mut M, place: u32) -> Result<[u8; 12], Failed>
-        requires fits { FitsIn self.now (M.state medium.old) }
-        requires pointer { IsPointer self.now.size place }
-        ensures shape { IsShape self.now }
-        ensures bytes { IfOk result (λ b. IfSome (M.state medium.old).image (λ x. b ≡ take 12 (turned place (string_of self.now x)))) }
-        ensures reads { Reads (M.state medium.old) (M.state medium.new) (is_err result) }
-    {
-        let mut bytes = [0u8; 12];
-        if self.size - place < 12 {
-            self.read_broken(medium, place, &mut bytes)?;
-            return Ok(bytes);
-        }
-        medium.read_at(self.base + 4 + place, &mut bytes)?;
-        Ok(bytes)
-    }
-
-    // The number in two bytes so far behind a place of the string, round its end.
-    pub(crate) fn two_at<M: Medium>(
-        &self,
-        medium: &mut M,
-        place: u32,
-        distance: u32,
-    ) -> Result<u32, Failed>
-        requires fits { FitsIn self.now (M.state medium.old) }
-        requires pointer { IsPointer self.now.size place }
-        requires even { distance % 2 ≡ 0 }
-        requires most { distance + 2 ≤ self.now.size }
-        ensures short { IfOk result (λ n. n < 65536) }
-        ensures spelled { IfOk result (λ n. IfSome (M.state medium.old).image (λ x. bytes_at (turned place (string_of self.now x)) distance 2 ≡ two_bytes n)) }
-        ensures reads { Reads (M.state medium.old) (M.state medium.new) (is_err result) }
-    {
-        let field = self.base + 4 + self.spot(place, distance);
-        read_two(medium, field)
-    }
-
-    // The numbers before the words of the day at a place.
-    pub(crate) fn head_at<M: Medium>(
-        &self,
-        medium: &mut M,
-        place: u32,
-    ) -> Result<RecordHead, Failed>
-        requires fits { FitsIn self.now (M.state medium.old) }
-        requires pointer { IsPointer self.now.size place }
-        ensures shape { IsShape self.now }
-        ensures short { IfOk result (λ h. h.counter < 65536) }
-        ensures head { IfOk result (λ h. IfSome (M.state medium.old).image (λ x. head_bytes h ≡ take 12 (turned place (string_of self.now x)))) }
-        ensures reads { Reads (M.state medium.old) (M.state medium.new) (is_err result) }
-    {
-        let bytes = self.twelve_at(medium, place)?;
-        Ok(RecordHead::new(&bytes))
-    }
-
-    // The head of the day at a place; `None` where the length there is 0.
-    pub(crate) fn day_at<M: Medium>(
-        &self,
-        medium: &mut M,
-        place: u32,
+        head: &DayHead,
     ) -> Result<Option<DayHead>, Failed>
-        requires fits { FitsIn self.now (M.state medium.old) }
-        requires pointer { IsPointer self.now.size place }
-        ensures there { IfOk result (λ o. IfSome (M.state medium.old).image (λ x. (d : Day) → IsAt self.now x place d → o ≡ Some (head_of place d))) }
-        ensures empty { IfOk result (λ o. IfSome (M.state medium.old).image (λ x. Holds self.now x [] → oldest_of self.now x ≡ place → o ≡ None)) }
-        ensures place { IfOk result (λ o. IfSome o (λ h. h.place ≡ place)) }
+        requires fits { FitsIn self.now.shape (M.state medium.old) }
+        requires place { head.now.place < 4 + self.now.shape.size }
+        ensures after { IfOk result (λ o. IfSome (M.state medium.old).image (λ x. IsAfter self.now.shape x head.now o)) }
+        ensures place { IfOk result (λ o. IfSome o (λ h. h.place < self.now.shape.size)) }
         ensures reads { Reads (M.state medium.old) (M.state medium.new) (is_err result) }
     {
-        let head = self.head_at(medium, place)?;
-        if head.len == 0 {
-            return Ok(None);
-        }
-        Ok(Some(head.at(place)))
+        self.circle.after(medium, head)
     }
 
-    // A word of the day that begins at a place.
-    pub(crate) fn word_at<M: Medium>(
+    /// The head of the day before one that is there; `None` exactly before the oldest. It follows the length that the
+    /// day tells of the one before it.
+    pub fn before<M: Medium>(
         &self,
         medium: &mut M,
-        place: u32,
-        index: u16,
-    ) -> Result<u32, Failed>
-        requires fits { FitsIn self.now (M.state medium.old) }
-        requires pointer { IsPointer self.now.size place }
-        requires few { index < 1440 }
-        ensures short { IfOk result (λ w. w < 65536) }
-        ensures word { IfOk result (λ w. IfSome (M.state medium.old).image (λ x. (d : Day) → IsAt self.now x place d → index < length d.words → w ≡ slice_index d.words index)) }
+        head: &DayHead,
+    ) -> Result<Option<DayHead>, Failed>
+        requires fits { FitsIn self.now.shape (M.state medium.old) }
+        requires place { head.now.place < 4 + self.now.shape.size }
+        ensures before { IfOk result (λ o. IfSome (M.state medium.old).image (λ x. IsBefore self.now.shape x head.now o)) }
+        ensures place { IfOk result (λ o. IfSome o (λ h. h.place < self.now.shape.size)) }
         ensures reads { Reads (M.state medium.old) (M.state medium.new) (is_err result) }
     {
-        let field = self.base + 4 + self.spot(place, 12 + 2 * index as u32);
-        read_two(medium, field)
+        self.circle.before(medium, head)
     }
 
-    // Writes a number on the string.
-    pub(crate) fn put_two<M: Medium>(
-        &self,
-        medium: &mut M,
-        place: u32,
-        n: u32,
-    ) -> Result<(), Failed>
-        requires fits { FitsIn self.now (M.state medium.old) }
-        requires writable { LiesInside (M.state medium.old).writable self.now.base (4 + self.now.size) }
-        requires pointer { IsPointer self.now.size place }
-        requires short { n < 65536 }
-        ensures written { OnOk result ((M.state medium.new).image ≡ option_map (put (at self.now place) (two_bytes n)) (M.state medium.old).image) }
-        ensures moments { LeavesOnly (M.state medium.old) (M.state medium.new) (IsPartlyWritten (at self.now place) (two_bytes n)) }
-        ensures settled { OnOk result ((M.state medium.new).clock < last_count → IsSettled (M.state medium.new)) }
-        ensures cause { HasCause (M.state medium.old) (M.state medium.new) (is_err result) }
+    /// A change word of a day that is there, counted from 0.
+    pub fn word<M: Medium>(&self, medium: &mut M, head: &DayHead, index: u16) -> Result<u16, Failed>
+        requires fits { FitsIn self.now.shape (M.state medium.old) }
+        requires place { head.now.place < 4 + self.now.shape.size }
+        requires there { index < head.now.words }
+        ensures word { IfOk result (λ w. IfSome (M.state medium.old).image (λ x. (d : Day) → IsAt self.now.shape x head.now.place d → index < length d.words → w ≡ slice_index d.words index)) }
+        ensures reads { Reads (M.state medium.old) (M.state medium.new) (is_err result) }
     {
-        write_two(medium, self.base + 4 + place, n)
+        self.circle.word(medium, head, index)
     }
 }

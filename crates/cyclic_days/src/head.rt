@@ -18,6 +18,17 @@ pub struct DayHead {
     pub words: u16,
 }
 
+/// The end of the string that grows.
+#[derive(Clone, Copy, Debug, Default, PartialEq, Eq)]
+pub struct Tail {
+    /// The head of the newest day.
+    pub head: DayHead,
+    /// Its latest word.
+    pub latest: u16,
+    /// How many bytes the days have.
+    pub used: u32,
+}
+
 // The numbers in the twelve bytes before the change words.
 #[derive(Clone, Copy)]
 pub struct RecordHead {

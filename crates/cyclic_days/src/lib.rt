@@ -2,15 +2,17 @@
 #![tactic(auto)]
 
 mod bytes;
+mod circle;
 mod days;
 mod fault;
 mod head;
 mod load;
+mod tail;
 mod walk;
 
 pub use days::Days;
 pub use fault::DaysFault;
-pub use head::DayHead;
+pub use head::{DayHead, Tail};
 
 #[cfg(test)]
 mod tests;

@@ -6,13 +6,14 @@ ghost use Rattle.card_model.specs.Checks.{first_failing, first_bad, is_pointer, 
 ghost use Rattle.cyclic_days.specs.Moments.{FitsIn};
 ghost use Rattle.cyclic_days.specs.Loading.{shape_of, IfBadDays, has_failed, ArePairs, IsRecord, FailsAt};
 
+use crate::DaysFault;
 use crate::bytes::read_two;
+use crate::circle::Circle;
 use crate::head::RecordHead;
-use crate::{Days, DaysFault};
 use card_layout::Range;
 use tach_media::{Failed, Medium};
 
-impl Days {
+impl Circle {
     // Whether a length is that of a day behind so many bytes.
     fn is_len(&self, so_far: u32, len: u32) -> bool
         requires short { so_far < 65536 }
@@ -183,11 +184,11 @@ impl Days {
         n < self.size() && n % 2 == 0
     }
 
-    /// The days of a range, which is the file Driver_Activity_Data. It writes nothing. `BadDays` comes exactly where the
-    /// string holds no list of days, with the place in the file where it first fails: the pointers; then of each day,
-    /// oldest first, its length, the length of the day before, its date, its counter and its words; and that the next
-    /// day begins at the newest pointer or before it.
-    pub fn load<M: Medium>(medium: &mut M, range: Range) -> Result<Days, DaysFault>
+    // The days of a range, which is the file Driver_Activity_Data. It writes nothing. `BadDays` comes exactly where the
+    // string holds no list of days, with the place in the file where it first fails: the pointers; then of each day,
+    // oldest first, its length, the length of the day before, its date, its counter and its words; and that the next
+    // day begins at the newest pointer or before it.
+    pub(crate) fn load<M: Medium>(medium: &mut M, range: Range) -> Result<Circle, DaysFault>
         requires inside { range.base + range.len ≤ (M.state medium.old).size }
         requires even { range.len % 2 ≡ 0 }
         requires low { 5548 ≤ range.len }
@@ -200,7 +201,7 @@ impl Days {
     {
         // so the range ends below 2 ^ 32
         let _size = medium.size();
-        let days = Days::of(range);
+        let days = Circle::of(range);
         let oldest = read_two(medium, range.base)?;
         if !days.is_pointer(oldest) {
             return Err(DaysFault::BadDays(0));

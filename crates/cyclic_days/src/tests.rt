@@ -72,90 +72,76 @@ fn full(alloc: Global) -> Result<Vec<u8>, Memory> {
     Ok(bytes)
 }
 
-// The days of the file, not loaded.
-fn days() -> Days
-    ensures { result ≡ record { base = 0; size = 5544 } }
+// The days of the file.
+fn loaded(medium: &mut MemMedium) -> Result<Days, DaysFault>
+    ensures shape { IfOk result (λ days. days.shape ≡ record { base = 0; size = 5544 }) }
 {
-    Days::of(FILE)
-}
-
-fn load(medium: &mut MemMedium) -> Result<(), DaysFault> {
     if medium.size() != 5548 {
         return Err(DaysFault::Failed);
     }
-    Days::load(medium, FILE)?;
+    Days::load(medium, FILE)
+}
+
+fn load(medium: &mut MemMedium) -> Result<(), DaysFault> {
+    loaded(medium)?;
     Ok(())
 }
 
 fn add_change(medium: &mut MemMedium, word: u16) -> Result<(), DaysFault> {
+    let mut days = loaded(&mut *medium)?;
     if medium.size() != 5548 {
         return Err(DaysFault::Failed);
     }
-    Ok(days().add_change(medium, word)?)
+    Ok(days.add_change(medium, word)?)
 }
 
 // Begins a day of one word.
 fn begin_day(medium: &mut MemMedium, date: u32) -> Result<(), DaysFault> {
+    let mut days = loaded(&mut *medium)?;
     if medium.size() != 5548 {
         return Err(DaysFault::Failed);
     }
-    Ok(days().begin_day(medium, TimeReal(date), &[0])?)
+    Ok(days.begin_day(medium, TimeReal(date), &[0])?)
 }
 
 fn finish_drop(medium: &mut MemMedium) -> Result<(), DaysFault> {
+    let mut days = loaded(&mut *medium)?;
     if medium.size() != 5548 {
         return Err(DaysFault::Failed);
     }
-    Ok(days().finish_drop(medium)?)
+    Ok(days.finish_drop(medium)?)
 }
 
 fn set_distance(medium: &mut MemMedium, km: u16) -> Result<(), DaysFault> {
+    let mut days = loaded(&mut *medium)?;
     if medium.size() != 5548 {
         return Err(DaysFault::Failed);
     }
-    Ok(days().set_distance(medium, Distance(km))?)
+    Ok(days.set_distance(medium, Distance(km))?)
 }
 
 fn trim(medium: &mut MemMedium, minute: u32) -> Result<(), DaysFault> {
+    let mut days = loaded(&mut *medium)?;
     if medium.size() != 5548 {
         return Err(DaysFault::Failed);
     }
-    Ok(days().trim(medium, minute)?)
-}
-
-fn first(medium: &mut MemMedium) -> Result<Option<DayHead>, DaysFault> {
-    if medium.size() != 5548 {
-        return Err(DaysFault::Failed);
-    }
-    Ok(days().first(medium)?)
+    Ok(days.trim(medium, minute)?)
 }
 
 fn last(medium: &mut MemMedium) -> Result<Option<DayHead>, DaysFault> {
+    let days = loaded(&mut *medium)?;
     if medium.size() != 5548 {
         return Err(DaysFault::Failed);
     }
-    Ok(days().last(medium)?)
-}
-
-fn after(medium: &mut MemMedium, day: &DayHead) -> Result<Option<DayHead>, DaysFault> {
-    if medium.size() != 5548 || day.place >= 5548 {
-        return Err(DaysFault::Failed);
-    }
-    Ok(days().after(medium, day)?)
-}
-
-fn before(medium: &mut MemMedium, day: &DayHead) -> Result<Option<DayHead>, DaysFault> {
-    if medium.size() != 5548 || day.place >= 5548 {
-        return Err(DaysFault::Failed);
-    }
-    Ok(days().before(medium, day)?)
+    Ok(days.last(medium)?)
 }
 
 fn word(medium: &mut MemMedium, day: &DayHead, index: u16) -> Result<u16, DaysFault> {
+    let days = loaded(&mut *medium)?;
     if medium.size() != 5548 || day.place >= 5548 || index >= day.words {
         return Err(DaysFault::Failed);
     }
-    Ok(days().word(medium, day, index)?)
+    Ok(days.word(medium, day, index)?)
 }
 
 // Four bytes of the file.
@@ -169,32 +155,58 @@ fn bytes_at(medium: &mut MemMedium, place: u32) -> Result<[u8; 4], DaysFault> {
 }
 
 // How many days the walk from the oldest meets.
-fn forward(medium: &mut MemMedium) -> Result<u32, DaysFault> {
-    let mut head = first(&mut *medium)?;
+fn forward(days: &Days, medium: &mut MemMedium) -> Result<u32, DaysFault>
+    requires { days.now.shape ≡ record { base = 0; size = 5544 } }
+{
+    if medium.size() != 5548 {
+        return Err(DaysFault::Failed);
+    }
+    let mut head = days.first(&mut *medium)?;
     for count in 0..1000 {
         let Some(day) = head else { return Ok(count) };
-        head = after(&mut *medium, &day)?;
+        if medium.size() != 5548 || day.place >= 5548 {
+            return Err(DaysFault::Failed);
+        }
+        head = days.after(&mut *medium, &day)?;
     }
     Ok(1000)
 }
 
 // How many days the walk from the newest meets.
-fn back(medium: &mut MemMedium) -> Result<u32, DaysFault> {
-    let mut head = last(&mut *medium)?;
+fn back(days: &Days, medium: &mut MemMedium) -> Result<u32, DaysFault>
+    requires { days.now.shape ≡ record { base = 0; size = 5544 } }
+{
+    if medium.size() != 5548 {
+        return Err(DaysFault::Failed);
+    }
+    let mut head = days.last(&mut *medium)?;
     for count in 0..1000 {
         let Some(day) = head else { return Ok(count) };
-        head = before(&mut *medium, &day)?;
+        if medium.size() != 5548 || day.place >= 5548 {
+            return Err(DaysFault::Failed);
+        }
+        head = days.before(&mut *medium, &day)?;
     }
     Ok(1000)
 }
 
-// How many days the string holds by the walk both ways, and how many words the newest has.
+// How many days the string holds by the walk both ways, and how many words the newest has, which the tail tells too.
 fn held(medium: &mut MemMedium) -> Result<(u32, u32, u16), DaysFault> {
-    load(&mut *medium)?;
-    let forward = forward(&mut *medium)?;
-    let back = back(&mut *medium)?;
+    let days = loaded(&mut *medium)?;
+    let forward = forward(&days, &mut *medium)?;
+    let back = back(&days, &mut *medium)?;
     let words = last(medium)?.map_or(0, |day| day.words);
+    if days.tail().map_or(0, |tail| tail.head.words) != words {
+        return Err(DaysFault::BadDays(0));
+    }
     Ok((forward, back, words))
+}
+
+// How many calls the loading of such a file takes.
+fn loading(alloc: Global, image: Vec<u8>) -> Result<u64, Fail> {
+    let mut medium = steady(alloc, image)?;
+    load(&mut medium)?;
+    Ok(medium.calls())
 }
 
 #[test]
@@ -228,7 +240,8 @@ fn stopped_change(
     call: u64,
     left: Left,
 ) -> Result<((u32, u32, u16), (u32, u32, u16)), Fail> {
-    let mut medium = medium(alloc, full(alloc)?, call, left)?;
+    let first = loading(alloc, full(alloc)?)?;
+    let mut medium = medium(alloc, full(alloc)?, first.saturating_add(call), left)?;
     if add_change(&mut medium, 0x1805).is_ok() {
         return Err(Fail::from("not stopped"));
     }
@@ -242,21 +255,21 @@ fn stopped_change(
 // A write of the change, how it ends, and how many days and words of the newest there are then.
 const CHANGE_STOPS: [(u64, Left, u32, u16); 12] = [
     // the oldest pointer
-    (4, Left::Before, 396, 1),
-    (4, TORN, 396, 1),
-    (4, Left::After, 395, 1),
+    (1, Left::Before, 396, 1),
+    (1, TORN, 396, 1),
+    (1, Left::After, 395, 1),
     // the length before the oldest day
-    (5, Left::Before, 395, 1),
-    (5, TORN, 395, 1),
-    (5, Left::After, 395, 1),
+    (2, Left::Before, 395, 1),
+    (2, TORN, 395, 1),
+    (2, Left::After, 395, 1),
     // the word
-    (8, Left::Before, 395, 1),
-    (8, TORN, 395, 1),
-    (8, Left::After, 395, 1),
+    (3, Left::Before, 395, 1),
+    (3, TORN, 395, 1),
+    (3, Left::After, 395, 1),
     // the length
-    (9, Left::Before, 395, 1),
-    (9, TORN, 395, 1),
-    (9, Left::After, 395, 2),
+    (4, Left::Before, 395, 1),
+    (4, TORN, 395, 1),
+    (4, Left::After, 395, 2),
 ];
 
 #[test]
@@ -270,7 +283,7 @@ fn a_stopped_change_goes_on(rt: HostRuntime) -> Result<(), Fail> {
     Ok(())
 }
 
-// What is held after a day of this file that is stopped so, and after the next day.
+// What is held after a day of this file that is stopped so many calls after it is loaded, and after the next day.
 fn stopped_day(
     alloc: Global,
     image: Vec<u8>,
@@ -291,28 +304,33 @@ fn stopped_day(
 // A write of the day, how it ends, and how many days there are then.
 const DAY_STOPS: [(u64, Left, u32); 12] = [
     // the length before it
-    (8, Left::Before, 0),
-    (8, TORN, 0),
-    (8, Left::After, 0),
+    (0, Left::Before, 0),
+    (0, TORN, 0),
+    (0, Left::After, 0),
     // its body to the end of the string
-    (9, Left::Before, 0),
-    (9, TORN, 0),
-    (9, Left::After, 0),
+    (1, Left::Before, 0),
+    (1, TORN, 0),
+    (1, Left::After, 0),
     // and from its begin
-    (10, Left::Before, 0),
-    (10, TORN, 0),
-    (10, Left::After, 0),
+    (2, Left::Before, 0),
+    (2, TORN, 0),
+    (2, Left::After, 0),
     // its length
-    (11, Left::Before, 0),
-    (11, TORN, 0),
-    (11, Left::After, 1),
+    (3, Left::Before, 0),
+    (3, TORN, 0),
+    (3, Left::After, 1),
 ];
 
 #[test]
 fn a_stopped_first_day_is_there_or_not(rt: HostRuntime) -> Result<(), Fail> {
     let alloc = rt.alloc();
     for (call, left, days) in DAY_STOPS {
-        let (found, then) = stopped_day(alloc, empty(alloc)?, call, left)?;
+        let (found, then) = stopped_day(
+            alloc,
+            empty(alloc)?,
+            loading(alloc, empty(alloc)?)?.saturating_add(call),
+            left,
+        )?;
         assert_eq!(rt; (found.0, found.1), (days, days));
         assert_eq!(rt; then, (days.saturating_add(1), days.saturating_add(1), 1));
     }
@@ -322,30 +340,35 @@ fn a_stopped_first_day_is_there_or_not(rt: HostRuntime) -> Result<(), Fail> {
 // A write of a day of the full string, how it ends, and how many days there are then, and after the next day.
 const FULL_DAY_STOPS: [(u64, Left, u32, u32); 12] = [
     // the oldest pointer
-    (4, Left::Before, 396, 396),
-    (4, Left::After, 395, 396),
+    (1, Left::Before, 396, 396),
+    (1, Left::After, 395, 396),
     // the length before the oldest day
+    (2, Left::Before, 395, 396),
+    (2, Left::After, 395, 396),
+    // the length before the new day
+    (3, Left::Before, 395, 396),
+    (3, Left::After, 395, 396),
+    // its body
+    (4, TORN, 395, 396),
+    (4, Left::After, 395, 396),
+    // its length
     (5, Left::Before, 395, 396),
     (5, Left::After, 395, 396),
-    // the length before the new day
-    (12, Left::Before, 395, 396),
-    (12, Left::After, 395, 396),
-    // its body
-    (13, TORN, 395, 396),
-    (13, Left::After, 395, 396),
-    // its length
-    (14, Left::Before, 395, 396),
-    (14, Left::After, 395, 396),
     // the newest pointer
-    (15, Left::Before, 395, 396),
-    (15, Left::After, 396, 396),
+    (6, Left::Before, 395, 396),
+    (6, Left::After, 396, 396),
 ];
 
 #[test]
 fn a_stopped_day_of_a_full_string_is_there_or_not(rt: HostRuntime) -> Result<(), Fail> {
     let alloc = rt.alloc();
     for (call, left, days, next) in FULL_DAY_STOPS {
-        let (found, then) = stopped_day(alloc, full(alloc)?, call, left)?;
+        let (found, then) = stopped_day(
+            alloc,
+            full(alloc)?,
+            loading(alloc, full(alloc)?)?.saturating_add(call),
+            left,
+        )?;
         assert_eq!(rt; found, (days, days, 1));
         assert_eq!(rt; then, (next, next, 1));
     }
@@ -485,5 +508,57 @@ fn a_trim_leaves_no_later_word(rt: HostRuntime) -> Result<(), Fail> {
     assert_eq!(rt; word(&mut medium, &day, 0)?, 0);
     trim(&mut medium, 1439)?;
     assert_eq!(rt; held(&mut medium)?, (0, 0, 0));
+    Ok(())
+}
+
+// Whether what is kept of the days is what loading tells.
+fn is_kept(days: &Days, medium: &mut MemMedium) -> Result<bool, DaysFault> {
+    Ok(loaded(medium)?.tail() == days.tail())
+}
+
+#[test]
+fn what_is_kept_is_what_is_loaded(rt: HostRuntime) -> Result<(), Fail> {
+    let alloc = rt.alloc();
+    let mut medium = steady(alloc, full(alloc)?)?;
+    let mut days = loaded(&mut medium)?;
+    if medium.size() != 5548 {
+        return Err(Fail::from("size"));
+    }
+    days.add_change(&mut medium, 0x1805)?;
+    assert_eq!(rt; is_kept(&days, &mut medium)?, true);
+    if medium.size() != 5548 {
+        return Err(Fail::from("size"));
+    }
+    days.begin_day(&mut medium, TimeReal(MARCH), &[0, 0x1800 + 60])?;
+    assert_eq!(rt; is_kept(&days, &mut medium)?, true);
+    if medium.size() != 5548 {
+        return Err(Fail::from("size"));
+    }
+    days.set_distance(&mut medium, Distance(7))?;
+    assert_eq!(rt; is_kept(&days, &mut medium)?, true);
+    if medium.size() != 5548 {
+        return Err(Fail::from("size"));
+    }
+    days.trim(&mut medium, 390 * 1440)?;
+    assert_eq!(rt; is_kept(&days, &mut medium)?, true);
+    Ok(())
+}
+
+#[test]
+fn the_first_day_is_kept(rt: HostRuntime) -> Result<(), Fail> {
+    let alloc = rt.alloc();
+    let mut medium = steady(alloc, empty(alloc)?)?;
+    let mut days = loaded(&mut medium)?;
+    assert_eq!(rt; days.tail(), None);
+    if medium.size() != 5548 {
+        return Err(Fail::from("size"));
+    }
+    days.begin_day(&mut medium, TimeReal(MARCH), &[0])?;
+    assert_eq!(rt;
+        days.tail()
+            .map(|tail| (tail.head.place, tail.head.counter.0, tail.used)),
+        Some((5538, 1, 14))
+    );
+    assert_eq!(rt; is_kept(&days, &mut medium)?, true);
     Ok(())
 }

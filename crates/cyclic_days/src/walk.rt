@@ -6,12 +6,13 @@ ghost use Rattle.card_model.specs.Image.{Shape, Holds, IsAt};
 ghost use Rattle.cyclic_days.specs.Moments.{FitsIn};
 ghost use Rattle.cyclic_days.specs.Heads.{heads_of, IsAfter, IsBefore};
 
-use crate::{DayHead, Days};
+use crate::DayHead;
+use crate::circle::Circle;
 use tach_media::{Failed, Medium};
 
-impl Days {
-    /// The head of the oldest day; `None` exactly where there is no day.
-    pub fn first<M: Medium>(&self, medium: &mut M) -> Result<Option<DayHead>, Failed>
+impl Circle {
+    // The head of the oldest day; `None` exactly where there is no day.
+    pub(crate) fn first<M: Medium>(&self, medium: &mut M) -> Result<Option<DayHead>, Failed>
         requires fits { FitsIn self.now (M.state medium.old) }
         ensures first { IfOk result (λ o. IfSome (M.state medium.old).image (λ x. (days : List Day) → Holds self.now x days → o ≡ slice_get (heads_of self.now x days) 0)) }
         ensures place { IfOk result (λ o. IfSome o (λ h. h.place < self.now.size)) }
@@ -21,8 +22,8 @@ impl Days {
         self.day_at(medium, oldest)
     }
 
-    /// The head of the newest day; `None` exactly where there is no day.
-    pub fn last<M: Medium>(&self, medium: &mut M) -> Result<Option<DayHead>, Failed>
+    // The head of the newest day; `None` exactly where there is no day.
+    pub(crate) fn last<M: Medium>(&self, medium: &mut M) -> Result<Option<DayHead>, Failed>
         requires fits { FitsIn self.now (M.state medium.old) }
         ensures last { IfOk result (λ o. IfSome (M.state medium.old).image (λ x. (days : List Day) → Holds self.now x days → o ≡ last_or None (heads_of self.now x days))) }
         ensures place { IfOk result (λ o. IfSome o (λ h. h.place < self.now.size)) }
@@ -32,8 +33,8 @@ impl Days {
         self.day_at(medium, newest)
     }
 
-    /// The head of the day after one that is there; `None` exactly behind the newest. It follows the day's length.
-    pub fn after<M: Medium>(
+    // The head of the day after one that is there; `None` exactly behind the newest. It follows the day's length.
+    pub(crate) fn after<M: Medium>(
         &self,
         medium: &mut M,
         head: &DayHead,
@@ -52,9 +53,9 @@ impl Days {
         self.day_at(medium, self.spot(place, len))
     }
 
-    /// The head of the day before one that is there; `None` exactly before the oldest. It follows the length that the
-    /// day tells of the one before it.
-    pub fn before<M: Medium>(
+    // The head of the day before one that is there; `None` exactly before the oldest. It follows the length that the
+    // day tells of the one before it.
+    pub(crate) fn before<M: Medium>(
         &self,
         medium: &mut M,
         head: &DayHead,
@@ -73,8 +74,13 @@ impl Days {
         self.day_at(medium, self.back(place, len))
     }
 
-    /// A change word of a day that is there, counted from 0.
-    pub fn word<M: Medium>(&self, medium: &mut M, head: &DayHead, index: u16) -> Result<u16, Failed>
+    // A change word of a day that is there, counted from 0.
+    pub(crate) fn word<M: Medium>(
+        &self,
+        medium: &mut M,
+        head: &DayHead,
+        index: u16,
+    ) -> Result<u16, Failed>
         requires fits { FitsIn self.now (M.state medium.old) }
         requires place { head.now.place < 4 + self.now.size }
         requires there { index < head.now.words }

@@ -1,214 +1,83 @@
-ghost use Rattle.std.specs.Prelude.{◌≡◌, ◌≤◌, ◌<◌, ◌+◌, List, length, IfOk, OnOk, IfSome, is_err, option_map, true};
-ghost use Rattle.tach_media.specs.Medium.{LeavesOnly, Reads, HasCause, LiesInside, IsPartlyWritten, IsSettled, last_count, put};
-ghost use Rattle.card_model.specs.Days.{Day, total, last_len};
-ghost use Rattle.card_model.specs.Bytes.{two_bytes};
-ghost use Rattle.card_model.specs.Changes.{next_counter};
-ghost use Rattle.card_model.specs.Image.{Holds, IsPointer, IsShape, at, newest_of, oldest_of};
-ghost use Rattle.cyclic_days.specs.Moments.{FitsIn, IsChanging, IsChanged, IsBeginning, IsBegun};
-ghost use Rattle.cyclic_days.specs.Steps.{put_round, IsRounding, pointed, IsPointing, begun, IsBeginStep, dropped, IsDropStep, IsDropping, IsRoomier, IsAppending, IsAppended, IsPlacing, IsPlaced, SameDays, IsMended, IsMeasured, IsMeasuring, SettlesIfSettled};
+ghost use Rattle.std.specs.Prelude.{◌≡◌, ◌≢◌, [], ◌≤◌, ◌<◌, ◌+◌, ◌-◌, ◌*◌, ◌%◌, List, length, IfOk, OnOk, IfSome, is_err};
+ghost use Rattle.tach_media.specs.Medium.{LeavesOnly, Reads, HasCause, LiesInside, IsSettled, last_count};
+ghost use Rattle.write_plan.specs.Plan.{PutsAll, PutsBy};
+ghost use Rattle.card_model.specs.Days.{Day};
+ghost use Rattle.card_model.specs.Changes.{fitting, trimmed};
+ghost use Rattle.card_model.specs.Image.{Holds, IsPointer};
+ghost use Rattle.cyclic_days.specs.Held.{IsHeld, Knows};
+ghost use Rattle.cyclic_days.specs.Moments.{FitsIn, IfKnown, IsChanging, IsChanged, KnowsChanged, IsBeginning, IsBegun, KnowsBegun, ClearsChanged, ClearsBegun, BeginsAgain};
+ghost use Rattle.cyclic_days.specs.Plans.{left_in, most_drops, change_pieces, tail_more, beginning_pieces, tail_begun, mend_pieces, km_pieces, tail_km};
+ghost use Rattle.cyclic_days.specs.Steps.{SameDays, IsMended, IsMeasured, IsMeasuring, KnowsMeasured, SettlesIfSettled};
+ghost use Rattle.cyclic_days.specs.Trim.{IsTrim, IsTrimMoment};
 
 use super::Days;
-use crate::bytes::{body_of, counter_after, decimal_of, read_two, write_two};
+use crate::bytes::body_of;
+use crate::{DayHead, Tail};
 use tach_media::{Failed, Medium};
-use tacho_types::{Distance, TimeReal};
+use tacho_types::{Bcd2, Distance, TimeReal};
+use write_plan::put_pieces;
 
 impl Days {
-    // Writes the oldest pointer.
-    fn put_oldest<M: Medium>(&self, medium: &mut M, n: u32) -> Result<(), Failed>
-        requires fits { FitsIn self.now (M.state medium.old) }
-        requires writable { LiesInside (M.state medium.old).writable self.now.base (4 + self.now.size) }
-        requires pointer { IsPointer self.now.size n }
-        ensures written { OnOk result ((M.state medium.new).image ≡ option_map (put self.now.base (two_bytes n)) (M.state medium.old).image) }
-        ensures moments { LeavesOnly (M.state medium.old) (M.state medium.new) (IsPartlyWritten self.now.base (two_bytes n)) }
-        ensures settled { OnOk result ((M.state medium.new).clock < last_count → IsSettled (M.state medium.new)) }
-        ensures cause { HasCause (M.state medium.old) (M.state medium.new) (is_err result) }
+    // Makes the writes of a change: how many bytes are in use then.
+    fn change<M: Medium>(&self, medium: &mut M, word: u16) -> Result<u32, Failed>
+        requires fits { FitsIn self.now.shape (M.state medium.old) }
+        requires writable { LiesInside (M.state medium.old).writable self.now.shape.base (4 + self.now.shape.size) }
+        ensures puts { PutsBy (M.state medium.old) (M.state medium.new) (is_err result) 2 (2 + 2 * most_drops self.now.shape.size self.now.tail.used 2) (change_pieces self.now word) }
+        ensures exact { IfSome (M.state medium.old).image (λ x. (M.state medium.new).clock ≤ (M.state medium.old).clock + length (change_pieces self.now word x)) }
+        ensures used { IfOk result (λ n. IfSome (M.state medium.old).image (λ x. n ≡ left_in self.now 2 x self.now.tail.used + 2)) }
+        ensures most { IfOk result (λ n. n + 14 * most_drops self.now.shape.size self.now.tail.used 2 ≤ self.now.tail.used + 2) }
+        ensures within { IfOk result (λ n. n ≤ self.now.shape.size) }
+        ensures even { IfOk result (λ n. n % 2 ≡ 0) }
     {
-        write_two(medium, self.base, n)
+        let mut plan = self.writing();
+        let left = self.make_room(medium, &mut plan, self.tail.used, 2)?;
+        self.plan_word(&mut plan, word);
+        put_pieces(medium, &plan)?;
+        Ok(left + 2)
     }
 
-    // How many bytes the days have.
-    fn used<M: Medium>(&self, medium: &mut M, oldest: u32) -> Result<u32, Failed>
-        requires fits { FitsIn self.now (M.state medium.old) }
-        requires pointer { IsPointer self.now.size oldest }
-        ensures used { IfOk result (λ n. IfSome (M.state medium.old).image (λ x. oldest ≡ oldest_of self.now x → (days : List Day) → Holds self.now x days → n ≡ total days)) }
-        ensures most { IfOk result (λ n. n < 65536) }
-        ensures reads { Reads (M.state medium.old) (M.state medium.new) (is_err result) }
-    {
-        let newest = self.newest(medium)?;
-        let len = self.len_at(medium, newest)?;
-        Ok(self.distance(oldest, newest) + len)
-    }
-
-    // Makes the day at a place the oldest, with no length before it.
-    fn drop_to<M: Medium>(&self, medium: &mut M, next: u32) -> Result<(), Failed>
-        requires fits { FitsIn self.now (M.state medium.old) }
-        requires writable { LiesInside (M.state medium.old).writable self.now.base (4 + self.now.size) }
-        requires pointer { IsPointer self.now.size next }
-        ensures dropped { OnOk result ((M.state medium.new).image ≡ option_map (dropped self.now next) (M.state medium.old).image) }
-        ensures moments { LeavesOnly (M.state medium.old) (M.state medium.new) (IsDropStep self.now next) }
-        ensures cause { HasCause (M.state medium.old) (M.state medium.new) (is_err result) }
-    {
-        self.put_oldest(medium, next)?;
-        self.put_two(medium, next, 0)
-    }
-
-    // Drops the oldest day where the days and so many bytes more do not fit.
-    fn make_room<M: Medium>(&self, medium: &mut M, new: u32) -> Result<(), Failed>
-        requires fits { FitsIn self.now (M.state medium.old) }
-        requires writable { LiesInside (M.state medium.old).writable self.now.base (4 + self.now.size) }
-        requires new { new ≤ 16 }
-        ensures shape { IsShape self.now }
-        ensures room { OnOk result (IfSome (M.state medium.old).image (λ x. IfSome (M.state medium.new).image (IsRoomier self.now new x))) }
-        ensures moments { LeavesOnly (M.state medium.old) (M.state medium.new) (IsDropping self.now new) }
-        ensures cause { HasCause (M.state medium.old) (M.state medium.new) (is_err result) }
-    {
-        let oldest = self.oldest(medium)?;
-        if self.used(medium, oldest)? + new <= self.size {
-            return Ok(());
-        }
-        let len = self.len_at(medium, oldest)?;
-        self.drop_to(medium, self.spot(oldest, len))
-    }
-
-    // Writes a word behind the newest day, and counts it.
-    fn append<M: Medium>(&self, medium: &mut M, word: u16) -> Result<(), Failed>
-        requires fits { FitsIn self.now (M.state medium.old) }
-        requires writable { LiesInside (M.state medium.old).writable self.now.base (4 + self.now.size) }
-        ensures appended { OnOk result (IfSome (M.state medium.old).image (λ x. IfSome (M.state medium.new).image (IsAppended self.now word x))) }
-        ensures moments { LeavesOnly (M.state medium.old) (M.state medium.new) (IsAppending self.now word) }
-        ensures settled { OnOk result ((M.state medium.new).clock < last_count → IsSettled (M.state medium.new)) }
-        ensures cause { HasCause (M.state medium.old) (M.state medium.new) (is_err result) }
-    {
-        let newest = self.newest(medium)?;
-        let len = self.len_at(medium, newest)?;
-        self.put_two(medium, self.spot(newest, len), word as u32)?;
-        self.put_two(medium, self.spot(newest, 2), len + 2)
-    }
-
-    /// Adds a word to the newest day. The oldest day goes where there is no room. A stop at a moment of the call leaves
-    /// the days before, without the oldest where it must go, or the new ones.
-    pub fn add_change<M: Medium>(&mut self, medium: &mut M, word: u16) -> Result<(), Failed>
-        requires fits { FitsIn self.old (M.state medium.old) }
-        requires writable { LiesInside (M.state medium.old).writable self.old.base (4 + self.old.size) }
-        ensures shape { self.new ≡ self.old }
-        ensures changed { OnOk result (IfSome (M.state medium.old).image (λ x. IfSome (M.state medium.new).image (IsChanged self.old word x))) }
-        ensures moments { LeavesOnly (M.state medium.old) (M.state medium.new) (IsChanging self.old word) }
-        ensures settled { OnOk result ((M.state medium.new).clock < last_count → IsSettled (M.state medium.new)) }
-        ensures cause { HasCause (M.state medium.old) (M.state medium.new) (is_err result) }
-    {
-        self.make_room(medium, 2)?;
-        self.append(medium, word)
-    }
-
-    // Writes bytes on the string, round its end.
-    fn put_round<M: Medium>(&self, medium: &mut M, place: u32, bytes: &[u8]) -> Result<(), Failed>
-        requires fits { FitsIn self.now (M.state medium.old) }
-        requires writable { LiesInside (M.state medium.old).writable self.now.base (4 + self.now.size) }
-        requires pointer { IsPointer self.now.size place }
-        requires short { length bytes.now ≤ 12 }
-        ensures written { OnOk result ((M.state medium.new).image ≡ option_map (put_round self.now place bytes.now) (M.state medium.old).image) }
-        ensures moments { LeavesOnly (M.state medium.old) (M.state medium.new) (IsRounding self.now place bytes.now) }
-        ensures cause { HasCause (M.state medium.old) (M.state medium.new) (is_err result) }
-    {
-        let room = self.size - place;
-        if bytes.len() <= room as usize {
-            return self.put(medium, place, bytes);
-        }
-        self.put(medium, place, &bytes[..room as usize])?;
-        self.put(medium, 0, &bytes[room as usize..])
-    }
-
-    // Writes bytes on the string.
-    fn put<M: Medium>(&self, medium: &mut M, place: u32, bytes: &[u8]) -> Result<(), Failed>
-        requires fits { FitsIn self.now (M.state medium.old) }
-        requires writable { LiesInside (M.state medium.old).writable self.now.base (4 + self.now.size) }
-        requires inside { place + length bytes.now ≤ self.now.size }
-        ensures written { OnOk result ((M.state medium.new).image ≡ option_map (put (at self.now place) bytes.now) (M.state medium.old).image) }
-        ensures moments { LeavesOnly (M.state medium.old) (M.state medium.new) (IsPartlyWritten (at self.now place) bytes.now) }
-        ensures cause { HasCause (M.state medium.old) (M.state medium.new) (is_err result) }
-    {
-        medium.write_at(self.base + 4 + place, bytes)
-    }
-
-    // Moves the newest pointer where it differs.
-    fn point<M: Medium>(&self, medium: &mut M, newest: u32, place: u32) -> Result<(), Failed>
-        requires works { (M.state medium.old).works ≡ true }
-        requires fits { FitsIn self.now (M.state medium.old) }
-        requires writable { LiesInside (M.state medium.old).writable self.now.base (4 + self.now.size) }
-        requires pointer { IsPointer self.now.size place }
-        ensures pointed { OnOk result ((M.state medium.new).image ≡ option_map (pointed self.now newest place) (M.state medium.old).image) }
-        ensures moments { LeavesOnly (M.state medium.old) (M.state medium.new) (IsPointing self.now newest place) }
-        ensures settled { OnOk result (SettlesIfSettled (M.state medium.old) (M.state medium.new)) }
-        ensures cause { HasCause (M.state medium.old) (M.state medium.new) (is_err result) }
-    {
-        if newest == place {
-            return Ok(());
-        }
-        write_two(medium, self.base + 2, place)
-    }
-
-    // Writes a day behind the newest one: the length before it, its body, its length, and the pointer.
-    fn place_day<M: Medium>(
-        &self,
-        medium: &mut M,
-        newest: u32,
-        place: u32,
-        len: u32,
-        bytes: &[u8],
-    ) -> Result<(), Failed>
-        requires fits { FitsIn self.now (M.state medium.old) }
-        requires writable { LiesInside (M.state medium.old).writable self.now.base (4 + self.now.size) }
-        requires pointer { IsPointer self.now.size place }
-        requires len { len < 65536 }
-        requires short { length bytes.now ≤ 12 }
-        requires shape { IsShape self.now }
-        ensures placed { OnOk result ((M.state medium.new).image ≡ option_map (begun self.now newest place len bytes.now) (M.state medium.old).image) }
-        ensures moments { LeavesOnly (M.state medium.old) (M.state medium.new) (IsBeginStep self.now newest place len bytes.now) }
-        ensures settled { OnOk result ((M.state medium.new).clock < last_count → IsSettled (M.state medium.new)) }
-        ensures cause { HasCause (M.state medium.old) (M.state medium.new) (is_err result) }
-    {
-        self.put_two(medium, place, len)?;
-        self.put_round(medium, self.spot(place, 4), bytes)?;
-        self.put_two(medium, self.spot(place, 2), 4 + bytes.len() as u32)?;
-        self.point(medium, newest, place)
-    }
-
-    // The counter of the next day.
-    fn next_counter<M: Medium>(&self, medium: &mut M, newest: u32, len: u32) -> Result<u32, Failed>
-        requires works { (M.state medium.old).works ≡ true }
-        requires fits { FitsIn self.now (M.state medium.old) }
-        requires pointer { IsPointer self.now.size newest }
-        requires shape { IsShape self.now }
-        ensures counter { IfOk result (λ n. IfSome (M.state medium.old).image (λ x. (IsPointer self.now.size (newest_of self.now x) → newest ≡ newest_of self.now x)
-            → (days : List Day) → Holds self.now x days → len ≡ last_len days → n ≡ next_counter days)) }
-        ensures most { IfOk result (λ n. n ≤ 9999) }
-        ensures reads { Reads (M.state medium.old) (M.state medium.new) (is_err result) }
-    {
-        if len == 0 {
-            return Ok(1);
-        }
-        let field = self.base + 4 + self.spot(newest, 8);
-        let n = read_two(medium, field)?;
-        Ok(counter_after(decimal_of(n)))
-    }
-
-    // Adds a day where there is room.
-    fn begin<M: Medium>(&self, medium: &mut M, date: u32, words: &[u16]) -> Result<(), Failed>
-        requires fits { FitsIn self.now (M.state medium.old) }
-        requires writable { LiesInside (M.state medium.old).writable self.now.base (4 + self.now.size) }
+    // Makes the writes of a new day: how many bytes are in use then.
+    fn begin<M: Medium>(&self, medium: &mut M, date: u32, words: &[u16]) -> Result<u32, Failed>
+        requires fits { FitsIn self.now.shape (M.state medium.old) }
+        requires writable { LiesInside (M.state medium.old).writable self.now.shape.base (4 + self.now.shape.size) }
         requires some { 1 ≤ length words.now }
         requires few { length words.now ≤ 2 }
-        ensures placed { OnOk result (IfSome (M.state medium.old).image (λ x. IfSome (M.state medium.new).image (IsPlaced self.now date words.now x))) }
-        ensures moments { LeavesOnly (M.state medium.old) (M.state medium.new) (IsPlacing self.now date words.now) }
-        ensures settled { OnOk result ((M.state medium.new).clock < last_count → IsSettled (M.state medium.new)) }
-        ensures cause { HasCause (M.state medium.old) (M.state medium.new) (is_err result) }
+        ensures puts { PutsBy (M.state medium.old) (M.state medium.new) (is_err result) 3 (5 + 2 * most_drops self.now.shape.size self.now.tail.used (12 + 2 * length words.now)) (beginning_pieces self.now date words.now) }
+        ensures exact { IfSome (M.state medium.old).image (λ x. (M.state medium.new).clock ≤ (M.state medium.old).clock + length (beginning_pieces self.now date words.now x)) }
+        ensures used { IfOk result (λ n. IfSome (M.state medium.old).image (λ x. n ≡ left_in self.now (12 + 2 * length words.now) x (left_in self.now (12 + 2 * length words.now) x self.now.tail.used) + (12 + 2 * length words.now))) }
+        ensures within { IfOk result (λ n. n ≤ self.now.shape.size) }
+        ensures even { IfOk result (λ n. n % 2 ≡ 0) }
     {
-        let newest = self.newest(medium)?;
-        let len = self.len_at(medium, newest)?;
-        let counter = self.next_counter(medium, newest, len)?;
-        let bytes = body_of(date, counter, words);
-        let size = 8 + 2 * words.len();
-        self.place_day(medium, newest, self.spot(newest, len), len, &bytes[..size])
+        let new = 12 + 2 * words.len() as u32;
+        let mut plan = self.writing();
+        let once = self.make_room(medium, &mut plan, self.tail.used, new)?;
+        let twice = self.make_room(medium, &mut plan, once, new)?;
+        let bytes = body_of(date, self.next_counter(), words);
+        self.plan_day(&mut plan, &bytes[..8 + 2 * words.len()]);
+        put_pieces(medium, &plan)?;
+        Ok(twice + new)
+    }
+
+    // The tail with that day.
+    fn new_tail(&self, date: TimeReal, words: &[u16], used: u32) -> Tail
+        requires some { 1 ≤ length words.now }
+        requires few { length words.now ≤ 2 }
+        ensures tail { result ≡ tail_begun self.now date.0 words.now used }
+        ensures pointer { IsPointer self.now.shape.size result.head.place }
+        ensures words { result.head.words ≤ 2 }
+    {
+        let counter = self.next_counter() as u16;
+        Tail {
+            head: DayHead {
+                place: self.end(),
+                date,
+                counter: Bcd2(counter),
+                km: Distance(0),
+                words: words.len() as u16,
+            },
+            latest: words[words.len() - 1],
+            used,
+        }
     }
 
     /// Begins a day. The oldest days go where there is no room. A stop at a moment of the call leaves the days before,
@@ -219,48 +88,159 @@ impl Days {
         date: TimeReal,
         words: &[u16],
     ) -> Result<(), Failed>
-        requires fits { FitsIn self.old (M.state medium.old) }
-        requires writable { LiesInside (M.state medium.old).writable self.old.base (4 + self.old.size) }
+        requires fits { FitsIn self.old.shape (M.state medium.old) }
+        requires writable { LiesInside (M.state medium.old).writable self.old.shape.base (4 + self.old.shape.size) }
         requires some { 1 ≤ length words.now }
         requires few { length words.now ≤ 2 }
-        ensures shape { self.new ≡ self.old }
-        ensures begun { OnOk result (IfSome (M.state medium.old).image (λ x. IfSome (M.state medium.new).image (IsBegun self.old date.0 words.now x))) }
-        ensures moments { LeavesOnly (M.state medium.old) (M.state medium.new) (IsBeginning self.old date.0 words.now) }
+        ensures shape { self.new.shape ≡ self.old.shape }
+        ensures begun { OnOk result (IfSome (M.state medium.old).image (λ x. IfSome (M.state medium.new).image (IfKnown self.old (IsBegun self.old.shape date.0 words.now) x))) }
+        ensures knows { OnOk result (IfSome (M.state medium.old).image (λ x. IfSome (M.state medium.new).image (KnowsBegun self.old self.new date.0 words.now x))) }
+        ensures cleared { OnOk result (IfSome (M.state medium.old).image (λ x. IfSome (M.state medium.new).image (ClearsBegun self.old date.0 words.now x))) }
+        ensures again { OnOk result (IfSome (M.state medium.old).image (λ x. IfSome (M.state medium.new).image (BeginsAgain self.old date.0 words.now x))) }
+        ensures moments { LeavesOnly (M.state medium.old) (M.state medium.new) (IfKnown self.old (IsBeginning self.old.shape date.0 words.now)) }
         ensures settled { OnOk result ((M.state medium.new).clock < last_count → IsSettled (M.state medium.new)) }
         ensures cause { HasCause (M.state medium.old) (M.state medium.new) (is_err result) }
+        ensures most { (M.state medium.new).clock ≤ (M.state medium.old).clock + (5 + 2 * most_drops self.old.shape.size self.old.tail.used (12 + 2 * length words.now)) }
+        ensures writes { IfSome (M.state medium.old).image (λ x. (days : List Day) → Knows self.old x days
+            → (M.state medium.new).clock + 2 * length (fitting (self.old.shape.size - (12 + 2 * length words.now)) days) ≤ (M.state medium.old).clock + (5 + 2 * length days)) }
     {
-        let new = 12 + 2 * words.len() as u32;
-        self.make_room(medium, new)?;
-        self.make_room(medium, new)?;
-        self.begin(medium, date.0, words)
+        let used = self.begin(medium, date.0, words)?;
+        self.tail = self.new_tail(date, words, used);
+        Ok(())
+    }
+
+    /// Adds a word to the newest day. The oldest day goes where there is no room. A stop at a moment of the call leaves
+    /// the days before, without the oldest where it must go, or the new ones.
+    pub fn add_change<M: Medium>(&mut self, medium: &mut M, word: u16) -> Result<(), Failed>
+        requires fits { FitsIn self.old.shape (M.state medium.old) }
+        requires writable { LiesInside (M.state medium.old).writable self.old.shape.base (4 + self.old.shape.size) }
+        ensures shape { self.new.shape ≡ self.old.shape }
+        ensures changed { OnOk result (IfSome (M.state medium.old).image (λ x. IfSome (M.state medium.new).image (IfKnown self.old (IsChanged self.old.shape word) x))) }
+        ensures knows { OnOk result (IfSome (M.state medium.old).image (λ x. IfSome (M.state medium.new).image (KnowsChanged self.old self.new word x))) }
+        ensures cleared { OnOk result (IfSome (M.state medium.old).image (λ x. IfSome (M.state medium.new).image (ClearsChanged self.old word x))) }
+        ensures moments { LeavesOnly (M.state medium.old) (M.state medium.new) (IfKnown self.old (IsChanging self.old.shape word)) }
+        ensures settled { OnOk result ((M.state medium.new).clock < last_count → IsSettled (M.state medium.new)) }
+        ensures cause { HasCause (M.state medium.old) (M.state medium.new) (is_err result) }
+        ensures most { (M.state medium.new).clock ≤ (M.state medium.old).clock + (2 + 2 * most_drops self.old.shape.size self.old.tail.used 2) }
+        ensures used { OnOk result (self.new.tail.used + 14 * most_drops self.old.shape.size self.old.tail.used 2 ≤ self.old.tail.used + 2) }
+        ensures writes { IfSome (M.state medium.old).image (λ x. (days : List Day) → Knows self.old x days
+            → (M.state medium.new).clock + 2 * length (fitting (self.old.shape.size - 2) days) ≤ (M.state medium.old).clock + (2 + 2 * length days)) }
+    {
+        let used = self.change(medium, word)?;
+        self.tail = with_word(&self.tail, word, used);
+        Ok(())
+    }
+
+    // Clears the length before the oldest day.
+    fn clear_oldest<M: Medium>(&self, medium: &mut M) -> Result<(), Failed>
+        requires fits { FitsIn self.now.shape (M.state medium.old) }
+        requires writable { LiesInside (M.state medium.old).writable self.now.shape.base (4 + self.now.shape.size) }
+        ensures held { IsHeld self.now }
+        ensures puts { PutsAll (M.state medium.old) (M.state medium.new) (is_err result) (mend_pieces self.now) }
+    {
+        let mut plan = self.writing();
+        self.plan_two(&mut plan, self.oldest(self.tail.used), 0);
+        put_pieces(medium, &plan)
     }
 
     /// Ends a drop that a stop may have cut short: the oldest day has no length before it.
     pub fn finish_drop<M: Medium>(&mut self, medium: &mut M) -> Result<(), Failed>
-        requires fits { FitsIn self.old (M.state medium.old) }
-        requires writable { LiesInside (M.state medium.old).writable self.old.base (4 + self.old.size) }
-        ensures shape { self.new ≡ self.old }
-        ensures same { OnOk result (IfSome (M.state medium.old).image (λ x. IfSome (M.state medium.new).image (SameDays self.old x))) }
-        ensures mended { OnOk result (IfSome (M.state medium.old).image (λ x. IfSome (M.state medium.new).image (IsMended self.old x))) }
-        ensures moments { LeavesOnly (M.state medium.old) (M.state medium.new) (SameDays self.old) }
+        requires fits { FitsIn self.old.shape (M.state medium.old) }
+        requires writable { LiesInside (M.state medium.old).writable self.old.shape.base (4 + self.old.shape.size) }
+        ensures kept { self.new ≡ self.old }
+        ensures same { OnOk result (IfSome (M.state medium.old).image (λ x. IfSome (M.state medium.new).image (IfKnown self.old (SameDays self.old.shape) x))) }
+        ensures mended { OnOk result (IfSome (M.state medium.old).image (λ x. IfSome (M.state medium.new).image (IfKnown self.old (IsMended self.old.shape) x))) }
+        ensures knows { OnOk result (IfSome (M.state medium.old).image (λ x. IfSome (M.state medium.new).image (λ y. (days : List Day) → Knows self.old x days → Knows self.old y days))) }
+        ensures moments { LeavesOnly (M.state medium.old) (M.state medium.new) (IfKnown self.old (SameDays self.old.shape)) }
         ensures settled { OnOk result ((M.state medium.new).clock < last_count → IsSettled (M.state medium.new)) }
         ensures cause { HasCause (M.state medium.old) (M.state medium.new) (is_err result) }
+        ensures most { (M.state medium.new).clock ≤ (M.state medium.old).clock + 1 }
     {
-        let oldest = self.oldest(medium)?;
-        self.put_two(medium, oldest, 0)
+        self.clear_oldest(medium)
+    }
+
+    // Writes the distance of the newest day.
+    fn write_km<M: Medium>(&self, medium: &mut M, km: u16) -> Result<(), Failed>
+        requires fits { FitsIn self.now.shape (M.state medium.old) }
+        requires writable { LiesInside (M.state medium.old).writable self.now.shape.base (4 + self.now.shape.size) }
+        ensures puts { PutsAll (M.state medium.old) (M.state medium.new) (is_err result) (km_pieces self.now km) }
+    {
+        let field = self.circle.spot(self.tail.head.place, 10);
+        let mut plan = self.writing();
+        self.plan_two(&mut plan, field, km as u32);
+        put_pieces(medium, &plan)
     }
 
     /// Sets the distance of the newest day, which there is.
     pub fn set_distance<M: Medium>(&mut self, medium: &mut M, km: Distance) -> Result<(), Failed>
-        requires fits { FitsIn self.old (M.state medium.old) }
-        requires writable { LiesInside (M.state medium.old).writable self.old.base (4 + self.old.size) }
-        ensures shape { self.new ≡ self.old }
-        ensures measured { OnOk result (IfSome (M.state medium.old).image (λ x. IfSome (M.state medium.new).image (IsMeasured self.old km.0 x))) }
-        ensures moments { LeavesOnly (M.state medium.old) (M.state medium.new) (IsMeasuring self.old km.0) }
+        requires fits { FitsIn self.old.shape (M.state medium.old) }
+        requires writable { LiesInside (M.state medium.old).writable self.old.shape.base (4 + self.old.shape.size) }
+        ensures shape { self.new.shape ≡ self.old.shape }
+        ensures measured { OnOk result (IfSome (M.state medium.old).image (λ x. IfSome (M.state medium.new).image (IfKnown self.old (IsMeasured self.old.shape km.0) x))) }
+        ensures knows { OnOk result (IfSome (M.state medium.old).image (λ x. IfSome (M.state medium.new).image (KnowsMeasured self.old self.new km.0 x))) }
+        ensures moments { LeavesOnly (M.state medium.old) (M.state medium.new) (IfKnown self.old (IsMeasuring self.old.shape km.0)) }
         ensures settled { OnOk result ((M.state medium.new).clock < last_count → IsSettled (M.state medium.new)) }
         ensures cause { HasCause (M.state medium.old) (M.state medium.new) (is_err result) }
+        ensures most { (M.state medium.new).clock ≤ (M.state medium.old).clock + 1 }
     {
-        let newest = self.newest(medium)?;
-        self.put_two(medium, self.spot(newest, 10), km.0 as u32)
+        self.write_km(medium, km.0)?;
+        self.tail = with_km(&self.tail, km);
+        Ok(())
+    }
+
+    /// Leaves no day and no word later than a minute: the days later than the minute's day go, the newest first, and
+    /// then the words of the newest day that are later. A stop at a moment of the call leaves a list of days between. Where
+    /// there is no day, it only reads. It reads the string, and not what was kept of it.
+    pub fn trim<M: Medium>(&mut self, medium: &mut M, minute: u32) -> Result<(), Failed>
+        requires fits { FitsIn self.old.shape (M.state medium.old) }
+        requires writable { LiesInside (M.state medium.old).writable self.old.shape.base (4 + self.old.shape.size) }
+        ensures shape { self.new.shape ≡ self.old.shape }
+        ensures trimmed { OnOk result (IfSome (M.state medium.old).image (λ x. IfSome (M.state medium.new).image (IsTrim self.old.shape minute x))) }
+        ensures knows { OnOk result (IfSome (M.state medium.old).image (λ x. IfSome (M.state medium.new).image (λ y. (days : List Day) → Holds self.old.shape x days → Knows self.new y (trimmed minute days)))) }
+        ensures moments { LeavesOnly (M.state medium.old) (M.state medium.new) (IsTrimMoment self.old.shape minute) }
+        ensures settled { OnOk result (IfSome (M.state medium.old).image (λ x. (days : List Day) → Holds self.old.shape x days → days ≢ [] → (M.state medium.new).clock < last_count → IsSettled (M.state medium.new))) }
+        ensures still { OnOk result (SettlesIfSettled (M.state medium.old) (M.state medium.new)) }
+        ensures empty { IfSome (M.state medium.old).image (λ x. Holds self.old.shape x [] → Reads (M.state medium.old) (M.state medium.new) (is_err result)) }
+        ensures cause { HasCause (M.state medium.old) (M.state medium.new) (is_err result) }
+    {
+        self.circle.trim(medium, minute)?;
+        self.tail = self.circle.tail(medium)?;
+        Ok(())
+    }
+}
+
+// The tail with a word more.
+fn with_word(tail: &Tail, word: u16, used: u32) -> Tail
+    ensures tail { result ≡ tail_more tail.now word used }
+    ensures few { tail.now.head.words ≤ 1440 → result.head.words ≤ 1440 }
+{
+    let words = tail.head.words;
+    Tail {
+        head: DayHead {
+            place: tail.head.place,
+            date: tail.head.date,
+            counter: tail.head.counter,
+            km: tail.head.km,
+            words: if words < 1440 { words + 1 } else { words },
+        },
+        latest: word,
+        used,
+    }
+}
+
+// The tail with another distance of the newest day.
+fn with_km(tail: &Tail, km: Distance) -> Tail
+    ensures tail { result ≡ tail_km tail.now km.0 }
+{
+    Tail {
+        head: DayHead {
+            place: tail.head.place,
+            date: tail.head.date,
+            counter: tail.head.counter,
+            km,
+            words: tail.head.words,
+        },
+        latest: tail.latest,
+        used: tail.used,
     }
 }

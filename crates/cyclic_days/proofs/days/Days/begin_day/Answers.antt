@@ -1,57 +1,80 @@
-use Rattle.std.proofs.Common.{ℕ, List, ◌+◌, ◌*◌, IfSome, length, arith, ◌∙◌}
-use Rattle.std.proofs.lemmas.Result.{on_ok_weaker}
-use Rattle.tach_media.proofs.Runs.{weaken, goes_on, at_image}
+use Rattle.std.proofs.Common.{◌≡◌, ℕ, ◌+◌, ◌*◌, ◌≤◌, ◌<◌, List, length, arith, ap, sym, refl, ◌∙◌, subst, IfSome, Some}
+use Rattle.tach_media.proofs.Runs.{weaken, at_image, where_told, turned_into, settled_now, on_ok}
+use Rattle.write_plan.specs.Plan.{put_all}
+use Rattle.write_plan.proofs.Plans.{puts_outside, partway_outside}
 use Rattle.card_model.specs.Image.{Shape}
-use Rattle.cyclic_days.specs.Moments.{IsBegun}
-use Rattle.cyclic_days.specs.Steps.{IsRoomier, IsPlaced}
-use Rattle.cyclic_days.proofs.Starting.{while_dropping_one, while_dropping_two, while_placing, begun_all}
-use Rattle.cyclic_days.proofs.Told.{through}
+use Rattle.cyclic_days.specs.declared.head.Tail.{Tail}
+use Rattle.cyclic_days.specs.Held.{Held, IsHeld, Knows}
+use Rattle.cyclic_days.specs.Moments.{IfKnown, IsBeginning, IsBegun, KnowsBegun, ClearsBegun, BeginsAgain}
+use Rattle.cyclic_days.specs.Plans.{left_in, beginning_pieces, tail_begun}
+use Rattle.cyclic_days.proofs.Starting.{beginning_known, begun_told, begun_knows, begun_clears, begins_again, beginning_count}
+use Rattle.cyclic_days.proofs.Told.{from_told}
 use Rattle.cyclic_days.proofs.days.Days.begin_day.Goals as goal
 
--- the image between two drops
-abbrev MadeTwice : Shape → ℕ → List ℕ → List ℕ → Type 0
-MadeTwice r new x z = (y : List ℕ) × IsRoomier r new x y × IsRoomier r new y z
+abbrev hold : Shape → Tail → Held
+hold r t = record { shape = r; tail = t }
 
-pub returns-in_err-make_room-clause-moments : goal.returns-in_err-make_room-clause-moments
-returns-in_err-make_room-clause-moments g c =
-    weaken c.make_room.ensures.moments (λ x d was step.
-    while_dropping_one c.args.self.now c.make_room.ensures.shape c.args.date.0 c.args.words.now c.requires.few x (omega (arith, c.requires.fits, (g.met.M.Medium.coherent c.args.medium.now).sized x was)) d step)
+pub returns-in_err-used-clause-moments : goal.returns-in_err-used-clause-moments
+returns-in_err-used-clause-moments g c =
+    let is : IsHeld c.args.self.now = subst (λ (h : Held). IsHeld h) c.self.view_is c.self.invariant in
+    weaken c.in_err-used.ensures.puts.leaves (λ x d was part.
+    beginning_known c.args.self.now is c.args.date.0 c.args.words.now c.requires.some c.requires.few x (omega (arith, c.requires.fits, (g.met.M.Medium.coherent c.args.medium.now).sized x was)) d part)
 
-pub returns-in_err-make_room-2-clause-moments : goal.returns-in_err-make_room-2-clause-moments
-returns-in_err-make_room-2-clause-moments g c =
-    let r = c.args.self.now in
-    let words = c.args.words.now in
-    let new = 12 + 2 * length words in
-    let first = weaken c.make_room.ensures.moments (λ x d was step.
-    while_dropping_one r c.make_room.ensures.shape c.args.date.0 words c.requires.few x (omega (arith, c.requires.fits, (g.met.M.Medium.coherent c.args.medium.now).sized x was)) d step) in
-    goes_on first c.make_room-2.ensures.moments (λ x y d was is step.
-    while_dropping_two r c.make_room.ensures.shape c.args.date.0 words c.requires.few x (omega (arith, c.requires.fits, (g.met.M.Medium.coherent c.args.medium.now).sized x was)) y
-    (at_image (IsRoomier r (12 + 2 * length words) x) is (at_image (λ x. IfSome (g.M.Medium.state c.make_room.new.medium).image (IsRoomier r (12 + 2 * length words) x)) was c.in_ok-make_room.ensures.room)) d step)
+pub returns-in_err-used-clause-writes : goal.returns-in_err-used-clause-writes
+returns-in_err-used-clause-writes g c =
+    let is : IsHeld c.args.self.now = subst (λ (h : Held). IsHeld h) c.self.view_is c.self.invariant in
+    from_told (g.M.Medium.state c.args.medium.now).image _ _ c.in_err-used.ensures.exact (λ x was exact days k.
+    omega (arith, exact, beginning_count c.args.self.now is c.args.date.0 c.args.words.now c.requires.some c.requires.few x (omega (arith, c.requires.fits, (g.met.M.Medium.coherent c.args.medium.now).sized x was)) days k))
 
 pub returns-clause-moments : goal.returns-clause-moments
 returns-clause-moments g c =
-    let r = c.args.self.now in
-    let words = c.args.words.now in
-    let first = weaken c.make_room.ensures.moments (λ x d was step.
-    while_dropping_one r c.make_room.ensures.shape c.args.date.0 words c.requires.few x (omega (arith, c.requires.fits, (g.met.M.Medium.coherent c.args.medium.now).sized x was)) d step) in
-    let second = goes_on first c.make_room-2.ensures.moments (λ x y d was is step.
-    while_dropping_two r c.make_room.ensures.shape c.args.date.0 words c.requires.few x (omega (arith, c.requires.fits, (g.met.M.Medium.coherent c.args.medium.now).sized x was)) y
-    (at_image (IsRoomier r (12 + 2 * length words) x) is (at_image (λ x. IfSome (g.M.Medium.state c.make_room.new.medium).image (IsRoomier r (12 + 2 * length words) x)) was c.in_ok-make_room.ensures.room)) d step) in
-    let twice = through (g.M.Medium.state c.args.medium.now).image (g.M.Medium.state c.make_room.new.medium).image (g.M.Medium.state c.make_room-2.new.medium).image
-    (IsRoomier r (12 + 2 * length words)) (IsRoomier r (12 + 2 * length words)) (MadeTwice r (12 + 2 * length words)) c.make_room.ensures.moments.tells
-    c.in_ok-make_room.ensures.room c.in_ok-make_room-2.ensures.room (λ x y z was a b. (y, a, b)) in
-    goes_on second c.begin.ensures.moments (λ x z d was is step.
-    let made = at_image (MadeTwice r (12 + 2 * length words) x) is (at_image (λ x. IfSome (g.M.Medium.state c.make_room-2.new.medium).image (MadeTwice r (12 + 2 * length words) x)) was twice) in
-    while_placing r c.make_room.ensures.shape c.args.date.0 words c.requires.few x (omega (arith, c.requires.fits, (g.met.M.Medium.coherent c.args.medium.now).sized x was)) made.0 made.1 z made.2 d step)
+    let is : IsHeld c.args.self.now = subst (λ (h : Held). IsHeld h) c.self.view_is c.self.invariant in
+    weaken c.in_ok-used.ensures.puts.leaves (λ x d was part.
+    beginning_known c.args.self.now is c.args.date.0 c.args.words.now c.requires.some c.requires.few x (omega (arith, c.requires.fits, (g.met.M.Medium.coherent c.args.medium.now).sized x was)) d part)
+
+pub returns-clause-writes : goal.returns-clause-writes
+returns-clause-writes g c =
+    let is : IsHeld c.args.self.now = subst (λ (h : Held). IsHeld h) c.self.view_is c.self.invariant in
+    from_told (g.M.Medium.state c.args.medium.now).image _ _ c.in_ok-used.ensures.exact (λ x was exact days k.
+    omega (arith, exact, beginning_count c.args.self.now is c.args.date.0 c.args.words.now c.requires.some c.requires.few x (omega (arith, c.requires.fits, (g.met.M.Medium.coherent c.args.medium.now).sized x was)) days k))
 
 pub returns-clause-begun : goal.returns-clause-begun
 returns-clause-begun g c =
-    let r = c.args.self.now in
-    let words = c.args.words.now in
-    let twice = through (g.M.Medium.state c.args.medium.now).image (g.M.Medium.state c.make_room.new.medium).image (g.M.Medium.state c.make_room-2.new.medium).image
-    (IsRoomier r (12 + 2 * length words)) (IsRoomier r (12 + 2 * length words)) (MadeTwice r (12 + 2 * length words)) c.make_room.ensures.moments.tells
-    c.in_ok-make_room.ensures.room c.in_ok-make_room-2.ensures.room (λ x y z was a b. (y, a, b)) in
-    on_ok_weaker c.begin.result (λ placed.
-    through (g.M.Medium.state c.args.medium.now).image (g.M.Medium.state c.make_room-2.new.medium).image _ (MadeTwice r (12 + 2 * length words)) (IsPlaced r c.args.date.0 words) (IsBegun r c.args.date.0 words)
-    (c.make_room-2.ensures.moments.tells ∙ c.make_room.ensures.moments.tells) twice placed (λ x z e was made step.
-    begun_all r c.make_room.ensures.shape c.args.date.0 words c.requires.few x (omega (arith, c.requires.fits, (g.met.M.Medium.coherent c.args.medium.now).sized x was)) made.0 made.1 z made.2 e step)) c.begin.ensures.placed
+    let v = c.args.self.now in
+    let is : IsHeld c.args.self.now = subst (λ (h : Held). IsHeld h) c.self.view_is c.self.invariant in
+    where_told (g.M.Medium.state c.args.medium.now).image _ (IfKnown v (IsBegun v.shape c.args.date.0 c.args.words.now)) (λ x y was now.
+    let y_is : y ≡ put_all (beginning_pieces v c.args.date.0 c.args.words.now x) x = turned_into (λ x. put_all (beginning_pieces v c.args.date.0 c.args.words.now x) x) (c.in_ok-used.ensures.puts.written refl) was now in
+    subst (λ (l : List ℕ). IfKnown v (IsBegun v.shape c.args.date.0 c.args.words.now) x l) (sym y_is)
+    (begun_told v is c.args.date.0 c.args.words.now c.requires.some c.requires.few x (omega (arith, c.requires.fits, (g.met.M.Medium.coherent c.args.medium.now).sized x was))))
+
+pub returns-clause-knows : goal.returns-clause-knows
+returns-clause-knows g c =
+    let v = c.args.self.now in
+    let w = c.args.words.now in
+    let is : IsHeld c.args.self.now = subst (λ (h : Held). IsHeld h) c.self.view_is c.self.invariant in
+    let used = c.in_ok-used.used in
+    let next_is : hold c.self.inside.circle c.new_tail-self-inside.result ≡ hold v.shape (tail_begun v c.args.date.0 w used) =
+    ap (λ (t : Tail). hold c.self.inside.circle t) c.new_tail-self-inside.ensures.tail ∙ ap (λ (h : Held). hold h.shape (tail_begun v c.args.date.0 w used)) c.self.view_is in
+    where_told (g.M.Medium.state c.args.medium.now).image _ (KnowsBegun v (hold c.self.inside.circle c.new_tail-self-inside.result) c.args.date.0 w) (λ x y was now.
+    let y_is : y ≡ put_all (beginning_pieces v c.args.date.0 w x) x = turned_into (λ x. put_all (beginning_pieces v c.args.date.0 w x) x) (c.in_ok-used.ensures.puts.written refl) was now in
+    subst (λ (l : List ℕ). KnowsBegun v (hold c.self.inside.circle c.new_tail-self-inside.result) c.args.date.0 w x l) (sym y_is)
+    (begun_knows v is c.args.date.0 w c.requires.some c.requires.few x (omega (arith, c.requires.fits, (g.met.M.Medium.coherent c.args.medium.now).sized x was)) (hold c.self.inside.circle c.new_tail-self-inside.result) used next_is
+    (at_image (λ x. used ≡ left_in v (12 + 2 * length w) x (left_in v (12 + 2 * length w) x v.tail.used) + (12 + 2 * length w)) was c.in_ok-used.ensures.used)))
+
+pub returns-clause-cleared : goal.returns-clause-cleared
+returns-clause-cleared g c =
+    let v = c.args.self.now in
+    let is : IsHeld c.args.self.now = subst (λ (h : Held). IsHeld h) c.self.view_is c.self.invariant in
+    where_told (g.M.Medium.state c.args.medium.now).image _ (ClearsBegun v c.args.date.0 c.args.words.now) (λ x y was now.
+    let y_is : y ≡ put_all (beginning_pieces v c.args.date.0 c.args.words.now x) x = turned_into (λ x. put_all (beginning_pieces v c.args.date.0 c.args.words.now x) x) (c.in_ok-used.ensures.puts.written refl) was now in
+    subst (λ (l : List ℕ). ClearsBegun v c.args.date.0 c.args.words.now x l) (sym y_is)
+    (begun_clears v is c.args.date.0 c.args.words.now c.requires.some c.requires.few x (omega (arith, c.requires.fits, (g.met.M.Medium.coherent c.args.medium.now).sized x was))))
+
+pub returns-clause-again : goal.returns-clause-again
+returns-clause-again g c =
+    let v = c.args.self.now in
+    let is : IsHeld c.args.self.now = subst (λ (h : Held). IsHeld h) c.self.view_is c.self.invariant in
+    where_told (g.M.Medium.state c.args.medium.now).image _ (BeginsAgain v c.args.date.0 c.args.words.now) (λ x y was now.
+    let y_is : y ≡ put_all (beginning_pieces v c.args.date.0 c.args.words.now x) x = turned_into (λ x. put_all (beginning_pieces v c.args.date.0 c.args.words.now x) x) (c.in_ok-used.ensures.puts.written refl) was now in
+    subst (λ (l : List ℕ). BeginsAgain v c.args.date.0 c.args.words.now x l) (sym y_is)
+    (begins_again v is c.args.date.0 c.args.words.now c.requires.some c.requires.few x (omega (arith, c.requires.fits, (g.met.M.Medium.coherent c.args.medium.now).sized x was))))

@@ -1,46 +1,56 @@
-use Rattle.std.proofs.Common.{ℕ, [], false, IfSome, subst}
-use Rattle.std.proofs.lemmas.Result.{on_ok_weaker}
-use Rattle.tach_media.specs.Medium.{Reads}
-use Rattle.tach_media.proofs.Runs.{weaken, goes_on, at_image}
-use Rattle.card_model.specs.Image.{Holds}
-use Rattle.cyclic_days.specs.Trim.{IsTrimming, IsTrimmed, IsCutLast, IsTrim}
-use Rattle.cyclic_days.proofs.CutLast.{while_dropping, while_cutting, trim_made}
-use Rattle.cyclic_days.proofs.Settling.{reads_after, settled_after, still_after}
-use Rattle.cyclic_days.proofs.Told.{if_told, through}
+use Rattle.std.proofs.Common.{rules, ◌≡◌, ◌≢◌, ◌<◌, ℕ, Bool, true, false, List, [], Some, IfSome, refl, sym, ◌∙◌, subst, ap}
+use Rattle.std.specs.Prelude.{is_err}
+use Rattle.tach_media.specs.Medium.{Reads, IsSettled, last_count}
+use Rattle.tach_media.proofs.Runs.{at_image, where_told, reads_then}
+use Rattle.card_model.specs.Days.{Day}
+use Rattle.card_model.specs.Changes.{trimmed}
+use Rattle.card_model.specs.Image.{Shape, Holds}
+use Rattle.cyclic_days.specs.declared.head.Tail.{Tail}
+use Rattle.cyclic_days.specs.Held.{Held, Knows}
+use Rattle.cyclic_days.specs.Trim.{IsTrim}
+use Rattle.cyclic_days.proofs.Settling.{settled_reads}
+use Rattle.cyclic_days.proofs.Told.{from_told}
 use Rattle.cyclic_days.proofs.days.Days.trim.Goals as goal
 
-pub returns-in_err-drop_later-clause-moments : goal.returns-in_err-drop_later-clause-moments
-returns-in_err-drop_later-clause-moments g c =
-    let r = c.args.self.now in
-    let m = c.args.minute in
-    weaken c.drop_later.ensures.moments (λ x d was step. while_dropping r m x d (subst (λ (k : ℕ). IsTrimming r k 0 x d) c.first_second.ensures step))
+abbrev hold : Shape → Tail → Held
+hold r t = record { shape = r; tail = t }
 
-pub returns-clause-moments : goal.returns-clause-moments
-returns-clause-moments g c =
-    let r = c.args.self.now in
-    let m = c.args.minute in
-    let first = weaken c.drop_later.ensures.moments (λ x d was step. while_dropping r m x d (subst (λ (k : ℕ). IsTrimming r k 0 x d) c.first_second.ensures step)) in
-    goes_on first c.cut.ensures.moments (λ x y d was is step.
-    while_cutting r m x y (subst (λ (k : ℕ). IsTrimmed r k x y) c.first_second.ensures
-    (at_image (IsTrimmed r c.first_second.result x) is (at_image (λ x. IfSome (g.M.Medium.state c.drop_later.new.medium).image (IsTrimmed r c.first_second.result x)) was c.in_ok-drop_later.ensures.trimmed))) d step)
-
-pub returns-clause-trimmed : goal.returns-clause-trimmed
-returns-clause-trimmed g c =
-    let r = c.args.self.now in
-    let m = c.args.minute in
-    on_ok_weaker c.cut.result (λ made.
-    through (g.M.Medium.state c.args.medium.now).image (g.M.Medium.state c.drop_later.new.medium).image _ (IsTrimmed r c.first_second.result) (IsCutLast r m) (IsTrim r m) c.drop_later.ensures.moments.tells
-    c.in_ok-drop_later.ensures.trimmed made (λ x y z was first step. trim_made r m x y (subst (λ (k : ℕ). IsTrimmed r k x y) c.first_second.ensures first) z step)) c.cut.ensures.cut
-
-pub returns-clause-settled : goal.returns-clause-settled
-returns-clause-settled g c = on_ok_weaker c.cut.result (λ settled. if_told (g.M.Medium.state c.args.medium.now).image _ (λ x was.
-    settled_after c.args.self.now c.in_ok-drop_later.ensures.settled settled x was)) c.cut.ensures.settled
-
-pub returns-clause-still : goal.returns-clause-still
-returns-clause-still g c = on_ok_weaker c.cut.result (λ settled. still_after c.args.self.now c.in_ok-drop_later.ensures.settled settled) c.cut.ensures.settled
+pub returns-in_err-self-inside-clause-empty : goal.returns-in_err-self-inside-clause-empty
+returns-in_err-self-inside-clause-empty g c =
+    let old = g.M.Medium.state c.args.medium.now in
+    let mid = g.M.Medium.state c.trim.new.medium in
+    let new = g.M.Medium.state c.tail.new.medium in
+    let r = c.args.self.now.shape in
+    let same : c.self.inside.circle ≡ r = ap (λ (h : Held). h.shape) c.self.view_is in
+    let failed : is_err c.from_residual-in_err-self-inside.result ≡ true = search rules in
+    from_told old.image _ _ c.in_ok-trim.ensures.empty (λ x was empty none.
+    subst (λ (b : Bool). Reads old new b) (sym failed) (reads_then (empty (subst (λ (s : Shape). Holds s x []) (sym same) none)) c.in_err-self-inside.ensures.reads))
 
 pub returns-clause-empty : goal.returns-clause-empty
 returns-clause-empty g c =
-    let r = c.args.self.now in
-    if_told (g.M.Medium.state c.args.medium.now).image _ (λ x was h. reads_after r x was h
-    (at_image (λ x. Holds r x [] → Reads (g.M.Medium.state c.args.medium.now) (g.M.Medium.state c.drop_later.new.medium) false) was c.in_ok-drop_later.ensures.empty h) c.cut.ensures.empty)
+    let old = g.M.Medium.state c.args.medium.now in
+    let r = c.args.self.now.shape in
+    let same : c.self.inside.circle ≡ r = ap (λ (h : Held). h.shape) c.self.view_is in
+    from_told old.image _ _ c.in_ok-trim.ensures.empty (λ x was empty none. reads_then (empty (subst (λ (s : Shape). Holds s x []) (sym same) none)) c.in_ok-self-inside.ensures.reads)
+
+pub returns-clause-settled : goal.returns-clause-settled
+returns-clause-settled g c =
+    let old = g.M.Medium.state c.args.medium.now in
+    let r = c.args.self.now.shape in
+    let same : c.self.inside.circle ≡ r = ap (λ (h : Held). h.shape) c.self.view_is in
+    from_told old.image _ _ c.in_ok-trim.ensures.settled (λ x was settled days h some.
+    settled_reads c.in_ok-self-inside.ensures.reads (settled days (subst (λ (s : Shape). Holds s x days) (sym same) h) some))
+
+pub returns-clause-knows : goal.returns-clause-knows
+returns-clause-knows g c =
+    let old = g.M.Medium.state c.args.medium.now in
+    let mid = g.M.Medium.state c.trim.new.medium in
+    let r = c.args.self.now.shape in
+    let m = c.args.minute in
+    let same : c.self.inside.circle ≡ r = ap (λ (h : Held). h.shape) c.self.view_is in
+    let next = hold c.self.inside.circle c.in_ok-self-inside.field-0 in
+    where_told old.image _ (λ x y. (days : List Day) → Holds r x days → Knows (hold c.self.inside.circle c.in_ok-self-inside.field-0) y (trimmed m days)) (λ x y was now days h.
+    let there : mid.image ≡ Some y = sym (c.in_ok-self-inside.ensures.reads.same refl) ∙ now in
+    let step = at_image (IsTrim c.self.inside.circle m x) there (at_image (λ x. IfSome mid.image (IsTrim c.self.inside.circle m x)) was c.in_ok-trim.ensures.trimmed) in
+    at_image (λ y. (days : List Day) → Holds c.self.inside.circle y days → Knows (hold c.self.inside.circle c.in_ok-self-inside.field-0) y days) there c.in_ok-self-inside.ensures.knows (trimmed m days)
+    (step.list days (subst (λ (s : Shape). Holds s x days) (sym same) h)))

@@ -1,0 +1,93 @@
+use Rattle.std.proofs.Common.{◌≡◌, ◌+◌, List, [], ℕ, inl, false, Option, IfSome, arith, refl, sym, ◌∙◌, subst}
+use Rattle.tach_media.specs.Medium.{Reads}
+use Rattle.tach_media.proofs.Runs.{goes_on, goes_same, at_image, where_told, cause_after}
+use Rattle.card_model.specs.Days.{Day}
+use Rattle.card_model.specs.Image.{Holds}
+use Rattle.cyclic_days.specs.Trim.{IsTrimming, IsTrimmed, IsShortened, newest_later}
+use Rattle.cyclic_days.proofs.Settling.{none_later, then_reads}
+use Rattle.cyclic_days.proofs.Told.{if_told, through_both}
+use Rattle.cyclic_days.proofs.Trimming.{trimming_then, trimming_one, trimming_part, trimming_fewer, trimmed, too_many}
+use Rattle.cyclic_days.proofs.circle.Circle.drop_later.Goals as goal
+
+pub returns-in_err-drop_newest-clause-moments : goal.returns-in_err-drop_newest-clause-moments
+returns-in_err-drop_newest-clause-moments g c =
+    let r = c.args.self.now in
+    let date = c.args.date in
+    let i = c.loop-later.count in
+    let inv = c.loop-later.invariant in
+    goes_on inv.moments c.drop_newest.ensures.moments (λ x y d was is step.
+    trimming_fewer r date (i + 0) x d (trimming_then r date i 0 x y d
+    (at_image (IsTrimming r date i x) is (at_image (λ x. IfSome (g.M.Medium.state c.loop-later.medium).image (IsTrimming r date i x)) was inv.made))
+    (trimming_part r date y d (λ days h. sym (at_image (λ y. (days : List Day) → Holds r y days → c.loop-later.later ≡ newest_later date days) is inv.later days h) ∙ c.loop-later-test.true) step)))
+
+pub returns-in_err-later-2-clause-moments : goal.returns-in_err-later-2-clause-moments
+returns-in_err-later-2-clause-moments g c =
+    let r = c.args.self.now in
+    let date = c.args.date in
+    let i = c.loop-later.count in
+    let inv = c.loop-later.invariant in
+    goes_same (goes_on inv.moments c.drop_newest.ensures.moments (λ x y d was is step.
+    trimming_fewer r date (i + 0) x d (trimming_then r date i 0 x y d
+    (at_image (IsTrimming r date i x) is (at_image (λ x. IfSome (g.M.Medium.state c.loop-later.medium).image (IsTrimming r date i x)) was inv.made))
+    (trimming_part r date y d (λ days h. sym (at_image (λ y. (days : List Day) → Holds r y days → c.loop-later.later ≡ newest_later date days) is inv.later days h) ∙ c.loop-later-test.true) step)))) c.in_err-later-2.ensures.reads.leaves
+
+pub loop-later-preserved : goal.loop-later-preserved
+loop-later-preserved g c =
+    let r = c.args.self.now in
+    let date = c.args.date in
+    let i = c.loop-later.count in
+    let inv = c.loop-later.invariant in
+    let again = c.in_ok-later-2.ensures in
+    record {
+      few = omega (arith, c.if-count-lt984.true);
+      shape = inv.shape;
+      cause = cause_after (cause_after inv.cause c.in_ok-drop_newest.ensures.cause) again.reads.cause;
+      made = subst (λ (o : Option (List ℕ)). IfSome (g.M.Medium.state c.args.medium.now).image (λ x. IfSome o (IsTrimming r date (i + 1) x))) (sym (again.reads.same refl))
+          (through_both (g.M.Medium.state c.args.medium.now).image (g.M.Medium.state c.loop-later.medium).image (g.M.Medium.state c.drop_newest.new.medium).image (IsTrimming r date i) (IsShortened r) (IsTrimming r date (i + 1))
+          inv.moments.tells inv.made c.in_ok-drop_newest.ensures.shortened (λ x y z was is a b. trimming_then r date i 1 x y z a
+          (trimming_one r date y z (λ days h. sym (at_image (λ y. (days : List Day) → Holds r y days → c.loop-later.later ≡ newest_later date days) is inv.later days h) ∙ c.loop-later-test.true) b)));
+      moments = goes_same (goes_on inv.moments c.drop_newest.ensures.moments (λ x y d was is step.
+          trimming_fewer r date (i + 0) x d (trimming_then r date i 0 x y d
+          (at_image (IsTrimming r date i x) is (at_image (λ x. IfSome (g.M.Medium.state c.loop-later.medium).image (IsTrimming r date i x)) was inv.made))
+          (trimming_part r date y d (λ days h. sym (at_image (λ y. (days : List Day) → Holds r y days → c.loop-later.later ≡ newest_later date days) is inv.later days h) ∙ c.loop-later-test.true) step)))) again.reads.leaves;
+      settled = then_reads (inl c.in_ok-drop_newest.ensures.settled) again.reads;
+      empty = if_told (g.M.Medium.state c.args.medium.now).image _ (λ x was h. absurd (none_later r date c.loop-later.later c.loop-later-test.true x was h
+          (at_image (λ x. Holds r x [] → Reads (g.M.Medium.state c.args.medium.now) (g.M.Medium.state c.loop-later.medium) false) was inv.empty h) inv.later));
+      later = subst (λ (o : Option (List ℕ)). IfSome o (λ y. (days : List Day) → Holds r y days → c.in_ok-later-2.later ≡ newest_later date days)) (sym (again.reads.same refl)) again.later;
+    }
+
+pub returns-else-count-lt984-clause-trimmed : goal.returns-else-count-lt984-clause-trimmed
+returns-else-count-lt984-clause-trimmed g c =
+    let r = c.args.self.now in
+    let date = c.args.date in
+    let i = c.loop-later.count in
+    let inv = c.loop-later.invariant in
+    where_told (g.M.Medium.state c.args.medium.now).image _ (IsTrimmed r date) (λ x y was is.
+    trimmed r date i x y (at_image (IsTrimming r date i x) is (at_image (λ x. IfSome (g.M.Medium.state c.loop-later.medium).image (IsTrimming r date i x)) was inv.made))
+    (λ days kept h s k. too_many r inv.shape date i x (omega (arith, c.requires.fits, (g.met.M.Medium.coherent c.args.medium.now).sized x was)) c.if-count-lt984.false days kept h s))
+
+pub returns-after-loop-later-clause-trimmed : goal.returns-after-loop-later-clause-trimmed
+returns-after-loop-later-clause-trimmed g c =
+    let r = c.args.self.now in
+    let date = c.args.date in
+    let i = c.loop-later.count in
+    let inv = c.loop-later.invariant in
+    where_told (g.M.Medium.state c.args.medium.now).image _ (IsTrimmed r date) (λ x y was is.
+    trimmed r date i x y (at_image (IsTrimming r date i x) is (at_image (λ x. IfSome (g.M.Medium.state c.loop-later.medium).image (IsTrimming r date i x)) was inv.made))
+    (λ days kept h s k. sym (at_image (λ y. (days : List Day) → Holds r y days → c.loop-later.later ≡ newest_later date days) is inv.later kept k) ∙ c.loop-later-test.false))
+
+pub returns-in_err-drop_newest-clause-empty : goal.returns-in_err-drop_newest-clause-empty
+returns-in_err-drop_newest-clause-empty g c =
+    let r = c.args.self.now in
+    let date = c.args.date in
+    let inv = c.loop-later.invariant in
+    if_told (g.M.Medium.state c.args.medium.now).image _ (λ x was h. absurd (none_later r date c.loop-later.later c.loop-later-test.true x was h
+    (at_image (λ x. Holds r x [] → Reads (g.M.Medium.state c.args.medium.now) (g.M.Medium.state c.loop-later.medium) false) was inv.empty h) inv.later))
+
+pub returns-in_err-later-2-clause-empty : goal.returns-in_err-later-2-clause-empty
+returns-in_err-later-2-clause-empty g c =
+    let r = c.args.self.now in
+    let date = c.args.date in
+    let inv = c.loop-later.invariant in
+    if_told (g.M.Medium.state c.args.medium.now).image _ (λ x was h. absurd (none_later r date c.loop-later.later c.loop-later-test.true x was h
+    (at_image (λ x. Holds r x [] → Reads (g.M.Medium.state c.args.medium.now) (g.M.Medium.state c.loop-later.medium) false) was inv.empty h) inv.later))

@@ -1,0 +1,25 @@
+use Rattle.std.proofs.Common.{◌≡◌, ◌≤◌, ◌-◌, List, [], false}
+use Rattle.std.specs.Prelude.{IfSome}
+use Rattle.tach_media.specs.Medium.{LeavesOnly, Reads, HasCause}
+use Rattle.card_model.specs.Days.{Day}
+use Rattle.card_model.specs.Image.{IsShape, Holds}
+use Rattle.cyclic_days.specs.Trim.{IsTrimming, WritesOrReads, newest_later}
+use Rattle.cyclic_days.proofs.circle.Circle.drop_later.Given as goal
+
+abbrev pub invariant-loop-later : goal.invariant-loop-later
+invariant-loop-later g l =
+    let before = g.M.Medium.state l.fn.medium in
+    let now = g.M.Medium.state l.medium in
+    record {
+      few : l.count ≤ 984;
+      shape : IsShape l.self;
+      cause : HasCause before now false;
+      made : IfSome before.image (λ x. IfSome now.image (IsTrimming l.self l.date l.count x));
+      moments : LeavesOnly before now (IsTrimming l.self l.date 0);
+      settled : WritesOrReads before now;
+      empty : IfSome before.image (λ x. Holds l.self x [] → Reads before now false);
+      later : IfSome now.image (λ y. (days : List Day) → Holds l.self y days → l.later ≡ newest_later l.date days);
+    }
+
+abbrev pub decreases-loop-later : goal.decreases-loop-later
+decreases-loop-later g l = 984 - l.count
