@@ -1,0 +1,118 @@
+-- Worked exchanges, from the bytes that come to the bytes that go.
+use Rattle.std.proofs.Common.{◌≡◌, ℕ, ◌==◌, if◌then◌else◌, List, [], ◌∷◌, ◌++◌, replicate, map, slice_index, Option, Some, None, refl}
+use Rattle.link_model.specs.declared.request.Request.{Request}
+use Rattle.link_model.specs.declared.request.Request.TheVariants.{Overview, Day, Events, Speed, Technical}
+use Rattle.link_model.specs.Frames.{Right}
+use Rattle.link_model.specs.Answers.{LinkState, Idle, Started, Diagnostic, Upload, Sending, piece, begins_to_send, run_from, frames_out}
+
+-- a unit with one recorded day, of 279 bytes, that begins at 2010-03-01 00:00, and technical data of 130 bytes
+abbrev unit : Request → Option (List ℕ)
+unit Overview = None
+unit (Day second) = if second == 1267401600 then Some (replicate 279 0x11) else None
+unit Events = None
+unit Speed = None
+unit Technical = Some (replicate 130 0x22)
+
+-- what goes out for these bytes
+abbrev sends : LinkState → List ℕ → List (List ℕ)
+sends state bytes = frames_out unit state bytes
+
+abbrev start_bytes : List ℕ
+start_bytes = 0x81 ∷ 0xEE ∷ 0xF0 ∷ 0x81 ∷ 0xE0 ∷ []
+
+abbrev diagnostic_bytes : List ℕ
+diagnostic_bytes = 0x80 ∷ 0xEE ∷ 0xF0 ∷ 0x02 ∷ 0x10 ∷ 0x81 ∷ 0xF1 ∷ []
+
+abbrev upload_bytes : List ℕ
+upload_bytes = 0x80 ∷ 0xEE ∷ 0xF0 ∷ 0x0A ∷ 0x35 ∷ 0x00 ∷ 0x00 ∷ 0x00 ∷ 0x00 ∷ 0x00 ∷ 0xFF ∷ 0xFF ∷ 0xFF ∷ 0xFF ∷ 0x99 ∷ []
+
+-- the fixed exchanges, in one session
+fixed_exchanges : sends Idle (start_bytes ++ diagnostic_bytes ++ upload_bytes ++ 0x80 ∷ 0xEE ∷ 0xF0 ∷ 0x01 ∷ 0x37 ∷ 0x96 ∷ 0x80 ∷ 0xEE ∷ 0xF0 ∷ 0x01 ∷ 0x82 ∷ 0xE1 ∷ [])
+    ≡ (0x80 ∷ 0xF0 ∷ 0xEE ∷ 0x03 ∷ 0xC1 ∷ 0xEA ∷ 0x8F ∷ 0x9B ∷ [])
+    ∷ (0x80 ∷ 0xF0 ∷ 0xEE ∷ 0x02 ∷ 0x50 ∷ 0x81 ∷ 0x31 ∷ [])
+    ∷ (0x80 ∷ 0xF0 ∷ 0xEE ∷ 0x03 ∷ 0x75 ∷ 0x00 ∷ 0xFF ∷ 0xD5 ∷ [])
+    ∷ (0x80 ∷ 0xF0 ∷ 0xEE ∷ 0x01 ∷ 0x77 ∷ 0xD6 ∷ [])
+    ∷ (0x80 ∷ 0xF0 ∷ 0xEE ∷ 0x01 ∷ 0xC2 ∷ 0x21 ∷ [])
+    ∷ []
+fixed_exchanges = refl
+
+-- the recorded day goes in pieces of 251 and 28, then nothing is left
+abbrev day_request : List ℕ
+day_request = 0x36 ∷ 0x02 ∷ 0x4B ∷ 0x8B ∷ 0x03 ∷ 0x80 ∷ []
+
+day_in_pieces : run_from unit Upload (Right day_request ∷ Right (0x83 ∷ 0x76 ∷ 0x00 ∷ 0x02 ∷ []) ∷ Right (0x83 ∷ 0x76 ∷ 0x00 ∷ 0x03 ∷ []) ∷ [])
+    ≡ (0x76 ∷ 0x02 ∷ 0x00 ∷ 0x01 ∷ replicate 251 0x11) ∷ (0x76 ∷ 0x02 ∷ 0x00 ∷ 0x02 ∷ replicate 28 0x11) ∷ []
+day_in_pieces = refl
+
+-- its request in bytes, after start, diagnostics and upload: four answers, the last of 255 data bytes
+day_asked : map (λ frame. slice_index frame 3) (sends Idle (start_bytes ++ diagnostic_bytes ++ upload_bytes ++ 0x80 ∷ 0xEE ∷ 0xF0 ∷ 0x06 ∷ 0x36 ∷ 0x02 ∷ 0x4B ∷ 0x8B ∷ 0x03 ∷ 0x80 ∷ 0xF5 ∷ []))
+    ≡ 0x03 ∷ 0x02 ∷ 0x03 ∷ 0xFF ∷ []
+day_asked = refl
+
+-- the same piece again, and the next one after it
+piece_again : run_from unit Upload (Right day_request ∷ Right (0x83 ∷ 0x76 ∷ 0x00 ∷ 0x01 ∷ []) ∷ Right (0x83 ∷ 0x76 ∷ 0x00 ∷ 0x02 ∷ []) ∷ Right (0x83 ∷ 0x76 ∷ 0x00 ∷ 0x02 ∷ []) ∷ [])
+    ≡ (0x76 ∷ 0x02 ∷ 0x00 ∷ 0x01 ∷ replicate 251 0x11) ∷ (0x76 ∷ 0x02 ∷ 0x00 ∷ 0x01 ∷ replicate 251 0x11)
+    ∷ (0x76 ∷ 0x02 ∷ 0x00 ∷ 0x02 ∷ replicate 28 0x11) ∷ (0x76 ∷ 0x02 ∷ 0x00 ∷ 0x02 ∷ replicate 28 0x11) ∷ []
+piece_again = refl
+
+-- FFFF gives the transfer up: the next acknowledgement is out of place
+given_up : run_from unit Upload (Right day_request ∷ Right (0x83 ∷ 0x76 ∷ 0xFF ∷ 0xFF ∷ []) ∷ Right (0x83 ∷ 0x76 ∷ 0x00 ∷ 0x02 ∷ []) ∷ [])
+    ≡ (0x76 ∷ 0x02 ∷ 0x00 ∷ 0x01 ∷ replicate 251 0x11) ∷ (0x7F ∷ 0x83 ∷ 0x22 ∷ []) ∷ []
+given_up = refl
+
+-- another counter is refused, and so is a request inside a transfer, which goes on
+refused_while_sending : run_from unit Upload (Right day_request ∷ Right (0x83 ∷ 0x76 ∷ 0x00 ∷ 0x03 ∷ []) ∷ Right (0x36 ∷ 0x01 ∷ []) ∷ Right (0x83 ∷ 0x76 ∷ 0x00 ∷ 0x02 ∷ []) ∷ [])
+    ≡ (0x76 ∷ 0x02 ∷ 0x00 ∷ 0x01 ∷ replicate 251 0x11) ∷ (0x7F ∷ 0x83 ∷ 0x31 ∷ []) ∷ (0x7F ∷ 0x36 ∷ 0xFA ∷ []) ∷ (0x76 ∷ 0x02 ∷ 0x00 ∷ 0x02 ∷ replicate 28 0x11) ∷ []
+refused_while_sending = refl
+
+-- the day before is not recorded; a second inside a day is none
+day_before : sends Upload (0x80 ∷ 0xEE ∷ 0xF0 ∷ 0x06 ∷ 0x36 ∷ 0x02 ∷ 0x4B ∷ 0x89 ∷ 0xB2 ∷ 0x00 ∷ 0x22 ∷ []) ≡ (0x80 ∷ 0xF0 ∷ 0xEE ∷ 0x03 ∷ 0x7F ∷ 0x36 ∷ 0xFA ∷ 0x10 ∷ []) ∷ []
+day_before = refl
+
+inside_a_day : run_from unit Upload (Right (0x36 ∷ 0x02 ∷ 0x4B ∷ 0x8B ∷ 0x03 ∷ 0x81 ∷ []) ∷ []) ≡ (0x7F ∷ 0x36 ∷ 0x31 ∷ []) ∷ []
+inside_a_day = refl
+
+-- a service that there is none of, a request without a number, and one before the upload
+no_service : sends Upload (0x80 ∷ 0xEE ∷ 0xF0 ∷ 0x01 ∷ 0x27 ∷ 0x86 ∷ []) ≡ (0x80 ∷ 0xF0 ∷ 0xEE ∷ 0x03 ∷ 0x7F ∷ 0x27 ∷ 0x11 ∷ 0x18 ∷ []) ∷ []
+no_service = refl
+
+no_number : sends Upload (0x80 ∷ 0xEE ∷ 0xF0 ∷ 0x01 ∷ 0x36 ∷ 0x95 ∷ []) ≡ (0x80 ∷ 0xF0 ∷ 0xEE ∷ 0x03 ∷ 0x7F ∷ 0x36 ∷ 0x13 ∷ 0x29 ∷ []) ∷ []
+no_number = refl
+
+before_upload : sends Diagnostic (0x80 ∷ 0xEE ∷ 0xF0 ∷ 0x02 ∷ 0x36 ∷ 0x01 ∷ 0x97 ∷ []) ≡ (0x80 ∷ 0xF0 ∷ 0xEE ∷ 0x03 ∷ 0x7F ∷ 0x36 ∷ 0x22 ∷ 0x38 ∷ []) ∷ []
+before_upload = refl
+
+-- an upload of another extent, and a kind of diagnostics that there is none of
+other_extent : run_from unit Diagnostic (Right (0x35 ∷ 0x00 ∷ 0x00 ∷ 0x00 ∷ 0x00 ∷ 0x01 ∷ 0xFF ∷ 0xFF ∷ 0xFF ∷ 0xFF ∷ []) ∷ []) ≡ (0x7F ∷ 0x35 ∷ 0x50 ∷ []) ∷ []
+other_extent = refl
+
+other_kind : run_from unit Started (Right (0x10 ∷ 0x82 ∷ []) ∷ []) ≡ (0x7F ∷ 0x10 ∷ 0x12 ∷ []) ∷ []
+other_kind = refl
+
+-- the order of the checks of a request: its length comes before the state, and the number before its exact length
+checks_length_first : run_from unit Started (Right (0x36 ∷ 0x02 ∷ []) ∷ []) ≡ (0x7F ∷ 0x36 ∷ 0x13 ∷ []) ∷ []
+checks_length_first = refl
+
+checks_number_first : run_from unit Started (Right (0x36 ∷ 0x06 ∷ 0x00 ∷ []) ∷ []) ≡ (0x7F ∷ 0x36 ∷ 0x12 ∷ []) ∷ []
+checks_number_first = refl
+
+-- a wrong sum is refused once a session has started, and before that nothing is answered
+wrong_sum : sends Started (0x80 ∷ 0xEE ∷ 0xF0 ∷ 0x01 ∷ 0x82 ∷ 0xE2 ∷ []) ≡ (0x80 ∷ 0xF0 ∷ 0xEE ∷ 0x03 ∷ 0x7F ∷ 0x82 ∷ 0x10 ∷ 0x72 ∷ []) ∷ []
+wrong_sum = refl
+
+wrong_sum_in_idle : sends Idle (0x80 ∷ 0xEE ∷ 0xF0 ∷ 0x01 ∷ 0x82 ∷ 0xE2 ∷ 0x80 ∷ 0xEE ∷ 0xF0 ∷ 0x01 ∷ 0x82 ∷ 0xE1 ∷ []) ≡ []
+wrong_sum_in_idle = refl
+
+-- a length of 0 is no frame
+no_length : sends Started (0x80 ∷ 0xEE ∷ 0xF0 ∷ 0x00 ∷ 0x5E ∷ []) ≡ []
+no_length = refl
+
+-- messages of 252, 253 and 502 bytes: unsplit, in two pieces, and in three, of which the last is empty
+unsplit : (begins_to_send Technical (replicate 252 0x01)).state ≡ Upload
+unsplit = refl
+
+split_in_two : piece Technical (replicate 253 0x01) 2 ≡ 0x76 ∷ 0x05 ∷ 0x00 ∷ 0x02 ∷ 0x01 ∷ 0x01 ∷ []
+split_in_two = refl
+
+empty_last_piece : run_from (λ request. Some (replicate 502 0x01)) (Sending Technical 2) (Right (0x83 ∷ 0x76 ∷ 0x00 ∷ 0x03 ∷ []) ∷ Right (0x83 ∷ 0x76 ∷ 0x00 ∷ 0x04 ∷ []) ∷ []) ≡ (0x76 ∷ 0x05 ∷ 0x00 ∷ 0x03 ∷ []) ∷ []
+empty_last_piece = refl

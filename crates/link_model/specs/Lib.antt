@@ -1,0 +1,4 @@
+pub mod Frames
+pub mod Hearing
+pub mod Writing
+pub mod Answers
