@@ -30,3 +30,5 @@ pub mod DaysWith
 pub mod Retaining
 pub mod Rising
 pub mod FilledWhole
+pub mod MendedOwed
+mod OwedBeside

@@ -11,6 +11,7 @@ ghost use Rattle.unit_journal.specs.Kept.{kept_minute, HasDaysWith};
 ghost use Rattle.unit_journal.specs.DaysWith.{HasDays};
 ghost use Rattle.gated_ring.specs.Ring.{pointer, taken};
 
+mod owing;
 mod reading;
 
 use crate::bits::{bits_of, is_crew};

@@ -63,8 +63,8 @@ slot_same x c i there date odometer count words =
     (λ t. cond (there t) (check p (date t) ∷ check (p + 4) (nat_le (odometer t) 9999999) ∷ check (p + 8) (nat_le 2 (count t) && nat_le (count t) 2880) ∷ word_checks (p + 16) [] (slot_words c i (count t))) [])
     ∙ (λ t. cond (is_there day_ring x i) (check p (is_date_good (last_kept x) (map (slot_date x) (indices_before x i)) (slot_date x i)) ∷ check (p + 4) (nat_le (slot_odometer x i) 9999999) ∷ check (p + 8) (nat_le 2 (slot_count x i) && nat_le (slot_count x i) 2880) ∷ word_checks (p + 16) [] (words t)) [])
 
--- writes in the owed rows that leave the words of cells, and empty cells or leave them
-module _ (x c : List ℕ) (same : SameOutside 624 384 x c) (words : (n : ℕ) → cell_word c n ≡ cell_word x n) (minutes : (n : ℕ) → n < 32 → (cell_minute c n ≡ 0) ⊎ (cell_minute c n ≡ cell_minute x n)) where
+-- writes in the owed rows whose cells pass
+module _ (x c : List ℕ) (same : SameOutside 624 384 x c) (cells : (n : ℕ) → n < 32 → (cell_check x n).passes ≡ true → (cell_check c n).passes ≡ true) where
   but : SameButOne 0 x c
   but = in_front 0 624 384 x c (omega arith) same
 
@@ -80,6 +80,21 @@ module _ (x c : List ℕ) (same : SameOutside 624 384 x c) (words : (n : ℕ) �
     date = λ i. behind (slot_place i) 4 (omega arith);
   }
 
+  pub rows_pass : IsGood x → IsGood c
+  unfolding odometer_at
+  rows_pass good = record {
+    front = front_still x c (number_before 624 384 0 4 x c same (omega arith)) dates.kept (number_before 624 384 568 4 x c same (omega arith)) (number_before 624 384 576 4 x c same (omega arith))
+        (λ there. same_day x c dates (last_kept x / 1440) ∙ there) good.front;
+    cells = λ n below. cells n below (good.cells n below);
+    point = same_point x c dates ∙ good.point;
+    slots = λ i below.
+        let p : ℕ = slot_place i in
+        ap (list_all passes) (slot_same x c i (but.there i) (date_good x c dates i) (behind (p + 4) 4 (omega arith)) (behind (p + 8) 2 (omega arith)) (words_after 624 384 (p + 16) (slot_count x i) x c same (omega arith))) ∙ good.slots i below;
+    rings = (λ t. list_all passes (check 2115044 (nat_lt (behind 2115044 4 (omega arith) t) 2048) ∷ check 2379240 (nat_lt (behind 2379240 4 (omega arith) t) 255) ∷ [])) ∙ good.rings;
+  }
+
+-- writes in the owed rows that leave the words of cells, and empty cells or leave them
+module _ (x c : List ℕ) (same : SameOutside 624 384 x c) (words : (n : ℕ) → cell_word c n ≡ cell_word x n) (minutes : (n : ℕ) → n < 32 → (cell_minute c n ≡ 0) ⊎ (cell_minute c n ≡ cell_minute x n)) where
   cell_good : (n : ℕ) → n < 32 → (cell_check x n).passes ≡ true → (cell_check c n).passes ≡ true
   cell_good n below good = ⊎_elim
       (λ empty. ap (λ (m : ℕ). m == 0 || nat_lt (word_minute (cell_word c n)) 1440) empty)
@@ -87,17 +102,7 @@ module _ (x c : List ℕ) (same : SameOutside 624 384 x c) (words : (n : ℕ) �
       (minutes n below)
 
   pub rows_good : IsGood x → IsGood c
-  unfolding odometer_at
-  rows_good good = record {
-    front = front_still x c (number_before 624 384 0 4 x c same (omega arith)) dates.kept (number_before 624 384 568 4 x c same (omega arith)) (number_before 624 384 576 4 x c same (omega arith))
-        (λ there. same_day x c dates (last_kept x / 1440) ∙ there) good.front;
-    cells = λ n below. cell_good n below (good.cells n below);
-    point = same_point x c dates ∙ good.point;
-    slots = λ i below.
-        let p : ℕ = slot_place i in
-        ap (list_all passes) (slot_same x c i (but.there i) (date_good x c dates i) (behind (p + 4) 4 (omega arith)) (behind (p + 8) 2 (omega arith)) (words_after 624 384 (p + 16) (slot_count x i) x c same (omega arith))) ∙ good.slots i below;
-    rings = (λ t. list_all passes (check 2115044 (nat_lt (behind 2115044 4 (omega arith) t) 2048) ∷ check 2379240 (nat_lt (behind 2379240 4 (omega arith) t) 255) ∷ [])) ∙ good.rings;
-  }
+  rows_good = rows_pass x c same cell_good
 
 -- the checks of a slot that is there
 pub record DayPasses (x : List ℕ) (i : ℕ) : Type 0 where

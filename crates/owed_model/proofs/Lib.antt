@@ -1,0 +1,7 @@
+pub mod Laws
+pub mod Putting
+pub mod Taking
+pub mod Mending
+pub mod Pieces
+pub mod Beginning
+mod Worked

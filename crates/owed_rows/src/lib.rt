@@ -1,0 +1,11 @@
+//! The rows of a unit's memory in which it keeps what it owes to cards (profile), over any medium: a row is begun for a card,
+//! an entry is put into it, and what is owed is read. All rows are read in one read.
+#![tactic(auto)]
+
+mod owing;
+mod rows;
+mod writing;
+
+pub use activity_codec::{Entry, Owed};
+pub use owing::owed;
+pub use writing::{begin_owed, put_owed};

@@ -1,0 +1,128 @@
+ghost use Rattle.std.specs.Prelude.{◌≡◌, ◌≢◌, ◌≤◌, ◌<◌, ◌+◌, length, IfOk, OnOk, IfSome, is_err, option_map};
+ghost use Rattle.std.specs.Option.{ForSome};
+ghost use Rattle.tach_media.specs.Medium.{LeavesOnly, HasCause, StaysSettled, IsSettled, last_count};
+ghost use Rattle.write_plan.specs.Plan.{PutsBy, more, none};
+ghost use Rattle.unit_model.specs.Image.{IsUnit};
+ghost use Rattle.unit_model.specs.Days.{word_minute};
+ghost use Rattle.owed_model.specs.Owed.{rows_in};
+ghost use Rattle.owed_model.specs.Rows.{entry_word, pieces_into, putting, pieces_at, beginning, HasRow, IsPut, IsPutting, IsRowBegun, IsRowBeginning};
+
+use crate::rows::{begun_index, read_rows, row_index};
+use activity_codec::{Change, Entry, encode_change};
+use tach_media::{Failed, Medium};
+use unit_model::layout::{
+    CELL_SIZE, CELL_WORD, CELLS, IMAGE_SIZE, OWED, OWED_ROW_SIZE, ROW_CELLS, ROW_NUMBER,
+};
+use write_plan::{Plan, put_pieces};
+
+// The word of an entry.
+fn entry_word(entry: &Entry) -> u16
+    ensures word { result ≡ entry_word entry.now }
+    ensures minute { word_minute result < 1440 }
+{
+    encode_change(&Change {
+        slot: entry.slot,
+        crew_or_known: entry.crew,
+        absent: false,
+        act: entry.act,
+        minute: (entry.minute % 1440) as u16,
+    })
+}
+
+// The writes that put an entry into a row: the minute of its cell to 0, the word, the minute.
+fn putting(row: Option<u32>, minute: u32, word: u16) -> Plan<3, 4>
+    requires row { IfSome row (λ r. r < 8) }
+    ensures plan { result ≡ more (none 0 2485808) (pieces_into minute word row) }
+{
+    let mut plan = Plan::new(0, IMAGE_SIZE);
+    if let Some(row) = row {
+        let place = OWED.place + row * OWED_ROW_SIZE + ROW_CELLS.place + minute % CELLS * CELL_SIZE;
+        plan.put(place, &[0; 4]);
+        plan.put(place + CELL_WORD.place, &word.to_be_bytes());
+        plan.put(place, &minute.to_be_bytes());
+    }
+    plan
+}
+
+// The writes that begin a row: the session to 0, the minutes of the cells to 0, the number, the session.
+fn beginning(row: Option<u32>, number: &[u8], session: u32) -> Plan<7, 18>
+    requires row { IfSome row (λ r. r < 8) }
+    requires number { length number.now ≡ 18 }
+    ensures plan { result ≡ more (none 0 2485808) (pieces_at number.now session row) }
+{
+    let mut plan = Plan::new(0, IMAGE_SIZE);
+    if let Some(row) = row {
+        let place = OWED.place + row * OWED_ROW_SIZE;
+        let cells = place + ROW_CELLS.place;
+        plan.put(place, &[0; 4]);
+        plan.put(cells, &[0; 4]);
+        plan.put(cells + CELL_SIZE, &[0; 4]);
+        plan.put(cells + 2 * CELL_SIZE, &[0; 4]);
+        plan.put(cells + 3 * CELL_SIZE, &[0; 4]);
+        plan.put(place + ROW_NUMBER.place, number);
+        plan.put(place, &session.to_be_bytes());
+    }
+    plan
+}
+
+// Reads the rows, and writes an entry into that of a number.
+fn write_entry<M: Medium>(unit: &mut M, number: &[u8], minute: u32, word: u16) -> Result<(), Failed>
+    requires unit { IsUnit (M.state unit.old) }
+    ensures puts { PutsBy (M.state unit.old) (M.state unit.new) (is_err result) 0 3 (λ x. putting number.now minute word (rows_in x)) }
+    ensures minute { minute < 4294967296 }
+    ensures word { word < 65536 }
+{
+    let rows = read_rows(unit)?;
+    let plan = putting(row_index(&rows, number), minute, word);
+    put_pieces(unit, &plan)
+}
+
+/// Puts an entry into the row of a number, in its cell; a unit that doesn't tell its image may have no such row, and is left alone then.
+pub fn put_owed<M: Medium>(unit: &mut M, number: &[u8], entry: &Entry) -> Result<(), Failed>
+    requires unit { IsUnit (M.state unit.old) }
+    requires row { IfSome (M.state unit.old).image (HasRow number.now) }
+    ensures puts { PutsBy (M.state unit.old) (M.state unit.new) (is_err result) 0 3 (λ x. putting number.now entry.now.minute (entry_word entry.now) (rows_in x)) }
+    ensures put { OnOk result (IfSome (M.state unit.old).image (λ x. IfSome (M.state unit.new).image (IsPut number.now entry.now x))) }
+    ensures moments { LeavesOnly (M.state unit.old) (M.state unit.new) (IsPutting number.now entry.now) }
+    ensures settled { OnOk result (StaysSettled (M.state unit.old) (M.state unit.new)) }
+    ensures cause { HasCause (M.state unit.old) (M.state unit.new) (is_err result) }
+{
+    write_entry(unit, number, entry.minute, entry_word(entry))
+}
+
+// Reads the rows, and begins one for a number.
+fn write_row<M: Medium>(
+    unit: &mut M,
+    number: &[u8],
+    session: u32,
+    spared: Option<&[u8]>,
+) -> Result<(), Failed>
+    requires unit { IsUnit (M.state unit.old) }
+    requires number { length number.now ≡ 18 }
+    ensures puts { PutsBy (M.state unit.old) (M.state unit.new) (is_err result) 7 7 (λ x. beginning number.now session (option_map (λ s. s.now) spared.entry) (rows_in x)) }
+    ensures session { session < 4294967296 }
+{
+    let rows = read_rows(unit)?;
+    let plan = beginning(begun_index(&rows, number, spared), number, session);
+    put_pieces(unit, &plan)
+}
+
+/// Begins a row for a number, with a session time and without an entry: its own row, else the lowest empty one, else the one
+/// with the least session time, but not the row of the number that is spared.
+pub fn begin_owed<M: Medium>(
+    unit: &mut M,
+    number: &[u8],
+    session: u32,
+    spared: Option<&[u8]>,
+) -> Result<(), Failed>
+    requires unit { IsUnit (M.state unit.old) }
+    requires number { length number.now ≡ 18 }
+    requires session { 0 < session }
+    ensures puts { PutsBy (M.state unit.old) (M.state unit.new) (is_err result) 7 7 (λ x. beginning number.now session (option_map (λ s. s.now) spared.entry) (rows_in x)) }
+    ensures begun { OnOk result (IfSome (M.state unit.old).image (λ x. IfSome (M.state unit.new).image (IsRowBegun number.now session (option_map (λ s. s.now) spared.entry) x))) }
+    ensures moments { LeavesOnly (M.state unit.old) (M.state unit.new) (IsRowBeginning number.now session (option_map (λ s. s.now) spared.entry)) }
+    ensures settled { OnOk result ((M.state unit.new).clock < last_count → IsSettled (M.state unit.new)) }
+    ensures cause { HasCause (M.state unit.old) (M.state unit.new) (is_err result) }
+{
+    write_row(unit, number, session, spared)
+}
