@@ -8,3 +8,6 @@ mod tally;
 
 pub use minute_model::{Minute, Rule};
 pub use minutes::{Decided, Minutes};
+
+#[cfg(test)]
+mod tests;
