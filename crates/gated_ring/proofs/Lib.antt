@@ -1,8 +1,10 @@
 pub mod Adding
 pub mod Dense
+pub mod Elsewhere
 pub mod Filling
 pub mod Listing
 pub mod Newest
+pub mod NewestMoments
 pub mod Orders
 pub mod Others
 pub mod Places

@@ -17,13 +17,17 @@ place_high r i below = let more : i + 1 ≤ r.count = omega arith in omega (arit
 pub places_apart : (r : Shape) (i j : ℕ) → i < j → place_of r i + r.width ≤ place_of r j
 places_apart r i j below = let more : i + 1 ≤ j = omega arith in omega (arith, mul-le-mul_right r.width more)
 
+-- a part of a part
+pub part_of : (x : List ℕ) (b m k n : ℕ) → k + n ≤ m → bytes_at (bytes_at x b m) k n ≡ bytes_at x (b + k) n
+part_of x b m k n fits =
+    let whole : k + (m - k) ≡ m = omega (arith, fits) in
+    let t = drop b x in
+    ap (λ (j : ℕ). bytes_at (take j t) k n) (sym whole) ∙ ap (λ (l : List ℕ). take n l) (drop-take k (m - k) t)
+    ∙ take-take n (m - k) (drop k t) (omega (arith, whole, fits)) ∙ ap (λ (l : List ℕ). take n l) (drop-drop k b x)
+
 -- the bytes of an entry at an offset
 pub entry_part : (r : Shape) (x : List ℕ) (i o n : ℕ) → o + n ≤ r.width → bytes_at (entry_at r x i) o n ≡ bytes_at x (place_of r i + o) n
-entry_part r x i o n fits =
-    let k = r.width - o in
-    let all : o + k ≡ r.width = omega (arith, fits) in
-    ap (λ (m : ℕ). take n (drop o (bytes_at x (place_of r i) m))) (sym all) ∙ ap (take n) (drop-take o k (drop (place_of r i) x))
-    ∙ take-take n k (drop o (drop (place_of r i) x)) (omega (arith, fits)) ∙ ap (take n) (drop-drop o (place_of r i) x)
+entry_part r x i o n fits = part_of x (place_of r i) r.width o n fits
 
 -- a part of an entry may be written where the ring may
 pub entry_writable : (ranges : List (ℕ × ℕ)) (r : Shape) (i o n : ℕ) → i < r.count → o + n ≤ r.width → LiesInside ranges r.base (size_of r) → LiesInside ranges (place_of r i + o) n

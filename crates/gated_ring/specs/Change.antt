@@ -26,6 +26,23 @@ pub record IsExtended (r : Shape) (head x c : List ℕ) : Type 0 where
   -- a dense ring holds as many of the newest as it has places
   pub newest : IsDense r x → ring_list r c ≡ newest_of r.count (ring_list r x ++ with_head r x (taken r x) head ∷ [])
 
+-- how many writes shut a gate: none where it is shut
+abbrev pub shut_writes : Shape → List ℕ → ℕ → ℕ
+shut_writes r x i = if is_there r x i then 1 else 0
+
+-- how many writes move the pointer from one index to another: none where they are equal
+abbrev pub pointer_writes : (last i : ℕ) → ℕ
+pointer_writes last i = if last == i then 0 else 1
+
+-- How many writes add an entry whose head is written at once: its gate is shut, the bytes before the gate and behind it, the
+-- pointer, and the gate is opened.
+abbrev pub adding_writes : Shape → List ℕ → ℕ
+adding_writes r x = shut_writes r x (taken r x) + (3 + pointer_writes (pointer r x) (taken r x))
+
+-- and how many replace one
+abbrev pub replacing_writes : Shape → List ℕ → ℕ → ℕ
+replacing_writes r x i = shut_writes r x i + 3
+
 -- an image of a ring to which an entry is added: nothing is written yet, or one of these two lists
 pub record IsAddStep (r : Shape) (head x c : List ℕ) : Type 0 where
   pub others : SameOthers r (taken r x) x c

@@ -3,7 +3,7 @@ ghost use Rattle.std.specs.List.{range_with_len};
 ghost use Rattle.std.specs.Int.{from_be_bytes, w32};
 ghost use Rattle.tach_media.specs.Medium.{bytes_at, LeavesOnly, Reads, HasCause, LiesInside, IsPartlyWritten, IsSettled, Rose, last_count};
 ghost use Rattle.gated_ring.specs.Ring.{IsShape, FitsIn, size_of, is_pointer_width, place_of, gate_of, gate_bytes, is_there, IsNewest, pointer, PointsInside, number_at, next, taken};
-ghost use Rattle.gated_ring.specs.Change.{IsAdding, IsAdded, IsReplaced, IsReplacingEntry, IsClosed, IsSet, OrUnwritten};
+ghost use Rattle.gated_ring.specs.Change.{shut_writes, pointer_writes, adding_writes, replacing_writes, IsAdding, IsAdded, IsReplaced, IsReplacingEntry, IsClosed, IsSet, OrUnwritten};
 ghost use Rattle.gated_ring.specs.Steps.{pointer_bytes, freed, filled, pointed, replaced, placed, IsFilling, IsReplacing, IsPlacing, IsNewestOf};
 
 use crate::RingFault;
@@ -166,6 +166,8 @@ impl Ring {
         requires index { index < self.now.count }
         ensures freed { OnOk result ((M.state medium.new).image ≡ option_map (freed self.now index) (M.state medium.old).image) }
         ensures moments { LeavesOnly (M.state medium.old) (M.state medium.new) (IsPartlyWritten (gate_of self.now index) (replicate 4 0)) }
+        ensures most { (M.state medium.new).clock ≤ (M.state medium.old).clock + 1 }
+        ensures writes { IfSome (M.state medium.old).image (λ x. (M.state medium.new).clock ≤ (M.state medium.old).clock + shut_writes self.now x index) }
         ensures shape { IsShape self.now }
         ensures cause { HasCause (M.state medium.old) (M.state medium.new) (is_err result) }
     {
@@ -212,6 +214,7 @@ impl Ring {
         requires width { length head.now ≤ self.now.width }
         ensures filled { OnOk result ((M.state medium.new).image ≡ option_map (filled self.now index head.now) (M.state medium.old).image) }
         ensures moments { LeavesOnly (M.state medium.old) (M.state medium.new) (IsFilling self.now index) }
+        ensures most { length head.now ≤ 255 → (M.state medium.new).clock ≤ (M.state medium.old).clock + 2 }
         ensures cause { HasCause (M.state medium.old) (M.state medium.new) (is_err result) }
     {
         write(medium, self.place_of(index), self.front(head))?;
@@ -225,6 +228,7 @@ impl Ring {
         requires writable { LiesInside (M.state medium.old).writable self.now.base self.now.pointer_width }
         ensures pointed { OnOk result ((M.state medium.new).image ≡ option_map (pointed self.now last index) (M.state medium.old).image) }
         ensures moments { LeavesOnly (M.state medium.old) (M.state medium.new) (IsPartlyWritten self.now.base (pointer_bytes self.now index)) }
+        ensures most { (M.state medium.new).clock ≤ (M.state medium.old).clock + pointer_writes last index }
         ensures cause { HasCause (M.state medium.old) (M.state medium.new) (is_err result) }
     {
         if last == index {
@@ -250,6 +254,8 @@ impl Ring {
         requires width { length head.now ≤ self.now.width }
         ensures placed { OnOk result ((M.state medium.new).image ≡ option_map (placed self.now last taken head.now) (M.state medium.old).image) }
         ensures moments { LeavesOnly (M.state medium.old) (M.state medium.new) (IsPlacing self.now last taken head.now) }
+        ensures most { length head.now ≤ 255 → (M.state medium.new).clock ≤ (M.state medium.old).clock + 5 }
+        ensures writes { length head.now ≤ 255 → IfSome (M.state medium.old).image (λ x. (M.state medium.new).clock ≤ (M.state medium.old).clock + (shut_writes self.now x taken + (3 + pointer_writes last taken))) }
         ensures settled { OnOk result ((M.state medium.new).clock < last_count → IsSettled (M.state medium.new)) }
         ensures clock { OnOk result (Rose (M.state medium.old).clock (M.state medium.new).clock) }
         ensures cause { HasCause (M.state medium.old) (M.state medium.new) (is_err result) }
@@ -269,6 +275,8 @@ impl Ring {
         requires width { length head.now ≤ self.now.width }
         ensures replaced { OnOk result ((M.state medium.new).image ≡ option_map (replaced self.now index head.now) (M.state medium.old).image) }
         ensures moments { LeavesOnly (M.state medium.old) (M.state medium.new) (IsReplacing self.now index head.now) }
+        ensures most { length head.now ≤ 255 → (M.state medium.new).clock ≤ (M.state medium.old).clock + 4 }
+        ensures writes { length head.now ≤ 255 → IfSome (M.state medium.old).image (λ x. (M.state medium.new).clock ≤ (M.state medium.old).clock + replacing_writes self.now x index) }
         ensures settled { OnOk result ((M.state medium.new).clock < last_count → IsSettled (M.state medium.new)) }
         ensures clock { OnOk result (Rose (M.state medium.old).clock (M.state medium.new).clock) }
         ensures shape { IsShape self.now }
@@ -299,6 +307,8 @@ impl Ring {
         ensures settled { OnOk result ((M.state medium.new).clock < last_count → IsSettled (M.state medium.new)) }
         ensures clock { OnOk result (Rose (M.state medium.old).clock (M.state medium.new).clock) }
         ensures cause { HasCause (M.state medium.old) (M.state medium.new) (is_err result) }
+        ensures most { length head.now ≤ 255 → (M.state medium.new).clock ≤ (M.state medium.old).clock + 5 }
+        ensures writes { length head.now ≤ 255 → IfSome (M.state medium.old).image (λ x. PointsInside self.old x → (M.state medium.new).clock ≤ (M.state medium.old).clock + adding_writes self.old x) }
     {
         let (last, index) = self.choose(medium)?;
         self.place(medium, last, index, head)?;
@@ -327,6 +337,8 @@ impl Ring {
         ensures settled { OnOk result ((M.state medium.new).clock < last_count → IsSettled (M.state medium.new)) }
         ensures clock { OnOk result (Rose (M.state medium.old).clock (M.state medium.new).clock) }
         ensures cause { HasCause (M.state medium.old) (M.state medium.new) (is_err result) }
+        ensures most { length head.now ≤ 255 → (M.state medium.new).clock ≤ (M.state medium.old).clock + 4 }
+        ensures writes { length head.now ≤ 255 → IfSome (M.state medium.old).image (λ x. (M.state medium.new).clock ≤ (M.state medium.old).clock + replacing_writes self.old x index) }
     {
         self.replace(medium, index, head)
     }
@@ -342,6 +354,7 @@ impl Ring {
         ensures settled { OnOk result ((M.state medium.new).clock < last_count → IsSettled (M.state medium.new)) }
         ensures clock { OnOk result (Rose (M.state medium.old).clock (M.state medium.new).clock) }
         ensures cause { HasCause (M.state medium.old) (M.state medium.new) (is_err result) }
+        ensures most { (M.state medium.new).clock ≤ (M.state medium.old).clock + 1 }
     {
         medium.write_at(self.gate_place(index), &[0; 4])
     }
@@ -367,6 +380,7 @@ impl Ring {
         ensures settled { OnOk result ((M.state medium.new).clock < last_count → IsSettled (M.state medium.new)) }
         ensures clock { OnOk result (Rose (M.state medium.old).clock (M.state medium.new).clock) }
         ensures cause { HasCause (M.state medium.old) (M.state medium.new) (is_err result) }
+        ensures most { (M.state medium.new).clock ≤ (M.state medium.old).clock + 1 }
     {
         medium.write_at(self.place_of(index) + offset, bytes)
     }

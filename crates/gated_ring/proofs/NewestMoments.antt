@@ -1,0 +1,136 @@
+-- Which entry is the newest at the moments of a call.
+use Rattle.std.proofs.Common.{◌≡◌, ◌≢◌, ◌⊎◌, inl, inr, ⊎_elim, ℕ, suc, ◌+◌, ◌<◌, ◌≤◌, Bool, true, false, not, cond, List, [], ◌∷◌, ◌++◌, filter, Option, Some, None, refl, sym, ◌∙◌, ap, subst, arith}
+use Rattle.std.specs.Prelude.{◌==◌, ◌||◌}
+use Rattle.std.proofs.lemmas.Bool.Decides.{nat_tests}
+use Rattle.gated_ring.specs.Ring.{Shape, pointer, PointsInside, is_there, entry_at, next, order, indices, indices_with, indices_without, IsLast, IsNewest, taken, staying}
+use Rattle.gated_ring.specs.Change.{SameOthers, IsExtended, IsAddStep, IsReplaced, IsAbsent, IsSet}
+use Rattle.gated_ring.proofs.Orders.{Each, rest, filter_same, filter_last}
+use Rattle.gated_ring.proofs.Listing.{taken_below, indices_cases, pointer_last}
+
+-- the last of two equal lists, and what stands before it
+last_same : (l m : List ℕ) (i j : ℕ) → l ++ i ∷ [] ≡ m ++ j ∷ [] → (l ≡ m) × (i ≡ j)
+last_same [] [] i j is = (refl, cc)
+last_same [] (b ∷ []) i j is = absurd (cc)
+last_same [] (b ∷ d ∷ m) i j is = absurd (cc)
+last_same (a ∷ []) [] i j is = absurd (cc)
+last_same (a ∷ e ∷ l) [] i j is = absurd (cc)
+last_same (a ∷ l) (b ∷ m) i j is =
+    let first : a ≡ b = cc in
+    let tail : l ++ i ∷ [] ≡ m ++ j ∷ [] = cc in
+    let rest = last_same l m i j tail in
+    (ap (λ (k : ℕ). k ∷ l) first ∙ ap (λ (t : List ℕ). b ∷ t) rest.0, rest.1)
+
+-- a list without its first, where the last is another one
+behind_first : (t i : ℕ) (l older : List ℕ) → t ≢ i → t ∷ l ≡ older ++ i ∷ [] → (more : List ℕ) × (l ≡ more ++ i ∷ [])
+behind_first t i l [] other is = absurd (other (cc))
+behind_first t i l (o ∷ older) other is = (older, cc)
+
+-- in a ring of two places and more, the next index is another one
+next_other : (r : Shape) (p : ℕ) → 2 ≤ r.count → next r p ≢ p
+next_other r p two is = grind (arith, nat_tests)
+
+-- the entry that is the newest stands at the pointer, where one stands there
+newest_pointer : (r : Shape) (x : List ℕ) (i : ℕ) → PointsInside r x → is_there r x (pointer r x) ≡ true → IsLast r x i → i ≡ pointer r x
+newest_pointer r x i known there last = (last_same last.older (filter (is_there r x) (rest r (pointer r x))) i (pointer r x) (sym last.indices_are ∙ pointer_last r x known there)).1
+
+-- the index that is taken is not the newest entry's
+taken_other : (r : Shape) (x : List ℕ) (i : ℕ) → 2 ≤ r.count → PointsInside r x → IsLast r x i → taken r x ≢ i
+taken_other r x i two known last = by (is_there r x (pointer r x)) refl
+  where
+    by : (b : Bool) → is_there r x (pointer r x) ≡ b → cond b (next r (pointer r x)) (pointer r x) ≢ i
+    by true is same = next_other r (pointer r x) two (same ∙ newest_pointer r x i known is last)
+    by false is same =
+        let there : is_there r x (pointer r x) ≡ true = ap (is_there r x) same ∙ last.there in
+        absurd (cc)
+
+-- While the place of the new entry is free, the newest entry is the one before, with its bytes.
+module _ (r : Shape) (two : 2 ≤ r.count) (x : List ℕ) (known : PointsInside r x) (c : List ℕ) (are : indices r c ≡ staying r x) (same : SameOthers r (taken r x) x c) where
+  last_stays : (i : ℕ) → IsLast r x i → IsLast r c i
+  last_stays i last =
+      let other = taken_other r x i two known last in
+      let there : is_there r c i ≡ true = (same i last.below (λ is. other (sym is))).1 ∙ last.there in
+      ⊎_elim
+      (λ front. let behind = behind_first (taken r x) i (staying r x) last.older other (sym front.1 ∙ last.indices_are) in
+      record { below = last.below; there = there; older = behind.0; indices_are = are ∙ behind.1 })
+      (λ none. record { below = last.below; there = there; older = last.older; indices_are = are ∙ sym none.1 ∙ last.indices_are })
+      (indices_cases r x known)
+
+  pub newest_stays : (o : Option ℕ) → IsNewest r x o → IsNewest r c o
+  newest_stays None none = ⊎_elim (λ front. absurd (some front.1)) (λ same. are ∙ sym same.1 ∙ none) (indices_cases r x known)
+    where
+      some : indices r x ≡ taken r x ∷ staying r x → ⊥
+      some is = cc
+  newest_stays (Some i) last = last_stays i last
+
+  pub newest_bytes : (i : ℕ) → IsNewest r x (Some i) → entry_at r c i ≡ entry_at r x i
+  newest_bytes i last = (same i last.below (λ is. taken_other r x i two known last (sym is))).0
+
+-- And once its gate is open, it is the newest.
+pub newest_added : (r : Shape) (head x y : List ℕ) → PointsInside r x → IsExtended r head x y → IsNewest r y (Some (taken r x))
+newest_added r head x y known long = record { below = taken_below r x known; there = long.there; older = staying r x; indices_are = long.indices_are }
+
+-- So at each moment of an `add` the newest entry is the one before, or the new one.
+pub newest_adding : (r : Shape) (head x c : List ℕ) → 2 ≤ r.count → PointsInside r x → (o : Option ℕ) → IsNewest r x o → IsAddStep r head x c → IsNewest r c o ⊎ IsNewest r c (Some (taken r x))
+newest_adding r head x c two known o newest step = ⊎_elim
+    (λ same. inl (subst (λ (l : List ℕ). IsNewest r l o) (sym same) newest))
+    (λ changed. ⊎_elim
+    (λ short. inl (newest_stays r two x known c short.indices_are step.others o newest))
+    (λ long. inr (newest_added r head x c known long)) changed)
+    step.list
+
+-- A few bytes of an entry change no newest one.
+pub newest_set : (r : Shape) (i offset : ℕ) (bytes x y : List ℕ) → PointsInside r x → IsSet r i offset bytes x y → (o : Option ℕ) → IsNewest r x o → IsNewest r y o
+newest_set r i offset bytes x y known set None none = set.indices_are known ∙ none
+newest_set r i offset bytes x y known set (Some j) last = record { below = last.below; there = there (j == i) refl; older = last.older; indices_are = set.indices_are known ∙ last.indices_are }
+  where
+    there : (b : Bool) → (j == i) ≡ b → is_there r y j ≡ true
+    there true is = let at : j ≡ i = grind (arith, nat_tests) in ap (is_there r y) at ∙ set.there ∙ ap (is_there r x) (sym at) ∙ last.there
+    there false is = (set.others j last.below (λ same. grind (arith, nat_tests))).1 ∙ last.there
+
+-- the indices that are there, or are this one, which is there
+with_there : (p : ℕ → Bool) (i : ℕ) → p i ≡ true → (js : List ℕ) → filter (λ j. (j == i) || p j) js ≡ filter p js
+with_there p i was js = filter_same p (λ j. (j == i) || p j) js (each js)
+  where
+    one : (j : ℕ) (b : Bool) → (j == i) ≡ b → ((j == i) || p j) ≡ p j
+    one j true is = let at : j ≡ i = grind (arith, nat_tests) in ap (λ (b : Bool). b || p j) is ∙ sym (ap p at ∙ was)
+    one j false is = ap (λ (b : Bool). b || p j) is
+
+    each : (js : List ℕ) → Each (λ j. ((j == i) || p j) ≡ p j) js
+    each [] = tt
+    each (j ∷ js) = (one j (j == i) refl, each js)
+
+with_same : (r : Shape) (x : List ℕ) (i : ℕ) → is_there r x i ≡ true → indices_with r x i ≡ indices r x
+unfolding indices indices_with
+with_same r x i was = with_there (is_there r x) i was (order r (next r (pointer r x)))
+
+-- An entry that is there and is replaced stays where it stood.
+pub newest_replaced : (r : Shape) (i : ℕ) (head x y : List ℕ) → PointsInside r x → is_there r x i ≡ true → IsReplaced r i head x y → (o : Option ℕ) → IsNewest r x o → IsNewest r y o
+newest_replaced r i head x y known was replaced o newest = by o newest
+  where
+    are : indices r y ≡ indices r x
+    are = replaced.indices_are known ∙ with_same r x i was
+
+    there : (j : ℕ) → j < r.count → is_there r x j ≡ true → (b : Bool) → (j == i) ≡ b → is_there r y j ≡ true
+    there j below is true same = let here : j ≡ i = grind (arith, nat_tests) in ap (is_there r y) here ∙ replaced.there
+    there j below is false same = (replaced.others j below (λ here. grind (arith, nat_tests))).1 ∙ is
+
+    by : (o : Option ℕ) → IsNewest r x o → IsNewest r y o
+    by None none = are ∙ none
+    by (Some j) last = record { below = last.below; there = there j last.below last.there (j == i) refl; older = last.older; indices_are = are ∙ last.indices_are }
+
+-- the last of more stays the last where another is left out
+without_other : (i j : ℕ) (l : List ℕ) → j ≢ i → filter (λ k. not (k == i)) (l ++ j ∷ []) ≡ filter (λ k. not (k == i)) l ++ j ∷ []
+without_other i j l other = filter_last (λ k. not (k == i)) l j (ap not differs)
+  where
+    differs : (j == i) ≡ false
+    differs = grind (arith, nat_tests)
+
+-- Without another entry the newest one stays, as at the moments of a `put_at`.
+pub newest_absent : (r : Shape) (i : ℕ) (x c : List ℕ) → PointsInside r x → IsAbsent r i x c → (j : ℕ) → j ≢ i → IsNewest r x (Some j) → IsNewest r c (Some j)
+unfolding indices_without
+newest_absent r i x c known absent j other last = record {
+  below = last.below;
+  there = (absent.others j last.below other).1 ∙ last.there;
+  older = filter (λ k. not (k == i)) last.older;
+  indices_are = absent.indices_are known ∙ ap (filter (λ k. not (k == i))) last.indices_are ∙ without_other i j last.older other;
+}
