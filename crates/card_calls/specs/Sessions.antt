@@ -13,5 +13,5 @@ IsInSession None x c = ⊥
 IsInSession (Some s) x c = IsInDays s.application x c
 
 -- a card goes by the sizes that the session of it knows, where there is one
-abbrev pub IsHeld : Option Session → CardState → State → Type 0
-IsHeld session card s = ForSome session (λ held. IsPort held.application None card s)
+abbrev pub IsCardHeld : Option Session → CardState → State → Type 0
+IsCardHeld session card s = ForSome session (λ held. IsPort held.application None card s)

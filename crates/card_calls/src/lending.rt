@@ -10,6 +10,7 @@ ghost use Rattle.card_calls.specs.Lending.{sizes_in, IsAddingWord, has_failed};
 use card_commands::{Port, PortFault, read_sizes};
 use card_layout::{Application, Range};
 use cyclic_days::{Days, DaysFault};
+use gated_ring::RingFault;
 use tach_media::{Chip, Failed, Medium};
 
 /// Why a call on a card stopped.
@@ -17,7 +18,7 @@ use tach_media::{Chip, Failed, Medium};
 pub enum Stop {
     /// A call on the card failed.
     Failed,
-    /// The card's sizes or its days are bad.
+    /// The card's sizes, its days or its vehicles' pointer are bad.
     Bad,
 }
 
@@ -53,6 +54,19 @@ impl From<DaysFault> for Stop {
         match fault {
             DaysFault::Failed => Stop::Failed,
             DaysFault::BadDays(_) => Stop::Bad,
+        }
+    }
+}
+
+impl From<RingFault> for Stop {
+    ghost use Rattle.card_calls.specs.Stops.{of_ring};
+
+    ghost from_gives = { λ fault stop. stop ≡ of_ring fault };
+
+    fn from(fault: RingFault) -> Stop {
+        match fault {
+            RingFault::Failed => Stop::Failed,
+            RingFault::BadPointer(_) => Stop::Bad,
         }
     }
 }

@@ -2,11 +2,13 @@
 #![tactic(auto)]
 
 mod lending;
+mod minute;
 mod opening;
 mod plain;
 mod session;
 
 pub use lending::{Stop, add_word_by, add_word_on};
-pub use opening::open;
+pub use minute::NewDay;
+pub use opening::{open, open_vehicles};
 pub use plain::{Sessions, run_plain};
 pub use session::Session;

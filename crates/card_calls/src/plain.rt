@@ -4,7 +4,7 @@ ghost use Rattle.card_commands.specs.Ports.{IsPort};
 ghost use Rattle.cyclic_days.specs.Moments.{IfKnown, IsChanging, IsChanged};
 ghost use Rattle.card_calls.specs.Lending.{Anything};
 ghost use Rattle.card_calls.specs.Strings.{days_at};
-ghost use Rattle.card_calls.specs.Sessions.{IsInSession, IsHeld};
+ghost use Rattle.card_calls.specs.Sessions.{IsInSession, IsCardHeld};
 
 use crate::{Session, Stop, open};
 use card_commands::Port;
@@ -34,8 +34,8 @@ pub struct Sessions {
 
 // Adds a word to the newest day of the card that is in.
 fn write<C: Chip>(session: &mut Option<Session>, card: &mut C, word: u16) -> Result<(), Failed>
-    requires { IsHeld session.old (C.card card.old) (C.state card.old) }
-    ensures held { IsHeld session.new (C.card card.new) (C.state card.new) }
+    requires { IsCardHeld session.old (C.card card.old) (C.state card.old) }
+    ensures held { IsCardHeld session.new (C.card card.new) (C.state card.new) }
     ensures moments { LeavesOnly (C.state card.old) (C.state card.new) (IsInSession session.old) }
 {
     match session {
@@ -49,10 +49,10 @@ impl Sessions {
     pub fn keep<C: Chip>(&mut self, card_a: &mut C, card_b: &mut C, word: u16) -> Result<(), Stop>
         requires a_size { 24959 ≤ (C.state card_a.old).size }
         requires b_size { 24959 ≤ (C.state card_b.old).size }
-        requires a_held { IsHeld self.old.a (C.card card_a.old) (C.state card_a.old) }
-        requires b_held { IsHeld self.old.b (C.card card_b.old) (C.state card_b.old) }
-        ensures a_held { OnOk result (IsHeld self.new.a (C.card card_a.new) (C.state card_a.new)) }
-        ensures b_held { OnOk result (IsHeld self.new.b (C.card card_b.new) (C.state card_b.new)) }
+        requires a_held { IsCardHeld self.old.a (C.card card_a.old) (C.state card_a.old) }
+        requires b_held { IsCardHeld self.old.b (C.card card_b.old) (C.state card_b.old) }
+        ensures a_held { OnOk result (IsCardHeld self.new.a (C.card card_a.new) (C.state card_a.new)) }
+        ensures b_held { OnOk result (IsCardHeld self.new.b (C.card card_b.new) (C.state card_b.new)) }
         ensures a { LeavesOnly (C.state card_a.old) (C.state card_a.new) Anything }
         ensures b { LeavesOnly (C.state card_b.old) (C.state card_b.new) Anything }
     {

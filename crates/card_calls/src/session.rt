@@ -1,6 +1,6 @@
 ghost use Rattle.std.specs.Prelude.{◌≡◌, ◌+◌, OnOk, IfSome, is_err};
 ghost use Rattle.tach_media.specs.Medium.{LiesInside, LeavesOnly, HasCause};
-ghost use Rattle.cyclic_days.specs.Moments.{FitsIn, IfKnown, IsChanging, IsChanged};
+ghost use Rattle.cyclic_days.specs.Moments.{FileFitsIn, IfKnown, IsChanging, IsChanged};
 ghost use Rattle.card_calls.specs.Strings.{days_at};
 
 use card_layout::Application;
@@ -18,7 +18,7 @@ pub struct Session {
 impl Session {
     /// Adds a word to the newest day.
     pub fn add_word<M: Medium>(&mut self, medium: &mut M, word: u16) -> Result<(), Failed>
-        requires fits { FitsIn self.old.days.shape (M.state medium.old) }
+        requires fits { FileFitsIn self.old.days.shape (M.state medium.old) }
         requires writable { LiesInside (M.state medium.old).writable self.old.days.shape.base (4 + self.old.days.shape.size) }
         ensures sizes { self.new.application ≡ self.old.application }
         ensures moments { LeavesOnly (M.state medium.old) (M.state medium.new) (IfKnown self.old.days (IsChanging (days_at self.old.application) word)) }

@@ -2,7 +2,7 @@
 use Rattle.std.proofs.Common.{◌≡◌, ⊎_elim, ℕ, suc, ◌+◌, ◌<◌, ◌≤◌, List, [], ◌∷◌, ◌++◌, length, take, drop, refl, sym, ◌∙◌, ap, arith, append_assoc, length-append, length-drop, take-append-drop}
 use Rattle.std.proofs.lemmas.List.{take_at, drop_at, length-take-le, take-append-le, drop-append-le, drop-drop}
 use Rattle.tach_media.specs.Medium.{put, bytes_at}
-use Rattle.card_model.specs.Image.{Shape, turned, oldest_of, string_of, circle_of, IsPlace}
+use Rattle.card_model.specs.Image.{StringShape, turned, oldest_pointer, string_of, circle_of, IsPlace}
 
 -- a part behind a front
 pub drop_more : (a b : List ℕ) (k : ℕ) → drop (length a + k) (a ++ b) ≡ drop k b
@@ -114,9 +114,9 @@ turned_twice s o k p below inside le place =
     ∙ ap (λ (l : List ℕ). drop p (take o s) ++ l) (take_more (drop o s) (take o s) p))) place
 
 -- the string and the circle of an image that has them
-module _ (r : Shape) (x : List ℕ) (inside : r.base + (4 + r.size) ≤ length x) where
+module _ (r : StringShape) (x : List ℕ) (inside : r.base + (4 + r.size) ≤ length x) where
   pub string_length : length (string_of r x) ≡ r.size
   string_length = length-take-le r.size (drop (r.base + 4) x) (omega (arith, length-drop (r.base + 4) x, inside))
 
   pub circle_length : length (circle_of r x) ≡ r.size
-  circle_length = turned_length (oldest_of r x) (string_of r x) ∙ string_length
+  circle_length = turned_length (oldest_pointer r x) (string_of r x) ∙ string_length

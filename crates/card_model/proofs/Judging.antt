@@ -4,10 +4,11 @@ use Rattle.std.specs.Prelude.{◌&&◌, ◌||◌, nat_eq, nat_lt, nat_le}
 use Rattle.std.proofs.lemmas.Bool.Decides.{nat_tests}
 use Rattle.tach_media.specs.Medium.{bytes_at}
 use Rattle.card_model.specs.Bytes.{number, decimal_bytes}
-use Rattle.card_model.specs.Days.{Day, len_of, total, far, minute_of, Ascend, AreWords, word_bytes, record_of, records, IsDay, AreDays}
-use Rattle.card_model.specs.Image.{Shape, IsShape, turned, oldest_of, newest_of, circle_of, IsPointer, Holds}
+use Rattle.activity_codec.specs.Words.{word_minute}
+use Rattle.card_model.specs.Days.{Day, len_of, total, far, Ascend, AreWords, word_bytes, record_of, records, IsDay, AreDays}
+use Rattle.card_model.specs.Image.{StringShape, IsStringShape, turned, oldest_pointer, newest_pointer, circle_of, IsPointer, Holds}
 use Rattle.card_model.specs.Walk.{words_of}
-use Rattle.card_model.specs.Checks.{Check, check, first_failing, is_pointer, is_len, is_previous, is_date, is_decimal, field_checks, word_checks, record_checks, file_place, placed, day_checks, distance_of, is_empty, first_bad}
+use Rattle.card_model.specs.Checks.{Check, check, first_failing, is_pointer, is_len, is_previous, is_date, is_decimal, field_checks, word_checks, record_checks, file_place, placed_checks, day_checks, distance_of, is_empty, first_bad}
 use Rattle.card_model.proofs.Numbers.{number_two, number_four}
 use Rattle.card_model.proofs.Lists.{record_length, len_even, len_most, len_least, last_len_is, last_least, count_least}
 use Rattle.card_model.proofs.Circle.{turned_front}
@@ -33,12 +34,12 @@ failed_then (c ∷ cs) b p some = by (λ so. failed_then cs b p so) c.passes som
     by so false some = some
 
 -- the places of a record's checks
-pub placed_failing : (size o k : ℕ) (cs : List Check) → first_failing (placed size o k cs) ≡ option_map (λ p. file_place size o (k + p)) (first_failing cs)
+pub placed_failing : (size o k : ℕ) (cs : List Check) → first_failing (placed_checks size o k cs) ≡ option_map (λ p. file_place size o (k + p)) (first_failing cs)
 placed_failing size o k [] = refl
 placed_failing size o k (c ∷ cs) = by (placed_failing size o k cs) c.passes
   where
-    by : first_failing (placed size o k cs) ≡ option_map (λ p. file_place size o (k + p)) (first_failing cs) → (t : Bool)
-        → cond t (first_failing (placed size o k cs)) (Some (file_place size o (k + c.place))) ≡ option_map (λ p. file_place size o (k + p)) (cond t (first_failing cs) (Some c.place))
+    by : first_failing (placed_checks size o k cs) ≡ option_map (λ p. file_place size o (k + p)) (first_failing cs) → (t : Bool)
+        → cond t (first_failing (placed_checks size o k cs)) (Some (file_place size o (k + c.place))) ≡ option_map (λ p. file_place size o (k + p)) (cond t (first_failing cs) (Some c.place))
     by so true = so
     by so false = refl
 
@@ -63,14 +64,14 @@ in_order m n k low high = both_true (nat_le m n) (nat_lt n k) (grind (arith, nat
 later_pass : (offset from : ℕ) (ws : List ℕ) → Ascend from ws → first_failing (word_checks offset from 1440 ws) ≡ None
 later_pass offset from [] up = refl
 later_pass offset from (w ∷ ws) up =
-    passes_one (nat_le from (minute_of w) && nat_lt (minute_of w) 1440) offset (word_checks (offset + 2) (minute_of w) 1440 ws) (in_order from (minute_of w) 1440 up.0 up.1)
-    ∙ later_pass (offset + 2) (minute_of w) ws up.2
+    passes_one (nat_le from (word_minute w) && nat_lt (word_minute w) 1440) offset (word_checks (offset + 2) (word_minute w) 1440 ws) (in_order from (word_minute w) 1440 up.0 up.1)
+    ∙ later_pass (offset + 2) (word_minute w) ws up.2
 
 pub words_pass : (offset : ℕ) (ws : List ℕ) → AreWords ws → first_failing (word_checks offset 0 1 ws) ≡ None
 words_pass offset [] are = absurd are
 words_pass offset (w ∷ ws) are =
-    passes_one (nat_le 0 (minute_of w) && nat_lt (minute_of w) 1) offset (word_checks (offset + 2) (minute_of w) 1440 ws) (in_order 0 (minute_of w) 1 (omega arith) (omega (arith, are.0)))
-    ∙ later_pass (offset + 2) (minute_of w) ws (subst (λ (m : ℕ). Ascend m ws) (sym are.0) are.1)
+    passes_one (nat_le 0 (word_minute w) && nat_lt (word_minute w) 1) offset (word_checks (offset + 2) (word_minute w) 1440 ws) (in_order 0 (word_minute w) 1 (omega arith) (omega (arith, are.0)))
+    ∙ later_pass (offset + 2) (word_minute w) ws (subst (λ (m : ℕ). Ascend m ws) (sym are.0) are.1)
 
 -- the tests of a day's fields
 len_passes : (size so_far : ℕ) (d : Day) → IsDay d → so_far + len_of d ≤ size → is_len size so_far (len_of d) ≡ true
@@ -138,12 +139,12 @@ module _ (most size o far so_far before date : ℕ) (bytes : List ℕ) where
   ]
 
   pub day_bad : (p : ℕ) → first_failing (record_checks size so_far before date bytes) ≡ Some p → first_failing (day_checks (suc most) size o far so_far before date bytes) ≡ Some (file_place size o (so_far + p))
-  day_bad p bad = failed_then (placed size o so_far (record_checks size so_far before date bytes)) (following (nat_eq so_far far)) (file_place size o (so_far + p))
+  day_bad p bad = failed_then (placed_checks size o so_far (record_checks size so_far before date bytes)) (following (nat_eq so_far far)) (file_place size o (so_far + p))
       (placed_failing size o so_far (record_checks size so_far before date bytes) ∙ ap (option_map (λ p. file_place size o (so_far + p))) bad)
 
   module _ (fine : first_failing (record_checks size so_far before date bytes) ≡ None) where
     passed : first_failing (day_checks (suc most) size o far so_far before date bytes) ≡ first_failing (following (nat_eq so_far far))
-    passed = passed_then (placed size o so_far (record_checks size so_far before date bytes)) (following (nat_eq so_far far))
+    passed = passed_then (placed_checks size o so_far (record_checks size so_far before date bytes)) (following (nat_eq so_far far))
         (placed_failing size o so_far (record_checks size so_far before date bytes) ∙ ap (option_map (λ p. file_place size o (so_far + p))) fine)
 
     pub day_last : so_far ≡ far → first_failing (day_checks (suc most) size o far so_far before date bytes) ≡ None
@@ -193,18 +194,18 @@ days_pass (suc most) size o so_far before q date d (e ∷ ds) rest few are previ
     ∙ days_pass most size o (so_far + len_of d) (len_of d) (len_of d) d.date e ds (rest ++ record_of q d) (omega (arith, few)) are.2 (same_length_passes (so_far + len_of d) (len_of d)) (omega (arith, fits))
 
 -- the checks behind the pointers', by whether the string is empty
-abbrev pub checks_unless : Shape → List ℕ → Bool → List Check
+abbrev pub checks_unless : StringShape → List ℕ → Bool → List Check
 checks_unless r x b = elim b as (λ _. List Check) [
   | true ↦ []
-  | false ↦ day_checks 984 r.size (oldest_of r x) (distance_of r.size (oldest_of r x) (newest_of r x)) 0 0 0 (circle_of r x)
+  | false ↦ day_checks 984 r.size (oldest_pointer r x) (distance_of r.size (oldest_pointer r x) (newest_pointer r x)) 0 0 0 (circle_of r x)
 ]
 
 -- an image that holds days passes
-pub holds_passes : (r : Shape) (shape : IsShape r) (x : List ℕ) → r.base + (4 + r.size) ≤ length x → (days : List Day) → Holds r x days → first_bad r x ≡ None
+pub holds_passes : (r : StringShape) (shape : IsStringShape r) (x : List ℕ) → r.base + (4 + r.size) ≤ length x → (days : List Day) → Holds r x days → first_bad r x ≡ None
 unfolding first_bad
 holds_passes r shape x inside days h =
-    passes_one (is_pointer r.size (oldest_of r x)) 0 (check (is_pointer r.size (newest_of r x)) 2 ∷ checks_unless r x (is_empty r x)) (pointer (oldest_of r x) h.oldest)
-    ∙ passes_one (is_pointer r.size (newest_of r x)) 2 (checks_unless r x (is_empty r x)) (pointer (newest_of r x) h.newest)
+    passes_one (is_pointer r.size (oldest_pointer r x)) 0 (check (is_pointer r.size (newest_pointer r x)) 2 ∷ checks_unless r x (is_empty r x)) (pointer (oldest_pointer r x) h.oldest)
+    ∙ passes_one (is_pointer r.size (newest_pointer r x)) 2 (checks_unless r x (is_empty r x)) (pointer (newest_pointer r x) h.newest)
     ∙ by_days days h
   where
     pointer : (p : ℕ) → IsPointer r.size p → is_pointer r.size p ≡ true
@@ -222,19 +223,19 @@ holds_passes r shape x inside days h =
 
     by_days : (days : List Day) → Holds r x days → first_failing (checks_unless r x (is_empty r x)) ≡ None
     by_days [] h =
-        let same : oldest_of r x ≡ newest_of r x = ⊎_elim (λ is. omega (arith, is)) (λ is. absurd (omega (arith, is, h.oldest.below))) h.distance in
-        let empty : is_empty r x ≡ true = both_true (nat_eq (oldest_of r x) (newest_of r x)) (nat_eq (number (bytes_at (circle_of r x) 2 2)) 0) (equal (oldest_of r x) (newest_of r x) same) (equal (number (bytes_at (circle_of r x) 2 2)) 0 (h.empty refl)) in
+        let same : oldest_pointer r x ≡ newest_pointer r x = ⊎_elim (λ is. omega (arith, is)) (λ is. absurd (omega (arith, is, h.oldest.below))) h.distance in
+        let empty : is_empty r x ≡ true = both_true (nat_eq (oldest_pointer r x) (newest_pointer r x)) (nat_eq (number (bytes_at (circle_of r x) 2 2)) 0) (equal (oldest_pointer r x) (newest_pointer r x) same) (equal (number (bytes_at (circle_of r x) 2 2)) 0 (h.empty refl)) in
         ap (λ (b : Bool). first_failing (checks_unless r x b)) empty
     by_days (d ∷ ds) h =
         let spelled : circle_of r x ≡ records h.previous (d ∷ ds) ++ h.rest = h.spelled in
         let len : number (bytes_at (circle_of r x) 2 2) ≡ len_of d = ap (λ (l : List ℕ). number (bytes_at l 2 2)) spelled ∙ number_two (len_of d) in
         let least : 14 ≤ len_of d = len_least d h.ordered.1 in
-        let some : is_empty r x ≡ false = either_false (nat_eq (oldest_of r x) (newest_of r x)) (nat_eq (number (bytes_at (circle_of r x) 2 2)) 0) (other (number (bytes_at (circle_of r x) 2 2)) 0 (λ none. omega (arith, none, len, least))) in
+        let some : is_empty r x ≡ false = either_false (nat_eq (oldest_pointer r x) (newest_pointer r x)) (nat_eq (number (bytes_at (circle_of r x) 2 2)) 0) (other (number (bytes_at (circle_of r x) 2 2)) 0 (λ none. omega (arith, none, len, least))) in
         let all : total (d ∷ ds) ≤ r.size = omega (arith, fills r shape x inside (d ∷ ds) h) in
         let few : length (d ∷ ds) ≤ 984 = omega (arith, count_least 0 (d ∷ ds) h.ordered, all, shape.high) in
         let below : far (d ∷ ds) < r.size = omega (arith, all, last_len_is (d ∷ ds), last_least 0 d ds h.ordered) in
-        let reach : distance_of r.size (oldest_of r x) (newest_of r x) ≡ 0 + far (d ∷ ds) = distance_is r.size (oldest_of r x) (newest_of r x) (far (d ∷ ds)) h.oldest.below h.newest.below below h.distance ∙ omega arith in
+        let reach : distance_of r.size (oldest_pointer r x) (newest_pointer r x) ≡ 0 + far (d ∷ ds) = distance_is r.size (oldest_pointer r x) (newest_pointer r x) (far (d ∷ ds)) h.oldest.below h.newest.below below h.distance ∙ omega arith in
         ap (λ (b : Bool). first_failing (checks_unless r x b)) some
-        ∙ ap (λ (n : ℕ). first_failing (day_checks 984 r.size (oldest_of r x) n 0 0 0 (circle_of r x))) reach
-        ∙ ap (λ (l : List ℕ). first_failing (day_checks 984 r.size (oldest_of r x) (0 + far (d ∷ ds)) 0 0 0 l)) spelled
-        ∙ days_pass 984 r.size (oldest_of r x) 0 0 h.previous 0 d ds h.rest few h.ordered refl (omega (arith, all))
+        ∙ ap (λ (n : ℕ). first_failing (day_checks 984 r.size (oldest_pointer r x) n 0 0 0 (circle_of r x))) reach
+        ∙ ap (λ (l : List ℕ). first_failing (day_checks 984 r.size (oldest_pointer r x) (0 + far (d ∷ ds)) 0 0 0 l)) spelled
+        ∙ days_pass 984 r.size (oldest_pointer r x) 0 0 h.previous 0 d ds h.rest few h.ordered refl (omega (arith, all))

@@ -4,4 +4,7 @@ pub mod Circle
 pub mod Reading
 pub mod Walking
 pub mod Judging
+pub mod Elsewhere
+pub mod Retention
+pub mod Trims
 pub mod Rows

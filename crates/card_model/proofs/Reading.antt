@@ -5,7 +5,7 @@ use Rattle.std.proofs.lemmas.List.{drop-drop, drop-take, take-take}
 use Rattle.tach_media.specs.Medium.{bytes_at}
 use Rattle.card_model.specs.Bytes.{number}
 use Rattle.card_model.specs.Days.{Day, len_of, total, record_of, records, IsDay, AreDays}
-use Rattle.card_model.specs.Image.{Shape, IsShape, turned, oldest_of, string_of, circle_of, IsPointer, IsPlace, Holds, IsAt, at}
+use Rattle.card_model.specs.Image.{StringShape, IsStringShape, turned, oldest_pointer, string_of, circle_of, IsPointer, IsPlace, Holds, IsAt, at}
 use Rattle.card_model.proofs.Numbers.{number_two}
 use Rattle.card_model.proofs.Lists.{records_length, previous_of, records-append, total-append}
 use Rattle.card_model.proofs.Circle.{part_back, turned_front, turned_part, turned_twice, string_length, circle_length}
@@ -53,7 +53,7 @@ spelled_at q older d later rest =
     ∙ append_assoc (records q older) (record_of e d ++ records (len_of d) later) rest
     ∙ ap (λ (l : List ℕ). records q older ++ l) (append_assoc (record_of e d) (records (len_of d) later) rest)
 
-module _ (r : Shape) (shape : IsShape r) (x : List ℕ) (inside : r.base + (4 + r.size) ≤ length x) where
+module _ (r : StringShape) (shape : IsStringShape r) (x : List ℕ) (inside : r.base + (4 + r.size) ≤ length x) where
   -- the records and what is free
   pub fills : (days : List Day) (h : Holds r x days) → total days + length h.rest ≡ r.size
   fills days h = omega (arith, circle_length r x inside, ap length h.spelled, length-append (records h.previous days) h.rest, records_length h.previous days)
@@ -66,15 +66,15 @@ module _ (r : Shape) (shape : IsShape r) (x : List ℕ) (inside : r.base + (4 + 
       let t = drop (r.base + 4) x in
       ap (λ (k : ℕ). bytes_at (take k t) q n) (sym whole) ∙ ap (λ (l : List ℕ). take n l) (drop-take q m t) ∙ take-take n m (drop q t) (omega (arith, whole, fits)) ∙ ap (λ (l : List ℕ). take n l) (drop-drop q (r.base + 4) x)
 
-  pub circle_part : (k q n : ℕ) → oldest_of r x < r.size → IsPlace r.size (oldest_of r x) k q → q + n ≤ r.size → k + n ≤ r.size → bytes_at (circle_of r x) k n ≡ bytes_at x (at r q) n
+  pub circle_part : (k q n : ℕ) → oldest_pointer r x < r.size → IsPlace r.size (oldest_pointer r x) k q → q + n ≤ r.size → k + n ≤ r.size → bytes_at (circle_of r x) k n ≡ bytes_at x (at r q) n
   circle_part k q n below place fits fits_too =
       let s = string_of r x in
       let s_length : length s ≡ r.size = string_length r x inside in
-      turned_part s (oldest_of r x) k q n (omega (arith, below, s_length)) (omega (arith, fits, s_length)) (omega (arith, fits_too, s_length)) (subst (λ (m : ℕ). IsPlace m (oldest_of r x) k q) (sym s_length) place)
+      turned_part s (oldest_pointer r x) k q n (omega (arith, below, s_length)) (omega (arith, fits, s_length)) (omega (arith, fits_too, s_length)) (subst (λ (m : ℕ). IsPlace m (oldest_pointer r x) k q) (sym s_length) place)
       ∙ string_part q n fits
 
   -- the length that stands in the record of a day
-  pub len_read : (older : List Day) (d : Day) (later : List Day) → Holds r x (older ++ d ∷ later) → (q : ℕ) → IsPlace r.size (oldest_of r x) (total older + 2) q → q + 2 ≤ r.size → number (bytes_at x (at r q) 2) ≡ len_of d
+  pub len_read : (older : List Day) (d : Day) (later : List Day) → Holds r x (older ++ d ∷ later) → (q : ℕ) → IsPlace r.size (oldest_pointer r x) (total older + 2) q → q + 2 ≤ r.size → number (bytes_at x (at r q) 2) ≡ len_of d
   len_read older d later h q place fits =
       let e = previous_of h.previous older in
       let a = records h.previous older in
@@ -98,7 +98,7 @@ same_place size o k p q p_below q_below first next =
     (λ a. ⊎_elim (λ b. omega (arith, a, b)) (λ b. absurd (omega (arith, a, b, p_below))) next)
     (λ a. ⊎_elim (λ b. absurd (omega (arith, a, b, q_below))) (λ b. omega (arith, a, b)) next) first
 
-module _ (r : Shape) (shape : IsShape r) (x : List ℕ) (inside : r.base + (4 + r.size) ≤ length x) where
+module _ (r : StringShape) (shape : IsStringShape r) (x : List ℕ) (inside : r.base + (4 + r.size) ≤ length x) where
   -- the string once round from a day that is there
   pub from_day : (p : ℕ) (d : Day) (here : IsAt r x p d)
       → turned p (string_of r x) ≡ record_of (previous_of here.holds.previous here.older) d ++ ((records (len_of d) here.later ++ here.holds.rest) ++ records here.holds.previous here.older)
@@ -111,8 +111,8 @@ module _ (r : Shape) (shape : IsShape r) (x : List ℕ) (inside : r.base + (4 + 
       let back = records (len_of d) here.later ++ h.rest in
       let s_length : length s ≡ r.size = string_length r x inside in
       let all : total (here.older ++ d ∷ here.later) + length h.rest ≡ r.size = fills r shape x inside (here.older ++ d ∷ here.later) h in
-      turned_twice s (oldest_of r x) k p (omega (arith, h.oldest.below, s_length)) (omega (arith, here.pointer.below, s_length)) (omega (arith, all, s_length, total-append here.older (d ∷ here.later)))
-      (subst (λ (m : ℕ). IsPlace m (oldest_of r x) k p) (sym s_length) here.place)
+      turned_twice s (oldest_pointer r x) k p (omega (arith, h.oldest.below, s_length)) (omega (arith, here.pointer.below, s_length)) (omega (arith, all, s_length, total-append here.older (d ∷ here.later)))
+      (subst (λ (m : ℕ). IsPlace m (oldest_pointer r x) k p) (sym s_length) here.place)
       ∙ ap (λ (l : List ℕ). turned k l) (h.spelled ∙ spelled_at h.previous here.older d here.later h.rest)
       ∙ turned_front a (front ++ back) k (records_length h.previous here.older) ∙ append_assoc front back a
 

@@ -1,14 +1,14 @@
 -- Worked rows of the string, by computation.
 use Rattle.std.proofs.Common.{◌≡◌, ◌*◌, ℕ, List, [], ◌∷◌, ◌++◌, Some, None, drop, refl, replicate}
 use Rattle.card_model.specs.Days.{Day}
-use Rattle.card_model.specs.Image.{Shape}
+use Rattle.card_model.specs.Image.{StringShape}
 use Rattle.card_model.specs.Walk.{days_of}
 use Rattle.card_model.specs.Checks.{first_bad}
 
-abbrev pub small : Shape
+abbrev pub small : StringShape
 small = record { base = 0; size = 42 }
 
-abbrev pub whole : Shape
+abbrev pub whole : StringShape
 whole = record { base = 0; size = 5544 }
 
 abbrev pub day : ℕ → List ℕ → Day

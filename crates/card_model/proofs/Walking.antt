@@ -7,8 +7,8 @@ use Rattle.std.proofs.lemmas.Nat.{mod-mul-add}
 use Rattle.tach_media.specs.Medium.{bytes_at}
 use Rattle.card_model.specs.Bytes.{number, decimal}
 use Rattle.card_model.specs.Days.{Day, len_of, far, word_bytes, record_of, records, IsDay, AreDays}
-use Rattle.card_model.specs.Image.{Shape, IsShape, oldest_of, newest_of, circle_of, IsPlace, Holds}
-use Rattle.card_model.specs.Walk.{words_of, day_of, days_in, days_of}
+use Rattle.card_model.specs.Image.{StringShape, IsStringShape, oldest_pointer, newest_pointer, circle_of, IsPlace, Holds}
+use Rattle.card_model.specs.Walk.{words_of, day_told, days_in, days_of}
 use Rattle.card_model.proofs.Numbers.{number_two, number_four, decimal_same}
 use Rattle.card_model.proofs.Lists.{record_length, len_least, last_len_is, last_least, count_least}
 use Rattle.card_model.proofs.Reading.{fills}
@@ -17,7 +17,7 @@ words_same : (ws : List ℕ) → words_of (length ws) (word_bytes ws) ≡ ws
 words_same [] = refl
 words_same (w ∷ ws) = ap (λ (n : ℕ). n ∷ words_of (length ws) (word_bytes ws)) (number_two w) ∙ ap (λ (l : List ℕ). w ∷ l) (words_same ws)
 
-pub day_same : (q : ℕ) (d : Day) → d.counter ≤ 9999 → day_of (record_of q d) ≡ d
+pub day_same : (q : ℕ) (d : Day) → d.counter ≤ 9999 → day_told (record_of q d) ≡ d
 day_same q d decimal_fits =
     let count : (length (record_of q d) - 12) / 2 ≡ length d.words = omega (arith, record_length q d) in
     let b : List ℕ = record_of q d in
@@ -38,9 +38,9 @@ step_same most far q d tail day =
     let n = len_of d in
     let long : length (record_of q d) ≡ len_of d = record_length q d in
     let first : take (len_of d) (record_of q d ++ tail) ≡ record_of q d = take_at (record_of q d) tail (len_of d) long in
-    let same : day_of (take (len_of d) (record_of q d ++ tail)) ≡ d = ap day_of first ∙ day_same q d day.decimal in
-    ap (λ (n : ℕ). cond (nat_lt n 14) [] (cond (nat_lt far n) (day_of (take n (record_of q d ++ tail)) ∷ []) (day_of (take n (record_of q d ++ tail)) ∷ days_in most (far - n) (drop n (record_of q d ++ tail))))) (number_two (len_of d))
-    ∙ ap (λ (b : Bool). cond b [] (cond (nat_lt far (len_of d)) (day_of (take (len_of d) (record_of q d ++ tail)) ∷ []) (day_of (take (len_of d) (record_of q d ++ tail)) ∷ days_in most (far - len_of d) (drop (len_of d) (record_of q d ++ tail))))) (not_below (len_of d) 14 (len_least d day))
+    let same : day_told (take (len_of d) (record_of q d ++ tail)) ≡ d = ap day_told first ∙ day_same q d day.decimal in
+    ap (λ (n : ℕ). cond (nat_lt n 14) [] (cond (nat_lt far n) (day_told (take n (record_of q d ++ tail)) ∷ []) (day_told (take n (record_of q d ++ tail)) ∷ days_in most (far - n) (drop n (record_of q d ++ tail))))) (number_two (len_of d))
+    ∙ ap (λ (b : Bool). cond b [] (cond (nat_lt far (len_of d)) (day_told (take (len_of d) (record_of q d ++ tail)) ∷ []) (day_told (take (len_of d) (record_of q d ++ tail)) ∷ days_in most (far - len_of d) (drop (len_of d) (record_of q d ++ tail))))) (not_below (len_of d) 14 (len_least d day))
     ∙ ap (λ (e : Day). cond (nat_lt far (len_of d)) (e ∷ []) (e ∷ days_in most (far - len_of d) (drop (len_of d) (record_of q d ++ tail)))) same
     ∙ ap (λ (l : List ℕ). cond (nat_lt far (len_of d)) (d ∷ []) (d ∷ days_in most (far - len_of d) l)) (drop_at (record_of q d) tail (len_of d) long)
 
@@ -48,7 +48,7 @@ walk_same : (most q date : ℕ) (days : List Day) (rest : List ℕ) → length d
 walk_same zero q date [] rest le are empty = refl
 walk_same zero q date (d ∷ ds) rest le are empty = absurd (omega (arith, le))
 walk_same (suc most) q date [] rest le are empty =
-    ap (λ (n : ℕ). cond (nat_lt n 14) [] (cond (nat_lt 0 n) (day_of (take n rest) ∷ []) (day_of (take n rest) ∷ days_in most (0 - n) (drop n rest)))) (empty refl)
+    ap (λ (n : ℕ). cond (nat_lt n 14) [] (cond (nat_lt 0 n) (day_told (take n rest) ∷ []) (day_told (take n rest) ∷ days_in most (0 - n) (drop n rest)))) (empty refl)
 walk_same (suc most) q date (d ∷ []) rest le are empty =
     ap (λ (l : List ℕ). days_in (suc most) 0 l) (append_assoc (record_of q d) [] rest) ∙ step_same most 0 q d rest are.1
     ∙ ap (λ (b : Bool). cond b (d ∷ []) (d ∷ days_in most (0 - len_of d) rest)) (is_below 0 (len_of d) (omega (arith, len_least d are.1)))
@@ -70,11 +70,11 @@ distance_is size o n k o_below n_below k_below place = ⊎_elim
     (λ is. let none : n + size - o ≡ 0 * size + k = omega (arith, is) in ap (λ (m : ℕ). m % size) none ∙ mod-mul-add 0 size k k_below) place
 
 -- the walk finds the days that an image holds
-pub walked : (r : Shape) (shape : IsShape r) (x : List ℕ) → r.base + (4 + r.size) ≤ length x → (days : List Day) → Holds r x days → days_of r x ≡ days
+pub walked : (r : StringShape) (shape : IsStringShape r) (x : List ℕ) → r.base + (4 + r.size) ≤ length x → (days : List Day) → Holds r x days → days_of r x ≡ days
 unfolding days_of
 walked r shape x inside days h =
     let few : length days ≤ 984 = omega (arith, count_least 0 days h.ordered, fills r shape x inside days h, shape.high) in
-    ap (λ (n : ℕ). days_in 984 n (circle_of r x)) (distance_is r.size (oldest_of r x) (newest_of r x) (far days) h.oldest.below h.newest.below (far_below days h) h.distance)
+    ap (λ (n : ℕ). days_in 984 n (circle_of r x)) (distance_is r.size (oldest_pointer r x) (newest_pointer r x) (far days) h.oldest.below h.newest.below (far_below days h) h.distance)
     ∙ ap (λ (l : List ℕ). days_in 984 (far days) l) h.spelled ∙ walk_same 984 h.previous 0 days h.rest few h.ordered (λ none. sym (ap (λ (l : List ℕ). number (bytes_at l 2 2)) (h.spelled ∙ ap (λ (ds : List Day). records h.previous ds ++ h.rest) none)) ∙ h.empty none)
   where
     far_below : (days : List Day) → Holds r x days → far days < r.size
@@ -82,5 +82,5 @@ walked r shape x inside days h =
     far_below (d ∷ ds) h = omega (arith, fills r shape x inside (d ∷ ds) h, last_len_is (d ∷ ds), last_least 0 d ds h.ordered)
 
 -- so it holds one list at most
-pub one_list : (r : Shape) (shape : IsShape r) (x : List ℕ) → r.base + (4 + r.size) ≤ length x → (days others : List Day) → Holds r x days → Holds r x others → days ≡ others
+pub one_list : (r : StringShape) (shape : IsStringShape r) (x : List ℕ) → r.base + (4 + r.size) ≤ length x → (days others : List Day) → Holds r x days → Holds r x others → days ≡ others
 one_list r shape x inside days others h g = sym (walked r shape x inside days h) ∙ walked r shape x inside others g

@@ -1,6 +1,7 @@
 -- What the calls on a string make of its list of days, and which days are overwritten.
 use Rattle.std.specs.Prelude.{◌≡◌, ◌⊎◌, ℕ, ◌+◌, ◌*◌, ◌/◌, ◌%◌, ◌<◌, List, [], ◌∷◌, ◌++◌, nat_eq, nat_le, if◌then◌else◌}
-use Rattle.card_model.specs.Days.{Day, total, minute_of}
+use Rattle.activity_codec.specs.Words.{word_minute}
+use Rattle.card_model.specs.Days.{Day, total}
 
 -- What is left of the days while the oldest go, one after the other, each only while the days do not fit into the room.
 abbrev pub Remain : ℕ → List Day → List Day → Type 0
@@ -27,12 +28,12 @@ OnNewest P (d ∷ e ∷ ds) = OnNewest P (e ∷ ds)
 -- the words' minutes are below 1440, and each is later than the one before it
 abbrev pub Increase : ℕ → List ℕ → Type 0
 Increase minute [] = Unit {0}
-Increase minute (w ∷ ws) = (minute < minute_of w) × (minute_of w < 1440) × Increase (minute_of w) ws
+Increase minute (w ∷ ws) = (minute < word_minute w) × (word_minute w < 1440) × Increase (word_minute w) ws
 
 -- there is a first word, at minute 0, and each other is later than the one before it
 abbrev pub AreStrict : List ℕ → Type 0
 AreStrict [] = ⊥
-AreStrict (w ∷ ws) = (minute_of w ≡ 0) × Increase 0 ws
+AreStrict (w ∷ ws) = (word_minute w ≡ 0) × Increase 0 ws
 
 abbrev pub with_word : ℕ → Day → Day
 with_word w d = record d { words = d.words ++ w ∷ [] }
@@ -78,7 +79,7 @@ until date (d ∷ ds) = if nat_le d.date date then d ∷ until date ds else []
 -- the words up to a minute of the day
 abbrev pub early : ℕ → List ℕ → List ℕ
 early minute [] = []
-early minute (w ∷ ws) = if nat_le (minute_of w) minute then w ∷ early minute ws else []
+early minute (w ∷ ws) = if nat_le (word_minute w) minute then w ∷ early minute ws else []
 
 abbrev pub with_early : ℕ → Day → Day
 with_early minute d = record d { words = early minute d.words }
@@ -94,3 +95,14 @@ cut minute d = if nat_eq d.date (date_of minute) then with_early (minute % 1440)
 -- the days without a day or a word later than a minute
 abbrev pub trimmed : ℕ → List Day → List Day
 trimmed minute days = with_newest (cut minute) (until (date_of minute) days)
+
+-- each of these days is later than a date
+abbrev pub AllLater : ℕ → List Day → Type 0
+AllLater date [] = Unit {0}
+AllLater date (d ∷ ds) = (date < d.date) × AllLater date ds
+
+-- of the days only some later than the date are gone
+pub record Shorter (date : ℕ) (days kept : List Day) : Type 0 where
+  pub gone : List Day
+  pub is : days ≡ kept ++ gone
+  pub later : AllLater date gone

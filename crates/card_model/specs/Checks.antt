@@ -1,9 +1,9 @@
 -- What is checked of a string of days, in order, and the place in the file of days where it first fails.
 use Rattle.std.specs.Prelude.{ℕ, zero, suc, ◌+◌, ◌-◌, ◌/◌, ◌%◌, Bool, true, false, ◌&&◌, ◌||◌, Option, Some, None, List, [], ◌∷◌, ◌++◌, map, drop, nat_eq, nat_lt, nat_le, if◌then◌else◌}
 use Rattle.tach_media.specs.Medium.{bytes_at}
+use Rattle.activity_codec.specs.Words.{word_minute}
 use Rattle.card_model.specs.Bytes.{number}
-use Rattle.card_model.specs.Days.{minute_of}
-use Rattle.card_model.specs.Image.{Shape, turned, spot, oldest_of, newest_of, circle_of}
+use Rattle.card_model.specs.Image.{StringShape, turned, spot, oldest_pointer, newest_pointer, circle_of}
 use Rattle.card_model.specs.Walk.{words_of}
 
 -- a check, and the place that is told where it fails
@@ -46,7 +46,7 @@ field_checks size so_far before date previous len this counter =
 -- The words, from this offset on. The first stands at this minute or later and below that one, each other not earlier than the one before it, and below 1440.
 abbrev pub word_checks : (offset from below : ℕ) → List ℕ → List Check
 word_checks offset from below [] = []
-word_checks offset from below (w ∷ ws) = check (nat_le from (minute_of w) && nat_lt (minute_of w) below) offset ∷ word_checks (offset + 2) (minute_of w) 1440 ws
+word_checks offset from below (w ∷ ws) = check (nat_le from (word_minute w) && nat_lt (word_minute w) below) offset ∷ word_checks (offset + 2) (word_minute w) 1440 ws
 
 -- a record: its fields, and its words, the first of them at minute 0
 abbrev pub record_checks : (size so_far before date : ℕ) → List ℕ → List Check
@@ -60,8 +60,8 @@ abbrev pub file_place : (size oldest distance : ℕ) → ℕ
 file_place size oldest distance = 4 + spot size oldest distance
 
 -- the checks of the record that begins so far behind the oldest day
-abbrev pub placed : (size oldest so_far : ℕ) → List Check → List Check
-placed size oldest so_far checks = map (λ c. check c.passes (file_place size oldest (so_far + c.place))) checks
+abbrev pub placed_checks : (size oldest so_far : ℕ) → List Check → List Check
+placed_checks size oldest so_far checks = map (λ c. check c.passes (file_place size oldest (so_far + c.place))) checks
 
 -- The days from so far behind the oldest on: each record, and that the next begins at the newest pointer or before it. The
 -- bytes are the circle from here on; there are at most `most` days.
@@ -69,7 +69,7 @@ abbrev pub day_checks : (most size oldest far so_far before date : ℕ) → List
 day_checks zero size oldest far so_far before date bytes = []
 day_checks (suc most) size oldest far so_far before date bytes =
     let len : ℕ = number (bytes_at bytes 2 2) in
-    placed size oldest so_far (record_checks size so_far before date bytes)
+    placed_checks size oldest so_far (record_checks size so_far before date bytes)
     ++ (elim (nat_eq so_far far) as (λ _. List Check) [
       | true ↦ []
       | false ↦ check (nat_le (so_far + len) far) 2 ∷ day_checks most size oldest far (so_far + len) len (number (bytes_at bytes 4 4)) (turned len bytes)
@@ -80,17 +80,17 @@ abbrev pub distance_of : (size from to : ℕ) → ℕ
 distance_of size from to = (to + size - from) % size
 
 -- no day: both pointers are equal, and the length there is 0
-abbrev pub is_empty : Shape → List ℕ → Bool
-is_empty r x = nat_eq (oldest_of r x) (newest_of r x) && nat_eq (number (bytes_at (circle_of r x) 2 2)) 0
+abbrev pub is_empty : StringShape → List ℕ → Bool
+is_empty r x = nat_eq (oldest_pointer r x) (newest_pointer r x) && nat_eq (number (bytes_at (circle_of r x) 2 2)) 0
 
 -- all checks in their order: the two pointers, and then the days from the oldest on
-abbrev pub checks_of : Shape → List ℕ → List Check
+abbrev pub checks_of : StringShape → List ℕ → List Check
 checks_of r x =
-    let o : ℕ = oldest_of r x in
-    let n : ℕ = newest_of r x in
+    let o : ℕ = oldest_pointer r x in
+    let n : ℕ = newest_pointer r x in
     check (is_pointer r.size o) 0 ∷ check (is_pointer r.size n) 2
     ∷ (elim (is_empty r x) as (λ _. List Check) [ true ↦ [] | false ↦ day_checks 984 r.size o (distance_of r.size o n) 0 0 0 (circle_of r x) ])
 
 -- the place in the file of days where an image first fails, if it does
-unfoldable pub first_bad : Shape → List ℕ → Option ℕ
+unfoldable pub first_bad : StringShape → List ℕ → Option ℕ
 first_bad r x = first_failing (checks_of r x)

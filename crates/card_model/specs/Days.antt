@@ -1,5 +1,6 @@
 -- The days of a card's string, and their records (CardActivityDailyRecord).
 use Rattle.std.specs.Prelude.{◌≡◌, ℕ, ◌+◌, ◌*◌, ◌/◌, ◌%◌, ◌<◌, ◌≤◌, List, [], ◌∷◌, ◌++◌, length}
+use Rattle.activity_codec.specs.Words.{word_minute}
 use Rattle.card_model.specs.Bytes.{two_bytes, four_bytes, decimal_bytes}
 
 -- A day: its date in seconds, its presence counter, its distance in km, and its change words.
@@ -46,19 +47,21 @@ abbrev pub records : ℕ → List Day → List ℕ
 records previous [] = []
 records previous (d ∷ ds) = record_of previous d ++ records (len_of d) ds
 
--- the minute of the day at which a word stands
-abbrev pub minute_of : ℕ → ℕ
-minute_of word = word % 2048
+-- the last of some words
+abbrev pub last_word : List ℕ → ℕ
+last_word [] = 0
+last_word (w ∷ []) = w
+last_word (w ∷ v ∷ ws) = last_word (v ∷ ws)
 
 -- the words' minutes are below 1440, and none is earlier than the one before it
 abbrev pub Ascend : ℕ → List ℕ → Type 0
 Ascend minute [] = Unit {0}
-Ascend minute (w ∷ ws) = (minute ≤ minute_of w) × (minute_of w < 1440) × Ascend (minute_of w) ws
+Ascend minute (w ∷ ws) = (minute ≤ word_minute w) × (word_minute w < 1440) × Ascend (word_minute w) ws
 
 -- there is a first word, at minute 0
 abbrev pub AreWords : List ℕ → Type 0
 AreWords [] = ⊥
-AreWords (w ∷ ws) = (minute_of w ≡ 0) × Ascend 0 ws
+AreWords (w ∷ ws) = (word_minute w ≡ 0) × Ascend 0 ws
 
 -- a day that the string may hold
 pub record IsDay (d : Day) : Type 0 where

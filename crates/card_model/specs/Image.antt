@@ -5,12 +5,12 @@ use Rattle.card_model.specs.Bytes.{number}
 use Rattle.card_model.specs.Days.{Day, total, far, records, AreDays}
 
 -- where the file of days begins in the image, and how long its string is
-pub record Shape : Type 0 where
+pub record StringShape : Type 0 where
   pub base : ℕ
   pub size : ℕ
 
 -- the lengths that a card may have
-pub record IsShape (r : Shape) : Type 0 where
+pub record IsStringShape (r : StringShape) : Type 0 where
   pub even : r.size % 2 ≡ 0
   pub low : 5544 ≤ r.size
   pub high : r.size ≤ 13776
@@ -20,21 +20,21 @@ pub record IsShape (r : Shape) : Type 0 where
 abbrev pub turned : ℕ → List ℕ → List ℕ
 turned place circle = drop place circle ++ take place circle
 
-abbrev pub oldest_of : Shape → List ℕ → ℕ
-oldest_of r x = number (bytes_at x r.base 2)
+abbrev pub oldest_pointer : StringShape → List ℕ → ℕ
+oldest_pointer r x = number (bytes_at x r.base 2)
 
-abbrev pub newest_of : Shape → List ℕ → ℕ
-newest_of r x = number (bytes_at x (r.base + 2) 2)
+abbrev pub newest_pointer : StringShape → List ℕ → ℕ
+newest_pointer r x = number (bytes_at x (r.base + 2) 2)
 
-abbrev pub string_of : Shape → List ℕ → List ℕ
+abbrev pub string_of : StringShape → List ℕ → List ℕ
 string_of r x = bytes_at x (r.base + 4) r.size
 
 -- the string from the oldest day on
-abbrev pub circle_of : Shape → List ℕ → List ℕ
-circle_of r x = turned (oldest_of r x) (string_of r x)
+abbrev pub circle_of : StringShape → List ℕ → List ℕ
+circle_of r x = turned (oldest_pointer r x) (string_of r x)
 
 -- a place of the string in the image
-abbrev pub at : Shape → ℕ → ℕ
+abbrev pub at : StringShape → ℕ → ℕ
 at r p = r.base + 4 + p
 
 -- a pointer into the string
@@ -51,10 +51,10 @@ abbrev pub spot : (size from distance : ℕ) → ℕ
 spot size from distance = if nat_lt (from + distance) size then from + distance else from + distance - size
 
 -- The image holds these days: once round from the oldest pointer their records stand one after the other, the last at the newest pointer.
-pub record Holds (r : Shape) (x : List ℕ) (days : List Day) : Type 0 where
-  pub oldest : IsPointer r.size (oldest_of r x)
-  pub newest : IsPointer r.size (newest_of r x)
-  pub distance : IsPlace r.size (oldest_of r x) (far days) (newest_of r x)
+pub record Holds (r : StringShape) (x : List ℕ) (days : List Day) : Type 0 where
+  pub oldest : IsPointer r.size (oldest_pointer r x)
+  pub newest : IsPointer r.size (newest_pointer r x)
+  pub distance : IsPlace r.size (oldest_pointer r x) (far days) (newest_pointer r x)
   pub previous : ℕ
   pub rest : List ℕ
   pub spelled : circle_of r x ≡ records previous days ++ rest
@@ -62,9 +62,9 @@ pub record Holds (r : Shape) (x : List ℕ) (days : List Day) : Type 0 where
   pub ordered : AreDays 0 days
 
 -- a day that is there begins at this place
-pub record IsAt (r : Shape) (x : List ℕ) (p : ℕ) (d : Day) : Type 0 where
+pub record IsAt (r : StringShape) (x : List ℕ) (p : ℕ) (d : Day) : Type 0 where
   pub older : List Day
   pub later : List Day
   pub holds : Holds r x (older ++ d ∷ later)
   pub pointer : IsPointer r.size p
-  pub place : IsPlace r.size (oldest_of r x) (total older) p
+  pub place : IsPlace r.size (oldest_pointer r x) (total older) p

@@ -4,14 +4,14 @@ use Rattle.std.specs.Prelude.{nat_eq, nat_lt, nat_le}
 use Rattle.std.proofs.lemmas.Bool.Decides.{nat_tests}
 use Rattle.std.proofs.lemmas.Bool.{cases_lt}
 use Rattle.activity_codec.specs.declared.entries.Entry.{Entry}
-use Rattle.activity_codec.specs.Words.{word_absent}
-use Rattle.card_model.specs.Days.{Day, AreDays, IsDay, AreWords, Ascend, minute_of}
+use Rattle.activity_codec.specs.Words.{word_absent, word_minute}
+use Rattle.card_model.specs.Days.{Day, AreDays, IsDay, AreWords, Ascend, last_word}
 use Rattle.card_model.specs.Changes.{with_newest, until, early, with_early, OnNewest, date_of, cut, trimmed}
 use Rattle.card_retention.specs.Expected.{more, Counted}
-use Rattle.card_retention.specs.Shown.{Bound, Grows, sizes, last_word, is_open, owing, EndsAbsent, Sound, Sound.Flat, Sound.Tail, Rests, Lives}
+use Rattle.card_retention.specs.Shown.{Bound, Grows, sizes, is_open, owing, EndsAbsent, Sound, Sound.Flat, Sound.Tail, Rests, Lives}
 use Rattle.card_retention.specs.Entries.{newest_word, IsChecked}
 use Rattle.card_retention.proofs.Entering.{both, is_same}
-use Rattle.card_retention.proofs.Trims.{trimmed_cases}
+use Rattle.card_model.proofs.Trims.{early_few, trimmed_cases}
 use Rattle.card_retention.proofs.Flat.{UpTo, early_all, flat_newest}
 
 at_most : (m n : ℕ) → m ≤ n → nat_le m n ≡ true
@@ -24,22 +24,22 @@ same_is : (m n : ℕ) → m ≡ n → nat_eq m n ≡ true
 same_is m n is = grind (arith, nat_tests)
 
 -- where a trim cuts nothing the last word is not behind it
-pub early_last : (m : ℕ) (ws : List ℕ) → AreWords ws → early m ws ≡ ws → minute_of (last_word ws) ≤ m
+pub early_last : (m : ℕ) (ws : List ℕ) → AreWords ws → early m ws ≡ ws → word_minute (last_word ws) ≤ m
 early_last m [] are is = absurd are
 early_last m (w ∷ ws) are is = go w ws is
   where
-    go : (w : ℕ) (ws : List ℕ) → early m (w ∷ ws) ≡ w ∷ ws → minute_of (last_word (w ∷ ws)) ≤ m
-    go w [] is = by (nat_le (minute_of w) m) refl is
+    go : (w : ℕ) (ws : List ℕ) → early m (w ∷ ws) ≡ w ∷ ws → word_minute (last_word (w ∷ ws)) ≤ m
+    go w [] is = by (nat_le (word_minute w) m) refl is
       where
-        by : (b : Bool) → nat_le (minute_of w) m ≡ b → cond b (w ∷ []) [] ≡ w ∷ [] → minute_of w ≤ m
-        by true t x = le_of (minute_of w) m t
+        by : (b : Bool) → nat_le (word_minute w) m ≡ b → cond b (w ∷ []) [] ≡ w ∷ [] → word_minute w ≤ m
+        by true t x = le_of (word_minute w) m t
         by false t x = absurd (none x)
           where
             none : [] ≡ w ∷ [] → ⊥
             none x = cc
-    go w (v ∷ ws) is = by (nat_le (minute_of w) m) is (go v ws)
+    go w (v ∷ ws) is = by (nat_le (word_minute w) m) is (go v ws)
       where
-        by : (b : Bool) → cond b (w ∷ early m (v ∷ ws)) [] ≡ w ∷ v ∷ ws → (early m (v ∷ ws) ≡ v ∷ ws → minute_of (last_word (v ∷ ws)) ≤ m) → minute_of (last_word (v ∷ ws)) ≤ m
+        by : (b : Bool) → cond b (w ∷ early m (v ∷ ws)) [] ≡ w ∷ v ∷ ws → (early m (v ∷ ws) ≡ v ∷ ws → word_minute (last_word (v ∷ ws)) ≤ m) → word_minute (last_word (v ∷ ws)) ≤ m
         by true x rest = rest (tail x)
           where
             tail : w ∷ early m (v ∷ ws) ≡ w ∷ v ∷ ws → early m (v ∷ ws) ≡ v ∷ ws
@@ -49,17 +49,9 @@ early_last m (w ∷ ws) are is = go w ws is
             none : [] ≡ w ∷ v ∷ ws → ⊥
             none x = cc
 
-early_few : (m : ℕ) (ws : List ℕ) → length (early m ws) ≤ length ws
-early_few m [] = omega arith
-early_few m (w ∷ ws) = by (early_few m ws) (nat_le (minute_of w) m)
-  where
-    by : length (early m ws) ≤ length ws → (b : Bool) → length (cond b (w ∷ early m ws) []) ≤ length (w ∷ ws)
-    by rest true = omega (arith, rest)
-    by rest false = omega arith
-
 -- one day, cut, with the closing word
 module _ (mark : ℕ) where
-  one_cut : (n : ℕ) (d : Day) (ds : List Day) → d.date ≤ date_of mark → IsDay d → IsChecked mark (d ∷ ds) → (ds ≡ [] → mark < d.date / 60 + minute_of (last_word d.words)) → Grows (owing n mark (cut mark d ∷ [])) (sizes (d ∷ ds))
+  one_cut : (n : ℕ) (d : Day) (ds : List Day) → d.date ≤ date_of mark → IsDay d → IsChecked mark (d ∷ ds) → (ds ≡ [] → mark < d.date / 60 + word_minute (last_word d.words)) → Grows (owing n mark (cut mark d ∷ [])) (sizes (d ∷ ds))
   one_cut n d ds low is checked behind = by (nat_eq d.date (date_of mark)) refl
     where
       by : (c : Bool) → nat_eq d.date (date_of mark) ≡ c → Grows (owing n mark (cond c (with_early (mark % 1440) d) d ∷ [])) (sizes (d ∷ ds))
@@ -134,7 +126,7 @@ under n mark date (d ∷ e ∷ ds) are checked behind = by (nat_le d.date (date_
 no_word_behind : (mark date : ℕ) (d : Day) (ds : List Day) → AreDays date (d ∷ ds) → newest_word (d ∷ ds) ≤ mark → OnNewest (UpTo mark) (d ∷ ds)
 no_word_behind mark date d [] are le = record { day = omega (arith, le, are.1.midnight); last = λ here. words d.words are.1.ordered (omega (arith, le, here)) }
   where
-    words : (ws : List ℕ) → AreWords ws → minute_of (last_word ws) ≤ mark % 1440 → early (mark % 1440) ws ≡ ws
+    words : (ws : List ℕ) → AreWords ws → word_minute (last_word ws) ≤ mark % 1440 → early (mark % 1440) ws ≡ ws
     words [] are le = absurd are
     words (w ∷ ws) are le = early_all 0 (mark % 1440) (w ∷ ws) (omega arith, omega (arith, are.0), subst (λ (k : ℕ). Ascend k ws) (sym are.0) are.1) le
 no_word_behind mark date d (e ∷ ds) are le = no_word_behind mark d.date e ds are.2 le

@@ -5,14 +5,15 @@ use Rattle.activity_codec.specs.declared.entries.Entry.{Entry}
 use Rattle.std.specs.Prelude.{◌==◌}
 use Rattle.activity_codec.specs.declared.values.Activity.{Activity}
 use Rattle.activity_codec.specs.declared.values.Activity.TheVariants as activity
-use Rattle.activity_codec.specs.Words.{word_absent, activity_number}
-use Rattle.card_model.specs.Days.{Day, AreDays, minute_of}
+use Rattle.activity_codec.specs.Words.{word_absent, activity_number, word_minute}
+use Rattle.card_model.specs.Days.{Day, AreDays, last_word}
 use Rattle.card_model.specs.Changes.{fitting, with_newest, with_word, new_day, OnNewest, date_of, trimmed}
 use Rattle.card_retention.specs.Expected.{WordDay, more, Counted, with_entry, expected_days}
-use Rattle.card_retention.specs.Shown.{Bound, AllUpTo, Rising, Shows, sizes, last_word, entry_state, is_open, owing, Tells, Rests, with_closing, Entered, Entered.Same, Entered.Word, Entered.Begun, EndsAbsent, Sound, Sound.Flat, Sound.Tail, Lives}
-use Rattle.card_retention.proofs.Growing.{shows_left, left_more, left_of, sizes_word, remain_fitting}
+use Rattle.card_retention.specs.Shown.{Bound, AllUpTo, Rising, Shows, sizes, entry_state, is_open, owing, Tells, Rests, with_closing, Entered, Entered.Same, Entered.Word, Entered.Begun, EndsAbsent, Sound, Sound.Flat, Sound.Tail, Lives}
+use Rattle.card_model.proofs.Retention.{remain_fitting}
+use Rattle.card_retention.proofs.Growing.{shows_left, left_more, left_of, sizes_word}
 use Rattle.card_retention.proofs.Entering.{with_all, closes_is, rising_more, both, is_same, less_is, fits_sizes, before_later, kept_rests, on_word, on_append, last_append, date_newest}
-use Rattle.card_retention.proofs.Trims.{trimmed_twice}
+use Rattle.card_model.proofs.Trims.{trimmed_twice}
 use Rattle.card_retention.proofs.Stops.{absent_shut, on_left}
 use Rattle.card_retention.proofs.Flat.{Ends, flat_more, flat_ends}
 
@@ -101,12 +102,12 @@ module _ (size : ℕ) (slack : Bound) (covered from mark : ℕ) (c : Counted) (d
           undue true g a s = absurd (cc)
 
   -- and the session may go on, the mark at it
-  pub closed_lives : (w : ℕ) → is_open mark days ≡ true → word_absent w ≡ true → minute_of w ≡ suc mark % 1440 → suc mark < from → AreDays 0 (with_newest (with_word w) (fitting (size - 2) days))
+  pub closed_lives : (w : ℕ) → is_open mark days ≡ true → word_absent w ≡ true → word_minute w ≡ suc mark % 1440 → suc mark < from → AreDays 0 (with_newest (with_word w) (fitting (size - 2) days))
       → Lives size slack covered from (suc mark) c (with_newest (with_word w) (fitting (size - 2) days))
   closed_lives w open_is absent minute promised are = record {
     rests = closed_rests w (suc mark) open_is absent promised (omega arith) (omega arith) are;
     sound = Flat (flat_ends (suc mark) (with_newest (with_word w) (fitting (size - 2) days)) are
-        (on_word (λ d. d.date ≡ date_of (suc mark)) (Ends (suc mark)) w (fitting (size - 2) days) (λ d is. record { day = is; last = omega (arith, ap minute_of (last_append d.words w), minute) })
+        (on_word (λ d. d.date ≡ date_of (suc mark)) (Ends (suc mark)) w (fitting (size - 2) days) (λ d is. record { day = is; last = omega (arith, ap word_minute (last_append d.words w), minute) })
         (on_left _ (size - 2) days (fitting (size - 2) days) (fits_sizes 0 (size - 2) days (omega (arith, long)) l.rests.ordered).0 (remain_fitting (size - 2) days) (open_some mark days open_is))));
   }
 
@@ -127,7 +128,7 @@ module _ (size : ℕ) (slack : Bound) (covered from mark : ℕ) (c : Counted) (d
       flat after ordered (Same newest tells) = written (is_open mark days && nat_lt (suc mark) e.minute) are tells
       flat after ordered (Word v newest new state minute) =
           flat_ends e.minute (with_newest (with_word v) (fitting (size - 2) (with_closing size w mark e.minute days))) ordered
-          (on_word (λ d. d.date ≡ e.minute / 1440 * 86400) (Ends e.minute) v (fitting (size - 2) (with_closing size w mark e.minute days)) (λ d is. record { day = is; last = omega (arith, ap minute_of (last_append d.words v), minute) })
+          (on_word (λ d. d.date ≡ e.minute / 1440 * 86400) (Ends e.minute) v (fitting (size - 2) (with_closing size w mark e.minute days)) (λ d is. record { day = is; last = omega (arith, ap word_minute (last_append d.words v), minute) })
           (on_left _ (size - 2) (with_closing size w mark e.minute days) (fitting (size - 2) (with_closing size w mark e.minute days)) (fits_sizes 0 (size - 2) (with_closing size w mark e.minute days) (omega (arith, long)) are).0
           (remain_fitting (size - 2) (with_closing size w mark e.minute days)) (date_newest (e.minute / 1440) 0 (with_closing size w mark e.minute days) are newest)))
       flat after ordered (Begun words newest count state minute) =

@@ -9,11 +9,12 @@ use Rattle.activity_codec.specs.declared.values.Activity.{Activity}
 use Rattle.activity_codec.specs.declared.values.Activity.TheVariants as activity
 use Rattle.activity_codec.specs.Activity.{same_slot, same_activity}
 use Rattle.activity_codec.specs.Words.{slot_number, activity_number, bit, word_absent}
-use Rattle.card_model.specs.Days.{Day, total, AreDays}
+use Rattle.card_model.specs.Days.{Day, total, AreDays, last_word}
 use Rattle.card_model.specs.Changes.{fitting, with_newest, with_word, new_day, OnNewest, date_of}
 use Rattle.card_retention.specs.Expected.{WordDay, more, is_newest, same_bool, goes_on, is_closed, closes, first_words, adds, Counted, with_entry, expected_days}
-use Rattle.card_retention.specs.Shown.{Covers, Bound, InDays, AllIn, AllUpTo, Shows, Left, Rising, Fits, AllBefore, Filled, sizes, size_day, last_word, entry_state, is_open, owing, TellsIn, Tells, Rests, with_closing, Entered, Entered.Same, Entered.Word, Entered.Begun}
-use Rattle.card_retention.proofs.Growing.{shows_more, shows_word, shows_day, shows_again, shows_left, left_more, left_newest, left_of, sizes_word, sizes_append, remain_fitting}
+use Rattle.card_retention.specs.Shown.{Covers, Bound, InDays, AllIn, AllUpTo, Shows, Left, Rising, Fits, AllBefore, Filled, sizes, size_day, entry_state, is_open, owing, TellsIn, Tells, Rests, with_closing, Entered, Entered.Same, Entered.Word, Entered.Begun}
+use Rattle.card_model.proofs.Retention.{remain_fitting}
+use Rattle.card_retention.proofs.Growing.{shows_more, shows_word, shows_day, shows_again, shows_left, left_more, left_newest, left_of, sizes_word, sizes_append}
 
 pub both : (a b : Bool) → a && b ≡ true → (a ≡ true) × (b ≡ true)
 both true true e = (refl, refl)

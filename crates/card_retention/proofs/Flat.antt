@@ -2,9 +2,9 @@
 use Rattle.std.proofs.Common.{◌≡◌, ℕ, ◌%◌, ◌≤◌, Bool, true, false, cond, List, [], ◌∷◌, refl, sym, ◌∙◌, ap, subst, arith}
 use Rattle.std.specs.Prelude.{nat_eq, nat_le}
 use Rattle.std.proofs.lemmas.Bool.Decides.{nat_tests}
-use Rattle.card_model.specs.Days.{Day, AreDays, IsDay, AreWords, Ascend, minute_of}
+use Rattle.activity_codec.specs.Words.{word_minute}
+use Rattle.card_model.specs.Days.{Day, AreDays, IsDay, AreWords, Ascend, last_word}
 use Rattle.card_model.specs.Changes.{with_newest, until, early, with_early, date_of, cut, trimmed, OnNewest}
-use Rattle.card_retention.specs.Shown.{last_word}
 
 at_most : (m n : ℕ) → m ≤ n → nat_le m n ≡ true
 at_most m n le = grind (arith, nat_tests)
@@ -20,23 +20,23 @@ pub record UpTo (m : ℕ) (d : Day) : Type 0 where
   pub day : d.date ≤ date_of m
   pub last : d.date ≡ date_of m → early (m % 1440) d.words ≡ d.words
 
-ascend_low : (low m : ℕ) (ws : List ℕ) (w : ℕ) → Ascend low (w ∷ ws) → minute_of (last_word (w ∷ ws)) ≤ m → minute_of w ≤ m
+ascend_low : (low m : ℕ) (ws : List ℕ) (w : ℕ) → Ascend low (w ∷ ws) → word_minute (last_word (w ∷ ws)) ≤ m → word_minute w ≤ m
 ascend_low low m [] w a le = le
-ascend_low low m (v ∷ ws) w a le = omega (arith, a.2.0, ascend_low (minute_of w) m ws v a.2 le)
+ascend_low low m (v ∷ ws) w a le = omega (arith, a.2.0, ascend_low (word_minute w) m ws v a.2 le)
 
-pub early_all : (low m : ℕ) (ws : List ℕ) → Ascend low ws → minute_of (last_word ws) ≤ m → early m ws ≡ ws
+pub early_all : (low m : ℕ) (ws : List ℕ) → Ascend low ws → word_minute (last_word ws) ≤ m → early m ws ≡ ws
 early_all low m [] a le = refl
-early_all low m (w ∷ []) a le = ap (λ (b : Bool). cond b (w ∷ []) []) (at_most (minute_of w) m le)
+early_all low m (w ∷ []) a le = ap (λ (b : Bool). cond b (w ∷ []) []) (at_most (word_minute w) m le)
 early_all low m (w ∷ v ∷ ws) a le =
-    ap (λ (b : Bool). cond b (w ∷ early m (v ∷ ws)) []) (at_most (minute_of w) m (ascend_low low m (v ∷ ws) w a le))
-    ∙ ap (λ (l : List ℕ). w ∷ l) (early_all (minute_of w) m (v ∷ ws) a.2 le)
+    ap (λ (b : Bool). cond b (w ∷ early m (v ∷ ws)) []) (at_most (word_minute w) m (ascend_low low m (v ∷ ws) w a le))
+    ∙ ap (λ (l : List ℕ). w ∷ l) (early_all (word_minute w) m (v ∷ ws) a.2 le)
 
 pub early_more : (m n : ℕ) (ws : List ℕ) → m ≤ n → early m ws ≡ ws → early n ws ≡ ws
 early_more m n [] le is = refl
-early_more m n (w ∷ ws) le is = by (nat_le (minute_of w) m) refl is (early_more m n ws le)
+early_more m n (w ∷ ws) le is = by (nat_le (word_minute w) m) refl is (early_more m n ws le)
   where
-    by : (b : Bool) → nat_le (minute_of w) m ≡ b → cond b (w ∷ early m ws) [] ≡ w ∷ ws → (early m ws ≡ ws → early n ws ≡ ws) → early n (w ∷ ws) ≡ w ∷ ws
-    by true test is rest = ap (λ (b : Bool). cond b (w ∷ early n ws) []) (at_most (minute_of w) n (omega (arith, le_of (minute_of w) m test, le))) ∙ ap (λ (l : List ℕ). w ∷ l) (rest (tail is))
+    by : (b : Bool) → nat_le (word_minute w) m ≡ b → cond b (w ∷ early m ws) [] ≡ w ∷ ws → (early m ws ≡ ws → early n ws ≡ ws) → early n (w ∷ ws) ≡ w ∷ ws
+    by true test is rest = ap (λ (b : Bool). cond b (w ∷ early n ws) []) (at_most (word_minute w) n (omega (arith, le_of (word_minute w) m test, le))) ∙ ap (λ (l : List ℕ). w ∷ l) (rest (tail is))
       where
         tail : w ∷ early m ws ≡ w ∷ ws → early m ws ≡ ws
         tail is = cc
@@ -121,16 +121,16 @@ flat_more m n (d ∷ ds) le are is = flat_newest n 0 (d ∷ ds) are (on_each (Up
 -- a day whose last word is not behind the minute
 pub record Ends (m : ℕ) (d : Day) : Type 0 where
   pub day : d.date ≡ date_of m
-  pub last : minute_of (last_word d.words) ≤ m % 1440
+  pub last : word_minute (last_word d.words) ≤ m % 1440
 
 ends_up_to : (m : ℕ) (d : Day) → IsDay d → Ends m d → UpTo m d
 ends_up_to m d is ends = record { day = omega (arith, ends.day); last = λ same. words d.words is.ordered ends.last }
   where
-    words : (ws : List ℕ) → AreWords ws → minute_of (last_word ws) ≤ m % 1440 → early (m % 1440) ws ≡ ws
+    words : (ws : List ℕ) → AreWords ws → word_minute (last_word ws) ≤ m % 1440 → early (m % 1440) ws ≡ ws
     words [] are le = absurd are
     words (w ∷ ws) are le = early_all 0 (m % 1440) (w ∷ ws) (omega arith, omega (arith, are.0), behind_it) le
       where
-        behind_it : Ascend (minute_of w) ws
+        behind_it : Ascend (word_minute w) ws
         behind_it = subst (λ (k : ℕ). Ascend k ws) (sym are.0) are.1
 
 pub flat_ends : (m : ℕ) (ds : List Day) → AreDays 0 ds → OnNewest (Ends m) ds → trimmed m ds ≡ ds

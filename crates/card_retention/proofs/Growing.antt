@@ -305,16 +305,3 @@ sizes_word w (d ∷ e ∷ ds) = ap (λ (l : List WordDay). size_day d ∷ l) (si
 pub sizes_append : (ds es : List Day) → sizes (ds ++ es) ≡ sizes ds ++ sizes es
 sizes_append [] es = refl
 sizes_append (d ∷ ds) es = ap (λ (l : List WordDay). size_day d ∷ l) (sizes_append ds es)
-
-at_most : (m n : ℕ) → m ≤ n → nat_le m n ≡ true
-at_most m n le = grind (arith, nat_tests)
-
-above : (m n : ℕ) → n < m → nat_le m n ≡ false
-above m n lt = grind (arith, nat_tests)
-
-pub remain_fitting : (room : ℕ) (days : List Day) → Remain room days (fitting room days)
-remain_fitting room [] = refl
-remain_fitting room (d ∷ ds) = ⊎_elim
-    (λ lt. inr (lt, subst (λ (l : List Day). Remain room ds l) (sym (ap (λ (b : Bool). cond b (d ∷ ds) (fitting room ds)) (above (total (d ∷ ds)) room lt))) (remain_fitting room ds)))
-    (λ le. inl (ap (λ (b : Bool). cond b (d ∷ ds) (fitting room ds)) (at_most (total (d ∷ ds)) room le)))
-    (cases_lt room (total (d ∷ ds)))

@@ -1,7 +1,6 @@
 pub mod Core
 pub mod Growing
 pub mod Entering
-pub mod Trims
 pub mod Stops
 pub mod Flat
 pub mod Closing

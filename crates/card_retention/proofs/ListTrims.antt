@@ -3,15 +3,15 @@ use Rattle.std.proofs.Common.{◌≡◌, ◌⊎◌, inl, inr, ⊎_elim, ℕ, suc
 use Rattle.std.specs.Prelude.{nat_eq, nat_le}
 use Rattle.std.proofs.lemmas.Bool.Decides.{nat_tests}
 use Rattle.activity_codec.specs.declared.entries.Entry.{Entry}
-use Rattle.activity_codec.specs.Words.{word_absent, word_slot, word_crew, word_act}
-use Rattle.card_model.specs.Days.{Day, AreDays, IsDay, AreWords, Ascend, minute_of}
+use Rattle.activity_codec.specs.Words.{word_absent, word_slot, word_crew, word_act, word_minute}
+use Rattle.card_model.specs.Days.{Day, AreDays, IsDay, AreWords, Ascend, last_word}
 use Rattle.card_model.specs.Changes.{with_newest, until, early, with_early, OnNewest, date_of, cut, trimmed}
 use Rattle.card_retention.specs.Expected.{WordDay}
-use Rattle.card_retention.specs.Shown.{InDays, AllUpTo, sizes, last_word}
+use Rattle.card_retention.specs.Shown.{InDays, AllUpTo, sizes}
 use Rattle.card_retention.specs.Entries.{latest, told_by, entry_at, day_entries, entries_up_to, EndsBy}
 use Rattle.card_retention.specs.Retains.{is_day, entries_in}
 use Rattle.card_retention.proofs.Retaining.{day_in}
-use Rattle.card_retention.proofs.Trims.{cut_date}
+use Rattle.card_model.proofs.Trims.{cut_date}
 use Rattle.card_retention.proofs.Flat.{UpTo, newest_flat}
 use Rattle.card_retention.proofs.Stops.{trimmed_in}
 use Rattle.card_retention.proofs.Checked.{early_last}
@@ -38,18 +38,18 @@ is_same m n is = grind (arith, nat_tests)
 latest_none : (low t : ℕ) (ws : List ℕ) → Ascend low ws → t < low → latest ws t ≡ None
 latest_none low t [] a lt = refl
 latest_none low t (w ∷ ws) a lt =
-    ap (λ (o : Option ℕ). elim o as (λ _. Option ℕ) [ Some x ↦ Some x | None ↦ cond (nat_le (minute_of w) t) (Some w) None ]) (latest_none (minute_of w) t ws a.2 (omega (arith, lt, a.0)))
-    ∙ ap (λ (b : Bool). cond b (Some w) None) (above (minute_of w) t (omega (arith, lt, a.0)))
+    ap (λ (o : Option ℕ). elim o as (λ _. Option ℕ) [ Some x ↦ Some x | None ↦ cond (nat_le (word_minute w) t) (Some w) None ]) (latest_none (word_minute w) t ws a.2 (omega (arith, lt, a.0)))
+    ∙ ap (λ (b : Bool). cond b (Some w) None) (above (word_minute w) t (omega (arith, lt, a.0)))
 
 latest_early : (low m t : ℕ) (ws : List ℕ) → Ascend low ws → t ≤ m → latest (early m ws) t ≡ latest ws t
 latest_early low m t [] a le = refl
-latest_early low m t (w ∷ ws) a le = by (nat_le (minute_of w) m) refl (latest_early (minute_of w) m t ws a.2 le) (latest_none (minute_of w) t ws a.2)
+latest_early low m t (w ∷ ws) a le = by (nat_le (word_minute w) m) refl (latest_early (word_minute w) m t ws a.2 le) (latest_none (word_minute w) t ws a.2)
   where
-    by : (b : Bool) → nat_le (minute_of w) m ≡ b → latest (early m ws) t ≡ latest ws t → (t < minute_of w → latest ws t ≡ None) → latest (cond b (w ∷ early m ws) []) t ≡ latest (w ∷ ws) t
-    by true is rest none = ap (λ (o : Option ℕ). elim o as (λ _. Option ℕ) [ Some x ↦ Some x | None ↦ cond (nat_le (minute_of w) t) (Some w) None ]) rest
+    by : (b : Bool) → nat_le (word_minute w) m ≡ b → latest (early m ws) t ≡ latest ws t → (t < word_minute w → latest ws t ≡ None) → latest (cond b (w ∷ early m ws) []) t ≡ latest (w ∷ ws) t
+    by true is rest none = ap (λ (o : Option ℕ). elim o as (λ _. Option ℕ) [ Some x ↦ Some x | None ↦ cond (nat_le (word_minute w) t) (Some w) None ]) rest
     by false is rest none =
-        let lt : t < minute_of w = omega (arith, gt_of (minute_of w) m is, le) in
-        sym (ap (λ (o : Option ℕ). elim o as (λ _. Option ℕ) [ Some x ↦ Some x | None ↦ cond (nat_le (minute_of w) t) (Some w) None ]) (none lt) ∙ ap (λ (b : Bool). cond b (Some w) None) (above (minute_of w) t lt))
+        let lt : t < word_minute w = omega (arith, gt_of (word_minute w) m is, le) in
+        sym (ap (λ (o : Option ℕ). elim o as (λ _. Option ℕ) [ Some x ↦ Some x | None ↦ cond (nat_le (word_minute w) t) (Some w) None ]) (none lt) ∙ ap (λ (b : Bool). cond b (Some w) None) (above (word_minute w) t lt))
 
 words_ascend : (ws : List ℕ) → AreWords ws → Ascend 0 ws
 words_ascend [] are = absurd are
@@ -120,9 +120,9 @@ lists_trimmed mark all ds are up is = entries_trimmed mark 0 ds are ∙ is ∙ s
         ap (λ (b : Bool). cond b (e ∷ entries_in (sizes (trimmed mark ds)) es) (entries_in (sizes (trimmed mark ds)) es)) same ∙ ap (λ (l : List Entry). cond (is_day (e.minute / 1440) (sizes ds)) (e ∷ l) l) (by es up.1)
 
 -- A STRING WITH NOTHING BEHIND THE MARK ends by it
-last_below : (low : ℕ) (w : ℕ) (ws : List ℕ) → Ascend low (w ∷ ws) → minute_of (last_word (w ∷ ws)) < 1440
+last_below : (low : ℕ) (w : ℕ) (ws : List ℕ) → Ascend low (w ∷ ws) → word_minute (last_word (w ∷ ws)) < 1440
 last_below low w [] a = a.1
-last_below low w (v ∷ ws) a = last_below (minute_of w) v ws a.2
+last_below low w (v ∷ ws) a = last_below (word_minute w) v ws a.2
 
 pub ends_flat : (mark : ℕ) (ds : List Day) → AreDays 0 ds → trimmed mark ds ≡ ds → EndsBy mark ds
 ends_flat mark [] are is = tt
@@ -131,14 +131,14 @@ ends_flat mark (d ∷ ds) are is = by 0 d ds are (newest_flat mark d ds is)
     by : (date : ℕ) (d : Day) (ds : List Day) → AreDays date (d ∷ ds) → OnNewest (UpTo mark) (d ∷ ds) → EndsBy mark (d ∷ ds)
     by date d [] are on = λ present. go (nat_eq d.date (date_of mark)) refl
       where
-        below : (ws : List ℕ) → AreWords ws → minute_of (last_word ws) < 1440
+        below : (ws : List ℕ) → AreWords ws → word_minute (last_word ws) < 1440
         below [] a = absurd a
         below (w ∷ ws) a = last_below 0 w ws (words_ascend (w ∷ ws) a)
 
         apart : (m n : ℕ) → m ≤ n → nat_eq m n ≡ false → m < n
         apart m n le is = grind (arith, nat_tests)
 
-        go : (b : Bool) → nat_eq d.date (date_of mark) ≡ b → d.date / 60 + minute_of (last_word d.words) ≤ mark
+        go : (b : Bool) → nat_eq d.date (date_of mark) ≡ b → d.date / 60 + word_minute (last_word d.words) ≤ mark
         go true here = let at : d.date ≡ date_of mark = is_same d.date (date_of mark) here in omega (arith, at, early_last (mark % 1440) d.words are.1.ordered (on.last at))
         go false here = omega (arith, apart d.date (date_of mark) on.day here, below d.words are.1.ordered, are.1.midnight)
     by date d (e ∷ ds) are on = by d.date e ds are.2 on
@@ -147,7 +147,7 @@ ends_flat mark (d ∷ ds) are is = by 0 d ds are (newest_flat mark d ds is)
 -- minute, and: its latest word is absent, or the next entry stands at that minute, or the day ends by the mark.
 pub record QuietEnd (mark next : ℕ) (d : Day) : Type 0 where
   pub begins : d.date / 60 ≤ suc mark
-  pub last : d.date / 60 + minute_of (last_word d.words) ≤ suc mark
+  pub last : d.date / 60 + word_minute (last_word d.words) ≤ suc mark
   pub ends : (word_absent (last_word d.words) ≡ true) ⊎ ((next ≤ suc mark) ⊎ (d.date / 60 + 1439 ≤ mark))
 
 told : ℕ → ℕ → Entry

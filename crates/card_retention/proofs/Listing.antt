@@ -3,7 +3,8 @@ use Rattle.std.proofs.Common.{◌≡◌, ⊎_elim, ℕ, zero, suc, ◌+◌, ◌/
 use Rattle.std.specs.Prelude.{nat_eq, nat_le}
 use Rattle.std.proofs.lemmas.Bool.Decides.{nat_tests}
 use Rattle.activity_codec.specs.declared.entries.Entry.{Entry}
-use Rattle.card_model.specs.Days.{Day, AreDays, minute_of}
+use Rattle.activity_codec.specs.Words.{word_minute}
+use Rattle.card_model.specs.Days.{Day, AreDays}
 use Rattle.card_model.specs.Changes.{Remain, with_newest, with_word, OnNewest, date_of}
 use Rattle.card_retention.specs.Expected.{WordDay}
 use Rattle.card_retention.specs.Shown.{AllIn, AllUpTo, sizes, size_day}
@@ -12,7 +13,7 @@ use Rattle.card_retention.specs.Retains.{is_day, entries_in}
 use Rattle.card_retention.proofs.Newest.{IsEntry, entry_is, late_none, minutes_none}
 use Rattle.card_retention.proofs.Starting.{entries_there}
 use Rattle.card_retention.proofs.Retaining.{day_in}
-use Rattle.card_retention.proofs.Trims.{Behind}
+use Rattle.card_model.proofs.Trims.{Behind}
 
 -- the string shows the entries of all whose day it has
 abbrev pub Lists : (mark : ℕ) → List Entry → List Day → Type 0
@@ -92,12 +93,12 @@ lists_left mark room date all (d ∷ ds) kept are left is = ⊎_elim
     (λ gone. lists_left mark room d.date all ds kept are.2 gone.1 (lists_less mark date all d ds are is)) left
 
 -- A WORD behind the mark
-latest_skip : (t : ℕ) (ws : List ℕ) (w : ℕ) → t < minute_of w → latest (ws ++ w ∷ []) t ≡ latest ws t
-latest_skip t [] w lt = ap (λ (b : Bool). cond b (Some w) None) (above (minute_of w) t lt)
+latest_skip : (t : ℕ) (ws : List ℕ) (w : ℕ) → t < word_minute w → latest (ws ++ w ∷ []) t ≡ latest ws t
+latest_skip t [] w lt = ap (λ (b : Bool). cond b (Some w) None) (above (word_minute w) t lt)
   where
     above : (m n : ℕ) → n < m → nat_le m n ≡ false
     above m n lt = grind (arith, nat_tests)
-latest_skip t (v ∷ ws) w lt = ap (λ (o : Option ℕ). elim o as (λ _. Option ℕ) [ Some x ↦ Some x | None ↦ cond (nat_le (minute_of v) t) (Some v) None ]) (latest_skip t ws w lt)
+latest_skip t (v ∷ ws) w lt = ap (λ (o : Option ℕ). elim o as (λ _. Option ℕ) [ Some x ↦ Some x | None ↦ cond (nat_le (word_minute v) t) (Some v) None ]) (latest_skip t ws w lt)
 
 pub minutes_same : (f g : ℕ → Option Entry) → ((t : ℕ) → f t ≡ g t) → (n t : ℕ) → minutes_from f n t ≡ minutes_from g n t
 minutes_same f g same zero t = refl

@@ -1,16 +1,16 @@
 -- The newest minute over a keep, a bound that may only grow, and a trim.
-use Rattle.std.proofs.Common.{◌≡◌, ⊎_elim, ℕ, suc, ◌/◌, ◌%◌, ◌<◌, ◌≤◌, max, Bool, true, false, cond, not, ◌&&◌, Some, List, [], ◌∷◌, ◌++◌, refl, ◌∙◌, ap, subst, arith}
+use Rattle.std.proofs.Common.{◌≡◌, ⊎_elim, ℕ, suc, ◌/◌, ◌%◌, ◌<◌, ◌≤◌, max, Bool, true, false, cond, not, ◌&&◌, Some, List, [], ◌∷◌, ◌++◌, refl, sym, ◌∙◌, ap, subst, arith}
 use Rattle.std.specs.Prelude.{nat_eq}
 use Rattle.std.proofs.lemmas.Bool.Decides.{nat_tests}
 use Rattle.std.proofs.Math.Nat.{max-eq_left}
 use Rattle.activity_codec.specs.declared.entries.Entry.{Entry}
 use Rattle.activity_codec.specs.Words.{word_absent}
-use Rattle.card_model.specs.Days.{Day}
-use Rattle.card_model.specs.Changes.{Remain, OnNewest, date_of, trimmed}
+use Rattle.card_model.specs.Days.{Day, last_word}
+use Rattle.card_model.specs.Changes.{Remain, OnNewest, date_of, trimmed, Shorter}
 use Rattle.card_retention.specs.Expected.{Counted}
-use Rattle.card_retention.specs.Shown.{Bound, Fits, sizes, last_word, entry_state, is_open, Tells, Rests}
+use Rattle.card_retention.specs.Shown.{Bound, Fits, sizes, entry_state, is_open, Tells, Rests}
 use Rattle.card_retention.specs.Entries.{newest_word, closed_at, newest_minute}
-use Rattle.card_retention.proofs.Trims.{AreLater, trim_from_moment}
+use Rattle.card_model.proofs.Trims.{trim_from_moment}
 use Rattle.card_retention.proofs.Stops.{open_left}
 use Rattle.card_retention.proofs.Closing.{present_word}
 use Rattle.card_retention.proofs.Flat.{Ends}
@@ -33,8 +33,8 @@ rests_later size slack covered from to mark c days le r = record {
 }
 
 -- A TRIM that is stopped leaves what it would leave, and one that is whole the session can go on from.
-pub trim_stopped : (size : ℕ) (slack : Bound) (covered from mark : ℕ) (c : Counted) (kept gone : List Day) → AreLater (date_of mark) gone → Rests size slack covered from mark c (trimmed mark (kept ++ gone)) → Rests size slack covered from mark c (trimmed mark kept)
-trim_stopped size slack covered from mark c kept gone later r = subst (λ (l : List Day). Rests size slack covered from mark c l) (trim_from_moment mark kept gone later) r
+pub trim_stopped : (size : ℕ) (slack : Bound) (covered from mark : ℕ) (c : Counted) (days kept : List Day) → Shorter (date_of mark) days kept → Rests size slack covered from mark c (trimmed mark days) → Rests size slack covered from mark c (trimmed mark kept)
+trim_stopped size slack covered from mark c days kept short r = subst (λ (l : List Day). Rests size slack covered from mark c l) (sym (trim_from_moment mark days kept short)) r
 
 -- DROPS leave the newest minute
 word_left : (room : ℕ) (days kept : List Day) → Fits room (sizes days) → Remain room days kept → newest_word kept ≡ newest_word days

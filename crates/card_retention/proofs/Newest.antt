@@ -5,10 +5,10 @@ use Rattle.std.proofs.Math.Nat.{le-max_left, le-max_right, max-le, max-eq_left, 
 use Rattle.std.proofs.lemmas.Bool.Decides.{nat_tests}
 use Rattle.std.proofs.lemmas.Bool.{cases_lt}
 use Rattle.activity_codec.specs.declared.entries.Entry.{Entry}
-use Rattle.activity_codec.specs.Words.{word_absent, word_slot, word_crew, word_act}
-use Rattle.card_model.specs.Days.{Day, AreDays, AreWords, Ascend, minute_of}
+use Rattle.activity_codec.specs.Words.{word_absent, word_slot, word_crew, word_act, word_minute}
+use Rattle.card_model.specs.Days.{Day, AreDays, AreWords, Ascend, last_word}
 use Rattle.card_model.specs.Changes.{date_of}
-use Rattle.card_retention.specs.Shown.{is_open, last_word}
+use Rattle.card_retention.specs.Shown.{is_open}
 use Rattle.card_retention.specs.Entries.{latest, told_by, entry_at, minutes_from, day_entries, entries_up_to, last_entry, newest_word, closed_at, newest_minute, EndsBy}
 
 at_most : (m n : ℕ) → m ≤ n → nat_le m n ≡ true
@@ -77,11 +77,11 @@ minutes_has f (suc n) t e is = by (f t) refl is (λ l. let h = minutes_has f n (
         behind (y ∷ es) l rest = rest l
 
 -- THE LATEST WORD
-pub latest_low : (low t : ℕ) (ws : List ℕ) (w : ℕ) → Ascend low (w ∷ ws) → minute_of (last_word (w ∷ ws)) ≤ t → latest (w ∷ ws) t ≡ Some (last_word (w ∷ ws))
-latest_low low t [] w a le = ap (λ (b : Bool). cond b (Some w) None) (at_most (minute_of w) t le)
-latest_low low t (v ∷ ws) w a le = ap (λ (o : Option ℕ). elim o as (λ _. Option ℕ) [ Some x ↦ Some x | None ↦ cond (nat_le (minute_of w) t) (Some w) None ]) (latest_low (minute_of w) t ws v a.2 le)
+pub latest_low : (low t : ℕ) (ws : List ℕ) (w : ℕ) → Ascend low (w ∷ ws) → word_minute (last_word (w ∷ ws)) ≤ t → latest (w ∷ ws) t ≡ Some (last_word (w ∷ ws))
+latest_low low t [] w a le = ap (λ (b : Bool). cond b (Some w) None) (at_most (word_minute w) t le)
+latest_low low t (v ∷ ws) w a le = ap (λ (o : Option ℕ). elim o as (λ _. Option ℕ) [ Some x ↦ Some x | None ↦ cond (nat_le (word_minute w) t) (Some w) None ]) (latest_low (word_minute w) t ws v a.2 le)
 
-pub latest_last : (t : ℕ) (ws : List ℕ) → AreWords ws → minute_of (last_word ws) ≤ t → latest ws t ≡ Some (last_word ws)
+pub latest_last : (t : ℕ) (ws : List ℕ) → AreWords ws → word_minute (last_word ws) ≤ t → latest ws t ≡ Some (last_word ws)
 latest_last t [] are le = absurd are
 latest_last t (w ∷ ws) are le = latest_low 0 t ws w (omega arith, omega (arith, are.0), subst (λ (k : ℕ). Ascend k ws) (sym are.0) are.1) le
 
@@ -165,13 +165,13 @@ word_behind mark date (d ∷ []) p are is at room shut = ⊎_elim
     none : last_entry [] ≡ Some p → ⊥
     none is = cc
 
-    by : (h : Has (entry_at mark d) 1440 p) → IsEntry mark d h.t p → mark < d.date / 60 + minute_of (last_word d.words)
+    by : (h : Has (entry_at mark d) 1440 p) → IsEntry mark d h.t p → mark < d.date / 60 + word_minute (last_word d.words)
     by h e = ⊎_elim
         (λ lt. omega (arith, lt, e.minute, at))
         (λ le. absurd (open_not (nat_eq d.date (date_of (suc mark))) (word_absent (last_word d.words))
         (same d.date (date_of (suc mark)) (omega (arith, are.1.midnight, e.minute, at, room, h.low)))
         (ap word_absent (some_same (last_word d.words) e.word (sym (latest_last h.t d.words are.1.ordered le) ∙ e.latest)) ∙ e.present) shut))
-        (cases_lt h.t (minute_of (last_word d.words)))
+        (cases_lt h.t (word_minute (last_word d.words)))
       where
         same : (m n : ℕ) → m ≡ n → nat_eq m n ≡ true
         same m n is = grind (arith, nat_tests)
@@ -208,7 +208,7 @@ at_mark mark date (d ∷ []) are ends is = by (nat_eq d.date (date_of (suc mark)
     by true true x y z = absurd (cc)
     by true false x y z =
         let date : d.date ≡ date_of (suc mark) = same d.date (date_of (suc mark)) x in
-        let low : d.date / 60 + minute_of (last_word d.words) ≤ mark = ends y in
+        let low : d.date / 60 + word_minute (last_word d.words) ≤ mark = ends y in
         let t : ℕ = mark % 1440 in
         let here : d.date / 60 + mark % 1440 ≡ mark = omega (arith, date, low) in
         let e : Entry = record { minute = d.date / 60 + mark % 1440; slot = word_slot (last_word d.words); crew = word_crew (last_word d.words); act = word_act (last_word d.words) } in

@@ -5,11 +5,11 @@ use Rattle.std.proofs.lemmas.Bool.Decides.{nat_tests}
 use Rattle.std.proofs.Math.Nat.{le-max_left, le-max_right, max-le}
 use Rattle.activity_codec.specs.declared.entries.Entry.{Entry}
 use Rattle.activity_codec.specs.Words.{slot_number, slot_numbered, activity_number, activity_numbered, bit, word_absent, word_slot, word_crew, word_act}
-use Rattle.card_model.specs.Days.{Day, AreDays}
+use Rattle.card_model.specs.Days.{Day, AreDays, last_word}
 use Rattle.card_model.specs.Changes.{OnNewest}
 use Rattle.card_model.proofs.Lists.{some_words}
 use Rattle.card_retention.specs.Expected.{WordDay, more, is_closed, closes, Counted}
-use Rattle.card_retention.specs.Shown.{Covers, Bound, InDays, AllFrom, AllBefore, AllIn, AllUpTo, Shows, Filled, sizes, last_word, entry_state, is_open, owing, TellsIn, Tells, Rests}
+use Rattle.card_retention.specs.Shown.{Covers, Bound, InDays, AllFrom, AllBefore, AllIn, AllUpTo, Shows, Filled, sizes, entry_state, is_open, owing, TellsIn, Tells, Rests}
 use Rattle.card_retention.specs.Entries.{entry_at, minutes_from, day_entries, entries_up_to, last_entry, newest_word, EndsBy}
 use Rattle.card_retention.proofs.Growing.{in_more, shows_more, still_in}
 use Rattle.card_retention.proofs.Entering.{closes_is, rising_sizes, before_later, less_is}

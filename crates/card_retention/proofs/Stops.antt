@@ -3,14 +3,15 @@ use Rattle.std.proofs.Common.{◌≡◌, inl, inr, ⊎_elim, ℕ, suc, ◌+◌, 
 use Rattle.std.specs.Prelude.{nat_eq, nat_lt, nat_le}
 use Rattle.std.proofs.lemmas.Bool.Decides.{nat_tests}
 use Rattle.activity_codec.specs.declared.entries.Entry.{Entry}
-use Rattle.activity_codec.specs.Words.{word_absent}
-use Rattle.card_model.specs.Days.{Day, total, AreDays, minute_of}
+use Rattle.activity_codec.specs.Words.{word_absent, word_minute}
+use Rattle.card_model.specs.Days.{Day, total, AreDays, last_word}
 use Rattle.card_model.specs.Changes.{Remain, fitting, with_newest, with_word, new_day, OnNewest, date_of, trimmed, cut, until}
 use Rattle.card_retention.specs.Expected.{WordDay, more, is_newest, first_words, Counted, expected_days}
-use Rattle.card_retention.specs.Shown.{Bound, InDays, AllIn, AllUpTo, Rising, Shows, Left, Grows, Fits, sizes, last_word, is_open, owing, Tells, Rests, with_closing, Entered, Entered.Same, Entered.Word, Entered.Begun, EndsAbsent, Sound, Sound.Flat, Sound.Tail, Lives}
-use Rattle.card_retention.proofs.Growing.{shows_fewer, in_more, shows_left, left_more, left_of, sizes_word, remain_fitting}
+use Rattle.card_retention.specs.Shown.{Bound, InDays, AllIn, AllUpTo, Rising, Shows, Left, Grows, Fits, sizes, is_open, owing, Tells, Rests, with_closing, Entered, Entered.Same, Entered.Word, Entered.Begun, EndsAbsent, Sound, Sound.Flat, Sound.Tail, Lives}
+use Rattle.card_model.proofs.Retention.{remain_fitting}
+use Rattle.card_retention.proofs.Growing.{shows_fewer, in_more, shows_left, left_more, left_of, sizes_word}
 use Rattle.card_retention.proofs.Entering.{closes_is, rising_more, both, is_same, is_less, less_is, fits_sizes, date_newest}
-use Rattle.card_retention.proofs.Trims.{Behind, trimmed_word, trimmed_day, trimmed_cases, are_trimmed, cut_date}
+use Rattle.card_model.proofs.Trims.{Behind, trimmed_word, trimmed_day, trimmed_cases, are_trimmed, cut_date}
 
 -- WHAT DROPS LEAVE
 pub on_left : (P : Day → Type 0) (room : ℕ) (days kept : List Day) → Fits room (sizes days) → Remain room days kept → OnNewest P days → OnNewest P kept
@@ -110,7 +111,7 @@ sound_left mark top room date before (d ∷ e ∷ ds) kept fits are left s = ⊎
     (λ gone. sound_left mark top room d.date before (e ∷ ds) kept fits are.2 gone.1 (sound_one mark top date before d e ds are s)) left
 
 -- a closing word stands behind the mark
-behind_closing : (mark w : ℕ) (ds : List Day) → minute_of w ≡ suc mark % 1440 → is_open mark ds ≡ true → OnNewest (Behind mark w) ds
+behind_closing : (mark w : ℕ) (ds : List Day) → word_minute w ≡ suc mark % 1440 → is_open mark ds ≡ true → OnNewest (Behind mark w) ds
 behind_closing mark w [] minute is = absurd (cc)
 behind_closing mark w (d ∷ []) minute is =
     let date : d.date ≡ date_of (suc mark) = is_same d.date (date_of (suc mark)) (both (nat_eq d.date (date_of (suc mark))) (not (word_absent (last_word d.words))) is).0 in
@@ -210,7 +211,7 @@ module _ (size : ℕ) (slack : Bound) (covered from mark : ℕ) (c : Counted) (d
     pub same : trimmed mark kept ≡ trimmed mark base
     pub is : Base base
 
-  gapped : (w room : ℕ) (kept : List Day) → minute_of w ≡ suc mark % 1440 → 2896 ≤ room → size ≤ room + slack.bytes → is_open mark days ≡ true → suc mark < next → Base (fitting (size - 2) days) → Unworded room w (fitting (size - 2) days) kept
+  gapped : (w room : ℕ) (kept : List Day) → word_minute w ≡ suc mark % 1440 → 2896 ≤ room → size ≤ room + slack.bytes → is_open mark days ≡ true → suc mark < next → Base (fitting (size - 2) days) → Unworded room w (fitting (size - 2) days) kept
       → Remain room (with_newest (with_word w) (fitting (size - 2) days)) kept → Behind_it w kept
   gapped w room kept minute wide fits open_is gap first u left = record {
     base = u.base;
@@ -262,12 +263,12 @@ module _ (size : ℕ) (slack : Bound) (covered from mark : ℕ) (c : Counted) (d
       by false is = omega (arith, is)
 
   -- the entry's word stands behind the mark
-  behind_word : (v : ℕ) (ds : List Day) (e : Entry) → e.minute ≡ next → minute_of v ≡ e.minute % 1440 → OnNewest (λ d. d.date ≡ e.minute / 1440 * 86400) ds → OnNewest (Behind mark v) ds
+  behind_word : (v : ℕ) (ds : List Day) (e : Entry) → e.minute ≡ next → word_minute v ≡ e.minute % 1440 → OnNewest (λ d. d.date ≡ e.minute / 1440 * 86400) ds → OnNewest (Behind mark v) ds
   behind_word v [] e at word on = absurd on
   behind_word v (d ∷ []) e at word on = record { day = omega (arith, on, at, l.rests.later, later); minute = λ same. omega (arith, on, at, l.rests.later, later, same, word) }
   behind_word v (d ∷ f ∷ ds) e at word on = behind_word v (f ∷ ds) e at word on
 
-  pub moment_left : (w room : ℕ) (kept : List Day) → minute_of w ≡ suc mark % 1440 → 2896 ≤ room → size ≤ room + slack.bytes → Remain room (with_closing size w mark next days) kept → Behind_it w kept
+  pub moment_left : (w room : ℕ) (kept : List Day) → word_minute w ≡ suc mark % 1440 → 2896 ≤ room → size ≤ room + slack.bytes → Remain room (with_closing size w mark next days) kept → Behind_it w kept
   moment_left w room kept minute wide fits = by (is_open mark days) (nat_lt (suc mark) next) refl refl
     where
       by : (o g : Bool) → is_open mark days ≡ o → nat_lt (suc mark) next ≡ g → Remain room (cond (o && g) (with_newest (with_word w) (fitting (size - 2) days)) days) kept → Behind_it w kept
@@ -278,7 +279,7 @@ module _ (size : ℕ) (slack : Bound) (covered from mark : ℕ) (c : Counted) (d
           (unworded room w (fitting (size - 2) days) kept (omega (arith, wide)) left) left
 
   -- MOMENT 3: the entry's word, or its day
-  pub stop_after : (w : ℕ) (e : Entry) (after : List Day) → e.minute ≡ next → minute_of w ≡ suc mark % 1440 → AreDays 0 (with_closing size w mark next days)
+  pub stop_after : (w : ℕ) (e : Entry) (after : List Day) → e.minute ≡ next → word_minute w ≡ suc mark % 1440 → AreDays 0 (with_closing size w mark next days)
       → (is_newest (e.minute / 1440) (sizes (with_closing size w mark next days)) ≡ false → mark / 1440 < e.minute / 1440)
       → Entered size e (with_closing size w mark next days) after → Rests size slack covered next mark c (trimmed mark after)
   stop_after w e after at minute are clear (Same newest tells) =
@@ -296,7 +297,7 @@ module _ (size : ℕ) (slack : Bound) (covered from mark : ℕ) (c : Counted) (d
       (trimmed_day mark (fitting (size - (12 + 2 * length words)) (with_closing size w mark next days)) (new_day (with_closing size w mark next days) (date_of e.minute) words) (omega (arith, clear newest)) ∙ b.same) b.is
 
   -- drops behind the closing word
-  pub stop_between : (w room : ℕ) (kept : List Day) → minute_of w ≡ suc mark % 1440 → 2896 ≤ room → size ≤ room + slack.bytes → Remain room (with_closing size w mark next days) kept → Rests size slack covered next mark c (trimmed mark kept)
+  pub stop_between : (w room : ℕ) (kept : List Day) → word_minute w ≡ suc mark % 1440 → 2896 ≤ room → size ≤ room + slack.bytes → Remain room (with_closing size w mark next days) kept → Rests size slack covered next mark c (trimmed mark kept)
   stop_between w room kept minute wide fits left = let b = moment_left w room kept minute wide fits left in stopped b.base kept b.same b.is
 
   -- torn between two calls, or a session that is opened

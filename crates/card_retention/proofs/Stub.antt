@@ -4,13 +4,14 @@ use Rattle.std.proofs.Common.{◌≡◌, ℕ, suc, ◌+◌, ◌-◌, ◌*◌, �
 use Rattle.std.specs.Prelude.{nat_eq, nat_lt, nat_le}
 use Rattle.std.proofs.lemmas.Bool.Decides.{nat_tests}
 use Rattle.activity_codec.specs.declared.entries.Entry.{Entry}
-use Rattle.activity_codec.specs.Words.{word_absent}
-use Rattle.card_model.specs.Days.{Day, AreDays, minute_of}
+use Rattle.activity_codec.specs.Words.{word_absent, word_minute}
+use Rattle.card_model.specs.Days.{Day, AreDays, last_word}
 use Rattle.card_model.specs.Changes.{Remain, fitting, with_newest, with_word, new_day, until, early, with_early, cut, date_of, trimmed}
 use Rattle.card_retention.specs.Expected.{WordDay, size_of, one_more, more, is_newest, first_words, adds, Counted, with_entry, expected_days}
-use Rattle.card_retention.specs.Shown.{Bound, Shows, Left, Rising, AllBefore, sizes, size_day, last_word, entry_state, is_open, TellsIn, Tells, Rests, Lives, with_closing}
-use Rattle.card_retention.proofs.Growing.{Young, shows_young, left_of, sizes_word, sizes_append, remain_fitting, more_back}
-use Rattle.card_retention.proofs.Trims.{cut_date}
+use Rattle.card_retention.specs.Shown.{Bound, Shows, Left, Rising, AllBefore, sizes, size_day, entry_state, is_open, TellsIn, Tells, Rests, Lives, with_closing}
+use Rattle.card_model.proofs.Retention.{remain_fitting}
+use Rattle.card_retention.proofs.Growing.{Young, shows_young, left_of, sizes_word, sizes_append, more_back}
+use Rattle.card_model.proofs.Trims.{cut_date}
 use Rattle.card_retention.proofs.Stops.{stop_between}
 use Rattle.card_retention.proofs.Entering.{with_all, closes_is, rising_more, begins, marked_rests, on_word, on_fitting, on_append, last_append, fits_sizes, before_not}
 
@@ -72,12 +73,12 @@ trimmed_stub mark ds d are b at =
     at_most m n le = grind (arith, nat_tests)
 
 -- of two words the second of which is behind the mark one is left
-cut_one : (mark : ℕ) (d : Day) (w v : ℕ) → d.date ≡ date_of mark → d.words ≡ w ∷ v ∷ [] → minute_of w ≡ 0 → mark % 1440 < minute_of v → length (cut mark d).words ≡ 1
+cut_one : (mark : ℕ) (d : Day) (w v : ℕ) → d.date ≡ date_of mark → d.words ≡ w ∷ v ∷ [] → word_minute w ≡ 0 → mark % 1440 < word_minute v → length (cut mark d).words ≡ 1
 cut_one mark d w v at words first lt =
     ap (λ (c : Bool). length (cond c (with_early (mark % 1440) d) d).words) (same d.date (date_of mark) at)
     ∙ ap (λ (ws : List ℕ). length (early (mark % 1440) ws)) words
-    ∙ ap (λ (c : Bool). length (cond c (w ∷ cond (nat_le (minute_of v) (mark % 1440)) (v ∷ []) []) [])) (at_most (minute_of w) (mark % 1440) (omega (arith, first)))
-    ∙ ap (λ (c : Bool). length (w ∷ cond c (v ∷ []) [])) (above (minute_of v) (mark % 1440) lt)
+    ∙ ap (λ (c : Bool). length (cond c (w ∷ cond (nat_le (word_minute v) (mark % 1440)) (v ∷ []) []) [])) (at_most (word_minute w) (mark % 1440) (omega (arith, first)))
+    ∙ ap (λ (c : Bool). length (w ∷ cond c (v ∷ []) [])) (above (word_minute v) (mark % 1440) lt)
   where
     same : (m n : ℕ) → m ≡ n → nat_eq m n ≡ true
     same m n is = grind (arith, nat_tests)
@@ -89,7 +90,7 @@ cut_one mark d w v at words first lt =
     above m n lt = grind (arith, nat_tests)
 
 pub stub_comes : (size : ℕ) (slack : Bound) (covered from mark : ℕ) (c : Counted) (days : List Day) (l : Lives size slack covered from mark c days) (e : Entry) → from ≤ e.minute → 5544 ≤ size → 16 ≤ slack.bytes → e.minute / 1440 ≡ mark / 1440
-    → (x w v : ℕ) (kept : List Day) → minute_of x ≡ suc mark % 1440 → Remain (size - 16) (with_closing size x mark e.minute days) kept → AreDays 0 kept → AllBefore (mark / 1440) (sizes kept) → minute_of w ≡ 0 → minute_of v ≡ e.minute % 1440
+    → (x w v : ℕ) (kept : List Day) → word_minute x ≡ suc mark % 1440 → Remain (size - 16) (with_closing size x mark e.minute days) kept → AreDays 0 kept → AllBefore (mark / 1440) (sizes kept) → word_minute w ≡ 0 → word_minute v ≡ e.minute % 1440
     → (base : List Day) → Stubbed size slack covered e.minute mark c (trimmed mark (kept ++ new_day base (date_of e.minute) (w ∷ v ∷ []) ∷ []))
 stub_comes size slack covered from mark c days l e later long least here x w v kept minute left are before first second base = record {
   older = kept;

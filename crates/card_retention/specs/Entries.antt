@@ -1,15 +1,15 @@
 -- The entries of a card's days, and the newest minute that an insertion ends with.
 use Rattle.std.specs.Prelude.{◌≡◌, ◌⊎◌, length, ℕ, zero, suc, ◌+◌, ◌/◌, ◌%◌, ◌<◌, ◌≤◌, max, false, Option, Some, None, List, [], ◌∷◌, ◌++◌, nat_eq, nat_le, if◌then◌else◌}
 use Rattle.activity_codec.specs.declared.entries.Entry.{Entry}
-use Rattle.activity_codec.specs.Words.{word_slot, word_crew, word_act, word_absent}
-use Rattle.card_model.specs.Days.{Day, minute_of}
+use Rattle.activity_codec.specs.Words.{word_slot, word_crew, word_act, word_absent, word_minute}
+use Rattle.card_model.specs.Days.{Day, last_word}
 use Rattle.card_model.specs.Changes.{date_of, early}
-use Rattle.card_retention.specs.Shown.{is_open, last_word}
+use Rattle.card_retention.specs.Shown.{is_open}
 
 -- the last word in list order that is not after a minute of the day
 abbrev pub latest : List ℕ → ℕ → Option ℕ
 latest [] t = None
-latest (w ∷ ws) t = elim (latest ws t) as (λ _. Option ℕ) [ Some v ↦ Some v | None ↦ if nat_le (minute_of w) t then Some w else None ]
+latest (w ∷ ws) t = elim (latest ws t) as (λ _. Option ℕ) [ Some v ↦ Some v | None ↦ if nat_le (word_minute w) t then Some w else None ]
 
 -- the entry that a word tells of a minute, where it is not absent
 abbrev pub told_by : ℕ → Option ℕ → Option Entry
@@ -40,7 +40,7 @@ last_entry (e ∷ f ∷ es) = last_entry (f ∷ es)
 -- the minute of the newest word, 0 without one
 abbrev pub newest_word : List Day → ℕ
 newest_word [] = 0
-newest_word (d ∷ []) = d.date / 60 + minute_of (last_word d.words)
+newest_word (d ∷ []) = d.date / 60 + word_minute (last_word d.words)
 newest_word (d ∷ e ∷ ds) = newest_word (e ∷ ds)
 
 -- the minute of the closing word behind an entry, where its day has room for one
@@ -55,7 +55,7 @@ newest_minute mark days = if is_open mark days then suc mark else max mark (newe
 -- an entry's word that is the latest is not behind the mark
 abbrev pub EndsBy : (mark : ℕ) → List Day → Type 0
 EndsBy mark [] = Unit {0}
-EndsBy mark (d ∷ []) = word_absent (last_word d.words) ≡ false → d.date / 60 + minute_of (last_word d.words) ≤ mark
+EndsBy mark (d ∷ []) = word_absent (last_word d.words) ≡ false → d.date / 60 + word_minute (last_word d.words) ≤ mark
 EndsBy mark (d ∷ e ∷ ds) = EndsBy mark (e ∷ ds)
 
 -- Behind an entry's word, the latest up to the mark in the mark's day, nothing follows at all, or a word of that day does, or the mark is

@@ -1,8 +1,8 @@
 -- Which of the expected days a string shows.
 use Rattle.std.specs.Prelude.{◌≡◌, ◌⊎◌, ℕ, suc, ◌+◌, ◌-◌, ◌*◌, ◌/◌, ◌%◌, ◌<◌, ◌≤◌, Bool, false, true, not, ◌&&◌, Option, Some, List, [], ◌∷◌, ◌++◌, map, length, nat_eq, nat_lt, if◌then◌else◌}
 use Rattle.activity_codec.specs.declared.entries.Entry.{Entry}
-use Rattle.activity_codec.specs.Words.{slot_number, activity_number, bit, word_absent}
-use Rattle.card_model.specs.Days.{Day, AreDays, minute_of}
+use Rattle.activity_codec.specs.Words.{slot_number, activity_number, bit, word_absent, word_minute}
+use Rattle.card_model.specs.Days.{Day, AreDays, last_word}
 use Rattle.card_model.specs.Changes.{OnNewest, date_of, with_newest, with_word, fitting, new_day, trimmed}
 use Rattle.card_retention.specs.Expected.{WordDay, size_of, size_all, more, is_newest, first_words, Counted, expected_days}
 
@@ -103,12 +103,6 @@ abbrev pub Filled : List WordDay → Type 0
 Filled [] = Unit {0}
 Filled (d ∷ ds) = (0 < d.words) × Filled ds
 
--- the last word, 0 without one
-abbrev pub last_word : List ℕ → ℕ
-last_word [] = 0
-last_word (w ∷ []) = w
-last_word (w ∷ v ∷ ws) = last_word (v ∷ ws)
-
 -- slot, crew and activity of an entry, as its word has them above the minute
 abbrev pub entry_state : Entry → ℕ
 entry_state e = slot_number e.slot * 16 + bit e.crew * 8 + activity_number e.act
@@ -154,8 +148,8 @@ with_closing length w mark next days = if is_open mark days && nat_lt (suc mark)
 -- What an entry's own words make of the days: nothing where the newest day tells its state, a word on the newest day, or a day.
 pub data Entered (room : ℕ) (e : Entry) (days : List Day) : List Day → Type 0 where
   Same : is_newest (e.minute / 1440) (sizes days) ≡ true → Tells e days → Entered room e days days
-  Word : (w : ℕ) → is_newest (e.minute / 1440) (sizes days) ≡ true → (Tells e days → ⊥) → w / 2048 ≡ entry_state e → minute_of w ≡ e.minute % 1440 → Entered room e days (with_newest (with_word w) (fitting (room - 2) days))
-  Begun : (words : List ℕ) → is_newest (e.minute / 1440) (sizes days) ≡ false → length words ≡ first_words e.minute → last_word words / 2048 ≡ entry_state e → minute_of (last_word words) ≡ e.minute % 1440
+  Word : (w : ℕ) → is_newest (e.minute / 1440) (sizes days) ≡ true → (Tells e days → ⊥) → w / 2048 ≡ entry_state e → word_minute w ≡ e.minute % 1440 → Entered room e days (with_newest (with_word w) (fitting (room - 2) days))
+  Begun : (words : List ℕ) → is_newest (e.minute / 1440) (sizes days) ≡ false → length words ≡ first_words e.minute → last_word words / 2048 ≡ entry_state e → word_minute (last_word words) ≡ e.minute % 1440
       → Entered room e days (fitting (room - (12 + 2 * length words)) days ++ new_day days (date_of e.minute) words ∷ [])
 
 -- the newest day's latest word belongs to no entry

@@ -6,7 +6,7 @@ use Rattle.tach_media.specs.LogLaws.{put_outside}
 use Rattle.card_model.specs.Bytes.{two_bytes}
 use Rattle.card_model.specs.Days.{Day, len_of, total, last_len, IsDay}
 use Rattle.card_model.specs.Changes.{OnNewest, with_newest, with_word, TakesWord}
-use Rattle.card_model.specs.Image.{Shape, IsShape, circle_of, oldest_of, newest_of, IsPointer, IsPlace, Holds, at}
+use Rattle.card_model.specs.Image.{StringShape, IsStringShape, circle_of, oldest_pointer, newest_pointer, IsPointer, IsPlace, Holds, at}
 use Rattle.card_model.proofs.Lists.{total-append, far_last, last_is, last_len_last}
 use Rattle.cyclic_days.proofs.Lists.{Split, split, newest_on, with_last, longer_day}
 use Rattle.cyclic_days.proofs.Places.{Stands, stands, stands_front}
@@ -14,7 +14,7 @@ use Rattle.card_model.proofs.Reading.{place_then}
 use Rattle.cyclic_days.proofs.Holding.{beyond, longer}
 
 -- Where the newest day begins and how long it is, and where the word and the length go.
-module _ (r : Shape) (shape : IsShape r) (x : List ℕ) (inside : r.base + (4 + r.size) ≤ length x) (w n len p q : ℕ) (n_is : n ≡ newest_of r x)
+module _ (r : StringShape) (shape : IsStringShape r) (x : List ℕ) (inside : r.base + (4 + r.size) ≤ length x) (w n len p q : ℕ) (n_is : n ≡ newest_pointer r x)
     (p_place : IsPlace r.size n len p) (p_pointer : IsPointer r.size p) (q_place : IsPlace r.size n 2 q) (q_pointer : IsPointer r.size q) where
   abbrev y : List ℕ
   y = put (at r p) (two_bytes w) x
@@ -41,14 +41,14 @@ module _ (r : Shape) (shape : IsShape r) (x : List ℕ) (inside : r.base + (4 + 
     day : IsDay d
     day = last_is 0 older d h.ordered
 
-    newest_place : IsPlace r.size (oldest_of r x) (total older) n
-    newest_place = subst (λ (m : ℕ). IsPlace r.size (oldest_of r x) (total older) m) (sym n_is) (subst (λ (m : ℕ). IsPlace r.size (oldest_of r x) m (newest_of r x)) (far_last older d) h.distance)
+    newest_place : IsPlace r.size (oldest_pointer r x) (total older) n
+    newest_place = subst (λ (m : ℕ). IsPlace r.size (oldest_pointer r x) (total older) m) (sym n_is) (subst (λ (m : ℕ). IsPlace r.size (oldest_pointer r x) m (newest_pointer r x)) (far_last older d) h.distance)
 
-    length_place : IsPlace r.size (oldest_of r x) (total older + 2) q
-    length_place = place_then r.size (oldest_of r x) (total older) n 2 q h.oldest.below n_pointer.below q_pointer.below (omega (arith, room)) newest_place q_place
+    length_place : IsPlace r.size (oldest_pointer r x) (total older + 2) q
+    length_place = place_then r.size (oldest_pointer r x) (total older) n 2 q h.oldest.below n_pointer.below q_pointer.below (omega (arith, room)) newest_place q_place
 
-    word_place : IsPlace r.size (oldest_of r x) (total older + len_of d) p
-    word_place = place_then r.size (oldest_of r x) (total older) n (len_of d) p h.oldest.below n_pointer.below p_pointer.below (omega (arith, room)) newest_place (subst (λ (m : ℕ). IsPlace r.size n m p) len_found p_place)
+    word_place : IsPlace r.size (oldest_pointer r x) (total older + len_of d) p
+    word_place = place_then r.size (oldest_pointer r x) (total older) n (len_of d) p h.oldest.below n_pointer.below p_pointer.below (omega (arith, room)) newest_place (subst (λ (m : ℕ). IsPlace r.size n m p) len_found p_place)
 
     word_stands : Stands r (total older + len_of d) (two_bytes w) x y
     word_stands = stands r x inside (total older + len_of d) p (two_bytes w) h.oldest.below word_place p_fits room
@@ -73,7 +73,7 @@ module _ (r : Shape) (shape : IsShape r) (x : List ℕ) (inside : r.base + (4 + 
     counted : Holds r z (older ++ with_word w d ∷ [])
     counted = longer r shape y y_inside older d w written.0 (drop 2 h.rest) z written.1 length_stands (longer_day w d day takes)
 
-    counted_newest : newest_of r z ≡ newest_of r x
+    counted_newest : newest_pointer r z ≡ newest_pointer r x
     counted_newest = length_stands.newest ∙ word_stands.newest
 
     counted_front : take 2 (circle_of r z) ≡ take 2 (circle_of r x)
@@ -112,7 +112,7 @@ module _ (r : Shape) (shape : IsShape r) (x : List ℕ) (inside : r.base + (4 + 
     pub appended : Holds r z (with_newest (with_word w) days)
     appended = subst (λ (l : List Day). Holds r z l) (sym longer_days) (counted older d g takes found fits)
 
-    pub newest_same : newest_of r z ≡ newest_of r x
+    pub newest_same : newest_pointer r z ≡ newest_pointer r x
     newest_same = counted_newest older d g takes found fits
 
     pub front_same : take 2 (circle_of r z) ≡ take 2 (circle_of r x)

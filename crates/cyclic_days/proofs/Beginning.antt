@@ -9,8 +9,8 @@ use Rattle.tach_media.proofs.Images.{part_before}
 use Rattle.card_model.specs.Days.{last_len, Day, len_of, total, far, body, record_of, records, IsDay, AreDays}
 use Rattle.card_model.specs.Bytes.{number, two_bytes}
 use Rattle.card_model.specs.Changes.{next_counter, new_day, IsLater, IsNext}
-use Rattle.card_model.specs.Image.{Shape, IsShape, oldest_of, newest_of, circle_of, IsPointer, IsPlace, spot, Holds, at}
-use Rattle.cyclic_days.specs.Steps.{preceded, filled, measured, begun, IsBeginStep}
+use Rattle.card_model.specs.Image.{StringShape, IsStringShape, oldest_pointer, newest_pointer, circle_of, IsPointer, IsPlace, spot, Holds, at}
+use Rattle.cyclic_days.specs.Steps.{preceded, day_filled, measured, begun, IsBeginStep}
 use Rattle.card_model.proofs.Circle.{put_back}
 use Rattle.card_model.proofs.Lists.{records_length, previous_of, records-append, far_last}
 use Rattle.cyclic_days.proofs.Lists.{strict_words, few_strict}
@@ -67,13 +67,13 @@ same_start size o n p n_below p_below o_below first next = ⊎_elim
     (λ a. ⊎_elim (λ b. omega (arith, a, b)) (λ b. absurd (omega (arith, b, o_below))) next) (λ a. absurd (omega (arith, a, o_below))) first
 
 -- Where the newest day begins and how long it is, where the new one goes, and its bytes.
-module _ (r : Shape) (shape : IsShape r) (x : List ℕ) (inside : r.base + (4 + r.size) ≤ length x) (n p len date : ℕ) (words bytes : List ℕ) (few : length words ≤ 2)
+module _ (r : StringShape) (shape : IsStringShape r) (x : List ℕ) (inside : r.base + (4 + r.size) ≤ length x) (n p len date : ℕ) (words bytes : List ℕ) (few : length words ≤ 2)
     (n_pointer : IsPointer r.size n) (p_place : IsPlace r.size n len p) (p_pointer : IsPointer r.size p) (bytes_long : length bytes ≡ 8 + 2 * length words) where
   abbrev y1 : List ℕ
   y1 = preceded r p len x
 
   abbrev y2 : List ℕ
-  y2 = filled r p len bytes x
+  y2 = day_filled r p len bytes x
 
   abbrev y3 : List ℕ
   y3 = measured r p len bytes x
@@ -97,12 +97,12 @@ module _ (r : Shape) (shape : IsShape r) (x : List ℕ) (inside : r.base + (4 + 
   two_fit m pointer = omega (arith, pointer.below, pointer.even, shape.even)
 
   module _ (days : List Day) (h : Holds r x days) (next : IsNext days date words) (room : total days + (12 + 2 * length words) ≤ r.size)
-      (n_is : n ≡ newest_of r x) (len_is : len ≡ last_len days) (bytes_is : bytes ≡ body (new_day days date words)) where
+      (n_is : n ≡ newest_pointer r x) (len_is : len ≡ last_len days) (bytes_is : bytes ≡ body (new_day days date words)) where
     abbrev k : ℕ
     k = total days
 
     abbrev o : ℕ
-    o = oldest_of r x
+    o = oldest_pointer r x
 
     abbrev new : Day
     new = new_day days date words
@@ -137,7 +137,7 @@ module _ (r : Shape) (shape : IsShape r) (x : List ℕ) (inside : r.base + (4 + 
     y2_inside : r.base + (4 + r.size) ≤ length y2
     y2_inside = omega (arith, y1_inside, s2.outside.same_length)
 
-    o_same : oldest_of r y2 ≡ o
+    o_same : oldest_pointer r y2 ≡ o
     o_same = s2.oldest ∙ s1.oldest
 
     s3 : Stands r (k + 2) (two_bytes (4 + length bytes)) y2 y3
@@ -202,13 +202,13 @@ module _ (r : Shape) (shape : IsShape r) (x : List ℕ) (inside : r.base + (4 + 
         ∙ ap (λ (l : List ℕ). (records q (d ∷ ds) ++ l) ++ rest) (sym (append-nil (record_of e new))) ∙ ap (λ (l : List ℕ). l ++ rest) (sym (records-append q (d ∷ ds) (new ∷ [])))
 
     -- once the pointer is there too
-    pub commit : (c : List ℕ) → oldest_of r c ≡ oldest_of r y3 → newest_of r c ≡ p → circle_of r c ≡ circle_of r y3 → Holds r c (days ++ new ∷ [])
+    pub commit : (c : List ℕ) → oldest_pointer r c ≡ oldest_pointer r y3 → newest_pointer r c ≡ p → circle_of r c ≡ circle_of r y3 → Holds r c (days ++ new ∷ [])
     commit c oldest newest circle =
-        let o_is : oldest_of r c ≡ o = oldest ∙ s3.oldest ∙ o_same in
+        let o_is : oldest_pointer r c ≡ o = oldest ∙ s3.oldest ∙ o_same in
         record {
           oldest = subst (λ (m : ℕ). IsPointer r.size m) (sym o_is) h.oldest;
           newest = subst (λ (m : ℕ). IsPointer r.size m) (sym newest) p_pointer;
-          distance = subst (λ (m : ℕ). IsPlace r.size m (far (days ++ new ∷ [])) (newest_of r c)) (sym o_is)
+          distance = subst (λ (m : ℕ). IsPlace r.size m (far (days ++ new ∷ [])) (newest_pointer r c)) (sym o_is)
               (subst (λ (m : ℕ). IsPlace r.size o (far (days ++ new ∷ [])) m) (sym newest) (subst (λ (m : ℕ). IsPlace r.size o m p) (sym (far_last days new)) p_far));
           previous = first_of days h.previous;
           rest = drop (length bytes) (drop 4 h.rest);
@@ -225,7 +225,7 @@ module _ (r : Shape) (shape : IsShape r) (x : List ℕ) (inside : r.base + (4 + 
     pub held_3 : (days ≡ [] → ⊥) → Holds r y3 days
     held_3 some = (beyond r shape y2 y2_inside days (k + 2) 2 (two_bytes (4 + length bytes)) y3 held_2 refl s3 (λ none. absurd (some none))).0
 
-    n_same : newest_of r y3 ≡ n
+    n_same : newest_pointer r y3 ≡ n
     n_same = s3.newest ∙ s2.newest ∙ s1.newest ∙ sym n_is
 
     pub commit_same : n ≡ p → Holds r y3 (days ++ new ∷ [])
@@ -256,10 +256,10 @@ module _ (r : Shape) (shape : IsShape r) (x : List ℕ) (inside : r.base + (4 + 
         by true test = let same : n ≡ p = grind (arith, nat_tests, test) in commit_same same
         by false test = commit_put
 
-    pub newest_placed : newest_of r z ≡ p
+    pub newest_placed : newest_pointer r z ≡ p
     newest_placed = by (n == p) refl
       where
-        by : (test : Bool) → (n == p) ≡ test → newest_of r (cond test y3 (put (r.base + 2) (two_bytes p) y3)) ≡ p
+        by : (test : Bool) → (n == p) ≡ test → newest_pointer r (cond test y3 (put (r.base + 2) (two_bytes p) y3)) ≡ p
         by true test = let same : n ≡ p = grind (arith, nat_tests, test) in n_same ∙ same
         by false test = (points r y3 y3_inside p).newest
 
@@ -283,14 +283,14 @@ module _ (r : Shape) (shape : IsShape r) (x : List ℕ) (inside : r.base + (4 + 
     pub front_same : 2 ≤ k → take 2 (circle_of r z) ≡ take 2 (circle_of r x)
     front_same some = front_3 ∙ stands_front r x inside k (two_bytes len) y1 some (omega (arith, room)) s1
 
-    pub again : days ≡ [] → (oldest_of r z ≡ oldest_of r x) × (newest_of r z ≡ oldest_of r x)
+    pub again : days ≡ [] → (oldest_pointer r z ≡ oldest_pointer r x) × (newest_pointer r z ≡ oldest_pointer r x)
     again none = (oldest_z (n == p), newest_placed ∙ start)
       where
-        oldest_z : (test : Bool) → oldest_of r (cond test y3 (put (r.base + 2) (two_bytes p) y3)) ≡ oldest_of r x
+        oldest_z : (test : Bool) → oldest_pointer r (cond test y3 (put (r.base + 2) (two_bytes p) y3)) ≡ oldest_pointer r x
         oldest_z true = s3.oldest ∙ o_same
         oldest_z false = (points r y3 y3_inside p).oldest ∙ (s3.oldest ∙ o_same)
 
-        start : p ≡ oldest_of r x
+        start : p ≡ oldest_pointer r x
         start = let nothing = ap total none in ⊎_elim (λ is. omega (arith, is, nothing)) (λ is. absurd (omega (arith, is, nothing, h.oldest.below))) p_far
 
     pub placing : (c : List ℕ) → IsBeginStep r n p len bytes x c → Holds r c days ⊎ Holds r c (days ++ new ∷ [])

@@ -7,16 +7,16 @@ use Rattle.std.proofs.lemmas.Bool.Decides.{nat_tests}
 use Rattle.tach_media.specs.Medium.{State}
 use Rattle.write_plan.specs.Plan.{put_all, IsPartway, PutsAll, PutsBy}
 use Rattle.write_plan.proofs.Plans.{put_all-append, partway_either, partway_outside, puts_outside}
-use Rattle.card_model.specs.Days.{Day, len_of, total, last_len, AreDays}
+use Rattle.card_model.specs.Days.{Day, len_of, total, last_len, AreDays, last_word}
 use Rattle.card_model.specs.Changes.{Remain, fitting, with_newest, with_word, OnNewest, TakesWord}
-use Rattle.card_model.specs.Image.{Shape, IsPlace, IsPointer, Holds, circle_of, newest_of, spot}
+use Rattle.card_model.specs.Image.{StringShape, IsPlace, IsPointer, Holds, circle_of, newest_pointer, spot}
 use Rattle.card_model.proofs.Lists.{total-append, len_least}
 use Rattle.card_model.proofs.Reading.{fills}
 use Rattle.card_model.proofs.Walking.{one_list}
 use Rattle.cyclic_days.specs.declared.head.DayHead.{DayHead}
 use Rattle.cyclic_days.specs.declared.head.Tail.{Tail}
-use Rattle.cyclic_days.specs.Heads.{head_of}
-use Rattle.cyclic_days.specs.Held.{Held, IsHeld, Knows, IsNewest, last_word, newest_len, end_of}
+use Rattle.cyclic_days.specs.Heads.{day_head}
+use Rattle.cyclic_days.specs.Held.{Held, IsHeld, Knows, IsNewestHead, newest_len, end_of}
 use Rattle.cyclic_days.specs.Moments.{IfKnown, IsChanging, IsChanged, KnowsChanged, ClearsChanged}
 use Rattle.cyclic_days.specs.Plans.{most_drops, left_in, drop_pieces, word_pieces, change_pieces, more_words, tail_more}
 use Rattle.cyclic_days.specs.Steps.{roomier, Looks}
@@ -27,12 +27,13 @@ use Rattle.cyclic_days.proofs.Told.{from_told}
 use Rattle.cyclic_days.proofs.Inside.{put_length, left_low, drop_inside, change_inside}
 use Rattle.cyclic_days.proofs.Lists.{Split, split, newest_on, with_last, longer_by_two, few_strict}
 use Rattle.cyclic_days.proofs.Matching.{front_cleared, Matches, matches, end_is, left_is, dropped, dropping, dropped_count, dropped_cleared}
-use Rattle.cyclic_days.proofs.Retention.{fitting_all, fitting_once, newest_left, remain_once}
+use Rattle.card_model.proofs.Retention.{fitting_all}
+use Rattle.cyclic_days.proofs.Roomier.{fitting_once, newest_left, remain_once}
 use Rattle.cyclic_days.proofs.Rounds.{spot_is}
 use Rattle.cyclic_days.proofs.Tails.{newest_last, last_newest}
 
 -- the newest of some days is told, where there is one
-newest_told : (h : DayHead) (w v : ℕ) (days : List Day) → OnNewest (TakesWord v) days → IsNewest h w days → OnNewest (λ d. h ≡ head_of h.place d) days
+newest_told : (h : DayHead) (w v : ℕ) (days : List Day) → OnNewest (TakesWord v) days → IsNewestHead h w days → OnNewest (λ d. h ≡ day_head h.place d) days
 newest_told h w v [] on is = absurd on
 newest_told h w v (d ∷ []) on is = is.0
 newest_told h w v (d ∷ e ∷ ds) on is = newest_told h w v (e ∷ ds) on is
@@ -43,7 +44,7 @@ last_added (v ∷ []) w = refl
 last_added (v ∷ u ∷ ws) w = last_added (u ∷ ws) w
 
 module _ (v : Held) (is : IsHeld v) (w : ℕ) (x : List ℕ) (inside : v.shape.base + (4 + v.shape.size) ≤ length x) (days : List Day) (k : Knows v x days) where
-  abbrev r : Shape
+  abbrev r : StringShape
   r = v.shape
 
   abbrev room : ℕ
@@ -124,7 +125,7 @@ module _ (v : Held) (is : IsHeld v) (w : ℕ) (x : List ℕ) (inside : v.shape.b
           holds = held;
           place = m.place ∙ sym (newest_same r is.shape y y_inside w v.tail.head.place (newest_len v) e (spot r.size v.tail.head.place 2) m.place (end_is v is).0 (end_is v is).1 field.0 field.1 kept m.holds on_kept m.len fits);
           used = omega (arith, left_known, ap total s.is, total-append s.older (s.newest ∷ []), ap total longer, total-append s.older (with_word w s.newest ∷ []), longer_by_two w s.newest);
-          newest = subst (λ (l : List Day). IsNewest next.tail.head w l) (sym longer) (newest_last next.tail.head w s.older (with_word w s.newest) head (last_added s.newest.words w));
+          newest = subst (λ (l : List Day). IsNewestHead next.tail.head w l) (sym longer) (newest_last next.tail.head w s.older (with_word w s.newest) head (last_added s.newest.words w));
         }))
       where
         s : Split kept
@@ -133,9 +134,9 @@ module _ (v : Held) (is : IsHeld v) (w : ℕ) (x : List ℕ) (inside : v.shape.b
         longer : with_newest (with_word w) kept ≡ s.older ++ with_word w s.newest ∷ []
         longer = ap (λ (l : List Day). with_newest (with_word w) l) s.is ∙ with_last (with_word w) s.older s.newest
 
-        told : v.tail.head ≡ head_of v.tail.head.place s.newest
-        told = newest_on (λ d. v.tail.head ≡ head_of v.tail.head.place d) s.older s.newest (subst (λ (l : List Day). OnNewest (λ d. v.tail.head ≡ head_of v.tail.head.place d) l) s.is
-            (newest_left (λ d. v.tail.head ≡ head_of v.tail.head.place d) room 0 days big k.holds.ordered (newest_told v.tail.head v.tail.latest w days on k.newest)))
+        told : v.tail.head ≡ day_head v.tail.head.place s.newest
+        told = newest_on (λ d. v.tail.head ≡ day_head v.tail.head.place d) s.older s.newest (subst (λ (l : List Day). OnNewest (λ d. v.tail.head ≡ day_head v.tail.head.place d) l) s.is
+            (newest_left (λ d. v.tail.head ≡ day_head v.tail.head.place d) room 0 days big k.holds.ordered (newest_told v.tail.head v.tail.latest w days on k.newest)))
 
         takes : TakesWord w s.newest
         takes = newest_on (TakesWord w) s.older s.newest (subst (λ (l : List Day). OnNewest (TakesWord w) l) s.is on_kept)
@@ -149,8 +150,8 @@ module _ (v : Held) (is : IsHeld v) (w : ℕ) (x : List ℕ) (inside : v.shape.b
         words_is : more_words v.tail.head.words ≡ length (s.newest.words ++ w ∷ [])
         words_is = more (omega (arith, count, few_strict (s.newest.words ++ w ∷ []) takes, length-append s.newest.words (w ∷ []))) ∙ omega (arith, count, length-append s.newest.words (w ∷ []))
 
-        head : next.tail.head ≡ head_of v.tail.head.place (with_word w s.newest)
-        head = ap (λ (h : DayHead). record h { words = more_words v.tail.head.words }) told ∙ ap (λ (n : ℕ). record (head_of v.tail.head.place s.newest) { words = n }) words_is
+        head : next.tail.head ≡ day_head v.tail.head.place (with_word w s.newest)
+        head = ap (λ (h : DayHead). record h { words = more_words v.tail.head.words }) told ∙ ap (λ (n : ℕ). record (day_head v.tail.head.place s.newest) { words = n }) words_is
 
   -- two writes, and two for each day that goes
   pub change_count : length (change_pieces v w x) + 2 * length (fitting room days) ≡ 2 + 2 * length days

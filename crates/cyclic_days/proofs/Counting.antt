@@ -2,31 +2,25 @@
 use Rattle.std.proofs.Common.{◌≡◌, ⊎_elim, inl, inr, ℕ, ◌+◌, ◌-◌, ◌*◌, ◌<◌, ◌≤◌, Bool, true, false, cond, List, [], ◌∷◌, ◌++◌, length, refl, sym, ◌∙◌, ap, subst, arith}
 use Rattle.std.specs.Prelude.{◌==◌, nat_le}
 use Rattle.std.proofs.lemmas.Bool.Decides.{nat_tests}
-use Rattle.std.proofs.lemmas.Bool.{cases_lt}
+use Rattle.std.proofs.lemmas.Bool.{cases_lt, le-leb, lt-leb}
 use Rattle.write_plan.specs.Plan.{piece}
 use Rattle.card_model.specs.Bytes.{two_bytes}
 use Rattle.card_model.specs.Image.{at}
 use Rattle.cyclic_days.specs.Held.{Held, oldest_at}
 use Rattle.cyclic_days.specs.Plans.{most_drops, drop_pieces}
 
-le_true : (m n : ℕ) → m ≤ n → nat_le m n ≡ true
-le_true m n le = grind (arith, nat_tests)
-
-le_false : (m n : ℕ) → n < m → nat_le m n ≡ false
-le_false m n lt = grind (arith, nat_tests)
-
 -- how many days go at most, by cases
 none_go : (size used new : ℕ) → used + new ≤ size → most_drops size used new ≡ 0
-none_go size used new le = ap (λ (b : Bool). cond b 0 (cond (nat_le (used + new) (size + 14)) 1 2)) (le_true (used + new) size le)
+none_go size used new le = ap (λ (b : Bool). cond b 0 (cond (nat_le (used + new) (size + 14)) 1 2)) (le-leb (used + new) size le)
 
 some_go : (size used new : ℕ) → size < used + new → most_drops size used new ≡ cond (nat_le (used + new) (size + 14)) 1 2
-some_go size used new lt = ap (λ (b : Bool). cond b 0 (cond (nat_le (used + new) (size + 14)) 1 2)) (le_false (used + new) size lt)
+some_go size used new lt = ap (λ (b : Bool). cond b 0 (cond (nat_le (used + new) (size + 14)) 1 2)) (lt-leb (used + new) size lt)
 
 one_goes : (size used new : ℕ) → size < used + new → used + new ≤ size + 14 → most_drops size used new ≡ 1
-one_goes size used new lt le = some_go size used new lt ∙ ap (λ (b : Bool). cond b 1 2) (le_true (used + new) (size + 14) le)
+one_goes size used new lt le = some_go size used new lt ∙ ap (λ (b : Bool). cond b 1 2) (le-leb (used + new) (size + 14) le)
 
 two_go : (size used new : ℕ) → size + 14 < used + new → most_drops size used new ≡ 2
-two_go size used new lt = some_go size used new (omega (arith, lt)) ∙ ap (λ (b : Bool). cond b 1 2) (le_false (used + new) (size + 14) lt)
+two_go size used new lt = some_go size used new (omega (arith, lt)) ∙ ap (λ (b : Bool). cond b 1 2) (lt-leb (used + new) (size + 14) lt)
 
 drop_none : (v : Held) (used left : ℕ) → left ≡ used → length (drop_pieces v used left) ≡ 0
 drop_none v used left same =

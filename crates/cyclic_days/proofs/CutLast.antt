@@ -6,15 +6,16 @@ use Rattle.tach_media.specs.Medium.{put, bytes_at, SameOutside, IsPartlyWritten}
 use Rattle.tach_media.specs.LogLaws.{put_outside}
 use Rattle.tach_media.proofs.Images.{outside_same, outside_then, outside_wider}
 use Rattle.card_model.specs.Bytes.{number, two_bytes}
-use Rattle.card_model.specs.Days.{Day, len_of, total, minute_of, Ascend, AreWords, IsDay, AreDays, record_of, records}
-use Rattle.card_model.specs.Image.{Shape, IsShape, turned, oldest_of, newest_of, string_of, IsPointer, IsPlace, Holds, IsAt, at}
-use Rattle.card_model.specs.Changes.{with_newest, until, early, with_early, date_of, cut}
+use Rattle.activity_codec.specs.Words.{word_minute}
+use Rattle.card_model.specs.Days.{Day, len_of, total, Ascend, AreWords, IsDay, AreDays, record_of, records}
+use Rattle.card_model.specs.Image.{StringShape, IsStringShape, turned, oldest_pointer, newest_pointer, string_of, IsPointer, IsPlace, Holds, IsAt, at}
+use Rattle.card_model.specs.Changes.{with_newest, until, early, with_early, date_of, cut, AllLater, Shorter}
 use Rattle.card_model.proofs.Lists.{total-append, previous_of, len_even, len_least, len_most}
 use Rattle.card_model.proofs.Numbers.{number_two}
 use Rattle.card_model.proofs.Reading.{place_then, fills, from_day, day_is}
 use Rattle.cyclic_days.specs.declared.head.RecordHead.{RecordHead}
 use Rattle.cyclic_days.specs.Heads.{head_bytes}
-use Rattle.cyclic_days.specs.Trim.{AllLater, Shorter, IsTrimming, IsTrimmed, IsCutLast, IsCuttingLast, IsTrim, IsTrimMoment}
+use Rattle.cyclic_days.specs.Trim.{IsTrimming, IsTrimmed, IsCutLast, IsCuttingLast, IsTrim, IsTrimMoment}
 use Rattle.cyclic_days.proofs.Cutting.{cut_last}
 use Rattle.cyclic_days.proofs.HeadLemmas.{len_is, date_is}
 use Rattle.cyclic_days.proofs.HeadWalks.{newest_here}
@@ -26,8 +27,8 @@ use Rattle.cyclic_days.proofs.Places.{Stands, stands}
 early_all : (prev : ℕ) (ws : List ℕ) → Ascend prev ws → early 1439 ws ≡ ws
 early_all prev [] up = refl
 early_all prev (w ∷ ws) up =
-    let test : nat_le (minute_of w) 1439 ≡ true = passes (minute_of w) up.1 in
-    ap (λ (b : Bool). cond b (w ∷ early 1439 ws) []) test ∙ ap (λ (l : List ℕ). w ∷ l) (early_all (minute_of w) ws up.2)
+    let test : nat_le (word_minute w) 1439 ≡ true = passes (word_minute w) up.1 in
+    ap (λ (b : Bool). cond b (w ∷ early 1439 ws) []) test ∙ ap (λ (l : List ℕ). w ∷ l) (early_all (word_minute w) ws up.2)
   where
     passes : (n : ℕ) → n < 1440 → nat_le n 1439 ≡ true
     passes n lt = grind (arith, nat_tests)
@@ -55,12 +56,12 @@ cut_early minute d same =
     let test : nat_eq d.date (date_of minute) ≡ true = grind (arith, nat_tests) in
     ap (λ (b : Bool). length (cond b (with_early (minute % 1440) d) d).words) test
 
-module _ (r : Shape) (shape : IsShape r) (x : List ℕ) (inside : r.base + (4 + r.size) ≤ length x) (minute n : ℕ) (n_is : IsPointer r.size (newest_of r x) → n ≡ newest_of r x)
+module _ (r : StringShape) (shape : IsStringShape r) (x : List ℕ) (inside : r.base + (4 + r.size) ≤ length x) (minute n : ℕ) (n_is : IsPointer r.size (newest_pointer r x) → n ≡ newest_pointer r x)
     (h : RecordHead) (head : head_bytes h ≡ take 12 (turned n (string_of r x))) (len : ℕ) (len_known : h.len % 2 ≡ 0 → h.len ≤ 2892 → len ≡ h.len) where
   -- there is no day where the length is short
   pub none_there : Holds r x [] → len ≡ 0
   none_there g =
-      let start : n ≡ oldest_of r x = n_is g.newest ∙ ⊎_elim (λ is. omega (arith, is)) (λ is. absurd (omega (arith, is, g.oldest.below))) g.distance in
+      let start : n ≡ oldest_pointer r x = n_is g.newest ∙ ⊎_elim (λ is. omega (arith, is)) (λ is. absurd (omega (arith, is, g.oldest.below))) g.distance in
       let zero_len : h.len ≡ 0 = sym (number_two h.len) ∙ ap (λ (l : List ℕ). number (bytes_at l 2 2)) head ∙ ap number (in_twelve (turned n (string_of r x)) 2 2 8 refl) ∙ ap (λ (k : ℕ). number (bytes_at (turned k (string_of r x)) 2 2)) start ∙ g.empty refl in
       len_known (ap (λ (k : ℕ). k % 2) zero_len) (omega (arith, zero_len)) ∙ zero_len
 
@@ -114,7 +115,7 @@ module _ (r : Shape) (shape : IsShape r) (x : List ℕ) (inside : r.base + (4 + 
         let kept : k ≡ length (cut minute d).words = k_is d here count read.1 in
         let all : total (older ++ d ∷ []) + length g.rest ≡ r.size = fills r shape x inside (older ++ d ∷ []) g in
         let free : total older + 4 ≤ r.size = omega (arith, all, total-append older (d ∷ []), len_least d is) in
-        let far_q : IsPlace r.size (oldest_of r x) (total older + 2) q = place_then r.size (oldest_of r x) (total older) n 2 q g.oldest.below n_pointer.below q_pointer.below (omega (arith, free)) here.place q_place in
+        let far_q : IsPlace r.size (oldest_pointer r x) (total older + 2) q = place_then r.size (oldest_pointer r x) (total older) n 2 q g.oldest.below n_pointer.below q_pointer.below (omega (arith, free)) here.place q_place in
         let early_is = cut_is minute d is in
         let len_new : 12 + 2 * k ≡ len_of (with_early early_is.0 d) = omega (arith, kept, ap (λ (e : Day). length e.words) early_is.1) in
         let s : Stands r (total older + 2) (two_bytes (len_of (with_early early_is.0 d))) x y = subst (λ (m : ℕ). Stands r (total older + 2) (two_bytes m) x y) len_new (stands r x inside (total older + 2) q (two_bytes (12 + 2 * k)) g.oldest.below far_q q_fits (omega (arith, free))) in
@@ -140,19 +141,19 @@ later_all : (date prev : ℕ) (ds : List Day) → date ≤ prev → AreDays prev
 later_all date prev [] le are = tt
 later_all date prev (d ∷ ds) le are = (omega (arith, le, are.0), later_all date d.date ds (omega (arith, le, are.0)) are.2)
 
-shorter_until : (date prev : ℕ) (days : List Day) → AreDays prev days → Shorter date 0 days (until date days)
-shorter_until date prev [] are = record { gone = []; is = refl; later = tt; many = lit≤ tt }
+shorter_until : (date prev : ℕ) (days : List Day) → AreDays prev days → Shorter date days (until date days)
+shorter_until date prev [] are = record { gone = []; is = refl; later = tt }
 shorter_until date prev (d ∷ ds) are = by (shorter_until date d.date ds are.2) (nat_le d.date date) refl
   where
-    by : Shorter date 0 ds (until date ds) → (b : Bool) → nat_le d.date date ≡ b → Shorter date 0 (d ∷ ds) (cond b (d ∷ until date ds) [])
-    by so true test = record { gone = so.gone; is = ap (λ (l : List Day). d ∷ l) so.is; later = so.later; many = omega arith }
+    by : Shorter date ds (until date ds) → (b : Bool) → nat_le d.date date ≡ b → Shorter date (d ∷ ds) (cond b (d ∷ until date ds) [])
+    by so true test = record { gone = so.gone; is = ap (λ (l : List Day). d ∷ l) so.is; later = so.later }
     by so false test =
         let past : date < d.date = grind (arith, nat_tests, test) in
-        record { gone = d ∷ ds; is = refl; later = (past, later_all date d.date ds (omega (arith, past)) are.2); many = omega arith }
+        record { gone = d ∷ ds; is = refl; later = (past, later_all date d.date ds (omega (arith, past)) are.2) }
 
-module _ (r : Shape) (minute : ℕ) (x : List ℕ) where
+module _ (r : StringShape) (minute : ℕ) (x : List ℕ) where
   pub while_dropping : (c : List ℕ) → IsTrimming r (date_of minute) 0 x c → IsTrimMoment r minute x c
-  while_dropping c step = record { outside = step.outside; list = λ days h. inl (step.list days h) }
+  while_dropping c step = record { outside = step.outside; list = λ days h. let s = step.list days h in inl (s.0, s.1.less, s.2) }
 
   module _ (y : List ℕ) (made : IsTrimmed r (date_of minute) x y) where
     pub while_cutting : (c : List ℕ) → IsCuttingLast r minute y c → IsTrimMoment r minute x c

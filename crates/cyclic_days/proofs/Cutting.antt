@@ -4,8 +4,9 @@ use Rattle.std.specs.Prelude.{nat_le}
 use Rattle.std.proofs.lemmas.Bool.Decides.{nat_tests}
 use Rattle.tach_media.specs.Medium.{put}
 use Rattle.card_model.specs.Bytes.{two_bytes}
-use Rattle.card_model.specs.Days.{Day, len_of, total, far, body, record_of, records, word_bytes, minute_of, Ascend, AreWords, IsDay}
-use Rattle.card_model.specs.Image.{Shape, oldest_of, newest_of, IsPointer, IsPlace, Holds}
+use Rattle.activity_codec.specs.Words.{word_minute}
+use Rattle.card_model.specs.Days.{Day, len_of, total, far, body, record_of, records, word_bytes, Ascend, AreWords, IsDay}
+use Rattle.card_model.specs.Image.{StringShape, oldest_pointer, newest_pointer, IsPointer, IsPlace, Holds}
 use Rattle.card_model.specs.Changes.{early, with_early}
 use Rattle.card_model.proofs.Circle.{put_back}
 use Rattle.card_model.proofs.Lists.{word_bytes-append, previous_of, records_length, far_last, last_is}
@@ -16,12 +17,12 @@ use Rattle.card_model.proofs.Reading.{spelled_at}
 -- the words that go
 late : ℕ → List ℕ → List ℕ
 late minute [] = []
-late minute (w ∷ ws) = cond (nat_le (minute_of w) minute) (late minute ws) (w ∷ ws)
+late minute (w ∷ ws) = cond (nat_le (word_minute w) minute) (late minute ws) (w ∷ ws)
 
 both_parts : (m : ℕ) (ws : List ℕ) → ws ≡ early m ws ++ late m ws
 unfolding late
 both_parts m [] = refl
-both_parts m (w ∷ ws) = by (both_parts m ws) (nat_le (minute_of w) m)
+both_parts m (w ∷ ws) = by (both_parts m ws) (nat_le (word_minute w) m)
   where
     by : ws ≡ early m ws ++ late m ws → (b : Bool) → w ∷ ws ≡ cond b (w ∷ early m ws) [] ++ cond b (late m ws) (w ∷ ws)
     by so true = ap (λ (l : List ℕ). w ∷ l) so
@@ -29,7 +30,7 @@ both_parts m (w ∷ ws) = by (both_parts m ws) (nat_le (minute_of w) m)
 
 early_short : (m : ℕ) (ws : List ℕ) → length (early m ws) ≤ length ws
 early_short m [] = omega arith
-early_short m (w ∷ ws) = by (early_short m ws) (nat_le (minute_of w) m)
+early_short m (w ∷ ws) = by (early_short m ws) (nat_le (word_minute w) m)
   where
     by : length (early m ws) ≤ length ws → (b : Bool) → length (cond b (w ∷ early m ws) []) ≤ length (w ∷ ws)
     by so true = omega (arith, so)
@@ -37,16 +38,16 @@ early_short m (w ∷ ws) = by (early_short m ws) (nat_le (minute_of w) m)
 
 early_ascend : (n m : ℕ) (ws : List ℕ) → Ascend n ws → Ascend n (early m ws)
 early_ascend n m [] up = tt
-early_ascend n m (w ∷ ws) up = by (early_ascend (minute_of w) m ws up.2) (nat_le (minute_of w) m)
+early_ascend n m (w ∷ ws) up = by (early_ascend (word_minute w) m ws up.2) (nat_le (word_minute w) m)
   where
-    by : Ascend (minute_of w) (early m ws) → (b : Bool) → Ascend n (cond b (w ∷ early m ws) [])
+    by : Ascend (word_minute w) (early m ws) → (b : Bool) → Ascend n (cond b (w ∷ early m ws) [])
     by so true = (up.0, up.1, so)
     by so false = tt
 
 early_words : (m : ℕ) (ws : List ℕ) → AreWords ws → AreWords (early m ws)
 early_words m [] are = are
 early_words m (w ∷ ws) are =
-    let test : nat_le (minute_of w) m ≡ true = passes (minute_of w) are.0 in
+    let test : nat_le (word_minute w) m ≡ true = passes (word_minute w) are.0 in
     subst (λ (b : Bool). AreWords (cond b (w ∷ early m ws) [])) (sym test) (are.0, early_ascend 0 m ws are.1)
   where
     passes : (n : ℕ) → n ≡ 0 → nat_le n m ≡ true
@@ -56,18 +57,18 @@ pub early_day : (m : ℕ) (d : Day) → IsDay d → IsDay (with_early m d)
 early_day m d is = record { midnight = is.midnight; decimal = is.decimal; most = omega (arith, early_short m d.words, is.most); ordered = early_words m d.words is.ordered }
 
 -- how many are early, by what a search finds
-pub early_is : (m : ℕ) (ws : List ℕ) (k : ℕ) → k ≤ length ws → ((j : ℕ) → j < k → minute_of (get_or ws j 0) ≤ m) → (k ≡ length ws) ⊎ (m < minute_of (get_or ws k 0)) → k ≡ length (early m ws)
+pub early_is : (m : ℕ) (ws : List ℕ) (k : ℕ) → k ≤ length ws → ((j : ℕ) → j < k → word_minute (get_or ws j 0) ≤ m) → (k ≡ length ws) ⊎ (m < word_minute (get_or ws k 0)) → k ≡ length (early m ws)
 early_is m [] k le all end = omega (arith, le)
 early_is m (w ∷ ws) zero le all end = ⊎_elim (λ is. absurd (omega (arith, is)))
-    (λ late_one. let test : nat_le (minute_of w) m ≡ false = grind (arith, nat_tests) in ap (λ (b : Bool). length (cond b (w ∷ early m ws) [])) (sym test)) end
+    (λ late_one. let test : nat_le (word_minute w) m ≡ false = grind (arith, nat_tests) in ap (λ (b : Bool). length (cond b (w ∷ early m ws) [])) (sym test)) end
 early_is m (w ∷ ws) (suc k) le all end =
-    let first : minute_of w ≤ m = all 0 (omega arith) in
-    let test : nat_le (minute_of w) m ≡ true = grind (arith, nat_tests) in
+    let first : word_minute w ≤ m = all 0 (omega arith) in
+    let test : nat_le (word_minute w) m ≡ true = grind (arith, nat_tests) in
     let rest : k ≡ length (early m ws) = early_is m ws k (omega (arith, le)) (λ j lt. all (suc j) (omega (arith, lt))) (⊎_elim (λ is. inl (omega (arith, is))) (λ lt. inr lt) end) in
     omega (arith, rest) ∙ ap (λ (b : Bool). length (cond b (w ∷ early m ws) [])) (sym test)
 
 -- the commit: the shorter length
-pub cut_last : (r : Shape) (x y : List ℕ) (older : List Day) (d : Day) (m : ℕ) (h : Holds r x (older ++ d ∷ [])) → Stands r (total older + 2) (two_bytes (len_of (with_early m d))) x y → Holds r y (older ++ with_early m d ∷ [])
+pub cut_last : (r : StringShape) (x y : List ℕ) (older : List Day) (d : Day) (m : ℕ) (h : Holds r x (older ++ d ∷ [])) → Stands r (total older + 2) (two_bytes (len_of (with_early m d))) x y → Holds r y (older ++ with_early m d ∷ [])
 cut_last r x y older d m h s =
     let e = previous_of h.previous older in
     let f = with_early m d in
@@ -79,8 +80,8 @@ cut_last r x y older d m h s =
     record {
       oldest = subst (λ (k : ℕ). IsPointer r.size k) (sym s.oldest) h.oldest;
       newest = subst (λ (k : ℕ). IsPointer r.size k) (sym s.newest) h.newest;
-      distance = subst (λ (k : ℕ). IsPlace r.size k (far (older ++ f ∷ [])) (newest_of r y)) (sym s.oldest)
-          (subst (λ (k : ℕ). IsPlace r.size (oldest_of r x) (far (older ++ f ∷ [])) k) (sym s.newest) (subst (λ (k : ℕ). IsPlace r.size (oldest_of r x) k (newest_of r x)) (sym same_far) h.distance));
+      distance = subst (λ (k : ℕ). IsPlace r.size k (far (older ++ f ∷ [])) (newest_pointer r y)) (sym s.oldest)
+          (subst (λ (k : ℕ). IsPlace r.size (oldest_pointer r x) (far (older ++ f ∷ [])) k) (sym s.newest) (subst (λ (k : ℕ). IsPlace r.size (oldest_pointer r x) k (newest_pointer r x)) (sym same_far) h.distance));
       previous = h.previous;
       rest = word_bytes (late m d.words) ++ h.rest;
       spelled = s.circle ∙ ap (λ (l : List ℕ). put (total older + 2) (two_bytes (len_of f)) l) (h.spelled ∙ spelled_at h.previous older d [] h.rest)

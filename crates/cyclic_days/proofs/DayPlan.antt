@@ -6,13 +6,13 @@ use Rattle.tach_media.specs.Medium.{put, IsPartlyWritten}
 use Rattle.write_plan.specs.Plan.{Piece, piece, put_all, IsPartway}
 use Rattle.write_plan.proofs.Plans.{put_all-append, partway_either}
 use Rattle.card_model.specs.Bytes.{two_bytes}
-use Rattle.card_model.specs.Image.{Shape, spot, at}
+use Rattle.card_model.specs.Image.{StringShape, spot, at}
 use Rattle.cyclic_days.specs.Held.{Held, newest_len, end_of}
 use Rattle.cyclic_days.specs.Plans.{round_pieces, pointer_pieces, day_pieces}
-use Rattle.cyclic_days.specs.Steps.{put_round, IsRounding, pointed, IsPointing, begun, IsBeginStep, preceded, filled, measured}
+use Rattle.cyclic_days.specs.Steps.{put_round, IsRounding, newest_pointed, IsPointing, begun, IsBeginStep, preceded, day_filled, measured}
 
 -- the planned writes of a day are its steps
-round_put : (r : Shape) (p : ℕ) (bytes x : List ℕ) → put_all (round_pieces r p bytes) x ≡ put_round r p bytes x
+round_put : (r : StringShape) (p : ℕ) (bytes x : List ℕ) → put_all (round_pieces r p bytes) x ≡ put_round r p bytes x
 round_put r p bytes x = by (nat_le (length bytes) (r.size - p))
   where
     by : (b : Bool) → put_all (cond b (piece (at r p) bytes ∷ []) (piece (at r p) (take (r.size - p) bytes) ∷ piece (at r 0) (drop (r.size - p) bytes) ∷ [])) x
@@ -20,7 +20,7 @@ round_put r p bytes x = by (nat_le (length bytes) (r.size - p))
     by true = refl
     by false = refl
 
-round_part : (r : Shape) (p : ℕ) (bytes x c : List ℕ) → IsPartway (round_pieces r p bytes) x c → IsRounding r p bytes x c
+round_part : (r : StringShape) (p : ℕ) (bytes x c : List ℕ) → IsPartway (round_pieces r p bytes) x c → IsRounding r p bytes x c
 round_part r p bytes x c = by (nat_le (length bytes) (r.size - p)) refl
   where
     by : (b : Bool) → nat_le (length bytes) (r.size - p) ≡ b → IsPartway (cond b (piece (at r p) bytes ∷ []) (piece (at r p) (take (r.size - p) bytes) ∷ piece (at r 0) (drop (r.size - p) bytes) ∷ [])) x c → IsRounding r p bytes x c
@@ -30,14 +30,14 @@ round_part r p bytes x c = by (nat_le (length bytes) (r.size - p)) refl
     by false test (inr (inl part)) = inr (grind (arith, nat_tests, test), inr part)
     by false test (inr (inr none)) = absurd none
 
-pointer_put : (r : Shape) (n p : ℕ) (x : List ℕ) → put_all (pointer_pieces r n p) x ≡ pointed r n p x
+pointer_put : (r : StringShape) (n p : ℕ) (x : List ℕ) → put_all (pointer_pieces r n p) x ≡ newest_pointed r n p x
 pointer_put r n p x = by (n == p)
   where
     by : (b : Bool) → put_all (cond b [] (piece (r.base + 2) (two_bytes p) ∷ [])) x ≡ cond b x (put (r.base + 2) (two_bytes p) x)
     by true = refl
     by false = refl
 
-pointer_part : (r : Shape) (n p : ℕ) (x c : List ℕ) → IsPartway (pointer_pieces r n p) x c → IsPointing r n p x c
+pointer_part : (r : StringShape) (n p : ℕ) (x c : List ℕ) → IsPartway (pointer_pieces r n p) x c → IsPointing r n p x c
 pointer_part r n p x c = by (n == p) refl
   where
     by : (b : Bool) → (n == p) ≡ b → IsPartway (cond b [] (piece (r.base + 2) (two_bytes p) ∷ [])) x c → IsPointing r n p x c
@@ -46,7 +46,7 @@ pointer_part r n p x c = by (n == p) refl
     by false test (inr none) = absurd none
 
 module _ (v : Held) (bytes x : List ℕ) where
-  abbrev r : Shape
+  abbrev r : StringShape
   r = v.shape
 
   abbrev n : ℕ
@@ -73,17 +73,17 @@ module _ (v : Held) (bytes x : List ℕ) where
       (λ more. inr (by (put_all (round_pieces r (spot r.size e 4) bytes) (preceded r e len x)) (round_put r (spot r.size e 4) bytes (preceded r e len x)) more))
       (partway_either (round_pieces r (spot r.size e 4) bytes) last (preceded r e len x) c rest))
     where
-      by : (y : List ℕ) → y ≡ filled r e len bytes x → IsPartway last y c
-          → IsPartlyWritten (at r (spot r.size e 2)) (two_bytes (4 + length bytes)) (filled r e len bytes x) c ⊎ IsPointing r n e (measured r e len bytes x) c
+      by : (y : List ℕ) → y ≡ day_filled r e len bytes x → IsPartway last y c
+          → IsPartlyWritten (at r (spot r.size e 2)) (two_bytes (4 + length bytes)) (day_filled r e len bytes x) c ⊎ IsPointing r n e (measured r e len bytes x) c
       by y is part = second (subst (λ (l : List ℕ). IsPartway last l c) is part)
         where
-          second : IsPartway last (filled r e len bytes x) c → IsPartlyWritten (at r (spot r.size e 2)) (two_bytes (4 + length bytes)) (filled r e len bytes x) c ⊎ IsPointing r n e (measured r e len bytes x) c
+          second : IsPartway last (day_filled r e len bytes x) c → IsPartlyWritten (at r (spot r.size e 2)) (two_bytes (4 + length bytes)) (day_filled r e len bytes x) c ⊎ IsPointing r n e (measured r e len bytes x) c
           second (inl part) = inl part
           second (inr part) = inr (pointer_part r n e (measured r e len bytes x) c part)
 
 -- three to five writes
 module _ (v : Held) (bytes : List ℕ) where
-  rounds_low : (r : Shape) (p : ℕ) → (1 ≤ length (round_pieces r p bytes)) × (length (round_pieces r p bytes) ≤ 2)
+  rounds_low : (r : StringShape) (p : ℕ) → (1 ≤ length (round_pieces r p bytes)) × (length (round_pieces r p bytes) ≤ 2)
   rounds_low r p = by (nat_le (length bytes) (r.size - p))
     where
       by : (b : Bool) → (1 ≤ length (cond b (piece (at r p) bytes ∷ []) (piece (at r p) (take (r.size - p) bytes) ∷ piece (at r 0) (drop (r.size - p) bytes) ∷ [])))
@@ -91,7 +91,7 @@ module _ (v : Held) (bytes : List ℕ) where
       by true = (omega arith, omega arith)
       by false = (omega arith, omega arith)
 
-  pointer_low : (r : Shape) (n p : ℕ) → length (pointer_pieces r n p) ≤ 1
+  pointer_low : (r : StringShape) (n p : ℕ) → length (pointer_pieces r n p) ≤ 1
   pointer_low r n p = by (n == p)
     where
       by : (b : Bool) → length (cond b [] (piece (r.base + 2) (two_bytes p) ∷ [])) ≤ 1

@@ -5,14 +5,14 @@ use Rattle.tach_media.specs.LogLaws.{put_outside}
 use Rattle.write_plan.specs.Plan.{piece, IsPartway}
 use Rattle.card_model.specs.Bytes.{two_bytes}
 use Rattle.card_model.specs.Days.{Day, len_of}
-use Rattle.card_model.specs.Image.{Shape, IsShape, circle_of, oldest_of, newest_of, IsPointer, IsPlace, Holds, at}
+use Rattle.card_model.specs.Image.{StringShape, IsStringShape, circle_of, oldest_pointer, newest_pointer, IsPointer, IsPlace, Holds, at}
 use Rattle.card_model.proofs.Lists.{len_most}
 use Rattle.cyclic_days.proofs.Holding.{without_first, finished}
 use Rattle.cyclic_days.proofs.Places.{Stands, Turned, stands, turns}
 
 -- The oldest of several days, and where the next one begins.
-module _ (r : Shape) (shape : IsShape r) (x : List ℕ) (inside : r.base + (4 + r.size) ≤ length x) (d e : Day) (ds : List Day) (h : Holds r x (d ∷ e ∷ ds))
-    (next : ℕ) (pointer : IsPointer r.size next) (place : IsPlace r.size (oldest_of r x) (len_of d) next) where
+module _ (r : StringShape) (shape : IsStringShape r) (x : List ℕ) (inside : r.base + (4 + r.size) ≤ length x) (d e : Day) (ds : List Day) (h : Holds r x (d ∷ e ∷ ds))
+    (next : ℕ) (pointer : IsPointer r.size next) (place : IsPlace r.size (oldest_pointer r x) (len_of d) next) where
   abbrev y : List ℕ
   y = put r.base (two_bytes next) x
 
@@ -40,7 +40,7 @@ module _ (r : Shape) (shape : IsShape r) (x : List ℕ) (inside : r.base + (4 + 
   pub cleared : take 2 (circle_of r z) ≡ two_bytes 0
   cleared = ap (λ (l : List ℕ). take 2 l) zeroed.circle
 
-  pub newest_same : newest_of r z ≡ newest_of r x
+  pub newest_same : newest_pointer r z ≡ newest_pointer r x
   newest_same = zeroed.newest ∙ turned.newest
 
   pub while_dropping : (c : List ℕ) → IsPartway (piece r.base (two_bytes next) ∷ piece (at r next) (two_bytes 0) ∷ []) x c → Holds r c (d ∷ e ∷ ds) ⊎ Holds r c (e ∷ ds)

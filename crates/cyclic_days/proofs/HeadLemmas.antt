@@ -6,7 +6,7 @@ use Rattle.card_model.specs.Days.{Day, len_of, record_of, IsDay}
 use Rattle.card_model.proofs.Numbers.{number_two, number_four, decimal_same}
 use Rattle.cyclic_days.specs.declared.head.DayHead.{DayHead}
 use Rattle.cyclic_days.specs.declared.head.RecordHead.{RecordHead}
-use Rattle.cyclic_days.specs.Heads.{head_bytes, day_head_of, head_of}
+use Rattle.cyclic_days.specs.Heads.{head_bytes, day_head_of, day_head}
 
 -- twelve bytes in pairs
 pub in_pairs : (b : List ℕ) → take 2 b ++ (take 2 (drop 2 b) ++ (take 2 (drop 4 b) ++ (take 2 (drop 6 b) ++ (take 2 (drop 8 b) ++ drop 10 b)))) ≡ b
@@ -52,7 +52,7 @@ module _ (h : RecordHead) (q : ℕ) (d : Day) (rest : List ℕ) (same : head_byt
   pub km_is : h.km ≡ d.km
   km_is = sym (number_two h.km) ∙ ap (λ (l : List ℕ). number (bytes_at l 10 2)) same ∙ number_two d.km
 
-  pub head_is : (p : ℕ) → IsDay d → day_head_of h p ≡ head_of p d
+  pub head_is : (p : ℕ) → IsDay d → day_head_of h p ≡ day_head p d
   head_is p is =
       let count : (h.len - 12) / 2 ≡ length d.words = omega (arith, len_is) in
       ap (λ (n : ℕ). headed p n (decimal h.counter) h.km ((h.len - 12) / 2)) date_is ∙ ap (λ (n : ℕ). headed p d.date n h.km ((h.len - 12) / 2)) (counter_is is)

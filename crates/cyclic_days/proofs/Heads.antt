@@ -3,7 +3,7 @@ use Rattle.std.proofs.Common.{◌≡◌, ℕ, zero, suc, ◌+◌, ◌*◌, ◌<�
 use Rattle.tach_media.specs.Medium.{bytes_at}
 use Rattle.card_model.specs.Bytes.{number, two_bytes, four_bytes, decimal_bytes}
 use Rattle.card_model.specs.Days.{Day, len_of, total, records, record_of, word_bytes}
-use Rattle.card_model.specs.Image.{Shape, IsShape, oldest_of, IsPointer, IsPlace, IsAt, at}
+use Rattle.card_model.specs.Image.{StringShape, IsStringShape, oldest_pointer, IsPointer, IsPlace, IsAt, at}
 use Rattle.card_model.proofs.Circle.{part_back}
 use Rattle.card_model.proofs.Lists.{total-append, records_length, previous_of}
 use Rattle.card_model.proofs.Numbers.{number_two}
@@ -17,7 +17,7 @@ word_part (w ∷ ws) (suc i) rest lt =
     let far : 2 * suc i ≡ suc (suc (2 * i)) = omega arith in
     ap (λ (n : ℕ). bytes_at (word_bytes (w ∷ ws) ++ rest) n 2) far ∙ word_part ws i rest (omega (arith, lt))
 
-module _ (r : Shape) (shape : IsShape r) (x : List ℕ) (inside : r.base + (4 + r.size) ≤ length x) (p : ℕ) (d : Day) (p_pointer : IsPointer r.size p) (day_at : IsAt r x p d) where
+module _ (r : StringShape) (shape : IsStringShape r) (x : List ℕ) (inside : r.base + (4 + r.size) ≤ length x) (p : ℕ) (d : Day) (p_pointer : IsPointer r.size p) (day_at : IsAt r x p d) where
   room : total day_at.older + len_of d ≤ r.size
   room = omega (arith, fills r shape x inside (day_at.older ++ d ∷ day_at.later) day_at.holds, total-append day_at.older (d ∷ day_at.later))
 
@@ -29,7 +29,7 @@ module _ (r : Shape) (shape : IsShape r) (x : List ℕ) (inside : r.base + (4 + 
       let older = day_at.older in
       let a = records h.previous older in
       let back = record_of (previous_of h.previous older) d ++ (records (len_of d) day_at.later ++ h.rest) in
-      sym (circle_part r shape x inside (total older + k) q 2 h.oldest.below (place_then r.size (oldest_of r x) (total older) p k q h.oldest.below p_pointer.below q_pointer.below (omega (arith, room, fits)) day_at.place q_place)
+      sym (circle_part r shape x inside (total older + k) q 2 h.oldest.below (place_then r.size (oldest_pointer r x) (total older) p k q h.oldest.below p_pointer.below q_pointer.below (omega (arith, room, fits)) day_at.place q_place)
       (omega (arith, q_pointer.below, q_pointer.even, shape.even)) (omega (arith, room, fits)))
       ∙ ap (λ (l : List ℕ). bytes_at l (total older + k) 2) (h.spelled ∙ spelled_at h.previous older d day_at.later h.rest)
       ∙ ap (λ (m : ℕ). bytes_at (a ++ back) (m + k) 2) (sym (records_length h.previous older)) ∙ part_back k 2 a back

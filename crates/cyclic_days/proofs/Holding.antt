@@ -4,14 +4,14 @@ use Rattle.tach_media.specs.Medium.{put, bytes_at}
 use Rattle.card_model.specs.Bytes.{number, two_bytes}
 use Rattle.card_model.specs.Days.{Day, len_of, total, far, word_bytes, body, record_of, records, IsDay}
 use Rattle.card_model.specs.Changes.{with_word}
-use Rattle.card_model.specs.Image.{Shape, IsShape, turned, oldest_of, newest_of, circle_of, IsPointer, IsPlace, Holds}
+use Rattle.card_model.specs.Image.{StringShape, IsStringShape, turned, oldest_pointer, newest_pointer, circle_of, IsPointer, IsPlace, Holds}
 use Rattle.card_model.proofs.Circle.{put_back, turned_front}
 use Rattle.card_model.proofs.Lists.{word_bytes-append, record_length, records_length, previous_of, far_last, days_after}
 use Rattle.cyclic_days.proofs.Lists.{days_with, longer_by_two}
 use Rattle.cyclic_days.proofs.Places.{Stands, Turned}
 use Rattle.card_model.proofs.Reading.{place_between, spelled_at}
 
-module _ (r : Shape) (shape : IsShape r) (x : List ℕ) (inside : r.base + (4 + r.size) ≤ length x) where
+module _ (r : StringShape) (shape : IsStringShape r) (x : List ℕ) (inside : r.base + (4 + r.size) ≤ length x) where
   -- a write behind the records
   pub beyond : (days : List Day) (k j : ℕ) (b y : List ℕ) (h : Holds r x days) → k ≡ total days + j → Stands r k b x y → (days ≡ [] → number (bytes_at (circle_of r y) 2 2) ≡ 0)
       → (g : Holds r y days) × (g.rest ≡ put j b h.rest) × (g.previous ≡ h.previous)
@@ -20,7 +20,7 @@ module _ (r : Shape) (shape : IsShape r) (x : List ℕ) (inside : r.base + (4 + 
         record {
           oldest = subst (λ (n : ℕ). IsPointer r.size n) (sym stands.oldest) h.oldest;
           newest = subst (λ (n : ℕ). IsPointer r.size n) (sym stands.newest) h.newest;
-          distance = subst (λ (n : ℕ). IsPlace r.size n (far days) (newest_of r y)) (sym stands.oldest) (subst (λ (n : ℕ). IsPlace r.size (oldest_of r x) (far days) n) (sym stands.newest) h.distance);
+          distance = subst (λ (n : ℕ). IsPlace r.size n (far days) (newest_pointer r y)) (sym stands.oldest) (subst (λ (n : ℕ). IsPlace r.size (oldest_pointer r x) (far days) n) (sym stands.newest) h.distance);
           previous = h.previous;
           rest = put j b h.rest;
           spelled = stands.circle ∙ ap (λ (l : List ℕ). put k b l) h.spelled ∙ ap (λ (n : ℕ). put n b (a ++ h.rest)) (at_k ∙ ap (λ (n : ℕ). n + j) (sym (records_length h.previous days))) ∙ put_back j b a h.rest;
@@ -45,8 +45,8 @@ module _ (r : Shape) (shape : IsShape r) (x : List ℕ) (inside : r.base + (4 + 
       record {
         oldest = subst (λ (n : ℕ). IsPointer r.size n) (sym stands.oldest) h.oldest;
         newest = subst (λ (n : ℕ). IsPointer r.size n) (sym stands.newest) h.newest;
-        distance = subst (λ (n : ℕ). IsPlace r.size n (far (older ++ f ∷ [])) (newest_of r z)) (sym stands.oldest)
-            (subst (λ (n : ℕ). IsPlace r.size (oldest_of r x) (far (older ++ f ∷ [])) n) (sym stands.newest) (subst (λ (n : ℕ). IsPlace r.size (oldest_of r x) n (newest_of r x)) (sym same_far) h.distance));
+        distance = subst (λ (n : ℕ). IsPlace r.size n (far (older ++ f ∷ [])) (newest_pointer r z)) (sym stands.oldest)
+            (subst (λ (n : ℕ). IsPlace r.size (oldest_pointer r x) (far (older ++ f ∷ [])) n) (sym stands.newest) (subst (λ (n : ℕ). IsPlace r.size (oldest_pointer r x) n (newest_pointer r x)) (sym same_far) h.distance));
         previous = h.previous;
         rest = rest;
         spelled = stands.circle ∙ ap (λ (l : List ℕ). put (total older + 2) b l) before
@@ -63,16 +63,16 @@ module _ (r : Shape) (shape : IsShape r) (x : List ℕ) (inside : r.base + (4 + 
       nothing (g ∷ older) f none = cc
 
   -- the oldest pointer moved behind the first of several days
-  pub without_first : (d e : Day) (ds : List Day) (p : ℕ) (y : List ℕ) → Holds r x (d ∷ e ∷ ds) → IsPointer r.size p → IsPlace r.size (oldest_of r x) (len_of d) p → Turned r (len_of d) p x y → Holds r y (e ∷ ds)
+  pub without_first : (d e : Day) (ds : List Day) (p : ℕ) (y : List ℕ) → Holds r x (d ∷ e ∷ ds) → IsPointer r.size p → IsPlace r.size (oldest_pointer r x) (len_of d) p → Turned r (len_of d) p x y → Holds r y (e ∷ ds)
   without_first d e ds p y h pointer place turns =
       let front = record_of h.previous d in
       let later = records (len_of d) (e ∷ ds) in
-      let n = newest_of r x in
+      let n = newest_pointer r x in
       record {
         oldest = subst (λ (n : ℕ). IsPointer r.size n) (sym turns.oldest) pointer;
         newest = subst (λ (n : ℕ). IsPointer r.size n) (sym turns.newest) h.newest;
-        distance = subst (λ (n : ℕ). IsPlace r.size n (far (e ∷ ds)) (newest_of r y)) (sym turns.oldest)
-            (subst (λ (n : ℕ). IsPlace r.size p (far (e ∷ ds)) n) (sym turns.newest) (place_between r.size (oldest_of r x) (len_of d) p (far (e ∷ ds)) n pointer.below h.newest.below place h.distance));
+        distance = subst (λ (n : ℕ). IsPlace r.size n (far (e ∷ ds)) (newest_pointer r y)) (sym turns.oldest)
+            (subst (λ (n : ℕ). IsPlace r.size p (far (e ∷ ds)) n) (sym turns.newest) (place_between r.size (oldest_pointer r x) (len_of d) p (far (e ∷ ds)) n pointer.below h.newest.below place h.distance));
         previous = len_of d;
         rest = h.rest ++ front;
         spelled = turns.circle ∙ ap (λ (l : List ℕ). turned (len_of d) l) (h.spelled ∙ append_assoc front later h.rest)
@@ -89,7 +89,7 @@ module _ (r : Shape) (shape : IsShape r) (x : List ℕ) (inside : r.base + (4 + 
   finished e ds previous y h stands = record {
     oldest = subst (λ (n : ℕ). IsPointer r.size n) (sym stands.oldest) h.oldest;
     newest = subst (λ (n : ℕ). IsPointer r.size n) (sym stands.newest) h.newest;
-    distance = subst (λ (n : ℕ). IsPlace r.size n (far (e ∷ ds)) (newest_of r y)) (sym stands.oldest) (subst (λ (n : ℕ). IsPlace r.size (oldest_of r x) (far (e ∷ ds)) n) (sym stands.newest) h.distance);
+    distance = subst (λ (n : ℕ). IsPlace r.size n (far (e ∷ ds)) (newest_pointer r y)) (sym stands.oldest) (subst (λ (n : ℕ). IsPlace r.size (oldest_pointer r x) (far (e ∷ ds)) n) (sym stands.newest) h.distance);
     previous = previous;
     rest = h.rest;
     spelled = stands.circle ∙ ap (λ (l : List ℕ). put 0 (two_bytes previous) l) h.spelled;

@@ -8,23 +8,23 @@ use Rattle.tach_media.specs.Medium.{bytes_at, SameOutside}
 use Rattle.write_plan.specs.Plan.{Piece, piece, put_all, IsInside}
 use Rattle.write_plan.proofs.Plans.{puts_outside}
 use Rattle.card_model.specs.Bytes.{number, two_bytes}
-use Rattle.card_model.specs.Image.{Shape, IsShape, IsPointer, spot, at}
+use Rattle.card_model.specs.Image.{StringShape, IsStringShape, IsPointer, spot, at}
 use Rattle.cyclic_days.specs.Held.{Held, IsHeld, newest_len, end_of, oldest_at}
 use Rattle.cyclic_days.specs.Plans.{dropped_len, left_in, drop_pieces, word_pieces, change_pieces, round_pieces, pointer_pieces, day_pieces, beginning_pieces}
 use Rattle.cyclic_days.proofs.Matching.{end_is, oldest_is}
 use Rattle.cyclic_days.proofs.Rounds.{spot_is}
 
-abbrev pub AreInside : Shape → List Piece → Type 0
+abbrev pub AreInside : StringShape → List Piece → Type 0
 AreInside r ps = AllByRecursion (IsInside r.base (r.base + (4 + r.size))) ps
 
-pub all_then : (r : Shape) (ps qs : List Piece) → AreInside r ps → AreInside r qs → AreInside r (ps ++ qs)
+pub all_then : (r : StringShape) (ps qs : List Piece) → AreInside r ps → AreInside r qs → AreInside r (ps ++ qs)
 all_then r [] qs first next = next
 all_then r (p ∷ ps) qs first next = (first.0, all_then r ps qs first.1 next)
 
-pub put_length : (r : Shape) (ps : List Piece) (x : List ℕ) → r.base + (4 + r.size) ≤ length x → AreInside r ps → r.base + (4 + r.size) ≤ length (put_all ps x)
+pub put_length : (r : StringShape) (ps : List Piece) (x : List ℕ) → r.base + (4 + r.size) ≤ length x → AreInside r ps → r.base + (4 + r.size) ≤ length (put_all ps x)
 put_length r ps x inside all = omega (arith, inside, (puts_outside r.base (4 + r.size) ps all x inside).same_length)
 
-on_string : (r : Shape) (p : ℕ) (bytes : List ℕ) → 0 < length bytes → length bytes ≤ 12 → p + length bytes ≤ r.size → IsInside r.base (r.base + (4 + r.size)) (piece (at r p) bytes)
+on_string : (r : StringShape) (p : ℕ) (bytes : List ℕ) → 0 < length bytes → length bytes ≤ 12 → p + length bytes ≤ r.size → IsInside r.base (r.base + (4 + r.size)) (piece (at r p) bytes)
 on_string r p bytes some short fits = record { some = some; short = omega (arith, short); behind = omega arith; inside = omega (arith, fits) }
 
 -- what is left of an even number of bytes
@@ -36,7 +36,7 @@ dropped_low n = by (nat_eq (n % 2) 0 && (nat_le 14 n && nat_le n 2892)) refl
     by true test = (grind (arith, nat_tests, test), grind (arith, nat_tests, test), grind (arith, nat_tests, test))
 
 module _ (v : Held) (is : IsHeld v) where
-  abbrev r : Shape
+  abbrev r : StringShape
   r = v.shape
 
   two_fit : (p : ℕ) → IsPointer r.size p → p + 2 ≤ r.size

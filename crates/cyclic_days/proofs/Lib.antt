@@ -22,7 +22,7 @@ pub mod Newest
 pub mod OneWrite
 pub mod Places
 pub mod Putting
-pub mod Retention
+pub mod Roomier
 pub mod Rounds
 pub mod Rows
 pub mod Settling
@@ -30,5 +30,4 @@ pub mod Starting
 pub mod Tails
 pub mod Told
 pub mod Trimming
-pub mod TrimMoments
 pub mod Using

@@ -1,6 +1,7 @@
 -- Days, their records and the ends of their list.
 use Rattle.std.proofs.Common.{◌≡◌, ◌≢◌, ℕ, ◌+◌, ◌*◌, ◌<◌, ◌≤◌, List, [], ◌∷◌, ◌++◌, length, refl, ap, arith, length-append, lit<}
-use Rattle.card_model.specs.Days.{Day, len_of, body, minute_of, Ascend, AreWords, IsDay, AreDays}
+use Rattle.activity_codec.specs.Words.{word_minute}
+use Rattle.card_model.specs.Days.{Day, len_of, body, Ascend, AreWords, IsDay, AreDays}
 use Rattle.card_model.specs.Changes.{Increase, AreStrict, with_newest, OnNewest, with_word, TakesWord}
 use Rattle.card_model.proofs.Lists.{word_bytes_length}
 
@@ -33,11 +34,11 @@ days_with date (f ∷ ds) d e same is are = (are.0, are.1, days_with f.date ds d
 -- words that increase do not decrease, and there are few of them
 ascends : (m : ℕ) (ws : List ℕ) → Increase m ws → Ascend m ws
 ascends m [] up = tt
-ascends m (w ∷ ws) up = (omega (arith, up.0), up.1, ascends (minute_of w) ws up.2)
+ascends m (w ∷ ws) up = (omega (arith, up.0), up.1, ascends (word_minute w) ws up.2)
 
 few : (m : ℕ) (ws : List ℕ) → m < 1440 → Increase m ws → length ws + m < 1440
 few m [] low up = omega (arith, low)
-few m (w ∷ ws) low up = omega (arith, few (minute_of w) ws up.1 up.2, up.0)
+few m (w ∷ ws) low up = omega (arith, few (word_minute w) ws up.1 up.2, up.0)
 
 pub strict_words : (ws : List ℕ) → AreStrict ws → AreWords ws
 strict_words [] are = are

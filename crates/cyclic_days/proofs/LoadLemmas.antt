@@ -5,7 +5,8 @@ use Rattle.std.proofs.lemmas.Bool.Decides.{nat_tests}
 use Rattle.std.proofs.lemmas.List.{drop-drop, drop-take, take-take}
 use Rattle.tach_media.specs.Medium.{bytes_at}
 use Rattle.card_model.specs.Bytes.{number, two_bytes, four_bytes, decimal_bytes, decimal}
-use Rattle.card_model.specs.Days.{Day, len_of, minute_of, Ascend, AreWords, word_bytes}
+use Rattle.activity_codec.specs.Words.{word_minute}
+use Rattle.card_model.specs.Days.{Day, len_of, Ascend, AreWords, word_bytes}
 use Rattle.card_model.specs.Walk.{words_of}
 use Rattle.card_model.specs.Checks.{Check, check, first_failing, is_len, is_previous, is_date, is_decimal, field_checks, word_checks, record_checks}
 use Rattle.card_model.proofs.Numbers.{number_two, number_four}
@@ -74,18 +75,18 @@ is_previous_cases so_far before previous test = by (nat_eq so_far 0) refl test
 later_words : (offset from : ℕ) (ws : List ℕ) → first_failing (word_checks offset from 1440 ws) ≡ None → Ascend from ws
 later_words offset from [] none = tt
 later_words offset from (w ∷ ws) none =
-    let first = first_passes (nat_le from (minute_of w) && nat_lt (minute_of w) 1440) offset (word_checks (offset + 2) (minute_of w) 1440 ws) none in
-    let tests = parts_true (nat_le from (minute_of w)) (nat_lt (minute_of w) 1440) first.0 in
-    (le_from from (minute_of w) tests.0, lt_from (minute_of w) 1440 tests.1, later_words (offset + 2) (minute_of w) ws first.1)
+    let first = first_passes (nat_le from (word_minute w) && nat_lt (word_minute w) 1440) offset (word_checks (offset + 2) (word_minute w) 1440 ws) none in
+    let tests = parts_true (nat_le from (word_minute w)) (nat_lt (word_minute w) 1440) first.0 in
+    (le_from from (word_minute w) tests.0, lt_from (word_minute w) 1440 tests.1, later_words (offset + 2) (word_minute w) ws first.1)
 
 words_are : (offset : ℕ) (ws : List ℕ) → 0 < length ws → first_failing (word_checks offset 0 1 ws) ≡ None → AreWords ws
 words_are offset [] some none = absurd (omega (arith, some))
 words_are offset (w ∷ ws) some none =
-    let first = first_passes (nat_le 0 (minute_of w) && nat_lt (minute_of w) 1) offset (word_checks (offset + 2) (minute_of w) 1440 ws) none in
-    let tests = parts_true (nat_le 0 (minute_of w)) (nat_lt (minute_of w) 1) first.0 in
-    let low : minute_of w < 1 = lt_from (minute_of w) 1 tests.1 in
-    let zero_minute : minute_of w ≡ 0 = omega (arith, low) in
-    (zero_minute, subst (λ (m : ℕ). Ascend m ws) zero_minute (later_words (offset + 2) (minute_of w) ws first.1))
+    let first = first_passes (nat_le 0 (word_minute w) && nat_lt (word_minute w) 1) offset (word_checks (offset + 2) (word_minute w) 1440 ws) none in
+    let tests = parts_true (nat_le 0 (word_minute w)) (nat_lt (word_minute w) 1) first.0 in
+    let low : word_minute w < 1 = lt_from (word_minute w) 1 tests.1 in
+    let zero_minute : word_minute w ≡ 0 = omega (arith, low) in
+    (zero_minute, subst (λ (m : ℕ). Ascend m ws) zero_minute (later_words (offset + 2) (word_minute w) ws first.1))
 
 -- words whose bytes were read
 pub words_spelled : (n : ℕ) (l : List ℕ) → ArePairs n l → l ≡ word_bytes (words_of n l) ++ drop (2 * n) l

@@ -5,7 +5,7 @@ use Rattle.std.proofs.lemmas.List.{take_at, take-append-le, append-nil}
 use Rattle.tach_media.specs.Medium.{bytes_at}
 use Rattle.card_model.specs.Bytes.{number}
 use Rattle.card_model.specs.Days.{Day, len_of, total, record_of, records, IsDay, AreDays}
-use Rattle.card_model.specs.Image.{Shape, IsShape, turned, oldest_of, newest_of, string_of, circle_of, IsPointer, IsPlace, spot, Holds}
+use Rattle.card_model.specs.Image.{StringShape, IsStringShape, turned, oldest_pointer, newest_pointer, string_of, circle_of, IsPointer, IsPlace, spot, Holds}
 use Rattle.card_model.specs.Walk.{days_of}
 use Rattle.card_model.specs.Checks.{Check, check, first_failing, is_pointer, day_checks, distance_of, is_empty, first_bad}
 use Rattle.card_model.proofs.Numbers.{number_two, number_four}
@@ -43,7 +43,7 @@ cons_none : (e : Day) (es : List Day) → e ∷ es ≡ [] → ⊥
 cons_none e es none = cc
 
 -- what was read: days whose records begin the circle, and what is left of the checks
-pub record IsWalked (r : Shape) (x : List ℕ) (reach so_far before date : ℕ) : Type 0 where
+pub record IsWalked (r : StringShape) (x : List ℕ) (reach so_far before date : ℕ) : Type 0 where
   pub done : List Day
   pub first : ℕ
   pub rest : List ℕ
@@ -54,10 +54,10 @@ pub record IsWalked (r : Shape) (x : List ℕ) (reach so_far before date : ℕ) 
   pub follows : (done ≡ []) ⊎ (previous_of first done ≡ before)
   pub date_is : last_date 0 done ≡ date
   pub enough : r.size ≤ so_far + 14 * most
-  pub checks : first_failing (day_checks 984 r.size (oldest_of r x) reach 0 0 0 (circle_of r x)) ≡ first_failing (day_checks most r.size (oldest_of r x) reach so_far before date (turned so_far (circle_of r x)))
+  pub checks : first_failing (day_checks 984 r.size (oldest_pointer r x) reach 0 0 0 (circle_of r x)) ≡ first_failing (day_checks most r.size (oldest_pointer r x) reach so_far before date (turned so_far (circle_of r x)))
 
 -- before the first
-pub walked_none : (r : Shape) (shape : IsShape r) (x : List ℕ) (reach : ℕ) → IsWalked r x reach 0 0 0
+pub walked_none : (r : StringShape) (shape : IsStringShape r) (x : List ℕ) (reach : ℕ) → IsWalked r x reach 0 0 0
 walked_none r shape x reach = record {
   done = [];
   first = 0;
@@ -69,11 +69,11 @@ walked_none r shape x reach = record {
   follows = inl refl;
   date_is = refl;
   enough = omega (arith, shape.high);
-  checks = ap (λ (l : List ℕ). first_failing (day_checks 984 r.size (oldest_of r x) reach 0 0 0 l)) (sym (append-nil (circle_of r x)));
+  checks = ap (λ (l : List ℕ). first_failing (day_checks 984 r.size (oldest_pointer r x) reach 0 0 0 l)) (sym (append-nil (circle_of r x)));
 }
 
 -- the circle from a place on, and from a distance on
-pub from_place : (r : Shape) (shape : IsShape r) (x : List ℕ) → r.base + (4 + r.size) ≤ length x → (o so_far : ℕ) → o ≡ oldest_of r x → IsPointer r.size o → so_far < r.size → so_far % 2 ≡ 0 → turned (spot r.size o so_far) (string_of r x) ≡ turned so_far (circle_of r x)
+pub from_place : (r : StringShape) (shape : IsStringShape r) (x : List ℕ) → r.base + (4 + r.size) ≤ length x → (o so_far : ℕ) → o ≡ oldest_pointer r x → IsPointer r.size o → so_far < r.size → so_far % 2 ≡ 0 → turned (spot r.size o so_far) (string_of r x) ≡ turned so_far (circle_of r x)
 from_place r shape x inside o so_far o_is pointer below even =
     let s = string_of r x in
     let s_length : length s ≡ r.size = string_length r x inside in
@@ -84,7 +84,7 @@ from_place r shape x inside o so_far o_is pointer below even =
 turned_more : (l : List ℕ) (j k : ℕ) → j + k < length l → turned k (turned j l) ≡ turned (j + k) l
 turned_more l j k fits = sym (turned_twice l j k (j + k) (omega (arith, fits)) fits (omega (arith, fits)) (inl refl))
 
-module _ (r : Shape) (shape : IsShape r) (x : List ℕ) (inside : r.base + (4 + r.size) ≤ length x) (reach so_far before date : ℕ) (below : so_far < r.size) (w : IsWalked r x reach so_far before date) where
+module _ (r : StringShape) (shape : IsStringShape r) (x : List ℕ) (inside : r.base + (4 + r.size) ≤ length x) (reach so_far before date : ℕ) (below : so_far < r.size) (w : IsWalked r x reach so_far before date) where
   abbrev bytes : List ℕ
   bytes = turned so_far (circle_of r x)
 
@@ -96,11 +96,11 @@ module _ (r : Shape) (shape : IsShape r) (x : List ℕ) (inside : r.base + (4 + 
       by zero is = absurd (omega (arith, w.enough, is, below))
       by (suc m) is = (m, is)
 
-  left : first_failing (day_checks 984 r.size (oldest_of r x) reach 0 0 0 (circle_of r x)) ≡ first_failing (day_checks (suc more.0) r.size (oldest_of r x) reach so_far before date bytes)
-  left = w.checks ∙ ap (λ (n : ℕ). first_failing (day_checks n r.size (oldest_of r x) reach so_far before date bytes)) more.1
+  left : first_failing (day_checks 984 r.size (oldest_pointer r x) reach 0 0 0 (circle_of r x)) ≡ first_failing (day_checks (suc more.0) r.size (oldest_pointer r x) reach so_far before date bytes)
+  left = w.checks ∙ ap (λ (n : ℕ). first_failing (day_checks n r.size (oldest_pointer r x) reach so_far before date bytes)) more.1
 
-  pub walked_bad : (p : ℕ) → FailsAt r.size (oldest_of r x) so_far before date bytes p → first_failing (day_checks 984 r.size (oldest_of r x) reach 0 0 0 (circle_of r x)) ≡ Some p
-  walked_bad p bad = left ∙ day_bad more.0 r.size (oldest_of r x) reach so_far before date bytes bad.offset bad.fails ∙ ap Some (sym bad.is)
+  pub walked_bad : (p : ℕ) → FailsAt r.size (oldest_pointer r x) so_far before date bytes p → first_failing (day_checks 984 r.size (oldest_pointer r x) reach 0 0 0 (circle_of r x)) ≡ Some p
+  walked_bad p bad = left ∙ day_bad more.0 r.size (oldest_pointer r x) reach so_far before date bytes bad.offset bad.fails ∙ ap Some (sym bad.is)
 
   module _ (h : RecordHead) (one : IsRecord r.size so_far before date bytes h) where
     len_same : number (bytes_at bytes 2 2) ≡ h.len
@@ -109,8 +109,8 @@ module _ (r : Shape) (shape : IsShape r) (x : List ℕ) (inside : r.base + (4 + 
     date_same : number (bytes_at bytes 4 4) ≡ h.date
     date_same = ap (λ (l : List ℕ). number (bytes_at l 4 4)) one.spelled ∙ number_four one.day.date ∙ sym one.date_is
 
-    pub walked_past : so_far ≢ reach → reach < so_far + h.len → first_failing (day_checks 984 r.size (oldest_of r x) reach 0 0 0 (circle_of r x)) ≡ Some 2
-    walked_past other past = left ∙ day_past more.0 r.size (oldest_of r x) reach so_far before date bytes one.passes other (omega (arith, past, len_same))
+    pub walked_past : so_far ≢ reach → reach < so_far + h.len → first_failing (day_checks 984 r.size (oldest_pointer r x) reach 0 0 0 (circle_of r x)) ≡ Some 2
+    walked_past other past = left ∙ day_past more.0 r.size (oldest_pointer r x) reach so_far before date bytes one.passes other (omega (arith, past, len_same))
 
     -- the records with one more
     abbrev Longer : Type 0
@@ -158,17 +158,17 @@ module _ (r : Shape) (shape : IsShape r) (x : List ℕ) (inside : r.base + (4 + 
           follows = inr (previous_end longer.0 w.done one.day ∙ sym one.len);
           date_is = last_date_last 0 w.done one.day ∙ sym one.date_is;
           enough = omega (arith, w.enough, more.1, one.len, len_least one.day one.is);
-          checks = left ∙ day_next more.0 r.size (oldest_of r x) reach so_far before date bytes one.passes other (omega (arith, within, len_same))
-              ∙ ap (λ (k : ℕ). first_failing (day_checks more.0 r.size (oldest_of r x) reach (so_far + k) k (number (bytes_at bytes 4 4)) (turned (number (bytes_at bytes 2 2)) bytes))) len_same
-              ∙ ap (λ (k : ℕ). first_failing (day_checks more.0 r.size (oldest_of r x) reach (so_far + h.len) h.len k (turned (number (bytes_at bytes 2 2)) bytes))) date_same
-              ∙ ap (λ (l : List ℕ). first_failing (day_checks more.0 r.size (oldest_of r x) reach (so_far + h.len) h.len h.date l)) bytes_too;
+          checks = left ∙ day_next more.0 r.size (oldest_pointer r x) reach so_far before date bytes one.passes other (omega (arith, within, len_same))
+              ∙ ap (λ (k : ℕ). first_failing (day_checks more.0 r.size (oldest_pointer r x) reach (so_far + k) k (number (bytes_at bytes 4 4)) (turned (number (bytes_at bytes 2 2)) bytes))) len_same
+              ∙ ap (λ (k : ℕ). first_failing (day_checks more.0 r.size (oldest_pointer r x) reach (so_far + h.len) h.len k (turned (number (bytes_at bytes 2 2)) bytes))) date_same
+              ∙ ap (λ (l : List ℕ). first_failing (day_checks more.0 r.size (oldest_pointer r x) reach (so_far + h.len) h.len h.date l)) bytes_too;
         }
 
-    pub walked_last : so_far ≡ reach → IsPointer r.size (oldest_of r x) → IsPointer r.size (newest_of r x) → IsPlace r.size (oldest_of r x) reach (newest_of r x) → Holds r x (w.done ++ one.day ∷ [])
+    pub walked_last : so_far ≡ reach → IsPointer r.size (oldest_pointer r x) → IsPointer r.size (newest_pointer r x) → IsPlace r.size (oldest_pointer r x) reach (newest_pointer r x) → Holds r x (w.done ++ one.day ∷ [])
     walked_last last oldest newest place = record {
       oldest = oldest;
       newest = newest;
-      distance = subst (λ (k : ℕ). IsPlace r.size (oldest_of r x) k (newest_of r x)) (sym last ∙ w.sum ∙ sym (far_last w.done one.day)) place;
+      distance = subst (λ (k : ℕ). IsPlace r.size (oldest_pointer r x) k (newest_pointer r x)) (sym last ∙ w.sum ∙ sym (far_last w.done one.day)) place;
       previous = longer.0;
       rest = longer.1;
       spelled = longer.2;
@@ -177,7 +177,7 @@ module _ (r : Shape) (shape : IsShape r) (x : List ℕ) (inside : r.base + (4 + 
     }
 
     -- and so those that the walk of the definition finds
-    pub walked_holds : so_far ≡ reach → IsPointer r.size (oldest_of r x) → IsPointer r.size (newest_of r x) → IsPlace r.size (oldest_of r x) reach (newest_of r x) → Holds r x (days_of r x)
+    pub walked_holds : so_far ≡ reach → IsPointer r.size (oldest_pointer r x) → IsPointer r.size (newest_pointer r x) → IsPlace r.size (oldest_pointer r x) reach (newest_pointer r x) → Holds r x (days_of r x)
     walked_holds last oldest newest place =
         let h = walked_last last oldest newest place in
         subst (λ (l : List Day). Holds r x l) (sym (walked r shape x inside (w.done ++ one.day ∷ []) h)) h
@@ -194,32 +194,32 @@ pointer_is size p test =
     let two = parts_true (nat_lt p size) (nat_eq (p % 2) 0) test in
     record { below = lt_from p size two.0; even = eq_from (p % 2) 0 two.1 }
 
-module _ (r : Shape) (x : List ℕ) where
-  pub bad_oldest : is_pointer r.size (oldest_of r x) ≡ false → first_bad r x ≡ Some 0
+module _ (r : StringShape) (x : List ℕ) where
+  pub bad_oldest : is_pointer r.size (oldest_pointer r x) ≡ false → first_bad r x ≡ Some 0
   unfolding first_bad
-  bad_oldest is = false_first (is_pointer r.size (oldest_of r x)) 0 (check (is_pointer r.size (newest_of r x)) 2 ∷ checks_unless r x (is_empty r x)) is
+  bad_oldest is = false_first (is_pointer r.size (oldest_pointer r x)) 0 (check (is_pointer r.size (newest_pointer r x)) 2 ∷ checks_unless r x (is_empty r x)) is
 
-  module _ (oldest : is_pointer r.size (oldest_of r x) ≡ true) where
-    pub bad_newest : is_pointer r.size (newest_of r x) ≡ false → first_bad r x ≡ Some 2
+  module _ (oldest : is_pointer r.size (oldest_pointer r x) ≡ true) where
+    pub bad_newest : is_pointer r.size (newest_pointer r x) ≡ false → first_bad r x ≡ Some 2
     unfolding first_bad
-    bad_newest is = true_first (is_pointer r.size (oldest_of r x)) 0 (check (is_pointer r.size (newest_of r x)) 2 ∷ checks_unless r x (is_empty r x)) oldest
-        ∙ false_first (is_pointer r.size (newest_of r x)) 2 (checks_unless r x (is_empty r x)) is
+    bad_newest is = true_first (is_pointer r.size (oldest_pointer r x)) 0 (check (is_pointer r.size (newest_pointer r x)) 2 ∷ checks_unless r x (is_empty r x)) oldest
+        ∙ false_first (is_pointer r.size (newest_pointer r x)) 2 (checks_unless r x (is_empty r x)) is
 
-    module _ (newest : is_pointer r.size (newest_of r x) ≡ true) where
+    module _ (newest : is_pointer r.size (newest_pointer r x) ≡ true) where
       -- the days' checks, where the string is not empty
-      pub bad_days : is_empty r x ≡ false → first_bad r x ≡ first_failing (day_checks 984 r.size (oldest_of r x) (distance_of r.size (oldest_of r x) (newest_of r x)) 0 0 0 (circle_of r x))
+      pub bad_days : is_empty r x ≡ false → first_bad r x ≡ first_failing (day_checks 984 r.size (oldest_pointer r x) (distance_of r.size (oldest_pointer r x) (newest_pointer r x)) 0 0 0 (circle_of r x))
       unfolding first_bad
-      bad_days some = true_first (is_pointer r.size (oldest_of r x)) 0 (check (is_pointer r.size (newest_of r x)) 2 ∷ checks_unless r x (is_empty r x)) oldest
-          ∙ true_first (is_pointer r.size (newest_of r x)) 2 (checks_unless r x (is_empty r x)) newest
+      bad_days some = true_first (is_pointer r.size (oldest_pointer r x)) 0 (check (is_pointer r.size (newest_pointer r x)) 2 ∷ checks_unless r x (is_empty r x)) oldest
+          ∙ true_first (is_pointer r.size (newest_pointer r x)) 2 (checks_unless r x (is_empty r x)) newest
           ∙ ap (λ (b : Bool). first_failing (checks_unless r x b)) some
 
-      pub empty_holds : IsShape r → r.base + (4 + r.size) ≤ length x → is_empty r x ≡ true → Holds r x (days_of r x)
+      pub empty_holds : IsStringShape r → r.base + (4 + r.size) ≤ length x → is_empty r x ≡ true → Holds r x (days_of r x)
       empty_holds shape inside none =
-          let two = parts_true (nat_eq (oldest_of r x) (newest_of r x)) (nat_eq (number (bytes_at (circle_of r x) 2 2)) 0) none in
-          let same : oldest_of r x ≡ newest_of r x = eq_from (oldest_of r x) (newest_of r x) two.0 in
+          let two = parts_true (nat_eq (oldest_pointer r x) (newest_pointer r x)) (nat_eq (number (bytes_at (circle_of r x) 2 2)) 0) none in
+          let same : oldest_pointer r x ≡ newest_pointer r x = eq_from (oldest_pointer r x) (newest_pointer r x) two.0 in
           let h : Holds r x [] = record {
-            oldest = pointer_is r.size (oldest_of r x) oldest;
-            newest = pointer_is r.size (newest_of r x) newest;
+            oldest = pointer_is r.size (oldest_pointer r x) oldest;
+            newest = pointer_is r.size (newest_pointer r x) newest;
             distance = inl (omega (arith, same));
             previous = 0;
             rest = circle_of r x;

@@ -8,23 +8,24 @@ use Rattle.write_plan.specs.Plan.{Piece, piece, put_all, IsPartway}
 use Rattle.card_model.specs.Bytes.{number, two_bytes}
 use Rattle.card_model.specs.Changes.{Remain}
 use Rattle.card_model.specs.Days.{Day, len_of, total, far, last_len, AreDays}
-use Rattle.card_model.specs.Image.{Shape, IsShape, circle_of, oldest_of, newest_of, IsPointer, IsPlace, spot, Holds, at}
+use Rattle.card_model.specs.Image.{StringShape, IsStringShape, circle_of, oldest_pointer, newest_pointer, IsPointer, IsPlace, spot, Holds, at}
 use Rattle.card_model.proofs.Lists.{total-append, last_len_is, len_least, len_most, len_even}
 use Rattle.card_model.proofs.Reading.{place_then, fills, len_read, round_part}
 use Rattle.cyclic_days.specs.declared.head.DayHead.{DayHead}
-use Rattle.cyclic_days.specs.Held.{Held, IsHeld, Knows, IsNewest, newest_len, end_of, oldest_at}
+use Rattle.cyclic_days.specs.Held.{Held, IsHeld, Knows, IsNewestHead, newest_len, end_of, oldest_at}
 use Rattle.cyclic_days.specs.Moments.{IsCleared}
 use Rattle.cyclic_days.specs.Plans.{dropped_len, left_in, drop_pieces}
 use Rattle.cyclic_days.specs.Steps.{roomier}
 use Rattle.cyclic_days.proofs.Dropping.{cleared, first_finished, newest_same, while_dropping}
 use Rattle.cyclic_days.proofs.HeadWalks.{total_even}
-use Rattle.cyclic_days.proofs.Retention.{remain_all, remain_once, roomier_all, roomier_less}
+use Rattle.card_model.proofs.Retention.{remain_all}
+use Rattle.cyclic_days.proofs.Roomier.{remain_once, roomier_all, roomier_less}
 use Rattle.cyclic_days.proofs.Rounds.{spot_is}
 
 -- the image holds these days, the newest of them where it is kept, and as long
 pub record Matches (v : Held) (y : List ℕ) (days : List Day) : Type 0 where
   pub holds : Holds v.shape y days
-  pub place : v.tail.head.place ≡ newest_of v.shape y
+  pub place : v.tail.head.place ≡ newest_pointer v.shape y
   pub len : newest_len v ≡ last_len days
 
 -- back from a place that lies so far behind both
@@ -57,7 +58,7 @@ pub len_some : (v : Held) → 0 < v.tail.used → newest_len v ≡ 12 + 2 * v.ta
 len_some v some = ap (λ (b : Bool). cond b 0 (12 + 2 * v.tail.head.words)) (eq_false v.tail.used 0 some)
 
 -- what is kept tells the newest day's length
-newest_words : (v : Held) (d : Day) (ds : List Day) → IsNewest v.tail.head v.tail.latest (d ∷ ds) → 12 + 2 * v.tail.head.words ≡ last_len (d ∷ ds)
+newest_words : (v : Held) (d : Day) (ds : List Day) → IsNewestHead v.tail.head v.tail.latest (d ∷ ds) → 12 + 2 * v.tail.head.words ≡ last_len (d ∷ ds)
 newest_words v d [] is = let words = ap (λ (h : DayHead). h.words) is.0 in omega (arith, words)
 newest_words v d (e ∷ ds) is = newest_words v e ds is
 
@@ -69,11 +70,11 @@ matches v x days k = record { holds = k.holds; place = k.place; len = by days k 
     by (d ∷ ds) k = len_some v (omega (arith, k.used, len_least d k.holds.ordered.1)) ∙ newest_words v d ds k.newest
 
 -- the length before the oldest day stands first on the circle
-pub front_cleared : (r : Shape) (shape : IsShape r) (y : List ℕ) → r.base + (4 + r.size) ≤ length y → IsPointer r.size (oldest_of r y) → take 2 (circle_of r y) ≡ two_bytes 0 → IsCleared r y
-front_cleared r shape y inside pointer front = sym (round_part r shape y inside (oldest_of r y) 2 pointer.below (omega (arith, pointer.below, pointer.even, shape.even))) ∙ front
+pub front_cleared : (r : StringShape) (shape : IsStringShape r) (y : List ℕ) → r.base + (4 + r.size) ≤ length y → IsPointer r.size (oldest_pointer r y) → take 2 (circle_of r y) ≡ two_bytes 0 → IsCleared r y
+front_cleared r shape y inside pointer front = sym (round_part r shape y inside (oldest_pointer r y) 2 pointer.below (omega (arith, pointer.below, pointer.even, shape.even))) ∙ front
 
 module _ (v : Held) (is : IsHeld v) where
-  abbrev r : Shape
+  abbrev r : StringShape
   r = v.shape
 
   len_low : (newest_len v % 2 ≡ 0) × (newest_len v ≤ 2892)
@@ -92,18 +93,18 @@ module _ (v : Held) (is : IsHeld v) where
 
   module _ (y : List ℕ) (inside : r.base + (4 + r.size) ≤ length y) where
     -- the oldest of some of the newest days begins behind the others
-    pub begins : (gone kept : List Day) → Matches v y (gone ++ kept) → IsPlace r.size (oldest_of r y) (total gone) (oldest_at v (total kept)) × IsPointer r.size (oldest_at v (total kept))
+    pub begins : (gone kept : List Day) → Matches v y (gone ++ kept) → IsPlace r.size (oldest_pointer r y) (total gone) (oldest_at v (total kept)) × IsPointer r.size (oldest_at v (total kept))
     begins gone kept m =
         let days = gone ++ kept in
         let h = m.holds in
         let all : total days + length h.rest ≡ r.size = fills r is.shape y inside days h in
         let whole : total days ≡ total gone + total kept = total-append gone kept in
         let q = oldest_is (total kept) (omega (arith, all, whole)) (total_even kept) in
-        let newest : IsPlace r.size (oldest_of r y) (far days) v.tail.head.place = subst (λ (n : ℕ). IsPlace r.size (oldest_of r y) (far days) n) (sym m.place) h.distance in
+        let newest : IsPlace r.size (oldest_pointer r y) (far days) v.tail.head.place = subst (λ (n : ℕ). IsPlace r.size (oldest_pointer r y) (far days) n) (sym m.place) h.distance in
         let sum : far days + newest_len v ≡ total gone + total kept = omega (arith, m.len, last_len_is days, whole) in
-        let end : IsPlace r.size (oldest_of r y) (total gone + total kept) (end_of v) = subst (λ (n : ℕ). IsPlace r.size (oldest_of r y) n (end_of v)) sum
-        (place_then r.size (oldest_of r y) (far days) v.tail.head.place (newest_len v) (end_of v) h.oldest.below is.pointer.below end_is.1.below (omega (arith, sum, whole, all)) newest end_is.0) in
-        (back_from r.size (oldest_of r y) (total gone) (oldest_at v (total kept)) (total kept) (end_of v) q.1.below end q.0, q.1)
+        let end : IsPlace r.size (oldest_pointer r y) (total gone + total kept) (end_of v) = subst (λ (n : ℕ). IsPlace r.size (oldest_pointer r y) n (end_of v)) sum
+        (place_then r.size (oldest_pointer r y) (far days) v.tail.head.place (newest_len v) (end_of v) h.oldest.below is.pointer.below end_is.1.below (omega (arith, sum, whole, all)) newest end_is.0) in
+        (back_from r.size (oldest_pointer r y) (total gone) (oldest_at v (total kept)) (total kept) (end_of v) q.1.below end q.0, q.1)
 
     -- the length that is read of a day that goes
     len_there : (gone : List Day) (d : Day) (later : List Day) → Matches v y (gone ++ d ∷ later) → number (bytes_at y (at r (spot r.size (oldest_at v (total (d ∷ later))) 2)) 2) ≡ len_of d
@@ -113,7 +114,7 @@ module _ (v : Held) (is : IsHeld v) where
         let s = spot_is r.size o 2 is.shape.even b.1 refl (omega (arith, is.shape.low)) in
         let all = fills r is.shape y inside (gone ++ d ∷ later) m.holds in
         len_read r is.shape y inside gone d later m.holds (spot r.size o 2)
-        (place_then r.size (oldest_of r y) (total gone) o 2 (spot r.size o 2) m.holds.oldest.below b.1.below s.1.below (omega (arith, all, total-append gone (d ∷ later))) b.0 s.0)
+        (place_then r.size (oldest_pointer r y) (total gone) o 2 (spot r.size o 2) m.holds.oldest.below b.1.below s.1.below (omega (arith, all, total-append gone (d ∷ later))) b.0 s.0)
         (omega (arith, s.1.below, s.1.even, is.shape.even))
 
     module _ (new : ℕ) (few : new ≤ 16) where
@@ -156,7 +157,7 @@ module _ (v : Held) (is : IsHeld v) where
 
     -- there are two days at least where they do not fit
     several : {T : Type 0} → room < total days
-        → ((d e : Day) (ds : List Day) → days ≡ d ∷ e ∷ ds → Holds r y (d ∷ e ∷ ds) → room < total (d ∷ e ∷ ds) → IsPointer r.size (oldest_at v left) → IsPlace r.size (oldest_of r y) (len_of d) (oldest_at v left) → left < u → T) → T
+        → ((d e : Day) (ds : List Day) → days ≡ d ∷ e ∷ ds → Holds r y (d ∷ e ∷ ds) → room < total (d ∷ e ∷ ds) → IsPointer r.size (oldest_at v left) → IsPlace r.size (oldest_pointer r y) (len_of d) (oldest_at v left) → left < u → T) → T
     several {T} lt then_so = by days refl
       where
         by : (ds : List Day) → days ≡ ds → T
@@ -166,9 +167,9 @@ module _ (v : Held) (is : IsHeld v) where
             let g : Matches v y (d ∷ e ∷ ds) = subst (λ (l : List Day). Matches v y l) is_days m in
             let over : room < total (d ∷ e ∷ ds) = omega (arith, lt, ap total is_days) in
             let left_is : left ≡ total (e ∷ ds) = left_known ∙ ap (λ (l : List Day). total (roomier room l)) is_days ∙ ap total (roomier_less room d (e ∷ ds) over) in
-            let b = subst (λ (k : ℕ). IsPlace r.size (oldest_of r y) (total (d ∷ [])) (oldest_at v k) × IsPointer r.size (oldest_at v k)) (sym left_is) (begins y inside (d ∷ []) (e ∷ ds) g) in
+            let b = subst (λ (k : ℕ). IsPlace r.size (oldest_pointer r y) (total (d ∷ [])) (oldest_at v k) × IsPointer r.size (oldest_at v k)) (sym left_is) (begins y inside (d ∷ []) (e ∷ ds) g) in
             let one : total (d ∷ []) ≡ len_of d = omega arith in
-            then_so d e ds is_days g.holds over b.1 (subst (λ (k : ℕ). IsPlace r.size (oldest_of r y) k (oldest_at v left)) one b.0) (omega (arith, left_is, u_is, ap total is_days))
+            then_so d e ds is_days g.holds over b.1 (subst (λ (k : ℕ). IsPlace r.size (oldest_pointer r y) k (oldest_at v left)) one b.0) (omega (arith, left_is, u_is, ap total is_days))
 
     less_is : (d e : Day) (ds : List Day) → days ≡ d ∷ e ∷ ds → room < total (d ∷ e ∷ ds) → roomier room days ≡ e ∷ ds
     less_is d e ds is_days over = ap (λ (l : List Day). roomier room l) is_days ∙ roomier_less room d (e ∷ ds) over

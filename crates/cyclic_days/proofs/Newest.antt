@@ -8,7 +8,7 @@ use Rattle.cyclic_days.specs.Trim.{newest_later}
 use Rattle.card_model.specs.Days.{last_len, Day, len_of, total, far, records, record_of, IsDay}
 use Rattle.card_model.specs.Bytes.{number, decimal_bytes, decimal}
 use Rattle.card_model.specs.Changes.{counter_after, next_counter, OnNewest}
-use Rattle.card_model.specs.Image.{Shape, IsShape, oldest_of, newest_of, circle_of, IsPointer, IsPlace, Holds, at}
+use Rattle.card_model.specs.Image.{StringShape, IsStringShape, oldest_pointer, newest_pointer, circle_of, IsPointer, IsPlace, Holds, at}
 use Rattle.card_model.proofs.Circle.{part_back}
 use Rattle.card_model.proofs.Lists.{total-append, records_length, previous_of, far_last, last_is}
 use Rattle.cyclic_days.proofs.Lists.{split}
@@ -28,10 +28,10 @@ any_newest : (d : Day) (ds : List Day) → OnNewest (λ e. Unit {0}) (d ∷ ds)
 any_newest d [] = tt
 any_newest d (e ∷ ds) = any_newest e ds
 
-module _ (r : Shape) (shape : IsShape r) (x : List ℕ) (inside : r.base + (4 + r.size) ≤ length x) (n len : ℕ)
-    (n_is : IsPointer r.size (newest_of r x) → n ≡ newest_of r x) (n_pointer : IsPointer r.size n) where
-  newest_at : (days : List Day) → Holds r x days → IsPlace r.size (oldest_of r x) (far days) n
-  newest_at days h = subst (λ (m : ℕ). IsPlace r.size (oldest_of r x) (far days) m) (sym (n_is h.newest)) h.distance
+module _ (r : StringShape) (shape : IsStringShape r) (x : List ℕ) (inside : r.base + (4 + r.size) ≤ length x) (n len : ℕ)
+    (n_is : IsPointer r.size (newest_pointer r x) → n ≡ newest_pointer r x) (n_pointer : IsPointer r.size n) where
+  newest_at : (days : List Day) → Holds r x days → IsPlace r.size (oldest_pointer r x) (far days) n
+  newest_at days h = subst (λ (m : ℕ). IsPlace r.size (oldest_pointer r x) (far days) m) (sym (n_is h.newest)) h.distance
 
   far_below : (days : List Day) → Holds r x days → far days < r.size
   far_below [] h = omega (arith, shape.low)
@@ -39,7 +39,7 @@ module _ (r : Shape) (shape : IsShape r) (x : List ℕ) (inside : r.base + (4 + 
 
   pub last_known : ((q : ℕ) → IsPlace r.size n 2 q → q < r.size → number (bytes_at x (at r q) 2) % 2 ≡ 0 → number (bytes_at x (at r q) 2) ≤ 2892 → len ≡ number (bytes_at x (at r q) 2))
       → (days : List Day) → Holds r x days → len ≡ last_len days
-  last_known len_is days h = omega (arith, used_is r shape x inside (oldest_of r x) n len (far days) refl n_is n_pointer len_is (newest_at days h) (far_below days h) days h, last_len_is days)
+  last_known len_is days h = omega (arith, used_is r shape x inside (oldest_pointer r x) n len (far days) refl n_is n_pointer len_is (newest_at days h) (far_below days h) days h, last_len_is days)
 
   -- the counter's field, where there is a newest day
   counter_at : (q : ℕ) → IsPlace r.size n 8 q → IsPointer r.size q → (older : List Day) (d : Day) → Holds r x (older ++ d ∷ []) → counter_after (decimal (number (bytes_at x (at r q) 2))) ≡ next_counter (older ++ d ∷ [])
@@ -47,8 +47,8 @@ module _ (r : Shape) (shape : IsShape r) (x : List ℕ) (inside : r.base + (4 + 
       let day : IsDay d = last_is 0 older d h.ordered in
       let all = fills r shape x inside (older ++ d ∷ []) h in
       let whole : total (older ++ d ∷ []) ≡ total older + (len_of d + 0) = total-append older (d ∷ []) in
-      let newest : IsPlace r.size (oldest_of r x) (total older) n = subst (λ (m : ℕ). IsPlace r.size (oldest_of r x) m n) (far_last older d) (newest_at (older ++ d ∷ []) h) in
-      let field : IsPlace r.size (oldest_of r x) (total older + 8) q = place_then r.size (oldest_of r x) (total older) n 8 q h.oldest.below n_pointer.below pointer.below (omega (arith, all, whole, len_least d day)) newest place in
+      let newest : IsPlace r.size (oldest_pointer r x) (total older) n = subst (λ (m : ℕ). IsPlace r.size (oldest_pointer r x) m n) (far_last older d) (newest_at (older ++ d ∷ []) h) in
+      let field : IsPlace r.size (oldest_pointer r x) (total older + 8) q = place_then r.size (oldest_pointer r x) (total older) n 8 q h.oldest.below n_pointer.below pointer.below (omega (arith, all, whole, len_least d day)) newest place in
       let a = records h.previous older in
       let back = record_of (previous_of h.previous older) d ++ ([] ++ h.rest) in
       let read : number (bytes_at x (at r q) 2) ≡ number (decimal_bytes d.counter) =
@@ -73,16 +73,16 @@ module _ (r : Shape) (shape : IsShape r) (x : List ℕ) (inside : r.base + (4 + 
       let day : IsDay d = last_is 0 older d h.ordered in
       let all = fills r shape x inside (older ++ d ∷ []) h in
       let whole : total (older ++ d ∷ []) ≡ total older + (len_of d + 0) = total-append older (d ∷ []) in
-      let newest : IsPlace r.size (oldest_of r x) (total older) n = subst (λ (m : ℕ). IsPlace r.size (oldest_of r x) m n) (far_last older d) (newest_at (older ++ d ∷ []) h) in
+      let newest : IsPlace r.size (oldest_pointer r x) (total older) n = subst (λ (m : ℕ). IsPlace r.size (oldest_pointer r x) m n) (far_last older d) (newest_at (older ++ d ∷ []) h) in
       let a = records h.previous older in
       let back = record_of (previous_of h.previous older) d ++ ([] ++ h.rest) in
       let spelled : circle_of r x ≡ a ++ back = h.spelled ∙ spelled_at h.previous older d [] h.rest in
       let high : number (bytes_at x (at r q) 2) ≡ 256 * (0 + d.date / 16777216) + d.date / 65536 % 256 =
-      ap number (sym (circle_part r shape x inside (total older + 4) q 2 h.oldest.below (place_then r.size (oldest_of r x) (total older) n 4 q h.oldest.below n_pointer.below q_pointer.below (omega (arith, all, whole, len_least d day)) newest q_place)
+      ap number (sym (circle_part r shape x inside (total older + 4) q 2 h.oldest.below (place_then r.size (oldest_pointer r x) (total older) n 4 q h.oldest.below n_pointer.below q_pointer.below (omega (arith, all, whole, len_least d day)) newest q_place)
       (omega (arith, q_pointer.below, q_pointer.even, shape.even)) (omega (arith, all, whole, len_least d day)))
       ∙ ap (λ (l : List ℕ). bytes_at l (total older + 4) 2) spelled ∙ ap (λ (m : ℕ). bytes_at (a ++ back) (m + 4) 2) (sym (records_length h.previous older)) ∙ part_back 4 2 a back) in
       let low : number (bytes_at x (at r s) 2) ≡ 256 * (0 + d.date / 256 % 256) + d.date % 256 =
-      ap number (sym (circle_part r shape x inside (total older + 6) s 2 h.oldest.below (place_then r.size (oldest_of r x) (total older) n 6 s h.oldest.below n_pointer.below s_pointer.below (omega (arith, all, whole, len_least d day)) newest s_place)
+      ap number (sym (circle_part r shape x inside (total older + 6) s 2 h.oldest.below (place_then r.size (oldest_pointer r x) (total older) n 6 s h.oldest.below n_pointer.below s_pointer.below (omega (arith, all, whole, len_least d day)) newest s_place)
       (omega (arith, s_pointer.below, s_pointer.even, shape.even)) (omega (arith, all, whole, len_least d day)))
       ∙ ap (λ (l : List ℕ). bytes_at l (total older + 6) 2) spelled ∙ ap (λ (m : ℕ). bytes_at (a ++ back) (m + 6) 2) (sym (records_length h.previous older)) ∙ part_back 6 2 a back) in
       let e1 : d.date / 65536 ≡ 256 * (d.date / 16777216) + d.date / 65536 % 256 = omega arith in

@@ -8,14 +8,14 @@ use Rattle.write_plan.proofs.Plans.{partway_outside, puts_outside}
 use Rattle.card_model.specs.Bytes.{number, two_bytes}
 use Rattle.card_model.specs.Days.{Day, total}
 use Rattle.card_model.specs.Changes.{with_newest, with_km}
-use Rattle.card_model.specs.Image.{Shape, oldest_of, newest_of, IsPlace, IsPointer, Holds, spot, at}
+use Rattle.card_model.specs.Image.{StringShape, oldest_pointer, newest_pointer, IsPlace, IsPointer, Holds, spot, at}
 use Rattle.cyclic_days.specs.declared.head.DayHead.{DayHead}
 use Rattle.cyclic_days.specs.declared.head.Tail.{Tail}
-use Rattle.cyclic_days.specs.Heads.{head_of}
-use Rattle.cyclic_days.specs.Held.{Held, IsHeld, Knows, IsNewest, oldest_at}
+use Rattle.cyclic_days.specs.Heads.{day_head}
+use Rattle.cyclic_days.specs.Held.{Held, IsHeld, Knows, IsNewestHead, oldest_at}
 use Rattle.cyclic_days.specs.Moments.{IfKnown}
 use Rattle.cyclic_days.specs.Plans.{mend_pieces, km_pieces, tail_km}
-use Rattle.cyclic_days.specs.Steps.{SameDays, IsMended, IsMeasured, IsMeasuring, KnowsMeasured}
+use Rattle.cyclic_days.specs.Steps.{SameDays, IsDropMended, IsMeasured, IsMeasuring, KnowsMeasured}
 use Rattle.cyclic_days.proofs.Inside.{AreInside, two_in}
 use Rattle.cyclic_days.proofs.Matching.{matches, begins, oldest_is}
 use Rattle.cyclic_days.proofs.Mending.{first_mended, while_mending, measured_one, while_measuring}
@@ -27,18 +27,18 @@ total_km km [] = refl
 total_km km (d ∷ []) = refl
 total_km km (d ∷ e ∷ ds) = omega (arith, total_km km (e ∷ ds))
 
-newest_km : (t : Tail) (km : ℕ) (days : List Day) → IsNewest t.head t.latest days → IsNewest (tail_km t km).head t.latest (with_newest (with_km km) days)
+newest_km : (t : Tail) (km : ℕ) (days : List Day) → IsNewestHead t.head t.latest days → IsNewestHead (tail_km t km).head t.latest (with_newest (with_km km) days)
 newest_km t km [] is = tt
 newest_km t km (d ∷ []) is = (ap (λ (h : DayHead). record h { km = record { 0 = km } }) is.0, is.1)
 newest_km t km (d ∷ e ∷ []) is = newest_km t km (e ∷ []) is
 newest_km t km (d ∷ e ∷ f ∷ ds) is = newest_km t km (e ∷ f ∷ ds) is
 
 module _ (v : Held) (is : IsHeld v) (x : List ℕ) (inside : v.shape.base + (4 + v.shape.size) ≤ length x) where
-  abbrev r : Shape
+  abbrev r : StringShape
   r = v.shape
 
   -- a number on the string leaves the newest pointer
-  newest_same : (p n : ℕ) → p + 2 ≤ r.size → newest_of r (put (at r p) (two_bytes n) x) ≡ newest_of r x
+  newest_same : (p n : ℕ) → p + 2 ≤ r.size → newest_pointer r (put (at r p) (two_bytes n) x) ≡ newest_pointer r x
   newest_same p n fits = ap number (part_before (at r p) 2 (r.base + 2) 2 x (put (at r p) (two_bytes n) x) (put_outside (at r p) (two_bytes n) x (omega (arith, inside, fits))) (omega arith))
 
   fits : (p : ℕ) → IsPointer r.size p → p + 2 ≤ r.size
@@ -51,7 +51,7 @@ module _ (v : Held) (is : IsHeld v) (x : List ℕ) (inside : v.shape.base + (4 +
   o_pointer : IsPointer r.size o
   o_pointer = (oldest_is v is v.tail.used is.most is.even).1
 
-  o_is : (days : List Day) → Knows v x days → o ≡ oldest_of r x
+  o_is : (days : List Day) → Knows v x days → o ≡ oldest_pointer r x
   o_is days k =
       let b = begins v is x inside [] days (matches v x days k) in
       ap (λ (u : ℕ). oldest_at v u) k.used ∙ ⊎_elim (λ same. omega (arith, same)) (λ far. absurd (omega (arith, far, k.holds.oldest.below))) b.0
@@ -71,7 +71,7 @@ module _ (v : Held) (is : IsHeld v) (x : List ℕ) (inside : v.shape.base + (4 +
     told = λ days k. ⊎_elim (λ here. while_mending r is.shape x inside o o_pointer 0 (λ pointer. o_is days k) c here) (λ none. absurd none) part;
   }
 
-  pub mended_is : IfKnown v (IsMended r) x (put_all (mend_pieces v) x)
+  pub mended_is : IfKnown v (IsDropMended r) x (put_all (mend_pieces v) x)
   mended_is = record {
     outside = puts_outside r.base (4 + r.size) (mend_pieces v) mend_inside x inside;
     told = λ days k pointer. ap (λ (p : ℕ). put (at r p) (two_bytes 0) x) (o_is days k);

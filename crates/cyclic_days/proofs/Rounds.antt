@@ -7,7 +7,7 @@ use Rattle.std.proofs.lemmas.List.{length-take-le, drop-drop}
 use Rattle.tach_media.specs.Medium.{put, bytes_at, SameOutside}
 use Rattle.tach_media.proofs.Images.{outside_then, outside_wider}
 use Rattle.tach_media.specs.LogLaws.{put_outside}
-use Rattle.card_model.specs.Image.{Shape, oldest_of, circle_of, IsPointer, IsPlace, spot, at}
+use Rattle.card_model.specs.Image.{StringShape, oldest_pointer, circle_of, IsPointer, IsPlace, spot, at}
 use Rattle.cyclic_days.specs.Steps.{put_round, IsRounding}
 use Rattle.card_model.proofs.Circle.{put_back}
 use Rattle.cyclic_days.proofs.Places.{Stands, stands}
@@ -47,13 +47,13 @@ scratched place b x c le same =
     }
 
 -- bytes of at most that length, whatever they are, stand so far behind the oldest day
-pub record Covered (r : Shape) (k n : ℕ) (x c : List ℕ) : Type 0 where
+pub record Covered (r : StringShape) (k n : ℕ) (x c : List ℕ) : Type 0 where
   pub bytes : List ℕ
   pub long : length bytes ≤ n
   pub stands : Stands r k bytes x c
 
 -- what stands after what stands
-pub stands_then : (r : Shape) (k : ℕ) (a b x y z : List ℕ) → k + length a ≤ length (circle_of r x) → Stands r k a x y → Stands r (k + length a) b y z → Stands r k (a ++ b) x z
+pub stands_then : (r : StringShape) (k : ℕ) (a b x y z : List ℕ) → k + length a ≤ length (circle_of r x) → Stands r k a x y → Stands r (k + length a) b y z → Stands r k (a ++ b) x z
 stands_then r k a b x y z le first next = record {
   outside = outside_then r.base (4 + r.size) x y z first.outside next.outside;
   oldest = next.oldest ∙ first.oldest;
@@ -71,8 +71,8 @@ spot_is size from distance even pointer distance_even most = ⊎_elim
     (inr (omega (arith, is, le)), record { below = omega (arith, is, le, most, pointer.below); even = omega (arith, is, le, pointer.even, distance_even, even) }))
     (cases_lt (from + distance) size)
 
-module _ (r : Shape) (x : List ℕ) (inside : r.base + (4 + r.size) ≤ length x) (k p : ℕ) (bytes : List ℕ)
-    (below : oldest_of r x < r.size) (p_below : p < r.size) (place : IsPlace r.size (oldest_of r x) k p) (fits : k + length bytes ≤ r.size) where
+module _ (r : StringShape) (x : List ℕ) (inside : r.base + (4 + r.size) ≤ length x) (k p : ℕ) (bytes : List ℕ)
+    (below : oldest_pointer r x < r.size) (p_below : p < r.size) (place : IsPlace r.size (oldest_pointer r x) k p) (fits : k + length bytes ≤ r.size) where
   whole : length bytes ≤ r.size - p → Stands r k bytes x (put (at r p) bytes x)
   whole le = stands r x inside k p bytes below place (omega (arith, le, p_below)) fits
 
@@ -106,7 +106,7 @@ module _ (r : Shape) (x : List ℕ) (inside : r.base + (4 + r.size) ≤ length x
     y_inside : r.base + (4 + r.size) ≤ length y
     y_inside = omega (arith, inside, first.outside.same_length)
 
-    start : IsPlace r.size (oldest_of r y) (k + length front) 0
+    start : IsPlace r.size (oldest_pointer r y) (k + length front) 0
     start = subst (λ (o : ℕ). IsPlace r.size o (k + length front) 0) (sym first.oldest)
         (⊎_elim (λ is. inr (omega (arith, is, front_length, p_below))) (λ is. absurd (omega (arith, is, front_length, p_below, below, fits, lt))) place)
 
@@ -136,7 +136,7 @@ module _ (r : Shape) (x : List ℕ) (inside : r.base + (4 + r.size) ≤ length x
       record { bytes = front lt ++ s.bytes; long = omega (arith, length-append (front lt) s.bytes, long, front_length lt, back_length lt); stands = subst (λ (l : List ℕ). Stands r k (front lt ++ s.bytes) x l) (sym s.is) (both lt s.bytes long) }
 
 -- such a write stays in the string
-module _ (r : Shape) (x : List ℕ) (inside : r.base + (4 + r.size) ≤ length x) (p : ℕ) (bytes : List ℕ) (p_below : p < r.size) (short : length bytes ≤ r.size) where
+module _ (r : StringShape) (x : List ℕ) (inside : r.base + (4 + r.size) ≤ length x) (p : ℕ) (bytes : List ℕ) (p_below : p < r.size) (short : length bytes ≤ r.size) where
   in_string : (q n : ℕ) (u v : List ℕ) → q + n ≤ r.size → SameOutside (at r q) n u v → SameOutside r.base (4 + r.size) u v
   in_string q n u v fits same = outside_wider r.base (4 + r.size) (at r q) n u v same (omega arith) (omega (arith, fits))
 

@@ -6,7 +6,7 @@ use Rattle.card_model.specs.Walk.{days_of}
 use Rattle.card_model.proofs.Rows.{small, whole, across, first_day, empty_at_end, three_days, two_days}
 use Rattle.cyclic_days.specs.Held.{Held}
 use Rattle.cyclic_days.specs.Plans.{change_pieces}
-use Rattle.cyclic_days.specs.Steps.{preceded, filled, measured, begun}
+use Rattle.cyclic_days.specs.Steps.{preceded, day_filled, measured, begun}
 
 -- the writes of `begin_day` on an empty string leave it, and before the length stands there is no day
 begun_across : begun whole 5538 5538 0 (body first_day) empty_at_end ≡ across
@@ -16,7 +16,7 @@ before_body : days_of whole (preceded whole 5538 0 empty_at_end) ≡ []
 unfolding days_of
 before_body = refl
 
-before_length : days_of whole (filled whole 5538 0 (body first_day) empty_at_end) ≡ []
+before_length : days_of whole (day_filled whole 5538 0 (body first_day) empty_at_end) ≡ []
 unfolding days_of
 before_length = refl
 

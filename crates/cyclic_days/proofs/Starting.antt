@@ -8,19 +8,19 @@ use Rattle.tach_media.proofs.Runs.{both_told}
 use Rattle.write_plan.specs.Plan.{Piece, piece, put_all, IsPartway, PutsAll, PutsBy}
 use Rattle.write_plan.proofs.Plans.{put_all-append, partway_either, partway_outside, puts_outside}
 use Rattle.card_model.specs.Bytes.{two_bytes}
-use Rattle.card_model.specs.Days.{Day, len_of, total, body, AreDays}
+use Rattle.card_model.specs.Days.{Day, len_of, total, body, AreDays, last_word}
 use Rattle.card_model.specs.Changes.{Remain, fitting, counter_after, next_counter, new_day, IsNext}
-use Rattle.card_model.specs.Image.{Shape, IsPlace, IsPointer, Holds, circle_of, oldest_of, newest_of, spot, at}
+use Rattle.card_model.specs.Image.{StringShape, IsPlace, IsPointer, Holds, circle_of, oldest_pointer, newest_pointer, spot, at}
 use Rattle.card_model.proofs.Lists.{total-append, len_least, days_after}
 use Rattle.card_model.proofs.Reading.{fills}
 use Rattle.card_model.proofs.Walking.{one_list}
 use Rattle.cyclic_days.specs.declared.head.DayHead.{DayHead}
 use Rattle.cyclic_days.specs.declared.head.Tail.{Tail}
-use Rattle.cyclic_days.specs.Heads.{head_of}
-use Rattle.cyclic_days.specs.Held.{Held, IsHeld, Knows, IsNewest, last_word, newest_len, end_of, oldest_at}
-use Rattle.cyclic_days.specs.Moments.{IfKnown, IsBeginning, IsBegun, KnowsBegun, ClearsBegun, BeginsAgain}
+use Rattle.cyclic_days.specs.Heads.{day_head}
+use Rattle.cyclic_days.specs.Held.{Held, IsHeld, Knows, IsNewestHead, newest_len, end_of, oldest_at}
+use Rattle.cyclic_days.specs.Moments.{IfKnown, IsDayBeginning, IsDayBegun, KnowsBegun, ClearsBegun, BeginsAgain}
 use Rattle.cyclic_days.specs.Plans.{most_drops, left_in, drop_pieces, round_pieces, pointer_pieces, day_pieces, count_of, day_by, beginning_pieces, tail_begun}
-use Rattle.cyclic_days.specs.Steps.{roomier, put_round, IsRounding, pointed, IsPointing, begun, IsBeginStep, preceded, filled, measured, Looks}
+use Rattle.cyclic_days.specs.Steps.{roomier, put_round, IsRounding, newest_pointed, IsPointing, begun, IsBeginStep, preceded, day_filled, measured, Looks}
 use Rattle.cyclic_days.proofs.Beginning.{placed, newest_placed, placing, front_first, front_same, again}
 use Rattle.cyclic_days.proofs.Counting.{drops_most}
 use Rattle.cyclic_days.proofs.DayPlan.{day_put, day_part, day_most, day_least}
@@ -29,7 +29,8 @@ use Rattle.cyclic_days.proofs.Lists.{body_long}
 use Rattle.cyclic_days.proofs.Matching.{front_cleared, begins, dropped_cleared, Matches, matches, end_is, left_is, dropped, dropping, dropped_count}
 use Rattle.cyclic_days.proofs.Newest.{counter_last}
 use Rattle.cyclic_days.proofs.Putting.{puts_told, looks_clock}
-use Rattle.cyclic_days.proofs.Retention.{fitting_all, newest_gone, fitting_twice, next_left, remain_then, remain_once, roomier_all, roomier_less}
+use Rattle.card_model.proofs.Retention.{fitting_all, newest_gone, remain_then}
+use Rattle.cyclic_days.proofs.Roomier.{fitting_twice, next_left, remain_once, roomier_all, roomier_less}
 use Rattle.cyclic_days.proofs.Tails.{newest_last}
 use Rattle.cyclic_days.proofs.Told.{from_told}
 
@@ -41,12 +42,12 @@ count_is v x (d ∷ ds) k =
     let test : (v.tail.used == 0) ≡ false = grind (arith, nat_tests) in
     ap (λ (b : Bool). cond b 1 (counter_after v.tail.head.counter.0)) test ∙ by d ds k.newest
   where
-    by : (d : Day) (ds : List Day) → IsNewest v.tail.head v.tail.latest (d ∷ ds) → counter_after v.tail.head.counter.0 ≡ next_counter (d ∷ ds)
+    by : (d : Day) (ds : List Day) → IsNewestHead v.tail.head v.tail.latest (d ∷ ds) → counter_after v.tail.head.counter.0 ≡ next_counter (d ∷ ds)
     by d [] is = ap (λ (h : DayHead). counter_after h.counter.0) is.0
     by d (f ∷ ds) is = by f ds is
 
 module _ (v : Held) (is : IsHeld v) (date : ℕ) (words : List ℕ) (some : 1 ≤ length words) (few : length words ≤ 2) (x : List ℕ) (inside : v.shape.base + (4 + v.shape.size) ≤ length x) where
-  abbrev r : Shape
+  abbrev r : StringShape
   r = v.shape
 
   abbrev new : ℕ
@@ -207,19 +208,19 @@ module _ (v : Held) (is : IsHeld v) (date : ℕ) (words : List ℕ) (some : 1 �
       begun_cleared (inr none) = subst (λ (y : List ℕ). take 2 (circle_of r y) ≡ two_bytes 0) (sym whole)
           (front_first r is.shape z z_inside v.tail.head.place (end_of v) (newest_len v) date words bytes few is.pointer (end_is v is).0 (end_is v is).1 bytes_long twice m2.holds left.0 free m2.place m2.len (ap body same_day) (ap (λ (l : List Day). roomier room (roomier room l)) none))
 
-      pub begun_again : days ≡ [] → (oldest_of r (put_all (beginning_pieces v date words x) x) ≡ oldest_of r x) × (newest_of r (put_all (beginning_pieces v date words x) x) ≡ oldest_of r x)
+      pub begun_again : days ≡ [] → (oldest_pointer r (put_all (beginning_pieces v date words x) x) ≡ oldest_pointer r x) × (newest_pointer r (put_all (beginning_pieces v date words x) x) ≡ oldest_pointer r x)
       begun_again none =
           let same = again r is.shape z z_inside v.tail.head.place (end_of v) (newest_len v) date words bytes few is.pointer (end_is v is).0 (end_is v is).1 bytes_long twice m2.holds left.0 free m2.place m2.len (ap body same_day) (ap (λ (l : List Day). roomier room (roomier room l)) none) in
-          (ap (λ (y : List ℕ). oldest_of r y) whole ∙ same.0 ∙ still, ap (λ (y : List ℕ). newest_of r y) whole ∙ same.1 ∙ still)
+          (ap (λ (y : List ℕ). oldest_pointer r y) whole ∙ same.0 ∙ still, ap (λ (y : List ℕ). newest_pointer r y) whole ∙ same.1 ∙ still)
         where
           -- no day goes
-          still : oldest_of r z ≡ oldest_of r x
+          still : oldest_pointer r z ≡ oldest_pointer r x
           still =
               let a = (begins v is z z_inside [] twice m2).0 in
               let b = (begins v is x inside [] days m0).0 in
               let none_2 : total twice ≡ total days = ap (λ (l : List Day). total (roomier room (roomier room l))) none ∙ sym (ap total none) in
-              let a' : oldest_at v (total twice) ≡ oldest_of r z = ⊎_elim (λ e. omega (arith, e)) (λ e. absurd (omega (arith, e, m2.holds.oldest.below))) a in
-              let b' : oldest_at v (total days) ≡ oldest_of r x = ⊎_elim (λ e. omega (arith, e)) (λ e. absurd (omega (arith, e, k.holds.oldest.below))) b in
+              let a' : oldest_at v (total twice) ≡ oldest_pointer r z = ⊎_elim (λ e. omega (arith, e)) (λ e. absurd (omega (arith, e, m2.holds.oldest.below))) a in
+              let b' : oldest_at v (total days) ≡ oldest_pointer r x = ⊎_elim (λ e. omega (arith, e)) (λ e. absurd (omega (arith, e, k.holds.oldest.below))) b in
               sym a' ∙ ap (λ (u : ℕ). oldest_at v u) none_2 ∙ b'
 
       -- what is kept then
@@ -231,19 +232,19 @@ module _ (v : Held) (is : IsHeld v) (date : ℕ) (words : List ℕ) (some : 1 �
         holds = held;
         place = sym (newest_placed r is.shape z z_inside v.tail.head.place (end_of v) (newest_len v) date words bytes few is.pointer (end_is v is).0 (end_is v is).1 bytes_long twice m2.holds left.0 free m2.place m2.len (ap body same_day));
         used = omega (arith, u2_is, total-append twice (new_day twice date words ∷ []));
-        newest = newest_last next_held.tail.head (last_word words) twice (new_day twice date words) (ap (λ (d : Day). head_of (end_of v) d) same_day) refl;
+        newest = newest_last next_held.tail.head (last_word words) twice (new_day twice date words) (ap (λ (d : Day). day_head (end_of v) d) same_day) refl;
       }))
 
   -- the same of an image that is told
   same_days : (days others : List Day) → Knows v x days → Holds r x others → Knows v x others
   same_days days others k h = subst (λ (l : List Day). Knows v x l) (one_list r is.shape x inside days others k.holds h) k
 
-  pub beginning_known : (c : List ℕ) → IsPartway (beginning_pieces v date words x) x c → IfKnown v (IsBeginning r date words) x c
+  pub beginning_known : (c : List ℕ) → IsPartway (beginning_pieces v date words x) x c → IfKnown v (IsDayBeginning r date words) x c
   beginning_known c part =
       let outside = partway_outside r.base (4 + r.size) (beginning_pieces v date words x) beginning_inside x c inside part in
       record { outside = outside; told = λ days k. record { outside = outside; list = λ others h next. beginning_list others (same_days days others k h) next c part } }
 
-  pub begun_told : IfKnown v (IsBegun r date words) x (put_all (beginning_pieces v date words x) x)
+  pub begun_told : IfKnown v (IsDayBegun r date words) x (put_all (beginning_pieces v date words x) x)
   begun_told =
       let outside = puts_outside r.base (4 + r.size) (beginning_pieces v date words x) beginning_inside x inside in
       record { outside = outside; told = λ days k. record { outside = outside; list = λ others h next. begun_list others (same_days days others k h) next } }

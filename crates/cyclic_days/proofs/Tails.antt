@@ -1,27 +1,27 @@
 -- What is kept of the newest day.
 use Rattle.std.proofs.Common.{◌≡◌, ◌≢◌, inl, inr, ⊎_elim, ℕ, suc, ◌+◌, ◌-◌, ◌*◌, ◌/◌, ◌%◌, ◌<◌, ◌≤◌, Option, Some, None, List, [], ◌∷◌, ◌++◌, length, take, get_or, refl, sym, ◌∙◌, ap, subst, arith}
 use Rattle.tach_media.specs.Medium.{bytes_at}
-use Rattle.card_model.specs.Days.{Day, len_of, total, far, last_len, record_of, records, IsDay, AreDays}
-use Rattle.card_model.specs.Image.{Shape, IsShape, turned, oldest_of, newest_of, string_of, IsPointer, IsPlace, Holds, IsAt}
+use Rattle.card_model.specs.Days.{Day, len_of, total, far, last_len, record_of, records, IsDay, AreDays, last_word}
+use Rattle.card_model.specs.Image.{StringShape, IsStringShape, turned, oldest_pointer, newest_pointer, string_of, IsPointer, IsPlace, Holds, IsAt}
 use Rattle.card_model.proofs.Lists.{len_least, last_len_is, previous_of, far_last, last_len_last, some_words}
 use Rattle.card_model.proofs.Reading.{fills, same_distance, from_day, day_is}
 use Rattle.cyclic_days.specs.declared.head.DayHead.{DayHead}
 use Rattle.cyclic_days.specs.declared.head.RecordHead.{RecordHead}
 use Rattle.cyclic_days.specs.declared.head.Tail.{Tail}
-use Rattle.cyclic_days.specs.Heads.{head_bytes, day_head_of, head_of}
-use Rattle.cyclic_days.specs.Held.{Held, Knows, IsNewest, last_word, tail_by, tail_in}
+use Rattle.cyclic_days.specs.Heads.{head_bytes, day_head_of, day_head}
+use Rattle.cyclic_days.specs.Held.{Held, Knows, IsNewestHead, tail_by, tail_in}
 use Rattle.cyclic_days.proofs.CutLast.{none_there, none_where_short, newest_read}
 use Rattle.cyclic_days.proofs.HeadLemmas.{head_is}
 use Rattle.cyclic_days.proofs.HeadWalks.{newest_here, far_below}
 use Rattle.cyclic_days.proofs.Lists.{split, some_newest}
 
 -- what is told of the last of some days
-pub newest_last : (h : DayHead) (w : ℕ) (older : List Day) (d : Day) → h ≡ head_of h.place d → w ≡ last_word d.words → IsNewest h w (older ++ d ∷ [])
+pub newest_last : (h : DayHead) (w : ℕ) (older : List Day) (d : Day) → h ≡ day_head h.place d → w ≡ last_word d.words → IsNewestHead h w (older ++ d ∷ [])
 newest_last h w [] d head word = (head, word)
 newest_last h w (e ∷ []) d head word = (head, word)
 newest_last h w (e ∷ f ∷ older) d head word = newest_last h w (f ∷ older) d head word
 
-pub last_newest : (h : DayHead) (w : ℕ) (older : List Day) (d : Day) → IsNewest h w (older ++ d ∷ []) → (h ≡ head_of h.place d) × (w ≡ last_word d.words)
+pub last_newest : (h : DayHead) (w : ℕ) (older : List Day) (d : Day) → IsNewestHead h w (older ++ d ∷ []) → (h ≡ day_head h.place d) × (w ≡ last_word d.words)
 last_newest h w [] d is = is
 last_newest h w (e ∷ []) d is = is
 last_newest h w (e ∷ f ∷ older) d is = last_newest h w (f ∷ older) d is
@@ -34,8 +34,8 @@ last_at (w ∷ v ∷ ws) some =
     last_at (v ∷ ws) (omega arith) ∙ ap (λ (i : ℕ). get_or (w ∷ v ∷ ws) i 0) next
 
 -- the tail is the one that the image tells
-kept_tail : (t : Tail) (d : Day) (ds : List Day) → IsNewest t.head t.latest (d ∷ ds) → tail_by t.head.place t.used (d ∷ ds) ≡ Some t
-kept_tail t d [] is = sym (ap (λ (h : DayHead). told h t.latest) is.0 ∙ ap (λ (w : ℕ). told (head_of t.head.place d) w) is.1)
+kept_tail : (t : Tail) (d : Day) (ds : List Day) → IsNewestHead t.head t.latest (d ∷ ds) → tail_by t.head.place t.used (d ∷ ds) ≡ Some t
+kept_tail t d [] is = sym (ap (λ (h : DayHead). told h t.latest) is.0 ∙ ap (λ (w : ℕ). told (day_head t.head.place d) w) is.1)
   where
     told : DayHead → ℕ → Option Tail
     told h w = Some (record { head = h; latest = w; used = t.used })
@@ -47,10 +47,10 @@ told_none v x (d ∷ ds) k none = absurd (omega (arith, none, k.used, len_least 
 
 pub told_some : (v : Held) (x : List ℕ) (days : List Day) → Knows v x days → 0 < v.tail.used → Some v.tail ≡ tail_in v.shape x days
 told_some v x [] k some = absurd (omega (arith, some, k.used))
-told_some v x (d ∷ ds) k some = sym (kept_tail v.tail d ds k.newest) ∙ ap (λ (p : ℕ). tail_by p v.tail.used (d ∷ ds)) k.place ∙ ap (λ (u : ℕ). tail_by (newest_of v.shape x) u (d ∷ ds)) k.used
+told_some v x (d ∷ ds) k some = sym (kept_tail v.tail d ds k.newest) ∙ ap (λ (p : ℕ). tail_by p v.tail.used (d ∷ ds)) k.place ∙ ap (λ (u : ℕ). tail_by (newest_pointer v.shape x) u (d ∷ ds)) k.used
 
 -- What the code read: the newest day's place, its head and its length.
-module _ (r : Shape) (shape : IsShape r) (x : List ℕ) (inside : r.base + (4 + r.size) ≤ length x) (n : ℕ) (n_is : IsPointer r.size (newest_of r x) → n ≡ newest_of r x)
+module _ (r : StringShape) (shape : IsStringShape r) (x : List ℕ) (inside : r.base + (4 + r.size) ≤ length x) (n : ℕ) (n_is : IsPointer r.size (newest_pointer r x) → n ≡ newest_pointer r x)
     (h : RecordHead) (head : head_bytes h ≡ take 12 (turned n (string_of r x))) (len : ℕ) (len_known : h.len % 2 ≡ 0 → h.len ≤ 2892 → len ≡ h.len) where
   pub knows_none : len < 14 → (t : Tail) → t.used ≡ 0 → t.head.place ≡ n → (days : List Day) → Holds r x days → Knows (record { shape = r; tail = t }) x days
   knows_none short t used place days g =
@@ -58,7 +58,7 @@ module _ (r : Shape) (shape : IsShape r) (x : List ℕ) (inside : r.base + (4 + 
       subst (λ (l : List Day). Knows (record { shape = r; tail = t }) x l) (sym none)
       (record { holds = subst (λ (l : List Day). Holds r x l) none g; place = place ∙ n_is g.newest; used = used; newest = tt })
 
-  module _ (some : 14 ≤ len) (o k w u : ℕ) (o_is : IsPointer r.size (oldest_of r x) → o ≡ oldest_of r x) (k_place : IsPlace r.size o k n) (k_below : k < r.size) (u_is : k + len ≤ r.size → u ≡ k + len)
+  module _ (some : 14 ≤ len) (o k w u : ℕ) (o_is : IsPointer r.size (oldest_pointer r x) → o ≡ oldest_pointer r x) (k_place : IsPlace r.size o k n) (k_below : k < r.size) (u_is : k + len ≤ r.size → u ≡ k + len)
       (w_is : (d : Day) → IsAt r x n d → (day_head_of h n).words - 1 < length d.words → w ≡ get_or d.words ((day_head_of h n).words - 1) 0) where
     abbrev tail : Tail
     tail = record { head = day_head_of h n; latest = w; used = u }
@@ -68,13 +68,13 @@ module _ (r : Shape) (shape : IsShape r) (x : List ℕ) (inside : r.base + (4 + 
         let here = newest_here r shape x inside older d g n n_is in
         let is : IsDay d = day_is 0 older d [] g.ordered in
         let read = newest_read r shape x inside 0 n n_is h head len len_known older d g in
-        let told : day_head_of h n ≡ head_of n d = head_is h (previous_of g.previous older) d ((records (len_of d) [] ++ g.rest) ++ records g.previous older) (head ∙ ap (take 12) (from_day r shape x inside n d here)) n is in
+        let told : day_head_of h n ≡ day_head n d = head_is h (previous_of g.previous older) d ((records (len_of d) [] ++ g.rest) ++ records g.previous older) (head ∙ ap (take 12) (from_day r shape x inside n d here)) n is in
         let words : (day_head_of h n).words ≡ length d.words = ap (λ (e : DayHead). e.words) told in
         let several : 0 < length d.words = some_words d.words is.ordered in
         let latest : w ≡ last_word d.words = w_is d here (omega (arith, words, several)) ∙ ap (λ (i : ℕ). get_or d.words (i - 1) 0) words ∙ sym (last_at d.words several) in
         let far_is : k ≡ far (older ++ d ∷ []) =
         same_distance r.size o k (far (older ++ d ∷ [])) n k_below (far_below r shape x inside (older ++ d ∷ []) g) k_place
-        (subst (λ (m : ℕ). IsPlace r.size o (far (older ++ d ∷ [])) m) (sym (n_is g.newest)) (subst (λ (m : ℕ). IsPlace r.size m (far (older ++ d ∷ [])) (newest_of r x)) (sym (o_is g.oldest)) g.distance)) in
+        (subst (λ (m : ℕ). IsPlace r.size o (far (older ++ d ∷ [])) m) (sym (n_is g.newest)) (subst (λ (m : ℕ). IsPlace r.size m (far (older ++ d ∷ [])) (newest_pointer r x)) (sym (o_is g.oldest)) g.distance)) in
         record {
           holds = g;
           place = n_is g.newest;

@@ -1,9 +1,7 @@
 -- What two runs make of an image that is told.
 use Rattle.std.proofs.Common.{Result, Ok, Err, IfOk, ◌≡◌, List, ℕ, Option, Some, None, is_some, IfSome, refl}
-use Rattle.std.specs.Prelude.{IsErrAnd, true, false}
-use Rattle.std.proofs.Common.{arith, ap}
-use Rattle.tach_media.specs.Medium.{State, Reads, Unchanged}
-use Rattle.tach_media.proofs.Runs.{starts}
+use Rattle.std.specs.Prelude.{IsErrAnd, true}
+use Rattle.std.proofs.Common.{ap}
 use Rattle.cyclic_days.specs.declared.fault.DaysFault.{DaysFault}
 use Rattle.cyclic_days.specs.declared.fault.DaysFault.TheVariants as fault
 use Rattle.cyclic_days.specs.Loading.{has_failed, IfBadDays}
@@ -42,18 +40,6 @@ pub failed_is : {T : Type 0} (r : Result T DaysFault) → IsErrAnd r (λ e. e �
 failed_is (Ok v) is = absurd is
 failed_is (Err fault.Failed) is = refl
 failed_is (Err (fault.BadDays p)) is = cc
-
--- no call yet, on a medium that works
-pub no_reads : (s : State) → s.works ≡ true → Reads s s false
-no_reads s works = record {
-  same = λ fine. refl;
-  leaves = starts s Unchanged;
-  clock = refl;
-  cause = record { works = works; broken = λ was. absurd (clash works was); faults = omega arith; fault = λ f. cc; breakdowns = omega arith; breaks = λ was f. cc; unbroken = λ f. refl; already = λ was. refl };
-}
-  where
-    clash : s.works ≡ true → s.works ≡ false → ⊥
-    clash a b = cc
 
 -- an error that `?` passed on
 pub err_is : {T E : Type 0} (r : Result T E) (e : E) → IsErrAnd r (λ v. v ≡ e) → r ≡ Err e

@@ -7,11 +7,12 @@ use Rattle.tach_media.proofs.Images.{outside_same, outside_then, outside_wider}
 use Rattle.tach_media.specs.LogLaws.{put_outside}
 use Rattle.card_model.specs.Bytes.{number, two_bytes}
 use Rattle.card_model.specs.Days.{Day, len_of, total, far, record_of, records, IsDay, AreDays}
-use Rattle.card_model.specs.Image.{Shape, IsShape, oldest_of, newest_of, circle_of, IsPointer, IsPlace, Holds, at}
+use Rattle.card_model.specs.Image.{StringShape, IsStringShape, oldest_pointer, newest_pointer, circle_of, IsPointer, IsPlace, Holds, at}
 use Rattle.std.specs.Prelude.{nat_le, not}
 use Rattle.card_model.proofs.Lists.{count_least}
-use Rattle.cyclic_days.specs.Trim.{newest_later, AllLater, Shorter, IsTrimming, IsTrimmed, IsShortened, IsShortening}
-use Rattle.card_model.specs.Changes.{until}
+use Rattle.card_model.proofs.Trims.{until_none}
+use Rattle.cyclic_days.specs.Trim.{newest_later, ShorterBy, IsTrimming, IsTrimmed, IsWithoutLast, IsLosingLast}
+use Rattle.card_model.specs.Changes.{until, AllLater, Shorter}
 use Rattle.card_model.proofs.Circle.{part_back}
 use Rattle.card_model.proofs.Lists.{previous_of, records_length, total-append, far_last, last_is}
 use Rattle.cyclic_days.proofs.Places.{Pointed, stands, points}
@@ -31,15 +32,15 @@ fronts : (d : Day) (ds : List Day) → Front (d ∷ ds)
 fronts d [] = record { before = []; last = d; is = refl }
 fronts d (e ∷ ds) = let f = fronts e ds in record { before = d ∷ f.before; last = f.last; is = ap (λ (l : List Day). d ∷ l) f.is }
 
-module _ (r : Shape) (shape : IsShape r) (x : List ℕ) (inside : r.base + (4 + r.size) ≤ length x) (n : ℕ) (n_is : IsPointer r.size (newest_of r x) → n ≡ newest_of r x) (n_pointer : IsPointer r.size n) where
-  newest_at : (older : List Day) (d : Day) → Holds r x (older ++ d ∷ []) → IsPlace r.size (oldest_of r x) (total older) n
-  newest_at older d h = subst (λ (m : ℕ). IsPlace r.size (oldest_of r x) (total older) m) (sym (n_is h.newest)) (subst (λ (m : ℕ). IsPlace r.size (oldest_of r x) m (newest_of r x)) (far_last older d) h.distance)
+module _ (r : StringShape) (shape : IsStringShape r) (x : List ℕ) (inside : r.base + (4 + r.size) ≤ length x) (n : ℕ) (n_is : IsPointer r.size (newest_pointer r x) → n ≡ newest_pointer r x) (n_pointer : IsPointer r.size n) where
+  newest_at : (older : List Day) (d : Day) → Holds r x (older ++ d ∷ []) → IsPlace r.size (oldest_pointer r x) (total older) n
+  newest_at older d h = subst (λ (m : ℕ). IsPlace r.size (oldest_pointer r x) (total older) m) (sym (n_is h.newest)) (subst (λ (m : ℕ). IsPlace r.size (oldest_pointer r x) m (newest_pointer r x)) (far_last older d) h.distance)
 
   room : (older : List Day) (d : Day) → Holds r x (older ++ d ∷ []) → total older + 14 ≤ r.size
   room older d h = omega (arith, fills r shape x inside (older ++ d ∷ []) h, total-append older (d ∷ []), len_least d (last_is 0 older d h.ordered))
 
   -- the only day
-  module _ (o_same : IsPointer r.size (oldest_of r x) → n ≡ oldest_of r x) (q : ℕ) (q_place : IsPlace r.size n 2 q) (q_pointer : IsPointer r.size q) where
+  module _ (o_same : IsPointer r.size (oldest_pointer r x) → n ≡ oldest_pointer r x) (q : ℕ) (q_place : IsPlace r.size n 2 q) (q_pointer : IsPointer r.size q) where
     abbrev y : List ℕ
     y = put (at r q) (two_bytes 0) x
 
@@ -52,8 +53,8 @@ module _ (r : Shape) (shape : IsShape r) (x : List ℕ) (inside : r.base + (4 + 
     none_left : (older : List Day) (d : Day) → Holds r x (older ++ d ∷ []) → older ≡ []
     none_left [] d h = refl
     none_left (e ∷ es) d h =
-        let start : IsPlace r.size (oldest_of r x) 0 n = inl (omega (arith, o_same h.oldest)) in
-        let zero_far : total (e ∷ es) ≡ 0 = same_distance r.size (oldest_of r x) (total (e ∷ es)) 0 n (omega (arith, room (e ∷ es) d h)) (omega (arith, shape.low)) (newest_at (e ∷ es) d h) start in
+        let start : IsPlace r.size (oldest_pointer r x) 0 n = inl (omega (arith, o_same h.oldest)) in
+        let zero_far : total (e ∷ es) ≡ 0 = same_distance r.size (oldest_pointer r x) (total (e ∷ es)) 0 n (omega (arith, room (e ∷ es) d h)) (omega (arith, shape.low)) (newest_at (e ∷ es) d h) start in
         absurd (omega (arith, zero_far))
 
     emptied : (d : Day) → Holds r x (d ∷ []) → Holds r y []
@@ -76,20 +77,20 @@ module _ (r : Shape) (shape : IsShape r) (x : List ℕ) (inside : r.base + (4 + 
         stands_there (a ∷ []) le = absurd (omega (arith, le))
         stands_there (a ∷ b ∷ t) le = refl
 
-    pub only_gone : IsShortened r x y
+    pub only_gone : IsWithoutLast r x y
     only_gone = record {
       outside = y_outside;
       list = λ older d h. let none = none_left older d h in
           subst (λ (l : List Day). Holds r y l) (sym none) (emptied d (subst (λ (l : List Day). Holds r x (l ++ d ∷ [])) none h));
     }
 
-    pub while_only : (c : List ℕ) → IsPartlyWritten (at r q) (two_bytes 0) x c → IsShortening r x c
+    pub while_only : (c : List ℕ) → IsPartlyWritten (at r q) (two_bytes 0) x c → IsLosingLast r x c
     while_only c part = ⊎_elim
-        (λ is. subst (λ (l : List ℕ). IsShortening r x l) (sym is) (record { outside = outside_same r.base (4 + r.size) x; list = λ older d h. inl h }))
-        (λ is. subst (λ (l : List ℕ). IsShortening r x l) (sym is) (record { outside = y_outside; list = λ older d h. inr (only_gone.list older d h) })) (part.whole (lit≤ tt))
+        (λ is. subst (λ (l : List ℕ). IsLosingLast r x l) (sym is) (record { outside = outside_same r.base (4 + r.size) x; list = λ older d h. inl h }))
+        (λ is. subst (λ (l : List ℕ). IsLosingLast r x l) (sym is) (record { outside = y_outside; list = λ older d h. inr (only_gone.list older d h) })) (part.whole (lit≤ tt))
 
   -- one of several
-  module _ (other : IsPointer r.size (oldest_of r x) → n ≢ oldest_of r x) (len p : ℕ) (len_is : number (bytes_at x (at r n) 2) % 2 ≡ 0 → number (bytes_at x (at r n) 2) ≤ 2892 → len ≡ number (bytes_at x (at r n) 2))
+  module _ (other : IsPointer r.size (oldest_pointer r x) → n ≢ oldest_pointer r x) (len p : ℕ) (len_is : number (bytes_at x (at r n) 2) % 2 ≡ 0 → number (bytes_at x (at r n) 2) ≤ 2892 → len ≡ number (bytes_at x (at r n) 2))
       (p_place : IsPlace r.size p len n) (p_pointer : IsPointer r.size p) where
     abbrev z : List ℕ
     z = put (r.base + 2) (two_bytes p) x
@@ -112,14 +113,14 @@ module _ (r : Shape) (shape : IsShape r) (x : List ℕ) (inside : r.base + (4 + 
         ∙ ap (λ (m : ℕ). bytes_at (a ++ back) m 2) (sym (omega (arith, records_length h.previous older))) ∙ part_back 0 2 a back) ∙ number_two q ∙ previous_last h.previous before e in
         let found : len ≡ len_of e = len_is (ap (λ (m : ℕ). m % 2) field ∙ len_even e) (omega (arith, field, len_most e day)) ∙ field in
         let s = moved in
-        let at_far : IsPlace r.size (oldest_of r x) (total before) p =
-        place_back r.size (oldest_of r x) (total before) len p n h.oldest.below p_pointer.below n_pointer.below (omega (arith, found, whole, free))
-        (subst (λ (m : ℕ). IsPlace r.size (oldest_of r x) m n) (omega (arith, whole, found)) (newest_at older d h)) p_place in
+        let at_far : IsPlace r.size (oldest_pointer r x) (total before) p =
+        place_back r.size (oldest_pointer r x) (total before) len p n h.oldest.below p_pointer.below n_pointer.below (omega (arith, found, whole, free))
+        (subst (λ (m : ℕ). IsPlace r.size (oldest_pointer r x) m n) (omega (arith, whole, found)) (newest_at older d h)) p_place in
         record {
           oldest = subst (λ (m : ℕ). IsPointer r.size m) (sym s.oldest) h.oldest;
           newest = subst (λ (m : ℕ). IsPointer r.size m) (sym s.newest) p_pointer;
-          distance = subst (λ (m : ℕ). IsPlace r.size m (far older) (newest_of r z)) (sym s.oldest)
-              (subst (λ (m : ℕ). IsPlace r.size (oldest_of r x) (far older) m) (sym s.newest) (subst (λ (m : ℕ). IsPlace r.size (oldest_of r x) m p) (sym (far_last before e)) at_far));
+          distance = subst (λ (m : ℕ). IsPlace r.size m (far older) (newest_pointer r z)) (sym s.oldest)
+              (subst (λ (m : ℕ). IsPlace r.size (oldest_pointer r x) (far older) m) (sym s.newest) (subst (λ (m : ℕ). IsPlace r.size (oldest_pointer r x) m p) (sym (far_last before e)) at_far));
           previous = h.previous;
           rest = record_of q d ++ h.rest;
           spelled = s.circle ∙ h.spelled ∙ spelled_at h.previous older d [] h.rest;
@@ -131,35 +132,37 @@ module _ (r : Shape) (shape : IsShape r) (x : List ℕ) (inside : r.base + (4 + 
         nothing [] f none = cc
         nothing (g ∷ older) f none = cc
 
-    pub one_gone : IsShortened r x z
+    pub one_gone : IsWithoutLast r x z
     one_gone = record { outside = moved.outside; list = by }
       where
         by : (older : List Day) (d : Day) → Holds r x (older ++ d ∷ []) → Holds r z older
         by [] d h = absurd (other h.oldest (n_is h.newest ∙ at_start h.distance))
           where
-            at_start : IsPlace r.size (oldest_of r x) 0 (newest_of r x) → newest_of r x ≡ oldest_of r x
+            at_start : IsPlace r.size (oldest_pointer r x) 0 (newest_pointer r x) → newest_pointer r x ≡ oldest_pointer r x
             at_start place = ⊎_elim (λ is. omega (arith, is)) (λ is. absurd (omega (arith, is, h.oldest.below))) place
         by (e ∷ es) d h = let f = fronts e es in subst (λ (l : List Day). Holds r z l) (sym f.is) (back_to f.before f.last d (subst (λ (l : List Day). Holds r x (l ++ d ∷ [])) f.is h))
 
-    pub while_one : (c : List ℕ) → IsPartlyWritten (r.base + 2) (two_bytes p) x c → IsShortening r x c
+    pub while_one : (c : List ℕ) → IsPartlyWritten (r.base + 2) (two_bytes p) x c → IsLosingLast r x c
     while_one c part = ⊎_elim
-        (λ is. subst (λ (l : List ℕ). IsShortening r x l) (sym is) (record { outside = outside_same r.base (4 + r.size) x; list = λ older d h. inl h }))
-        (λ is. subst (λ (l : List ℕ). IsShortening r x l) (sym is) (record { outside = moved.outside; list = λ older d h. inr (one_gone.list older d h) })) (part.whole (lit≤ tt))
+        (λ is. subst (λ (l : List ℕ). IsLosingLast r x l) (sym is) (record { outside = outside_same r.base (4 + r.size) x; list = λ older d h. inl h }))
+        (λ is. subst (λ (l : List ℕ). IsLosingLast r x l) (sym is) (record { outside = moved.outside; list = λ older d h. inr (one_gone.list older d h) })) (part.whole (lit≤ tt))
 
 -- what goes on
-pub shorter_then : (date i j : ℕ) (days kept still : List Day) → Shorter date i days kept → Shorter date j kept still → Shorter date (i + j) days still
+pub shorter_then : (date i j : ℕ) (days kept still : List Day) → ShorterBy date i days kept → ShorterBy date j kept still → ShorterBy date (i + j) days still
 shorter_then date i j days kept still first next = record {
-  gone = next.gone ++ first.gone;
-  is = first.is ∙ ap (λ (l : List Day). l ++ first.gone) next.is ∙ append_assoc still next.gone first.gone;
-  later = both next.gone first.gone next.later first.later;
-  many = omega (arith, length-append next.gone first.gone, first.many, next.many);
+  less = record {
+    gone = next.less.gone ++ first.less.gone;
+    is = first.less.is ∙ ap (λ (l : List Day). l ++ first.less.gone) next.less.is ∙ append_assoc still next.less.gone first.less.gone;
+    later = both next.less.gone first.less.gone next.less.later first.less.later;
+  };
+  many = omega (arith, length-append next.less.gone first.less.gone, first.many, next.many);
 }
   where
     both : (ds es : List Day) → AllLater date ds → AllLater date es → AllLater date (ds ++ es)
     both [] es a b = b
     both (d ∷ ds) es a b = (a.0, both ds es a.1 b)
 
-pub trimming_then : (r : Shape) (date i j : ℕ) (x y c : List ℕ) → IsTrimming r date i x y → IsTrimming r date j y c → IsTrimming r date (i + j) x c
+pub trimming_then : (r : StringShape) (date i j : ℕ) (x y c : List ℕ) → IsTrimming r date i x y → IsTrimming r date j y c → IsTrimming r date (i + j) x c
 trimming_then r date i j x y c first next = record {
   outside = outside_then r.base (4 + r.size) x y c first.outside next.outside;
   list = λ days h.
@@ -168,15 +171,8 @@ trimming_then r date i j x y c first next = record {
       (two.0, shorter_then date i j days one.0 two.0 one.1 two.1, two.2);
 }
 
-pub trimming_none : (r : Shape) (date : ℕ) (x : List ℕ) → IsTrimming r date 0 x x
-trimming_none r date x = record { outside = outside_same r.base (4 + r.size) x; list = λ days h. (days, record { gone = []; is = sym (append-nil days); later = tt; many = lit≤ tt }, h) }
-
-pub until_none : (date : ℕ) (gone : List Day) → AllLater date gone → until date gone ≡ []
-until_none date [] later = refl
-until_none date (g ∷ gs) later = let test : nat_le g.date date ≡ false = not_at_most g.date date later.0 in ap (λ (b : Bool). cond b (g ∷ until date gs) []) test
-  where
-    not_at_most : (m n : ℕ) → n < m → nat_le m n ≡ false
-    not_at_most m n lt = grind (arith, nat_tests)
+pub trimming_none : (r : StringShape) (date : ℕ) (x : List ℕ) → IsTrimming r date 0 x x
+trimming_none r date x = record { outside = outside_same r.base (4 + r.size) x; list = λ days h. (days, record { less = record { gone = []; is = sym (append-nil days); later = tt }; many = lit≤ tt }, h) }
 
 at_most : (m n : ℕ) → m ≤ n → nat_le m n ≡ true
 at_most m n le = grind (arith, nat_tests)
@@ -208,10 +204,10 @@ later_is date (d ∷ e ∷ ds) is =
     let f = later_is date (e ∷ ds) is in
     (record { before = d ∷ f.0.before; last = f.0.last; is = ap (λ (l : List Day). d ∷ l) f.0.is }, f.1)
 
-one_shorter : (date : ℕ) (days : List Day) (f : Front days) → date < f.last.date → Shorter date 1 days f.before
-one_shorter date days f lt = record { gone = f.last ∷ []; is = f.is; later = (lt, tt); many = lit≤ tt }
+one_shorter : (date : ℕ) (days : List Day) (f : Front days) → date < f.last.date → ShorterBy date 1 days f.before
+one_shorter date days f lt = record { less = record { gone = f.last ∷ []; is = f.is; later = (lt, tt) }; many = lit≤ tt }
 
-pub trimming_one : (r : Shape) (date : ℕ) (x y : List ℕ) → ((days : List Day) → Holds r x days → newest_later date days ≡ true) → IsShortened r x y → IsTrimming r date 1 x y
+pub trimming_one : (r : StringShape) (date : ℕ) (x y : List ℕ) → ((days : List Day) → Holds r x days → newest_later date days ≡ true) → IsWithoutLast r x y → IsTrimming r date 1 x y
 trimming_one r date x y later step = record {
   outside = step.outside;
   list = λ days h.
@@ -219,32 +215,32 @@ trimming_one r date x y later step = record {
       (f.0.before, one_shorter date days f.0 f.1, step.list f.0.before f.0.last (subst (λ (l : List Day). Holds r x l) f.0.is h));
 }
 
-pub trimming_part : (r : Shape) (date : ℕ) (x c : List ℕ) → ((days : List Day) → Holds r x days → newest_later date days ≡ true) → IsShortening r x c → IsTrimming r date 0 x c
+pub trimming_part : (r : StringShape) (date : ℕ) (x c : List ℕ) → ((days : List Day) → Holds r x days → newest_later date days ≡ true) → IsLosingLast r x c → IsTrimming r date 0 x c
 trimming_part r date x c later step = record {
   outside = step.outside;
   list = λ days h.
       let f = later_is date days (later days h) in
       ⊎_elim
-      (λ still. (days, record { gone = []; is = sym (append-nil days); later = tt; many = lit≤ tt }, subst (λ (l : List Day). Holds r c l) (sym f.0.is) still))
-      (λ gone. let one = one_shorter date days f.0 f.1 in (f.0.before, record { gone = one.gone; is = one.is; later = one.later; many = omega arith }, gone))
+      (λ still. (days, record { less = record { gone = []; is = sym (append-nil days); later = tt }; many = lit≤ tt }, subst (λ (l : List Day). Holds r c l) (sym f.0.is) still))
+      (λ gone. let one = one_shorter date days f.0 f.1 in (f.0.before, record { less = one.less; many = omega arith }, gone))
       (step.list f.0.before f.0.last (subst (λ (l : List Day). Holds r x l) f.0.is h));
 }
 
-pub trimming_fewer : (r : Shape) (date i : ℕ) (x c : List ℕ) → IsTrimming r date i x c → IsTrimming r date 0 x c
-trimming_fewer r date i x c step = record { outside = step.outside; list = λ days h. let s = step.list days h in (s.0, record { gone = s.1.gone; is = s.1.is; later = s.1.later; many = omega arith }, s.2) }
+pub trimming_fewer : (r : StringShape) (date i : ℕ) (x c : List ℕ) → IsTrimming r date i x c → IsTrimming r date 0 x c
+trimming_fewer r date i x c step = record { outside = step.outside; list = λ days h. let s = step.list days h in (s.0, record { less = s.1.less; many = omega arith }, s.2) }
 
 -- when no later day is left
-pub trimmed : (r : Shape) (date i : ℕ) (x y : List ℕ) → IsTrimming r date i x y → ((days kept : List Day) → Holds r x days → Shorter date i days kept → Holds r y kept → newest_later date kept ≡ false) → IsTrimmed r date x y
+pub trimmed : (r : StringShape) (date i : ℕ) (x y : List ℕ) → IsTrimming r date i x y → ((days kept : List Day) → Holds r x days → ShorterBy date i days kept → Holds r y kept → newest_later date kept ≡ false) → IsTrimmed r date x y
 trimmed r date i x y step none = record {
   outside = step.outside;
   list = λ days h.
       let s = step.list days h in
-      subst (λ (l : List Day). Holds r y l) (sym (ap (λ (l : List Day). until date l) s.1.is ∙ until_is date 0 s.0 s.1.gone (subst (λ (l : List Day). AreDays 0 l) s.1.is h.ordered) s.1.later (none days s.0 h s.1 s.2))) s.2;
+      subst (λ (l : List Day). Holds r y l) (sym (ap (λ (l : List Day). until date l) s.1.less.is ∙ until_is date 0 s.0 s.1.less.gone (subst (λ (l : List Day). AreDays 0 l) s.1.less.is h.ordered) s.1.less.later (none days s.0 h s.1 s.2))) s.2;
 }
 
 -- so many can't be gone and one be left
-pub too_many : (r : Shape) (shape : IsShape r) (date i : ℕ) (x : List ℕ) → r.base + (4 + r.size) ≤ length x → 984 ≤ i → (days kept : List Day) → Holds r x days → Shorter date i days kept → newest_later date kept ≡ false
+pub too_many : (r : StringShape) (shape : IsStringShape r) (date i : ℕ) (x : List ℕ) → r.base + (4 + r.size) ≤ length x → 984 ≤ i → (days kept : List Day) → Holds r x days → ShorterBy date i days kept → newest_later date kept ≡ false
 too_many r shape date i x inside all days [] h s = refl
 too_many r shape date i x inside all days (k ∷ ks) h s =
-    let whole : length days ≡ length ((k ∷ ks) ++ s.gone) = ap length s.is in
-    absurd (omega (arith, whole, all, length-append (k ∷ ks) s.gone, s.many, count_least 0 days h.ordered, fills r shape x inside days h, shape.high))
+    let whole : length days ≡ length ((k ∷ ks) ++ s.less.gone) = ap length s.less.is in
+    absurd (omega (arith, whole, all, length-append (k ∷ ks) s.less.gone, s.many, count_least 0 days h.ordered, fills r shape x inside days h, shape.high))

@@ -1,19 +1,19 @@
 -- What is kept of a string between two calls on it, and when it is what an image tells.
 use Rattle.std.specs.Prelude.{◌≡◌, ℕ, ◌+◌, ◌-◌, ◌*◌, ◌%◌, ◌≤◌, List, [], ◌∷◌, Option, Some, None, if◌then◌else◌, ◌==◌}
-use Rattle.card_model.specs.Days.{Day, total}
-use Rattle.card_model.specs.Image.{Shape, IsShape, IsPointer, Holds, newest_of, spot}
+use Rattle.card_model.specs.Days.{Day, total, last_word}
+use Rattle.card_model.specs.Image.{StringShape, IsStringShape, IsPointer, Holds, newest_pointer, spot}
 use Rattle.cyclic_days.specs.declared.head.DayHead.{DayHead}
 use Rattle.cyclic_days.specs.declared.head.Tail.{Tail}
-use Rattle.cyclic_days.specs.Heads.{head_of}
+use Rattle.cyclic_days.specs.Heads.{day_head}
 
 -- Where the string lies, and its tail: the head of the newest day, that day's latest word, and how many bytes the days
 -- have. Where these are none there is no day, and the next one begins at the head's place.
 pub record Held : Type 0 where
-  pub shape : Shape
+  pub shape : StringShape
   pub tail : Tail
 
 pub record IsHeld (v : Held) : Type 0 where
-  pub shape : IsShape v.shape
+  pub shape : IsStringShape v.shape
   pub pointer : IsPointer v.shape.size v.tail.head.place
   pub few : v.tail.head.words ≤ 1440
   pub most : v.tail.used ≤ v.shape.size
@@ -31,24 +31,18 @@ end_of v = spot v.shape.size v.tail.head.place (newest_len v)
 abbrev pub oldest_at : Held → ℕ → ℕ
 oldest_at v used = spot v.shape.size (end_of v) (v.shape.size - used)
 
--- the last of some words
-abbrev pub last_word : List ℕ → ℕ
-last_word [] = 0
-last_word (w ∷ []) = w
-last_word (w ∷ v ∷ ws) = last_word (v ∷ ws)
-
 -- the newest of these days, if there is one, has this head and this latest word
-abbrev pub IsNewest : DayHead → ℕ → List Day → Type 0
-IsNewest h w [] = Unit {0}
-IsNewest h w (d ∷ []) = (h ≡ head_of h.place d) × (w ≡ last_word d.words)
-IsNewest h w (d ∷ e ∷ ds) = IsNewest h w (e ∷ ds)
+abbrev pub IsNewestHead : DayHead → ℕ → List Day → Type 0
+IsNewestHead h w [] = Unit {0}
+IsNewestHead h w (d ∷ []) = (h ≡ day_head h.place d) × (w ≡ last_word d.words)
+IsNewestHead h w (d ∷ e ∷ ds) = IsNewestHead h w (e ∷ ds)
 
 -- The image holds these days, and what is kept is what it tells of the newest of them.
 pub record Knows (v : Held) (x : List ℕ) (days : List Day) : Type 0 where
   pub holds : Holds v.shape x days
-  pub place : v.tail.head.place ≡ newest_of v.shape x
+  pub place : v.tail.head.place ≡ newest_pointer v.shape x
   pub used : v.tail.used ≡ total days
-  pub newest : IsNewest v.tail.head v.tail.latest days
+  pub newest : IsNewestHead v.tail.head v.tail.latest days
 
 -- the string's tail, by what is kept
 abbrev pub tail_of : Held → Option Tail
@@ -57,8 +51,8 @@ tail_of v = if v.tail.used == 0 then None else Some v.tail
 -- the newest day's head and last word, and the sum of the lengths; nothing where there is no day
 abbrev pub tail_by : (place used : ℕ) → List Day → Option Tail
 tail_by place used [] = None
-tail_by place used (d ∷ []) = Some (record { head = head_of place d; latest = last_word d.words; used = used })
+tail_by place used (d ∷ []) = Some (record { head = day_head place d; latest = last_word d.words; used = used })
 tail_by place used (d ∷ e ∷ ds) = tail_by place used (e ∷ ds)
 
-abbrev pub tail_in : Shape → List ℕ → List Day → Option Tail
-tail_in r x days = tail_by (newest_of r x) (total days) days
+abbrev pub tail_in : StringShape → List ℕ → List Day → Option Tail
+tail_in r x days = tail_by (newest_pointer r x) (total days) days

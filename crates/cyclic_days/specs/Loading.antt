@@ -3,7 +3,7 @@ use Rattle.std.specs.Prelude.{◌≡◌, ◌⊎◌, ℕ, ◌+◌, ◌-◌, ◌*�
 use Rattle.tach_media.specs.Medium.{bytes_at}
 use Rattle.card_model.specs.Bytes.{number, two_bytes}
 use Rattle.card_model.specs.Days.{Day, len_of, record_of, IsDay}
-use Rattle.card_model.specs.Image.{Shape}
+use Rattle.card_model.specs.Image.{StringShape}
 use Rattle.card_model.specs.Checks.{first_failing, record_checks, file_place}
 use Rattle.card_layout.specs.declared.files.Range.{Range}
 use Rattle.cyclic_days.specs.declared.fault.DaysFault.{DaysFault}
@@ -11,7 +11,7 @@ use Rattle.cyclic_days.specs.declared.fault.DaysFault.TheVariants as fault
 use Rattle.cyclic_days.specs.declared.head.RecordHead.{RecordHead}
 
 -- the string of a range that is the file of days
-abbrev pub shape_of : Range → Shape
+abbrev pub shape_of : Range → StringShape
 shape_of range = record { base = range.base; size = range.len - 4 }
 
 -- what is said of the place in a fault

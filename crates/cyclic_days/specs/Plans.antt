@@ -3,12 +3,12 @@ use Rattle.std.specs.Prelude.{◌≡◌, ℕ, ◌+◌, ◌-◌, ◌*◌, ◌%◌
 use Rattle.tach_media.specs.Medium.{bytes_at}
 use Rattle.write_plan.specs.Plan.{Piece, piece}
 use Rattle.card_model.specs.Bytes.{number, two_bytes}
-use Rattle.card_model.specs.Days.{Day, body}
+use Rattle.card_model.specs.Days.{Day, body, last_word}
 use Rattle.card_model.specs.Changes.{counter_after}
-use Rattle.card_model.specs.Image.{Shape, at, spot}
+use Rattle.card_model.specs.Image.{StringShape, at, spot}
 use Rattle.cyclic_days.specs.declared.head.Tail.{Tail}
-use Rattle.cyclic_days.specs.Heads.{head_of}
-use Rattle.cyclic_days.specs.Held.{Held, newest_len, end_of, oldest_at, last_word}
+use Rattle.cyclic_days.specs.Heads.{day_head}
+use Rattle.cyclic_days.specs.Held.{Held, newest_len, end_of, oldest_at}
 
 -- a number as the length of a day that goes, which counts the least of a day where it is none
 abbrev pub dropped_len : ℕ → ℕ
@@ -47,18 +47,18 @@ abbrev pub tail_more : Tail → (w used : ℕ) → Tail
 tail_more t w used = record { head = record t.head { words = more_words t.head.words }; latest = w; used = used }
 
 -- bytes on the string, round its end
-abbrev pub round_pieces : Shape → ℕ → List ℕ → List Piece
+abbrev pub round_pieces : StringShape → ℕ → List ℕ → List Piece
 round_pieces r p bytes =
     if nat_le (length bytes) (r.size - p) then piece (at r p) bytes ∷ [] else piece (at r p) (take (r.size - p) bytes) ∷ piece (at r 0) (drop (r.size - p) bytes) ∷ []
 
 -- the newest pointer, where it differs
-abbrev pub pointer_pieces : Shape → (newest p : ℕ) → List Piece
+abbrev pub pointer_pieces : StringShape → (newest p : ℕ) → List Piece
 pointer_pieces r newest p = if newest == p then [] else piece (r.base + 2) (two_bytes p) ∷ []
 
 -- a day behind the newest: the length before it, its body, its length, and the newest pointer
 abbrev pub day_pieces : Held → (bytes : List ℕ) → List Piece
 day_pieces v bytes =
-    let r : Shape = v.shape in
+    let r : StringShape = v.shape in
     piece (at r (end_of v)) (two_bytes (newest_len v)) ∷ (round_pieces r (spot r.size (end_of v) 4) bytes
     ++ (piece (at r (spot r.size (end_of v) 2)) (two_bytes (4 + length bytes)) ∷ pointer_pieces r v.tail.head.place (end_of v)))
 
@@ -80,7 +80,7 @@ beginning_pieces v date words x =
 
 -- the tail with that day
 abbrev pub tail_begun : Held → (date : ℕ) → (words : List ℕ) → (used : ℕ) → Tail
-tail_begun v date words used = record { head = head_of (end_of v) (day_by v date words); latest = last_word words; used = used }
+tail_begun v date words used = record { head = day_head (end_of v) (day_by v date words); latest = last_word words; used = used }
 
 -- the length before the oldest day is cleared
 abbrev pub mend_pieces : Held → List Piece

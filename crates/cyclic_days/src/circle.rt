@@ -2,9 +2,9 @@ ghost use Rattle.std.specs.Prelude.{◌≡◌, ◌≤◌, ◌<◌, ◌+◌, ◌%
 ghost use Rattle.tach_media.specs.Medium.{LeavesOnly, Reads, HasCause, LiesInside, IsPartlyWritten, IsSettled, last_count, put, bytes_at};
 ghost use Rattle.card_model.specs.Days.{Day};
 ghost use Rattle.card_model.specs.Bytes.{number, two_bytes};
-ghost use Rattle.card_model.specs.Image.{Holds, IsAt, IsPlace, IsPointer, IsShape, at, newest_of, oldest_of, spot, string_of, turned};
-ghost use Rattle.cyclic_days.specs.Moments.{FitsIn};
-ghost use Rattle.cyclic_days.specs.Heads.{head_bytes, head_of};
+ghost use Rattle.card_model.specs.Image.{Holds, IsAt, IsPlace, IsPointer, IsStringShape, at, newest_pointer, oldest_pointer, spot, string_of, turned};
+ghost use Rattle.cyclic_days.specs.Moments.{FileFitsIn};
+ghost use Rattle.cyclic_days.specs.Heads.{head_bytes, day_head};
 ghost use Rattle.cyclic_days.specs.Loading.{shape_of};
 
 mod trim;
@@ -24,21 +24,21 @@ pub struct Circle {
 }
 
 impl Model for Circle {
-    ghost use Rattle.card_model.specs.Image.{Shape, IsShape};
+    ghost use Rattle.card_model.specs.Image.{StringShape, IsStringShape};
 
-    ghost Value = { Shape };
+    ghost Value = { StringShape };
 
     ghost view = { λ r. record { base = r.base; size = r.size } };
 
-    ghost invariant = { λ r. IsShape (record { base = r.base; size = r.size }) };
+    ghost invariant = { λ r. IsStringShape (record { base = r.base; size = r.size }) };
 }
 
 impl Circle {
     // The days of a range, which is the file of days.
     pub(crate) fn of(range: Range) -> Circle
-        requires { IsShape (shape_of range) }
+        requires { IsStringShape (shape_of range) }
         ensures shape { result ≡ shape_of range }
-        ensures is { IsShape result }
+        ensures is { IsStringShape result }
     {
         Circle {
             base: range.base,
@@ -128,10 +128,10 @@ impl Circle {
 
     // The oldest pointer.
     pub(crate) fn oldest<M: Medium>(&self, medium: &mut M) -> Result<u32, Failed>
-        requires fits { FitsIn self.now (M.state medium.old) }
-        ensures oldest { IfOk result (λ p. IfSome (M.state medium.old).image (λ x. IsPointer self.now.size (oldest_of self.now x) → p ≡ oldest_of self.now x)) }
+        requires fits { FileFitsIn self.now (M.state medium.old) }
+        ensures oldest { IfOk result (λ p. IfSome (M.state medium.old).image (λ x. IsPointer self.now.size (oldest_pointer self.now x) → p ≡ oldest_pointer self.now x)) }
         ensures pointer { IfOk result (λ p. IsPointer self.now.size p) }
-        ensures shape { IsShape self.now }
+        ensures shape { IsStringShape self.now }
         ensures reads { Reads (M.state medium.old) (M.state medium.new) (is_err result) }
     {
         let n = read_two(medium, self.base)?;
@@ -140,10 +140,10 @@ impl Circle {
 
     // The newest pointer.
     pub(crate) fn newest<M: Medium>(&self, medium: &mut M) -> Result<u32, Failed>
-        requires fits { FitsIn self.now (M.state medium.old) }
-        ensures newest { IfOk result (λ p. IfSome (M.state medium.old).image (λ x. IsPointer self.now.size (newest_of self.now x) → p ≡ newest_of self.now x)) }
+        requires fits { FileFitsIn self.now (M.state medium.old) }
+        ensures newest { IfOk result (λ p. IfSome (M.state medium.old).image (λ x. IsPointer self.now.size (newest_pointer self.now x) → p ≡ newest_pointer self.now x)) }
         ensures pointer { IfOk result (λ p. IsPointer self.now.size p) }
-        ensures shape { IsShape self.now }
+        ensures shape { IsStringShape self.now }
         ensures reads { Reads (M.state medium.old) (M.state medium.new) (is_err result) }
     {
         let n = read_two(medium, self.base + 2)?;
@@ -152,7 +152,7 @@ impl Circle {
 
     // The length of the day at a place.
     pub(crate) fn len_at<M: Medium>(&self, medium: &mut M, place: u32) -> Result<u32, Failed>
-        requires fits { FitsIn self.now (M.state medium.old) }
+        requires fits { FileFitsIn self.now (M.state medium.old) }
         requires pointer { IsPointer self.now.size place }
         ensures len { IfOk result (λ n. IfSome (M.state medium.old).image (λ x. (q : ℕ) → IsPlace self.now.size place 2 q → q < self.now.size
             → number (bytes_at x (at self.now q) 2) % 2 ≡ 0 → number (bytes_at x (at self.now q) 2) ≤ 2892 → n ≡ number (bytes_at x (at self.now q) 2))) }
@@ -167,7 +167,7 @@ impl Circle {
 
     // The length of the day before the one at a place.
     pub(crate) fn previous_at<M: Medium>(&self, medium: &mut M, place: u32) -> Result<u32, Failed>
-        requires fits { FitsIn self.now (M.state medium.old) }
+        requires fits { FileFitsIn self.now (M.state medium.old) }
         requires pointer { IsPointer self.now.size place }
         ensures len { IfOk result (λ n. IfSome (M.state medium.old).image (λ x. number (bytes_at x (at self.now place) 2) % 2 ≡ 0 → number (bytes_at x (at self.now place) 2) ≤ 2892
             → n ≡ number (bytes_at x (at self.now place) 2))) }
@@ -187,7 +187,7 @@ impl Circle {
         place: u32,
         out: &mut [u8],
     ) -> Result<(), Failed>
-        requires fits { FitsIn self.now (M.state medium.old) }
+        requires fits { FileFitsIn self.now (M.state medium.old) }
         requires pointer { IsPointer self.now.size place }
         requires breaks { self.now.size ≤ place + length out.old }
         requires short { length out.old ≤ 12 }
@@ -204,9 +204,9 @@ impl Circle {
 
     // The twelve bytes at a place of the string, round its end.
     fn twelve_at<M: Medium>(&self, medium: &mut M, place: u32) -> Result<[u8; 12], Failed>
-        requires fits { FitsIn self.now (M.state medium.old) }
+        requires fits { FileFitsIn self.now (M.state medium.old) }
         requires pointer { IsPointer self.now.size place }
-        ensures shape { IsShape self.now }
+        ensures shape { IsStringShape self.now }
         ensures bytes { IfOk result (λ b. IfSome (M.state medium.old).image (λ x. b ≡ take 12 (turned place (string_of self.now x)))) }
         ensures reads { Reads (M.state medium.old) (M.state medium.new) (is_err result) }
     {
@@ -226,7 +226,7 @@ impl Circle {
         place: u32,
         distance: u32,
     ) -> Result<u32, Failed>
-        requires fits { FitsIn self.now (M.state medium.old) }
+        requires fits { FileFitsIn self.now (M.state medium.old) }
         requires pointer { IsPointer self.now.size place }
         requires even { distance % 2 ≡ 0 }
         requires most { distance + 2 ≤ self.now.size }
@@ -244,9 +244,9 @@ impl Circle {
         medium: &mut M,
         place: u32,
     ) -> Result<RecordHead, Failed>
-        requires fits { FitsIn self.now (M.state medium.old) }
+        requires fits { FileFitsIn self.now (M.state medium.old) }
         requires pointer { IsPointer self.now.size place }
-        ensures shape { IsShape self.now }
+        ensures shape { IsStringShape self.now }
         ensures short { IfOk result (λ h. h.counter < 65536) }
         ensures head { IfOk result (λ h. IfSome (M.state medium.old).image (λ x. head_bytes h ≡ take 12 (turned place (string_of self.now x)))) }
         ensures reads { Reads (M.state medium.old) (M.state medium.new) (is_err result) }
@@ -261,10 +261,10 @@ impl Circle {
         medium: &mut M,
         place: u32,
     ) -> Result<Option<DayHead>, Failed>
-        requires fits { FitsIn self.now (M.state medium.old) }
+        requires fits { FileFitsIn self.now (M.state medium.old) }
         requires pointer { IsPointer self.now.size place }
-        ensures there { IfOk result (λ o. IfSome (M.state medium.old).image (λ x. (d : Day) → IsAt self.now x place d → o ≡ Some (head_of place d))) }
-        ensures empty { IfOk result (λ o. IfSome (M.state medium.old).image (λ x. Holds self.now x [] → oldest_of self.now x ≡ place → o ≡ None)) }
+        ensures there { IfOk result (λ o. IfSome (M.state medium.old).image (λ x. (d : Day) → IsAt self.now x place d → o ≡ Some (day_head place d))) }
+        ensures empty { IfOk result (λ o. IfSome (M.state medium.old).image (λ x. Holds self.now x [] → oldest_pointer self.now x ≡ place → o ≡ None)) }
         ensures place { IfOk result (λ o. IfSome o (λ h. h.place ≡ place)) }
         ensures reads { Reads (M.state medium.old) (M.state medium.new) (is_err result) }
     {
@@ -282,7 +282,7 @@ impl Circle {
         place: u32,
         index: u16,
     ) -> Result<u32, Failed>
-        requires fits { FitsIn self.now (M.state medium.old) }
+        requires fits { FileFitsIn self.now (M.state medium.old) }
         requires pointer { IsPointer self.now.size place }
         requires few { index < 1440 }
         ensures short { IfOk result (λ w. w < 65536) }
@@ -300,7 +300,7 @@ impl Circle {
         place: u32,
         n: u32,
     ) -> Result<(), Failed>
-        requires fits { FitsIn self.now (M.state medium.old) }
+        requires fits { FileFitsIn self.now (M.state medium.old) }
         requires writable { LiesInside (M.state medium.old).writable self.now.base (4 + self.now.size) }
         requires pointer { IsPointer self.now.size place }
         requires short { n < 65536 }

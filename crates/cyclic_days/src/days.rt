@@ -8,7 +8,7 @@ ghost use Rattle.card_model.specs.Walk.{days_of};
 ghost use Rattle.cyclic_days.specs.Heads.{heads_of, IsAfter, IsBefore};
 ghost use Rattle.cyclic_days.specs.Held.{Knows, IsHeld, newest_len, tail_of, tail_in};
 ghost use Rattle.cyclic_days.specs.Loading.{shape_of, IfBadDays, has_failed};
-ghost use Rattle.cyclic_days.specs.Moments.{FitsIn};
+ghost use Rattle.cyclic_days.specs.Moments.{FileFitsIn};
 
 mod plan;
 mod write;
@@ -72,7 +72,7 @@ impl Days {
 
     /// The head of the oldest day; `None` exactly where there is no day.
     pub fn first<M: Medium>(&self, medium: &mut M) -> Result<Option<DayHead>, Failed>
-        requires fits { FitsIn self.now.shape (M.state medium.old) }
+        requires fits { FileFitsIn self.now.shape (M.state medium.old) }
         ensures first { IfOk result (λ o. IfSome (M.state medium.old).image (λ x. (days : List Day) → Holds self.now.shape x days → o ≡ slice_get (heads_of self.now.shape x days) 0)) }
         ensures place { IfOk result (λ o. IfSome o (λ h. h.place < self.now.shape.size)) }
         ensures reads { Reads (M.state medium.old) (M.state medium.new) (is_err result) }
@@ -82,7 +82,7 @@ impl Days {
 
     /// The head of the newest day; `None` exactly where there is no day.
     pub fn last<M: Medium>(&self, medium: &mut M) -> Result<Option<DayHead>, Failed>
-        requires fits { FitsIn self.now.shape (M.state medium.old) }
+        requires fits { FileFitsIn self.now.shape (M.state medium.old) }
         ensures last { IfOk result (λ o. IfSome (M.state medium.old).image (λ x. (days : List Day) → Holds self.now.shape x days → o ≡ last_or None (heads_of self.now.shape x days))) }
         ensures place { IfOk result (λ o. IfSome o (λ h. h.place < self.now.shape.size)) }
         ensures reads { Reads (M.state medium.old) (M.state medium.new) (is_err result) }
@@ -96,7 +96,7 @@ impl Days {
         medium: &mut M,
         head: &DayHead,
     ) -> Result<Option<DayHead>, Failed>
-        requires fits { FitsIn self.now.shape (M.state medium.old) }
+        requires fits { FileFitsIn self.now.shape (M.state medium.old) }
         requires place { head.now.place < 4 + self.now.shape.size }
         ensures after { IfOk result (λ o. IfSome (M.state medium.old).image (λ x. IsAfter self.now.shape x head.now o)) }
         ensures place { IfOk result (λ o. IfSome o (λ h. h.place < self.now.shape.size)) }
@@ -112,7 +112,7 @@ impl Days {
         medium: &mut M,
         head: &DayHead,
     ) -> Result<Option<DayHead>, Failed>
-        requires fits { FitsIn self.now.shape (M.state medium.old) }
+        requires fits { FileFitsIn self.now.shape (M.state medium.old) }
         requires place { head.now.place < 4 + self.now.shape.size }
         ensures before { IfOk result (λ o. IfSome (M.state medium.old).image (λ x. IsBefore self.now.shape x head.now o)) }
         ensures place { IfOk result (λ o. IfSome o (λ h. h.place < self.now.shape.size)) }
@@ -123,7 +123,7 @@ impl Days {
 
     /// A change word of a day that is there, counted from 0.
     pub fn word<M: Medium>(&self, medium: &mut M, head: &DayHead, index: u16) -> Result<u16, Failed>
-        requires fits { FitsIn self.now.shape (M.state medium.old) }
+        requires fits { FileFitsIn self.now.shape (M.state medium.old) }
         requires place { head.now.place < 4 + self.now.shape.size }
         requires there { index < head.now.words }
         ensures word { IfOk result (λ w. IfSome (M.state medium.old).image (λ x. (d : Day) → IsAt self.now.shape x head.now.place d → index < length d.words → w ≡ slice_index d.words index)) }

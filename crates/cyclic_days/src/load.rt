@@ -1,9 +1,9 @@
 ghost use Rattle.std.specs.Prelude.{◌≡◌, ◌≤◌, ◌<◌, ◌+◌, ◌*◌, ◌%◌, Some, None, true, drop, IfOk, IfErr, IfSome, IfNone, OnOk, is_err, ◌&&◌, nat_le, nat_lt};
 ghost use Rattle.tach_media.specs.Medium.{Reads};
-ghost use Rattle.card_model.specs.Image.{Shape, IsShape, IsPointer, Holds, spot, turned, string_of, oldest_of, newest_of, circle_of, IsPlace};
+ghost use Rattle.card_model.specs.Image.{StringShape, IsStringShape, IsPointer, Holds, spot, turned, string_of, oldest_pointer, newest_pointer, circle_of, IsPlace};
 ghost use Rattle.card_model.specs.Walk.{words_of, days_of};
 ghost use Rattle.card_model.specs.Checks.{first_failing, first_bad, is_pointer, is_len, is_previous, is_date, is_decimal, field_checks, word_checks, record_checks, day_checks, file_place, is_empty};
-ghost use Rattle.cyclic_days.specs.Moments.{FitsIn};
+ghost use Rattle.cyclic_days.specs.Moments.{FileFitsIn};
 ghost use Rattle.cyclic_days.specs.Loading.{shape_of, IfBadDays, has_failed, ArePairs, IsRecord, FailsAt};
 
 use crate::DaysFault;
@@ -28,7 +28,7 @@ impl Circle {
     fn first_bad_field(&self, head: &RecordHead, so_far: u32, before: u32, date: u32) -> Option<u32>
         requires below { so_far < self.now.size }
         requires even { so_far % 2 ≡ 0 }
-        requires shape { IsShape self.now }
+        requires shape { IsStringShape self.now }
         ensures first { result ≡ first_failing (field_checks self.now.size so_far before date head.now.previous head.now.len head.now.date head.now.counter) }
         ensures offset { IfSome result (λ k. (k % 2 ≡ 0) × (so_far + k ≤ self.now.size)) }
         ensures len { IfNone result ((head.now.len % 2 ≡ 0) × (14 ≤ head.now.len) × (head.now.len ≤ 2892) × (so_far + head.now.len ≤ self.now.size)) }
@@ -56,10 +56,10 @@ impl Circle {
         count: u32,
     ) -> Result<Option<u32>, Failed>
         requires works { (M.state medium.old).works ≡ true }
-        requires fits { FitsIn self.now (M.state medium.old) }
+        requires fits { FileFitsIn self.now (M.state medium.old) }
         requires pointer { IsPointer self.now.size place }
         requires few { count ≤ 1440 }
-        requires shape { IsShape self.now }
+        requires shape { IsStringShape self.now }
         ensures first { IfOk result (λ o. IfSome (M.state medium.old).image (λ x. o ≡ first_failing (word_checks 12 0 1 (words_of count (drop 12 (turned place (string_of self.now x))))))) }
         ensures spelled { IfOk result (λ o. IfSome (M.state medium.old).image (λ x. o ≡ None → ArePairs count (drop 12 (turned place (string_of self.now x))))) }
         ensures offset { IfOk result (λ o. IfSome o (λ k. (k % 2 ≡ 0) × (k < 12 + 2 * count))) }
@@ -86,7 +86,7 @@ impl Circle {
         requires pointer { IsPointer self.now.size oldest }
         requires even { distance % 2 ≡ 0 }
         requires most { distance ≤ self.now.size }
-        requires shape { IsShape self.now }
+        requires shape { IsStringShape self.now }
         ensures fault { result ≡ DaysFault.BadDays (file_place self.now.size oldest distance) }
         ensures place { IfBadDays result (λ p. p < 4 + self.now.size) }
     {
@@ -103,11 +103,11 @@ impl Circle {
         before: u32,
         date: u32,
     ) -> Result<RecordHead, DaysFault>
-        requires fits { FitsIn self.now (M.state medium.old) }
+        requires fits { FileFitsIn self.now (M.state medium.old) }
         requires pointer { IsPointer self.now.size oldest }
         requires below { so_far < self.now.size }
         requires even { so_far % 2 ≡ 0 }
-        ensures shape { IsShape self.now }
+        ensures shape { IsStringShape self.now }
         ensures record { IfOk result (λ h. IfSome (M.state medium.old).image (λ x. IsRecord self.now.size so_far before date (turned (spot self.now.size oldest so_far) (string_of self.now x)) h)) }
         ensures len { IfOk result (λ h. (h.len % 2 ≡ 0) × (14 ≤ h.len) × (h.len ≤ 2892) × (so_far + h.len ≤ self.now.size)) }
         ensures bad { IfErr result (λ fault. IfBadDays fault (λ p. IfSome (M.state medium.old).image (λ x. FailsAt self.now.size oldest so_far before date (turned (spot self.now.size oldest so_far) (string_of self.now x)) p))) }
@@ -134,12 +134,12 @@ impl Circle {
         reach: u32,
     ) -> Result<(), DaysFault>
         requires works { (M.state medium.old).works ≡ true }
-        requires fits { FitsIn self.now (M.state medium.old) }
+        requires fits { FileFitsIn self.now (M.state medium.old) }
         requires pointer { IsPointer self.now.size oldest }
         requires below { reach < self.now.size }
-        ensures shape { IsShape self.now }
-        ensures days { OnOk result (IfSome (M.state medium.old).image (λ x. oldest ≡ oldest_of self.now x → IsPointer self.now.size (newest_of self.now x) → IsPlace self.now.size oldest reach (newest_of self.now x) → Holds self.now x (days_of self.now x))) }
-        ensures bad { IfErr result (λ fault. IfBadDays fault (λ p. IfSome (M.state medium.old).image (λ x. oldest ≡ oldest_of self.now x → first_failing (day_checks 984 self.now.size oldest reach 0 0 0 (circle_of self.now x)) ≡ Some p))) }
+        ensures shape { IsStringShape self.now }
+        ensures days { OnOk result (IfSome (M.state medium.old).image (λ x. oldest ≡ oldest_pointer self.now x → IsPointer self.now.size (newest_pointer self.now x) → IsPlace self.now.size oldest reach (newest_pointer self.now x) → Holds self.now x (days_of self.now x))) }
+        ensures bad { IfErr result (λ fault. IfBadDays fault (λ p. IfSome (M.state medium.old).image (λ x. oldest ≡ oldest_pointer self.now x → first_failing (day_checks 984 self.now.size oldest reach 0 0 0 (circle_of self.now x)) ≡ Some p))) }
         ensures place { IfErr result (λ fault. IfBadDays fault (λ p. p < 4 + self.now.size)) }
         ensures reads { Reads (M.state medium.old) (M.state medium.new) (has_failed result) }
     {
@@ -164,10 +164,10 @@ impl Circle {
     // Whether there is no day: both pointers are equal, and the length there is 0.
     fn is_empty<M: Medium>(&self, medium: &mut M, oldest: u32, newest: u32) -> Result<bool, Failed>
         requires works { (M.state medium.old).works ≡ true }
-        requires fits { FitsIn self.now (M.state medium.old) }
+        requires fits { FileFitsIn self.now (M.state medium.old) }
         requires pointer { IsPointer self.now.size oldest }
-        requires shape { IsShape self.now }
-        ensures empty { IfOk result (λ b. IfSome (M.state medium.old).image (λ x. oldest ≡ oldest_of self.now x → newest ≡ newest_of self.now x → b ≡ is_empty self.now x)) }
+        requires shape { IsStringShape self.now }
+        ensures empty { IfOk result (λ b. IfSome (M.state medium.old).image (λ x. oldest ≡ oldest_pointer self.now x → newest ≡ newest_pointer self.now x → b ≡ is_empty self.now x)) }
         ensures reads { Reads (M.state medium.old) (M.state medium.new) (is_err result) }
     {
         if oldest != newest {

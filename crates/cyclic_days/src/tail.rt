@@ -3,7 +3,7 @@ ghost use Rattle.tach_media.specs.Medium.{Reads};
 ghost use Rattle.card_model.specs.Days.{Day};
 ghost use Rattle.card_model.specs.Image.{Holds};
 ghost use Rattle.cyclic_days.specs.Held.{Held, IsHeld, Knows};
-ghost use Rattle.cyclic_days.specs.Moments.{FitsIn};
+ghost use Rattle.cyclic_days.specs.Moments.{FileFitsIn};
 
 use crate::circle::Circle;
 use crate::{DayHead, Tail};
@@ -13,7 +13,7 @@ use tacho_types::{Bcd2, Distance, TimeReal};
 impl Circle {
     // The string's tail; nothing is in use where there is no day.
     pub(crate) fn tail<M: Medium>(&self, medium: &mut M) -> Result<Tail, Failed>
-        requires fits { FitsIn self.now (M.state medium.old) }
+        requires fits { FileFitsIn self.now (M.state medium.old) }
         ensures held { IfOk result (λ t. IsHeld (record { shape = self.now; tail = t })) }
         ensures knows { IfOk result (λ t. IfSome (M.state medium.old).image (λ x. (days : List Day) → Holds self.now x days → Knows (record { shape = self.now; tail = t }) x days)) }
         ensures reads { Reads (M.state medium.old) (M.state medium.new) (is_err result) }

@@ -1,4 +1,4 @@
-ghost use Rattle.std.specs.Prelude.{◌≡◌, IfOk};
+ghost use Rattle.std.specs.Prelude.{◌≡◌, ◌≤◌, IfOk, length};
 
 use crate::{DayHead, Days, DaysFault};
 use card_layout::Range;
@@ -95,13 +95,21 @@ fn add_change(medium: &mut MemMedium, word: u16) -> Result<(), DaysFault> {
     Ok(days.add_change(medium, word)?)
 }
 
-// Begins a day of one word.
-fn begin_day(medium: &mut MemMedium, date: u32) -> Result<(), DaysFault> {
+// Begins a day of these words.
+fn begin_day_of(medium: &mut MemMedium, date: u32, words: &[u16]) -> Result<(), DaysFault>
+    requires some { 1 ≤ length words.now }
+    requires few { length words.now ≤ 2 }
+{
     let mut days = loaded(&mut *medium)?;
     if medium.size() != 5548 {
         return Err(DaysFault::Failed);
     }
-    Ok(days.begin_day(medium, TimeReal(date), &[0])?)
+    Ok(days.begin_day(medium, TimeReal(date), words)?)
+}
+
+// Begins a day of one word.
+fn begin_day(medium: &mut MemMedium, date: u32) -> Result<(), DaysFault> {
+    begin_day_of(medium, date, &[0])
 }
 
 fn finish_drop(medium: &mut MemMedium) -> Result<(), DaysFault> {
@@ -283,15 +291,19 @@ fn a_stopped_change_goes_on(rt: HostRuntime) -> Result<(), Fail> {
     Ok(())
 }
 
-// What is held after a day of this file that is stopped so many calls after it is loaded, and after the next day.
+// What is held after a day of these words that is stopped at that call, and after the next day.
 fn stopped_day(
     alloc: Global,
     image: Vec<u8>,
+    words: &[u16],
     call: u64,
     left: Left,
-) -> Result<((u32, u32, u16), (u32, u32, u16)), Fail> {
+) -> Result<((u32, u32, u16), (u32, u32, u16)), Fail>
+    requires some { 1 ≤ length words.now }
+    requires few { length words.now ≤ 2 }
+{
     let mut medium = medium(alloc, image, call, left)?;
-    if begin_day(&mut medium, MARCH).is_ok() {
+    if begin_day_of(&mut medium, MARCH, words).is_ok() {
         return Err(Fail::from("not stopped"));
     }
     medium.revive()?;
@@ -324,52 +336,116 @@ const DAY_STOPS: [(u64, Left, u32); 12] = [
 #[test]
 fn a_stopped_first_day_is_there_or_not(rt: HostRuntime) -> Result<(), Fail> {
     let alloc = rt.alloc();
+    let first = loading(alloc, empty(alloc)?)?;
     for (call, left, days) in DAY_STOPS {
-        let (found, then) = stopped_day(
-            alloc,
-            empty(alloc)?,
-            loading(alloc, empty(alloc)?)?.saturating_add(call),
-            left,
-        )?;
+        let call = first.saturating_add(call);
+        let (found, then) = stopped_day(alloc, empty(alloc)?, &[0], call, left)?;
         assert_eq!(rt; (found.0, found.1), (days, days));
         assert_eq!(rt; then, (days.saturating_add(1), days.saturating_add(1), 1));
     }
     Ok(())
 }
 
+#[test]
+fn a_stopped_first_day_of_two_words_has_both_or_is_not_there(
+    rt: HostRuntime,
+) -> Result<(), Fail> {
+    let alloc = rt.alloc();
+    let first = loading(alloc, empty(alloc)?)?;
+    for (call, left, days) in DAY_STOPS {
+        let call = first.saturating_add(call);
+        let (found, then) = stopped_day(alloc, empty(alloc)?, &[0, 60], call, left)?;
+        assert_eq!(rt; found, (days, days, if days == 0 { 0 } else { 2 }));
+        assert_eq!(rt; then, (days.saturating_add(1), days.saturating_add(1), 1));
+    }
+    Ok(())
+}
+
 // A write of a day of the full string, how it ends, and how many days there are then, and after the next day.
-const FULL_DAY_STOPS: [(u64, Left, u32, u32); 12] = [
+const FULL_DAY_STOPS: [(u64, Left, u32, u32); 18] = [
     // the oldest pointer
     (1, Left::Before, 396, 396),
+    (1, TORN, 396, 396),
     (1, Left::After, 395, 396),
     // the length before the oldest day
     (2, Left::Before, 395, 396),
+    (2, TORN, 395, 396),
     (2, Left::After, 395, 396),
     // the length before the new day
     (3, Left::Before, 395, 396),
+    (3, TORN, 395, 396),
     (3, Left::After, 395, 396),
     // its body
+    (4, Left::Before, 395, 396),
     (4, TORN, 395, 396),
     (4, Left::After, 395, 396),
     // its length
     (5, Left::Before, 395, 396),
+    (5, TORN, 395, 396),
     (5, Left::After, 395, 396),
     // the newest pointer
     (6, Left::Before, 395, 396),
+    (6, TORN, 395, 396),
     (6, Left::After, 396, 396),
 ];
 
 #[test]
 fn a_stopped_day_of_a_full_string_is_there_or_not(rt: HostRuntime) -> Result<(), Fail> {
     let alloc = rt.alloc();
+    let first = loading(alloc, full(alloc)?)?;
     for (call, left, days, next) in FULL_DAY_STOPS {
-        let (found, then) = stopped_day(
-            alloc,
-            full(alloc)?,
-            loading(alloc, full(alloc)?)?.saturating_add(call),
-            left,
-        )?;
+        let call = first.saturating_add(call);
+        let (found, then) = stopped_day(alloc, full(alloc)?, &[0], call, left)?;
         assert_eq!(rt; found, (days, days, 1));
+        assert_eq!(rt; then, (next, next, 1));
+    }
+    Ok(())
+}
+
+// The same of a day of two words, for which two days go: how many words the newest has then, too.
+const TWO_DROPS_STOPS: [(u64, Left, u32, u16, u32); 24] = [
+    // the oldest pointer, past the first
+    (2, Left::Before, 396, 1, 396),
+    (2, TORN, 396, 1, 396),
+    (2, Left::After, 395, 1, 396),
+    // the length before the oldest day
+    (3, Left::Before, 395, 1, 396),
+    (3, TORN, 395, 1, 396),
+    (3, Left::After, 395, 1, 396),
+    // the oldest pointer, past the second
+    (4, Left::Before, 395, 1, 396),
+    (4, TORN, 395, 1, 396),
+    (4, Left::After, 394, 1, 395),
+    // the length before the oldest day
+    (5, Left::Before, 394, 1, 395),
+    (5, TORN, 394, 1, 395),
+    (5, Left::After, 394, 1, 395),
+    // the length before the new day
+    (6, Left::Before, 394, 1, 395),
+    (6, TORN, 394, 1, 395),
+    (6, Left::After, 394, 1, 395),
+    // its body
+    (7, Left::Before, 394, 1, 395),
+    (7, TORN, 394, 1, 395),
+    (7, Left::After, 394, 1, 395),
+    // its length
+    (8, Left::Before, 394, 1, 395),
+    (8, TORN, 394, 1, 395),
+    (8, Left::After, 394, 1, 395),
+    // the newest pointer
+    (9, Left::Before, 394, 1, 395),
+    (9, TORN, 394, 1, 395),
+    (9, Left::After, 395, 2, 395),
+];
+
+#[test]
+fn a_stopped_day_for_which_two_go_is_there_or_not(rt: HostRuntime) -> Result<(), Fail> {
+    let alloc = rt.alloc();
+    let first = loading(alloc, full(alloc)?)?;
+    for (call, left, days, words, next) in TWO_DROPS_STOPS {
+        let call = first.saturating_add(call);
+        let (found, then) = stopped_day(alloc, full(alloc)?, &[0, 60], call, left)?;
+        assert_eq!(rt; found, (days, days, words));
         assert_eq!(rt; then, (next, next, 1));
     }
     Ok(())
@@ -560,5 +636,48 @@ fn the_first_day_is_kept(rt: HostRuntime) -> Result<(), Fail> {
         Some((5538, 1, 14))
     );
     assert_eq!(rt; is_kept(&days, &mut medium)?, true);
+    Ok(())
+}
+
+// How many calls each of these takes: a word on a full string, a day of two words then, a distance, and the end of a drop.
+fn calls_of(medium: &mut MemMedium) -> Result<[u64; 4], DaysFault> {
+    let mut days = loaded(&mut *medium)?;
+    let mut counts = [0; 4];
+    if medium.size() != 5548 {
+        return Err(DaysFault::Failed);
+    }
+    let mut before = medium.calls();
+    days.add_change(&mut *medium, 0x1805)?;
+    counts[0] = medium.calls().saturating_sub(before);
+    if medium.size() != 5548 {
+        return Err(DaysFault::Failed);
+    }
+    before = medium.calls();
+    days.begin_day(&mut *medium, TimeReal(MARCH), &[0, 60])?;
+    counts[1] = medium.calls().saturating_sub(before);
+    if medium.size() != 5548 {
+        return Err(DaysFault::Failed);
+    }
+    before = medium.calls();
+    days.set_distance(&mut *medium, Distance(7))?;
+    counts[2] = medium.calls().saturating_sub(before);
+    if medium.size() != 5548 {
+        return Err(DaysFault::Failed);
+    }
+    before = medium.calls();
+    days.finish_drop(&mut *medium)?;
+    counts[3] = medium.calls().saturating_sub(before);
+    Ok(counts)
+}
+
+#[test]
+fn nothing_that_is_known_is_read(rt: HostRuntime) -> Result<(), Fail> {
+    let alloc = rt.alloc();
+    // the length of the day that goes, and the writes
+    let mut medium = steady(alloc, full(alloc)?)?;
+    assert_eq!(rt; calls_of(&mut medium)?, [1 + 4, 1 + 6, 1, 1]);
+    // no day goes: the writes alone
+    let mut medium = steady(alloc, file(alloc, &TWO_DAYS)?)?;
+    assert_eq!(rt; calls_of(&mut medium)?, [2, 4, 1, 1]);
     Ok(())
 }

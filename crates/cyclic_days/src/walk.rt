@@ -2,8 +2,8 @@ ghost use Rattle.std.specs.Prelude.{◌≡◌, ◌≤◌, ◌<◌, ◌+◌, List
 ghost use Rattle.std.specs.List.{last_or};
 ghost use Rattle.tach_media.specs.Medium.{Reads};
 ghost use Rattle.card_model.specs.Days.{Day};
-ghost use Rattle.card_model.specs.Image.{Shape, Holds, IsAt};
-ghost use Rattle.cyclic_days.specs.Moments.{FitsIn};
+ghost use Rattle.card_model.specs.Image.{StringShape, Holds, IsAt};
+ghost use Rattle.cyclic_days.specs.Moments.{FileFitsIn};
 ghost use Rattle.cyclic_days.specs.Heads.{heads_of, IsAfter, IsBefore};
 
 use crate::DayHead;
@@ -13,7 +13,7 @@ use tach_media::{Failed, Medium};
 impl Circle {
     // The head of the oldest day; `None` exactly where there is no day.
     pub(crate) fn first<M: Medium>(&self, medium: &mut M) -> Result<Option<DayHead>, Failed>
-        requires fits { FitsIn self.now (M.state medium.old) }
+        requires fits { FileFitsIn self.now (M.state medium.old) }
         ensures first { IfOk result (λ o. IfSome (M.state medium.old).image (λ x. (days : List Day) → Holds self.now x days → o ≡ slice_get (heads_of self.now x days) 0)) }
         ensures place { IfOk result (λ o. IfSome o (λ h. h.place < self.now.size)) }
         ensures reads { Reads (M.state medium.old) (M.state medium.new) (is_err result) }
@@ -24,7 +24,7 @@ impl Circle {
 
     // The head of the newest day; `None` exactly where there is no day.
     pub(crate) fn last<M: Medium>(&self, medium: &mut M) -> Result<Option<DayHead>, Failed>
-        requires fits { FitsIn self.now (M.state medium.old) }
+        requires fits { FileFitsIn self.now (M.state medium.old) }
         ensures last { IfOk result (λ o. IfSome (M.state medium.old).image (λ x. (days : List Day) → Holds self.now x days → o ≡ last_or None (heads_of self.now x days))) }
         ensures place { IfOk result (λ o. IfSome o (λ h. h.place < self.now.size)) }
         ensures reads { Reads (M.state medium.old) (M.state medium.new) (is_err result) }
@@ -39,7 +39,7 @@ impl Circle {
         medium: &mut M,
         head: &DayHead,
     ) -> Result<Option<DayHead>, Failed>
-        requires fits { FitsIn self.now (M.state medium.old) }
+        requires fits { FileFitsIn self.now (M.state medium.old) }
         requires place { head.now.place < 4 + self.now.size }
         ensures after { IfOk result (λ o. IfSome (M.state medium.old).image (λ x. IsAfter self.now x head.now o)) }
         ensures place { IfOk result (λ o. IfSome o (λ h. h.place < self.now.size)) }
@@ -60,7 +60,7 @@ impl Circle {
         medium: &mut M,
         head: &DayHead,
     ) -> Result<Option<DayHead>, Failed>
-        requires fits { FitsIn self.now (M.state medium.old) }
+        requires fits { FileFitsIn self.now (M.state medium.old) }
         requires place { head.now.place < 4 + self.now.size }
         ensures before { IfOk result (λ o. IfSome (M.state medium.old).image (λ x. IsBefore self.now x head.now o)) }
         ensures place { IfOk result (λ o. IfSome o (λ h. h.place < self.now.size)) }
@@ -81,7 +81,7 @@ impl Circle {
         head: &DayHead,
         index: u16,
     ) -> Result<u16, Failed>
-        requires fits { FitsIn self.now (M.state medium.old) }
+        requires fits { FileFitsIn self.now (M.state medium.old) }
         requires place { head.now.place < 4 + self.now.size }
         requires there { index < head.now.words }
         ensures word { IfOk result (λ w. IfSome (M.state medium.old).image (λ x. (d : Day) → IsAt self.now x head.now.place d → index < length d.words → w ≡ slice_index d.words index)) }

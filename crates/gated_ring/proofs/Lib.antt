@@ -9,4 +9,5 @@ pub mod Orders
 pub mod Others
 pub mod Places
 pub mod Putting
+pub mod Rows
 pub mod Writing

@@ -3,10 +3,10 @@ ghost use Rattle.tach_media.specs.Medium.{LeavesOnly, Reads, HasCause, LiesInsid
 ghost use Rattle.card_model.specs.Days.{Day};
 ghost use Rattle.card_model.specs.Bytes.{number, two_bytes};
 ghost use Rattle.card_model.specs.Changes.{early, date_of, cut};
-ghost use Rattle.card_model.specs.Image.{Holds, IsAt, IsPointer, IsShape, at, spot};
-ghost use Rattle.cyclic_days.specs.Moments.{FitsIn};
+ghost use Rattle.card_model.specs.Image.{Holds, IsAt, IsPointer, IsStringShape, at, spot};
+ghost use Rattle.cyclic_days.specs.Moments.{FileFitsIn};
 ghost use Rattle.cyclic_days.specs.Steps.{SettlesIfSettled};
-ghost use Rattle.cyclic_days.specs.Trim.{IsShortened, IsShortening, IsTrimming, IsTrimmed, WritesOrReads, newest_later, IsCutLast, IsCuttingLast, IsTrim, IsTrimMoment, WritesWhereDays};
+ghost use Rattle.cyclic_days.specs.Trim.{IsWithoutLast, IsLosingLast, IsTrimming, IsTrimmed, WritesOrReads, newest_later, IsCutLast, IsCuttingLast, IsTrim, IsTrimMoment, WritesWhereDays};
 
 use super::Circle;
 use crate::bytes::{read_two, write_two};
@@ -15,7 +15,7 @@ use tach_media::{Failed, Medium};
 impl Circle {
     // Writes the newest pointer.
     fn put_newest<M: Medium>(&self, medium: &mut M, n: u32) -> Result<(), Failed>
-        requires fits { FitsIn self.now (M.state medium.old) }
+        requires fits { FileFitsIn self.now (M.state medium.old) }
         requires writable { LiesInside (M.state medium.old).writable self.now.base (4 + self.now.size) }
         requires pointer { IsPointer self.now.size n }
         ensures written { OnOk result ((M.state medium.new).image ≡ option_map (put (self.now.base + 2) (two_bytes n)) (M.state medium.old).image) }
@@ -28,11 +28,11 @@ impl Circle {
 
     // Drops the newest day.
     fn drop_newest<M: Medium>(&self, medium: &mut M) -> Result<(), Failed>
-        requires fits { FitsIn self.now (M.state medium.old) }
+        requires fits { FileFitsIn self.now (M.state medium.old) }
         requires writable { LiesInside (M.state medium.old).writable self.now.base (4 + self.now.size) }
-        ensures shape { IsShape self.now }
-        ensures shortened { OnOk result (IfSome (M.state medium.old).image (λ x. IfSome (M.state medium.new).image (IsShortened self.now x))) }
-        ensures moments { LeavesOnly (M.state medium.old) (M.state medium.new) (IsShortening self.now) }
+        ensures shape { IsStringShape self.now }
+        ensures shortened { OnOk result (IfSome (M.state medium.old).image (λ x. IfSome (M.state medium.new).image (IsWithoutLast self.now x))) }
+        ensures moments { LeavesOnly (M.state medium.old) (M.state medium.new) (IsLosingLast self.now) }
         ensures settled { OnOk result ((M.state medium.new).clock < last_count → IsSettled (M.state medium.new)) }
         ensures cause { HasCause (M.state medium.old) (M.state medium.new) (is_err result) }
     {
@@ -47,7 +47,7 @@ impl Circle {
 
     // The date of the day at a place.
     fn date_at<M: Medium>(&self, medium: &mut M, place: u32) -> Result<u32, Failed>
-        requires fits { FitsIn self.now (M.state medium.old) }
+        requires fits { FileFitsIn self.now (M.state medium.old) }
         requires pointer { IsPointer self.now.size place }
         ensures date { IfOk result (λ n. IfSome (M.state medium.old).image (λ x. n ≡ 65536 * number (bytes_at x (at self.now (spot self.now.size place 4)) 2)
             + number (bytes_at x (at self.now (spot self.now.size place 6)) 2))) }
@@ -62,8 +62,8 @@ impl Circle {
 
     // Whether there is a newest day, and it is later than a date.
     fn is_later<M: Medium>(&self, medium: &mut M, date: u64) -> Result<bool, Failed>
-        requires fits { FitsIn self.now (M.state medium.old) }
-        ensures shape { IsShape self.now }
+        requires fits { FileFitsIn self.now (M.state medium.old) }
+        ensures shape { IsStringShape self.now }
         ensures later { IfOk result (λ later. IfSome (M.state medium.old).image (λ x. (days : List Day) → Holds self.now x days → later ≡ newest_later date days)) }
         ensures reads { Reads (M.state medium.old) (M.state medium.new) (is_err result) }
     {
@@ -77,9 +77,9 @@ impl Circle {
     // Drops the days later than a date, the newest first. A stop at a moment of the call leaves a list between the days
     // before and those up to the date.
     pub(crate) fn drop_later<M: Medium>(&self, medium: &mut M, date: u64) -> Result<(), Failed>
-        requires fits { FitsIn self.now (M.state medium.old) }
+        requires fits { FileFitsIn self.now (M.state medium.old) }
         requires writable { LiesInside (M.state medium.old).writable self.now.base (4 + self.now.size) }
-        ensures shape { IsShape self.now }
+        ensures shape { IsStringShape self.now }
         ensures trimmed { OnOk result (IfSome (M.state medium.old).image (λ x. IfSome (M.state medium.new).image (IsTrimmed self.now date x))) }
         ensures moments { LeavesOnly (M.state medium.old) (M.state medium.new) (IsTrimming self.now date 0) }
         ensures settled { OnOk result (WritesOrReads (M.state medium.old) (M.state medium.new)) }
@@ -105,10 +105,10 @@ impl Circle {
         minute: u32,
     ) -> Result<u16, Failed>
         requires works { (M.state medium.old).works ≡ true }
-        requires fits { FitsIn self.now (M.state medium.old) }
+        requires fits { FileFitsIn self.now (M.state medium.old) }
         requires pointer { IsPointer self.now.size place }
         requires few { count ≤ 1440 }
-        requires shape { IsShape self.now }
+        requires shape { IsStringShape self.now }
         ensures words { IfOk result (λ k. IfSome (M.state medium.old).image (λ x. (d : Day) → IsAt self.now x place d → count ≡ length d.words → k ≡ length (early minute d.words))) }
         ensures most { IfOk result (λ k. k ≤ count) }
         ensures reads { Reads (M.state medium.old) (M.state medium.new) (is_err result) }
@@ -133,10 +133,10 @@ impl Circle {
         minute: u32,
     ) -> Result<u16, Failed>
         requires works { (M.state medium.old).works ≡ true }
-        requires fits { FitsIn self.now (M.state medium.old) }
+        requires fits { FileFitsIn self.now (M.state medium.old) }
         requires pointer { IsPointer self.now.size place }
         requires few { count ≤ 1440 }
-        requires shape { IsShape self.now }
+        requires shape { IsStringShape self.now }
         ensures kept { IfOk result (λ k. IfSome (M.state medium.old).image (λ x. (d : Day) → IsAt self.now x place d → count ≡ length d.words → date ≡ d.date → k ≡ length (cut minute d).words)) }
         ensures most { IfOk result (λ k. k ≤ count) }
         ensures reads { Reads (M.state medium.old) (M.state medium.new) (is_err result) }
@@ -149,7 +149,7 @@ impl Circle {
 
     // Cuts the newest day, if there is one, behind its last word that is not later than a minute.
     fn cut<M: Medium>(&self, medium: &mut M, minute: u32) -> Result<(), Failed>
-        requires fits { FitsIn self.now (M.state medium.old) }
+        requires fits { FileFitsIn self.now (M.state medium.old) }
         requires writable { LiesInside (M.state medium.old).writable self.now.base (4 + self.now.size) }
         ensures cut { OnOk result (IfSome (M.state medium.old).image (λ x. IfSome (M.state medium.new).image (IsCutLast self.now minute x))) }
         ensures moments { LeavesOnly (M.state medium.old) (M.state medium.new) (IsCuttingLast self.now minute) }
@@ -172,7 +172,7 @@ impl Circle {
     // then the words of the newest day that are later. A stop at a moment of the call leaves a list of days between. Where
     // there is no day, it only reads.
     pub(crate) fn trim<M: Medium>(&self, medium: &mut M, minute: u32) -> Result<(), Failed>
-        requires fits { FitsIn self.now (M.state medium.old) }
+        requires fits { FileFitsIn self.now (M.state medium.old) }
         requires writable { LiesInside (M.state medium.old).writable self.now.base (4 + self.now.size) }
         ensures trimmed { OnOk result (IfSome (M.state medium.old).image (λ x. IfSome (M.state medium.new).image (IsTrim self.now minute x))) }
         ensures moments { LeavesOnly (M.state medium.old) (M.state medium.new) (IsTrimMoment self.now minute) }

@@ -4,7 +4,7 @@ ghost use Rattle.write_plan.specs.Plan.{more, none, piece};
 ghost use Rattle.card_model.specs.Bytes.{two_bytes};
 ghost use Rattle.card_model.specs.Image.{IsPointer, at};
 ghost use Rattle.cyclic_days.specs.Held.{newest_len, end_of, oldest_at};
-ghost use Rattle.cyclic_days.specs.Moments.{FitsIn};
+ghost use Rattle.cyclic_days.specs.Moments.{FileFitsIn};
 ghost use Rattle.cyclic_days.specs.Steps.{Looks};
 ghost use Rattle.cyclic_days.specs.Plans.{dropped_len, left_in, drop_pieces, word_pieces, round_pieces, pointer_pieces, day_pieces, count_of};
 
@@ -127,7 +127,7 @@ impl Days {
         used: u32,
         new: u32,
     ) -> Result<u32, Failed>
-        requires fits { FitsIn self.now.shape (M.state medium.old) }
+        requires fits { FileFitsIn self.now.shape (M.state medium.old) }
         requires from { plan.old.from ≡ self.now.shape.base }
         requires end { plan.old.end ≡ self.now.shape.base + (4 + self.now.shape.size) }
         requires room { length plan.old.pieces < 8 }

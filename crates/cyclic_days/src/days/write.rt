@@ -5,9 +5,9 @@ ghost use Rattle.card_model.specs.Days.{Day};
 ghost use Rattle.card_model.specs.Changes.{fitting, trimmed};
 ghost use Rattle.card_model.specs.Image.{Holds, IsPointer};
 ghost use Rattle.cyclic_days.specs.Held.{IsHeld, Knows};
-ghost use Rattle.cyclic_days.specs.Moments.{FitsIn, IfKnown, IsChanging, IsChanged, KnowsChanged, IsBeginning, IsBegun, KnowsBegun, ClearsChanged, ClearsBegun, BeginsAgain};
+ghost use Rattle.cyclic_days.specs.Moments.{FileFitsIn, IfKnown, IsChanging, IsChanged, KnowsChanged, IsDayBeginning, IsDayBegun, KnowsBegun, ClearsChanged, ClearsBegun, BeginsAgain};
 ghost use Rattle.cyclic_days.specs.Plans.{left_in, most_drops, change_pieces, tail_more, beginning_pieces, tail_begun, mend_pieces, km_pieces, tail_km};
-ghost use Rattle.cyclic_days.specs.Steps.{SameDays, IsMended, IsMeasured, IsMeasuring, KnowsMeasured, SettlesIfSettled};
+ghost use Rattle.cyclic_days.specs.Steps.{SameDays, IsDropMended, IsMeasured, IsMeasuring, KnowsMeasured, SettlesIfSettled};
 ghost use Rattle.cyclic_days.specs.Trim.{IsTrim, IsTrimMoment};
 
 use super::Days;
@@ -20,7 +20,7 @@ use write_plan::put_pieces;
 impl Days {
     // Makes the writes of a change: how many bytes are in use then.
     fn change<M: Medium>(&self, medium: &mut M, word: u16) -> Result<u32, Failed>
-        requires fits { FitsIn self.now.shape (M.state medium.old) }
+        requires fits { FileFitsIn self.now.shape (M.state medium.old) }
         requires writable { LiesInside (M.state medium.old).writable self.now.shape.base (4 + self.now.shape.size) }
         ensures puts { PutsBy (M.state medium.old) (M.state medium.new) (is_err result) 2 (2 + 2 * most_drops self.now.shape.size self.now.tail.used 2) (change_pieces self.now word) }
         ensures exact { IfSome (M.state medium.old).image (λ x. (M.state medium.new).clock ≤ (M.state medium.old).clock + length (change_pieces self.now word x)) }
@@ -38,7 +38,7 @@ impl Days {
 
     // Makes the writes of a new day: how many bytes are in use then.
     fn begin<M: Medium>(&self, medium: &mut M, date: u32, words: &[u16]) -> Result<u32, Failed>
-        requires fits { FitsIn self.now.shape (M.state medium.old) }
+        requires fits { FileFitsIn self.now.shape (M.state medium.old) }
         requires writable { LiesInside (M.state medium.old).writable self.now.shape.base (4 + self.now.shape.size) }
         requires some { 1 ≤ length words.now }
         requires few { length words.now ≤ 2 }
@@ -88,16 +88,16 @@ impl Days {
         date: TimeReal,
         words: &[u16],
     ) -> Result<(), Failed>
-        requires fits { FitsIn self.old.shape (M.state medium.old) }
+        requires fits { FileFitsIn self.old.shape (M.state medium.old) }
         requires writable { LiesInside (M.state medium.old).writable self.old.shape.base (4 + self.old.shape.size) }
         requires some { 1 ≤ length words.now }
         requires few { length words.now ≤ 2 }
         ensures shape { self.new.shape ≡ self.old.shape }
-        ensures begun { OnOk result (IfSome (M.state medium.old).image (λ x. IfSome (M.state medium.new).image (IfKnown self.old (IsBegun self.old.shape date.0 words.now) x))) }
+        ensures begun { OnOk result (IfSome (M.state medium.old).image (λ x. IfSome (M.state medium.new).image (IfKnown self.old (IsDayBegun self.old.shape date.0 words.now) x))) }
         ensures knows { OnOk result (IfSome (M.state medium.old).image (λ x. IfSome (M.state medium.new).image (KnowsBegun self.old self.new date.0 words.now x))) }
         ensures cleared { OnOk result (IfSome (M.state medium.old).image (λ x. IfSome (M.state medium.new).image (ClearsBegun self.old date.0 words.now x))) }
         ensures again { OnOk result (IfSome (M.state medium.old).image (λ x. IfSome (M.state medium.new).image (BeginsAgain self.old date.0 words.now x))) }
-        ensures moments { LeavesOnly (M.state medium.old) (M.state medium.new) (IfKnown self.old (IsBeginning self.old.shape date.0 words.now)) }
+        ensures moments { LeavesOnly (M.state medium.old) (M.state medium.new) (IfKnown self.old (IsDayBeginning self.old.shape date.0 words.now)) }
         ensures settled { OnOk result ((M.state medium.new).clock < last_count → IsSettled (M.state medium.new)) }
         ensures cause { HasCause (M.state medium.old) (M.state medium.new) (is_err result) }
         ensures most { (M.state medium.new).clock ≤ (M.state medium.old).clock + (5 + 2 * most_drops self.old.shape.size self.old.tail.used (12 + 2 * length words.now)) }
@@ -112,8 +112,9 @@ impl Days {
     /// Adds a word to the newest day. The oldest day goes where there is no room. A stop at a moment of the call leaves
     /// the days before, without the oldest where it must go, or the new ones.
     pub fn add_change<M: Medium>(&mut self, medium: &mut M, word: u16) -> Result<(), Failed>
-        requires fits { FitsIn self.old.shape (M.state medium.old) }
+        requires fits { FileFitsIn self.old.shape (M.state medium.old) }
         requires writable { LiesInside (M.state medium.old).writable self.old.shape.base (4 + self.old.shape.size) }
+        ensures held { IsHeld self.old }
         ensures shape { self.new.shape ≡ self.old.shape }
         ensures changed { OnOk result (IfSome (M.state medium.old).image (λ x. IfSome (M.state medium.new).image (IfKnown self.old (IsChanged self.old.shape word) x))) }
         ensures knows { OnOk result (IfSome (M.state medium.old).image (λ x. IfSome (M.state medium.new).image (KnowsChanged self.old self.new word x))) }
@@ -133,7 +134,7 @@ impl Days {
 
     // Clears the length before the oldest day.
     fn clear_oldest<M: Medium>(&self, medium: &mut M) -> Result<(), Failed>
-        requires fits { FitsIn self.now.shape (M.state medium.old) }
+        requires fits { FileFitsIn self.now.shape (M.state medium.old) }
         requires writable { LiesInside (M.state medium.old).writable self.now.shape.base (4 + self.now.shape.size) }
         ensures held { IsHeld self.now }
         ensures puts { PutsAll (M.state medium.old) (M.state medium.new) (is_err result) (mend_pieces self.now) }
@@ -145,11 +146,11 @@ impl Days {
 
     /// Ends a drop that a stop may have cut short: the oldest day has no length before it.
     pub fn finish_drop<M: Medium>(&mut self, medium: &mut M) -> Result<(), Failed>
-        requires fits { FitsIn self.old.shape (M.state medium.old) }
+        requires fits { FileFitsIn self.old.shape (M.state medium.old) }
         requires writable { LiesInside (M.state medium.old).writable self.old.shape.base (4 + self.old.shape.size) }
         ensures kept { self.new ≡ self.old }
         ensures same { OnOk result (IfSome (M.state medium.old).image (λ x. IfSome (M.state medium.new).image (IfKnown self.old (SameDays self.old.shape) x))) }
-        ensures mended { OnOk result (IfSome (M.state medium.old).image (λ x. IfSome (M.state medium.new).image (IfKnown self.old (IsMended self.old.shape) x))) }
+        ensures mended { OnOk result (IfSome (M.state medium.old).image (λ x. IfSome (M.state medium.new).image (IfKnown self.old (IsDropMended self.old.shape) x))) }
         ensures knows { OnOk result (IfSome (M.state medium.old).image (λ x. IfSome (M.state medium.new).image (λ y. (days : List Day) → Knows self.old x days → Knows self.old y days))) }
         ensures moments { LeavesOnly (M.state medium.old) (M.state medium.new) (IfKnown self.old (SameDays self.old.shape)) }
         ensures settled { OnOk result ((M.state medium.new).clock < last_count → IsSettled (M.state medium.new)) }
@@ -161,7 +162,7 @@ impl Days {
 
     // Writes the distance of the newest day.
     fn write_km<M: Medium>(&self, medium: &mut M, km: u16) -> Result<(), Failed>
-        requires fits { FitsIn self.now.shape (M.state medium.old) }
+        requires fits { FileFitsIn self.now.shape (M.state medium.old) }
         requires writable { LiesInside (M.state medium.old).writable self.now.shape.base (4 + self.now.shape.size) }
         ensures puts { PutsAll (M.state medium.old) (M.state medium.new) (is_err result) (km_pieces self.now km) }
     {
@@ -173,7 +174,7 @@ impl Days {
 
     /// Sets the distance of the newest day, which there is.
     pub fn set_distance<M: Medium>(&mut self, medium: &mut M, km: Distance) -> Result<(), Failed>
-        requires fits { FitsIn self.old.shape (M.state medium.old) }
+        requires fits { FileFitsIn self.old.shape (M.state medium.old) }
         requires writable { LiesInside (M.state medium.old).writable self.old.shape.base (4 + self.old.shape.size) }
         ensures shape { self.new.shape ≡ self.old.shape }
         ensures measured { OnOk result (IfSome (M.state medium.old).image (λ x. IfSome (M.state medium.new).image (IfKnown self.old (IsMeasured self.old.shape km.0) x))) }
@@ -192,7 +193,7 @@ impl Days {
     /// then the words of the newest day that are later. A stop at a moment of the call leaves a list of days between. Where
     /// there is no day, it only reads. It reads the string, and not what was kept of it.
     pub fn trim<M: Medium>(&mut self, medium: &mut M, minute: u32) -> Result<(), Failed>
-        requires fits { FitsIn self.old.shape (M.state medium.old) }
+        requires fits { FileFitsIn self.old.shape (M.state medium.old) }
         requires writable { LiesInside (M.state medium.old).writable self.old.shape.base (4 + self.old.shape.size) }
         ensures shape { self.new.shape ≡ self.old.shape }
         ensures trimmed { OnOk result (IfSome (M.state medium.old).image (λ x. IfSome (M.state medium.new).image (IsTrim self.old.shape minute x))) }

@@ -6,7 +6,7 @@ use Rattle.tach_media.proofs.Runs.{both_told, reads_then}
 use Rattle.card_model.specs.Bytes.{number}
 use Rattle.card_model.specs.Days.{Day}
 use Rattle.card_model.specs.Image.{IsAt, IsPlace, at}
-use Rattle.cyclic_days.specs.Heads.{head_of, older_heads}
+use Rattle.cyclic_days.specs.Heads.{day_head, older_heads}
 use Rattle.cyclic_days.proofs.HeadWalks.{before_none, before_some}
 use Rattle.cyclic_days.proofs.Told.{from_told}
 use Rattle.cyclic_days.proofs.circle.Circle.before.Goals as goal
@@ -31,9 +31,9 @@ returns-clause-before g c =
     let both = reads_then first c.in_ok-len.ensures.reads in
     let len_too = subst (λ (m : Option (List ℕ)). IfSome m (λ x. number (bytes_at x (at r place) 2) % 2 ≡ 0 → number (bytes_at x (at r place) 2) ≤ 2892 → len ≡ number (bytes_at x (at r place) 2))) (first.same refl) c.in_ok-len.ensures.len in
     IfOk-weaker c.day_at.result _ _ (λ answer there.
-    let there_too = subst (λ (m : Option (List ℕ)). IfSome m (λ x. (e : Day) → IsAt r x q e → answer ≡ Some (head_of q e))) (both.same refl) there in
+    let there_too = subst (λ (m : Option (List ℕ)). IfSome m (λ x. (e : Day) → IsAt r x q e → answer ≡ Some (day_head q e))) (both.same refl) there in
     let read = both_told (g.M.Medium.state c.args.medium.now).image
-    (λ x. (number (bytes_at x (at r place) 2) % 2 ≡ 0 → number (bytes_at x (at r place) 2) ≤ 2892 → len ≡ number (bytes_at x (at r place) 2)) × ((e : Day) → IsAt r x q e → answer ≡ Some (head_of q e)))
+    (λ x. (number (bytes_at x (at r place) 2) % 2 ≡ 0 → number (bytes_at x (at r place) 2) ≤ 2892 → len ≡ number (bytes_at x (at r place) 2)) × ((e : Day) → IsAt r x q e → answer ≡ Some (day_head q e)))
     len_too there_too (λ x was a b. (a, b)) in
     both_told (g.M.Medium.state c.args.medium.now).image (λ x. (d : Day) (here : IsAt r x p d) → answer ≡ last_or None (older_heads r x p d here)) c.in_ok-oldest.ensures.oldest read (λ x was oldest two d here.
     let same : place ≡ p = c.pointer-place.ensures.same here.pointer in

@@ -1,7 +1,7 @@
 use Rattle.std.proofs.Common.{◌≡◌, ◌≤◌, ◌-◌, ◌%◌, false}
 use Rattle.std.specs.Prelude.{IfSome}
 use Rattle.tach_media.specs.Medium.{Reads}
-use Rattle.card_model.specs.Image.{oldest_of, IsShape}
+use Rattle.card_model.specs.Image.{oldest_pointer, IsStringShape}
 use Rattle.cyclic_days.proofs.LoadWalk.{IsWalked}
 use Rattle.cyclic_days.proofs.circle.Circle.check_days.Given as goal
 
@@ -12,7 +12,7 @@ invariant-loop-head g l =
     record {
       within : l.so_far ≤ l.reach;
       even : l.so_far % 2 ≡ 0;
-      walked : IfSome before.image (λ x. IsShape l.self → l.oldest ≡ oldest_of l.self x → IsWalked l.self x l.reach l.so_far l.before l.date);
+      walked : IfSome before.image (λ x. IsStringShape l.self → l.oldest ≡ oldest_pointer l.self x → IsWalked l.self x l.reach l.so_far l.before l.date);
       reads : Reads before now false;
     }
 

@@ -4,7 +4,7 @@ use Rattle.tach_media.specs.Medium.{put}
 use Rattle.tach_media.proofs.Runs.{weaken, after_reads, reads_then, at_image, where_told, turned_into}
 use Rattle.card_model.specs.Bytes.{two_bytes}
 use Rattle.card_model.specs.Days.{Day}
-use Rattle.card_model.specs.Image.{IsAt, IsPointer, turned, string_of, newest_of, at}
+use Rattle.card_model.specs.Image.{IsAt, IsPointer, turned, string_of, newest_pointer, at}
 use Rattle.card_model.specs.Changes.{cut}
 use Rattle.cyclic_days.specs.Heads.{head_bytes}
 use Rattle.cyclic_days.specs.Trim.{IsCutLast}
@@ -23,7 +23,7 @@ returns-then-len-lt14-clause-cut g c =
     let same : y ≡ x = let here : (g.M.Medium.state c.args.medium.now).image ≡ Some y = sym (both.same refl) ∙ is in cc in
     subst (λ (l : List ℕ). IsCutLast r m x l) (sym same)
     (cut_none r n.ensures.shape x (omega (arith, c.requires.fits, (g.met.M.Medium.coherent c.args.medium.now).sized x was)) m n.newest
-    (at_image (λ x. IsPointer r.size (newest_of r x) → n.newest ≡ newest_of r x) was n.ensures.newest) h
+    (at_image (λ x. IsPointer r.size (newest_pointer r x) → n.newest ≡ newest_pointer r x) was n.ensures.newest) h
     (at_image (λ x. head_bytes h ≡ take 12 (turned n.newest (string_of r x))) (n.ensures.reads.same refl ∙ was) c.in_ok-head.ensures.head)
     c.day_len-len.result c.day_len-len.ensures.same c.if-len-lt14.true))
 
@@ -42,7 +42,7 @@ returns-clause-cut g c =
     let z_is : z ≡ f x = turned_into f (made ∙ ap (option_map f) (all.same refl)) was is in
     subst (λ (l : List ℕ). IsCutLast r m x l) (sym z_is)
     (cut_made r n.ensures.shape x (omega (arith, c.requires.fits, (g.met.M.Medium.coherent c.args.medium.now).sized x was)) m n.newest
-    (at_image (λ x. IsPointer r.size (newest_of r x) → n.newest ≡ newest_of r x) was n.ensures.newest) h
+    (at_image (λ x. IsPointer r.size (newest_pointer r x) → n.newest ≡ newest_pointer r x) was n.ensures.newest) h
     (at_image (λ x. head_bytes h ≡ take 12 (turned n.newest (string_of r x))) (n.ensures.reads.same refl ∙ was) c.in_ok-head.ensures.head)
     len c.day_len-len.ensures.same (omega (arith, c.if-len-lt14.false)) n.ensures.pointer c.spot.result c.spot.ensures.place c.spot.ensures.pointer k
     (at_image (λ x. (d : Day) → IsAt r x n.newest d → (len - 12) / 2 ≡ length d.words → h.date ≡ d.date → k ≡ length (cut m d).words) (both.same refl ∙ was) c.in_ok-kept.ensures.kept)))) c.put_two.ensures.written
@@ -60,7 +60,7 @@ returns-clause-moments g c =
     after_reads all.leaves (all.same refl) (weaken c.put_two.ensures.moments (λ x d is part.
     let was : (g.M.Medium.state c.args.medium.now).image ≡ Some x = sym (all.same refl) ∙ is in
     while_cut r n.ensures.shape x (omega (arith, c.requires.fits, (g.met.M.Medium.coherent c.args.medium.now).sized x was)) m n.newest
-    (at_image (λ x. IsPointer r.size (newest_of r x) → n.newest ≡ newest_of r x) was n.ensures.newest) h
+    (at_image (λ x. IsPointer r.size (newest_pointer r x) → n.newest ≡ newest_pointer r x) was n.ensures.newest) h
     (at_image (λ x. head_bytes h ≡ take 12 (turned n.newest (string_of r x))) (n.ensures.reads.same refl ∙ was) c.in_ok-head.ensures.head)
     len c.day_len-len.ensures.same (omega (arith, c.if-len-lt14.false)) n.ensures.pointer c.spot.result c.spot.ensures.place c.spot.ensures.pointer k
     (at_image (λ x. (d : Day) → IsAt r x n.newest d → (len - 12) / 2 ≡ length d.words → h.date ≡ d.date → k ≡ length (cut m d).words) (both.same refl ∙ was) c.in_ok-kept.ensures.kept) d part))
@@ -74,7 +74,7 @@ returns-then-len-lt14-clause-settled g c =
       reads_then n.ensures.reads c.in_ok-head.ensures.reads,
       if_told (g.M.Medium.state c.args.medium.now).image _ (λ x was.
           none_where_short r n.ensures.shape x (omega (arith, c.requires.fits, (g.met.M.Medium.coherent c.args.medium.now).sized x was)) c.args.minute n.newest
-          (at_image (λ x. IsPointer r.size (newest_of r x) → n.newest ≡ newest_of r x) was n.ensures.newest) h
+          (at_image (λ x. IsPointer r.size (newest_pointer r x) → n.newest ≡ newest_pointer r x) was n.ensures.newest) h
           (at_image (λ x. head_bytes h ≡ take 12 (turned n.newest (string_of r x))) (n.ensures.reads.same refl ∙ was) c.in_ok-head.ensures.head)
           c.day_len-len.result c.day_len-len.ensures.same c.if-len-lt14.true),
     )
@@ -94,7 +94,7 @@ returns-clause-empty g c =
       arith,
       c.if-len-lt14.false,
       none_there r n.ensures.shape x (omega (arith, c.requires.fits, (g.met.M.Medium.coherent c.args.medium.now).sized x was)) c.args.minute n.newest
-          (at_image (λ x. IsPointer r.size (newest_of r x) → n.newest ≡ newest_of r x) was n.ensures.newest) h
+          (at_image (λ x. IsPointer r.size (newest_pointer r x) → n.newest ≡ newest_pointer r x) was n.ensures.newest) h
           (at_image (λ x. head_bytes h ≡ take 12 (turned n.newest (string_of r x))) (n.ensures.reads.same refl ∙ was) c.in_ok-head.ensures.head)
           c.day_len-len.result c.day_len-len.ensures.same empty,
     )))

@@ -3,7 +3,7 @@ use Rattle.tach_media.specs.Medium.{Reads}
 use Rattle.tach_media.proofs.Runs.{goes_on, goes_same, at_image, where_told, cause_after}
 use Rattle.card_model.specs.Days.{Day}
 use Rattle.card_model.specs.Image.{Holds}
-use Rattle.cyclic_days.specs.Trim.{IsTrimming, IsTrimmed, IsShortened, newest_later}
+use Rattle.cyclic_days.specs.Trim.{IsTrimming, IsTrimmed, IsWithoutLast, newest_later}
 use Rattle.cyclic_days.proofs.Settling.{none_later, then_reads}
 use Rattle.cyclic_days.proofs.Told.{if_told, through_both}
 use Rattle.cyclic_days.proofs.Trimming.{trimming_then, trimming_one, trimming_part, trimming_fewer, trimmed, too_many}
@@ -43,7 +43,7 @@ loop-later-preserved g c =
       shape = inv.shape;
       cause = cause_after (cause_after inv.cause c.in_ok-drop_newest.ensures.cause) again.reads.cause;
       made = subst (λ (o : Option (List ℕ)). IfSome (g.M.Medium.state c.args.medium.now).image (λ x. IfSome o (IsTrimming r date (i + 1) x))) (sym (again.reads.same refl))
-          (through_both (g.M.Medium.state c.args.medium.now).image (g.M.Medium.state c.loop-later.medium).image (g.M.Medium.state c.drop_newest.new.medium).image (IsTrimming r date i) (IsShortened r) (IsTrimming r date (i + 1))
+          (through_both (g.M.Medium.state c.args.medium.now).image (g.M.Medium.state c.loop-later.medium).image (g.M.Medium.state c.drop_newest.new.medium).image (IsTrimming r date i) (IsWithoutLast r) (IsTrimming r date (i + 1))
           inv.moments.tells inv.made c.in_ok-drop_newest.ensures.shortened (λ x y z was is a b. trimming_then r date i 1 x y z a
           (trimming_one r date y z (λ days h. sym (at_image (λ y. (days : List Day) → Holds r y days → c.loop-later.later ≡ newest_later date days) is inv.later days h) ∙ c.loop-later-test.true) b)));
       moments = goes_same (goes_on inv.moments c.drop_newest.ensures.moments (λ x y d was is step.

@@ -2,7 +2,7 @@ use Rattle.std.proofs.Common.{◌≡◌, ◌≤◌, ◌-◌, List, [], false}
 use Rattle.std.specs.Prelude.{IfSome}
 use Rattle.tach_media.specs.Medium.{LeavesOnly, Reads, HasCause}
 use Rattle.card_model.specs.Days.{Day}
-use Rattle.card_model.specs.Image.{IsShape, Holds}
+use Rattle.card_model.specs.Image.{IsStringShape, Holds}
 use Rattle.cyclic_days.specs.Trim.{IsTrimming, WritesOrReads, newest_later}
 use Rattle.cyclic_days.proofs.circle.Circle.drop_later.Given as goal
 
@@ -12,7 +12,7 @@ invariant-loop-later g l =
     let now = g.M.Medium.state l.medium in
     record {
       few : l.count ≤ 984;
-      shape : IsShape l.self;
+      shape : IsStringShape l.self;
       cause : HasCause before now false;
       made : IfSome before.image (λ x. IfSome now.image (IsTrimming l.self l.date l.count x));
       moments : LeavesOnly before now (IsTrimming l.self l.date 0);

@@ -3,7 +3,7 @@ use Rattle.std.specs.Prelude.{IfErr}
 use Rattle.tach_media.specs.Medium.{bytes_at}
 use Rattle.tach_media.proofs.Runs.{both_told, reads_then}
 use Rattle.card_model.specs.Bytes.{number}
-use Rattle.card_model.specs.Image.{Shape, IsShape, IsPlace, Holds, oldest_of, newest_of, circle_of}
+use Rattle.card_model.specs.Image.{StringShape, IsStringShape, IsPlace, Holds, oldest_pointer, newest_pointer, circle_of}
 use Rattle.card_model.specs.Walk.{days_of}
 use Rattle.card_model.specs.Checks.{first_failing, first_bad, is_pointer, is_empty, day_checks, distance_of}
 use Rattle.card_model.proofs.Walking.{distance_is}
@@ -19,7 +19,7 @@ returns-then-not-is_pointer-clause-bad g c =
     let s = shape_of c.args.range in
     let o = c.in_ok-oldest.oldest in
     let none : c.is_pointer.result ≡ false = grind (arith, c.if-not-is_pointer.true) in
-    let test : is_pointer s.size o ≡ false = subst (λ (t : Shape). is_pointer t.size o ≡ false) c.of-days.ensures.shape (sym c.is_pointer.ensures ∙ none) in
+    let test : is_pointer s.size o ≡ false = subst (λ (t : StringShape). is_pointer t.size o ≡ false) c.of-days.ensures.shape (sym c.is_pointer.ensures ∙ none) in
     from_told (g.M.Medium.state c.args.medium.now).image _ _ c.in_ok-oldest.ensures.value (λ x was value. bad_oldest s x (subst (λ (p : ℕ). is_pointer s.size p ≡ false) value test))
 
 pub returns-then-not-is_pointer-2-clause-bad : goal.returns-then-not-is_pointer-2-clause-bad
@@ -30,8 +30,8 @@ returns-then-not-is_pointer-2-clause-bad g c =
     let image = (g.M.Medium.state c.args.medium.now).image in
     let one : c.is_pointer.result ≡ true = grind (arith, c.if-not-is_pointer.false) in
     let none : c.is_pointer-2.result ≡ false = grind (arith, c.if-not-is_pointer-2.true) in
-    let o_test : is_pointer s.size o ≡ true = subst (λ (t : Shape). is_pointer t.size o ≡ true) c.of-days.ensures.shape (sym c.is_pointer.ensures ∙ one) in
-    let n_test : is_pointer s.size n ≡ false = subst (λ (t : Shape). is_pointer t.size n ≡ false) c.of-days.ensures.shape (sym c.is_pointer-2.ensures ∙ none) in
+    let o_test : is_pointer s.size o ≡ true = subst (λ (t : StringShape). is_pointer t.size o ≡ true) c.of-days.ensures.shape (sym c.is_pointer.ensures ∙ one) in
+    let n_test : is_pointer s.size n ≡ false = subst (λ (t : StringShape). is_pointer t.size n ≡ false) c.of-days.ensures.shape (sym c.is_pointer-2.ensures ∙ none) in
     let newest = subst (λ (m : Option (List ℕ)). IfSome m (λ x. n ≡ number (bytes_at x (c.args.range.base + 2) 2))) (c.in_ok-oldest.ensures.reads.same refl) c.in_ok-newest.ensures.value in
     both_told image (λ x. first_bad s x ≡ Some 2) c.in_ok-oldest.ensures.value newest (λ x was o_is n_is.
     bad_newest s x (subst (λ (p : ℕ). is_pointer s.size p ≡ true) o_is o_test) (subst (λ (p : ℕ). is_pointer s.size p ≡ false) n_is n_test))
@@ -46,13 +46,13 @@ returns-then-branch-clause-days g c =
     let two = reads_then c.in_ok-oldest.ensures.reads c.in_ok-newest.ensures.reads in
     let one : c.is_pointer.result ≡ true = grind (arith, c.if-not-is_pointer.false) in
     let other : c.is_pointer-2.result ≡ true = grind (arith, c.if-not-is_pointer-2.false) in
-    let o_test : is_pointer s.size o ≡ true = subst (λ (t : Shape). is_pointer t.size o ≡ true) c.of-days.ensures.shape (sym c.is_pointer.ensures ∙ one) in
-    let n_test : is_pointer s.size n ≡ true = subst (λ (t : Shape). is_pointer t.size n ≡ true) c.of-days.ensures.shape (sym c.is_pointer-2.ensures ∙ other) in
-    let shape : IsShape s = subst (λ (t : Shape). IsShape t) c.of-days.ensures.shape c.of-days.ensures.is in
+    let o_test : is_pointer s.size o ≡ true = subst (λ (t : StringShape). is_pointer t.size o ≡ true) c.of-days.ensures.shape (sym c.is_pointer.ensures ∙ one) in
+    let n_test : is_pointer s.size n ≡ true = subst (λ (t : StringShape). is_pointer t.size n ≡ true) c.of-days.ensures.shape (sym c.is_pointer-2.ensures ∙ other) in
+    let shape : IsStringShape s = subst (λ (t : StringShape). IsStringShape t) c.of-days.ensures.shape c.of-days.ensures.is in
     let newest = subst (λ (m : Option (List ℕ)). IfSome m (λ x. n ≡ number (bytes_at x (c.args.range.base + 2) 2))) (c.in_ok-oldest.ensures.reads.same refl) c.in_ok-newest.ensures.value in
-    let empty = subst (λ (t : Shape). IfSome image (λ x. o ≡ oldest_of t x → n ≡ newest_of t x → b ≡ is_empty t x)) c.of-days.ensures.shape
-    (subst (λ (m : Option (List ℕ)). IfSome m (λ x. o ≡ oldest_of c.of-days.result x → n ≡ newest_of c.of-days.result x → b ≡ is_empty c.of-days.result x)) (two.same refl) c.in_ok-is_empty.ensures.empty) in
-    let places = both_told image (λ x. (o ≡ oldest_of s x) × (n ≡ newest_of s x)) c.in_ok-oldest.ensures.value newest (λ x was a b. (a, b)) in
+    let empty = subst (λ (t : StringShape). IfSome image (λ x. o ≡ oldest_pointer t x → n ≡ newest_pointer t x → b ≡ is_empty t x)) c.of-days.ensures.shape
+    (subst (λ (m : Option (List ℕ)). IfSome m (λ x. o ≡ oldest_pointer c.of-days.result x → n ≡ newest_pointer c.of-days.result x → b ≡ is_empty c.of-days.result x)) (two.same refl) c.in_ok-is_empty.ensures.empty) in
+    let places = both_told image (λ x. (o ≡ oldest_pointer s x) × (n ≡ newest_pointer s x)) c.in_ok-oldest.ensures.value newest (λ x was a b. (a, b)) in
     both_told image (λ x. Holds s x (days_of s x)) places empty (λ x was at_places none.
     let inside : s.base + (4 + s.size) ≤ length x = omega (arith, c.requires.inside, c.requires.low, (g.met.M.Medium.coherent c.args.medium.now).sized x was) in
     empty_holds s x (subst (λ (p : ℕ). is_pointer s.size p ≡ true) at_places.0 o_test) (subst (λ (p : ℕ). is_pointer s.size p ≡ true) at_places.1 n_test) shape inside (sym (none at_places.0 at_places.1) ∙ c.if-branch.true))
@@ -71,24 +71,24 @@ returns-in_err-check_days-clause-bad g c =
     let one : c.is_pointer.result ≡ true = grind (arith, c.if-not-is_pointer.false) in
     let other : c.is_pointer-2.result ≡ true = grind (arith, c.if-not-is_pointer-2.false) in
     let some : b ≡ false = grind (arith, c.if-branch.false) in
-    let o_test : is_pointer s.size o ≡ true = subst (λ (t : Shape). is_pointer t.size o ≡ true) c.of-days.ensures.shape (sym c.is_pointer.ensures ∙ one) in
-    let n_test : is_pointer s.size n ≡ true = subst (λ (t : Shape). is_pointer t.size n ≡ true) c.of-days.ensures.shape (sym c.is_pointer-2.ensures ∙ other) in
-    let place : IsPlace s.size o reach n = subst (λ (t : Shape). IsPlace t.size o reach n) c.of-days.ensures.shape c.distance-reach.ensures.place in
-    let reach_below = subst (λ (t : Shape). reach < t.size) c.of-days.ensures.shape c.distance-reach.ensures.below in
+    let o_test : is_pointer s.size o ≡ true = subst (λ (t : StringShape). is_pointer t.size o ≡ true) c.of-days.ensures.shape (sym c.is_pointer.ensures ∙ one) in
+    let n_test : is_pointer s.size n ≡ true = subst (λ (t : StringShape). is_pointer t.size n ≡ true) c.of-days.ensures.shape (sym c.is_pointer-2.ensures ∙ other) in
+    let place : IsPlace s.size o reach n = subst (λ (t : StringShape). IsPlace t.size o reach n) c.of-days.ensures.shape c.distance-reach.ensures.place in
+    let reach_below = subst (λ (t : StringShape). reach < t.size) c.of-days.ensures.shape c.distance-reach.ensures.below in
     let newest = subst (λ (m : Option (List ℕ)). IfSome m (λ x. n ≡ number (bytes_at x (c.args.range.base + 2) 2))) (c.in_ok-oldest.ensures.reads.same refl) c.in_ok-newest.ensures.value in
-    let empty = subst (λ (t : Shape). IfSome image (λ x. o ≡ oldest_of t x → n ≡ newest_of t x → b ≡ is_empty t x)) c.of-days.ensures.shape
-    (subst (λ (m : Option (List ℕ)). IfSome m (λ x. o ≡ oldest_of c.of-days.result x → n ≡ newest_of c.of-days.result x → b ≡ is_empty c.of-days.result x)) (two.same refl) c.in_ok-is_empty.ensures.empty) in
-    let places = both_told image (λ x. (o ≡ oldest_of s x) × (n ≡ newest_of s x) × (is_empty s x ≡ false)) (both_told image (λ x. (o ≡ oldest_of s x) × (n ≡ newest_of s x)) c.in_ok-oldest.ensures.value newest (λ x was a b. (a, b))) empty
+    let empty = subst (λ (t : StringShape). IfSome image (λ x. o ≡ oldest_pointer t x → n ≡ newest_pointer t x → b ≡ is_empty t x)) c.of-days.ensures.shape
+    (subst (λ (m : Option (List ℕ)). IfSome m (λ x. o ≡ oldest_pointer c.of-days.result x → n ≡ newest_pointer c.of-days.result x → b ≡ is_empty c.of-days.result x)) (two.same refl) c.in_ok-is_empty.ensures.empty) in
+    let places = both_told image (λ x. (o ≡ oldest_pointer s x) × (n ≡ newest_pointer s x) × (is_empty s x ≡ false)) (both_told image (λ x. (o ≡ oldest_pointer s x) × (n ≡ newest_pointer s x)) c.in_ok-oldest.ensures.value newest (λ x was a b. (a, b))) empty
     (λ x was at_places none. (at_places.0, at_places.1, sym (none at_places.0 at_places.1) ∙ some)) in
     subst (λ (res : Result Circle DaysFault). IfErr res (λ e. IfBadDays e (λ p. IfSome image (λ x. first_bad s x ≡ Some p)))) (sym (err_is c.from_residual-in_err-check_days.result f c.from_residual-in_err-check_days.ensures.1))
     (bad_weaker f _ _ c.in_err-check_days.ensures.bad (λ p bad.
-    let bad_too = subst (λ (t : Shape). IfSome image (λ x. o ≡ oldest_of t x → first_failing (day_checks 984 t.size o reach 0 0 0 (circle_of t x)) ≡ Some p)) c.of-days.ensures.shape
-    (subst (λ (m : Option (List ℕ)). IfSome m (λ x. o ≡ oldest_of c.of-days.result x → first_failing (day_checks 984 c.of-days.result.size o reach 0 0 0 (circle_of c.of-days.result x)) ≡ Some p)) (three.same refl) bad) in
+    let bad_too = subst (λ (t : StringShape). IfSome image (λ x. o ≡ oldest_pointer t x → first_failing (day_checks 984 t.size o reach 0 0 0 (circle_of t x)) ≡ Some p)) c.of-days.ensures.shape
+    (subst (λ (m : Option (List ℕ)). IfSome m (λ x. o ≡ oldest_pointer c.of-days.result x → first_failing (day_checks 984 c.of-days.result.size o reach 0 0 0 (circle_of c.of-days.result x)) ≡ Some p)) (three.same refl) bad) in
     both_told image (λ x. first_bad s x ≡ Some p) places bad_too (λ x was at_places fails.
     let o_pointer = pointer_is s.size o o_test in
     let n_pointer = pointer_is s.size n n_test in
     bad_days s x (subst (λ (q : ℕ). is_pointer s.size q ≡ true) at_places.0 o_test) (subst (λ (q : ℕ). is_pointer s.size q ≡ true) at_places.1 n_test) at_places.2
-    ∙ ap (λ (q : ℕ). first_failing (day_checks 984 s.size q (distance_of s.size q (newest_of s x)) 0 0 0 (circle_of s x))) (sym at_places.0)
+    ∙ ap (λ (q : ℕ). first_failing (day_checks 984 s.size q (distance_of s.size q (newest_pointer s x)) 0 0 0 (circle_of s x))) (sym at_places.0)
     ∙ ap (λ (q : ℕ). first_failing (day_checks 984 s.size o (distance_of s.size o q) 0 0 0 (circle_of s x))) (sym at_places.1)
     ∙ ap (λ (k : ℕ). first_failing (day_checks 984 s.size o k 0 0 0 (circle_of s x))) (distance_is s.size o n reach o_pointer.below n_pointer.below reach_below place)
     ∙ fails at_places.0)))

@@ -4,7 +4,7 @@ use Rattle.std.proofs.lemmas.Slice.{take-put_mid, drop-put_mid}
 use borrow.Rule.Slice.PartMut.{put_mid, post_of}
 use Rattle.tach_media.specs.Medium.{bytes_at}
 use Rattle.tach_media.proofs.Runs.{both_told}
-use Rattle.card_model.specs.Image.{Shape, IsShape, at}
+use Rattle.card_model.specs.Image.{StringShape, IsStringShape, at}
 use Rattle.card_model.proofs.Reading.{round_parts}
 use Rattle.cyclic_days.proofs.circle.Circle.read_broken.Goals as goal
 
@@ -27,8 +27,8 @@ pub returns-clause-bytes : goal.returns-clause-bytes
 returns-clause-bytes g c =
     let r = c.args.self.now in
     let p = c.args.place in
-    let size : c.self.inside.size ≡ r.size = ap (λ (s : Shape). s.size) c.self.view_is in
-    let base : c.self.inside.base ≡ r.base = ap (λ (s : Shape). s.base) c.self.view_is in
+    let size : c.self.inside.size ≡ r.size = ap (λ (s : StringShape). s.size) c.self.view_is in
+    let base : c.self.inside.base ≡ r.base = ap (λ (s : StringShape). s.base) c.self.view_is in
     let room : ℕ = c.self.inside.size - c.args.place in
     let rest : ℕ = length c.args.out.now - (c.self.inside.size - c.args.place) in
     let within : c.self.inside.size - c.args.place ≤ length c.args.out.now = omega (arith, size, c.requires.breaks) in
@@ -47,7 +47,7 @@ returns-clause-bytes g c =
     whole
     ∙ ap (λ (l : List ℕ). l ++ c.read_at-2.new.out) (first ∙ parts x (c.self.inside.base + 4 + c.args.place) (at r p) (length (take (room - 0) (drop 0 c.args.out.now))) (r.size - p) (omega (arith, base)) (part ∙ omega (arith, size)))
     ∙ ap (λ (l : List ℕ). bytes_at x (at r p) (r.size - p) ++ l) (next ∙ parts x (c.self.inside.base + 4) (at r 0) (length (take rest (drop room xs))) (length c.args.out.now - (r.size - p)) (omega (arith, base)) (rest_long ∙ omega (arith, size)))
-    ∙ sym (round_parts r (subst (λ (s : Shape). IsShape s) c.self.view_is c.self.invariant) x (omega (arith, c.requires.fits, (g.met.M.Medium.coherent c.args.medium.now).sized x was)) p (length c.args.out.now) c.requires.pointer.below (omega (arith, c.requires.breaks)) (omega (arith, c.requires.short, (subst (λ (s : Shape). IsShape s) c.self.view_is c.self.invariant).low))))
+    ∙ sym (round_parts r (subst (λ (s : StringShape). IsStringShape s) c.self.view_is c.self.invariant) x (omega (arith, c.requires.fits, (g.met.M.Medium.coherent c.args.medium.now).sized x was)) p (length c.args.out.now) c.requires.pointer.below (omega (arith, c.requires.breaks)) (omega (arith, c.requires.short, (subst (λ (s : StringShape). IsStringShape s) c.self.view_is c.self.invariant).low))))
   where
     parts : (x : List ℕ) (m n i j : ℕ) → m ≡ n → i ≡ j → bytes_at x m i ≡ bytes_at x n j
     parts x m n i j place len = ap (λ (k : ℕ). bytes_at x k i) place ∙ ap (λ (k : ℕ). bytes_at x n k) len

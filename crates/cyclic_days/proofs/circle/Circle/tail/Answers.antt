@@ -1,7 +1,7 @@
 use Rattle.std.proofs.Common.{◌≡◌, ℕ, List, ◌+◌, ◌-◌, ◌<◌, ◌≤◌, ◌%◌, length, take, get_or, arith, ap, sym, subst, refl, ◌∙◌, Some}
 use Rattle.tach_media.proofs.Runs.{at_image, reads_then}
 use Rattle.card_model.specs.Days.{Day}
-use Rattle.card_model.specs.Image.{IsAt, IsPointer, turned, string_of, oldest_of, newest_of}
+use Rattle.card_model.specs.Image.{IsAt, IsPointer, turned, string_of, oldest_pointer, newest_pointer}
 use Rattle.cyclic_days.specs.Held.{Knows}
 use Rattle.cyclic_days.specs.declared.head.Tail.{Tail}
 use Rattle.cyclic_days.specs.Heads.{head_bytes, day_head_of}
@@ -19,7 +19,7 @@ returns-then-len-lt14-clause-knows g c =
     let two = reads_then o.ensures.reads n.ensures.reads in
     if_told (g.M.Medium.state c.args.medium.now).image _ (λ x was.
     knows_none r n.ensures.shape x (omega (arith, c.requires, (g.met.M.Medium.coherent c.args.medium.now).sized x was)) n.newest
-    (at_image (λ x. IsPointer r.size (newest_of r x) → n.newest ≡ newest_of r x) (o.ensures.reads.same refl ∙ was) n.ensures.newest) h
+    (at_image (λ x. IsPointer r.size (newest_pointer r x) → n.newest ≡ newest_pointer r x) (o.ensures.reads.same refl ∙ was) n.ensures.newest) h
     (at_image (λ x. head_bytes h ≡ take 12 (turned n.newest (string_of r x))) (two.same refl ∙ was) c.in_ok-record.ensures.head) c.day_len-len.result
     c.day_len-len.ensures.same c.if-len-lt14.true c.no_day.result c.no_day.ensures.used c.no_day.ensures.place)
 
@@ -35,9 +35,9 @@ returns-clause-knows g c =
     if_told (g.M.Medium.state c.args.medium.now).image _ (λ x was days held.
     subst (λ (t : Tail). Knows (record { shape = r; tail = t }) x days) (sym (c.tail_of.ensures ∙ ap (λ (d : DayHead). record { head = d; latest = c.in_ok-latest.latest; used = c.at_most-used.result }) head))
     (knows_some r n.ensures.shape x (omega (arith, c.requires, (g.met.M.Medium.coherent c.args.medium.now).sized x was)) n.newest
-    (at_image (λ x. IsPointer r.size (newest_of r x) → n.newest ≡ newest_of r x) (o.ensures.reads.same refl ∙ was) n.ensures.newest) h
+    (at_image (λ x. IsPointer r.size (newest_pointer r x) → n.newest ≡ newest_pointer r x) (o.ensures.reads.same refl ∙ was) n.ensures.newest) h
     (at_image (λ x. head_bytes h ≡ take 12 (turned n.newest (string_of r x))) (two.same refl ∙ was) c.in_ok-record.ensures.head) c.day_len-len.result
     c.day_len-len.ensures.same (omega (arith, c.if-len-lt14.false)) o.oldest c.distance.result c.in_ok-latest.latest c.at_most-used.result
-    (at_image (λ x. IsPointer r.size (oldest_of r x) → o.oldest ≡ oldest_of r x) was o.ensures.oldest) c.distance.ensures.place c.distance.ensures.below (λ le. c.at_most-used.ensures.same (omega (arith, le, c.size.ensures.size)))
+    (at_image (λ x. IsPointer r.size (oldest_pointer r x) → o.oldest ≡ oldest_pointer r x) was o.ensures.oldest) c.distance.ensures.place c.distance.ensures.below (λ le. c.at_most-used.ensures.same (omega (arith, le, c.size.ensures.size)))
     (λ d here lt. at_image (λ x. (d : Day) → IsAt r x n.newest d → c.at-head.result.words - 1 < length d.words → c.in_ok-latest.latest ≡ get_or d.words (c.at-head.result.words - 1) 0) (three.same refl ∙ was) c.in_ok-latest.ensures.word d here
     (subst (λ (e : DayHead). e.words - 1 < length d.words) (sym head) lt) ∙ ap (λ (e : DayHead). get_or d.words (e.words - 1) 0) head) days held))

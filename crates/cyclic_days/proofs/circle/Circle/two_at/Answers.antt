@@ -1,7 +1,7 @@
 use Rattle.std.proofs.Common.{◌≡◌, ◌+◌, ◌≤◌, ℕ, length, arith, sym, ◌∙◌, ap, subst}
 use Rattle.std.proofs.lemmas.Result.{IfOk-weaker}
 use Rattle.tach_media.specs.Medium.{bytes_at}
-use Rattle.card_model.specs.Image.{Shape, IsShape, IsPlace, string_of}
+use Rattle.card_model.specs.Image.{StringShape, IsStringShape, IsPlace, string_of}
 use Rattle.card_model.proofs.Circle.{turned_part, string_length}
 use Rattle.card_model.proofs.Reading.{string_part}
 use Rattle.cyclic_days.proofs.Told.{from_told}
@@ -13,8 +13,8 @@ returns-clause-spelled g c =
     let p = c.args.place in
     let k = c.args.distance in
     let q = c.spot.result in
-    let shape = subst (λ (s : Shape). IsShape s) c.self.view_is c.self.invariant in
-    let base : c.self.inside.base ≡ r.base = ap (λ (s : Shape). s.base) c.self.view_is in
+    let shape = subst (λ (s : StringShape). IsStringShape s) c.self.view_is c.self.invariant in
+    let base : c.self.inside.base ≡ r.base = ap (λ (s : StringShape). s.base) c.self.view_is in
     IfOk-weaker c.read_two.result _ _ (λ n read. from_told (g.M.Medium.state c.args.medium.now).image _ _ read (λ x was spelled.
     let inside : r.base + (4 + r.size) ≤ length x = omega (arith, c.requires.fits, (g.met.M.Medium.coherent c.args.medium.now).sized x was) in
     let s = string_of r x in

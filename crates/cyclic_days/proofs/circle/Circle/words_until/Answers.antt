@@ -1,6 +1,7 @@
 use Rattle.std.proofs.Common.{◌≡◌, ◌<◌, ℕ, List, Option, IfSome, inl, inr, get_or, length, arith, refl, ap, subst}
 use Rattle.tach_media.proofs.Runs.{both_told}
-use Rattle.card_model.specs.Days.{Day, minute_of}
+use Rattle.activity_codec.specs.Words.{word_minute}
+use Rattle.card_model.specs.Days.{Day}
 use Rattle.card_model.specs.Image.{IsAt}
 use Rattle.card_model.specs.Changes.{early}
 use Rattle.cyclic_days.proofs.Cutting.{early_is}
@@ -15,7 +16,7 @@ returns-then-branch-minute-clause-words g c =
     let word = subst (λ (o : Option (List ℕ)). IfSome o (λ x. (d : Day) → IsAt r x c.args.place d → k < length d.words → w ≡ get_or d.words k 0)) (inv.reads.same refl) c.in_ok-word_at.ensures.word in
     both_told (g.M.Medium.state c.args.medium.now).image (λ x. (d : Day) → IsAt r x c.args.place d → c.args.count ≡ length d.words → k ≡ length (early c.args.minute d.words)) inv.passed word (λ x was passed read d at count.
     let below : k < length d.words = omega (arith, c.loop-kept-test.true, count) in
-    let minute : minute_of w ≡ minute_of (get_or d.words k 0) = ap minute_of (read d at below) in
+    let minute : word_minute w ≡ word_minute (get_or d.words k 0) = ap word_minute (read d at below) in
     early_is c.args.minute d.words k (omega (arith, below)) (passed d at count) (inr (omega (arith, minute, c.if-branch-minute.true))))
 
 pub returns-clause-words : goal.returns-clause-words

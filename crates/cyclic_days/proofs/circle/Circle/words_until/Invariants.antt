@@ -1,7 +1,8 @@
 use Rattle.std.proofs.Common.{◌≡◌, ◌≤◌, ◌<◌, ◌-◌, ℕ, get_or, length, false}
 use Rattle.std.specs.Prelude.{IfSome}
 use Rattle.tach_media.specs.Medium.{Reads}
-use Rattle.card_model.specs.Days.{Day, minute_of}
+use Rattle.activity_codec.specs.Words.{word_minute}
+use Rattle.card_model.specs.Days.{Day}
 use Rattle.card_model.specs.Image.{IsAt}
 use Rattle.cyclic_days.proofs.circle.Circle.words_until.Given as goal
 
@@ -11,7 +12,7 @@ invariant-loop-kept g l =
     let now = g.M.Medium.state l.medium in
     record {
       high : l.kept ≤ l.count;
-      passed : IfSome before.image (λ x. (d : Day) → IsAt l.self x l.place d → l.count ≡ length d.words → (j : ℕ) → j < l.kept → minute_of (get_or d.words j 0) ≤ l.minute);
+      passed : IfSome before.image (λ x. (d : Day) → IsAt l.self x l.place d → l.count ≡ length d.words → (j : ℕ) → j < l.kept → word_minute (get_or d.words j 0) ≤ l.minute);
       reads : Reads before now false;
     }
 

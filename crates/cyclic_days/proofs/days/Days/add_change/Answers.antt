@@ -2,7 +2,7 @@ use Rattle.std.proofs.Common.{◌≡◌, ℕ, ◌+◌, ◌*◌, ◌≤◌, ◌<�
 use Rattle.tach_media.proofs.Runs.{weaken, at_image, where_told, turned_into, settled_now, on_ok}
 use Rattle.write_plan.specs.Plan.{put_all}
 use Rattle.write_plan.proofs.Plans.{puts_outside, partway_outside}
-use Rattle.card_model.specs.Image.{Shape}
+use Rattle.card_model.specs.Image.{StringShape}
 use Rattle.cyclic_days.specs.declared.head.Tail.{Tail}
 use Rattle.cyclic_days.specs.Held.{Held, IsHeld, Knows}
 use Rattle.cyclic_days.specs.Moments.{IfKnown, IsChanging, IsChanged, KnowsChanged, ClearsChanged}
@@ -11,7 +11,7 @@ use Rattle.cyclic_days.proofs.Changing.{changing_known, changed_known, changed_k
 use Rattle.cyclic_days.proofs.Told.{from_told}
 use Rattle.cyclic_days.proofs.days.Days.add_change.Goals as goal
 
-abbrev hold : Shape → Tail → Held
+abbrev hold : StringShape → Tail → Held
 hold r t = record { shape = r; tail = t }
 
 pub returns-in_err-used-clause-moments : goal.returns-in_err-used-clause-moments

@@ -2,16 +2,16 @@ use Rattle.std.proofs.Common.{◌≡◌, ℕ, ◌+◌, ◌*◌, ◌≤◌, ◌<�
 use Rattle.tach_media.proofs.Runs.{weaken, at_image, where_told, turned_into, settled_now, on_ok}
 use Rattle.write_plan.specs.Plan.{put_all}
 use Rattle.write_plan.proofs.Plans.{puts_outside, partway_outside}
-use Rattle.card_model.specs.Image.{Shape}
+use Rattle.card_model.specs.Image.{StringShape}
 use Rattle.cyclic_days.specs.declared.head.Tail.{Tail}
 use Rattle.cyclic_days.specs.Held.{Held, IsHeld, Knows}
-use Rattle.cyclic_days.specs.Moments.{IfKnown, IsBeginning, IsBegun, KnowsBegun, ClearsBegun, BeginsAgain}
+use Rattle.cyclic_days.specs.Moments.{IfKnown, IsDayBeginning, IsDayBegun, KnowsBegun, ClearsBegun, BeginsAgain}
 use Rattle.cyclic_days.specs.Plans.{left_in, beginning_pieces, tail_begun}
 use Rattle.cyclic_days.proofs.Starting.{beginning_known, begun_told, begun_knows, begun_clears, begins_again, beginning_count}
 use Rattle.cyclic_days.proofs.Told.{from_told}
 use Rattle.cyclic_days.proofs.days.Days.begin_day.Goals as goal
 
-abbrev hold : Shape → Tail → Held
+abbrev hold : StringShape → Tail → Held
 hold r t = record { shape = r; tail = t }
 
 pub returns-in_err-used-clause-moments : goal.returns-in_err-used-clause-moments
@@ -42,9 +42,9 @@ pub returns-clause-begun : goal.returns-clause-begun
 returns-clause-begun g c =
     let v = c.args.self.now in
     let is : IsHeld c.args.self.now = subst (λ (h : Held). IsHeld h) c.self.view_is c.self.invariant in
-    where_told (g.M.Medium.state c.args.medium.now).image _ (IfKnown v (IsBegun v.shape c.args.date.0 c.args.words.now)) (λ x y was now.
+    where_told (g.M.Medium.state c.args.medium.now).image _ (IfKnown v (IsDayBegun v.shape c.args.date.0 c.args.words.now)) (λ x y was now.
     let y_is : y ≡ put_all (beginning_pieces v c.args.date.0 c.args.words.now x) x = turned_into (λ x. put_all (beginning_pieces v c.args.date.0 c.args.words.now x) x) (c.in_ok-used.ensures.puts.written refl) was now in
-    subst (λ (l : List ℕ). IfKnown v (IsBegun v.shape c.args.date.0 c.args.words.now) x l) (sym y_is)
+    subst (λ (l : List ℕ). IfKnown v (IsDayBegun v.shape c.args.date.0 c.args.words.now) x l) (sym y_is)
     (begun_told v is c.args.date.0 c.args.words.now c.requires.some c.requires.few x (omega (arith, c.requires.fits, (g.met.M.Medium.coherent c.args.medium.now).sized x was))))
 
 pub returns-clause-knows : goal.returns-clause-knows

@@ -5,7 +5,7 @@ use Rattle.card_model.specs.Days.{Day}
 use Rattle.cyclic_days.specs.Held.{Knows}
 use Rattle.cyclic_days.specs.Moments.{IfKnown}
 use Rattle.cyclic_days.specs.Plans.{mend_pieces}
-use Rattle.cyclic_days.specs.Steps.{SameDays, IsMended}
+use Rattle.cyclic_days.specs.Steps.{SameDays, IsDropMended}
 use Rattle.cyclic_days.proofs.OneWrite.{mended_same, mending_same, mended_is, mended_knows}
 use Rattle.cyclic_days.proofs.days.Days.finish_drop.Goals as goal
 
@@ -24,9 +24,9 @@ returns-clause-same g c =
 pub returns-clause-mended : goal.returns-clause-mended
 returns-clause-mended g c =
     let v = c.args.self.now in
-    on_ok c.clear_oldest.result (λ fine. where_told (g.M.Medium.state c.args.medium.now).image _ (IfKnown v (IsMended v.shape)) (λ x y was now.
+    on_ok c.clear_oldest.result (λ fine. where_told (g.M.Medium.state c.args.medium.now).image _ (IfKnown v (IsDropMended v.shape)) (λ x y was now.
     let y_is : y ≡ put_all (mend_pieces v) x = turned_into (put_all (mend_pieces v)) (c.clear_oldest.ensures.puts.written fine) was now in
-    subst (λ (l : List ℕ). IfKnown v (IsMended v.shape) x l) (sym y_is)
+    subst (λ (l : List ℕ). IfKnown v (IsDropMended v.shape) x l) (sym y_is)
     (mended_is v c.clear_oldest.ensures.held x (omega (arith, c.requires.fits, (g.met.M.Medium.coherent c.args.medium.now).sized x was)))))
 
 pub returns-clause-knows : goal.returns-clause-knows

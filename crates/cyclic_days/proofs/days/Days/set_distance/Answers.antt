@@ -1,7 +1,7 @@
 use Rattle.std.proofs.Common.{◌≡◌, ℕ, ◌+◌, ◌≤◌, List, length, arith, sym, subst, ap, refl, ◌∙◌, Some}
 use Rattle.tach_media.proofs.Runs.{weaken, where_told, turned_into}
 use Rattle.write_plan.specs.Plan.{put_all}
-use Rattle.card_model.specs.Image.{Shape}
+use Rattle.card_model.specs.Image.{StringShape}
 use Rattle.cyclic_days.specs.declared.head.Tail.{Tail}
 use Rattle.cyclic_days.specs.Held.{Held, IsHeld}
 use Rattle.cyclic_days.specs.Moments.{IfKnown}
@@ -10,7 +10,7 @@ use Rattle.cyclic_days.specs.Steps.{IsMeasured, KnowsMeasured}
 use Rattle.cyclic_days.proofs.OneWrite.{measured_known, measuring_known, measured_knows}
 use Rattle.cyclic_days.proofs.days.Days.set_distance.Goals as goal
 
-abbrev hold : Shape → Tail → Held
+abbrev hold : StringShape → Tail → Held
 hold r t = record { shape = r; tail = t }
 
 pub returns-in_err-write_km-clause-moments : goal.returns-in_err-write_km-clause-moments

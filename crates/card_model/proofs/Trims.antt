@@ -1,24 +1,11 @@
 -- Trimming to a minute: what it makes of days that drop, grow, or were trimmed in part.
 use Rattle.std.proofs.Common.{◌≡◌, ◌⊎◌, inl, inr, ℕ, ◌%◌, ◌<◌, ◌≤◌, Bool, true, false, cond, List, [], ◌∷◌, ◌++◌, length, refl, sym, ◌∙◌, ap, subst, arith}
 use Rattle.std.specs.Prelude.{nat_eq, nat_le}
-use Rattle.std.proofs.lemmas.Bool.Decides.{nat_tests}
-use Rattle.card_model.specs.Days.{Day, AreDays, IsDay, AreWords, Ascend, minute_of}
-use Rattle.card_model.specs.Changes.{with_newest, with_word, until, early, with_early, date_of, cut, trimmed, OnNewest}
-
-at_most : (m n : ℕ) → m ≤ n → nat_le m n ≡ true
-at_most m n le = grind (arith, nat_tests)
-
-above : (m n : ℕ) → n < m → nat_le m n ≡ false
-above m n lt = grind (arith, nat_tests)
-
-le_of : (m n : ℕ) → nat_le m n ≡ true → m ≤ n
-le_of m n is = grind (arith, nat_tests)
-
-gt_of : (m n : ℕ) → nat_le m n ≡ false → n < m
-gt_of m n is = grind (arith, nat_tests)
-
-same_is : (m n : ℕ) → m ≡ n → nat_eq m n ≡ true
-same_is m n is = grind (arith, nat_tests)
+use Rattle.std.specs.List.{AllByRecursion}
+use Rattle.std.proofs.lemmas.Bool.{eq-eqb, le-leb, lt-leb, leb-true, leb-false}
+use Rattle.activity_codec.specs.Words.{word_minute}
+use Rattle.card_model.specs.Days.{Day, AreDays, IsDay, AreWords, Ascend, last_word}
+use Rattle.card_model.specs.Changes.{with_newest, with_word, until, early, with_early, date_of, cut, trimmed, OnNewest, Increase, AreStrict, TakesWord, AllLater, Shorter}
 
 newest_some : (f : Day → Day) (d : Day) (ds : List Day) → with_newest f (d ∷ ds) ≡ [] → ⊥
 newest_some f d [] e = cc
@@ -31,19 +18,19 @@ cons_same f d [] (v ∷ vs) e = absurd (newest_some f v vs (sym e))
 cons_same f d (u ∷ us) [] e = absurd (newest_some f u us e)
 cons_same f d (u ∷ us) (v ∷ vs) e = ap (λ (l : List Day). d ∷ l) e
 
-early_word : (m : ℕ) (ws : List ℕ) (w : ℕ) → m < minute_of w → early m (ws ++ w ∷ []) ≡ early m ws
-early_word m [] w lt = ap (λ (b : Bool). cond b (w ∷ []) []) (above (minute_of w) m lt)
-early_word m (v ∷ ws) w lt = ap (λ (l : List ℕ). cond (nat_le (minute_of v) m) (v ∷ l) []) (early_word m ws w lt)
+early_word : (m : ℕ) (ws : List ℕ) (w : ℕ) → m < word_minute w → early m (ws ++ w ∷ []) ≡ early m ws
+early_word m [] w lt = ap (λ (b : Bool). cond b (w ∷ []) []) (lt-leb (word_minute w) m lt)
+early_word m (v ∷ ws) w lt = ap (λ (l : List ℕ). cond (nat_le (word_minute v) m) (v ∷ l) []) (early_word m ws w lt)
 
 -- a word behind the minute is cut again
 pub record Behind (m w : ℕ) (d : Day) : Type 0 where
   pub day : date_of m ≤ d.date
-  pub minute : d.date ≡ date_of m → m % 1440 < minute_of w
+  pub minute : d.date ≡ date_of m → m % 1440 < word_minute w
 
 cut_word : (m w : ℕ) (d : Day) → Behind m w d → d.date ≤ date_of m → cut m (with_word w d) ≡ cut m d
 cut_word m w d b le =
     let at : d.date ≡ date_of m = omega (arith, b.day, le) in
-    let is : nat_eq d.date (date_of m) ≡ true = same_is d.date (date_of m) at in
+    let is : nat_eq d.date (date_of m) ≡ true = eq-eqb d.date (date_of m) at in
     ap (λ (c : Bool). cond c (with_early (m % 1440) (with_word w d)) (with_word w d)) is
     ∙ ap (λ (ws : List ℕ). record { date = d.date; counter = d.counter; km = d.km; words = ws }) (early_word (m % 1440) d.words w (b.minute at))
     ∙ sym (ap (λ (c : Bool). cond c (with_early (m % 1440) d) d) is)
@@ -53,7 +40,7 @@ trimmed_word m w [] on = absurd on
 trimmed_word m w (d ∷ []) on = by (nat_le d.date (date_of m)) refl
   where
     by : (b : Bool) → nat_le d.date (date_of m) ≡ b → with_newest (cut m) (cond b (with_word w d ∷ []) []) ≡ with_newest (cut m) (cond b (d ∷ []) [])
-    by true is = ap (λ (x : Day). x ∷ []) (cut_word m w d on (le_of d.date (date_of m) is))
+    by true is = ap (λ (x : Day). x ∷ []) (cut_word m w d on (leb-true d.date (date_of m) is))
     by false is = refl
 trimmed_word m w (d ∷ e ∷ ds) on = by (nat_le d.date (date_of m)) (trimmed_word m w (e ∷ ds) on)
   where
@@ -67,30 +54,26 @@ pub trimmed_day : (m : ℕ) (ds : List Day) (d : Day) → date_of m < d.date →
 trimmed_day m ds d lt = ap (λ (l : List Day). with_newest (cut m) l) (by ds)
   where
     by : (ds : List Day) → until (date_of m) (ds ++ d ∷ []) ≡ until (date_of m) ds
-    by [] = ap (λ (b : Bool). cond b (d ∷ []) []) (above d.date (date_of m) lt)
+    by [] = ap (λ (b : Bool). cond b (d ∷ []) []) (lt-leb d.date (date_of m) lt)
     by (e ∷ ds) = ap (λ (l : List Day). cond (nat_le e.date (date_of m)) (e ∷ l) []) (by ds)
 
-abbrev pub AreLater : ℕ → List Day → Type 0
-AreLater date [] = Unit {0}
-AreLater date (d ∷ ds) = (date < d.date) × AreLater date ds
+pub until_none : (date : ℕ) (gone : List Day) → AllLater date gone → until date gone ≡ []
+until_none date [] later = refl
+until_none date (g ∷ gs) later = ap (λ (b : Bool). cond b (g ∷ until date gs) []) (lt-leb g.date date later.0)
 
--- begun again from a moment of a trim
-pub trim_from_moment : (m : ℕ) (kept gone : List Day) → AreLater (date_of m) gone → trimmed m (kept ++ gone) ≡ trimmed m kept
-trim_from_moment m kept gone later = ap (λ (l : List Day). with_newest (cut m) l) (by kept)
+-- A trim that begins again where only days that it drops are gone ends as the first would.
+pub trim_from_moment : (m : ℕ) (days kept : List Day) → Shorter (date_of m) days kept → trimmed m kept ≡ trimmed m days
+trim_from_moment m days kept s = ap (λ (l : List Day). with_newest (cut m) l) (sym (ap (λ (l : List Day). until (date_of m) l) s.is ∙ by kept))
   where
-    none : (gone : List Day) → AreLater (date_of m) gone → until (date_of m) gone ≡ []
-    none [] later = refl
-    none (g ∷ gs) later = ap (λ (b : Bool). cond b (g ∷ until (date_of m) gs) []) (above g.date (date_of m) later.0)
-
-    by : (kept : List Day) → until (date_of m) (kept ++ gone) ≡ until (date_of m) kept
-    by [] = none gone later
+    by : (kept : List Day) → until (date_of m) (kept ++ s.gone) ≡ until (date_of m) kept
+    by [] = until_none (date_of m) s.gone s.later
     by (e ∷ ds) = ap (λ (l : List Day). cond (nat_le e.date (date_of m)) (e ∷ l) []) (by ds)
 
 early_twice : (m : ℕ) (ws : List ℕ) → early m (early m ws) ≡ early m ws
 early_twice m [] = refl
-early_twice m (w ∷ ws) = by (early_twice m ws) (nat_le (minute_of w) m) refl
+early_twice m (w ∷ ws) = by (early_twice m ws) (nat_le (word_minute w) m) refl
   where
-    by : early m (early m ws) ≡ early m ws → (b : Bool) → nat_le (minute_of w) m ≡ b → early m (cond b (w ∷ early m ws) []) ≡ cond b (w ∷ early m ws) []
+    by : early m (early m ws) ≡ early m ws → (b : Bool) → nat_le (word_minute w) m ≡ b → early m (cond b (w ∷ early m ws) []) ≡ cond b (w ∷ early m ws) []
     by twice true is = ap (λ (c : Bool). cond c (w ∷ early m (early m ws)) []) is ∙ ap (λ (l : List ℕ). w ∷ l) twice
     by twice false is = refl
 
@@ -152,10 +135,10 @@ trimmed_cases m date d ds are = by (nat_le d.date (date_of m)) refl (until (date
 
     none : (ds : List Day) → AreDays d.date ds → date_of m < d.date → until (date_of m) ds ≡ []
     none [] are lt = refl
-    none (e ∷ es) are lt = ap (λ (b : Bool). cond b (e ∷ until (date_of m) es) []) (above e.date (date_of m) (omega (arith, lt, are.0)))
+    none (e ∷ es) are lt = ap (λ (b : Bool). cond b (e ∷ until (date_of m) es) []) (lt-leb e.date (date_of m) (omega (arith, lt, are.0)))
 
     by : (b : Bool) → nat_le d.date (date_of m) ≡ b → (us : List Day) → until (date_of m) ds ≡ us → ((trimmed m ds ≡ []) × Short m d ds) ⊎ Trimmed m d ds
-    by false is us e = inl (ap (λ (l : List Day). with_newest (cut m) l) (none ds are.2 (gt_of d.date (date_of m) is)), inl (ap (λ (c : Bool). with_newest (cut m) (cond c (d ∷ until (date_of m) ds) [])) is))
+    by false is us e = inl (ap (λ (l : List Day). with_newest (cut m) l) (none ds are.2 (leb-false d.date (date_of m) is)), inl (ap (λ (c : Bool). with_newest (cut m) (cond c (d ∷ until (date_of m) ds) [])) is))
     by true is [] e = inl (ap (λ (l : List Day). with_newest (cut m) l) e, inr (ap (λ (c : Bool). with_newest (cut m) (cond c (d ∷ until (date_of m) ds) [])) is ∙ ap (λ (l : List Day). with_newest (cut m) (d ∷ l)) e))
     by true is (u ∷ us) e =
         let t = some u us in
@@ -169,23 +152,23 @@ trimmed_cases m date d ds are = by (nat_le d.date (date_of m)) refl (until (date
 -- what a trim leaves are days
 early_ascend : (m low : ℕ) (ws : List ℕ) → Ascend low ws → Ascend low (early m ws)
 early_ascend m low [] a = tt
-early_ascend m low (w ∷ ws) a = by (early_ascend m (minute_of w) ws a.2) (nat_le (minute_of w) m)
+early_ascend m low (w ∷ ws) a = by (early_ascend m (word_minute w) ws a.2) (nat_le (word_minute w) m)
   where
-    by : Ascend (minute_of w) (early m ws) → (b : Bool) → Ascend low (cond b (w ∷ early m ws) [])
+    by : Ascend (word_minute w) (early m ws) → (b : Bool) → Ascend low (cond b (w ∷ early m ws) [])
     by rest true = (a.0, a.1, rest)
     by rest false = tt
 
 early_words : (m : ℕ) (ws : List ℕ) → AreWords ws → AreWords (early m ws)
 early_words m [] a = absurd a
-early_words m (w ∷ ws) a = by (nat_le (minute_of w) m) (at_most (minute_of w) m (omega (arith, a.0)))
+early_words m (w ∷ ws) a = by (nat_le (word_minute w) m) (le-leb (word_minute w) m (omega (arith, a.0)))
   where
     by : (b : Bool) → b ≡ true → AreWords (cond b (w ∷ early m ws) [])
     by true is = (a.0, early_ascend m 0 ws a.1)
     by false is = absurd (cc)
 
-early_few : (m : ℕ) (ws : List ℕ) → length (early m ws) ≤ length ws
+pub early_few : (m : ℕ) (ws : List ℕ) → length (early m ws) ≤ length ws
 early_few m [] = omega arith
-early_few m (w ∷ ws) = by (early_few m ws) (nat_le (minute_of w) m)
+early_few m (w ∷ ws) = by (early_few m ws) (nat_le (word_minute w) m)
   where
     by : length (early m ws) ≤ length ws → (b : Bool) → length (cond b (w ∷ early m ws) []) ≤ length (w ∷ ws)
     by rest true = omega (arith, rest)
@@ -206,3 +189,59 @@ are_trimmed m date (d ∷ ds) are = by (nat_le d.date (date_of m)) (until (date_
     by false us rest = tt
     by true [] rest = (omega (arith, are.0, cut_date m d), cut_day m d are.1, tt)
     by true (u ∷ us) rest = (are.0, are.1, rest)
+
+-- the words that a trim leaves of a day are the first of them
+pub early_front : (m : ℕ) (ws : List ℕ) → (rest : List ℕ) × (ws ≡ early m ws ++ rest)
+early_front m [] = ([], refl)
+early_front m (w ∷ ws) = by (early_front m ws) (nat_le (word_minute w) m)
+  where
+    by : (rest : List ℕ) × (ws ≡ early m ws ++ rest) → (b : Bool) → (rest : List ℕ) × (w ∷ ws ≡ cond b (w ∷ early m ws) [] ++ rest)
+    by more true = (more.0, ap (λ (l : List ℕ). w ∷ l) more.1)
+    by more false = (w ∷ ws, refl)
+
+early_increase : (m low : ℕ) (ws : List ℕ) → Increase low ws → Increase low (early m ws)
+early_increase m low [] up = tt
+early_increase m low (w ∷ ws) up = by (early_increase m (word_minute w) ws up.2) (nat_le (word_minute w) m)
+  where
+    by : Increase (word_minute w) (early m ws) → (b : Bool) → Increase low (cond b (w ∷ early m ws) [])
+    by rest true = (up.0, up.1, rest)
+    by rest false = tt
+
+-- a day whose words increase is cut to such a day
+pub early_strict : (m : ℕ) (ws : List ℕ) → AreStrict ws → AreStrict (early m ws)
+early_strict m [] are = absurd are
+early_strict m (w ∷ ws) are = by (nat_le (word_minute w) m) (le-leb (word_minute w) m (omega (arith, are.0)))
+  where
+    by : (b : Bool) → b ≡ true → AreStrict (cond b (w ∷ early m ws) [])
+    by true is = (are.0, early_increase m 0 ws are.1)
+    by false is = absurd (cc)
+
+pub cut_strict : (m : ℕ) (d : Day) → AreStrict d.words → AreStrict (cut m d).words
+cut_strict m d are = by (nat_eq d.date (date_of m))
+  where
+    by : (b : Bool) → AreStrict (cond b (with_early (m % 1440) d) d).words
+    by true = early_strict (m % 1440) d.words are
+    by false = are
+
+-- where each day's words increase, they do in each that a trim leaves
+pub trimmed_strict : (m : ℕ) (ds : List Day) → AllByRecursion (λ d. AreStrict d.words) ds → AllByRecursion (λ d. AreStrict d.words) (trimmed m ds)
+trimmed_strict m [] are = tt
+trimmed_strict m (d ∷ ds) are = by (nat_le d.date (date_of m)) (until (date_of m) ds) (trimmed_strict m ds are.1)
+  where
+    by : (b : Bool) (us : List Day) → AllByRecursion (λ d. AreStrict d.words) (with_newest (cut m) us) → AllByRecursion (λ d. AreStrict d.words) (with_newest (cut m) (cond b (d ∷ us) []))
+    by false us rest = tt
+    by true [] rest = (cut_strict m d are.0, tt)
+    by true (u ∷ us) rest = (are.0, rest)
+
+-- such a day takes a word that is later than its latest
+pub takes_later : (w : ℕ) (d : Day) → AreStrict d.words → word_minute (last_word d.words) < word_minute w → word_minute w < 1440 → TakesWord w d
+takes_later w d are later low = by d.words are later
+  where
+    more : (low_minute v : ℕ) (vs : List ℕ) → Increase low_minute (v ∷ vs) → word_minute (last_word (v ∷ vs)) < word_minute w → Increase low_minute ((v ∷ vs) ++ w ∷ [])
+    more k v [] up lt = (up.0, up.1, (lt, low, tt))
+    more k v (u ∷ vs) up lt = (up.0, up.1, more (word_minute v) u vs up.2 lt)
+
+    by : (ws : List ℕ) → AreStrict ws → word_minute (last_word ws) < word_minute w → AreStrict (ws ++ w ∷ [])
+    by [] are lt = absurd are
+    by (v ∷ []) are lt = (are.0, (omega (arith, lt, are.0), low, tt))
+    by (v ∷ u ∷ vs) are lt = (are.0, more 0 u vs are.1 lt)
