@@ -1,5 +1,5 @@
 -- Rows that are looked through one after the other.
-use Rattle.std.proofs.Common.{◌≡◌, ℕ, zero, suc, ◌+◌, Bool, true, false, cond, List, [], ◌∷◌, ◌++◌, Option, Some, None, IfSome, length, ◌≤◌, refl, ◌∙◌, ap, arith}
+use Rattle.std.proofs.Common.{◌≡◌, ◌↔◌, is_some, ℕ, zero, suc, ◌+◌, Bool, true, false, cond, List, [], ◌∷◌, ◌++◌, Option, Some, None, IfSome, length, ◌≤◌, refl, ◌∙◌, ap, arith}
 use Rattle.std.specs.Prelude.{find, fold}
 use Rattle.std.specs.List.{range_with_len}
 use Rattle.owed_rows.specs.Searching.{or_this}
@@ -46,3 +46,8 @@ few_into m w (Some r) = omega arith
 
 pub seven : (number : List ℕ) (session : ℕ) (spared : Option (List ℕ)) (rows : List ℕ) → length (pieces_at number session (begun_index number spared rows)) ≡ 7
 seven number session spared rows = ap (λ (o : Option ℕ). length (pieces_at number session o)) (begun_is number spared rows).1.0
+
+-- a row that was found is there
+pub row_there : (o : Option ℕ) (found : Bool) → found ≡ is_some o → (found ≡ true) ↔ ((r : ℕ) × (o ≡ Some r))
+row_there None found is = (λ yes. absurd (cc), λ some. absurd (cc))
+row_there (Some r) found is = (λ yes. (r, refl), λ some. is)

@@ -7,5 +7,5 @@ mod rows;
 mod writing;
 
 pub use activity_codec::{Entry, Owed};
-pub use owing::owed;
+pub use owing::{has_row, owed};
 pub use writing::{begin_owed, put_owed};

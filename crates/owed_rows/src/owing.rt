@@ -1,9 +1,10 @@
-ghost use Rattle.std.specs.Prelude.{◌≡◌, ◌≤◌, ◌<◌, ◌+◌, ◌%◌, ◌==◌, ◌&&◌, [], fold, length, nat_lt, nat_le, IfOk, IfSome, is_err, option_map};
+ghost use Rattle.std.specs.Prelude.{◌≡◌, ◌≤◌, ◌<◌, ◌+◌, ◌%◌, ◌==◌, ◌&&◌, ◌↔◌, [], fold, is_some, length, nat_lt, nat_le, true, IfOk, IfSome, is_err, option_map};
 ghost use Rattle.std.specs.List.{prefix_len, range_with_len};
 ghost use Rattle.gated_ring.specs.Ring.{number_at};
 ghost use Rattle.tach_media.specs.Medium.{Reads};
 ghost use Rattle.unit_model.specs.Image.{IsUnit, last_kept};
 ghost use Rattle.owed_model.specs.Owed.{rows_in, row_in, cell_in, entry_of, placed, counts, owed_of, owed_to};
+ghost use Rattle.owed_model.specs.Rows.{HasRow};
 ghost use Rattle.owed_rows.specs.Searching.{with_owed, IsSane};
 
 use crate::rows::{number_in, read_rows, row_index, session_in};
@@ -131,4 +132,15 @@ pub fn owed<M: Medium>(
 {
     let rows = read_rows(unit)?;
     Ok(owed_in(&rows, row_index(&rows, number), session, after, kept))
+}
+
+/// Whether a number has a row.
+pub fn has_row<M: Medium>(unit: &mut M, number: &[u8]) -> Result<bool, Failed>
+    requires unit { IsUnit (M.state unit.old) }
+    ensures row { IfOk result (λ found. IfSome (M.state unit.old).image (λ x. (found ≡ true) ↔ HasRow number.now x)) }
+    ensures reads { Reads (M.state unit.old) (M.state unit.new) (is_err result) }
+{
+    let rows = read_rows(unit)?;
+    let row = row_index(&rows, number);
+    Ok(row.is_some())
 }

@@ -10,7 +10,7 @@ use Rattle.tach_media.specs.Medium.{SameOutside, IsPartlyWritten, bytes_at}
 use Rattle.tach_media.specs.LogLaws.{put_outside}
 use Rattle.gated_ring.specs.Ring.{number_at, pointer, is_there, entry_at, taken, newest_of}
 use Rattle.gated_ring.specs.Change.{IsAdding, IsAdded}
-use Rattle.unit_model.specs.Days.{word_slot, word_minute, word_of, bare, state_at, UnitMinute, Day, UnitDay, day_of, day_shown, days_shown, filled, Each, minute_by}
+use Rattle.unit_model.specs.Days.{word_slot, word_minute, word_of, bare, state_at, UnitMinute, Day, StoredDay, day_of, day_shown, days_shown, filled, Each, minute_by}
 use Rattle.unit_model.specs.Changes.{change, changes, first_state, first_states, further_words}
 use Rattle.unit_model.specs.Image.{day_ring, slot_place, last_kept, odometer_at, unit_day, unit_days, day_head, unit_heads, spare_bytes, recorded, indices, slot_date, slot_odometer, slot_count, slot_words}
 use Rattle.std.specs.List.{list_all}
@@ -18,8 +18,8 @@ use Rattle.unit_model.specs.Decoding.{Decodes, has_day, word_checks}
 use Rattle.unit_model.proofs.Checks.{passes, and_join, IsGood, still}
 use Rattle.unit_model.proofs.StillDecodes.{counted_good}
 use Rattle.unit_model.proofs.WordsGood.{changes_good, good_low}
-use Rattle.unit_journal.proofs.KeptDecodes.{behind_good, index_there, mark_good}
-use Rattle.unit_journal.proofs.AddedDecodes.{HasToday, any_at, or_right, eq_true, shut_good, open_good}
+use Rattle.unit_model.proofs.KeptDecodes.{behind_good, index_there, mark_good}
+use Rattle.unit_model.proofs.AddedDecodes.{HasToday, any_at, or_right, eq_true, shut_good, open_good}
 use Rattle.unit_journal.specs.Image.{Notes, IsNotes, Agrees, SameBesides, IsGivenUp, AreHeads, IsKeeping, head_of, new_head, further}
 use Rattle.unit_model.specs.Writing.{written, free_place, DiffersBehind, with_kept, with_words}
 use Rattle.unit_model.specs.Retention.{retained, last_day}
@@ -35,33 +35,35 @@ use Rattle.unit_model.proofs.Commits.{begun_at}
 use Rattle.unit_model.proofs.Growth.{day_later}
 use Rattle.unit_model.proofs.Numbers.{number_before, number_after, number_put4, short_number, part_in, number_in, words_in, AreShort}
 use Rattle.unit_model.proofs.Slots.{day_at, IsSlot, slot_days, slot_behind, slot_front, slot_counted}
-use Rattle.unit_journal.proofs.Besides.{HasOdometer, front_then, before_mark, behind_mark, besides_then, besides_front, besides_days, few_slots}
+use Rattle.unit_journal.proofs.Besides.{before_mark, behind_mark, besides_then, besides_front, besides_days, few_slots}
+use Rattle.unit_model.proofs.Front.{HasOdometer, front_then}
 use Rattle.unit_journal.proofs.Behind.{behind_written}
-use Rattle.unit_journal.proofs.Keeping.{changes_few, changes_short, recorded_is}
+use Rattle.unit_journal.proofs.Keeping.{changes_few, changes_short}
+use Rattle.unit_model.proofs.Recorded.{recorded_is}
 use Rattle.unit_model.proofs.Turning.{others_of, others_each, taken_below, IsReady, adding_days, added_pointer, added_indices, added_older, added_next, added_entry}
 
 -- where no day is later, all are shown
-shown_all : (k : ℕ) (days : List UnitDay) → Each (λ d. day_of d ≤ k / 1440) days → days_shown k days ≡ map (day_shown k) days
+shown_all : (k : ℕ) (days : List StoredDay) → Each (λ d. day_of d ≤ k / 1440) days → days_shown k days ≡ map (day_shown k) days
 shown_all k [] all = refl
 shown_all k (d ∷ days) all =
     let on : nat_le (day_of d) (k / 1440) ≡ true = grind (arith, nat_tests, all.0) in
     ap (λ (b : Bool). map (day_shown k) (cond b (d ∷ filter (λ d. nat_le (day_of d) (k / 1440)) days) (filter (λ d. nat_le (day_of d) (k / 1440)) days))) on
     ∙ ap (λ (l : List Day). day_shown k d ∷ l) (shown_all k days all.1)
 
-each_drop : (P : UnitDay → Type 0) (n : ℕ) (days : List UnitDay) → Each P days → Each P (drop n days)
+each_drop : (P : StoredDay → Type 0) (n : ℕ) (days : List StoredDay) → Each P days → Each P (drop n days)
 each_drop P zero days all = all
 each_drop P (suc n) [] all = tt
 each_drop P (suc n) (d ∷ days) all = each_drop P n days all.1
 
-each_push : (P : UnitDay → Type 0) (days : List UnitDay) (d : UnitDay) → Each P days → P d → Each P (days ++ d ∷ [])
+each_push : (P : StoredDay → Type 0) (days : List StoredDay) (d : StoredDay) → Each P days → P d → Each P (days ++ d ∷ [])
 each_push P [] d all one = (one, tt)
 each_push P (x ∷ days) d all one = (all.0, each_push P days d all.1 one)
 
-each_before : (a b : ℕ) → a < b → (days : List UnitDay) → Each (λ d. day_of d ≤ a) days → Each (λ d. day_of d < b) days
+each_before : (a b : ℕ) → a < b → (days : List StoredDay) → Each (λ d. day_of d ≤ a) days → Each (λ d. day_of d < b) days
 each_before a b less [] all = tt
 each_before a b less (d ∷ days) all = (omega (arith, all.0, less), each_before a b less days all.1)
 
-each_later : (a b : ℕ) → a ≤ b → (days : List UnitDay) → Each (λ d. day_of d ≤ a) days → Each (λ d. day_of d ≤ b) days
+each_later : (a b : ℕ) → a ≤ b → (days : List StoredDay) → Each (λ d. day_of d ≤ a) days → Each (λ d. day_of d ≤ b) days
 each_later a b le [] all = tt
 each_later a b le (d ∷ days) all = (omega (arith, all.0, le), each_later a b le days all.1)
 
@@ -70,15 +72,15 @@ map_drop f zero xs = refl
 map_drop f (suc n) [] = refl
 map_drop f (suc n) (x ∷ xs) = map_drop f n xs
 
-shown_drop : (k n : ℕ) (days : List UnitDay) → Each (λ d. day_of d ≤ k / 1440) days → days_shown k (drop n days) ≡ drop n (days_shown k days)
+shown_drop : (k n : ℕ) (days : List StoredDay) → Each (λ d. day_of d ≤ k / 1440) days → days_shown k (drop n days) ≡ drop n (days_shown k days)
 shown_drop k n days all = shown_all k (drop n days) (each_drop (λ d. day_of d ≤ k / 1440) n days all) ∙ map_drop (day_shown k) n days ∙ ap (drop n) (sym (shown_all k days all))
 
-last_shown : (a k : ℕ) (days : List UnitDay) → Each (λ d. day_of d ≤ a) days → last_day (map (day_shown k) days) ≤ a
+last_shown : (a k : ℕ) (days : List StoredDay) → Each (λ d. day_of d ≤ a) days → last_day (map (day_shown k) days) ≤ a
 last_shown a k [] all = omega arith
 last_shown a k (d ∷ []) all = all.0
 last_shown a k (d ∷ e ∷ days) all = last_shown a k (e ∷ days) all.1
 
-shown_length : (k : ℕ) (days : List UnitDay) → Each (λ d. day_of d ≤ k / 1440) days → length (days_shown k days) ≡ length days
+shown_length : (k : ℕ) (days : List StoredDay) → Each (λ d. day_of d ≤ k / 1440) days → length (days_shown k days) ≡ length days
 shown_length k days all = ap length (shown_all k days all) ∙ length-map days (day_shown k)
 
 -- the day of a head
@@ -177,10 +179,10 @@ module _ (n k m dn cn odometer : ℕ) (small : m ≤ 71582788) (short : dn < 16)
   abbrev ws : List ℕ
   ws = further m dn cn
 
-  abbrev begun : UnitDay
+  abbrev begun : StoredDay
   begun = begun_day m dn cn odometer
 
-  abbrev D : List UnitDay
+  abbrev D : List StoredDay
   D = unit_days x2
 
   abbrev n0 : ℕ
@@ -223,7 +225,7 @@ module _ (n k m dn cn odometer : ℕ) (small : m ≤ 71582788) (short : dn < 16)
   shown_given = shown_drop k n0 D closed.all_now ∙ ap (drop n0) closed.recorded_are
 
   -- a day that is later than the last-kept minute's counts for nothing
-  with_later : (c : List ℕ) (d : UnitDay) → last_kept c ≡ k → day_of d ≡ m / 1440 → unit_days c ≡ drop n0 D ++ d ∷ [] → Minutes c
+  with_later : (c : List ℕ) (d : StoredDay) → last_kept c ≡ k → day_of d ≡ m / 1440 → unit_days c ≡ drop n0 D ++ d ∷ [] → Minutes c
   with_later c d kept day is = given c (recorded_is c k kept ∙ ap (days_shown k) is ∙ day_later k (drop n0 D) d (omega (arith, day, later)) ∙ shown_given)
 
   -- the dates and odometers
@@ -287,12 +289,12 @@ module _ (n k m dn cn odometer : ℕ) (small : m ≤ 71582788) (short : dn < 16)
       (λ whole.
       let rest = drop 20 (entry_at day_ring x2 t) in
       let day_c : day_at c t ≡ record { date = date; odometer = odometer; words = firsts } = ap unit_day whole.entry ∙ head_is rest in
-      let date_c : slot_date c t ≡ date = sym (number_in c (slot_place t) 5776 0 4 (omega arith) ∙ ap (λ (q : ℕ). number_at c q 4) (omega arith)) ∙ ap (λ (d : UnitDay). d.date) day_c in
+      let date_c : slot_date c t ≡ date = sym (number_in c (slot_place t) 5776 0 4 (omega arith) ∙ ap (λ (q : ℕ). number_at c q 4) (omega arith)) ∙ ap (λ (d : StoredDay). d.date) day_c in
       let count_c : slot_count c t ≡ 2 = sym (number_in c (slot_place t) 5776 8 2 (omega arith)) ∙ ap (λ (e : List ℕ). number_at e 8 2) whole.entry in
       let odometer_c : slot_odometer c t ≡ odometer =
       sym (number_in c (slot_place t) 5776 4 4 (omega arith)) ∙ ap (λ (e : List ℕ). number_at e 4 4) whole.entry ∙ head_odometer date odometer (first_state (m % 1440) dn) (first_state (m % 1440) cn) rest (omega (arith, far)) in
       let words_c : slot_words c t 2 ≡ firsts =
-      sym (words_in c (slot_place t) 5776 16 2 (omega arith)) ∙ ap (λ (n : ℕ). Rattle.unit_model.specs.Image.words_at (entry_at day_ring c t) 16 n) (sym (number_in c (slot_place t) 5776 8 2 (omega arith) ∙ count_c)) ∙ ap (λ (d : UnitDay). d.words) day_c in
+      sym (words_in c (slot_place t) 5776 16 2 (omega arith)) ∙ ap (λ (n : ℕ). Rattle.unit_model.specs.Image.words_at (entry_at day_ring c t) 16 n) (sym (number_in c (slot_place t) 5776 8 2 (omega arith) ∙ count_c)) ∙ ap (λ (d : StoredDay). d.words) day_c in
       open_good x2 c known step.others step.pointer_is kept_c adding.outside (new_head m dn cn odometer) whole days_F closed.today low far_c
       (omega (arith, date_c)) (omega (arith, date_c, closed.kept, later)) (omega (arith, odometer_c, far)) count_c (ap (λ (l : List ℕ). list_all passes (word_checks (slot_place t + 16) [] l)) words_c ∙ firsts_good (slot_place t + 16)) good)
       more)
@@ -309,7 +311,7 @@ module _ (n k m dn cn odometer : ℕ) (small : m ≤ 71582788) (short : dn < 16)
         (λ more. ⊎_elim
         (λ less. given c (recorded_is c k (adding_kept c adding.outside) ∙ ap (days_shown k) (less ∙ closed.ready.days) ∙ shown_given))
         (λ whole. with_later c (record { date = date; odometer = odometer; words = firsts }) (adding_kept c adding.outside) date_day
-        (whole ∙ ap (λ (d : UnitDay). map (day_at x2) F ++ d ∷ []) (head_is (drop 20 (entry_at day_ring x2 t))) ∙ ap (λ (l : List UnitDay). l ++ record { date = date; odometer = odometer; words = firsts } ∷ []) closed.ready.days))
+        (whole ∙ ap (λ (d : StoredDay). map (day_at x2) F ++ d ∷ []) (head_is (drop 20 (entry_at day_ring x2 t))) ∙ ap (λ (l : List StoredDay). l ++ record { date = date; odometer = odometer; words = firsts } ∷ []) closed.ready.days))
         more)
         (adding_days x2 known (new_head m dn cn odometer) c adding));
     heads = ⊎_elim
@@ -317,7 +319,7 @@ module _ (n k m dn cn odometer : ℕ) (small : m ≤ 71582788) (short : dn < 16)
         (λ more. ⊎_elim
         (λ less. heads_less c (less ∙ closed.ready.days))
         (λ whole. heads_more c firsts
-        (whole ∙ ap (λ (d : UnitDay). map (day_at x2) F ++ d ∷ []) (head_is (drop 20 (entry_at day_ring x2 t))) ∙ ap (λ (l : List UnitDay). l ++ record { date = date; odometer = odometer; words = firsts } ∷ []) closed.ready.days))
+        (whole ∙ ap (λ (d : StoredDay). map (day_at x2) F ++ d ∷ []) (head_is (drop 20 (entry_at day_ring x2 t))) ∙ ap (λ (l : List StoredDay). l ++ record { date = date; odometer = odometer; words = firsts } ∷ []) closed.ready.days))
         more)
         (adding_days x2 known (new_head m dn cn odometer) c adding);
     outside = besides_then x x2 c closed.besides (besides_days 1024 2114020 x2 c (omega arith) (omega arith) adding.outside);
@@ -337,7 +339,7 @@ module _ (n k m dn cn odometer : ℕ) (small : m ≤ 71582788) (short : dn < 16)
     others : Each (λ j. (j < 366) × (j ≢ t)) F
     others = others_each x2 known
 
-    abbrev older : List UnitDay
+    abbrev older : List StoredDay
     older = map (day_at x2) F
 
     day_y : day_at y t ≡ record { date = date; odometer = odometer; words = firsts }
@@ -354,12 +356,12 @@ module _ (n k m dn cn odometer : ℕ) (small : m ≤ 71582788) (short : dn < 16)
       order_is = added_indices x2 known (new_head m dn cn odometer) y added;
       next_is = added_next x2 known (new_head m dn cn odometer) y added;
       older_are = added_older x2 known (new_head m dn cn odometer) y added;
-      date_is = sym (number_in y (slot_place t) 5776 0 4 (omega arith) ∙ ap (λ (q : ℕ). number_at y q 4) (omega arith)) ∙ ap (λ (d : UnitDay). d.date) day_y;
-      odometer_is = sym (number_in y (slot_place t) 5776 4 4 (omega arith)) ∙ ap (λ (d : UnitDay). d.odometer) day_y;
+      date_is = sym (number_in y (slot_place t) 5776 0 4 (omega arith) ∙ ap (λ (q : ℕ). number_at y q 4) (omega arith)) ∙ ap (λ (d : StoredDay). d.date) day_y;
+      odometer_is = sym (number_in y (slot_place t) 5776 4 4 (omega arith)) ∙ ap (λ (d : StoredDay). d.odometer) day_y;
       count_is = count_y;
       words_are =
           sym (words_in y (slot_place t) 5776 16 2 (omega arith)) ∙ ap (λ (n : ℕ). Rattle.unit_model.specs.Image.words_at (entry_at day_ring y t) 16 n) (sym (number_in y (slot_place t) 5776 8 2 (omega arith) ∙ count_y))
-          ∙ ap (λ (d : UnitDay). d.words) day_y;
+          ∙ ap (λ (d : StoredDay). d.words) day_y;
     }
 
     abbrev y2 : List ℕ
@@ -389,10 +391,10 @@ module _ (n k m dn cn odometer : ℕ) (small : m ≤ 71582788) (short : dn < 16)
 
     of_slot : (n : ℕ) (words c : List ℕ) → n ≤ 2880 → IsSlot t F older t k date odometer n words c → Minutes c
     of_slot n words c few slot = with_later c (record { date = date; odometer = odometer; words = words }) slot.kept date_day
-        (slot_days t below F others older t k date odometer n few words c slot ∙ ap (λ (l : List UnitDay). l ++ record { date = date; odometer = odometer; words = words } ∷ []) closed.ready.days)
+        (slot_days t below F others older t k date odometer n few words c slot ∙ ap (λ (l : List StoredDay). l ++ record { date = date; odometer = odometer; words = words } ∷ []) closed.ready.days)
 
     slot_written : (q n : ℕ) (words c : List ℕ) → n ≤ 2880 → IsSlot t F older t q date odometer n words c → unit_days c ≡ drop n0 D ++ record { date = date; odometer = odometer; words = words } ∷ []
-    slot_written q n words c few slot = slot_days t below F others older t q date odometer n few words c slot ∙ ap (λ (l : List UnitDay). l ++ record { date = date; odometer = odometer; words = words } ∷ []) closed.ready.days
+    slot_written q n words c few slot = slot_days t below F others older t q date odometer n few words c slot ∙ ap (λ (l : List StoredDay). l ++ record { date = date; odometer = odometer; words = words } ∷ []) closed.ready.days
 
     heads_slot : (n : ℕ) (words c : List ℕ) (q : ℕ) → n ≤ 2880 → IsSlot t F older t q date odometer n words c → AreHeads m odometer x c
     heads_slot n words c q few slot = heads_more c words (slot_written q n words c few slot)

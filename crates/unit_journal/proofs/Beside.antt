@@ -14,14 +14,15 @@ use Rattle.unit_model.specs.Days.{day_of, days_shown, state_at, word_minute, Eac
 use Rattle.unit_model.specs.Image.{number_of, day_ring, slot_place, last_kept, odometer_at, unit_day, unit_days, recorded, indices, slot_date, slot_count, slot_words, words_at}
 use Rattle.unit_model.specs.Decoding.{Decodes, cell_check, cell_minute, cell_word, slot_checks, front_checks, has_day, is_pointer_good, is_last_good, are_dense, indices_before, is_date_good}
 use Rattle.unit_journal.specs.Beside.{SameJournal, PassesBeside}
-use Rattle.unit_journal.specs.Image.{Notes, IsNotes, IsNewestDay, Agrees, IsFound, IsFoundBy, IsFoundDay, IsStray, stray_list}
+use Rattle.unit_journal.specs.Image.{Notes, IsNotes, IsNewestDay, Agrees, IsFound, IsFoundBy, IsFoundDay, IsStray}
+use Rattle.unit_model.specs.Image.{stray_list}
 use Rattle.unit_model.specs.Writing.{free_place}
 use Rattle.unit_journal.specs.Mends.{IsGateShut, IsMendable}
 use Rattle.unit_journal.specs.Reading.{AreRight}
 use Rattle.unit_model.specs.Image.{recorded_indices, covered_words, recorded_words}
 use Rattle.unit_model.proofs.Checks.{passes, le_true, le_of, and_split, and_join, IsGood, good_of, front_kept, front_today, front_odometer, still}
 use Rattle.unit_model.proofs.Growth.{map_range_same}
-use Rattle.unit_journal.proofs.Keeping.{recorded_is}
+use Rattle.unit_model.proofs.Recorded.{recorded_is}
 use Rattle.unit_model.proofs.Numbers.{number_same, part_in}
 use Rattle.unit_model.proofs.Slots.{day_at, all_days}
 use Rattle.unit_model.proofs.StillDecodes.{slot_by, day_still}
@@ -144,7 +145,7 @@ module _ (x c : List ℕ) (same : SameJournal x c) where
         λ t. cond (date i below t / 86400 == last_beside t / 1440) (filter (λ w. nat_le (word_minute w) (last_beside t % 1440)) (covered t)) (covered t)
 
     -- what the notes say
-    older_same : (P : Rattle.unit_model.specs.Days.UnitDay → Type 0) (a : List ℕ) (i : ℕ) → Each (λ j. (j < 366) × (Rattle.std.proofs.Common.◌≢◌ j i)) a → Each P (map (λ j. unit_day (entry_at day_ring x j)) a) → Each P (map (λ j. unit_day (entry_at day_ring c j)) a)
+    older_same : (P : Rattle.unit_model.specs.Days.StoredDay → Type 0) (a : List ℕ) (i : ℕ) → Each (λ j. (j < 366) × (Rattle.std.proofs.Common.◌≢◌ j i)) a → Each P (map (λ j. unit_day (entry_at day_ring x j)) a) → Each P (map (λ j. unit_day (entry_at day_ring c j)) a)
     older_same P [] i below all = tt
     older_same P (j ∷ a) i below all = (subst P (sym (day_same j below.0.0)) all.0, older_same P a i below.1 all.1)
 
@@ -197,7 +198,7 @@ module _ (x c : List ℕ) (same : SameJournal x c) where
     stray_beside j (Some s) is = record {
       below = is.below;
       at_pointer = pointer_beside ∙ is.at_pointer;
-      later = subst (λ (d : Rattle.unit_model.specs.Days.UnitDay). j.kept / 1440 < day_of d) (sym (day_same s is.below)) is.later;
+      later = subst (λ (d : Rattle.unit_model.specs.Days.StoredDay). j.kept / 1440 < day_of d) (sym (day_same s is.below)) is.later;
     }
 
   pub agrees_beside : (j : Notes) → Agrees j x → Agrees j c

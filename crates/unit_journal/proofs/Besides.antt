@@ -5,19 +5,16 @@ use Rattle.std.specs.Prelude.{◌⊎◌, nat_le}
 use Rattle.std.specs.List.{range_with_len}
 use Rattle.std.proofs.lemmas.Bool.Decides.{nat_tests}
 use Rattle.std.proofs.lemmas.List.FromFn.{length-range_with_len}
-use Rattle.std.specs.Int.{to_be_bytes, w32}
 use Rattle.tach_media.specs.Medium.{SameOutside}
-use Rattle.tach_media.specs.LogLaws.{put_outside}
 use Rattle.tach_media.proofs.Images.{part_before, part_after, outside_wider}
 use Rattle.gated_ring.specs.Ring.{indices as ring_indices, pointer, is_there, next, order}
 use Rattle.unit_model.specs.Days.{Day, UnitMinute, day_of, day_shown, newest_of}
 use Rattle.unit_model.specs.Image.{day_ring, last_kept, odometer_at, indices, unit_days, recorded}
 use Rattle.unit_model.specs.Retention.{retained}
 use Rattle.unit_journal.specs.Image.{SameBesides, IsGivenUp, IsBeforeMark, IsBehindMark}
-use Rattle.unit_model.specs.Writing.{with_odometer}
 use Rattle.unit_journal.specs.Mends.{SameButRowsAndSlots}
-use Rattle.unit_model.proofs.Numbers.{number_before, number_put4}
 use Rattle.unit_model.proofs.Slots.{day_at, all_days}
+use Rattle.unit_model.proofs.Front.{HasOdometer}
 
 pub besides_none : (x : List ℕ) → SameBesides x x
 besides_none x = record { before = refl; between = refl; after = refl; same_length = refl }
@@ -50,26 +47,6 @@ slots_outside x c same = record { before = (outside_wider 624 2114420 1028 21140
 
 pub outside_both : (x y c : List ℕ) → SameButRowsAndSlots x y → SameButRowsAndSlots y c → SameButRowsAndSlots x c
 outside_both x y c first next = record { before = next.before ∙ first.before; between = next.between ∙ first.between; after = next.after ∙ first.after; same_length = next.same_length ∙ first.same_length }
-
--- writes among the days leave the last-kept minute and the odometer alone
-pub front_days : (a n : ℕ) (x c : List ℕ) → 572 ≤ a → SameOutside a n x c → (last_kept c ≡ last_kept x) × (odometer_at c ≡ odometer_at x)
-unfolding last_kept odometer_at
-front_days a n x c le same = (number_before a n 564 4 x c same (omega (arith, le)), number_before a n 568 4 x c same (omega (arith, le)))
-
--- the odometer is the new one, the last-kept minute the old one
-pub record HasOdometer (odometer : ℕ) (x c : List ℕ) : Type 0 where
-  pub kept : last_kept c ≡ last_kept x
-  pub odometer_is : odometer_at c ≡ odometer
-
-pub front_odometer : (odometer : ℕ) (x : List ℕ) → length x ≡ 2485808 → odometer ≤ 9999999 → HasOdometer odometer x (with_odometer odometer x)
-unfolding last_kept odometer_at
-front_odometer odometer x sized far = record {
-  kept = number_before 568 4 564 4 x (with_odometer odometer x) (put_outside 568 (to_be_bytes w32 odometer) x (omega (arith, sized))) (omega arith);
-  odometer_is = number_put4 568 odometer x (omega (arith, sized)) (omega (arith, far));
-}
-
-pub front_then : (odometer a n : ℕ) (x y c : List ℕ) → HasOdometer odometer x y → 572 ≤ a → SameOutside a n y c → HasOdometer odometer x c
-front_then odometer a n x y c has le same = let both = front_days a n y c le same in record { kept = both.0 ∙ has.kept; odometer_is = both.1 ∙ has.odometer_is }
 
 -- the side of a moment before the mark, and behind it
 abbrev pub Side : (k : UnitMinute) (odometer : ℕ) (x c : List ℕ) → Type 0

@@ -12,7 +12,7 @@ use Rattle.activity_codec.specs.Activity.{same_slot}
 use Rattle.activity_codec.specs.Words.{slot_number, slot_numbered, bit, activity_number, activity_numbered, change_of}
 use Rattle.activity_codec.specs.States.{is_by, latest_word, state_of}
 use Rattle.view_model.specs.declared.State.{State}
-use Rattle.unit_model.specs.Days.{word_slot, word_state, word_minute, bare, state_by, state_after, state_at, state_in, is_crew_in, UnitDay, day_of, minute_at, Each}
+use Rattle.unit_model.specs.Days.{word_slot, word_state, word_minute, bare, state_by, state_after, state_at, state_in, is_crew_in, StoredDay, day_of, minute_at, Each}
 use Rattle.unit_journal.specs.Kept.{bits_by}
 use Rattle.unit_journal.proofs.KeptBits.{state_back, crew_back}
 
@@ -104,7 +104,7 @@ module _ (s : Slot) (t : ℕ) where
   bits_decoded ws small = after_is ws small bare ∙ told_latest (latest_word ws s t)
 
 -- a minute of a day by these changes
-pub minute_decoded : (d : UnitDay) → Each (λ w. w < 65536) d.words → (t : ℕ)
+pub minute_decoded : (d : StoredDay) → Each (λ w. w < 65536) d.words → (t : ℕ)
     → minute_at d t ≡ record { minute = 1440 * day_of d + t; driver = told_state (state_of d.words Driver t); codriver = told_state (state_of d.words CoDriver t); crew = told_crew (state_of d.words Driver t) }
 minute_decoded d small t =
     let driver_is = bits_decoded Driver t d.words small in

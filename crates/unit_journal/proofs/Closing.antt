@@ -8,7 +8,7 @@ use Rattle.tach_media.specs.Medium.{SameOutside, IsPartlyWritten}
 use Rattle.tach_media.specs.LogLaws.{put_outside}
 use Rattle.tach_media.proofs.Images.{part_after}
 use Rattle.gated_ring.specs.Ring.{number_at, pointer, entry_at, next}
-use Rattle.unit_model.specs.Days.{word_minute, bare, UnitMinute, Day, UnitDay, day_of, days_shown, filled, Each, minute_by}
+use Rattle.unit_model.specs.Days.{word_minute, bare, UnitMinute, Day, StoredDay, day_of, days_shown, filled, Each, minute_by}
 use Rattle.unit_model.specs.Changes.{changes, closing_words}
 use Rattle.unit_model.specs.Image.{day_ring, slot_place, last_kept, odometer_at, unit_day, unit_days, day_head, unit_heads, spare_bytes, recorded, indices, slot_odometer, slot_words}
 use Rattle.std.specs.List.{list_all}
@@ -17,7 +17,7 @@ use Rattle.unit_model.specs.Decoding.{word_checks}
 use Rattle.unit_model.proofs.Checks.{passes, IsGood, still}
 use Rattle.unit_model.proofs.StillDecodes.{counted_good}
 use Rattle.unit_model.proofs.WordsGood.{changes_good, good_low}
-use Rattle.unit_journal.proofs.KeptDecodes.{behind_good, index_there, last_day as last_checks, put_odometer_good, odometer_decodes}
+use Rattle.unit_model.proofs.KeptDecodes.{behind_good, index_there, last_day as last_checks, put_odometer_good, odometer_decodes}
 use Rattle.unit_journal.specs.Image.{Notes, IsNotes, IsNewestDay, Agrees, SameBesides, IsKeeping}
 use Rattle.unit_model.specs.Writing.{written, free_place, DiffersBehind, with_odometer, with_words}
 use Rattle.unit_journal.specs.DaysWith.{begun_day, days_with}
@@ -29,17 +29,19 @@ use Rattle.unit_model.proofs.Growth.{words_later, day_now}
 use Rattle.unit_model.proofs.Commits.{next_day, closing_later, begun_is, begun_before, begun_at}
 use Rattle.unit_model.proofs.Numbers.{number_before, number_put4}
 use Rattle.unit_model.proofs.Slots.{day_at, all_days, IsSlot, slot_days, slot_heads, slot_behind, slot_front, slot_counted, in_front, same_indices}
-use Rattle.unit_journal.proofs.Besides.{HasOdometer, front_odometer, front_then, before_first, before_mark, besides_then, besides_front, besides_days}
+use Rattle.unit_journal.proofs.Besides.{before_first, before_mark, besides_then, besides_front, besides_days}
+use Rattle.unit_model.proofs.Front.{HasOdometer, front_odometer, front_then}
 use Rattle.unit_journal.proofs.Behind.{behind_written}
-use Rattle.unit_journal.proofs.Keeping.{changes_few, changes_short, recorded_is}
+use Rattle.unit_journal.proofs.Keeping.{changes_few, changes_short}
+use Rattle.unit_model.proofs.Recorded.{recorded_is}
 use Rattle.unit_model.proofs.Turning.{ready_behind, ready_empty}
 use Rattle.unit_journal.proofs.Beginning.{IsClosed}
 
-each_push : (P : UnitDay → Type 0) (days : List UnitDay) (d : UnitDay) → Each P days → P d → Each P (days ++ d ∷ [])
+each_push : (P : StoredDay → Type 0) (days : List StoredDay) (d : StoredDay) → Each P days → P d → Each P (days ++ d ∷ [])
 each_push P [] d all one = (one, tt)
 each_push P (x ∷ days) d all one = (all.0, each_push P days d all.1 one)
 
-each_not_later : (a : ℕ) (days : List UnitDay) → Each (λ d. day_of d < a) days → Each (λ d. day_of d ≤ a) days
+each_not_later : (a : ℕ) (days : List StoredDay) → Each (λ d. day_of d < a) days → Each (λ d. day_of d ≤ a) days
 each_not_later a [] all = tt
 each_not_later a (d ∷ days) all = (omega (arith, all.0), each_not_later a days all.1)
 
@@ -91,7 +93,7 @@ module _ (j : Notes) (ok : IsNotes j) (x : List ℕ) (sized : length x ≡ 24858
   abbrev it : UnitMinute
   it = minute_by m dn cn
 
-  abbrev begun : UnitDay
+  abbrev begun : StoredDay
   begun = begun_day m dn cn odometer
 
   abbrev x1 : List ℕ
@@ -151,12 +153,12 @@ module _ (j : Notes) (ok : IsNotes j) (x : List ℕ) (sized : length x ≡ 24858
         recorded_are = nothing;
         all_now = subst (Each (λ d. day_of d ≤ k / 1440)) (sym no_days) tt;
         commit =
-            ap (λ (l : List UnitDay). days_shown m (l ++ begun ∷ [])) no_days ∙ day_now m begun its_day
+            ap (λ (l : List StoredDay). days_shown m (l ++ begun ∷ [])) no_days ∙ day_now m begun its_day
             ∙ ap (λ (d : Day). d ∷ []) (begun_is 0 m bare bare dn cn [] 0 0 [] tt refl tt refl refl short short' (86400 * (m / 1440)) odometer its_day (omega (arith, later))
             (begun_before 0 m bare bare dn cn [] 0 0 [] tt refl tt refl refl short short' (86400 * (m / 1440)) odometer its_day (omega (arith, later)))
             (begun_at 0 m bare bare dn cn [] 0 0 [] tt refl tt refl refl short short' (86400 * (m / 1440)) odometer its_day (omega (arith, later))))
             ∙ sym (ap (λ (l : List Day). filled l it) x_recorded);
-        written = ap (days_with (last_kept x) m dn cn odometer) (all_days x ∙ ap (map (day_at x)) (agrees.none none)) ∙ sym (ap (λ (l : List UnitDay). l ++ begun ∷ []) no_days);
+        written = ap (days_with (last_kept x) m dn cn odometer) (all_days x ∙ ap (map (day_at x)) (agrees.none none)) ∙ sym (ap (λ (l : List StoredDay). l ++ begun ∷ []) no_days);
         heads = front_heads x x1 x1_same;
         spare = spare_front 568 4 x x1 (omega arith) x1_same;
         ready = ready_empty x1 x1_known x_indices;
@@ -186,7 +188,7 @@ module _ (j : Notes) (ok : IsNotes j) (x : List ℕ) (sized : length x ≡ 24858
     abbrev o : ℕ
     o = slot_odometer x i
 
-    abbrev older : List UnitDay
+    abbrev older : List StoredDay
     older = map (day_at x) js
 
     abbrev words : List ℕ
@@ -213,7 +215,7 @@ module _ (j : Notes) (ok : IsNotes j) (x : List ℕ) (sized : length x ≡ 24858
     cs_later : Each (λ w. k % 1440 < word_minute w) cs
     cs_later = closing_later k m j.driver j.codriver dn cn older date o words day.earlier date_day day.low day.driver day.codriver short short' (86400 * (m / 1440)) odometer its_day later (k % 1440) (omega arith)
 
-    abbrev last_day : UnitDay
+    abbrev last_day : StoredDay
     last_day = record { date = date; odometer = o; words = words ++ cs }
 
     x_days : recorded x ≡ days_shown k (older ++ record { date = date; odometer = o; words = words } ∷ [])
@@ -237,15 +239,15 @@ module _ (j : Notes) (ok : IsNotes j) (x : List ℕ) (sized : length x ≡ 24858
             recorded_are = ap (days_shown k) days ∙ words_later k older date o words cs date_day cs_later ∙ sym x_days;
             all_now = subst (Each (λ d. day_of d ≤ k / 1440)) (sym days) (each_push (λ d. day_of d ≤ k / 1440) older last_day (each_not_later (k / 1440) older day.earlier) (omega (arith, date_day)));
             commit =
-                ap (λ (l : List UnitDay). days_shown m (l ++ begun ∷ [])) days
+                ap (λ (l : List StoredDay). days_shown m (l ++ begun ∷ [])) days
                 ∙ next_day k m j.driver j.codriver dn cn older date o words day.earlier date_day day.low day.driver day.codriver short short' (86400 * (m / 1440)) odometer its_day later
                 ∙ sym (ap (λ (l : List Day). filled l it) x_days);
             written =
                 (λ t. days_with (agrees.kept t) m dn cn odometer (slot_days i ok.index js day.others older p k date o n few words x slot t))
                 ∙ with_last k m dn cn odometer older (record { date = date; odometer = o; words = words })
-                ∙ ap (λ (l : List UnitDay). older ++ l) (with_next k m dn cn odometer (record { date = date; odometer = o; words = words }) (omega (arith, date_day, later))
+                ∙ ap (λ (l : List StoredDay). older ++ l) (with_next k m dn cn odometer (record { date = date; odometer = o; words = words }) (omega (arith, date_day, later))
                 ∙ (λ t. record { date = date; odometer = o; words = words ++ closing_words (k % 1440 + 1) (day.driver t) (day.codriver t) } ∷ begun ∷ []))
-                ∙ sym (append_assoc older (last_day ∷ []) (begun ∷ [])) ∙ sym (ap (λ (l : List UnitDay). l ++ begun ∷ []) days);
+                ∙ sym (append_assoc older (last_day ∷ []) (begun ∷ [])) ∙ sym (ap (λ (l : List StoredDay). l ++ begun ∷ []) days);
             heads = slot_heads i ok.index js day.others older p k date o n' few' (words ++ cs) x2 slot_2 ∙ sym x_heads;
             spare = spare;
             ready = ready_behind x2 known i day.dense.0 ok.index day.dense.1 (slot_2.order_is ∙ ap (λ (l : List ℕ). l ++ i ∷ []) day.dense.2) slot_2.next_is;

@@ -6,24 +6,24 @@ use Rattle.std.proofs.lemmas.Bool.Decides.{nat_tests}
 use Rattle.tach_media.specs.Medium.{SameOutside}
 use Rattle.tach_media.proofs.Images.{part_before, part_after}
 use Rattle.gated_ring.specs.Ring.{newest_of}
-use Rattle.unit_model.specs.Days.{UnitDay, day_of}
+use Rattle.unit_model.specs.Days.{StoredDay, day_of}
 use Rattle.unit_model.specs.Image.{slot_place, spare_bytes}
 use Rattle.unit_journal.specs.DaysWith.{day_with, closed_day, begun_day, days_with}
 use Rattle.unit_model.specs.Writing.{free_place, DiffersBehind}
 
 module _ (k m dn cn o : ℕ) where
   -- only the last day changes
-  pub with_last : (days : List UnitDay) (d : UnitDay) → days_with k m dn cn o (days ++ d ∷ []) ≡ days ++ days_with k m dn cn o (d ∷ [])
+  pub with_last : (days : List StoredDay) (d : StoredDay) → days_with k m dn cn o (days ++ d ∷ []) ≡ days ++ days_with k m dn cn o (d ∷ [])
   with_last [] d = refl
   with_last (e ∷ []) d = refl
-  with_last (e ∷ f ∷ days) d = ap (λ (l : List UnitDay). e ∷ l) (with_last (f ∷ days) d)
+  with_last (e ∷ f ∷ days) d = ap (λ (l : List StoredDay). e ∷ l) (with_last (f ∷ days) d)
 
-  pub with_same : (d : UnitDay) → day_of d ≡ m / 1440 → days_with k m dn cn o (d ∷ []) ≡ day_with k m dn cn d ∷ []
+  pub with_same : (d : StoredDay) → day_of d ≡ m / 1440 → days_with k m dn cn o (d ∷ []) ≡ day_with k m dn cn d ∷ []
   with_same d same =
       let here : (day_of d == m / 1440) ≡ true = grind (arith, nat_tests) in
       ap (λ (b : Bool). cond b (day_with k m dn cn d ∷ []) (closed_day k d ∷ begun_day m dn cn o ∷ [])) here
 
-  pub with_next : (d : UnitDay) → day_of d < m / 1440 → days_with k m dn cn o (d ∷ []) ≡ closed_day k d ∷ begun_day m dn cn o ∷ []
+  pub with_next : (d : StoredDay) → day_of d < m / 1440 → days_with k m dn cn o (d ∷ []) ≡ closed_day k d ∷ begun_day m dn cn o ∷ []
   with_next d earlier =
       let there : (day_of d == m / 1440) ≡ false = grind (arith, nat_tests) in
       ap (λ (b : Bool). cond b (day_with k m dn cn d ∷ []) (closed_day k d ∷ begun_day m dn cn o ∷ [])) there

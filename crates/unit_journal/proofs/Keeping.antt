@@ -6,16 +6,16 @@ use Rattle.std.proofs.lemmas.Bool.Decides.{nat_tests}
 use Rattle.tach_media.specs.Medium.{SameOutside, IsPartlyWritten}
 use Rattle.tach_media.specs.LogLaws.{put_outside}
 use Rattle.gated_ring.specs.Ring.{number_at, pointer, newest_of}
-use Rattle.unit_model.specs.Days.{word_minute, word_of, bare, state_at, UnitMinute, Day, UnitDay, day_of, days_shown, filled, Each, minute_by}
+use Rattle.unit_model.specs.Days.{word_minute, word_of, bare, state_at, UnitMinute, Day, StoredDay, day_of, days_shown, filled, Each, minute_by}
 use Rattle.unit_model.specs.Changes.{change, changes, new_words}
 use Rattle.unit_model.specs.Retention.{retained}
 use Rattle.unit_journal.specs.DaysWith.{days_with, HasDays}
 use Rattle.unit_journal.proofs.DaysWith.{with_last, with_same, newest_all, spare_front, spare_behind, spare_count}
-use Rattle.unit_model.specs.Image.{day_ring, slot_place, last_kept, odometer_at, recorded, indices, unit_days, day_head, unit_heads, slot_odometer, slot_words}
+use Rattle.unit_model.specs.Image.{day_ring, slot_place, last_kept, odometer_at, recorded, unit_days, day_head, unit_heads, slot_odometer, slot_words}
 use Rattle.unit_model.proofs.Checks.{passes, IsGood, still}
 use Rattle.unit_model.proofs.StillDecodes.{counted_good}
 use Rattle.unit_model.proofs.WordsGood.{new_good}
-use Rattle.unit_journal.proofs.KeptDecodes.{behind_good, day_good, last_day, put_odometer_good, odometer_decodes}
+use Rattle.unit_model.proofs.KeptDecodes.{behind_good, day_good, last_day, put_odometer_good, odometer_decodes}
 use Rattle.std.specs.List.{list_all}
 use Rattle.std.proofs.lemmas.List.FromFn.{length-map-range_with_len}
 use Rattle.unit_model.specs.Decoding.{Decodes, word_checks}
@@ -30,7 +30,9 @@ use Rattle.unit_model.proofs.Growth.{words_later}
 use Rattle.unit_model.proofs.Commits.{state_on, same_day}
 use Rattle.unit_model.proofs.Numbers.{number_before, number_after, number_put4, AreShort, written_outside}
 use Rattle.unit_model.proofs.Slots.{day_at, IsSlot, slot_days, slot_heads, slot_behind, slot_front, slot_counted}
-use Rattle.unit_journal.proofs.Besides.{HasOdometer, front_odometer, front_then, before_first, before_mark, behind_mark, besides_then, besides_front, besides_days, few_slots, few_days, all_newest}
+use Rattle.unit_journal.proofs.Besides.{before_first, before_mark, behind_mark, besides_then, besides_front, besides_days, few_slots, few_days, all_newest}
+use Rattle.unit_model.proofs.Front.{HasOdometer, front_odometer, front_then}
+use Rattle.unit_model.proofs.Recorded.{recorded_is}
 
 -- how many words a minute brings
 pub change_few : (s t d e : ℕ) → length (change s t d e) ≤ 1
@@ -77,13 +79,9 @@ each_weaker : (t u : ℕ) → t ≤ u → (ws : List ℕ) → Each (λ w. word_m
 each_weaker t u le [] all = tt
 each_weaker t u le (w ∷ ws) all = (omega (arith, all.0), each_weaker t u le ws all.1)
 
-pub each_earlier : (d d' : ℕ) → d ≤ d' → (days : List UnitDay) → Each (λ x. day_of x < d) days → Each (λ x. day_of x < d') days
+pub each_earlier : (d d' : ℕ) → d ≤ d' → (days : List StoredDay) → Each (λ x. day_of x < d) days → Each (λ x. day_of x < d') days
 each_earlier d d' le [] all = tt
 each_earlier d d' le (x ∷ xs) all = (omega (arith, all.0), each_earlier d d' le xs all.1)
-
-pub recorded_is : (x : List ℕ) (k : ℕ) → last_kept x ≡ k → recorded x ≡ days_shown k (Rattle.unit_model.specs.Image.unit_days x)
-unfolding recorded
-recorded_is x k is = ap (λ (m : ℕ). days_shown m (Rattle.unit_model.specs.Image.unit_days x)) is
 
 module _ (j : Notes) (ok : IsNotes j) (x : List ℕ) (sized : length x ≡ 2485808) (agrees : Agrees j x) (some : 0 < j.kept)
     (m dn cn odometer : ℕ) (small : m ≤ 71582788) (short : dn < 16) (short' : cn < 16) (far : odometer ≤ 9999999) (same : m / 1440 ≡ j.kept / 1440) (later : j.kept < m) where
@@ -108,7 +106,7 @@ module _ (j : Notes) (ok : IsNotes j) (x : List ℕ) (sized : length x ≡ 24858
   abbrev o : ℕ
   o = slot_odometer x i
 
-  abbrev older : List UnitDay
+  abbrev older : List StoredDay
   older = map (day_at x) js
 
   abbrev words : List ℕ
@@ -240,7 +238,7 @@ module _ (j : Notes) (ok : IsNotes j) (x : List ℕ) (sized : length x ≡ 24858
   days_are =
       (λ t. days_with (agrees.kept t) m dn cn odometer (slot_days i ok.index js day.others older p k date o n few words x slot t))
       ∙ with_last k m dn cn odometer older (record { date = date; odometer = o; words = words })
-      ∙ ap (λ (l : List UnitDay). older ++ l) (with_same k m dn cn odometer (record { date = date; odometer = o; words = words }) (date_day ∙ sym same)
+      ∙ ap (λ (l : List StoredDay). older ++ l) (with_same k m dn cn odometer (record { date = date; odometer = o; words = words }) (date_day ∙ sym same)
       ∙ (λ t. record { date = date; odometer = o; words = words ++ new_words (k % 1440 + 1) (m % 1440) (day.driver t) (day.codriver t) dn cn } ∷ []))
       ∙ sym (slot_days i ok.index js day.others older p m date o (n + length ws) fits' (words ++ ws) y slot_y)
 

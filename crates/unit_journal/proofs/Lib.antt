@@ -4,31 +4,21 @@ pub mod Behind
 pub mod Beginning
 pub mod Closing
 pub mod Lifting
-pub mod KeptDays
 pub mod Mending
-pub mod Emptying
 pub mod Beside
 pub mod Settling
-pub mod KeptDecodes
-pub mod AddedDecodes
 pub mod Mended
 mod MendRows
 pub mod KeptBits
 pub mod Scanning
-pub mod Finding
-pub mod Counting
 pub mod Loading
 pub mod IfAny
 pub mod Shown
 pub mod Minutes
-pub mod Density
 pub mod ByChanges
-pub mod WholeDays
 pub mod Planned
-pub mod LastDay
 pub mod DaysWith
 pub mod Retaining
-pub mod Rising
-pub mod FilledWhole
 pub mod MendedOwed
 mod OwedBeside
+pub mod NoSuchDay

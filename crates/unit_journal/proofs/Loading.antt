@@ -1,25 +1,28 @@
 -- What `load` reads of an image that decodes.
-use Rattle.std.proofs.Common.{◌≡◌, ◌≢◌, ℕ, zero, suc, ◌+◌, ◌-◌, ◌*◌, ◌/◌, ◌%◌, ◌<◌, ◌≤◌, min, Bool, true, false, not, cond, List, [], ◌∷◌, ◌++◌, length, length-append, Option, Some, None, is_some, Result, Ok, Err, refl, sym, ◌∙◌, ap, subst, arith}
+use Rattle.std.proofs.Common.{◌≡◌, ◌≢◌, inl, ⊎_elim, ℕ, zero, suc, ◌+◌, ◌-◌, ◌*◌, ◌/◌, ◌%◌, ◌<◌, ◌≤◌, min, Bool, true, false, not, cond, List, [], ◌∷◌, ◌++◌, length, length-append, Option, Some, None, is_some, Result, Ok, Err, refl, sym, ◌∙◌, ap, subst, arith}
 use Rattle.std.specs.Prelude.{◌==◌, ◌&&◌, ◌||◌, nat_le, nat_lt, MatchOption, unwrap_or, IsTrue}
 use Rattle.std.specs.List.{range_with_len, list_all}
 use Rattle.std.proofs.lemmas.Bool.Decides.{nat_tests}
 use Rattle.gated_ring.specs.Ring.{pointer, is_there, entry_at}
 use Rattle.unit_model.specs.Days.{day_of, state_at, word_minute, Each}
 use Rattle.unit_model.specs.Image.{last_kept, odometer_at, day_ring, slot_place, unit_day, indices, slot_date, slot_count, slot_words, words_at}
-use Rattle.unit_model.specs.Decoding.{Check, checks, Decodes, first_failing, word_checks, first_bad_place, has_day, slot_day, is_date_good}
+use Rattle.unit_model.specs.Decoding.{Check, checks, Decodes, first_failing, word_checks, first_bad_place, has_day, slot_day, is_date_good, is_pointer_good}
 use Rattle.unit_memory.specs.Scans.{start, scan_from}
-use Rattle.unit_memory.specs.Walks.{walk_start, next_walk, walk_from}
-use Rattle.unit_memory.specs.Judging.{failed_of, turn_at, walk_round}
+use Rattle.unit_memory.specs.Walks.{walk_start, with_gap, with_day, next_walk, walk_from}
+use Rattle.unit_memory.specs.Judging.{failed_of, pointer_passes, is_whole, turn_at, walk_round}
 use Rattle.unit_memory.specs.declared.walk.Walk.{Walk}
 use Rattle.unit_memory.specs.declared.words.Scan.{Scan}
-use Rattle.unit_memory.proofs.Decoded.{IsDecoded, decoded}
-use Rattle.unit_memory.proofs.WalkLaws.{there_is, is_day}
+use Rattle.unit_model.proofs.Decoded.{IsDecoded, decoded}
+use Rattle.unit_memory.proofs.Walking.{walk_more}
+use Rattle.unit_memory.proofs.WalkLaws.{is_day, IsAt, walk_at, step_day}
+use Rattle.unit_model.proofs.Recorded.{there_is}
 use Rattle.unit_memory.proofs.WordLaws.{all_words_fail}
-use Rattle.unit_memory.proofs.JudgeLaws.{has_today}
-use Rattle.unit_journal.specs.Image.{Notes, IsFoundBy, IsFound, IsStray, stray_of, stray_list, IsToday}
+use Rattle.unit_memory.proofs.JudgeLaws.{has_today, there_same, pointer_same}
+use Rattle.unit_journal.specs.Image.{Notes, IsFoundBy, IsFound, IsStray, IsToday}
+use Rattle.unit_model.specs.Image.{stray_of, stray_list}
 use Rattle.unit_model.specs.Writing.{free_place}
 use Rattle.unit_journal.specs.Today.{today_of, but_stray, recorded_days}
-use Rattle.unit_journal.proofs.Finding.{eq_of, placed, first_indices, apart}
+use Rattle.unit_model.proofs.Finding.{eq_of, placed, first_indices, apart}
 use Rattle.unit_journal.proofs.Scanning.{scanned_day}
 
 -- the index that a walk found is that of the day
@@ -34,8 +37,7 @@ walk_of_day day x s (i ∷ is) below was = walk_of_day day x (next_walk day s i 
     here some true is_today = (below.0, (λ t. (there_is x i ∙ ap not some) t && is_today t))
     here some false other = was
 
-    step : (b : Bool) → (slot_date x i == 0) ≡ b → IsOfDay day x (cond {A = Walk} b (record { latest = s.latest; last_index = s.last_index; last_date = s.last_date; today = s.today; density = Rattle.unit_memory.specs.Walks.after_gap s.density })
-        (record { latest = Rattle.std.proofs.Common.max s.latest (slot_date x i); last_index = i; last_date = slot_date x i; today = cond (slot_date x i / 86400 == day) (Some i) s.today; density = Rattle.unit_memory.specs.Walks.after_day s.density })).today
+    step : (b : Bool) → (slot_date x i == 0) ≡ b → IsOfDay day x (cond b (with_gap s) (with_day day s i (slot_date x i))).today
     step true none = was
     step false some = here some (slot_date x i / 86400 == day) refl
 
@@ -103,13 +105,76 @@ scan_today kept i n r x stored few none scan = by r refl
           codriver = ap (λ (k : ℕ). state_at 1 (kept % 1440) (slot_words x i k)) c ∙ d.codriver ∙ (let e : s.codriver ≡ s.codriver % 16 = omega (arith, codriver_low) in e);
         }
 
+less_true : (a b : ℕ) → a < b → nat_lt a b ≡ true
+less_true a b less = grind (arith, nat_tests)
+
+zero_is : (d : ℕ) → d ≡ 0 → (d == 0) ≡ true
+zero_is d is = grind (arith, nat_tests)
+
+-- what the last slot of a walk says of a later day at the pointer
+module _ (x : List ℕ) (ok : IsDecoded x) (w : Walk) (walk_is : w ≡ walk_round (last_kept x / 1440) (turn_at (pointer day_ring x)) x) where
+  abbrev p : ℕ
+  p = pointer day_ring x
+
+  abbrev q : ℕ
+  q = turn_at p
+
+  abbrev k : ℕ
+  k = last_kept x
+
+  abbrev oldest : Walk
+  oldest = walk_from (k / 1440) x walk_start (range_with_len q (366 - q))
+
+  abbrev older : Walk
+  older = walk_from (k / 1440) x oldest (range_with_len 0 p)
+
+  inside : nat_lt p 366 ≡ true
+  inside = less_true p 366 ok.known
+
+  pointer_last : w ≡ next_walk (k / 1440) older p (slot_date x p)
+  pointer_last =
+      let turn : q ≡ p + 1 = ap (λ (b : Bool). cond b (p + 1) 366) inside in
+      walk_is ∙ sym (walk_more (k / 1440) x oldest older 0 p p q (omega arith) (omega (arith, turn)) refl)
+
+  good : pointer_passes k p w ≡ true
+  good = ap (pointer_passes k p) walk_is ∙ pointer_same x ∙ (λ i. inside i && (ok.dense i && ok.last i))
+
+  last_good : (nat_le (w.last_date / 86400) (k / 1440) || w.last_index == p) ≡ true
+  last_good = (both_true (is_whole w.density) (nat_le (w.last_date / 86400) (k / 1440) || w.last_index == p) (both_true (nat_lt p 366) (is_whole w.density && (nat_le (w.last_date / 86400) (k / 1440) || w.last_index == p)) good).1).1
+
+  is_at : IsAt x w
+  is_at = subst (IsAt x) (sym walk_is) (walk_at (k / 1440) x oldest (range_with_len 0 q) (walk_at (k / 1440) x walk_start (range_with_len q (366 - q)) (inl refl)))
+
+  gone : (d : ℕ) (a b : Bool) → (d == 0) ≡ a → nat_le (d / 86400) (k / 1440) ≡ b → (a || b) ≡ true → stray_of k p d ≡ None
+  gone d true b is isb some = ap (λ (t : Bool). cond t None (cond (nat_le (d / 86400) (k / 1440)) None (Some p))) is
+  gone d false true is isb some = λ i. cond (is i) None (cond (isb i) None (Some p))
+  gone d false false is isb some = absurd (cc)
+
+  none_there : slot_date x p ≡ 0 → (b : Bool) → nat_le (w.last_date / 86400) (k / 1440) ≡ b → stray_of k p w.last_date ≡ None
+  none_there none true is = gone w.last_date (w.last_date == 0) true refl is (or_true (w.last_date == 0))
+    where
+      or_true : (a : Bool) → (a || true) ≡ true
+      or_true true = refl
+      or_true false = refl
+  none_there none false is =
+      let here : w.last_index ≡ p = eq_of w.last_index p (sym (ap (λ (b : Bool). b || w.last_index == p) is) ∙ last_good) in
+      let date : w.last_date ≡ 0 = ⊎_elim (λ first. first) (λ same. same ∙ ap (slot_date x) here ∙ none) is_at in
+      gone w.last_date true (nat_le (w.last_date / 86400) (k / 1440)) (zero_is w.last_date date) refl refl
+
+  pub last_stray : stray_of k p w.last_date ≡ stray_of k p (slot_date x p)
+  last_stray = by (slot_date x p == 0) refl
+    where
+      by : (b : Bool) → (slot_date x p == 0) ≡ b → stray_of k p w.last_date ≡ stray_of k p (slot_date x p)
+      by true none = none_there (eq_of (slot_date x p) 0 none) (nat_le (w.last_date / 86400) (k / 1440)) refl ∙ sym (ap (λ (t : Bool). cond t None (cond (nat_le (slot_date x p / 86400) (k / 1440)) None (Some p))) none)
+      by false some = ap (λ (v : Walk). stray_of k p v.last_date) (pointer_last ∙ step_day (k / 1440) x older p some)
+
 not_none : (n : ℕ) → 0 < n → (n == 0) ≡ false
 not_none n some = grind (arith, nat_tests)
 
-module _ (x : List ℕ) (none : first_bad_place x ≡ None) (i stored count driver codriver there day_count : ℕ) (w : Walk)
+module _ (x : List ℕ) (none : first_bad_place x ≡ None) (i stored count driver codriver day_count : ℕ) (w : Walk)
     (walk_is : w ≡ walk_round (last_kept x / 1440) (turn_at (pointer day_ring x)) x) (i_is : i ≡ min (unwrap_or w.today 0) 365)
     (today : 0 < last_kept x → slot_count x i ≤ 2880 → first_failing (word_checks (slot_place i + 16) [] (slot_words x i (slot_count x i))) ≡ None → IsToday (last_kept x) i stored count driver codriver x)
-    (there_are : pointer day_ring x < 366 → there ≡ length (indices x)) (day_count_is : day_count ≡ recorded_days (last_kept x) there (stray_of (last_kept x) (pointer day_ring x) (slot_date x (pointer day_ring x)))) where
+    (day_count_is : day_count ≡ recorded_days (last_kept x) w.there (stray_of (last_kept x) (pointer day_ring x) (slot_date x (pointer day_ring x)))) where
   ok : IsDecoded x
   ok = decoded x none
 
@@ -132,9 +197,12 @@ module _ (x : List ℕ) (none : first_bad_place x ≡ None) (i stored count driv
   as_stray None all = tt
   as_stray (Some s) all = record { below = all.0; at_pointer = all.1; later = all.2 }
 
-  days_of : (older : List ℕ) (s : Option ℕ) → indices x ≡ (older ++ i ∷ []) ++ stray_list s → suc (length older) ≡ but_stray there s
-  days_of older None is = omega (arith, there_are ok.known, ap length is, length-append (older ++ i ∷ []) [], length-append older (i ∷ []))
-  days_of older (Some p) is = omega (arith, there_are ok.known, ap length is, length-append (older ++ i ∷ []) (p ∷ []), length-append older (i ∷ []))
+  there_are : w.there ≡ length (indices x)
+  there_are = ap (λ (v : Walk). v.there) walk_is ∙ there_same x ok.known
+
+  days_of : (older : List ℕ) (s : Option ℕ) → indices x ≡ (older ++ i ∷ []) ++ stray_list s → suc (length older) ≡ but_stray w.there s
+  days_of older None is = omega (arith, there_are, ap length is, length-append (older ++ i ∷ []) [], length-append older (i ∷ []))
+  days_of older (Some p) is = omega (arith, there_are, ap length is, length-append (older ++ i ∷ []) (p ∷ []), length-append older (i ∷ []))
 
   found : IsFound notes stray stored x
   found = record {
@@ -156,7 +224,7 @@ module _ (x : List ℕ) (none : first_bad_place x ≡ None) (i stored count driv
             next_is = place.1.next_is;
             dense = place.1.dense;
             others = place.1.others;
-            days = days_of place.0 stray place.1.order_is ∙ sym (day_count_is ∙ ap (λ (b : Bool). cond b 0 (but_stray there stray)) (not_none (last_kept x) some));
+            days = days_of place.0 stray place.1.order_is ∙ sym (day_count_is ∙ ap (λ (b : Bool). cond b 0 (but_stray w.there stray)) (not_none (last_kept x) some));
             earlier = place.1.earlier;
             date = omega (arith, day_is, whole);
             count = t.stored_is;

@@ -1,6 +1,7 @@
 -- Worked rows of a mending, computed.
 use Rattle.std.proofs.Common.{◌≡◌, [], ◌∷◌, ◌++◌, replicate, refl}
-use Rattle.unit_journal.specs.Mends.{days_kept, minute_kept, cells_emptied}
+use Rattle.unit_model.specs.Cells.{minute_kept, cells_emptied}
+use Rattle.unit_model.specs.Days.{days_kept}
 
 -- kept up to 00:01: a word at 00:02 and the next day go
 kept_to : days_kept 21123361

@@ -8,21 +8,23 @@ use Rattle.std.proofs.lemmas.List.{append-nil}
 use Rattle.tach_media.specs.Medium.{put, bytes_at, SameOutside}
 use Rattle.tach_media.proofs.Images.{part_before, put_same, outside_same, outside_then}
 use Rattle.gated_ring.specs.Ring.{number_at, pointer, entry_at}
-use Rattle.unit_model.specs.Days.{UnitDay, word_minute, day_of, Each}
+use Rattle.unit_model.specs.Days.{StoredDay, word_minute, day_of, Each}
 use Rattle.unit_model.specs.Decoding.{Decodes, cell_place, cell_minute, is_last_good}
 use Rattle.unit_model.specs.Image.{day_ring, slot_place, last_kept, recorded, indices, unit_days, slot_date, slot_words, words_at}
 use Rattle.unit_model.specs.Writing.{free_place, with_count}
 use Rattle.unit_journal.specs.Image.{Notes, IsNotes, Agrees, IsStray, IsFoundDay, IsFound, IsFoundBy}
 use Rattle.unit_journal.specs.Beside.{SameJournal}
-use Rattle.unit_journal.specs.Mends.{minute_kept, days_kept, SameButRowsAndSlots, SameButMinutes, IsGateShut, IsMendable, IsMending, IsMended, notes_mended, cells_emptied, shut, mended, IsMendStep}
+use Rattle.unit_journal.specs.Mends.{SameButRowsAndSlots, SameButMinutes, IsGateShut, IsMendable, IsMending, IsMended, notes_mended, shut, mended, IsMendStep}
+use Rattle.unit_model.specs.Cells.{minute_kept, cells_emptied}
+use Rattle.unit_model.specs.Days.{days_kept}
 use Rattle.unit_model.proofs.Numbers.{number_before, number_in, words_in}
 use Rattle.unit_model.proofs.Slots.{day_at, all_days}
 use Rattle.unit_journal.proofs.Besides.{rows_outside, slots_outside, outside_both}
-use Rattle.unit_journal.proofs.KeptDays.{kept_later}
+use Rattle.unit_model.proofs.KeptDays.{kept_later}
 use Rattle.unit_model.proofs.Checks.{IsGood, le_true, good_of, good_decodes}
 use Rattle.unit_model.proofs.StillDecodes.{rows_good, shut_good}
-use Rattle.unit_journal.proofs.Finding.{eq_of, last_good_at}
-use Rattle.unit_journal.proofs.Emptying.{IsEmptied, emptied}
+use Rattle.unit_model.proofs.Finding.{eq_of, last_good_at}
+use Rattle.unit_model.proofs.Emptying.{IsEmptied, emptied}
 use Rattle.unit_journal.proofs.Beside.{beside, recorded_beside, days_beside, mendable_beside}
 use Rattle.unit_journal.proofs.Mending.{gate_outside, shut_pointer, shut_gate, other_there, shut_outside, shut_bytes, shut_kept, shut_odometer, shut_indices, shut_days, shut_unit_days, shut_recorded, shut_taken, other_entry, cut_outside, cut_gate, cut_still, cut_recorded, cut_days, cut_agrees, uncut_days, uncut_agrees}
 use Rattle.unit_journal.proofs.Shown.{found_agreed}

@@ -8,7 +8,8 @@ use Rattle.unit_model.specs.Decoding.{cell_minute}
 use Rattle.owed_model.specs.Owed.{owed_to}
 use Rattle.owed_model.proofs.Mending.{owed_mended}
 use Rattle.unit_journal.specs.Image.{Notes}
-use Rattle.unit_journal.specs.Mends.{IsMending, minute_kept}
+use Rattle.unit_journal.specs.Mends.{IsMending}
+use Rattle.unit_model.specs.Cells.{minute_kept}
 
 later : (a b : ℕ) → nat_lt a b ≡ true → a < b
 later a b is = grind (arith, nat_tests)

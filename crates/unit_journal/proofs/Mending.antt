@@ -11,22 +11,22 @@ use Rattle.tach_media.proofs.Images.{part_before, part_after, part_put, outside_
 use Rattle.gated_ring.specs.Ring.{indices as ring_indices, number_at, pointer, is_there, entry_at, next, order, taken}
 use Rattle.gated_ring.proofs.Orders as orders
 use Rattle.gated_ring.proofs.Orders.{without_last}
-use Rattle.unit_model.specs.Days.{word_minute, state_at, UnitDay, day_of, days_shown, Each}
+use Rattle.unit_model.specs.Days.{word_minute, state_at, StoredDay, day_of, days_shown, Each}
 use Rattle.unit_model.specs.Image.{day_ring, slot_place, last_kept, odometer_at, unit_day, unit_days, recorded, indices, slot_words, words_at, slot_odometer}
 use Rattle.unit_model.specs.Writing.{free_place, with_count}
 use Rattle.unit_journal.specs.Image.{Notes, IsNotes, Agrees, IsFoundDay}
-use Rattle.unit_journal.specs.Mends.{days_kept}
-use Rattle.unit_journal.proofs.KeptDays.{kept_now}
+use Rattle.unit_model.specs.Days.{days_kept}
+use Rattle.unit_model.proofs.KeptDays.{kept_now}
 use Rattle.unit_model.proofs.Checks.{IsGood}
 use Rattle.unit_model.proofs.StillDecodes.{cut_good}
 use Rattle.unit_model.proofs.Growth.{words_later, day_later}
 use Rattle.unit_model.proofs.Words.{words_split}
 use Rattle.unit_model.proofs.Numbers.{number_before, number_put2, words_after}
 use Rattle.unit_model.proofs.Slots.{day_at, all_days, IsSlot, slot_days, same_indices, same_taken, same_days, in_slot}
-use Rattle.unit_journal.proofs.Keeping.{recorded_is}
+use Rattle.unit_model.proofs.Recorded.{recorded_is}
 
 -- a count that covers fewer words
-module _ (i : ℕ) (below : i < 366) (js : List ℕ) (others : Each (λ j. (j < 366) × (j ≢ i)) js) (older : List UnitDay) (p k date o n n' : ℕ) (few : n ≤ 2880) (fewer : n' ≤ n) (words words' : List ℕ) (x : List ℕ)
+module _ (i : ℕ) (below : i < 366) (js : List ℕ) (others : Each (λ j. (j < 366) × (j ≢ i)) js) (older : List StoredDay) (p k date o n n' : ℕ) (few : n ≤ 2880) (fewer : n' ≤ n) (words words' : List ℕ) (x : List ℕ)
     (slot : IsSlot i js older p k date o n words x) (front : slot_words x i n' ≡ words') where
   count_same : SameOutside (slot_place i + 8) 2 x (with_count i n' x)
   count_same = put_outside (slot_place i + 8) (to_be_bytes w16 n') x (omega (arith, below, slot.sized))
@@ -124,13 +124,13 @@ module _ (x : List ℕ) (sized : length x ≡ 2485808) (s : ℕ) (below : s < 36
 
   pub shut_days : (js : List ℕ) → Each (λ j. j ≢ s) js → map (day_at c) js ≡ map (day_at x) js
   shut_days [] others = refl
-  shut_days (j ∷ js) others = ap (λ (e : List ℕ). unit_day e ∷ map (day_at c) js) (other_entry j others.0) ∙ ap (λ (l : List UnitDay). day_at x j ∷ l) (shut_days js others.1)
+  shut_days (j ∷ js) others = ap (λ (e : List ℕ). unit_day e ∷ map (day_at c) js) (other_entry j others.0) ∙ ap (λ (l : List StoredDay). day_at x j ∷ l) (shut_days js others.1)
 
   -- the days are those before, without the last
   pub shut_unit_days : (js : List ℕ) → indices x ≡ js ++ s ∷ [] → Each (λ j. j ≢ s) js → unit_days x ≡ unit_days c ++ day_at x s ∷ []
   shut_unit_days js is others =
       all_days x ∙ ap (map (day_at x)) is ∙ map-append (day_at x) js (s ∷ [])
-      ∙ ap (λ (l : List UnitDay). l ++ day_at x s ∷ []) (sym (all_days c ∙ ap (map (day_at c)) (shut_indices js is others) ∙ shut_days js others))
+      ∙ ap (λ (l : List StoredDay). l ++ day_at x s ∷ []) (sym (all_days c ∙ ap (map (day_at c)) (shut_indices js is others) ∙ shut_days js others))
 
   -- and where it was later, no minute changes
   pub shut_recorded : (js : List ℕ) → indices x ≡ js ++ s ∷ [] → Each (λ j. j ≢ s) js → last_kept x / 1440 < day_of (day_at x s) → recorded c ≡ recorded x
@@ -160,7 +160,7 @@ module _ (j : Notes) (ok : IsNotes j) (stored : ℕ) (x js : List ℕ) (sized : 
   abbrev o : ℕ
   o = slot_odometer x i
 
-  abbrev older : List UnitDay
+  abbrev older : List StoredDay
   older = map (day_at x) js
 
   abbrev words : List ℕ

@@ -1,44 +1,17 @@
 -- The minutes that the recorded words of the recorded days show.
-use Rattle.std.proofs.Common.{◌≡◌, ℕ, ◌+◌, ◌*◌, ◌/◌, ◌%◌, ◌≤◌, min, Bool, true, false, cond, List, [], ◌∷◌, length, map, filter, Some, option_map, refl, sym, ◌∙◌, ap, arith}
+use Rattle.std.proofs.Common.{◌≡◌, ℕ, ◌+◌, ◌*◌, ◌/◌, ◌%◌, ◌≤◌, min, Bool, true, false, cond, List, [], ◌∷◌, length, filter, Some, option_map, refl, sym, ◌∙◌, ap, arith}
 use Rattle.std.specs.Prelude.{◌==◌, ◌&&◌, nat_le, slice_get}
 use Rattle.std.proofs.lemmas.Bool.Decides.{nat_tests}
-use Rattle.std.proofs.lemmas.List.{length-map}
 use Rattle.std.proofs.lemmas.Option.{slice_get-map}
-use Rattle.unit_model.specs.Days.{word_slot, word_state, word_minute, state_by, state_after, state_at, bare, UnitMinute, minute_by, Day, day_of, minute_at, minutes_shown, day_shown, days_shown}
-use Rattle.unit_model.specs.Image.{last_kept, indices, recorded, slot_date, slot_odometer, slot_count, slot_words}
+use Rattle.unit_model.specs.Days.{word_slot, word_state, word_minute, state_by, state_after, state_at, bare, UnitMinute, minute_by, Day, minute_at, minutes_shown, day_shown}
+use Rattle.unit_model.specs.Image.{last_kept, recorded, slot_date, slot_odometer, slot_count, slot_words}
 use Rattle.unit_journal.specs.Image.{Notes, IsNotes}
 use Rattle.unit_journal.specs.Reading.{AreRight}
 use Rattle.unit_model.specs.Image.{recorded_indices, covered_words, recorded_words}
 use Rattle.unit_model.proofs.Growth.{map_range_same}
-use Rattle.unit_journal.proofs.Keeping.{recorded_is}
-use Rattle.unit_journal.proofs.Shown.{date_in, shown}
-use Rattle.unit_model.proofs.Slots.{day_at, day_is, all_days}
-
-filter_of : {X : Type 0} (p : X → Bool) (f : ℕ → X) (js : List ℕ) → filter p (map f js) ≡ map f (filter (λ j. p (f j)) js)
-filter_of p f [] = refl
-filter_of {X} p f (j ∷ js) = by (filter_of p f js) (p (f j))
-  where
-    by : filter p (map f js) ≡ map f (filter (λ i. p (f i)) js) → (b : Bool) → cond b (f j ∷ filter p (map f js)) (filter p (map f js)) ≡ map f (cond b (j ∷ filter (λ i. p (f i)) js) (filter (λ i. p (f i)) js))
-    by rest true = ap (λ (l : List X). f j ∷ l) rest
-    by rest false = rest
-
-pub map_of : {X Y : Type 0} (h : X → Y) (f : ℕ → X) (js : List ℕ) → map h (map f js) ≡ map (λ j. h (f j)) js
-map_of h f [] = refl
-map_of {X} {Y} h f (j ∷ js) = ap (λ (l : List Y). h (f j) ∷ l) (map_of h f js)
-
--- the recorded days are those of their slots
-pub recorded_are : (x : List ℕ) → recorded x ≡ map (λ i. day_shown (last_kept x) (day_at x i)) (recorded_indices x)
-unfolding recorded_indices
-recorded_are x =
-    let k = last_kept x in
-    let day_same : (i : ℕ) → day_of (day_at x i) ≡ slot_date x i / 86400 = λ i. ap (λ (d : ℕ). d / 86400) (date_in x i) in
-    recorded_is x k refl ∙ ap (days_shown k) (all_days x) ∙ ap (map (day_shown k)) (filter_of (λ d. nat_le (day_of d) (k / 1440)) (day_at x) (indices x))
-    ∙ map_of (day_shown k) (day_at x) (filter (λ i. nat_le (day_of (day_at x i)) (k / 1440)) (indices x))
-    ∙ (λ t. map (λ i. day_shown k (day_at x i)) (filter (λ i. nat_le (day_same i t) (k / 1440)) (indices x)))
-
--- and as many
-pub recorded_length : (x : List ℕ) → length (recorded x) ≡ length (recorded_indices x)
-recorded_length x = ap length (recorded_are x) ∙ length-map (recorded_indices x) (λ i. day_shown (last_kept x) (day_at x i))
+use Rattle.unit_journal.proofs.Shown.{shown}
+use Rattle.unit_model.proofs.Slots.{day_at, day_is}
+use Rattle.unit_model.proofs.Recorded.{recorded_are, recorded_length}
 
 -- without the words of later minutes a state is the same
 state_without : (slot t last s : ℕ) (ws : List ℕ) → t ≤ last → state_after slot t s (filter (λ w. nat_le (word_minute w) last) ws) ≡ state_after slot t s ws

@@ -13,13 +13,14 @@ use Rattle.gated_ring.specs.Ring.{number_at, entry_at}
 use Rattle.gated_ring.proofs.Orders.{filter_last, filter_none}
 use Rattle.unit_model.specs.Days.{day_of, word_minute, Each}
 use Rattle.unit_model.specs.Image.{last_kept, day_ring, slot_place, unit_day, slot_date, slot_count, slot_words, words_at}
-use Rattle.unit_journal.specs.Image.{Notes, IsNotes, Agrees, IsFound, IsFoundDay, IsStray, stray_list}
+use Rattle.unit_journal.specs.Image.{Notes, IsNotes, Agrees, IsFound, IsFoundDay, IsStray}
+use Rattle.unit_model.specs.Image.{stray_list}
 use Rattle.unit_model.specs.Writing.{behind_index, free_place}
 use Rattle.unit_journal.specs.Reading.{AreRight, nth_index}
 use Rattle.unit_model.specs.Image.{recorded_indices, covered_words, recorded_words}
 use Rattle.unit_model.proofs.Words.{words_split}
-use Rattle.unit_model.proofs.Numbers.{number_in}
 use Rattle.unit_model.proofs.Turning.{behind_length}
+use Rattle.unit_model.proofs.Recorded.{date_in, each_get}
 
 le_true : (a b : ℕ) → a ≤ b → nat_le a b ≡ true
 le_true a b is = grind (arith, nat_tests)
@@ -53,12 +54,6 @@ get_range a n k less = slice_get-get_or (range_with_len a n) k 0 (omega (arith, 
 
 get_last : (xs : List ℕ) (i k : ℕ) → k ≡ length xs → slice_get (xs ++ i ∷ []) k ≡ Some i
 get_last xs i k is = ap (slice_get (xs ++ i ∷ [])) (let e : k ≡ length xs + 0 = omega (arith, is) in e) ∙ get_behind xs (i ∷ []) 0
-
--- a fact of each member, at one
-pub each_get : (P : ℕ → Type 0) (xs : List ℕ) (k i : ℕ) → Each P xs → slice_get xs k ≡ Some i → P i
-each_get P [] k i all is = absurd (cc)
-each_get P (x ∷ xs) zero i all is = subst P (let e : x ≡ i = cc in e) all.0
-each_get P (x ∷ xs) (suc k) i all is = each_get P xs k i all.1 is
 
 filter_all : (p : ℕ → Bool) (xs : List ℕ) → Each (λ i. p i ≡ true) xs → filter p xs ≡ xs
 filter_all p [] all = refl
@@ -101,9 +96,6 @@ pub record AreShown (j : Notes) (x : List ℕ) : Type 0 where
   pub earlier : (n : ℕ) → n + 1 < j.day_count → slot_date x (nth_index j n) / 86400 < j.kept / 1440
   pub date : 0 < j.day_count → slot_date x j.index ≡ 86400 * (j.kept / 1440)
   pub words : 0 < j.day_count → recorded_words x j.index ≡ slot_words x j.index j.count
-
-pub date_in : (x : List ℕ) (i : ℕ) → number_at (entry_at day_ring x i) 0 4 ≡ slot_date x i
-date_in x i = number_in x (slot_place i) 5776 0 4 (omega arith) ∙ ap (λ (q : ℕ). number_at x q 4) (let e : slot_place i + 0 ≡ slot_place i = omega arith in e)
 
 dates_before : (x : List ℕ) (k : ℕ) (js : List ℕ) → Each (λ d. day_of d < k) (map (λ i. unit_day (entry_at day_ring x i)) js) → Each (λ i. slot_date x i / 86400 < k) js
 dates_before x k [] all = tt

@@ -1,12 +1,12 @@
 -- The days as they are written, with one minute more.
 use Rattle.std.specs.Prelude.{◌≡◌, ◌⊎◌, ℕ, ◌+◌, ◌*◌, ◌/◌, ◌%◌, ◌<◌, List, [], ◌∷◌, ◌++◌, ◌==◌, if◌then◌else◌, replicate}
 use Rattle.gated_ring.specs.Ring.{pointer, newest_of}
-use Rattle.unit_model.specs.Days.{UnitDay, day_of, state_at}
+use Rattle.unit_model.specs.Days.{StoredDay, day_of, state_at}
 use Rattle.unit_model.specs.Image.{day_ring, last_kept, unit_days, spare_bytes}
 use Rattle.unit_model.specs.Changes.{new_words, closing_words, first_states, further_words}
 
 -- the last-kept minute's day with a minute more: the slots' states go on from those after its words
-abbrev pub day_with : (kept minute driver codriver : ℕ) → UnitDay → UnitDay
+abbrev pub day_with : (kept minute driver codriver : ℕ) → StoredDay → StoredDay
 day_with kept minute driver codriver d = record {
   date = d.date;
   odometer = d.odometer;
@@ -14,15 +14,15 @@ day_with kept minute driver codriver d = record {
 }
 
 -- and closed behind that minute, where a later day goes on
-abbrev pub closed_day : (kept : ℕ) → UnitDay → UnitDay
+abbrev pub closed_day : (kept : ℕ) → StoredDay → StoredDay
 closed_day kept d = record { date = d.date; odometer = d.odometer; words = d.words ++ closing_words (kept % 1440 + 1) (state_at 0 (kept % 1440) d.words) (state_at 1 (kept % 1440) d.words) }
 
 -- the day that a minute begins, with the odometer at it
-abbrev pub begun_day : (minute driver codriver odometer : ℕ) → UnitDay
+abbrev pub begun_day : (minute driver codriver odometer : ℕ) → StoredDay
 begun_day minute driver codriver odometer = record { date = 86400 * (minute / 1440); odometer = odometer; words = first_states (minute % 1440) driver codriver ++ further_words (minute % 1440) driver codriver }
 
 -- the days with a minute more; the others stay
-abbrev pub days_with : (kept minute driver codriver odometer : ℕ) → List UnitDay → List UnitDay
+abbrev pub days_with : (kept minute driver codriver odometer : ℕ) → List StoredDay → List StoredDay
 days_with kept minute driver codriver odometer [] = begun_day minute driver codriver odometer ∷ []
 days_with kept minute driver codriver odometer (d ∷ []) =
     if day_of d == minute / 1440 then day_with kept minute driver codriver d ∷ [] else closed_day kept d ∷ begun_day minute driver codriver odometer ∷ []

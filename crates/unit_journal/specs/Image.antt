@@ -1,6 +1,6 @@
 -- What a journal keeps of the image of its unit, and what its calls leave there.
 use Rattle.std.specs.Option.{ForSome}
-use Rattle.std.specs.Prelude.{IsTrue, nat_le, Option, Some, None, MatchOption, replicate, if◌then◌else◌, ◌==◌, ◌≡◌, ◌≢◌, ◌⊎◌, ℕ, suc, ◌+◌, ◌-◌, ◌*◌, ◌/◌, ◌%◌, ◌<◌, ◌≤◌, List, [], ◌∷◌, ◌++◌, length, take, drop, map}
+use Rattle.std.specs.Prelude.{IsTrue, Option, None, MatchOption, replicate, ◌≡◌, ◌≢◌, ◌⊎◌, ℕ, suc, ◌+◌, ◌-◌, ◌*◌, ◌/◌, ◌%◌, ◌<◌, ◌≤◌, List, [], ◌∷◌, ◌++◌, length, take, drop, map}
 use Rattle.std.specs.Int.{to_be_bytes, w16, w32}
 use Rattle.tach_media.specs.Medium.{bytes_at}
 use Rattle.gated_ring.specs.Ring.{Shape, pointer, entry_at, next, taken, newest_of}
@@ -11,6 +11,7 @@ use Rattle.unit_model.specs.Decoding.{Decodes}
 use Rattle.unit_model.specs.Image.{day_ring, last_kept, odometer_at, words_at, unit_day, unit_heads, indices, recorded, slot_date, slot_count, slot_words}
 use Rattle.unit_model.specs.Writing.{behind_index, free_place, with_kept, with_words}
 use Rattle.unit_model.specs.Changes.{new_words, changes, first_state}
+use Rattle.unit_model.specs.Image.{stray_list}
 
 -- What a journal keeps of the image: the last-kept minute, the odometer, and of the last-kept minute's day its slot's index,
 -- how many words it has, and the bits of the states after them. As it was found: the index of a later day, and the stored count.
@@ -150,15 +151,6 @@ pub record IsJournal (days : Shape) (j : Notes) : Type 0 where
 abbrev pub notes_begun : (index days minute driver codriver odometer : ℕ) → Notes
 notes_begun index days minute driver codriver odometer =
     record { kept = minute; odometer = odometer; index = index; count = 2 + length (further minute driver codriver); driver = driver; codriver = codriver; stray = None; stored = 2 + length (further minute driver codriver); day_count = days }
-
--- a day later than that of the last-kept minute, where one is there
-abbrev pub stray_list : Option ℕ → List ℕ
-stray_list None = []
-stray_list (Some s) = s ∷ []
-
--- the day at an index where it is there and later than the last-kept minute's
-abbrev pub stray_of : (kept p date : ℕ) → Option ℕ
-stray_of kept p date = if date == 0 then None else (if nat_le (date / 86400) (kept / 1440) then None else Some p)
 
 -- that day stands at the pointer, where the next day would
 pub record IsStray (j : Notes) (x : List ℕ) (s : ℕ) : Type 0 where

@@ -1,28 +1,12 @@
 -- What a mending at power-on leaves of an image: later cells emptied, a later day's gate shut, later words cut off (profile).
-use Rattle.std.specs.Prelude.{◌≡◌, ◌⊎◌, ℕ, zero, suc, ◌+◌, ◌*◌, ◌/◌, ◌%◌, ◌<◌, ◌≤◌, ◌==◌, if◌then◌else◌, nat_lt, nat_le, List, take, drop, map, filter, length, replicate, Option, Some, None}
+use Rattle.std.specs.Prelude.{◌≡◌, ◌⊎◌, ℕ, ◌<◌, ◌≤◌, ◌==◌, if◌then◌else◌, List, take, drop, length, replicate, Option, Some, None}
 use Rattle.tach_media.specs.Medium.{put, bytes_at}
-use Rattle.unit_model.specs.declared.layout.TheConstants.{OWED, OWED_ROW_SIZE, ROW_CELLS}
-use Rattle.unit_model.specs.Days.{UnitDay, day_of, word_minute}
-use Rattle.unit_model.specs.Decoding.{Decodes, cell_place, cell_minute, cell_word}
+use Rattle.unit_model.specs.Decoding.{Decodes, cell_minute, cell_word}
 use Rattle.unit_model.specs.Image.{slot_place, last_kept, unit_days, recorded}
 use Rattle.unit_journal.specs.Image.{Notes, IsFound, IsFoundBy}
 use Rattle.unit_model.specs.Writing.{with_count}
-
--- what an owed row has before its cells: the session time and the card number
-abbrev pub row_head : List ℕ → ℕ → List ℕ
-row_head x r = bytes_at x (OWED.place + r * OWED_ROW_SIZE) ROW_CELLS.place
-
--- the minute of a cell; a cell later than the last-kept minute is emptied
-abbrev pub minute_kept : (kept minute : ℕ) → ℕ
-minute_kept kept minute = if nat_lt kept minute then 0 else minute
-
--- the words of the last-kept minute's day that are not later
-abbrev pub day_kept : ℕ → UnitDay → UnitDay
-day_kept kept d = if day_of d == kept / 1440 then record { date = d.date; odometer = d.odometer; words = filter (λ w. nat_le (word_minute w) (kept % 1440)) d.words } else d
-
--- the days not later than that of the last-kept minute, without later words
-abbrev pub days_kept : ℕ → List UnitDay → List UnitDay
-days_kept kept days = map (day_kept kept) (filter (λ d. nat_le (day_of d) (kept / 1440)) days)
+use Rattle.unit_model.specs.Days.{days_kept}
+use Rattle.unit_model.specs.Cells.{row_head, minute_kept, cells_emptied, IsEmptyingAll}
 
 -- nothing but the owed rows and the day slots may have changed
 pub record SameButRowsAndSlots (x c : List ℕ) : Type 0 where
@@ -73,15 +57,6 @@ pub record HasNothingLater (j : Notes) (x : List ℕ) : Type 0 where
   pub count : j.stored ≡ j.count
   pub cells : (n : ℕ) → n < 32 → cell_minute x n ≤ j.kept
 
--- the image with a later cell emptied
-abbrev pub cell_emptied : (kept n : ℕ) → List ℕ → List ℕ
-cell_emptied kept n x = if nat_lt kept (cell_minute x n) then put (cell_place n) (replicate 4 0) x else x
-
--- the first n cells, one after the other
-unfoldable pub cells_emptied : (kept n : ℕ) → List ℕ → List ℕ
-cells_emptied kept zero x = x
-cells_emptied kept (suc n) x = cell_emptied kept n (cells_emptied kept n x)
-
 -- then the later day's gate is shut
 abbrev pub shut : Option ℕ → List ℕ → List ℕ
 shut None x = x
@@ -99,12 +74,6 @@ abbrev pub mended : Notes → List ℕ → List ℕ
 mended j x = trimmed j (cells_emptied j.kept 32 x)
 
 -- the moments of the writes, each of which is whole or absent
-abbrev pub IsEmptying : (kept n : ℕ) → List ℕ → List ℕ → Type 0
-IsEmptying kept n x c = (c ≡ x) ⊎ (c ≡ cell_emptied kept n x)
-
-abbrev pub IsEmptyingAll : (kept : ℕ) → List ℕ → List ℕ → Type 0
-IsEmptyingAll kept x c = (n : ℕ) × (n ≤ 32) × (c ≡ cells_emptied kept n x)
-
 abbrev pub IsShutting : Option ℕ → List ℕ → List ℕ → Type 0
 IsShutting stray x c = (c ≡ x) ⊎ (c ≡ shut stray x)
 

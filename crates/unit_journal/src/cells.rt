@@ -1,21 +1,12 @@
 ghost use Rattle.std.specs.Prelude.{◌≡◌, ℕ, ◌≤◌, ◌<◌, OnOk, IfSome, is_err, option_map};
 ghost use Rattle.tach_media.specs.Medium.{LeavesOnly, HasCause, StaysSettled};
-ghost use Rattle.unit_model.specs.Decoding.{cell_place, cell_minute};
+ghost use Rattle.unit_model.specs.Decoding.{cell_minute};
 ghost use Rattle.unit_model.specs.Image.{IsUnit};
-ghost use Rattle.unit_journal.specs.Mends.{cell_emptied, cells_emptied, IsEmptying, IsEmptyingAll};
+ghost use Rattle.unit_model.specs.Cells.{cell_emptied, cells_emptied, IsEmptying, IsEmptyingAll};
 
 use tach_media::{Failed, Medium};
 use unit_memory::number;
-use unit_model::layout::{CELL_SIZE, CELLS, OWED, OWED_ROW_SIZE, OWED_ROWS, ROW_CELLS};
-
-// Where the cell of a number begins, counted over all rows.
-fn cell_place(nth: u32) -> u32
-    requires { nth < 32 }
-    ensures place { result ≡ cell_place nth }
-    ensures below { result ≤ 1002 }
-{
-    OWED.place + nth / CELLS * OWED_ROW_SIZE + ROW_CELLS.place + nth % CELLS * CELL_SIZE
-}
+use unit_model::layout::{CELLS, OWED_ROWS, cell_place};
 
 // Empties the cell of a number where it is later than the last-kept minute.
 fn empty_cell<M: Medium>(unit: &mut M, kept: u32, nth: u32) -> Result<(), Failed>

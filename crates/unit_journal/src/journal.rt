@@ -19,7 +19,7 @@ use crate::cells::empty_cells;
 use crate::kept::KeptMinute;
 use crate::mend::{cut_count, shut_day};
 use crate::plan::{Writing, add_changes, add_count, add_further, add_new};
-use crate::today::{day_ring, index_of, later_day, read_today, recorded_days, slots_there};
+use crate::today::{day_ring, index_of, later_day, read_today, recorded_days};
 use crate::words::{BARE, new_head};
 use gated_ring::Ring;
 pub use reading::UnitDay;
@@ -90,20 +90,20 @@ impl Journal {
         requires works { (M.state unit.old).works ≡ true }
         requires unit { (M.state unit.old).size ≡ 2485808 }
         requires good { judged.bad ≡ None }
+        requires few { judged.walk.there ≤ 366 }
         requires judged { IfSome (M.state unit.old).image (IsJudged judged) }
         ensures found { IfOk result (λ journal. IfSome (M.state unit.old).image (IsFoundBy journal)) }
         ensures bad { IfErr result (λ fault. IfBadUnit fault (λ p. IfSome (M.state unit.old).image (λ x. ⊥))) }
         ensures reads { Reads (M.state unit.old) (M.state unit.new) (has_failed result) }
     {
         let days = day_ring(unit)?;
-        let there = slots_there(unit)?;
         let kept = judged.kept.min(LAST_MINUTE);
         let pointer = judged.pointer.min(DAY_SLOTS - 1);
         let index = index_of(judged.walk.today);
         let odometer = number(unit, ODOMETER.place, ODOMETER.size)?.min(HIGHEST_ODOMETER);
-        let stray = later_day(unit, kept, pointer)?;
+        let stray = later_day(kept, pointer, judged.walk.last_date);
         let today = read_today(unit, kept, index)?;
-        let day_count = recorded_days(kept, there, stray);
+        let day_count = recorded_days(kept, judged.walk.there, stray);
         Ok(Journal {
             days,
             kept,

@@ -1,11 +1,12 @@
-ghost use Rattle.std.specs.Prelude.{◌≡◌, ◌≤◌, ◌<◌, ◌+◌, ◌*◌, ◌%◌, IfOk, IfErr, OnOk, IfSome, is_err, true, None, [], min, unwrap_or, length, ◌==◌, if◌then◌else◌};
+ghost use Rattle.std.specs.Prelude.{◌≡◌, ◌≤◌, ◌<◌, ◌+◌, ◌*◌, ◌%◌, IfOk, IfErr, IfSome, is_err, true, None, [], min, unwrap_or};
 ghost use Rattle.std.specs.Option.{ForSome};
 ghost use Rattle.tach_media.specs.Medium.{Reads};
 ghost use Rattle.unit_model.specs.Decoding.{first_failing, word_checks};
-ghost use Rattle.unit_model.specs.Image.{day_ring, indices, slot_place, slot_date, slot_count, slot_words};
+ghost use Rattle.unit_model.specs.Image.{day_ring, slot_place, slot_count, slot_words};
 ghost use Rattle.gated_ring.specs.Ring.{pointer};
 ghost use Rattle.unit_memory.specs.Fault.{IfBadUnit, has_failed};
-ghost use Rattle.unit_journal.specs.Image.{stray_of, IsToday};
+ghost use Rattle.unit_journal.specs.Image.{IsToday};
+ghost use Rattle.unit_model.specs.Image.{stray_of};
 ghost use Rattle.unit_journal.specs.Today.{today_of, recorded_days};
 
 use crate::words::BARE;
@@ -47,30 +48,6 @@ pub fn day_ring<M: Medium>(unit: &mut M) -> Result<Ring, UnitFault>
     }
 }
 
-/// How many day slots are there.
-pub fn slots_there<M: Medium>(unit: &mut M) -> Result<u32, Failed>
-    requires works { (M.state unit.old).works ≡ true }
-    requires unit { (M.state unit.old).size ≡ 2485808 }
-    ensures count { IfOk result (λ n. IfSome (M.state unit.old).image (λ x. pointer day_ring x < 366 → n ≡ length (indices x))) }
-    ensures few { IfOk result (λ n. n ≤ 366) }
-    ensures reads { Reads (M.state unit.old) (M.state unit.new) (is_err result) }
-{
-    let mut count = 0;
-    for index in 0..DAY_SLOTS {
-        let date = number(unit, DAYS.place + 4 + index * DAY_SLOT_SIZE, 4)?;
-        count = with_slot(count, date);
-    }
-    Ok(count)
-}
-
-// With the slot of one date more.
-fn with_slot(count: u32, date: u32) -> u32
-    requires { count < 366 }
-    ensures { result ≡ (if date == 0 then count else count + 1) }
-{
-    if date == 0 { count } else { count + 1 }
-}
-
 /// How many of the days that are there are recorded: a later one is not, and before the first minute none is.
 pub fn recorded_days(kept: u32, there: u32, stray: Option<u32>) -> u32
     requires { there ≤ 366 }
@@ -98,19 +75,9 @@ pub fn index_of(today: Option<u32>) -> u32
     }
 }
 
-/// The index of the pointer, where the day that stands there is later than the last-kept minute's.
-pub fn later_day<M: Medium>(unit: &mut M, kept: u32, pointer: u32) -> Result<Option<u32>, Failed>
-    requires unit { (M.state unit.old).size ≡ 2485808 }
-    requires index { pointer < 366 }
-    ensures stray { IfOk result (λ stray. IfSome (M.state unit.old).image (λ x. stray ≡ stray_of kept pointer (slot_date x pointer))) }
-    ensures below { IfOk result (λ stray. ForSome stray (λ s. s < 366)) }
-    ensures reads { Reads (M.state unit.old) (M.state unit.new) (is_err result) }
-{
-    let date = number(unit, DAYS.place + 4 + pointer * DAY_SLOT_SIZE, 4)?;
-    Ok(stray_of(kept, pointer, date))
-}
-
-fn stray_of(kept: u32, pointer: u32, date: u32) -> Option<u32>
+/// The index of the pointer, where the last day that is there, of this date, is later than the last-kept minute's: then it
+/// stands at the pointer.
+pub fn later_day(kept: u32, pointer: u32, date: u32) -> Option<u32>
     requires index { pointer < 366 }
     ensures stray { result ≡ stray_of kept pointer date }
     ensures below { ForSome result (λ s. s < 366) }

@@ -9,11 +9,12 @@ use Rattle.gated_ring.proofs.Orders.{range_split}
 use Rattle.unit_model.specs.Image.{last_kept, day_ring, indices}
 use Rattle.unit_model.specs.Decoding.{Check, check, first_failing, front_checks, cell_checks, ring_checks, slot_checks, checks, first_bad_place, has_day, is_pointer_good, is_last_good, are_dense, indices_before}
 use Rattle.unit_memory.specs.Walks.{walk_start, walk_from}
-use Rattle.unit_memory.specs.Judging.{or_failing, or_else, slots_by, front_by, is_whole, pointer_passes, turn_at, walk_round}
+use Rattle.unit_memory.specs.Judging.{slots_by, front_by, is_whole, pointer_passes, turn_at, walk_round}
+use Rattle.unit_model.specs.Decoding.{or_failing, or_else}
 use Rattle.unit_memory.specs.declared.walk.Walk.{Walk}
-use Rattle.unit_memory.proofs.Failing.{failing_append}
+use Rattle.unit_model.proofs.Failing.{failing_append}
 use Rattle.unit_memory.proofs.Walking.{walk_append}
-use Rattle.unit_memory.proofs.WalkLaws.{last_from, walk_latest, walk_density, walk_last, walk_today, is_day, slots_same}
+use Rattle.unit_memory.proofs.WalkLaws.{last_from, walk_latest, walk_density, walk_last, walk_there, walk_today, is_day, slots_same}
 
 any_append : (p : ℕ → Bool) (a b : List ℕ) → list_any p (a ++ b) ≡ (list_any p a || list_any p b)
 any_append p [] b = refl
@@ -110,6 +111,13 @@ module _ (x : List ℕ) where
       by true is = ap (λ (b : Bool). nat_lt p 366 && b) (inner (grind (arith, nat_tests, is)))
       by false is = ap (λ (b : Bool). b && (is_whole (walk_round (kept / 1440) q x).density && (nat_le ((walk_round (kept / 1440) q x).last_date / 86400) (kept / 1440) || (walk_round (kept / 1440) q x).last_index == p))) is
           ∙ sym (ap (λ (b : Bool). b && (are_dense (map (is_there day_ring x) (order day_ring (next day_ring p))) && is_last_good x p (indices x))) is)
+
+  -- how many slots are there
+  pub there_same : p < 366 → (walk_round (kept / 1440) q x).there ≡ length (indices x)
+  unfolding indices ring_indices
+  there_same less =
+      let none : 0 + length (filter (is_there day_ring x) around) ≡ length (filter (is_there day_ring x) around) = omega arith in
+      ap (λ (w : Walk). w.there) round_is ∙ walk_there (kept / 1440) x walk_start around ∙ none ∙ ap (λ (l : List ℕ). length (filter (is_there day_ring x) l)) (sym (order_is less))
 
   abbrev There : List ℕ → List ℕ
   There = filter (is_there day_ring x)

@@ -2,9 +2,8 @@ pub mod Walking
 pub mod Formatting
 pub mod Scanning
 pub mod Told
-pub mod Failing
 pub mod WordLaws
 pub mod WalkLaws
 pub mod JudgeLaws
-pub mod Decoded
 pub mod NewIdentity
+pub mod Heads

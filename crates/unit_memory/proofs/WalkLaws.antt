@@ -1,20 +1,18 @@
 -- What a walk over day slots says of their dates.
-use Rattle.std.proofs.Common.{◌≡◌, ℕ, zero, suc, ◌+◌, ◌-◌, ◌/◌, ◌%◌, ◌<◌, ◌≤◌, max, Bool, true, false, not, cond, List, [], ◌∷◌, ◌++◌, length, map, filter, Option, Some, None, is_some, refl, sym, ◌∙◌, ap, arith, append_assoc}
+use Rattle.std.proofs.Common.{◌≡◌, ◌⊎◌, inr, ℕ, zero, suc, ◌+◌, ◌-◌, ◌/◌, ◌%◌, ◌<◌, ◌≤◌, max, Bool, true, false, not, cond, List, [], ◌∷◌, ◌++◌, length, map, filter, Option, Some, None, is_some, refl, sym, ◌∙◌, ap, arith, append_assoc}
 use Rattle.std.specs.Prelude.{◌==◌, ◌&&◌, ◌||◌, nat_le, nat_lt, flat_map}
 use Rattle.std.specs.List.{list_all, list_any, range_with_len}
 use Rattle.std.proofs.lemmas.Bool.Decides.{nat_tests}
 use Rattle.std.proofs.lemmas.List.{append-nil}
-use Rattle.gated_ring.specs.Ring.{number_at, is_there}
+use Rattle.gated_ring.specs.Ring.{is_there}
 use Rattle.unit_model.specs.Image.{last_kept, day_ring, slot_place, slot_date}
 use Rattle.unit_model.specs.Decoding.{are_dense, is_filled_on, is_last_good, is_date_good, slot_day, slot_checks, day_checks, indices_before, Check}
-use Rattle.unit_memory.specs.Walks.{after_day, after_gap, next_walk, walk_from}
-use Rattle.unit_memory.specs.Judging.{is_whole, date_passes, day_checks_by, slot_checks_by, slots_by}
+use Rattle.unit_memory.specs.Walks.{after_day, after_gap, with_gap, with_day, next_walk, walk_from}
+use Rattle.unit_memory.specs.Judging.{is_whole, date_passes, head_at, day_checks_by, slot_checks_by, slots_by}
 use Rattle.unit_memory.specs.declared.walk.Density.{Density}
 use Rattle.unit_memory.specs.declared.walk.Density.TheVariants.{Empty, Filled, Ended, Broken}
 use Rattle.unit_memory.specs.declared.walk.Walk.{Walk}
-
-pub there_is : (x : List ℕ) (i : ℕ) → is_there day_ring x i ≡ not (slot_date x i == 0)
-there_is x i = ap (λ (q : ℕ). not (number_at x q 4 == 0)) (let e : slot_place i + 0 ≡ slot_place i = omega arith in e)
+use Rattle.unit_model.proofs.Recorded.{there_is}
 
 -- the latest date over more slots; an empty one has date 0
 abbrev pub latest_over : List ℕ → ℕ → List ℕ → ℕ
@@ -33,16 +31,11 @@ module _ (day : ℕ) (x : List ℕ) (s : Walk) (i : ℕ) where
   abbrev d : ℕ
   d = slot_date x i
 
-  gap : Walk
-  gap = record { latest = s.latest; last_index = s.last_index; last_date = s.last_date; today = s.today; density = after_gap s.density }
+  step_gap : (d == 0) ≡ true → next_walk day s i d ≡ with_gap s
+  step_gap is = ap (λ (b : Bool). cond b (with_gap s) (with_day day s i d)) is
 
-  step_gap : (d == 0) ≡ true → next_walk day s i d ≡ record { latest = s.latest; last_index = s.last_index; last_date = s.last_date; today = s.today; density = after_gap s.density }
-  step_gap is = ap (λ (b : Bool). cond b (record { latest = s.latest; last_index = s.last_index; last_date = s.last_date; today = s.today; density = after_gap s.density })
-      (record { latest = max s.latest d; last_index = i; last_date = d; today = cond (d / 86400 == day) (Some i) s.today; density = after_day s.density })) is
-
-  step_day : (d == 0) ≡ false → next_walk day s i d ≡ record { latest = max s.latest d; last_index = i; last_date = d; today = cond (d / 86400 == day) (Some i) s.today; density = after_day s.density }
-  step_day is = ap (λ (b : Bool). cond b (record { latest = s.latest; last_index = s.last_index; last_date = s.last_date; today = s.today; density = after_gap s.density })
-      (record { latest = max s.latest d; last_index = i; last_date = d; today = cond (d / 86400 == day) (Some i) s.today; density = after_day s.density })) is
+  pub step_day : (d == 0) ≡ false → next_walk day s i d ≡ with_day day s i d
+  step_day is = ap (λ (b : Bool). cond b (with_gap s) (with_day day s i d)) is
 
   there_gap : (d == 0) ≡ true → is_there day_ring x i ≡ false
   there_gap is = there_is x i ∙ ap not is
@@ -134,11 +127,11 @@ pub walk_last : (day : ℕ) (x : List ℕ) (p : ℕ) (s : Walk) (is : List ℕ) 
 walk_last day x p s [] = refl
 walk_last day x p s (i ∷ is) = walk_last day x p (next_walk day s i (slot_date x i)) is ∙ by (slot_date x i == 0) refl
   where
-    same : (js : List ℕ) → last_from x p (record { latest = s.latest; last_index = s.last_index; last_date = s.last_date; today = s.today; density = after_gap s.density }) js ≡ last_from x p s js
+    same : (js : List ℕ) → last_from x p (with_gap s) js ≡ last_from x p s js
     same [] = refl
     same (j ∷ js) = refl
 
-    new : (js : List ℕ) → last_from x p (record { latest = max s.latest (slot_date x i); last_index = i; last_date = slot_date x i; today = cond (slot_date x i / 86400 == day) (Some i) s.today; density = after_day s.density }) js ≡ is_last_good x p (i ∷ js)
+    new : (js : List ℕ) → last_from x p (with_day day s i (slot_date x i)) js ≡ is_last_good x p (i ∷ js)
     new [] = refl
     new (j ∷ js) = refl
 
@@ -149,6 +142,32 @@ walk_last day x p s (i ∷ is) = walk_last day x p (next_walk day s i (slot_date
     by false some =
         ap (λ (w : Walk). last_from x p w (filter (is_there day_ring x) is)) (step_day day x s i some) ∙ new (filter (is_there day_ring x) is)
         ∙ ap (λ (t : Bool). last_from x p s (cond t (i ∷ filter (is_there day_ring x) is) (filter (is_there day_ring x) is))) (sym (there_day day x s i some))
+
+-- the last slot that is there has the date of its index
+abbrev pub IsAt : List ℕ → Walk → Type 0
+IsAt x s = (s.last_date ≡ 0) ⊎ (s.last_date ≡ slot_date x s.last_index)
+
+pub walk_at : (day : ℕ) (x : List ℕ) (s : Walk) (is : List ℕ) → IsAt x s → IsAt x (walk_from day x s is)
+walk_at day x s [] at = at
+walk_at day x s (i ∷ is) at = walk_at day x (next_walk day s i (slot_date x i)) is (by (slot_date x i == 0))
+  where
+    by : (b : Bool) → IsAt x (cond b (with_gap s) (with_day day s i (slot_date x i)))
+    by true = at
+    by false = inr refl
+
+-- how many are there
+pub walk_there : (day : ℕ) (x : List ℕ) (s : Walk) (is : List ℕ) → (walk_from day x s is).there ≡ s.there + length (filter (is_there day_ring x) is)
+walk_there day x s [] = let e : s.there ≡ s.there + 0 = omega arith in e
+walk_there day x s (i ∷ is) = walk_there day x (next_walk day s i (slot_date x i)) is ∙ by (slot_date x i == 0) refl
+  where
+    by : (b : Bool) → (slot_date x i == 0) ≡ b → (next_walk day s i (slot_date x i)).there + length (filter (is_there day_ring x) is) ≡ s.there + length (filter (is_there day_ring x) (i ∷ is))
+    by true none =
+        ap (λ (w : Walk). w.there + length (filter (is_there day_ring x) is)) (step_gap day x s i none)
+        ∙ ap (λ (t : Bool). s.there + length (cond t (i ∷ filter (is_there day_ring x) is) (filter (is_there day_ring x) is))) (sym (there_gap day x s i none))
+    by false some =
+        let n = length (filter (is_there day_ring x) is) in
+        ap (λ (w : Walk). w.there + n) (step_day day x s i some) ∙ (let e : s.there + 1 + n ≡ s.there + suc n = omega arith in e)
+        ∙ ap (λ (t : Bool). s.there + length (cond t (i ∷ filter (is_there day_ring x) is) (filter (is_there day_ring x) is))) (sym (there_day day x s i some))
 
 -- a slot of the day
 abbrev pub is_day : (day : ℕ) → List ℕ → ℕ → Bool
@@ -223,16 +242,16 @@ module _ (x : List ℕ) where
       drop_one [] = []
       drop_one (c ∷ cs) = cs
 
-      day_same : (slot_date x i == 0) ≡ false → day_checks_by kept (latest_over x 0 pre) (slot_date x i) x i ≡ day_checks x i
+      day_same : (slot_date x i == 0) ≡ false → day_checks_by kept (latest_over x 0 pre) (head_at x i) x i ≡ day_checks x i
       day_same some =
           let passes = date_same (slot_date x i) pre some ∙ ap (λ (l : List ℕ). is_date_good kept (map (slot_date x) l) (slot_date x i)) (sym before) in
           λ t. record { place = slot_place i; passes = passes t } ∷ drop_one (day_checks x i)
 
-      by : (b : Bool) → (slot_date x i == 0) ≡ b → cond (slot_date x i == 0) [] (day_checks_by kept (latest_over x 0 pre) (slot_date x i) x i) ≡ cond (is_there day_ring x i) (day_checks x i) []
+      by : (b : Bool) → (slot_date x i == 0) ≡ b → cond (slot_date x i == 0) [] (day_checks_by kept (latest_over x 0 pre) (head_at x i) x i) ≡ cond (is_there day_ring x i) (day_checks x i) []
       by true none =
-          ap (λ (b : Bool). cond b [] (day_checks_by kept (latest_over x 0 pre) (slot_date x i) x i)) none ∙ sym (ap (λ (b : Bool). cond b (day_checks x i) []) (there_is x i ∙ ap not none))
+          ap (λ (b : Bool). cond b [] (day_checks_by kept (latest_over x 0 pre) (head_at x i) x i)) none ∙ sym (ap (λ (b : Bool). cond b (day_checks x i) []) (there_is x i ∙ ap not none))
       by false some =
-          ap (λ (b : Bool). cond b [] (day_checks_by kept (latest_over x 0 pre) (slot_date x i) x i)) some
+          ap (λ (b : Bool). cond b [] (day_checks_by kept (latest_over x 0 pre) (head_at x i) x i)) some
           ∙ day_same some
           ∙ sym (ap (λ (b : Bool). cond b (day_checks x i) []) (there_is x i ∙ ap not some))
 

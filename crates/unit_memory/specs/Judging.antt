@@ -2,7 +2,7 @@
 use Rattle.std.specs.Prelude.{◌≡◌, ℕ, ◌+◌, ◌-◌, ◌/◌, ◌%◌, max, Bool, true, false, ◌&&◌, ◌||◌, ◌==◌, Option, Some, None, Result, Ok, Err, List, [], ◌∷◌, ◌++◌, nat_le, nat_lt, if◌then◌else◌}
 use Rattle.std.specs.List.{range_with_len}
 use Rattle.gated_ring.specs.Ring.{pointer}
-use Rattle.unit_model.specs.declared.layout.TheConstants.{VERSION, LAST_KEPT, ODOMETER, OVER_COUNT, DAY_ODOMETER, DAY_COUNT, DAY_WORDS, DAY_WORD_LIMIT, DAY_SLOTS, INSERTIONS, PLACES, LAST_MINUTE, HIGHEST_ODOMETER}
+use Rattle.unit_model.specs.declared.layout.TheConstants.{VERSION, LAST_KEPT, ODOMETER, OVER_COUNT, DAY_DATE, DAY_ODOMETER, DAY_COUNT, DAY_WORDS, DAY_WORD_LIMIT, DAY_SLOTS, INSERTIONS, PLACES, LAST_MINUTE, HIGHEST_ODOMETER}
 use Rattle.unit_model.specs.Image.{number_of, last_kept, odometer_at, day_ring, slot_place, slot_date, slot_odometer, slot_count, slot_words}
 use Rattle.unit_model.specs.Decoding.{Check, check, word_checks, first_bad_place}
 use Rattle.unit_memory.specs.Walks.{walk_start, walk_from}
@@ -11,15 +11,7 @@ use Rattle.unit_memory.specs.declared.walk.Density.{Density}
 use Rattle.unit_memory.specs.declared.walk.Density.TheVariants.{Empty, Filled, Ended, Broken}
 use Rattle.unit_memory.specs.declared.walk.Walk.{Walk}
 use Rattle.unit_memory.specs.declared.judge.Judged.{Judged}
-
--- the first failing place, with one field more
-abbrev pub or_failing : Option ℕ → ℕ → Bool → Option ℕ
-or_failing (Some p) place passes = Some p
-or_failing None place passes = if passes then None else Some place
-
-abbrev pub or_else : Option ℕ → Option ℕ → Option ℕ
-or_else (Some p) o = Some p
-or_else None o = o
+use Rattle.unit_memory.specs.declared.slots.Head.{Head}
 
 -- the fields in front, by their numbers
 abbrev pub front_of : (version kept : ℕ) → (has_today : Bool) → (odometer overs : ℕ) → List Check
@@ -55,15 +47,24 @@ day_front place passes odometer count =
     ∷ check (place + DAY_COUNT.place) (nat_le 2 count && nat_le count DAY_WORD_LIMIT)
     ∷ []
 
-abbrev pub day_checks_by : (kept latest date : ℕ) → List ℕ → ℕ → List Check
-day_checks_by kept latest date image i =
-    check (slot_place i) (date_passes kept latest date)
-    ∷ check (slot_place i + DAY_ODOMETER.place) (nat_le (slot_odometer image i) HIGHEST_ODOMETER)
-    ∷ check (slot_place i + DAY_COUNT.place) (nat_le 2 (slot_count image i) && nat_le (slot_count image i) DAY_WORD_LIMIT)
-    ∷ word_checks (slot_place i + DAY_WORDS.place) [] (slot_words image i (slot_count image i))
+-- what stands in front of a slot's words, in the slot's bytes and in an image
+abbrev pub head_in : List ℕ → Head
+head_in bytes = record { date = number_of bytes DAY_DATE; odometer = number_of bytes DAY_ODOMETER; count = number_of bytes DAY_COUNT }
+
+abbrev pub head_at : List ℕ → ℕ → Head
+head_at image i = record { date = slot_date image i; odometer = slot_odometer image i; count = slot_count image i }
+
+-- a day by its head, and the words that its count covers
+abbrev pub day_checks_by : (kept latest : ℕ) → Head → List ℕ → ℕ → List Check
+day_checks_by kept latest head image i =
+    day_front (slot_place i) (date_passes kept latest head.date) head.odometer head.count ++ word_checks (slot_place i + DAY_WORDS.place) [] (slot_words image i head.count)
+
+-- a slot, which is empty where its date is 0
+abbrev pub slot_checks_of : (kept latest : ℕ) → Head → List ℕ → ℕ → List Check
+slot_checks_of kept latest head image i = if head.date == 0 then [] else day_checks_by kept latest head image i
 
 abbrev pub slot_checks_by : (kept latest : ℕ) → List ℕ → ℕ → List Check
-slot_checks_by kept latest image i = if slot_date image i == 0 then [] else day_checks_by kept latest (slot_date image i) image i
+slot_checks_by kept latest image i = slot_checks_of kept latest (head_at image i) image i
 
 -- the slots of these indices, one after the other
 abbrev pub slots_by : (kept : ℕ) → List ℕ → (latest : ℕ) → List ℕ → List Check

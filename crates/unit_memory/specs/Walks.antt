@@ -1,5 +1,5 @@
 -- What the dates of day slots say, one after the other.
-use Rattle.std.specs.Prelude.{ℕ, ◌/◌, max, ◌==◌, if◌then◌else◌, Some, None, List, [], ◌∷◌}
+use Rattle.std.specs.Prelude.{ℕ, ◌+◌, ◌/◌, max, ◌==◌, if◌then◌else◌, Some, None, List, [], ◌∷◌}
 use Rattle.unit_model.specs.Image.{slot_date}
 use Rattle.unit_memory.specs.declared.walk.Density.{Density}
 use Rattle.unit_memory.specs.declared.walk.Density.TheVariants.{Empty, Filled, Ended, Broken}
@@ -18,13 +18,18 @@ after_gap Ended = Broken
 after_gap Broken = Broken
 
 abbrev pub walk_start : Walk
-walk_start = record { latest = 0; last_index = 0; last_date = 0; today = None; density = Empty }
+walk_start = record { latest = 0; last_index = 0; last_date = 0; today = None; there = 0; density = Empty }
+
+-- with an empty slot more, and with one that is there
+abbrev pub with_gap : Walk → Walk
+with_gap s = record { latest = s.latest; last_index = s.last_index; last_date = s.last_date; today = s.today; there = s.there; density = after_gap s.density }
+
+abbrev pub with_day : (day : ℕ) → Walk → (index date : ℕ) → Walk
+with_day day s index date = record { latest = max s.latest date; last_index = index; last_date = date; today = if date / 86400 == day then Some index else s.today; there = s.there + 1; density = after_day s.density }
 
 -- with the slot of one index more, which has this date
 abbrev pub next_walk : (day : ℕ) → Walk → (index date : ℕ) → Walk
-next_walk day s index date =
-    if date == 0 then record { latest = s.latest; last_index = s.last_index; last_date = s.last_date; today = s.today; density = after_gap s.density }
-    else record { latest = max s.latest date; last_index = index; last_date = date; today = if date / 86400 == day then Some index else s.today; density = after_day s.density }
+next_walk day s index date = if date == 0 then with_gap s else with_day day s index date
 
 -- with the slots of these indices more
 abbrev pub walk_from : (day : ℕ) → List ℕ → Walk → List ℕ → Walk

@@ -1,19 +1,17 @@
-ghost use Rattle.std.specs.Prelude.{◌≡◌, ◌≤◌, ◌<◌, ◌+◌, ◌*◌, ◌-◌, ◌/◌, ◌^◌, ◌==◌, ◌||◌, max, nat_lt, IfNone, IfOk, IfSome, is_err, is_some, true};
-ghost use Rattle.std.specs.List.{range_with_len};
+ghost use Rattle.std.specs.Prelude.{◌≡◌, ◌≤◌, ◌<◌, ◌+◌, ◌==◌, ◌||◌, nat_lt, IfOk, IfSome, is_err, is_some, true};
 ghost use Rattle.tach_media.specs.Medium.{Reads};
-ghost use Rattle.unit_model.specs.Image.{slot_date};
-ghost use Rattle.unit_model.specs.Decoding.{first_failing, cell_checks, cell_place, ring_checks};
+ghost use Rattle.unit_model.specs.Decoding.{first_failing, cell_checks, ring_checks};
 ghost use Rattle.unit_model.specs.Days.{word_minute};
-ghost use Rattle.unit_memory.specs.Judging.{or_failing, or_else, date_passes, day_checks_by, slot_checks_by, slots_by, front_of, front_by, rings_of, day_front, failed_of, pointer_passes, turn_at, walk_round, IsJudged};
+ghost use Rattle.unit_memory.specs.Judging.{front_of, front_by, rings_of, pointer_passes, turn_at, IsJudged};
+ghost use Rattle.unit_model.specs.Decoding.{or_failing};
 
-use crate::walk::{Density, Walk, walk_on};
-use crate::words::{Scan, scan_day};
+use crate::slots::{judge_slots, or_else};
+use crate::walk::{Density, Walk};
 use gated_ring::number;
 use tach_media::{Failed, Medium};
 use unit_model::layout::{
-    CELL_SIZE, CELL_WORD, CELLS, DAY_COUNT, DAY_ODOMETER, DAY_SLOT_SIZE, DAY_SLOTS, DAY_WORD_LIMIT,
-    DAYS, HIGHEST_ODOMETER, INSERTIONS, LAST_KEPT, LAST_MINUTE, ODOMETER, OVER_COUNT, OWED,
-    OWED_ROW_SIZE, OWED_ROWS, PLACES, ROW_CELLS, VERSION,
+    CELL_WORD, CELLS, DAY_SLOTS, DAYS, HIGHEST_ODOMETER, INSERTIONS, LAST_KEPT, LAST_MINUTE,
+    ODOMETER, OVER_COUNT, OWED_ROWS, PLACES, VERSION, cell_place,
 };
 
 /// What judging an image tells: the place of the first field that fails, the last-kept minute, the pointer of the days, and
@@ -33,16 +31,6 @@ fn or_failing(found: Option<u32>, place: u32, passes: bool) -> Option<u32>
     match found {
         Some(first) => Some(first),
         None => { if passes { None } else { Some(place) } }
-    }
-}
-
-// The first of two.
-fn or_else(found: Option<u32>, other: Option<u32>) -> Option<u32>
-    ensures { result ≡ or_else found other }
-{
-    match found {
-        Some(first) => Some(first),
-        None => other,
     }
 }
 
@@ -93,127 +81,10 @@ fn bad_cell<M: Medium>(unit: &mut M) -> Result<Option<u32>, Failed>
     Ok(found)
 }
 
-// Where the cell of a number begins, counted over all rows.
-fn cell_place(nth: u32) -> u32
-    requires { nth < 32 }
-    ensures place { result ≡ cell_place nth }
-    ensures below { result ≤ 1002 }
-{
-    OWED.place + nth / CELLS * OWED_ROW_SIZE + ROW_CELLS.place + nth % CELLS * CELL_SIZE
-}
-
 fn cell_passes(minute: u32, word: u32) -> bool
     ensures { result ≡ (minute == 0 || nat_lt (word_minute word) 1440) }
 {
     minute == 0 || word % 2048 < 1440
-}
-
-// Whether a date may stand behind days up to the latest one.
-fn date_passes(kept: u32, latest: u32, date: u32) -> bool
-    ensures { result ≡ date_passes kept latest date }
-{
-    date % 86400 == 0
-        && latest < date
-        && (date / 86400 <= kept / 1440 || latest / 86400 <= kept / 1440)
-}
-
-// A day slot that is there.
-fn bad_day<M: Medium>(
-    unit: &mut M,
-    kept: u32,
-    index: u32,
-    date: u32,
-    latest: u32,
-) -> Result<Option<u32>, Failed>
-    requires works { (M.state unit.old).works ≡ true }
-    requires unit { (M.state unit.old).size ≡ 2485808 }
-    requires index { index < 366 }
-    ensures found { IfOk result (λ found. IfSome (M.state unit.old).image (λ x. found ≡ first_failing (day_checks_by kept latest date x index))) }
-    ensures reads { Reads (M.state unit.old) (M.state unit.new) (is_err result) }
-{
-    let place = DAYS.place + 4 + index * DAY_SLOT_SIZE;
-    let odometer = number(unit, place + DAY_ODOMETER.place, DAY_ODOMETER.size)?;
-    let count = number(unit, place + DAY_COUNT.place, DAY_COUNT.size)?;
-    match day_place(place, date_passes(kept, latest, date), odometer, count) {
-        Some(found) => Ok(Some(found)),
-        None => {
-            let scan = scan_day(unit, index, count, 1439)?;
-            Ok(failed_of(scan))
-        }
-    }
-}
-
-fn day_place(place: u32, passes: bool, odometer: u32, count: u32) -> Option<u32>
-    requires { place + 8 < 2 ^ 32 }
-    ensures found { result ≡ first_failing (day_front place passes odometer count) }
-    ensures few { IfNone result (count ≤ 2880) }
-{
-    if !passes {
-        return Some(place);
-    }
-    if odometer > HIGHEST_ODOMETER {
-        return Some(place + DAY_ODOMETER.place);
-    }
-    if count < 2 || count > DAY_WORD_LIMIT {
-        return Some(place + DAY_COUNT.place);
-    }
-    None
-}
-
-fn failed_of(scan: Result<Scan, u32>) -> Option<u32>
-    ensures { result ≡ failed_of scan }
-{
-    match scan {
-        Ok(_) => None,
-        Err(place) => Some(place),
-    }
-}
-
-// A day slot, behind days up to the latest one; and the latest one with it.
-fn bad_slot<M: Medium>(
-    unit: &mut M,
-    kept: u32,
-    index: u32,
-    latest: u32,
-) -> Result<(Option<u32>, u32), Failed>
-    requires works { (M.state unit.old).works ≡ true }
-    requires unit { (M.state unit.old).size ≡ 2485808 }
-    requires index { index < 366 }
-    ensures found { IfOk result (λ found. IfSome (M.state unit.old).image (λ x. found.0 ≡ first_failing (slot_checks_by kept latest x index))) }
-    ensures latest { IfOk result (λ found. IfSome (M.state unit.old).image (λ x. found.1 ≡ max latest (slot_date x index))) }
-    ensures reads { Reads (M.state unit.old) (M.state unit.new) (is_err result) }
-{
-    let date = number(unit, DAYS.place + 4 + index * DAY_SLOT_SIZE, 4)?;
-    if date == 0 {
-        return Ok((None, latest));
-    }
-    let bad = bad_day(unit, kept, index, date, latest)?;
-    Ok((bad, latest.max(date)))
-}
-
-// The day slots from one index to another.
-fn bad_slots<M: Medium>(
-    unit: &mut M,
-    kept: u32,
-    from: u32,
-    to: u32,
-    start: u32,
-) -> Result<Option<u32>, Failed>
-    requires works { (M.state unit.old).works ≡ true }
-    requires unit { (M.state unit.old).size ≡ 2485808 }
-    requires order { from ≤ to }
-    requires below { to ≤ 366 }
-    ensures found { IfOk result (λ found. IfSome (M.state unit.old).image (λ x. found ≡ first_failing (slots_by kept x start (range_with_len from (to - from))))) }
-    ensures reads { Reads (M.state unit.old) (M.state unit.new) (is_err result) }
-{
-    let mut found = None;
-    let mut latest = start;
-    for index in from..to {
-        let (bad, later) = bad_slot(unit, kept, index, latest)?;
-        found = or_else(found, bad);
-        latest = later;
-    }
-    Ok(found)
 }
 
 // The pointers of insertions and places.
@@ -270,22 +141,21 @@ fn turn_at(pointer: u32) -> u32
     }
 }
 
-/// Judges an image, field after field in order of places. It writes nothing.
+/// Judges an image: each field is read once, and the first in order of places that fails is told. It writes nothing.
 pub fn judge_image<M: Medium>(unit: &mut M) -> Result<Judged, Failed>
     requires unit { (M.state unit.old).size ≡ 2485808 }
     ensures judged { IfOk result (λ judged. IfSome (M.state unit.old).image (IsJudged judged)) }
+    ensures few { IfOk result (λ judged. judged.walk.there ≤ 366) }
     ensures reads { Reads (M.state unit.old) (M.state unit.new) (is_err result) }
 {
     let kept = number(unit, LAST_KEPT.place, LAST_KEPT.size)?;
     let pointer = number(unit, DAYS.place, 4)?;
     let turn = turn_at(pointer);
-    let oldest = walk_on(unit, kept / 1440, turn, DAY_SLOTS, Walk::START)?;
-    let walk = walk_on(unit, kept / 1440, 0, turn, oldest)?;
+    let (oldest, high) = judge_slots(unit, kept, turn, DAY_SLOTS, Walk::START)?;
+    let (walk, low) = judge_slots(unit, kept, 0, turn, oldest)?;
     let has_day = has_today(walk.today);
     let front = bad_front(unit, kept, has_day)?;
     let cell = bad_cell(unit)?;
-    let low = bad_slots(unit, kept, 0, turn, oldest.latest)?;
-    let high = bad_slots(unit, kept, turn, DAY_SLOTS, 0)?;
     let ring = bad_ring(unit)?;
     let point = or_failing(None, DAYS.place, pointer_passes(kept, pointer, walk));
     let slots = or_else(low, high);

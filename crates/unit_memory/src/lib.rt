@@ -5,6 +5,7 @@ mod fault;
 mod format;
 mod judge;
 mod memory;
+mod slots;
 mod walk;
 mod words;
 
@@ -13,7 +14,7 @@ pub use format::{Identity, format_unit};
 pub use gated_ring::number;
 pub use judge::{Judged, judge_image};
 pub use memory::UnitMemory;
-pub use walk::{Density, Walk, walk_on};
+pub use walk::{Density, Walk};
 pub use words::{Scan, scan_day};
 
 #[cfg(test)]

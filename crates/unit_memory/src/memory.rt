@@ -44,10 +44,22 @@ impl UnitMemory {
         match judged.bad {
             Some(place) => Err(UnitFault::BadUnit(place)),
             None => {
-                let identity = read_identity(unit)?;
-                Ok(UnitMemory { identity })
+                let memory = UnitMemory::read(unit)?;
+                Ok(memory)
             }
         }
+    }
+
+    /// Reads a memory whose image is known to decode, as from the load of another part of the unit: it is not judged again.
+    /// It writes nothing.
+    pub fn read<M: Medium>(unit: &mut M) -> Result<UnitMemory, Failed>
+        requires unit { (M.state unit.old).size ≡ 2485808 }
+        requires decodes { IfSome (M.state unit.old).image Decodes }
+        ensures identity { IfOk result (λ memory. IfSome (M.state unit.old).image (IsIdentity memory)) }
+        ensures reads { Reads (M.state unit.old) (M.state unit.new) (is_err result) }
+    {
+        let identity = read_identity(unit)?;
+        Ok(UnitMemory { identity })
     }
 
     /// What the unit was told of its vehicle.

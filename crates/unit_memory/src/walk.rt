@@ -1,11 +1,5 @@
-ghost use Rattle.std.specs.Prelude.{◌≡◌, ◌≤◌, ◌<◌, ◌+◌, ◌*◌, ◌-◌, IfOk, IfSome, is_err, true};
-ghost use Rattle.std.specs.List.{range_with_len};
-ghost use Rattle.tach_media.specs.Medium.{Reads};
-ghost use Rattle.unit_memory.specs.Walks.{after_day, after_gap, next_walk, walk_from};
-
-use gated_ring::number;
-use tach_media::{Failed, Medium};
-use unit_model::layout::{DAY_SLOT_SIZE, DAYS};
+ghost use Rattle.std.specs.Prelude.{◌≡◌, ◌≤◌, ◌<◌, ◌+◌};
+ghost use Rattle.unit_memory.specs.Walks.{after_day, after_gap, next_walk};
 
 /// How the day slots that are there stand so far, from the oldest place on.
 #[derive(Clone, Copy, Debug, PartialEq, Eq)]
@@ -21,13 +15,14 @@ pub enum Density {
 }
 
 /// What the dates of day slots say, as far as they were read: the latest date, the index and the date of the last slot that
-/// is there, the index of the last-kept minute's day, and how they stand. A date is 0 where none is there.
+/// is there, the index of the last-kept minute's day, how many are there, and how they stand. A date is 0 where none is there.
 #[derive(Clone, Copy, Debug, PartialEq, Eq)]
 pub struct Walk {
     pub latest: u32,
     pub last_index: u32,
     pub last_date: u32,
     pub today: Option<u32>,
+    pub there: u32,
     pub density: Density,
 }
 
@@ -38,6 +33,7 @@ impl Walk {
         last_index: 0,
         last_date: 0,
         today: None,
+        there: 0,
         density: Density::Empty,
     };
 }
@@ -68,9 +64,11 @@ impl Density {
     }
 }
 
-// With the slot of one index more, whose date this is.
-fn next_walk(day: u32, walk: Walk, index: u32, date: u32) -> Walk
-    ensures { result ≡ next_walk day walk index date }
+/// With the slot of one index more, whose date this is.
+pub fn next_walk(day: u32, walk: Walk, index: u32, date: u32) -> Walk
+    requires { walk.there < 366 }
+    ensures next { result ≡ next_walk day walk index date }
+    ensures few { result.there ≤ walk.there + 1 }
 {
     if date == 0 {
         return Walk {
@@ -78,6 +76,7 @@ fn next_walk(day: u32, walk: Walk, index: u32, date: u32) -> Walk
             last_index: walk.last_index,
             last_date: walk.last_date,
             today: walk.today,
+            there: walk.there,
             density: walk.density.after_gap(),
         };
     }
@@ -90,29 +89,7 @@ fn next_walk(day: u32, walk: Walk, index: u32, date: u32) -> Walk
         } else {
             walk.today
         },
+        there: walk.there + 1,
         density: walk.density.after_day(),
     }
-}
-
-/// Goes on over the slots from one index to another.
-pub fn walk_on<M: Medium>(
-    unit: &mut M,
-    day: u32,
-    from: u32,
-    to: u32,
-    start: Walk,
-) -> Result<Walk, Failed>
-    requires works { (M.state unit.old).works ≡ true }
-    requires unit { (M.state unit.old).size ≡ 2485808 }
-    requires order { from ≤ to }
-    requires below { to ≤ 366 }
-    ensures walk { IfOk result (λ walk. IfSome (M.state unit.old).image (λ x. walk ≡ walk_from day x start (range_with_len from (to - from)))) }
-    ensures reads { Reads (M.state unit.old) (M.state unit.new) (is_err result) }
-{
-    let mut walk = start;
-    for index in from..to {
-        let date = number(unit, DAYS.place + 4 + index * DAY_SLOT_SIZE, 4)?;
-        walk = next_walk(day, walk, index, date);
-    }
-    Ok(walk)
 }

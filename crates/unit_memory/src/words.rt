@@ -1,11 +1,14 @@
-ghost use Rattle.std.specs.Prelude.{◌≡◌, ◌≤◌, ◌<◌, ◌+◌, ◌*◌, ◌^◌, IfOk, IfSome, is_err, true};
+ghost use Rattle.std.specs.Prelude.{◌≡◌, ◌≤◌, ◌<◌, ◌+◌, ◌*◌, ◌^◌, IfOk, IfSome, is_err, length, true};
 ghost use Rattle.tach_media.specs.Medium.{Reads};
-ghost use Rattle.unit_model.specs.Image.{slot_place, slot_words};
+ghost use Rattle.gated_ring.specs.Ring.{number_at};
+ghost use Rattle.unit_model.specs.Image.{slot_place, slot_words, words_at};
 ghost use Rattle.unit_memory.specs.Scans.{next_scan, driver_next, codriver_next, start, scan_from, is_first_good};
 
-use gated_ring::number;
 use tach_media::{Failed, Medium};
 use unit_model::layout::{DAY_SLOT_SIZE, DAY_WORDS, DAYS};
+
+// How many words of a day are read at once.
+const BLOCK: u32 = 240;
 
 /// What the words of a day say, as far as they were read: how many are not later than a minute of the day, the bits of the
 /// states after these, the last word's minute, and for each slot the first minute that its next word may have.
@@ -100,8 +103,67 @@ fn codriver_next(kept: u32, scan: Scan, word: u32) -> Option<Scan>
     })
 }
 
+/// The number in two bytes.
+pub fn word_in(bytes: &[u8], place: u32) -> u32
+    requires inside { place + 2 ≤ length bytes.now }
+    ensures word { result ≡ number_at bytes.now place 2 }
+{
+    let from = place as usize;
+    u32::from(u16::from_be_bytes([bytes[from], bytes[from + 1]]))
+}
+
+// Goes on over so many words in these bytes, behind so many words of a day whose first word stands at this place of the image.
+fn scan_words(
+    kept: u32,
+    base: u32,
+    nth: u32,
+    count: u32,
+    start: Scan,
+    bytes: &[u8],
+) -> Result<Scan, u32>
+    requires few { start.count ≤ nth }
+    requires room { nth + count ≤ 2880 }
+    requires inside { 2 * count ≤ length bytes.now }
+    requires base { base + 5760 < 2 ^ 32 }
+    ensures scan { result ≡ scan_from kept base nth start (words_at bytes.now 0 count) }
+    ensures few { IfOk result (λ scan. scan.count ≤ nth + count) }
+{
+    let mut scan = start;
+    for more in 0..count {
+        let word = word_in(bytes, 2 * more);
+        match next_scan(kept, scan, nth + more, word) {
+            Some(next) => scan = next,
+            None => return Err(base + 2 * (nth + more)),
+        }
+    }
+    Ok(scan)
+}
+
+// Reads a block of a day's words at once, and goes on over so many of them.
+fn scan_block<M: Medium>(
+    unit: &mut M,
+    kept: u32,
+    base: u32,
+    nth: u32,
+    count: u32,
+    start: Scan,
+) -> Result<Result<Scan, u32>, Failed>
+    requires few { start.count ≤ nth }
+    requires block { count ≤ 240 }
+    requires room { nth + 240 ≤ 2880 }
+    requires base { base + 5760 < 2 ^ 32 }
+    requires inside { base + 5760 ≤ (M.state unit.old).size }
+    ensures scan { IfOk result (λ found. IfSome (M.state unit.old).image (λ x. found ≡ scan_from kept base nth start (words_at x (base + 2 * nth) count))) }
+    ensures few { IfOk result (λ found. IfOk found (λ scan. scan.count ≤ nth + count)) }
+    ensures reads { Reads (M.state unit.old) (M.state unit.new) (is_err result) }
+{
+    let mut bytes = [0; 480];
+    unit.read_at(base + 2 * nth, &mut bytes)?;
+    Ok(scan_words(kept, base, nth, count, start, &bytes))
+}
+
 /// Judges the words of a day slot, and tells what those say that are not later than a minute of the day; or the place of
-/// the first word that may not stand there.
+/// the first word that may not stand there. It reads 240 words at once.
 pub fn scan_day<M: Medium>(
     unit: &mut M,
     index: u32,
@@ -115,7 +177,7 @@ pub fn scan_day<M: Medium>(
     ensures scan { IfOk result (λ found. IfSome (M.state unit.old).image (λ x. found ≡ scan_from kept (slot_place index + 16) 0 start (slot_words x index count))) }
     ensures reads { Reads (M.state unit.old) (M.state unit.new) (is_err result) }
 {
-    let place = DAYS.place + 4 + index * DAY_SLOT_SIZE + DAY_WORDS.place;
+    let base = DAYS.place + 4 + index * DAY_SLOT_SIZE + DAY_WORDS.place;
     let mut scan = Scan {
         count: 0,
         driver: 4,
@@ -124,11 +186,13 @@ pub fn scan_day<M: Medium>(
         next_driver: 0,
         next_codriver: 0,
     };
-    for nth in 0..count {
-        let word = number(unit, place + 2 * nth, 2)?;
-        match next_scan(kept, scan, nth, word) {
-            Some(next) => scan = next,
-            None => return Ok(Err(place + 2 * nth)),
+    for block in 0..(count + BLOCK - 1) / BLOCK {
+        let nth = block * BLOCK;
+        let more = (count - nth).min(BLOCK);
+        let found = scan_block(unit, kept, base, nth, more, scan)?;
+        match found {
+            Ok(next) => scan = next,
+            Err(place) => return Ok(Err(place)),
         }
     }
     Ok(Ok(scan))

@@ -2,7 +2,7 @@
 use Rattle.std.proofs.Common.{◌≡◌, ◌≢◌, ℕ, ◌+◌, ◌*◌, ◌/◌, ◌%◌, ◌<◌, ◌≤◌, Bool, true, false, cond, List, [], ◌∷◌, ◌++◌, refl, sym, ◌∙◌, ap, arith, append_assoc}
 use Rattle.std.specs.Prelude.{◌==◌}
 use Rattle.std.proofs.lemmas.Bool.Decides.{nat_tests}
-use Rattle.unit_model.specs.Days.{word_of, word_minute, bare, state_by, state_after, state_at, UnitMinute, Day, UnitDay, day_of, minute_at, shown, days_shown, unknown_minute, padded, with_minute, new_day, filled, Each, minute_by}
+use Rattle.unit_model.specs.Days.{word_of, word_minute, bare, state_by, state_after, state_at, UnitMinute, Day, StoredDay, day_of, minute_at, shown, days_shown, unknown_minute, padded, with_minute, new_day, filled, Each, minute_by}
 use Rattle.unit_model.specs.Changes.{changes, new_words, closing_words, first_states, further_words}
 use Rattle.unit_model.proofs.States.{state_after_append, state_later, state_stays, new_minutes, new_driver, new_codriver, gap_driver, gap_codriver, driver_by, codriver_by, minutes_by, by_word, by_other}
 use Rattle.unit_model.proofs.Growth.{shown_padded, shown_with, days_append, day_now, day_before, days_before, filled_last, filled_same, filled_next}
@@ -15,9 +15,9 @@ module _ (s t e u : ℕ) (words ws : List ℕ) (low : Each (λ w. word_minute w 
   pub state_back : Each (λ w. u < word_minute w) ws → state_at s u (words ++ ws) ≡ state_at s u words
   state_back later = state_after_append s u bare words ws ∙ state_later s u (state_at s u words) ws later
 
-module _ (k m dc cc dn cn : ℕ) (older : List UnitDay) (date o : ℕ) (words : List ℕ) (earlier : Each (λ d. day_of d < k / 1440) older) (now : date / 86400 ≡ k / 1440)
+module _ (k m dc cc dn cn : ℕ) (older : List StoredDay) (date o : ℕ) (words : List ℕ) (earlier : Each (λ d. day_of d < k / 1440) older) (now : date / 86400 ≡ k / 1440)
     (low : Each (λ w. word_minute w ≤ k % 1440) words) (driver : state_at 0 (k % 1440) words ≡ dc) (codriver : state_at 1 (k % 1440) words ≡ cc) (short : dn < 16) (short' : cn < 16) where
-  abbrev old : UnitDay
+  abbrev old : StoredDay
   old = record { date = date; odometer = o; words = words }
 
   abbrev it : UnitMinute
@@ -28,7 +28,7 @@ module _ (k m dc cc dn cn : ℕ) (older : List UnitDay) (date o : ℕ) (words : 
     abbrev ws : List ℕ
     ws = new_words (k % 1440 + 1) (m % 1440) dc cc dn cn
 
-    abbrev day : UnitDay
+    abbrev day : StoredDay
     day = record { date = date; odometer = o; words = words ++ ws }
 
     next_le : k % 1440 + 1 ≤ m % 1440
@@ -63,7 +63,7 @@ module _ (k m dc cc dn cn : ℕ) (older : List UnitDay) (date o : ℕ) (words : 
     abbrev cs : List ℕ
     cs = closing_words (k % 1440 + 1) dc cc
 
-    abbrev closed : UnitDay
+    abbrev closed : StoredDay
     closed = record { date = date; odometer = o; words = words ++ cs }
 
     pub closing_later : (u : ℕ) → u < k % 1440 + 1 → Each (λ w. u < word_minute w) cs
@@ -93,7 +93,7 @@ module _ (k m dc cc dn cn : ℕ) (older : List UnitDay) (date o : ℕ) (words : 
     closed_gap : (u : ℕ) → k % 1440 + 1 ≤ u → u < 1440 → minute_at closed u ≡ unknown_minute (1440 * day_of old + u)
     closed_gap u first less = λ i. minute_by (1440 * (date / 86400) + u) ((state_on 0 (k % 1440) dc u words cs low driver (omega arith) ∙ closed_driver u first less) i) ((state_on 1 (k % 1440) cc u words cs low codriver (omega arith) ∙ closed_codriver u first less) i)
 
-    abbrev begun : UnitDay
+    abbrev begun : StoredDay
     begun = record { date = date'; odometer = o'; words = first_states (m % 1440) dn cn ++ further_words (m % 1440) dn cn }
 
     pub begun_is : (begun_words : (u : ℕ) → u < m % 1440 → (state_at 0 u begun.words ≡ bare) × (state_at 1 u begun.words ≡ bare))

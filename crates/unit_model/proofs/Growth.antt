@@ -6,7 +6,7 @@ use Rattle.std.proofs.lemmas.Bool.Decides.{nat_tests}
 use Rattle.std.proofs.lemmas.List.{append-nil, map-append}
 use Rattle.std.proofs.lemmas.List.Elements.{filter-append}
 use Rattle.std.proofs.lemmas.List.FromFn.{length-map-range_with_len, map-range_with_len_more}
-use Rattle.unit_model.specs.Days.{word_minute, bare, state_at, UnitMinute, Day, UnitDay, day_of, minute_at, shown, day_shown, days_shown, unknown_minute, padded, with_minute, new_day, filled, Each, minute_by}
+use Rattle.unit_model.specs.Days.{word_minute, bare, state_at, UnitMinute, Day, StoredDay, day_of, minute_at, shown, day_shown, days_shown, unknown_minute, padded, with_minute, new_day, filled, Each, minute_by}
 use Rattle.unit_model.proofs.Words.{range_add}
 use Rattle.unit_model.proofs.States.{state_after_append, state_later}
 
@@ -17,7 +17,7 @@ map_range_same {X} f h a (suc n) all =
     ap (λ (e : X). e ∷ map f (range_with_len (a + 1) n)) (all a (omega arith) (omega arith)) ∙ ap (λ (l : List X). h a ∷ l) (map_range_same f h (a + 1) n (λ j low high. all j (omega arith) (omega arith)))
 
 -- a day whose further minutes are unknown is the one before, padded
-pub shown_padded : (n N : ℕ) (d e : UnitDay) → day_of e ≡ day_of d → n ≤ N
+pub shown_padded : (n N : ℕ) (d e : StoredDay) → day_of e ≡ day_of d → n ≤ N
     → ((u : ℕ) → u < n → minute_at e u ≡ minute_at d u) → ((u : ℕ) → n ≤ u → u < N → minute_at e u ≡ unknown_minute (1440 * day_of d + u))
     → shown N e ≡ padded N (shown n d)
 shown_padded n N d e same le front gap =
@@ -32,7 +32,7 @@ shown_padded n N d e same le front gap =
     ∙ ap (λ (k : ℕ). record { day = day_of d; minutes = map (minute_at d) (range_with_len 0 n) ++ map (λ t. unknown_minute (1440 * day_of d + t)) (range_with_len k (N - k)) }) (sym len)
 
 -- and with one known minute behind them
-pub shown_with : (n t : ℕ) (d e : UnitDay) (k : UnitMinute) → day_of e ≡ day_of d → n ≤ t → k.minute % 1440 ≡ t
+pub shown_with : (n t : ℕ) (d e : StoredDay) (k : UnitMinute) → day_of e ≡ day_of d → n ≤ t → k.minute % 1440 ≡ t
     → ((u : ℕ) → u < n → minute_at e u ≡ minute_at d u) → ((u : ℕ) → n ≤ u → u < t → minute_at e u ≡ unknown_minute (1440 * day_of d + u)) → minute_at e t ≡ k
     → shown (t + 1) e ≡ with_minute k (shown n d)
 shown_with n t d e k same le at front gap last =
@@ -43,25 +43,25 @@ shown_with n t d e k same le at front gap last =
     ∙ ap (λ (x : UnitMinute). record { day = day_of d; minutes = (padded t (shown n d)).minutes ++ x ∷ [] }) last
     ∙ ap (λ (u : ℕ). record { day = day_of d; minutes = (padded u (shown n d)).minutes ++ k ∷ [] }) (sym at)
 
-pub days_append : (k : ℕ) (a b : List UnitDay) → days_shown k (a ++ b) ≡ days_shown k a ++ days_shown k b
+pub days_append : (k : ℕ) (a b : List StoredDay) → days_shown k (a ++ b) ≡ days_shown k a ++ days_shown k b
 days_append k a b =
     ap (map (day_shown k)) (filter-append (λ d. nat_le (day_of d) (k / 1440)) a b)
     ∙ map-append (day_shown k) (filter (λ d. nat_le (day_of d) (k / 1440)) a) (filter (λ d. nat_le (day_of d) (k / 1440)) b)
 
 -- a day that is later counts for nothing
-pub day_later : (k : ℕ) (days : List UnitDay) (d : UnitDay) → k / 1440 < day_of d → days_shown k (days ++ d ∷ []) ≡ days_shown k days
+pub day_later : (k : ℕ) (days : List StoredDay) (d : StoredDay) → k / 1440 < day_of d → days_shown k (days ++ d ∷ []) ≡ days_shown k days
 day_later k days d later =
     let off : nat_le (day_of d) (k / 1440) ≡ false = grind (arith, nat_tests) in
     days_append k days (d ∷ []) ∙ ap (λ (b : Bool). days_shown k days ++ map (day_shown k) (cond b (d ∷ []) [])) off ∙ append-nil (days_shown k days)
 
 -- the day of the last-kept minute, and one before it
-pub day_now : (k : ℕ) (d : UnitDay) → day_of d ≡ k / 1440 → days_shown k (d ∷ []) ≡ shown (k % 1440 + 1) d ∷ []
+pub day_now : (k : ℕ) (d : StoredDay) → day_of d ≡ k / 1440 → days_shown k (d ∷ []) ≡ shown (k % 1440 + 1) d ∷ []
 day_now k d now =
     let on : nat_le (day_of d) (k / 1440) ≡ true = grind (arith, nat_tests) in
     let here : (day_of d == k / 1440) ≡ true = grind (arith, nat_tests) in
     ap (λ (b : Bool). map (day_shown k) (cond b (d ∷ []) [])) on ∙ ap (λ (b : Bool). shown (cond b (k % 1440 + 1) 1440) d ∷ []) here
 
-pub day_before : (k : ℕ) (d : UnitDay) (days : List UnitDay) → day_of d < k / 1440 → days_shown k (d ∷ days) ≡ shown 1440 d ∷ days_shown k days
+pub day_before : (k : ℕ) (d : StoredDay) (days : List StoredDay) → day_of d < k / 1440 → days_shown k (d ∷ days) ≡ shown 1440 d ∷ days_shown k days
 day_before k d days earlier =
     let on : nat_le (day_of d) (k / 1440) ≡ true = grind (arith, nat_tests) in
     let there : (day_of d == k / 1440) ≡ false = grind (arith, nat_tests) in
@@ -69,7 +69,7 @@ day_before k d days earlier =
     ∙ ap (λ (b : Bool). shown (cond b (k % 1440 + 1) 1440) d ∷ days_shown k days) there
 
 -- the days before do not depend on the last-kept minute
-pub days_before : (k m : ℕ) (days : List UnitDay) → k ≤ m → Each (λ d. day_of d < k / 1440) days → days_shown m days ≡ days_shown k days
+pub days_before : (k m : ℕ) (days : List StoredDay) → k ≤ m → Each (λ d. day_of d < k / 1440) days → days_shown m days ≡ days_shown k days
 days_before k m [] le all = refl
 days_before k m (d ∷ days) le all =
     day_before m d days (omega (arith, all.0)) ∙ ap (λ (l : List Day). shown 1440 d ∷ l) (days_before k m days le all.1) ∙ sym (day_before k d days all.0)
@@ -90,7 +90,7 @@ filled_next y k earlier =
     ap (λ (b : Bool). cond b (with_minute k y ∷ []) (padded 1440 y ∷ new_day k ∷ [])) there
 
 -- words of later minutes on the newest day count for nothing
-pub words_later : (k : ℕ) (older : List UnitDay) (date o : ℕ) (words ws : List ℕ) → date / 86400 ≡ k / 1440 → Each (λ w. k % 1440 < word_minute w) ws
+pub words_later : (k : ℕ) (older : List StoredDay) (date o : ℕ) (words ws : List ℕ) → date / 86400 ≡ k / 1440 → Each (λ w. k % 1440 < word_minute w) ws
     → days_shown k (older ++ record { date = date; odometer = o; words = words ++ ws } ∷ []) ≡ days_shown k (older ++ record { date = date; odometer = o; words = words } ∷ [])
 words_later k older date o words ws now later =
     days_append k older (record { date = date; odometer = o; words = words ++ ws } ∷ [])

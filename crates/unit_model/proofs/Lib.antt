@@ -12,3 +12,17 @@ pub mod Slots
 pub mod StillDecodes
 pub mod WordsGood
 pub mod Turning
+pub mod Failing
+pub mod Decoded
+pub mod Finding
+pub mod KeptDecodes
+pub mod AddedDecodes
+pub mod Emptying
+pub mod KeptDays
+pub mod Rising
+pub mod LastDay
+pub mod FilledWhole
+pub mod Density
+pub mod WholeDays
+pub mod Front
+pub mod Recorded

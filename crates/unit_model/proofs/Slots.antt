@@ -8,14 +8,14 @@ use Rattle.tach_media.specs.Medium.{bytes_at, SameOutside}
 use Rattle.tach_media.specs.LogLaws.{put_outside}
 use Rattle.tach_media.proofs.Images.{part_before, part_after}
 use Rattle.gated_ring.specs.Ring.{indices as ring_indices, number_at, pointer, is_there, entry_at, next, order, taken}
-use Rattle.unit_model.specs.Days.{UnitDay, Each}
+use Rattle.unit_model.specs.Days.{StoredDay, Each}
 use Rattle.unit_model.specs.Image.{day_ring, slot_place, last_kept, words_at, unit_day, indices, unit_days, day_head, unit_heads, slot_date, slot_odometer, slot_count, slot_words}
 use Rattle.unit_model.specs.Writing.{written, free_place, DiffersBehind, with_words}
 use Rattle.unit_model.proofs.Words.{words_split}
 use Rattle.unit_model.proofs.Numbers.{number_before, number_after, number_put2, number_in, words_before, words_after, words_in, written_outside, written_words, AreShort}
 
 -- the day of an index
-abbrev pub day_at : List ℕ → ℕ → UnitDay
+abbrev pub day_at : List ℕ → ℕ → StoredDay
 day_at x i = unit_day (entry_at day_ring x i)
 
 -- the day by its places in the image
@@ -45,7 +45,7 @@ same_taken i x c same =
 
 pub same_days : (i : ℕ) (x c : List ℕ) (js : List ℕ) → SameButOne i x c → Each (λ j. (j < 366) × (j ≢ i)) js → map (day_at c) js ≡ map (day_at x) js
 same_days i x c [] same others = refl
-same_days i x c (j ∷ js) same others = ap (λ (e : List ℕ). unit_day e ∷ map (day_at c) js) (same.entries j others.0.1) ∙ ap (λ (l : List UnitDay). day_at x j ∷ l) (same_days i x c js same others.1)
+same_days i x c (j ∷ js) same others = ap (λ (e : List ℕ). unit_day e ∷ map (day_at c) js) (same.entries j others.0.1) ∙ ap (λ (l : List StoredDay). day_at x j ∷ l) (same_days i x c js same others.1)
 
 -- a write inside one slot behind its date
 pub in_slot : (i p n : ℕ) (x c : List ℕ) → slot_place i + 4 ≤ p → p + n ≤ slot_place i + 5776 → SameOutside p n x c → SameButOne i x c
@@ -73,7 +73,7 @@ in_front i p n x c high same = record {
 }
 
 -- the newest day's slot, with what stands there
-pub record IsSlot (i : ℕ) (js : List ℕ) (older : List UnitDay) (p k date o n : ℕ) (words x : List ℕ) : Type 0 where
+pub record IsSlot (i : ℕ) (js : List ℕ) (older : List StoredDay) (p k date o n : ℕ) (words x : List ℕ) : Type 0 where
   pub sized : length x ≡ 2485808
   pub pointer_is : pointer day_ring x ≡ p
   pub kept : last_kept x ≡ k
@@ -87,18 +87,18 @@ pub record IsSlot (i : ℕ) (js : List ℕ) (older : List UnitDay) (p k date o n
 
 pub map_map : (x : List ℕ) (js : List ℕ) → map unit_day (map (entry_at day_ring x) js) ≡ map (day_at x) js
 map_map x [] = refl
-map_map x (j ∷ js) = ap (λ (l : List UnitDay). day_at x j ∷ l) (map_map x js)
+map_map x (j ∷ js) = ap (λ (l : List StoredDay). day_at x j ∷ l) (map_map x js)
 
 pub all_days : (x : List ℕ) → unit_days x ≡ map (day_at x) (indices x)
 unfolding unit_days indices ring_indices
 all_days x = map_map x (filter (is_there day_ring x) (order day_ring (next day_ring (pointer day_ring x))))
 
-module _ (i : ℕ) (below : i < 366) (js : List ℕ) (others : Each (λ j. (j < 366) × (j ≢ i)) js) (older : List UnitDay) (p k date o n : ℕ) (few : n ≤ 2880) (words x : List ℕ) (slot : IsSlot i js older p k date o n words x) where
+module _ (i : ℕ) (below : i < 366) (js : List ℕ) (others : Each (λ j. (j < 366) × (j ≢ i)) js) (older : List StoredDay) (p k date o n : ℕ) (few : n ≤ 2880) (words x : List ℕ) (slot : IsSlot i js older p k date o n words x) where
   -- the days are those before and this one
   pub slot_days : unit_days x ≡ older ++ record { date = date; odometer = o; words = words } ∷ []
   slot_days =
-      all_days x ∙ ap (map (day_at x)) slot.order_is ∙ map-append (day_at x) js (i ∷ []) ∙ ap (λ (l : List UnitDay). l ++ day_at x i ∷ []) slot.older_are
-      ∙ ap (λ (d : UnitDay). older ++ d ∷ []) (day_is x i n slot.count_is few ∙ (λ t. record { date = slot.date_is t; odometer = slot.odometer_is t; words = slot.words_are t }))
+      all_days x ∙ ap (map (day_at x)) slot.order_is ∙ map-append (day_at x) js (i ∷ []) ∙ ap (λ (l : List StoredDay). l ++ day_at x i ∷ []) slot.older_are
+      ∙ ap (λ (d : StoredDay). older ++ d ∷ []) (day_is x i n slot.count_is few ∙ (λ t. record { date = slot.date_is t; odometer = slot.odometer_is t; words = slot.words_are t }))
 
   -- and their dates and odometers
   pub slot_heads : unit_heads x ≡ map day_head older ++ (date, o) ∷ []

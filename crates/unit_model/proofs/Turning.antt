@@ -10,7 +10,7 @@ use Rattle.gated_ring.specs.Change.{IsAdding, IsAdded}
 use Rattle.gated_ring.proofs.Orders as orders
 use Rattle.gated_ring.proofs.Orders.{rest_each, order_first, order_last}
 use Rattle.gated_ring.proofs.Listing.{Chosen, chosen_below, ordered, taken_chosen, staying_there}
-use Rattle.unit_model.specs.Days.{UnitDay, Each}
+use Rattle.unit_model.specs.Days.{StoredDay, Each}
 use Rattle.unit_model.specs.Image.{day_ring, unit_day, indices, unit_days}
 use Rattle.unit_model.specs.Writing.{behind_index}
 use Rattle.unit_model.proofs.Slots.{day_at, all_days, map_map}
@@ -41,9 +41,9 @@ each_map : (P Q : ℕ → Type 0) (js : List ℕ) → ((j : ℕ) → P j → Q j
 each_map P Q [] weaker all = tt
 each_map P Q (j ∷ js) weaker all = (weaker j all.0, each_map P Q js weaker all.1)
 
-days_same : (f h : ℕ → UnitDay) (js : List ℕ) → Each (λ j. f j ≡ h j) js → map f js ≡ map h js
+days_same : (f h : ℕ → StoredDay) (js : List ℕ) → Each (λ j. f j ≡ h j) js → map f js ≡ map h js
 days_same f h [] all = refl
-days_same f h (j ∷ js) all = ap (λ (d : UnitDay). d ∷ map f js) all.0 ∙ ap (λ (l : List UnitDay). h j ∷ l) (days_same f h js all.1)
+days_same f h (j ∷ js) all = ap (λ (d : StoredDay). d ∷ map f js) all.0 ∙ ap (λ (l : List StoredDay). h j ∷ l) (days_same f h js all.1)
 
 drop_append : (m : ℕ) (a b : List ℕ) → m ≤ length a → drop m (a ++ b) ≡ drop m a ++ b
 drop_append zero a b le = refl
@@ -168,7 +168,7 @@ module _ (x : List ℕ) (known : pointer day_ring x < 366) where
       (λ more. inr (⊎_elim
       (λ less. inl (ap (map unit_day) (less.list_is ∙ ap (map (entry_at day_ring x)) (staying_there day_ring x known)) ∙ map_map x F))
       (λ whole. inr (ap (map unit_day) (whole.list_is ∙ ap (λ (l : List ℕ). map (entry_at day_ring x) l ++ entry ∷ []) (staying_there day_ring x known)) ∙ map-append unit_day (map (entry_at day_ring x) F) (entry ∷ [])
-      ∙ ap (λ (l : List UnitDay). l ++ unit_day entry ∷ []) (map_map x F)))
+      ∙ ap (λ (l : List StoredDay). l ++ unit_day entry ∷ []) (map_map x F)))
       more))
       (adding.step known).list
 

@@ -58,30 +58,30 @@ pub record Day : Type 0 where
   pub minutes : List UnitMinute
 
 -- a day as it is written: its date in seconds, its odometer, and the words that its count covers
-pub record UnitDay : Type 0 where
+pub record StoredDay : Type 0 where
   pub date : ℕ
   pub odometer : ℕ
   pub words : List ℕ
 
-abbrev pub day_of : UnitDay → ℕ
+abbrev pub day_of : StoredDay → ℕ
 day_of d = d.date / 86400
 
-abbrev pub minute_at : UnitDay → ℕ → UnitMinute
+abbrev pub minute_at : StoredDay → ℕ → UnitMinute
 minute_at d t = minute_by (1440 * day_of d + t) (state_at 0 t d.words) (state_at 1 t d.words)
 
 -- a day with its first minutes
-abbrev pub shown : ℕ → UnitDay → Day
+abbrev pub shown : ℕ → StoredDay → Day
 shown n d = record { day = day_of d; minutes = map (minute_at d) (range_with_len 0 n) }
 
 -- how many minutes a day shows
 abbrev pub minutes_shown : (kept day : ℕ) → ℕ
 minutes_shown kept day = if day == kept / 1440 then kept % 1440 + 1 else 1440
 
-abbrev pub day_shown : ℕ → UnitDay → Day
+abbrev pub day_shown : ℕ → StoredDay → Day
 day_shown kept d = shown (minutes_shown kept (day_of d)) d
 
 -- the days not later than that of the last-kept minute, with their minutes up to it
-abbrev pub days_shown : ℕ → List UnitDay → List Day
+abbrev pub days_shown : ℕ → List StoredDay → List Day
 days_shown kept days = map (day_shown kept) (filter (λ d. nat_le (day_of d) (kept / 1440)) days)
 
 abbrev pub unknown_minute : ℕ → UnitMinute
@@ -120,3 +120,11 @@ minutes_of days = flat_map (λ d. d.minutes) days
 abbrev pub Each : {X : Type 0} → (X → Type 0) → List X → Type 0
 Each P [] = Unit {0}
 Each P (x ∷ xs) = P x × Each P xs
+
+-- the words of the last-kept minute's day that are not later
+abbrev pub day_kept : ℕ → StoredDay → StoredDay
+day_kept kept d = if day_of d == kept / 1440 then record { date = d.date; odometer = d.odometer; words = filter (λ w. nat_le (word_minute w) (kept % 1440)) d.words } else d
+
+-- the days not later than that of the last-kept minute, without later words
+abbrev pub days_kept : ℕ → List StoredDay → List StoredDay
+days_kept kept days = map (day_kept kept) (filter (λ d. nat_le (day_of d) (kept / 1440)) days)

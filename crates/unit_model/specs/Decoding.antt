@@ -135,3 +135,13 @@ Decodes image = IsTrue (list_all (λ c. c.passes) (checks image))
 -- the place of the first field, in order of places, that fails
 unfoldable pub first_bad_place : List ℕ → Option ℕ
 first_bad_place image = first_failing (checks image)
+
+-- the first failing place, with one field more
+abbrev pub or_failing : Option ℕ → ℕ → Bool → Option ℕ
+or_failing (Some p) place passes = Some p
+or_failing None place passes = if passes then None else Some place
+
+-- the first of two
+abbrev pub or_else : Option ℕ → Option ℕ → Option ℕ
+or_else (Some p) o = Some p
+or_else None o = o

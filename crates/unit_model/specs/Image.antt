@@ -1,11 +1,11 @@
 -- What the image of a unit says of its days and minutes (profile).
-use Rattle.std.specs.Prelude.{◌≡◌, ℕ, ◌+◌, ◌*◌, ◌/◌, ◌%◌, min, List, map, filter, nat_le, ◌==◌, if◌then◌else◌}
+use Rattle.std.specs.Prelude.{◌≡◌, ℕ, ◌+◌, ◌*◌, ◌/◌, ◌%◌, min, Option, Some, None, List, [], ◌∷◌, map, filter, nat_le, ◌==◌, if◌then◌else◌}
 use Rattle.std.specs.List.{range_with_len}
 use Rattle.tach_media.specs.Medium.{State, LiesInside, bytes_at}
 use Rattle.gated_ring.specs.Ring.{Shape, number_at, ring_list, indices as ring_indices}
 use Rattle.unit_model.specs.declared.layout.Field.{Field}
 use Rattle.unit_model.specs.declared.layout.TheConstants.{DAYS, DAY_SLOTS, DAY_SLOT_SIZE, DAY_DATE, DAY_ODOMETER, DAY_COUNT, DAY_SPARE, DAY_WORDS, LAST_KEPT, ODOMETER}
-use Rattle.unit_model.specs.Days.{UnitDay, Day, UnitMinute, word_minute, days_shown, minutes_of}
+use Rattle.unit_model.specs.Days.{StoredDay, Day, UnitMinute, word_minute, days_shown, minutes_of}
 
 -- a medium that is a unit's: it has its size, and all of it may be written
 pub record IsUnit (s : State) : Type 0 where
@@ -38,7 +38,7 @@ abbrev pub words_at : List ℕ → (place count : ℕ) → List ℕ
 words_at image place count = map (λ j. number_at image (place + 2 * j) 2) (range_with_len 0 count)
 
 -- the day of a slot's bytes: its date, its odometer, and the words that its count covers
-abbrev pub unit_day : List ℕ → UnitDay
+abbrev pub unit_day : List ℕ → StoredDay
 unit_day slot = record { date = number_of slot DAY_DATE; odometer = number_of slot DAY_ODOMETER; words = words_at slot DAY_WORDS.place (number_of slot DAY_COUNT) }
 
 -- the indices of the slots that are there, oldest first
@@ -46,11 +46,11 @@ unfoldable pub indices : List ℕ → List ℕ
 indices image = ring_indices day_ring image
 
 -- the days of these slots
-unfoldable pub unit_days : List ℕ → List UnitDay
+unfoldable pub unit_days : List ℕ → List StoredDay
 unit_days image = map unit_day (ring_list day_ring image)
 
 -- the date and the odometer of each of them
-abbrev pub day_head : UnitDay → ℕ × ℕ
+abbrev pub day_head : StoredDay → ℕ × ℕ
 day_head d = (d.date, d.odometer)
 
 unfoldable pub unit_heads : List ℕ → List (ℕ × ℕ)
@@ -95,3 +95,12 @@ recorded_words x i =
     if slot_date x i / 86400 == last_kept x / 1440
     then filter (λ w. nat_le (word_minute w) (last_kept x % 1440)) (covered_words x i)
     else covered_words x i
+
+-- a day later than that of the last-kept minute, where one is there
+abbrev pub stray_list : Option ℕ → List ℕ
+stray_list None = []
+stray_list (Some s) = s ∷ []
+
+-- the day at an index where it is there and later than the last-kept minute's
+abbrev pub stray_of : (kept p date : ℕ) → Option ℕ
+stray_of kept p date = if date == 0 then None else (if nat_le (date / 86400) (kept / 1440) then None else Some p)

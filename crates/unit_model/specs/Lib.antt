@@ -6,3 +6,4 @@ pub mod Decoding
 pub mod NewImage
 pub mod Changes
 pub mod Writing
+pub mod Cells

@@ -1,5 +1,8 @@
 //! The layout of a unit's image, version 1 (profile): each field with its place and its size in bytes. A number stands with
 //! its highest byte first. Days, insertions and places begin with a pointer of four bytes.
+ghost use Rattle.std.specs.Prelude.{◌≡◌, ◌≤◌, ◌<◌};
+ghost use Rattle.unit_model.specs.Image.{slot_place};
+ghost use Rattle.unit_model.specs.Decoding.{cell_place};
 
 /// A field of the image: its place and its size in bytes. The fields of a day slot, of an owed row and of a cell have places
 /// that are counted from its own begin.
@@ -174,3 +177,20 @@ pub const CELL_WORD: Field = Field { place: 4, size: 2 };
 pub const LAST_MINUTE: u32 = 71_582_788;
 
 pub const HIGHEST_ODOMETER: u32 = 9_999_999;
+
+/// Where the day slot of an index begins.
+pub fn slot_place(index: u32) -> u32
+    requires { index < 366 }
+    ensures { result ≡ slot_place index }
+{
+    DAYS.place + 4 + index * DAY_SLOT_SIZE
+}
+
+/// Where the cell of a number begins, counted over all rows.
+pub fn cell_place(nth: u32) -> u32
+    requires { nth < 32 }
+    ensures place { result ≡ cell_place nth }
+    ensures below { result ≤ 1002 }
+{
+    OWED.place + nth / CELLS * OWED_ROW_SIZE + ROW_CELLS.place + nth % CELLS * CELL_SIZE
+}

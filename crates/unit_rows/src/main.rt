@@ -1,7 +1,8 @@
 //! Loads units of worked images, and prints what each load answers: a small unit with one number changed in each row, one
 //! whose reads fail, units whose last `keep` or `mend` stopped at one of its calls, and a full one of 366 days with 2880
-//! words each. With `full` behind the program's name it loads the full one alone, with `image` it writes that unit's image
-//! to standard output, and with `file` it loads `unit.img`.
+//! words each, with the number of reads that it takes. With `full` behind the program's name it loads the full one alone,
+//! with `reads` it prints that number alone, with `image` it writes that unit's image to standard output, and with `file`
+//! it loads `unit.img`.
 #![tactic(auto)]
 
 ghost use Rattle.std.specs.Prelude.{IfOk};
@@ -11,6 +12,8 @@ ghost use Rattle.unit_model.specs.Image.{IsUnit};
 mod full;
 mod image;
 mod keeping;
+#[cfg(test)]
+mod owed_tests;
 #[cfg(test)]
 mod stop_tests;
 mod stops;
@@ -154,7 +157,7 @@ fn show_small(rt: &HostRuntime) -> io::Result<()> {
 
 /// The first read, one among the days, and the last one of a load fail.
 fn show_failing(rt: &HostRuntime) -> io::Result<()> {
-    let Ok(mut unit) = small(rt.alloc(), &[0, 900, 2000]) else {
+    let Ok(mut unit) = small(rt.alloc(), &[0, 200, 645]) else {
         return println!(rt; "out of memory");
     };
     for _ in 0..4 {
@@ -176,6 +179,21 @@ fn show_full(rt: &HostRuntime) -> io::Result<()> {
     }
 }
 
+/// How many reads a load of the full unit makes.
+fn show_reads(rt: &HostRuntime) -> io::Result<()> {
+    let alloc = rt.alloc();
+    let Ok(image) = full::full(alloc) else {
+        return println!(rt; "out of memory");
+    };
+    match unit(alloc, image, Vec::new(alloc)) {
+        Ok(mut unit) => {
+            let _ = Journal::load(&mut unit);
+            println!(rt; "{} reads", unit.calls())
+        }
+        Err(_) => println!(rt; "out of memory"),
+    }
+}
+
 fn write_full(rt: &HostRuntime) -> io::Result<()> {
     match full::full(rt.alloc()) {
         Ok(image) => rt.stdout().write_all(image.as_slice()),
@@ -192,10 +210,12 @@ fn main(rt: HostRuntime) -> io::Result<()> {
             show_stops(&rt, rt.alloc(), &KEPT[..4], &KEPT[4..5])?;
             show_stops(&rt, rt.alloc(), &KEPT, &[])?;
             show_mends(&rt, rt.alloc())?;
-            show_full(&rt)
+            show_full(&rt)?;
+            show_reads(&rt)
         }
         Some(word) => match word.as_str() {
             "image" => write_full(&rt),
+            "reads" => show_reads(&rt),
             "file" => show(&rt, &mut FileMedium::new(&rt, "unit.img", IMAGE_SIZE)),
             _ => show_full(&rt),
         },

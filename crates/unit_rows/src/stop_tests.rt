@@ -1,5 +1,7 @@
 //! Each call of a `keep` and of a `mend` fails in turn, in each manner, and the unit goes on after it.
-ghost use Rattle.std.specs.Prelude.{◌≤◌};
+ghost use Rattle.std.specs.Prelude.{◌≤◌, IfOk};
+ghost use Rattle.tach_media.specs.MemMedium.{memory_state};
+ghost use Rattle.unit_model.specs.Image.{IsUnit};
 ghost use Rattle.unit_journal.specs.Reading.{IsSlotPlace};
 
 use crate::image::{DAY, empty, put, put_head, put_word};
@@ -13,7 +15,7 @@ use unit_journal::{Journal, KeptMinute, State, UnitDay};
 use unit_model::layout::IMAGE_SIZE;
 
 /// 00:00 of 2010-02-27, as the number of its minute.
-const FIRST: u32 = 14667 * 1440;
+pub const FIRST: u32 = 14667 * 1440;
 
 const REST: State = State {
     act: Activity::Rest,
@@ -75,7 +77,7 @@ impl Row {
 }
 
 /// 2010-02-27 up to a minute: no card until 00:10, then the driver drives and the co-driver is available.
-fn one_day(alloc: Global, kept: u32) -> Result<Vec<u8>, AllocError> {
+pub fn one_day(alloc: Global, kept: u32) -> Result<Vec<u8>, AllocError> {
     let mut image = empty(alloc, kept, 1000, 0)?;
     put_day(image.as_mut_slice(), 0, 14667);
     Ok(image)
@@ -138,7 +140,9 @@ fn with_later(alloc: Global) -> Result<Vec<u8>, AllocError> {
 }
 
 /// A unit with this image, whose call of that number fails so.
-fn unit(alloc: Global, image: Vec<u8>, call: u64, left: Left) -> Result<MemMedium, Memory> {
+pub fn unit(alloc: Global, image: Vec<u8>, call: u64, left: Left) -> Result<MemMedium, Memory>
+    ensures { IfOk result (λ unit. IsUnit (memory_state unit.log unit.counts)) }
+{
     if image.len() != IMAGE_SIZE as usize {
         return Err(Memory);
     }

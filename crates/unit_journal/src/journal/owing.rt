@@ -1,14 +1,14 @@
-ghost use Rattle.std.specs.Prelude.{◌≡◌, IfOk, OnOk, IfSome, is_err};
-ghost use Rattle.tach_media.specs.Medium.{Reads, LeavesOnly, HasCause, StaysSettled};
+ghost use Rattle.std.specs.Prelude.{◌≡◌, ◌↔◌, ◌<◌, true, IfOk, OnOk, IfSome, is_err, option_map};
+ghost use Rattle.tach_media.specs.Medium.{Reads, LeavesOnly, HasCause, StaysSettled, IsSettled, last_count};
 ghost use Rattle.tacho_types.specs.CardNumber.{card_number_bytes};
 ghost use Rattle.unit_model.specs.Image.{IsUnit};
 ghost use Rattle.unit_journal.specs.Image.{Agrees};
 ghost use Rattle.owed_model.specs.Owed.{owed_to};
-ghost use Rattle.owed_model.specs.Rows.{HasRow, IsPut, IsPutting};
+ghost use Rattle.owed_model.specs.Rows.{HasRow, IsPut, IsPutting, IsRowBegun, IsRowBeginning};
 ghost use Rattle.owed_rows.specs.Searching.{IsSane};
 
 use super::Journal;
-use owed_rows::{Entry, Owed, owed, put_owed};
+use owed_rows::{Entry, Owed, begin_owed, has_row, owed, put_owed};
 use tach_media::{Failed, Medium};
 use tacho_types::{FullCardNumber, write_card_number};
 
@@ -32,7 +32,18 @@ impl Journal {
         owed(unit, self.kept, &bytes, session, after)
     }
 
-    /// Puts an entry among those that are owed to the card of a number, which has a row.
+    /// Whether the card of a number has a row.
+    pub fn has_row<M: Medium>(&self, unit: &mut M, number: &FullCardNumber) -> Result<bool, Failed>
+        requires unit { IsUnit (M.state unit.old) }
+        ensures row { IfOk result (λ found. IfSome (M.state unit.old).image (λ x. (found ≡ true) ↔ HasRow (card_number_bytes number.now) x)) }
+        ensures reads { Reads (M.state unit.old) (M.state unit.new) (is_err result) }
+    {
+        let mut bytes = [0; 18];
+        write_card_number(number, &mut bytes);
+        has_row(unit, &bytes)
+    }
+
+    /// Puts an entry among those that are owed to the card of a number, which has a row (`has_row` tells). It has it still.
     pub fn put_owed<M: Medium>(
         &mut self,
         unit: &mut M,
@@ -44,6 +55,7 @@ impl Journal {
         requires row { IfSome (M.state unit.old).image (HasRow (card_number_bytes number.now)) }
         ensures same { self.new ≡ self.old }
         ensures agrees { OnOk result (IfSome (M.state unit.new).image (Agrees self.old)) }
+        ensures row { OnOk result (IfSome (M.state unit.new).image (HasRow (card_number_bytes number.now))) }
         ensures put { OnOk result (IfSome (M.state unit.old).image (λ x. IfSome (M.state unit.new).image (IsPut (card_number_bytes number.now) entry.now x))) }
         ensures moments { LeavesOnly (M.state unit.old) (M.state unit.new) (IsPutting (card_number_bytes number.now) entry.now) }
         ensures settled { OnOk result (StaysSettled (M.state unit.old) (M.state unit.new)) }
@@ -53,5 +65,40 @@ impl Journal {
         let mut bytes = [0; 18];
         write_card_number(number, &mut bytes);
         put_owed(unit, &bytes, entry)
+    }
+
+    /// Begins a row for the card of a number, with a session time and without an entry: its own row, else the lowest empty
+    /// one, else the one with the least session time, but not the row of the number that is spared.
+    ///
+    /// At each moment of the call every other row is as it was, and the row that is begun is as it was, or has no session,
+    /// or is begun. After it the number has a row.
+    pub fn begin_owed<M: Medium>(
+        &mut self,
+        unit: &mut M,
+        number: &FullCardNumber,
+        session: u32,
+        spared: Option<&FullCardNumber>,
+    ) -> Result<(), Failed>
+        requires unit { IsUnit (M.state unit.old) }
+        requires agrees { IfSome (M.state unit.old).image (Agrees self.old) }
+        requires session { 0 < session }
+        ensures same { self.new ≡ self.old }
+        ensures agrees { OnOk result (IfSome (M.state unit.new).image (Agrees self.old)) }
+        ensures row { OnOk result (IfSome (M.state unit.new).image (HasRow (card_number_bytes number.now))) }
+        ensures begun { OnOk result (IfSome (M.state unit.old).image (λ x. IfSome (M.state unit.new).image (IsRowBegun (card_number_bytes number.now) session (option_map (λ s. card_number_bytes s.now) spared.entry) x))) }
+        ensures moments { LeavesOnly (M.state unit.old) (M.state unit.new) (IsRowBeginning (card_number_bytes number.now) session (option_map (λ s. card_number_bytes s.now) spared.entry)) }
+        ensures settled { OnOk result ((M.state unit.new).clock < last_count → IsSettled (M.state unit.new)) }
+        ensures cause { HasCause (M.state unit.old) (M.state unit.new) (is_err result) }
+    {
+        let _days = &self.days;
+        let mut bytes = [0; 18];
+        write_card_number(number, &mut bytes);
+        let other = match spared {
+            None => return begin_owed(unit, &bytes, session, None),
+            Some(other) => other,
+        };
+        let mut others = [0; 18];
+        write_card_number(other, &mut others);
+        begin_owed(unit, &bytes, session, Some(&others))
     }
 }

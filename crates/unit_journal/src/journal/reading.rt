@@ -8,8 +8,7 @@ use tach_media::{Failed, Medium};
 use tacho_types::{Odometer, TimeReal};
 use unit_memory::number;
 use unit_model::layout::{
-    DAY_COUNT, DAY_ODOMETER, DAY_SLOT_SIZE, DAY_SLOTS, DAY_WORD_LIMIT, DAY_WORDS, DAYS,
-    HIGHEST_ODOMETER,
+    DAY_COUNT, DAY_ODOMETER, DAY_SLOTS, DAY_WORD_LIMIT, DAY_WORDS, HIGHEST_ODOMETER, slot_place,
 };
 
 /// A recorded day of the unit, as its slot has it (profile).
@@ -23,14 +22,6 @@ pub struct UnitDay {
     pub odometer: Odometer,
     /// How many change words it has, at most 2880; of the last-kept minute's day those that are not later.
     pub words: u16,
-}
-
-// Where the slot of an index begins.
-fn slot_place(index: u32) -> u32
-    requires { index < 366 }
-    ensures { result ≡ slot_place index }
-{
-    DAYS.place + 4 + index * DAY_SLOT_SIZE
 }
 
 // The day in a slot, whose date is known and whose words all count.

@@ -4,8 +4,8 @@ use Rattle.tach_media.proofs.Runs.{starts, goes_by, image_both, at_image, cause_
 use Rattle.unit_model.proofs.Sized.{unit_sized}
 use Rattle.unit_model.specs.Decoding.{cell_minute}
 use Rattle.unit_memory.proofs.Told.{told_all}
-use Rattle.unit_journal.specs.Mends.{IsEmptyingAll, cell_emptied, cells_emptied}
-use Rattle.unit_journal.proofs.Emptying.{cells_more, none_emptied, emptying_more, next_not_later}
+use Rattle.unit_model.specs.Cells.{IsEmptyingAll, cell_emptied, cells_emptied}
+use Rattle.unit_model.proofs.Emptying.{cells_more, none_emptied, emptying_more, next_not_later}
 use Rattle.unit_journal.proofs.Settling.{cause_of}
 use Rattle.unit_journal.proofs.cells.empty_cells.Goals as goal
 

@@ -1,7 +1,7 @@
 use Rattle.std.proofs.Common.{◌≡◌, ℕ, ◌<◌, ◌≤◌, IfSome, false, option_map}
 use Rattle.tach_media.specs.Medium.{LeavesOnly, HasCause, StaysSettled}
 use Rattle.unit_model.specs.Decoding.{cell_minute}
-use Rattle.unit_journal.specs.Mends.{cells_emptied, IsEmptyingAll}
+use Rattle.unit_model.specs.Cells.{cells_emptied, IsEmptyingAll}
 use Rattle.unit_journal.proofs.cells.empty_cells.Given as goal
 
 abbrev pub invariant-loop-nth : goal.invariant-loop-nth

@@ -1,6 +1,6 @@
 use Rattle.std.proofs.Common.{sym, ◌∙◌}
 use Rattle.unit_model.specs.Decoding.{Decodes}
-use Rattle.unit_memory.proofs.Decoded.{decodes_of}
+use Rattle.unit_model.proofs.Decoded.{decodes_of}
 use Rattle.unit_memory.proofs.Told.{one_told}
 use Rattle.unit_journal.proofs.journal.Journal.load.Goals as goal
 

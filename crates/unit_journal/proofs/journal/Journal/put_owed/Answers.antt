@@ -1,7 +1,8 @@
-use Rattle.std.proofs.Common.{ℕ, List, IfSome, OnOk, subst}
+use Rattle.std.proofs.Common.{ℕ, List, IfSome, OnOk, ◌∙◌, subst}
+use Rattle.tacho_types.specs.CardNumber.{card_number_bytes}
 use Rattle.tach_media.proofs.Runs.{on_ok, ok_gives}
-use Rattle.owed_model.specs.Rows.{IsPut}
-use Rattle.unit_journal.proofs.OwedBeside.{still_agrees}
+use Rattle.owed_model.specs.Rows.{HasRow, IsPut}
+use Rattle.unit_journal.proofs.OwedBeside.{still_agrees, told_after}
 use Rattle.unit_journal.proofs.journal.Journal.put_owed.Goals as goal
 
 pub returns-clause-agrees : goal.returns-clause-agrees
@@ -10,3 +11,13 @@ returns-clause-agrees g c = on_ok c.put_owed.result (λ fine. still_agrees c.arg
 
 pub returns-clause-put : goal.returns-clause-put
 returns-clause-put g c = subst (λ (n : List ℕ). OnOk c.put_owed.result (IfSome (g.M.Medium.state c.args.unit.now).image (λ x. IfSome (g.M.Medium.state c.put_owed.new.unit).image (IsPut n c.args.entry.now x)))) c.write_card_number.ensures.bytes c.put_owed.ensures.put
+
+pub returns-clause-row : goal.returns-clause-row
+returns-clause-row g c =
+    let number = card_number_bytes c.args.number.now in
+    let old = (g.M.Medium.state c.args.unit.now).image in
+    let new = (g.M.Medium.state c.put_owed.new.unit).image in
+    on_ok c.put_owed.result (λ fine.
+    told_after old new (HasRow number) (IsPut number c.args.entry.now) (HasRow number) c.put_owed.ensures.moments.tells c.requires.row
+    (ok_gives c.put_owed.result (subst (λ (n : List ℕ). OnOk c.put_owed.result (IfSome old (λ x. IfSome new (IsPut n c.args.entry.now x)))) c.write_card_number.ensures.bytes c.put_owed.ensures.put) fine)
+    (λ x y has is. (has.0, is.putting.indices number ∙ has.1)))

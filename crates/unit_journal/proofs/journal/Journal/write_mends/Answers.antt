@@ -2,7 +2,8 @@ use Rattle.std.proofs.Common.{◌<◌, inl, inr, arith, subst}
 use Rattle.tach_media.specs.Medium.{LeavesOnly}
 use Rattle.tach_media.proofs.Runs.{weaken, goes_by, image_then, settled_then}
 use Rattle.unit_journal.specs.Image.{Notes}
-use Rattle.unit_journal.specs.Mends.{cells_emptied, shut, IsMendStep}
+use Rattle.unit_journal.specs.Mends.{shut, IsMendStep}
+use Rattle.unit_model.specs.Cells.{cells_emptied}
 use Rattle.unit_journal.proofs.journal.Journal.write_mends.Goals as goal
 
 pub returns-in_err-shut_day-clause-moments : goal.returns-in_err-shut_day-clause-moments

@@ -1,8 +1,12 @@
-use Rattle.std.proofs.Common.{sym, ◌∙◌}
+use Rattle.std.proofs.Common.{ℕ, List, Option, IfSome, subst, sym, ◌∙◌, refl}
 use Rattle.unit_model.specs.Decoding.{Decodes}
-use Rattle.unit_memory.proofs.Decoded.{decodes_of}
+use Rattle.unit_model.proofs.Decoded.{decodes_of}
 use Rattle.unit_memory.proofs.Told.{one_told}
 use Rattle.unit_memory.proofs.memory.UnitMemory.load.Goals as goal
 
-pub returns-in_ok-identity-in-None-clause-decodes : goal.returns-in_ok-identity-in-None-clause-decodes
-returns-in_ok-identity-in-None-clause-decodes g c = one_told (g.M.Medium.state c.args.unit.now).image Decodes c.in_ok-judged.ensures.judged (λ x judged. decodes_of x (sym judged.bad ∙ c.in-None.is))
+pub returns-in_ok-memory-in-None-clause-decodes : goal.returns-in_ok-memory-in-None-clause-decodes
+returns-in_ok-memory-in-None-clause-decodes g c = one_told (g.M.Medium.state c.args.unit.now).image Decodes c.in_ok-judged.ensures.judged (λ x judged. decodes_of x (sym judged.bad ∙ c.in-None.is))
+
+pub read-requires-clause-decodes : goal.read-requires-clause-decodes
+read-requires-clause-decodes g c =
+    subst (λ (o : Option (List ℕ)). IfSome o Decodes) (sym (c.in_ok-judged.ensures.reads.same refl)) (one_told (g.M.Medium.state c.args.unit.now).image Decodes c.in_ok-judged.ensures.judged (λ x judged. decodes_of x (sym judged.bad ∙ c.in-None.is)))
