@@ -276,11 +276,15 @@ module _ (number : List ℕ) (e : Entry) (x : List ℕ) (sized : length x ≡ 24
   or_true true b is = refl
   or_true false b is = is
 
+  not_mine : (s : ℕ) → row_index number (rows_in x) ≢ Some s → s ≢ r
+  not_mine s differ is = differ (mine ∙ ap (λ (k : ℕ). Some k) (sym is))
+
   near : (c : List ℕ) → SameOutside place 6 x c → (cell_passes (cell_in (rows_in x) r (m % 4)) ≡ true → cell_passes (cell_in (rows_in c) r (m % 4)) ≡ true)
       → IsPuttingCell e (row_in (rows_in x) r) (row_in (rows_in c) r) → IsPutting number e x c
   near c same passes own = record {
     outside = wide x c r (m % 4) low (omega arith) same;
     indices = index_same x c r (m % 4) low (omega arith) same;
+    rows = λ s below differ. (heads x c r (m % 4) low (omega arith) same s below, row_same x c r (m % 4) low (omega arith) same s below (not_mine s differ));
     others = λ n differ. others_same x c r (m % 4) low (omega arith) same n number differ mine;
     own = λ s is. subst (λ (k : ℕ). IsPuttingCell e (row_in (rows_in x) k) (row_in (rows_in c) k)) (one_row s is) own;
     decodes = cell_decodes x c r (m % 4) low (omega arith) same passes;

@@ -86,6 +86,7 @@ IsPuttingCell e old new =
 pub record IsPutting (number : List ℕ) (e : Entry) (x c : List ℕ) : Type 0 where
   pub outside : SameOutside 624 384 x c
   pub indices : (n : List ℕ) → row_index n (rows_in c) ≡ row_index n (rows_in x)
+  pub rows : (s : ℕ) → s < 8 → row_index number (rows_in x) ≢ Some s → (number_in (rows_in c) s ≡ number_in (rows_in x) s) × (row_in (rows_in c) s ≡ row_in (rows_in x) s)
   pub others : (n : List ℕ) → n ≢ number → row_of n c ≡ row_of n x
   pub own : (r : ℕ) → row_index number (rows_in x) ≡ Some r → IsPuttingCell e (row_in (rows_in x) r) (row_in (rows_in c) r)
   pub decodes : Decodes x → Decodes c
