@@ -7,12 +7,15 @@ use Rattle.activity_codec.specs.declared.values.Pick.TheVariants as pick
 use Rattle.minute_model.specs.declared.Rule.TheVariants.{Original, Amended}
 use Rattle.minute_model.specs.declared.Minute.{Minute}
 use Rattle.minute_model.specs.Minute.{decided}
-use Rattle.run_model.specs.Trace.{Select, Line, Run, Act, seconds_of}
+use Rattle.trace_model.specs.declared.Action.TheVariants.{Select}
+use Rattle.trace_model.specs.declared.Item.{Item}
+use Rattle.trace_model.specs.declared.Item.TheVariants.{Run, Act}
+use Rattle.trace_model.specs.Trace.{seconds_of}
 use Rattle.run_model.specs.Span.{span_of}
 
--- the decided minutes of these lines
-abbrev minutes : List Line → List Minute
-minutes lines = decided Original (span_of (seconds_of 1267401600 lines)) []
+-- the decided minutes of these items
+abbrev minutes : List Item → List Minute
+minutes items = decided Original (span_of (seconds_of 1267401600 items)) []
 
 -- a minute of that day, by its number since midnight: both activities, and the sum of the speeds up to its end
 abbrev minute : ℕ → Activity → Activity → ℕ → Minute
@@ -69,7 +72,7 @@ unfolding decided seconds_of
 settles_after_two_minutes = refl
 
 -- twenty seconds of driving make a minute DRIVING by the original rule, and not by the amended one, which decides later
-abbrev short_drive : List Line
+abbrev short_drive : List Item
 short_drive = Run 20 40 ∷ Run 280 0 ∷ []
 
 drives_by_one_second : minutes short_drive ≡ minute 0 Driving Available 800 ∷ minute 1 Work Available 800 ∷ minute 2 Work Available 800 ∷ []
@@ -81,7 +84,7 @@ unfolding decided seconds_of
 works_by_the_longest = refl
 
 -- a minute between two whose longest is DRIVING is DRIVING by both
-abbrev stops_between : List Line
+abbrev stops_between : List Item
 stops_between = Run 60 40 ∷ Run 60 0 ∷ Run 60 40 ∷ Run 120 0 ∷ []
 
 drives_between : decided Amended (span_of (seconds_of 1267401600 stops_between)) [] ≡ minute 0 Driving Available 2400 ∷ minute 1 Driving Available 2400 ∷ []

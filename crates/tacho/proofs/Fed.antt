@@ -13,8 +13,10 @@ use Rattle.minute_model.specs.Second.{Second}
 use Rattle.minute_model.specs.Minute.{decided}
 use Rattle.minute_model.specs.Span.{Span, begin, end_of, fed, fed_many, picked, decided_in}
 use Rattle.minute_model.proofs.Spans.{end-fed, fed_many-first, fed_many-end, fed_many-rule, fed_many-settlings}
-use Rattle.run_model.specs.Trace as model
-use Rattle.run_model.specs.Trace.{TraceSecond, Insert, Withdraw, Tear, Place, driven, seconds_from, seconds_of}
+use Rattle.trace_model.specs.declared.Action.{Action}
+use Rattle.trace_model.specs.declared.Action.TheVariants as model
+use Rattle.trace_model.specs.declared.Action.TheVariants.{Insert, Withdraw, Tear, Place}
+use Rattle.trace_model.specs.Trace.{TraceSecond, driven, seconds_from, seconds_of}
 use Rattle.run_model.specs.Span.{picks_of, span_of}
 use Rattle.trace_text.specs.declared.trace.Action.TheVariants.{Select}
 use Rattle.trace_text.specs.declared.trace.Item.{Item}
@@ -30,7 +32,7 @@ fed_items-more span [] item = refl
 fed_items-more span (first ∷ items) item = fed_items-more (fed_item span first) items item
 
 -- the selections among some actions and one more
-picks_of-more : (actions : List model.Action) (slot : Slot) (pick : Pick) → picks_of (actions ++ model.Select slot pick ∷ []) ≡ picks_of actions ++ (slot, pick) ∷ []
+picks_of-more : (actions : List Action) (slot : Slot) (pick : Pick) → picks_of (actions ++ model.Select slot pick ∷ []) ≡ picks_of actions ++ (slot, pick) ∷ []
 picks_of-more [] slot pick = refl
 picks_of-more (model.Select s p ∷ actions) slot pick = ap (λ (ps : List (Slot × Pick)). (s, p) ∷ ps) (picks_of-more actions slot pick)
 picks_of-more (Insert s card ∷ actions) slot pick = picks_of-more actions slot pick
@@ -49,7 +51,7 @@ span_of-append xs ys =
     ap (map f) (filter-append (λ (s : TraceSecond). s.has_power) xs ys) ∙ map-append f (filter (λ (s : TraceSecond). s.has_power) xs) (filter (λ (s : TraceSecond). s.has_power) ys)
 
 -- what seconds at one speed add to a span
-fed_many-seconds : (span : Span) (waiting : List model.Action) (speed n : ℕ) → span.pending ≡ picks_of waiting → (fed_many span speed n).seconds ≡ span.seconds ++ span_of (driven n (end_of span) speed waiting)
+fed_many-seconds : (span : Span) (waiting : List Action) (speed n : ℕ) → span.pending ≡ picks_of waiting → (fed_many span speed n).seconds ≡ span.seconds ++ span_of (driven n (end_of span) speed waiting)
 fed_many-seconds span waiting speed zero is = sym (append-nil span.seconds)
 fed_many-seconds span waiting speed (suc n) is =
     let first : Second = record { number = end_of span; speed = speed; picks = picks_of waiting } in
@@ -64,7 +66,7 @@ fed_many-pending : (span : Span) (speed n : ℕ) → (fed_many span speed (suc n
 fed_many-pending span speed n = refl
 
 -- what the items of a trace add to a span
-fed_items-seconds : (span : Span) (waiting : List model.Action) (items : List Item) → AllByRecursion InRange items → span.pending ≡ picks_of waiting → (fed_items span items).seconds ≡ span.seconds ++ span_of (seconds_from (end_of span) waiting (map line_of items))
+fed_items-seconds : (span : Span) (waiting : List Action) (items : List Item) → AllByRecursion InRange items → span.pending ≡ picks_of waiting → (fed_items span items).seconds ≡ span.seconds ++ span_of (seconds_from (end_of span) waiting (map line_of items))
 fed_items-seconds span waiting [] all is = sym (append-nil span.seconds)
 fed_items-seconds span waiting (Act (Select slot pick) ∷ items) all is =
     fed_items-seconds (picked span slot pick) (waiting ++ model.Select slot pick ∷ []) items all.1 (ap (λ (ps : List (Slot × Pick)). ps ++ (slot, pick) ∷ []) is ∙ sym (picks_of-more waiting slot pick))

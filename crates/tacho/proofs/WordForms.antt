@@ -2,8 +2,8 @@
 use Rattle.std.proofs.Common.{◌≡◌, ◌∙◌, sym, ap, subst, refl, ℕ, true, List, [], ◌∷◌, length, get_or, arith}
 use Rattle.std.specs.Prelude.{codes, slice_get, Some}
 use Rattle.std.proofs.lemmas.Fmt.{decimal_injective}
-use Rattle.run_model.specs.declared.Card.{Card}
-use Rattle.run_model.specs.declared.Card.TheVariants.{A, B}
+use Rattle.trace_model.specs.declared.Card.{Card}
+use Rattle.trace_model.specs.declared.Card.TheVariants.{A, B}
 use Rattle.card_files.specs.declared.new_card.CardIdentity.{CardIdentity}
 use Rattle.unit_memory.specs.declared.format.Identity.{Identity}
 use Rattle.tacho.specs.declared.forms.Form.{Form}

@@ -1,7 +1,7 @@
 -- The forms of words that the program knows (profile).
 use Rattle.std.specs.Prelude.{◌≡◌, ℕ, ◌≤◌, true, List, [], ◌∷◌, codes, decimal}
-use Rattle.run_model.specs.declared.Card.{Card}
-use Rattle.run_model.specs.declared.Card.TheVariants.{A, B}
+use Rattle.trace_model.specs.declared.Card.{Card}
+use Rattle.trace_model.specs.declared.Card.TheVariants.{A, B}
 use Rattle.card_files.specs.declared.new_card.CardIdentity.{CardIdentity}
 use Rattle.unit_memory.specs.declared.format.Identity.{Identity}
 use Rattle.tacho.specs.declared.forms.Form.{Form}

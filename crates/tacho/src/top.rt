@@ -4,7 +4,7 @@ ghost use Rattle.std.specs.Io.KnownBytes.{Appends, IsAtEnd};
 ghost use Rattle.tach_media.specs.Medium.{Rose};
 ghost use Rattle.tach_media.specs.Streams.{AppendsFront};
 ghost use Rattle.tach_media.specs.Chip.{just_issued};
-ghost use Rattle.run_model.specs.declared.Card.TheVariants.{A, B};
+ghost use Rattle.trace_model.specs.declared.Card.TheVariants.{A, B};
 ghost use Rattle.run_model.specs.declared.Device.{Device as DeviceName};
 ghost use Rattle.run_model.specs.declared.Device.TheVariants.{Unit as OfUnit, CardA, CardB};
 ghost use Rattle.card_files.specs.declared.new_card.CardIdentity.{CardIdentity};

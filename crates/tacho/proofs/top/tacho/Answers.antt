@@ -1,4 +1,4 @@
-use Rattle.run_model.specs.declared.Card.TheVariants.{A, B}
+use Rattle.trace_model.specs.declared.Card.TheVariants.{A, B}
 use Rattle.tacho.specs.declared.forms.Form.TheVariants.{Minutes, FormatCard, FormatUnit}
 use Rattle.tacho.proofs.WordForms.{one-form}
 use Rattle.tacho.proofs.top.tacho.Goals as goal

@@ -1,0 +1,52 @@
+//! A trace alone (profile): what its lines ask for, and, as definitions over whole lists (specs/), which seconds they spell.
+#![tactic(auto)]
+
+use activity_codec::{Pick, Slot};
+
+/// One of the two driver cards of a trace.
+#[derive(Clone, Copy, Debug, PartialEq, Eq)]
+pub enum Card {
+    A,
+    B,
+}
+
+/// What a line asks for at the start of the second that follows it.
+#[derive(Clone, Copy, Debug, PartialEq, Eq)]
+pub enum Action {
+    /// An activity is selected for a slot.
+    Select {
+        slot: Slot,
+        pick: Pick,
+    },
+    /// A card is put into a slot.
+    Insert {
+        slot: Slot,
+        card: Card,
+    },
+    /// The card of a slot is withdrawn in order.
+    Withdraw {
+        slot: Slot,
+    },
+    /// The card of a slot is pulled out, without any write.
+    Tear {
+        slot: Slot,
+    },
+    /// The driver of a slot enters the place where the day begins, or ends where `ending` is set.
+    Place {
+        slot: Slot,
+        ending: bool,
+        country: u8,
+        region: u8,
+    },
+}
+
+/// A line of a trace behind its first.
+#[derive(Clone, Copy, Debug, PartialEq, Eq)]
+pub enum Item {
+    /// So many seconds at this speed in km/h.
+    Run { seconds: u32, speed: u8 },
+    /// So many seconds without power.
+    Off { seconds: u32 },
+    /// An action at the start of the second that follows.
+    Act(Action),
+}
