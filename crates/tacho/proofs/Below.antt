@@ -9,11 +9,13 @@ use Rattle.minute_model.specs.Minute.{decided}
 use Rattle.minute_model.specs.Span.{Span, begin, end_of, fed_many, picked, AreSettled, AreNumbered}
 use Rattle.minute_model.proofs.Counted.{decided-ended}
 use Rattle.minute_model.proofs.Spans.{fed_many-numbered}
-use Rattle.trace_text.specs.declared.trace.Action.TheVariants.{Select}
-use Rattle.trace_text.specs.declared.trace.Item.{Item}
-use Rattle.trace_text.specs.declared.trace.Item.TheVariants.{Run, Act}
+use Rattle.trace_model.specs.declared.Action.TheVariants.{Select, Insert, Withdraw, Tear, Place}
+use Rattle.trace_model.specs.declared.Item.{Item}
+use Rattle.trace_model.specs.declared.Item.TheVariants.{Run, Off, Act}
+use Rattle.trace_text.specs.declared.trace.Form.TheVariants.{Minutes}
+use Rattle.trace_text.specs.Line.{IsKnown}
 use Rattle.trace_text.specs.Trace.{IsWellFormed}
-use Rattle.trace_text.specs.Model.{trace_span}
+use Rattle.run_model.specs.Span.{trace_span}
 use Rattle.view_model.specs.declared.UnitShown.{UnitShown}
 use Rattle.view_model.specs.declared.Viewed.{Viewed}
 use Rattle.tacho.specs.Feeding.{fed_items}
@@ -28,18 +30,23 @@ fed_items-numbered : (span : Span) (items : List Item) → IsNumbered span → I
 fed_items-numbered span [] numbered = numbered
 fed_items-numbered span (Act (Select slot pick) ∷ items) numbered = fed_items-numbered (picked span slot pick) items numbered
 fed_items-numbered span (Run n speed ∷ items) numbered = fed_items-numbered (fed_many span speed n) items (fed_many-numbered span speed n numbered)
+fed_items-numbered span (Off n ∷ items) numbered = fed_items-numbered span items numbered
+fed_items-numbered span (Act (Insert slot card) ∷ items) numbered = fed_items-numbered span items numbered
+fed_items-numbered span (Act (Withdraw slot) ∷ items) numbered = fed_items-numbered span items numbered
+fed_items-numbered span (Act (Tear slot) ∷ items) numbered = fed_items-numbered span items numbered
+fed_items-numbered span (Act (Place slot ending country region) ∷ items) numbered = fed_items-numbered span items numbered
 
 -- minutes that have ended before a second begin before it
 shown-below : (end : ℕ) (minutes : List Minute) → end ≤ 4294880896 → AllByRecursion (λ (m : Minute). 60 * m.minute + 60 ≤ end) minutes → AllByRecursion (λ (v : Viewed UnitShown). v.minute < 71582788) (map without_card minutes)
 shown-below end [] le all = tt
 shown-below end (m ∷ minutes) le all = (omega (arith, all.0, le), shown-below end minutes le all.1)
 
-pub trace-below : (start : ℕ) (items : List Item) → IsWellFormed start items → AllByRecursion (λ (v : Viewed UnitShown). v.minute < 71582788) (minutes_shown start items)
-trace-below start items well =
+pub trace-below : (start : ℕ) (items : List Item) → IsWellFormed start items → AllByRecursion (IsKnown Minutes) items → AllByRecursion (λ (v : Viewed UnitShown). v.minute < 71582788) (minutes_shown start items)
+trace-below start items well known =
     let span = fed_items (begin Original start) items in
     let none = fed_items-settlings (begin Original start) items in
     let rule = fed_items-rule (begin Original start) items in
     let settled : AreSettled span = rw none tt in
     let ended = rw (rule, none) at (decided-ended span (fed_items-numbered (begin Original start) items tt) settled) in
     let P : List Second → Type 0 = λ xs. AllByRecursion (λ (m : Minute). 60 * m.minute + 60 ≤ end_of span) (decided Original xs []) in
-    shown-below (end_of span) (decided Original (trace_span start items) []) (omega (arith, fed_items-end (begin Original start) items, well.within.1)) (subst P (fed-span start items well.each) ended)
+    shown-below (end_of span) (decided Original (trace_span start items) []) (omega (arith, fed_items-end (begin Original start) items known, well.within.1)) (subst P (fed-span start items known) ended)

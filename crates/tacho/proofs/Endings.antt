@@ -6,7 +6,7 @@ use Rattle.tach_media.specs.Medium.{Rose}
 use Rattle.tach_media.specs.Streams.{AppendsFront}
 use Rattle.run_model.specs.declared.Device.{Device}
 use Rattle.trace_text.specs.declared.trace.Form.TheVariants.{Minutes}
-use Rattle.trace_text.specs.declared.trace.Item.{Item}
+use Rattle.trace_model.specs.declared.Item.{Item}
 use Rattle.trace_text.specs.Judged.{IsTraceText, IsBadText, IsLongText}
 use Rattle.tacho.specs.declared.top.Fault.{Fault}
 use Rattle.tacho.specs.declared.top.Fault.TheVariants.{Done, Usage, BadTrace, TooLong, ReadFault, WriteFault, MediumFault}

@@ -1,5 +1,5 @@
 -- A span that is fed with the items of a trace has the trace's seconds.
-use Rattle.std.proofs.Common.{◌≡◌, ◌∙◌, ℕ, suc, zero, ◌+◌, List, [], ◌∷◌, ◌++◌, take, drop, refl, ap, sym, arith, append_assoc, append-nil}
+use Rattle.std.proofs.Common.{◌≡◌, ◌∙◌, ℕ, suc, zero, ◌+◌, true, false, List, [], ◌∷◌, ◌++◌, take, drop, refl, ap, sym, subst, arith, append_assoc, append-nil}
 use Rattle.std.specs.Prelude.{map, filter, slice_get, Some}
 use Rattle.std.specs.List.{AllByRecursion}
 use Rattle.std.proofs.lemmas.List.{map-append}
@@ -14,16 +14,13 @@ use Rattle.minute_model.specs.Minute.{decided}
 use Rattle.minute_model.specs.Span.{Span, begin, end_of, fed, fed_many, picked, decided_in}
 use Rattle.minute_model.proofs.Spans.{end-fed, fed_many-first, fed_many-end, fed_many-rule, fed_many-settlings}
 use Rattle.trace_model.specs.declared.Action.{Action}
-use Rattle.trace_model.specs.declared.Action.TheVariants as model
-use Rattle.trace_model.specs.declared.Action.TheVariants.{Insert, Withdraw, Tear, Place}
-use Rattle.trace_model.specs.Trace.{TraceSecond, driven, seconds_from, seconds_of}
-use Rattle.run_model.specs.Span.{picks_of, span_of}
-use Rattle.trace_text.specs.declared.trace.Action.TheVariants.{Select}
-use Rattle.trace_text.specs.declared.trace.Item.{Item}
-use Rattle.trace_text.specs.declared.trace.Item.TheVariants.{Run, Act}
-use Rattle.trace_text.specs.Line.{InRange}
-use Rattle.trace_text.specs.Trace.{item_seconds, total_seconds}
-use Rattle.trace_text.specs.Model.{line_of, trace_span}
+use Rattle.trace_model.specs.declared.Action.TheVariants.{Select, Insert, Withdraw, Tear, Place}
+use Rattle.trace_model.specs.Trace.{TraceSecond, driven, seconds_from, seconds_of, item_seconds, total_seconds}
+use Rattle.run_model.specs.Span.{picks_of, span_of, trace_span}
+use Rattle.trace_model.specs.declared.Item.{Item}
+use Rattle.trace_model.specs.declared.Item.TheVariants.{Run, Off, Act}
+use Rattle.trace_text.specs.declared.trace.Form.TheVariants.{Minutes}
+use Rattle.trace_text.specs.Line.{IsKnown}
 use Rattle.tacho.specs.Feeding.{fed_item, fed_items}
 
 -- one item more
@@ -32,9 +29,9 @@ fed_items-more span [] item = refl
 fed_items-more span (first ∷ items) item = fed_items-more (fed_item span first) items item
 
 -- the selections among some actions and one more
-picks_of-more : (actions : List Action) (slot : Slot) (pick : Pick) → picks_of (actions ++ model.Select slot pick ∷ []) ≡ picks_of actions ++ (slot, pick) ∷ []
+picks_of-more : (actions : List Action) (slot : Slot) (pick : Pick) → picks_of (actions ++ Select slot pick ∷ []) ≡ picks_of actions ++ (slot, pick) ∷ []
 picks_of-more [] slot pick = refl
-picks_of-more (model.Select s p ∷ actions) slot pick = ap (λ (ps : List (Slot × Pick)). (s, p) ∷ ps) (picks_of-more actions slot pick)
+picks_of-more (Select s p ∷ actions) slot pick = ap (λ (ps : List (Slot × Pick)). (s, p) ∷ ps) (picks_of-more actions slot pick)
 picks_of-more (Insert s card ∷ actions) slot pick = picks_of-more actions slot pick
 picks_of-more (Withdraw s ∷ actions) slot pick = picks_of-more actions slot pick
 picks_of-more (Tear s ∷ actions) slot pick = picks_of-more actions slot pick
@@ -65,41 +62,59 @@ fed_many-seconds span waiting speed (suc n) is =
 fed_many-pending : (span : Span) (speed n : ℕ) → (fed_many span speed (suc n)).pending ≡ []
 fed_many-pending span speed n = refl
 
+untrue : false ≡ true → ⊥
+untrue e = cc
+
 -- what the items of a trace add to a span
-fed_items-seconds : (span : Span) (waiting : List Action) (items : List Item) → AllByRecursion InRange items → span.pending ≡ picks_of waiting → (fed_items span items).seconds ≡ span.seconds ++ span_of (seconds_from (end_of span) waiting (map line_of items))
+fed_items-seconds : (span : Span) (waiting : List Action) (items : List Item) → AllByRecursion (IsKnown Minutes) items → span.pending ≡ picks_of waiting → (fed_items span items).seconds ≡ span.seconds ++ span_of (seconds_from (end_of span) waiting items)
 fed_items-seconds span waiting [] all is = sym (append-nil span.seconds)
 fed_items-seconds span waiting (Act (Select slot pick) ∷ items) all is =
-    fed_items-seconds (picked span slot pick) (waiting ++ model.Select slot pick ∷ []) items all.1 (ap (λ (ps : List (Slot × Pick)). ps ++ (slot, pick) ∷ []) is ∙ sym (picks_of-more waiting slot pick))
-fed_items-seconds span waiting (Run zero speed ∷ items) all is = absurd (omega (arith, all.0.0))
+    fed_items-seconds (picked span slot pick) (waiting ++ Select slot pick ∷ []) items all.1 (ap (λ (ps : List (Slot × Pick)). ps ++ (slot, pick) ∷ []) is ∙ sym (picks_of-more waiting slot pick))
+fed_items-seconds span waiting (Run zero speed ∷ items) all is = absurd (omega (arith, all.0.1.0))
 fed_items-seconds span waiting (Run (suc n) speed ∷ items) all is =
     let now = driven (suc n) (end_of span) speed waiting in
-    let later : ℕ → List TraceSecond = λ m. seconds_from m [] (map line_of items) in
+    let later : ℕ → List TraceSecond = λ m. seconds_from m [] items in
     fed_items-seconds (fed_many span speed (suc n)) [] items all.1 refl
     ∙ ap (λ (m : ℕ). (fed_many span speed (suc n)).seconds ++ span_of (later m)) (fed_many-end span speed (suc n))
     ∙ ap (λ (xs : List Second). xs ++ span_of (later (end_of span + suc n))) (fed_many-seconds span waiting speed (suc n) is)
     ∙ append_assoc span.seconds (span_of now) (span_of (later (end_of span + suc n)))
     ∙ ap (λ (xs : List Second). span.seconds ++ xs) (sym (span_of-append now (later (end_of span + suc n))))
+fed_items-seconds span waiting (Off n ∷ items) all is = absurd (untrue all.0.0)
+fed_items-seconds span waiting (Act (Insert slot card) ∷ items) all is = absurd (untrue all.0.0)
+fed_items-seconds span waiting (Act (Withdraw slot) ∷ items) all is = absurd (untrue all.0.0)
+fed_items-seconds span waiting (Act (Tear slot) ∷ items) all is = absurd (untrue all.0.0)
+fed_items-seconds span waiting (Act (Place slot ending country region) ∷ items) all is = absurd (untrue all.0.0)
 
 -- what feeding leaves as it was
 pub fed_items-rule : (span : Span) (items : List Item) → (fed_items span items).rule ≡ span.rule
 fed_items-rule span [] = refl
 fed_items-rule span (Act (Select slot pick) ∷ items) = fed_items-rule (picked span slot pick) items
 fed_items-rule span (Run n speed ∷ items) = fed_items-rule (fed_many span speed n) items ∙ fed_many-rule span speed n
+fed_items-rule span (Off n ∷ items) = fed_items-rule span items
+fed_items-rule span (Act (Insert slot card) ∷ items) = fed_items-rule span items
+fed_items-rule span (Act (Withdraw slot) ∷ items) = fed_items-rule span items
+fed_items-rule span (Act (Tear slot) ∷ items) = fed_items-rule span items
+fed_items-rule span (Act (Place slot ending country region) ∷ items) = fed_items-rule span items
 
 pub fed_items-settlings : (span : Span) (items : List Item) → (fed_items span items).settlings ≡ span.settlings
 fed_items-settlings span [] = refl
 fed_items-settlings span (Act (Select slot pick) ∷ items) = fed_items-settlings (picked span slot pick) items
 fed_items-settlings span (Run n speed ∷ items) = fed_items-settlings (fed_many span speed n) items ∙ fed_many-settlings span speed n
+fed_items-settlings span (Off n ∷ items) = fed_items-settlings span items
+fed_items-settlings span (Act (Insert slot card) ∷ items) = fed_items-settlings span items
+fed_items-settlings span (Act (Withdraw slot) ∷ items) = fed_items-settlings span items
+fed_items-settlings span (Act (Tear slot) ∷ items) = fed_items-settlings span items
+fed_items-settlings span (Act (Place slot ending country region) ∷ items) = fed_items-settlings span items
 
 -- the seconds of a fed span are those of the trace
-pub fed-span : (start : ℕ) (items : List Item) → AllByRecursion InRange items → (fed_items (begin Original start) items).seconds ≡ trace_span start items
+pub fed-span : (start : ℕ) (items : List Item) → AllByRecursion (IsKnown Minutes) items → (fed_items (begin Original start) items).seconds ≡ trace_span start items
 unfolding seconds_of
 fed-span start items all =
     let e : end_of (begin Original start) ≡ start = omega arith in
-    fed_items-seconds (begin Original start) [] items all refl ∙ ap (λ (m : ℕ). span_of (seconds_from m [] (map line_of items))) e
+    fed_items-seconds (begin Original start) [] items all refl ∙ ap (λ (m : ℕ). span_of (seconds_from m [] items)) e
 
 -- so its decided minutes are those of the trace
-pub decided-items : (start : ℕ) (items : List Item) → AllByRecursion InRange items → decided_in (fed_items (begin Original start) items) ≡ decided Original (trace_span start items) []
+pub decided-items : (start : ℕ) (items : List Item) → AllByRecursion (IsKnown Minutes) items → decided_in (fed_items (begin Original start) items) ≡ decided Original (trace_span start items) []
 decided-items start items all =
     let span = fed_items (begin Original start) items in
     ap (λ (r : Rule). decided r span.seconds span.settlings) (fed_items-rule (begin Original start) items)
@@ -120,16 +135,27 @@ drop-at (y ∷ xs) (suc i) x h = drop-at xs i x h
 pub total-at : (items : List Item) (i : ℕ) (item : Item) → slice_get items i ≡ Some item → total_seconds (drop i items) ≡ item_seconds item + total_seconds (drop (suc i) items)
 total-at items i item h = ap total_seconds (drop-at items i item h) ∙ sum_by-cons item_seconds item (drop (suc i) items)
 
+-- it is a run or a selection, as each of them is
+pub known-at : (items : List Item) (i : ℕ) (item : Item) → slice_get items i ≡ Some item → AllByRecursion (IsKnown Minutes) items → IsKnown Minutes item
+known-at [] i item h all = cc
+known-at (first ∷ items) zero item h all = let e : first ≡ item = cc in let P : Item → Type 0 = λ x. IsKnown Minutes x in subst P e all.0
+known-at (first ∷ items) (suc i) item h all = known-at items i item h all.1
+
 pub fed_items-at : (span : Span) (items : List Item) (i : ℕ) (item : Item) → slice_get items i ≡ Some item → fed_items span (take (suc i) items) ≡ fed_item (fed_items span (take i items)) item
 fed_items-at span items i item h = ap (fed_items span) (take-at items i item h) ∙ fed_items-more span (take i items) item
 
 -- a fed span ends behind its seconds, which are numbered one after another
-pub fed_items-end : (span : Span) (items : List Item) → end_of (fed_items span items) ≡ end_of span + total_seconds items
-fed_items-end span [] = omega arith
-fed_items-end span (Act (Select slot pick) ∷ items) =
-    fed_items-end (picked span slot pick) items ∙ omega (arith, sum_by-cons item_seconds (Act (Select slot pick)) items)
-fed_items-end span (Run n speed ∷ items) =
-    fed_items-end (fed_many span speed n) items ∙ omega (arith, sum_by-cons item_seconds (Run n speed) items, fed_many-end span speed n)
+pub fed_items-end : (span : Span) (items : List Item) → AllByRecursion (IsKnown Minutes) items → end_of (fed_items span items) ≡ end_of span + total_seconds items
+fed_items-end span [] all = omega arith
+fed_items-end span (Act (Select slot pick) ∷ items) all =
+    fed_items-end (picked span slot pick) items all.1 ∙ omega (arith, sum_by-cons item_seconds (Act (Select slot pick)) items)
+fed_items-end span (Run n speed ∷ items) all =
+    fed_items-end (fed_many span speed n) items all.1 ∙ omega (arith, sum_by-cons item_seconds (Run n speed) items, fed_many-end span speed n)
+fed_items-end span (Off n ∷ items) all = absurd (untrue all.0.0)
+fed_items-end span (Act (Insert slot card) ∷ items) all = absurd (untrue all.0.0)
+fed_items-end span (Act (Withdraw slot) ∷ items) all = absurd (untrue all.0.0)
+fed_items-end span (Act (Tear slot) ∷ items) all = absurd (untrue all.0.0)
+fed_items-end span (Act (Place slot ending country region) ∷ items) all = absurd (untrue all.0.0)
 
 -- with no second no minute is decided
 pub decided-begin : (rule : Rule) (start : ℕ) → decided_in (begin rule start) ≡ []

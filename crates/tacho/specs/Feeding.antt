@@ -1,14 +1,19 @@
 -- A span, fed with the items of a trace.
 use Rattle.std.specs.Prelude.{List, [], ◌∷◌}
 use Rattle.minute_model.specs.Span.{Span, fed_many, picked}
-use Rattle.trace_text.specs.declared.trace.Action.TheVariants.{Select}
-use Rattle.trace_text.specs.declared.trace.Item.{Item}
-use Rattle.trace_text.specs.declared.trace.Item.TheVariants.{Run, Act}
+use Rattle.trace_model.specs.declared.Action.TheVariants.{Select, Insert, Withdraw, Tear, Place}
+use Rattle.trace_model.specs.declared.Item.{Item}
+use Rattle.trace_model.specs.declared.Item.TheVariants.{Run, Off, Act}
 
--- one more item
+-- one more item: a run or a selection
 abbrev pub fed_item : Span → Item → Span
 fed_item span (Act (Select slot pick)) = picked span slot pick
 fed_item span (Run n speed) = fed_many span speed n
+fed_item span (Off n) = span
+fed_item span (Act (Insert slot card)) = span
+fed_item span (Act (Withdraw slot)) = span
+fed_item span (Act (Tear slot)) = span
+fed_item span (Act (Place slot ending country region)) = span
 
 abbrev pub fed_items : Span → List Item → Span
 fed_items span [] = span

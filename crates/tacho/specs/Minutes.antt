@@ -10,8 +10,8 @@ use Rattle.view_model.specs.declared.UnitShown.{UnitShown}
 use Rattle.view_model.specs.declared.Viewed.{Viewed}
 use Rattle.view_model.specs.Text.{IsUnitView}
 use Rattle.trace_text.specs.declared.trace.Form.TheVariants.{Minutes}
-use Rattle.trace_text.specs.declared.trace.Item.{Item}
-use Rattle.trace_text.specs.Model.{trace_span}
+use Rattle.trace_model.specs.declared.Item.{Item}
+use Rattle.run_model.specs.Span.{trace_span}
 use Rattle.trace_text.specs.Judged.{IsTraceText, IsBadText, IsLongText}
 use Rattle.tacho.specs.declared.top.Fault.{Fault}
 use Rattle.tacho.specs.declared.top.Fault.TheVariants.{Done, BadTrace, TooLong, WriteFault, Memory}

@@ -8,7 +8,7 @@ use crate::words::Words;
 use card_files::CardIdentity;
 use run_model::Card;
 use tacho_types::{Name36, Nation, Registration};
-use trace_text::number;
+use text_fields::number;
 use unit_memory::Identity;
 
 /// What the words of the command line ask for.

@@ -1,8 +1,12 @@
 //! The decided minutes of a trace.
 ghost use Rattle.std.specs.Prelude.{◌≡◌, ◌+◌, ◌<◌, ◌≤◌, ◌++◌, IfOk, OnOk, map, false};
+ghost use Rattle.std.specs.List.{AllByRecursion};
 ghost use Rattle.minute_model.specs.Span.{Span, fed_many, decided_in};
 ghost use Rattle.minute_rules.specs.Kept.{StandsFor};
-ghost use Rattle.trace_text.specs.Trace.{IsWellFormed, item_seconds};
+ghost use Rattle.trace_model.specs.Trace.{item_seconds};
+ghost use Rattle.trace_text.specs.declared.trace.Form.TheVariants.{Minutes as FormOfMinutes};
+ghost use Rattle.trace_text.specs.Line.{IsKnown};
+ghost use Rattle.trace_text.specs.Trace.{IsWellFormed};
 ghost use Rattle.tacho.specs.Feeding.{fed_item};
 ghost use Rattle.tacho.specs.Minutes.{without_card, minutes_shown};
 
@@ -16,7 +20,8 @@ use view_model::{State, UnitShown, Viewed};
 
 /// The decided minutes of the one span of a trace, as a unit without a card shows them.
 pub fn minutes_of(alloc: Global, trace: &Trace) -> Result<Vec<Viewed<UnitShown>>, AllocError>
-    requires { IsWellFormed trace.now.start trace.now.items }
+    requires well { IsWellFormed trace.now.start trace.now.items }
+    requires known { AllByRecursion (IsKnown FormOfMinutes) trace.now.items }
     ensures { IfOk result (λ all. all.items ≡ minutes_shown trace.now.start trace.now.items) }
 {
     let mut minutes = Minutes::new(Rule::Original, trace.start);
@@ -28,13 +33,14 @@ pub fn minutes_of(alloc: Global, trace: &Trace) -> Result<Vec<Viewed<UnitShown>>
     Ok(all)
 }
 
-/// One item.
+/// One item, which is a run or a selection.
 fn feed_item(
     minutes: &mut Minutes,
     all: &mut Vec<Viewed<UnitShown>>,
     item: Item,
 ) -> Result<(), AllocError>
-    requires { minutes.old.next + item_seconds item ≤ 4294967295 }
+    requires fits { minutes.old.next + item_seconds item ≤ 4294967295 }
+    requires known { IsKnown FormOfMinutes item }
     ensures stands { (span : Span) → StandsFor minutes.old span → OnOk result (StandsFor minutes.new (fed_item span item)) }
     ensures all { (span : Span) → StandsFor minutes.old span → all.old.items ≡ map without_card (decided_in span)
         → OnOk result (all.new.items ≡ map without_card (decided_in (fed_item span item))) }
@@ -46,6 +52,7 @@ fn feed_item(
             minutes.select(slot, pick);
             Ok(())
         }
+        Item::Off { .. } | Item::Act(_) => Ok(()),
     }
 }
 

@@ -1,5 +1,6 @@
 //! The top call: all that the program does, over any source, sink and devices.
 ghost use Rattle.std.specs.Prelude.{◌≡◌, ◌≢◌, ◌↔◌, ◌≤◌, ◌⊎◌, ℕ, List, Some, Ok, Err, OnOk, IfOk, IfErr, IsErrAnd};
+ghost use Rattle.std.specs.List.{AllByRecursion};
 ghost use Rattle.std.specs.Io.KnownBytes.{Appends, IsAtEnd};
 ghost use Rattle.tach_media.specs.Medium.{Rose};
 ghost use Rattle.tach_media.specs.Streams.{AppendsFront};
@@ -13,7 +14,8 @@ ghost use Rattle.unit_memory.specs.declared.format.Identity.{Identity};
 ghost use Rattle.unit_memory.specs.Formats.{IsFormatting};
 ghost use Rattle.view_model.specs.Text.{IsUnitView};
 ghost use Rattle.trace_text.specs.declared.trace.Form.TheVariants.{Minutes as FormOfMinutes};
-ghost use Rattle.trace_text.specs.declared.trace.Item.{Item};
+ghost use Rattle.trace_model.specs.declared.Item.{Item};
+ghost use Rattle.trace_text.specs.Line.{IsKnown};
 ghost use Rattle.trace_text.specs.Trace.{IsWellFormed};
 ghost use Rattle.trace_text.specs.Judged.{IsTraceText, IsBadText, IsLongText};
 ghost use Rattle.tacho.specs.declared.forms.Form.{Form as WordsForm};
@@ -338,7 +340,8 @@ fn refusal(fault: TraceFault) -> Fault
 
 /// The view text of the decided minutes of a trace, no card present.
 fn text_of(alloc: Global, trace: &Trace) -> Result<Vec<u8>, AllocError>
-    requires { IsWellFormed trace.now.start trace.now.items }
+    requires well { IsWellFormed trace.now.start trace.now.items }
+    requires known { AllByRecursion (IsKnown FormOfMinutes) trace.now.items }
     ensures { IfOk result (λ text. IsUnitView (minutes_shown trace.now.start trace.now.items) text.items) }
 {
     let minutes = minutes_of(alloc, trace)?;

@@ -4,17 +4,17 @@ use Rattle.std.specs.Prelude.{Result, MatchResult, IfOk, IsErrAnd, ◌⊎◌, If
 use Rattle.std.specs.Io.KnownBytes.{Consumes, IsAtEnd}
 use Rattle.std.proofs.KnownBytes.{Consumes-whole}
 use Rattle.trace_text.specs.declared.trace.Form.{Form}
-use Rattle.trace_text.specs.declared.trace.Item.{Item}
+use Rattle.trace_model.specs.declared.Item.{Item}
 use Rattle.trace_text.specs.declared.trace.Trace.{Trace}
 use Rattle.trace_text.specs.declared.trace.TraceFault.{TraceFault}
 use Rattle.trace_text.specs.declared.trace.TraceFault.TheVariants.{ReadFault, BadLine, TooLong, Memory}
 use Rattle.trace_text.specs.Text.{lines_of}
-use Rattle.trace_text.specs.Trace.{IsTraceOf, IsWellFormed, ends_in_action}
+use Rattle.trace_text.specs.Trace.{IsTraceOf, IsWellFormed, HasRuns}
 use Rattle.trace_text.specs.Judged.{IsTraceText, IsBadText, IsLongText, IsFailure}
 use Rattle.trace_text.specs.Reading.{IsFaultOf}
 use Rattle.std.specs.List.{AllByRecursion}
-use Rattle.trace_text.specs.Line.{InRange}
-use Rattle.trace_text.proofs.Totals.{last-closed, last-ranges}
+use Rattle.trace_text.specs.Line.{InRange, IsKnown}
+use Rattle.trace_text.proofs.PutIn.{ended-runs, ended-known, known-ranges}
 use Rattle.trace_text.proofs.Once.{no_bad_line, no_too_long, bad-one, long-one, bad-not_long, trace-one}
 
 -- what an answer says of lines
@@ -67,15 +67,22 @@ finds-long form text n (Err Memory) few judged (inr is) = inr tt
 finds-long form text n (Err (BadLine m)) few judged (inr is) = absurd (bad-not_long form (lines_of text) m n judged is.1)
 finds-long form text n (Err (TooLong m)) few judged (inr is) = inl (ap TooLong (long-one form (lines_of text) m n judged is.1))
 
+-- each item of a trace is known to its form
+trace-each : (form : Form) (lines : List (List ℕ)) (start : ℕ) (items : List Item) → IsTraceOf form lines start items → AllByRecursion (IsKnown form) items
+trace-each form lines start items is =
+    let P : List Item → Type 0 = λ each. AllByRecursion (IsKnown form) each in subst P (sym is.items_are) (ended-known form is.written is.spells.each)
+
+pub trace-known : (form : Form) (lines : List (List ℕ)) (result : Result Trace TraceFault) → Judges form lines result → IfOk result (λ t. AllByRecursion (IsKnown form) t.items)
+trace-known form lines (Ok t) judged = trace-each form lines t.start t.items judged
+trace-known form lines (Err fault) judged = tt
+
 -- a trace that was read is well formed
 pub trace-well_formed : (form : Form) (lines : List (List ℕ)) (result : Result Trace TraceFault) → Judges form lines result → IfOk result (λ t. IsWellFormed t.start t.items)
 trace-well_formed form lines (Ok t) judged =
-    let P : List Item → Type 0 = λ is. ends_in_action is ≡ false in
-    let Q : List Item → Type 0 = λ is. AllByRecursion InRange is in
     record {
       first = judged.spells.first;
       within = judged.within;
-      each = subst Q (sym judged.items_are) (last-ranges form judged.written judged.spells.each);
-      closed = subst P (sym judged.items_are) (last-closed judged.written);
+      each = known-ranges form t.items (trace-each form lines t.start t.items judged);
+      runs = let P : List Item → Type 0 = λ is. HasRuns is in subst P (sym judged.items_are) (ended-runs judged.written);
     }
 trace-well_formed form lines (Err fault) judged = tt

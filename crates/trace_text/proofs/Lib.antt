@@ -1,9 +1,9 @@
-pub mod Pieces
-pub mod Lines
 pub mod Texts
-pub mod Spelled
-pub mod Totals
-pub mod LinesRead
-pub mod Fronts
+pub mod Numbering
+pub mod Inverse
+pub mod Grammar
+pub mod PutIn
+pub mod Passed
 pub mod Once
+pub mod LinesRead
 pub mod Answered

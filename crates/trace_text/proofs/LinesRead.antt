@@ -1,112 +1,219 @@
 -- What was read, one line after another.
-use Rattle.std.proofs.Common.{◌≡◌, ◌∙◌, ℕ, ◌+◌, true, false, None, Some, Option, List, [], ◌∷◌, ◌++◌, length, refl, ap, sym, subst, arith, append_assoc, length-append, inl, inr}
+use Rattle.std.proofs.Common.{◌≡◌, ◌∙◌, ℕ, ◌+◌, true, false, None, Some, Option, List, [], ◌∷◌, ◌++◌, length, refl, ap, sym, subst, arith, append_assoc, append-nil, length-append, inl, inr}
+use Rattle.std.specs.Prelude.{Result, IfErr}
+use Rattle.trace_model.specs.declared.Item.{Item}
+use Rattle.trace_model.specs.declared.Item.TheVariants.{Run, Off, Act}
+use Rattle.trace_model.specs.Trace.{total_seconds, item_seconds}
 use Rattle.trace_text.specs.declared.trace.Form.{Form}
-use Rattle.trace_text.specs.declared.trace.Item.{Item}
-use Rattle.trace_text.specs.declared.trace.Item.TheVariants.{Run, Act}
+use Rattle.trace_text.specs.declared.trace.TraceFault.{TraceFault}
+use Rattle.trace_text.specs.declared.trace.TraceFault.TheVariants.{ReadFault, BadLine, TooLong, Memory}
 use Rattle.trace_text.specs.declared.reading.Reading.{Reading}
-use Rattle.trace_text.specs.Text.{counts}
+use Rattle.trace_text.specs.Text.{counts, fields, counted, numbered}
 use Rattle.trace_text.specs.Line.{IsStart, IsItem}
-use Rattle.trace_text.specs.Trace.{Spells, IsWithin, total_seconds, item_seconds}
-use Rattle.trace_text.specs.Judged.{IsFirstBad, bad_line}
-use Rattle.trace_text.specs.Reading.{action_line_of, IsActionLine, HasSpelled, HasStarted, HasRead}
-use Rattle.trace_text.proofs.Spelled.{skipped-more, spells-skip, spells-more, bad_item, bad_start}
-use Rattle.trace_text.proofs.Totals.{ends-more, total-more}
+use Rattle.trace_text.specs.Trace.{Spells, IsTraceOf, IsWithin, items_of, put_in, added, waits, waiting_from, opened, ended}
+use Rattle.trace_text.specs.Judged.{IsFirstBad, bad_line, no_start, IsFirstTooLong, IsPassedAt, items_before}
+use Rattle.trace_text.specs.Reading.{HasTaken, HasSpelled, HasStarted, HasRead, IsFaultAt, IsFaultOf}
+use Rattle.trace_text.proofs.Numbering.{counted-line, counted-same}
+use Rattle.trace_text.proofs.Grammar.{spells-start, spells-more, bad_item, bad_start}
+use Rattle.trace_text.proofs.PutIn.{opened-more, waiting-more}
+use Rattle.trace_text.proofs.Passed.{total-append, total-cons, passed-behind}
 
--- the action's line stays where a line is passed over
-action-skip : (form : Form) (lines : List (List ℕ)) (line : List ℕ) (start : ℕ) (items : List Item) (at : Option ℕ) → IsActionLine form lines start items at → counts line ≡ false → IsActionLine form (lines ++ line ∷ []) start items at
-action-skip form lines line start items None is skipped = is
-action-skip form lines line start items (Some n) is skipped =
-    let e = is.1 in (
-      is.0,
-      record {
-        before = e.before;
-        line = e.line;
-        after = e.after ++ line ∷ [];
-        split = ap (λ (ls : List (List ℕ)). ls ++ line ∷ []) e.split ∙ append_assoc e.before (e.line ∷ e.after) (line ∷ []);
-        number = e.number;
-        earlier = e.earlier;
-        action = e.action;
-        items_are = e.items_are;
-        spells = e.spells;
-        counted = e.counted;
-        reads = e.reads;
-        passed_over = skipped-more e.after line e.passed_over skipped;
-      },
-    )
+one-longer : (lines : List (List ℕ)) (line : List ℕ) (n : ℕ) → length lines ≡ n → length (lines ++ line ∷ []) ≡ n + 1
+one-longer lines line n is = omega (arith, length-append lines (line ∷ []), is)
 
-started-skip : (lines : List (List ℕ)) (line : List ℕ) (old : Reading) (n : ℕ) (start : Option ℕ) → HasStarted lines old start → counts line ≡ false → HasStarted (lines ++ line ∷ []) (record old { lines = n }) start
-started-skip lines line old n None is skipped = (skipped-more lines line is.0 skipped, is.1, is.2, is.3)
-started-skip lines line old n (Some start) is skipped =
+started-same : (lines : List (ℕ × List (List ℕ))) (old : Reading) (n : ℕ) (start : Option ℕ) → HasStarted lines old start → HasStarted lines (record old { lines = n }) start
+started-same lines old n None is = is
+started-same lines old n (Some start) is =
     record {
-      spells = spells-skip old.form lines line start old.items is.spells skipped;
-      total = is.total;
-      within = is.within;
-      action_line = action-skip old.form lines line start old.items old.action_line is.action_line skipped;
+      written = is.written;
+      spells = is.spells;
+      waiting = is.waiting;
+      taken = record { items = is.taken.items; total = is.taken.total; within = is.taken.within };
     }
 
 -- a line that is passed over
 pub read-skip : (lines : List (List ℕ)) (line : List ℕ) (old : Reading) → HasRead lines old → counts line ≡ false → HasRead (lines ++ line ∷ []) (record old { lines = old.lines + 1 })
 read-skip lines line old is skipped =
+    let P : List (ℕ × List (List ℕ)) → Type 0 = λ ls. HasStarted ls (record old { lines = old.lines + 1 }) old.start in
     record {
-      number = omega (arith, length-append lines (line ∷ []), is.number);
-      state = started-skip lines line old (old.lines + 1) old.start is.state skipped;
+      number = one-longer lines line old.lines is.number;
+      state = subst P (sym (counted-same lines line skipped)) (started-same (counted lines) old (old.lines + 1) old.start is.state);
     }
 
 -- before the `start` line
-pub before-start : (lines : List (List ℕ)) (old : Reading) → HasRead lines old → old.start ≡ None → HasStarted lines old None
-before-start lines old is first = let P : Option ℕ → Type 0 = λ s. HasStarted lines old s in subst P first is.state
+pub before-start : (lines : List (List ℕ)) (old : Reading) → HasRead lines old → old.start ≡ None → HasStarted (counted lines) old None
+before-start lines old is first = let P : Option ℕ → Type 0 = λ s. HasStarted (counted lines) old s in subst P first is.state
 
 -- behind the `start` line
-pub behind-start : (lines : List (List ℕ)) (old : Reading) (start : ℕ) → HasRead lines old → old.start ≡ Some start → HasSpelled lines start old
-behind-start lines old start is later = let P : Option ℕ → Type 0 = λ s. HasStarted lines old s in subst P later is.state
+pub behind-start : (lines : List (List ℕ)) (old : Reading) (start : ℕ) → HasRead lines old → old.start ≡ Some start → HasSpelled (counted lines) start old
+behind-start lines old start is later = let P : Option ℕ → Type 0 = λ s. HasStarted (counted lines) old s in subst P later is.state
+
+-- the `start` line
+pub read-start : (lines : List (List ℕ)) (line : List ℕ) (old : Reading) (start : ℕ) → HasRead lines old → old.start ≡ None → counts line ≡ true → IsStart (fields line) start → HasRead (lines ++ line ∷ []) (record old { start = Some start; lines = old.lines + 1 })
+read-start lines line old start is first counts_it reads =
+    let none = before-start lines old is first in
+    let only : counted (lines ++ line ∷ []) ≡ (old.lines + 1, fields line) ∷ [] = counted-line lines line [] old.lines counts_it is.number ∙ ap (λ (ls : List (ℕ × List (List ℕ))). ls ++ (old.lines + 1, fields line) ∷ []) none.0 in
+    let P : List (ℕ × List (List ℕ)) → Type 0 = λ ls. Spells old.form ls start [] in
+    record {
+      number = one-longer lines line old.lines is.number;
+      state = record {
+        written = [];
+        spells = subst P (sym only) (spells-start old.form (old.lines + 1) start (fields line) reads);
+        waiting = none.3;
+        taken = record {
+          items = none.1;
+          total = none.2;
+          within = (omega (arith, none.2), omega (arith, none.2, reads.1.1));
+        };
+      };
+    }
 
 -- a first line that counts and is not `start`
-pub start-bad : (lines behind : List (List ℕ)) (line : List ℕ) (old : Reading) → HasRead lines old → old.start ≡ None → counts line ≡ true → ((t : ℕ) → IsStart line t → ⊥) → IsFirstBad old.form (lines ++ line ∷ behind) (old.lines + 1)
-start-bad lines behind line old is first counted none =
+pub start-bad : (lines behind : List (List ℕ)) (line : List ℕ) (old : Reading) → HasRead lines old → old.start ≡ None → counts line ≡ true → ((t : ℕ) → IsStart (fields line) t → ⊥) → IsFirstBad old.form (lines ++ line ∷ behind) (old.lines + 1)
+start-bad lines behind line old is first counts_it none =
     let nothing = (before-start lines old is first).0 in
-    bad_line lines line behind refl (omega (arith, is.number)) (inl nothing) (bad_start old.form lines line nothing counted none)
+    let after = numbered (old.lines + 2) behind in
+    let split = counted-line lines line behind old.lines counts_it is.number ∙ ap (λ (ls : List (ℕ × List (List ℕ))). ls ++ (old.lines + 1, fields line) ∷ after) nothing in
+    bad_line [] (fields line) after split (inl refl) (bad_start old.form (old.lines + 1) (fields line) none)
 
 -- a line that counts and is no item's
-pub item-bad : (lines behind : List (List ℕ)) (line : List ℕ) (old : Reading) (start : ℕ) → HasRead lines old → old.start ≡ Some start → counts line ≡ true → ((item : Item) → IsItem old.form line item → ⊥) → IsFirstBad old.form (lines ++ line ∷ behind) (old.lines + 1)
-item-bad lines behind line old start is later counted none =
-    let spelled = behind-start lines old start is later in
-    let within : IsWithin start (total_seconds old.items) = (omega (arith, spelled.total, spelled.within.0), omega (arith, spelled.total, spelled.within.1)) in
-    bad_line lines line behind refl (omega (arith, is.number)) (inr (start, old.items, spelled.spells, within)) (bad_item old.form lines line start old.items spelled.spells counted none)
+pub item-bad : (lines behind : List (List ℕ)) (line : List ℕ) (old : Reading) (start : ℕ) → HasRead lines old → old.start ≡ Some start → counts line ≡ true → ((item : Item) → IsItem old.form (fields line) item → ⊥) → IsFirstBad old.form (lines ++ line ∷ behind) (old.lines + 1)
+item-bad lines behind line old start is later counts_it none =
+    let s = behind-start lines old start is later in
+    let total = s.taken.total in
+    let within : IsWithin start (total_seconds (items_of (opened s.written))) = (omega (arith, total, s.taken.within.0), omega (arith, total, s.taken.within.1)) in
+    bad_line (counted lines) (fields line) (numbered (old.lines + 2) behind) (counted-line lines line behind old.lines counts_it is.number) (inr (start, s.written, s.spells, within)) (bad_item old.form (counted lines) (old.lines + 1) start (fields line) s.written s.spells none)
 
--- the action's line behind one more item
-action-more : (form : Form) (lines : List (List ℕ)) (line : List ℕ) (start n : ℕ) (items : List Item) (item : Item) → length lines ≡ n → Spells form lines start items → counts line ≡ true → IsItem form line item → IsActionLine form (lines ++ line ∷ []) start (items ++ item ∷ []) (action_line_of item (n + 1))
-action-more form lines line start n items (Run seconds speed) number spells counted reads = ends-more items (Run seconds speed)
-action-more form lines line start n items (Act action) number spells counted reads = (
-  ends-more items (Act action),
-  record {
-    before = lines;
-    line = line;
-    after = [];
-    split = refl;
-    number = omega (arith, number);
-    earlier = items;
-    action = action;
-    items_are = refl;
-    spells = spells;
-    counted = counted;
-    reads = reads;
-    passed_over = refl;
-  },
-)
+-- an item was taken
+pub taken-more : (start line : ℕ) (placed : List (ℕ × Item)) (old : Reading) (item : Item) → HasTaken start placed old → IsWithin start (old.total + item_seconds item) → HasTaken start (placed ++ (line, item) ∷ []) (record old { items = old.items ++ item ∷ []; total = old.total + item_seconds item })
+taken-more start line placed old item is within =
+    let e = total-append placed ((line, item) ∷ []) in
+    let f = total-cons line item [] in
+    let none : total_seconds (items_of []) ≡ 0 = refl in
+    let g = is.total in
+    record {
+      items = rw is.items (items-push placed);
+      total = omega (arith, e, f, g, none);
+      within = within;
+    }
+  where
+    items-push : (placed : List (ℕ × Item)) → items_of placed ++ item ∷ [] ≡ items_of (placed ++ (line, item) ∷ [])
+    items-push [] = refl
+    items-push (x ∷ placed) = ap (λ (is : List Item). x.1 ∷ is) (items-push placed)
+
+-- or it passes a limit
+pub taken-long : (start line : ℕ) (placed more : List (ℕ × Item)) (old : Reading) (item : Item) → HasTaken start placed old → (IsWithin start (old.total + item_seconds item) → ⊥) → IsPassedAt start 0 (placed ++ ((line, item) ∷ more)) line
+taken-long start line placed more old item is passed =
+    passed-behind start 0 old.total placed ((line, item) ∷ more) line (omega (arith, is.total)) is.within (inl (refl, passed))
+
+-- an `off` comes behind the second that is put in
+off-added : (line seconds : ℕ) (placed more : List (ℕ × Item)) (waiting : Option ℕ) → (placed ++ put_in waiting) ++ ((line, Off seconds) ∷ more) ≡ placed ++ (added waiting (line, Off seconds) ++ more)
+off-added line seconds placed more waiting =
+    append_assoc placed (put_in waiting) ((line, Off seconds) ∷ more)
+    ∙ ap (λ (ps : List (ℕ × Item)). placed ++ ps) (sym (append_assoc (put_in waiting) ((line, Off seconds) ∷ []) more))
+
+pub off-fault : {T : Type 0} → (start line seconds : ℕ) (placed more : List (ℕ × Item)) (waiting : Option ℕ) (item : Item) (result : Result T TraceFault) → item ≡ Off seconds → IfErr result (IsFaultAt start ((placed ++ put_in waiting) ++ ((line, item) ∷ more))) → IfErr result (IsFaultAt start (placed ++ (added waiting (line, item) ++ more)))
+off-fault start line seconds placed more waiting item result is fault =
+    let P : Item → Type 0 = λ i. IfErr result (IsFaultAt start ((placed ++ put_in waiting) ++ ((line, i) ∷ more))) in
+    let Q : Item → Type 0 = λ i. IfErr result (IsFaultAt start (placed ++ (added waiting (line, i) ++ more))) in
+    let R : List (ℕ × Item) → Type 0 = λ ps. IfErr result (IsFaultAt start ps) in
+    subst Q (sym is) (subst R (off-added line seconds placed more waiting) (subst P is fault))
+
+-- before no other item a second is put in
+pub other-fault : {T : Type 0} → (start line : ℕ) (placed more : List (ℕ × Item)) (waiting : Option ℕ) (item : Item) (result : Result T TraceFault) → ((seconds : ℕ) → item ≡ Off seconds → ⊥) → IfErr result (IsFaultAt start (placed ++ ((line, item) ∷ more))) → IfErr result (IsFaultAt start (placed ++ (added waiting (line, item) ++ more)))
+other-fault start line placed more waiting (Run seconds speed) result other fault = fault
+other-fault start line placed more waiting (Off seconds) result other fault = absurd (other seconds refl)
+other-fault start line placed more waiting (Act action) result other fault = fault
+
+-- what a reading holds is told by its items and its seconds
+pub taken-same : (start : ℕ) (placed : List (ℕ × Item)) (old new : Reading) → HasTaken start placed old → new.items ≡ old.items → new.total ≡ old.total → HasTaken start placed new
+taken-same start placed old new is items total =
+    record { items = items ∙ is.items; total = total ∙ is.total; within = (omega (arith, total, is.within.0), omega (arith, total, is.within.1)) }
 
 -- a line of one more item
-pub read-item : (lines : List (List ℕ)) (line : List ℕ) (old : Reading) (start : ℕ) (item : Item) → HasRead lines old → old.start ≡ Some start → counts line ≡ true → IsItem old.form line item → IsWithin start (old.total + item_seconds item) → HasRead (lines ++ line ∷ []) (record { form = old.form; lines = old.lines + 1; start = old.start; items = old.items ++ item ∷ []; total = old.total + item_seconds item; action_line = action_line_of item (old.lines + 1) })
-read-item lines line old start item is later counted reads within =
-    let spelled = behind-start lines old start is later in
-    let new : Reading = record { form = old.form; lines = old.lines + 1; start = old.start; items = old.items ++ item ∷ []; total = old.total + item_seconds item; action_line = action_line_of item (old.lines + 1) } in
-    let more : HasSpelled (lines ++ line ∷ []) start new =
+pub read-item : (lines : List (List ℕ)) (line : List ℕ) (old mid : Reading) (start : ℕ) (item : Item) → HasRead lines old → old.start ≡ Some start → counts line ≡ true → IsItem old.form (fields line) item → mid.form ≡ old.form → mid.start ≡ old.start → ((placed : List (ℕ × Item)) → HasTaken start placed old → HasTaken start (placed ++ added old.waiting (old.lines + 1, item)) mid)
+    → HasRead (lines ++ line ∷ []) (record mid { waiting = waits (old.lines + 1, item); lines = old.lines + 1 })
+read-item lines line old mid start item is later counts_it reads form same took =
+    let s = behind-start lines old start is later in
+    let new : Reading = record mid { waiting = waits (old.lines + 1, item); lines = old.lines + 1 } in
+    let P : List (ℕ × List (List ℕ)) → Type 0 = λ ls. Spells old.form ls start (s.written ++ (old.lines + 1, item) ∷ []) in
+    let spells = subst P (sym (counted-line lines line [] old.lines counts_it is.number)) (spells-more old.form (counted lines) (old.lines + 1) start (fields line) s.written item s.spells reads) in
+    let F : Form → Type 0 = λ f. Spells f (counted (lines ++ line ∷ [])) start (s.written ++ (old.lines + 1, item) ∷ []) in
+    let placed : opened s.written ++ added old.waiting (old.lines + 1, item) ≡ opened (s.written ++ (old.lines + 1, item) ∷ []) = ap (λ (w : Option ℕ). opened s.written ++ added w (old.lines + 1, item)) s.waiting ∙ sym (opened-more s.written (old.lines + 1, item)) in
+    let T : List (ℕ × Item) → Type 0 = λ ps. HasTaken start ps new in
+    let more : HasSpelled (counted (lines ++ line ∷ [])) start new =
     record {
-      spells = spells-more old.form lines line start old.items item spelled.spells counted reads;
-      total = total-more old.items item ∙ ap (λ (n : ℕ). n + item_seconds item) spelled.total;
-      within = within;
-      action_line = action-more old.form lines line start old.lines old.items item is.number spelled.spells counted reads;
+      written = s.written ++ (old.lines + 1, item) ∷ [];
+      spells = subst F (sym form) spells;
+      waiting = sym (waiting-more None s.written (old.lines + 1, item));
+      taken = subst T placed (taken-same start (opened s.written ++ added old.waiting (old.lines + 1, item)) mid new (took (opened s.written) s.taken) refl refl);
     } in
     record {
-      number = omega (arith, length-append lines (line ∷ []), is.number);
-      state = let P : Option ℕ → Type 0 = λ s. HasStarted (lines ++ line ∷ []) new s in subst P (sym later) more;
+      number = one-longer lines line old.lines is.number;
+      state = let Q : Option ℕ → Type 0 = λ at. HasStarted (counted (lines ++ line ∷ [])) new at in subst Q (sym (same ∙ later)) more;
+    }
+
+-- the items so far are a front of what they are with lines behind them
+before-open : (behind : List (ℕ × List (List ℕ))) (written : List (ℕ × Item)) → (more : List (ℕ × Item)) × (items_before behind written ≡ opened written ++ more)
+before-open [] written = (put_in (waiting_from None written), refl)
+before-open (line ∷ behind) written = ([], sym (append-nil (opened written)))
+
+-- a line of an item at which a limit is passed
+pub item-long : (lines behind : List (List ℕ)) (line : List ℕ) (old : Reading) (start : ℕ) (item : Item) (fault : TraceFault) → HasRead lines old → old.start ≡ Some start → counts line ≡ true → IsItem old.form (fields line) item → ((placed more : List (ℕ × Item)) → HasTaken start placed old → IsFaultAt start (placed ++ (added old.waiting (old.lines + 1, item) ++ more)) fault)
+    → IsFaultOf old.form (lines ++ line ∷ behind) fault
+item-long lines behind line old start item ReadFault is later counts_it reads passed = let s = behind-start lines old start is later in passed (opened s.written) [] s.taken
+item-long lines behind line old start item (BadLine n) is later counts_it reads passed = let s = behind-start lines old start is later in absurd (passed (opened s.written) [] s.taken)
+item-long lines behind line old start item Memory is later counts_it reads passed = tt
+item-long lines behind line old start item (TooLong n) is later counts_it reads passed =
+    let s = behind-start lines old start is later in
+    let after = numbered (old.lines + 2) behind in
+    let written = s.written ++ (old.lines + 1, item) ∷ [] in
+    let first = before-open after written in
+    let items : items_before after written ≡ opened s.written ++ (added old.waiting (old.lines + 1, item) ++ first.0) =
+    first.1 ∙ ap (λ (ps : List (ℕ × Item)). ps ++ first.0) (opened-more s.written (old.lines + 1, item) ∙ ap (λ (w : Option ℕ). opened s.written ++ added w (old.lines + 1, item)) (sym s.waiting)) ∙ append_assoc (opened s.written) (added old.waiting (old.lines + 1, item)) first.0 in
+    let P : List (ℕ × Item) → Type 0 = λ ps. IsPassedAt start 0 ps n in
+    record {
+      front = counted lines ++ (old.lines + 1, fields line) ∷ [];
+      behind = after;
+      split = counted-line lines line behind old.lines counts_it is.number ∙ sym (append_assoc (counted lines) ((old.lines + 1, fields line) ∷ []) after);
+      start = start;
+      written = written;
+      spells = spells-more old.form (counted lines) (old.lines + 1) start (fields line) s.written item s.spells reads;
+      passed = subst P (sym items) (passed (opened s.written) first.0 s.taken);
+    }
+
+-- no line counts
+pub never-started : (lines : List (List ℕ)) (old : Reading) → HasRead lines old → old.start ≡ None → IsFirstBad old.form lines (old.lines + 1)
+never-started lines old is first = no_start (before-start lines old is first).0 (omega (arith, is.number))
+
+-- the end of all lines
+pub read-end : (lines : List (List ℕ)) (old new : Reading) (start : ℕ) → HasRead lines old → old.start ≡ Some start → ((placed : List (ℕ × Item)) → HasTaken start placed old → HasTaken start (placed ++ put_in old.waiting) new) → IsTraceOf old.form lines start new.items
+read-end lines old new start is later took =
+    let s = behind-start lines old start is later in
+    let T : Option ℕ → Type 0 = λ w. HasTaken start (opened s.written ++ put_in w) new in
+    let end : HasTaken start (ended s.written) new = subst T s.waiting (took (opened s.written) s.taken) in
+    let total : new.total ≡ total_seconds new.items = end.total ∙ sym (ap total_seconds end.items) in
+    record {
+      written = s.written;
+      spells = s.spells;
+      items_are = end.items;
+      within = (omega (arith, total, end.within.0), omega (arith, total, end.within.1));
+    }
+
+pub end-long : (lines : List (List ℕ)) (old : Reading) (start : ℕ) (fault : TraceFault) → HasRead lines old → old.start ≡ Some start → ((placed more : List (ℕ × Item)) → HasTaken start placed old → IsFaultAt start (placed ++ (put_in old.waiting ++ more)) fault) → IsFaultOf old.form lines fault
+end-long lines old start ReadFault is later passed = let s = behind-start lines old start is later in passed (opened s.written) [] s.taken
+end-long lines old start (BadLine n) is later passed = let s = behind-start lines old start is later in absurd (passed (opened s.written) [] s.taken)
+end-long lines old start Memory is later passed = tt
+end-long lines old start (TooLong n) is later passed =
+    let s = behind-start lines old start is later in
+    let items : ended s.written ≡ opened s.written ++ (put_in old.waiting ++ []) = ap (λ (w : Option ℕ). opened s.written ++ put_in w) (sym s.waiting) ∙ ap (λ (ps : List (ℕ × Item)). opened s.written ++ ps) (sym (append-nil (put_in old.waiting))) in
+    let P : List (ℕ × Item) → Type 0 = λ ps. IsPassedAt start 0 ps n in
+    record {
+      front = counted lines;
+      behind = [];
+      split = sym (append-nil (counted lines));
+      start = start;
+      written = s.written;
+      spells = s.spells;
+      passed = subst P (sym items) (passed (opened s.written) [] s.taken);
     }

@@ -1,9 +1,9 @@
 -- The lines of a text, from the first one on.
 use Rattle.std.proofs.Common.{◌≡◌, ◌∙◌, ℕ, ◌<◌, List, [], ◌∷◌, length, refl, ap, arith}
 use Rattle.std.specs.Prelude.{◌==◌}
-use Rattle.minute_model.proofs.Numbered.{by_test}
-use Rattle.trace_text.specs.Text.{pieces, onto_first, closed, lines_of}
-use Rattle.trace_text.proofs.Pieces.{pieces-some}
+use Rattle.text_fields.proofs.PieceLemmas.{by_test, pieces-some}
+use Rattle.text_fields.specs.Pieces.{pieces, onto_first}
+use Rattle.trace_text.specs.Text.{closed, lines_of}
 
 closed-more : (piece : List ℕ) (rest : List (List ℕ)) → (rest ≡ [] → ⊥) → closed (piece ∷ rest) ≡ piece ∷ closed rest
 closed-more piece [] some = absurd (some refl)

@@ -1,42 +1,40 @@
--- What a text is judged to be: a trace, bad at a line, or too long at a line (profile).
-use Rattle.std.specs.Prelude.{◌≡◌, ℕ, ◌+◌, ◌<◌, ◌≤◌, true, ◌⊎◌, List, [], ◌∷◌, ◌++◌, length, filter}
+-- What is wrong with a text, and in which line: what a text is judged to be, it is by one line only.
+use Rattle.std.specs.Prelude.{◌≡◌, ℕ, ◌+◌, ◌<◌, ◌≤◌, ◌⊎◌, List, [], ◌∷◌, ◌++◌, length}
+use Rattle.trace_model.specs.declared.Item.{Item}
+use Rattle.trace_model.specs.Trace.{item_seconds}
 use Rattle.trace_text.specs.declared.trace.Form.{Form}
-use Rattle.trace_text.specs.declared.trace.Item.{Item}
-use Rattle.trace_text.specs.declared.trace.Item.TheVariants.{Run, Act}
 use Rattle.trace_text.specs.declared.trace.TraceFault.{TraceFault}
 use Rattle.trace_text.specs.declared.trace.TraceFault.TheVariants.{ReadFault, BadLine, TooLong, Memory}
-use Rattle.trace_text.specs.Text.{lines_of, counts}
-use Rattle.trace_text.specs.Line.{IsItem}
-use Rattle.trace_text.specs.Trace.{Spells, IsTraceOf, IsWithin, InGrammar, BeginsWell, total_seconds}
+use Rattle.trace_text.specs.Text.{lines_of, counted}
+use Rattle.trace_text.specs.Trace.{Spells, IsTraceOf, IsWithin, InGrammar, BeginsWell, opened, ended}
 
 -- Line n is the first outside the grammar, and no limit is passed before it: the lines before it begin a trace, and with
 -- it they do not. Where no line counts, it is the one after the last.
 pub data IsFirstBad (form : Form) (lines : List (List ℕ)) (n : ℕ) : Type 0 where
-  bad_line : (before : List (List ℕ)) (line : List ℕ) (after : List (List ℕ)) → lines ≡ before ++ line ∷ after → n ≡ length before + 1 → BeginsWell form before → (InGrammar form (before ++ line ∷ []) → ⊥) → IsFirstBad form lines n
-  no_start : filter counts lines ≡ [] → n ≡ length lines + 1 → IsFirstBad form lines n
+  bad_line : (before : List (ℕ × List (List ℕ))) (fields : List (List ℕ)) (after : List (ℕ × List (List ℕ))) → counted lines ≡ before ++ (n, fields) ∷ after → BeginsWell form before → (InGrammar form (before ++ (n, fields) ∷ []) → ⊥) → IsFirstBad form lines n
+  no_start : counted lines ≡ [] → n ≡ length lines + 1 → IsFirstBad form lines n
 
--- the seconds that count to a line with these lines behind it: those of a run; and one for an action where the text ends
--- with no further line, since a second is put in there
-abbrev pub counted_seconds : Item → List (List ℕ) → ℕ
-counted_seconds (Run seconds speed) behind = seconds
-counted_seconds (Act action) [] = 1
-counted_seconds (Act action) (line ∷ behind) = 0
+-- behind so many seconds, a limit is first passed at an item that counts to line n
+abbrev pub IsPassedAt : ℕ → ℕ → List (ℕ × Item) → ℕ → Type 0
+IsPassedAt start total [] n = ⊥
+IsPassedAt start total ((line, item) ∷ items) n =
+    ((line ≡ n) × (IsWithin start (total + item_seconds item) → ⊥))
+    ⊎ (IsWithin start (total + item_seconds item) × IsPassedAt start (total + item_seconds item) items n)
 
--- at line n a limit is first passed, and all lines up to it are in the grammar
+-- the items of written lines, where these lines stand behind them
+abbrev pub items_before : List (ℕ × List (List ℕ)) → List (ℕ × Item) → List (ℕ × Item)
+items_before [] written = ended written
+items_before (line ∷ lines) written = opened written
+
+-- line n is the one at which a limit is first passed, and all lines read by then are in the grammar
 pub record IsFirstTooLong (form : Form) (lines : List (List ℕ)) (n : ℕ) : Type 0 where
-  pub before : List (List ℕ)
-  pub line : List ℕ
-  pub after : List (List ℕ)
-  pub split : lines ≡ before ++ line ∷ after
-  pub number : n ≡ length before + 1
+  pub front : List (ℕ × List (List ℕ))
+  pub behind : List (ℕ × List (List ℕ))
+  pub split : counted lines ≡ front ++ behind
   pub start : ℕ
-  pub earlier : List Item
-  pub item : Item
-  pub spells : Spells form before start earlier
-  pub counted : counts line ≡ true
-  pub reads : IsItem form line item
-  pub within : IsWithin start (total_seconds earlier)
-  pub passed : IsWithin start (total_seconds earlier + counted_seconds item (filter counts after)) → ⊥
+  pub written : List (ℕ × Item)
+  pub spells : Spells form front start written
+  pub passed : IsPassedAt start 0 (items_before behind written) n
 
 -- at most so many bytes are read of a source
 abbrev pub most_bytes : ℕ

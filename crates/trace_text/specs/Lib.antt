@@ -1,6 +1,5 @@
 pub mod Text
 pub mod Line
-pub mod Model
 pub mod Trace
 pub mod Judged
 pub mod Reading

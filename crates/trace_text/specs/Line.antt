@@ -1,15 +1,16 @@
 -- The grammar of one line of a trace (profile).
-use Rattle.std.specs.Prelude.{◌≡◌, ℕ, ◌≤◌, Bool, true, IsTrue, List, [], ◌∷◌, codes, decimal}
+use Rattle.std.specs.Prelude.{◌≡◌, ℕ, ◌≤◌, Bool, true, false, IsTrue, List, [], ◌∷◌, codes, decimal}
 use Rattle.activity_codec.specs.declared.values.Pick.{Pick}
 use Rattle.activity_codec.specs.declared.values.Pick.TheVariants.{Rest, Available, Work}
 use Rattle.activity_codec.specs.declared.values.Slot.{Slot}
 use Rattle.activity_codec.specs.declared.values.Slot.TheVariants.{Driver, CoDriver}
+use Rattle.trace_model.specs.declared.Card.{Card}
+use Rattle.trace_model.specs.declared.Card.TheVariants.{A, B}
+use Rattle.trace_model.specs.declared.Action.TheVariants.{Select, Insert, Withdraw, Tear, Place}
+use Rattle.trace_model.specs.declared.Item.{Item}
+use Rattle.trace_model.specs.declared.Item.TheVariants.{Run, Off, Act}
 use Rattle.trace_text.specs.declared.trace.Form.{Form}
 use Rattle.trace_text.specs.declared.trace.Form.TheVariants.{Minutes, Whole}
-use Rattle.trace_text.specs.declared.trace.Action.TheVariants.{Select}
-use Rattle.trace_text.specs.declared.trace.Item.{Item}
-use Rattle.trace_text.specs.declared.trace.Item.TheVariants.{Run, Act}
-use Rattle.trace_text.specs.Text.{fields}
 
 abbrev pub slot_word : Slot → List ℕ
 slot_word Driver = codes "driver"
@@ -20,21 +21,39 @@ pick_word Rest = codes "rest"
 pick_word Available = codes "available"
 pick_word Work = codes "work"
 
+abbrev pub card_word : Card → List ℕ
+card_word A = codes "a"
+card_word B = codes "b"
+
+-- whether a place is where the day begins or where it ends
+abbrev pub ending_word : Bool → List ℕ
+ending_word false = codes "begin"
+ending_word true = codes "end"
+
 -- `start T`
 abbrev pub start_fields : ℕ → List (List ℕ)
 start_fields second = codes "start" ∷ decimal second ∷ []
 
--- `run N V` and `select SLOT ACT`
+-- `run N V`, `off N`, `select SLOT ACT`, `insert SLOT CARD`, `withdraw SLOT`, `tear SLOT` and `place SLOT KIND N R`
 abbrev pub item_fields : Item → List (List ℕ)
 item_fields (Run seconds speed) = codes "run" ∷ decimal seconds ∷ decimal speed ∷ []
+item_fields (Off seconds) = codes "off" ∷ decimal seconds ∷ []
 item_fields (Act (Select slot pick)) = codes "select" ∷ slot_word slot ∷ pick_word pick ∷ []
+item_fields (Act (Insert slot card)) = codes "insert" ∷ slot_word slot ∷ card_word card ∷ []
+item_fields (Act (Withdraw slot)) = codes "withdraw" ∷ slot_word slot ∷ []
+item_fields (Act (Tear slot)) = codes "tear" ∷ slot_word slot ∷ []
+item_fields (Act (Place slot ending country region)) = codes "place" ∷ slot_word slot ∷ ending_word ending ∷ decimal country ∷ decimal region ∷ []
 
--- the lines that a form knows behind `start`: the form of minutes `run` and `select`, and the whole form as yet the same
+-- the lines that a form knows behind `start`: the form of minutes `run` and `select`, and the whole form all
 abbrev pub knows : Form → Item → Bool
 knows Minutes (Run seconds speed) = true
+knows Minutes (Off seconds) = false
 knows Minutes (Act (Select slot pick)) = true
-knows Whole (Run seconds speed) = true
-knows Whole (Act (Select slot pick)) = true
+knows Minutes (Act (Insert slot card)) = false
+knows Minutes (Act (Withdraw slot)) = false
+knows Minutes (Act (Tear slot)) = false
+knows Minutes (Act (Place slot ending country region)) = false
+knows Whole item = true
 
 -- the seconds that a trace may begin with
 abbrev pub IsFirstSecond : ℕ → Type 0
@@ -43,16 +62,21 @@ IsFirstSecond second = (86400 ≤ second) × (second ≤ 4294880895)
 -- the numbers of a line are in their ranges
 abbrev pub InRange : Item → Type 0
 InRange (Run seconds speed) = (1 ≤ seconds) × (seconds ≤ 34560000) × (speed ≤ 255)
-InRange (Act action) = Unit {0}
+InRange (Off seconds) = (1 ≤ seconds) × (seconds ≤ 34560000)
+InRange (Act (Select slot pick)) = Unit {0}
+InRange (Act (Insert slot card)) = Unit {0}
+InRange (Act (Withdraw slot)) = Unit {0}
+InRange (Act (Tear slot)) = Unit {0}
+InRange (Act (Place slot ending country region)) = (country ≤ 255) × (region ≤ 255)
 
 -- a line that a form knows, with its numbers in their ranges
 abbrev pub IsKnown : Form → Item → Type 0
 IsKnown form item = IsTrue (knows form item) × InRange item
 
--- this line is `start` at this second
-abbrev pub IsStart : List ℕ → ℕ → Type 0
-IsStart line second = (fields line ≡ start_fields second) × IsFirstSecond second
+-- these are the fields of `start` at this second
+abbrev pub IsStart : List (List ℕ) → ℕ → Type 0
+IsStart fields second = (fields ≡ start_fields second) × IsFirstSecond second
 
--- this line is that of an item
-abbrev pub IsItem : Form → List ℕ → Item → Type 0
-IsItem form line item = (fields line ≡ item_fields item) × IsKnown form item
+-- these are the fields of an item
+abbrev pub IsItem : Form → List (List ℕ) → Item → Type 0
+IsItem form fields item = (fields ≡ item_fields item) × IsKnown form item

@@ -1,22 +1,6 @@
--- Text in pieces and in lines.
-use Rattle.std.specs.Prelude.{ℕ, ◌==◌, Bool, false, not, if◌then◌else◌, Option, None, Some, List, [], ◌∷◌}
-use Rattle.std.specs.Borrow.{Bor}
-
--- pieces with one more byte at the head of the first
-abbrev pub onto_first : ℕ → List (List ℕ) → List (List ℕ)
-onto_first byte [] = (byte ∷ []) ∷ []
-onto_first byte (piece ∷ rest) = (byte ∷ piece) ∷ rest
-
--- the pieces of a text between the separators
-abbrev pub pieces : ℕ → List ℕ → List (List ℕ)
-pieces separator [] = [] ∷ []
-pieces separator (byte ∷ bytes) =
-    if byte == separator then [] ∷ pieces separator bytes else onto_first byte (pieces separator bytes)
-
--- the pieces of what is behind a separator, where there is one
-abbrev pub pieces_behind : ℕ → Option (Bor (List ℕ)) → List (List ℕ)
-pieces_behind separator None = []
-pieces_behind separator (Some rest) = pieces separator rest.now
+-- Text in lines, and lines in fields.
+use Rattle.std.specs.Prelude.{ℕ, ◌+◌, ◌==◌, Bool, false, not, if◌then◌else◌, List, [], ◌∷◌}
+use Rattle.text_fields.specs.Pieces.{pieces}
 
 -- without an empty last piece
 abbrev pub closed : List (List ℕ) → List (List ℕ)
@@ -36,3 +20,12 @@ counts (byte ∷ bytes) = not (byte == 35)
 -- the fields of a line: one space is between two
 abbrev pub fields : List ℕ → List (List ℕ)
 fields line = pieces 32 line
+
+-- the lines that count, each with its number and its fields, where the first of all lines has this number
+abbrev pub numbered : ℕ → List (List ℕ) → List (ℕ × List (List ℕ))
+numbered n [] = []
+numbered n (line ∷ lines) = if counts line then (n, fields line) ∷ numbered (n + 1) lines else numbered (n + 1) lines
+
+-- lines are numbered from 1
+abbrev pub counted : List (List ℕ) → List (ℕ × List (List ℕ))
+counted lines = numbered 1 lines

@@ -1,14 +1,17 @@
 //! One line of a trace.
-ghost use Rattle.std.specs.Prelude.{◌≡◌, ◌↔◌, ℕ, ◌∷◌, [], IfSome, IfNone, IsTrue, true, codes, not};
-ghost use Rattle.trace_text.specs.Line.{IsStart, IsItem, InRange, item_fields, slot_word, pick_word};
+ghost use Rattle.std.specs.Prelude.{◌≡◌, ◌↔◌, ℕ, ◌∷◌, [], IfSome, IfNone, codes, Bool};
+ghost use Rattle.activity_codec.specs.declared.values.Pick.{Pick as EachPick};
+ghost use Rattle.activity_codec.specs.declared.values.Slot.{Slot as EachSlot};
+ghost use Rattle.text_fields.specs.Pieces.{pieces};
+ghost use Rattle.trace_model.specs.declared.Card.{Card as EachCard};
+ghost use Rattle.trace_model.specs.declared.Item.{Item as Each};
+ghost use Rattle.trace_text.specs.Line.{IsStart, IsItem, InRange, item_fields, slot_word, pick_word, card_word, ending_word};
 ghost use Rattle.trace_text.specs.Text.{counts, fields};
-ghost use Rattle.trace_text.specs.declared.trace.Item.{Item as Each};
-ghost use Rattle.activity_codec.specs.declared.values.Slot.{Slot as Which};
-ghost use Rattle.activity_codec.specs.declared.values.Pick.{Pick as Picked};
 
-use crate::fields::{is_word, number, three_fields, two_fields};
-use crate::trace::{Action, Form, Item};
+use crate::trace::Form;
 use activity_codec::{Pick, Slot};
+use text_fields::{byte, first_piece, four_fields, is_word, number_between, one_field, two_fields};
+use trace_model::{Action, Card, Item};
 
 /// The earliest second of a trace.
 pub const FIRST: u32 = 86400;
@@ -31,8 +34,8 @@ pub fn is_counted(line: &[u8]) -> bool
 
 /// The second of a `start` line.
 pub fn read_start(line: &[u8]) -> Option<u32>
-    ensures found { IfSome result (λ t. IsStart line.now t) }
-    ensures none { IfNone result ((t : ℕ) → IsStart line.now t → ⊥) }
+    ensures found { IfSome result (λ t. IsStart (fields line.now) t) }
+    ensures none { IfNone result ((t : ℕ) → IsStart (fields line.now) t → ⊥) }
 {
     let Some((word, digits)) = two_fields(line) else {
         return None;
@@ -40,19 +43,13 @@ pub fn read_start(line: &[u8]) -> Option<u32>
     if !is_word(word, b"start") {
         return None;
     }
-    let Some(second) = number(digits) else {
-        return None;
-    };
-    if second < FIRST || second > LAST {
-        return None;
-    }
-    Some(second)
+    number_between(digits, FIRST, LAST)
 }
 
 /// The item of a line, where it is one of the form.
 pub fn read_item(form: Form, line: &[u8]) -> Option<Item>
-    ensures found { IfSome result (λ item. IsItem form line.now item) }
-    ensures none { IfNone result ((item : Each) → IsItem form line.now item → ⊥) }
+    ensures found { IfSome result (λ item. IsItem form (fields line.now) item) }
+    ensures none { IfNone result ((item : Each) → IsItem form (fields line.now) item → ⊥) }
 {
     let Some(item) = read_any(line) else {
         return None;
@@ -60,48 +57,88 @@ pub fn read_item(form: Form, line: &[u8]) -> Option<Item>
     if form.has(item) { Some(item) } else { None }
 }
 
-/// The item of a `run` or `select` line.
+/// The item of a line, by its first field.
 fn read_any(line: &[u8]) -> Option<Item>
     ensures found { IfSome result (λ item. (fields line.now ≡ item_fields item) × InRange item) }
     ensures none { IfNone result ((item : Each) → fields line.now ≡ item_fields item → InRange item → ⊥) }
 {
-    let Some((word, first, second)) = three_fields(line) else {
+    let (word, behind) = first_piece(line, b' ');
+    let Some(rest) = behind else {
         return None;
     };
     if is_word(word, b"run") {
-        return read_run(first, second);
+        return read_run(rest);
     }
+    if is_word(word, b"off") {
+        return read_off(rest);
+    }
+    read_action(word, rest)
+}
+
+/// The item of an action, by its first field.
+fn read_action(word: &[u8], rest: &[u8]) -> Option<Item>
+    requires run { word.now ≡ codes "run" → ⊥ }
+    requires off { word.now ≡ codes "off" → ⊥ }
+    ensures found { IfSome result (λ item. (word.now ∷ pieces 32 rest.now ≡ item_fields item) × InRange item) }
+    ensures none { IfNone result ((item : Each) → word.now ∷ pieces 32 rest.now ≡ item_fields item → InRange item → ⊥) }
+{
     if is_word(word, b"select") {
-        return read_select(first, second);
+        return read_select(rest);
+    }
+    if is_word(word, b"insert") {
+        return read_insert(rest);
+    }
+    if is_word(word, b"withdraw") {
+        return read_withdraw(rest);
+    }
+    if is_word(word, b"tear") {
+        return read_tear(rest);
+    }
+    if is_word(word, b"place") {
+        return read_place(rest);
     }
     None
 }
 
 /// The item of `run` with these fields.
-fn read_run(seconds: &[u8], speed: &[u8]) -> Option<Item>
-    ensures found { IfSome result (λ item. (codes "run" ∷ seconds.now ∷ speed.now ∷ [] ≡ item_fields item) × InRange item) }
-    ensures none { IfNone result ((item : Each) → codes "run" ∷ seconds.now ∷ speed.now ∷ [] ≡ item_fields item → InRange item → ⊥) }
+fn read_run(rest: &[u8]) -> Option<Item>
+    ensures found { IfSome result (λ item. (codes "run" ∷ pieces 32 rest.now ≡ item_fields item) × InRange item) }
+    ensures none { IfNone result ((item : Each) → codes "run" ∷ pieces 32 rest.now ≡ item_fields item → InRange item → ⊥) }
 {
-    let Some(seconds) = number(seconds) else {
+    let Some((seconds, speed)) = two_fields(rest) else {
         return None;
     };
-    let Some(speed) = number(speed) else {
+    let Some(seconds) = number_between(seconds, 1, MOST) else {
         return None;
     };
-    if seconds < 1 || seconds > MOST || speed > 255 {
+    let Some(speed) = byte(speed) else {
         return None;
-    }
-    Some(Item::Run {
-        seconds,
-        speed: speed as u8,
-    })
+    };
+    Some(Item::Run { seconds, speed })
+}
+
+/// The item of `off` with these fields.
+fn read_off(rest: &[u8]) -> Option<Item>
+    ensures found { IfSome result (λ item. (codes "off" ∷ pieces 32 rest.now ≡ item_fields item) × InRange item) }
+    ensures none { IfNone result ((item : Each) → codes "off" ∷ pieces 32 rest.now ≡ item_fields item → InRange item → ⊥) }
+{
+    let Some(seconds) = one_field(rest) else {
+        return None;
+    };
+    let Some(seconds) = number_between(seconds, 1, MOST) else {
+        return None;
+    };
+    Some(Item::Off { seconds })
 }
 
 /// The item of `select` with these fields.
-fn read_select(slot: &[u8], pick: &[u8]) -> Option<Item>
-    ensures found { IfSome result (λ item. (codes "select" ∷ slot.now ∷ pick.now ∷ [] ≡ item_fields item) × InRange item) }
-    ensures none { IfNone result ((item : Each) → codes "select" ∷ slot.now ∷ pick.now ∷ [] ≡ item_fields item → InRange item → ⊥) }
+fn read_select(rest: &[u8]) -> Option<Item>
+    ensures found { IfSome result (λ item. (codes "select" ∷ pieces 32 rest.now ≡ item_fields item) × InRange item) }
+    ensures none { IfNone result ((item : Each) → codes "select" ∷ pieces 32 rest.now ≡ item_fields item → InRange item → ⊥) }
 {
+    let Some((slot, pick)) = two_fields(rest) else {
+        return None;
+    };
     let Some(slot) = read_slot(slot) else {
         return None;
     };
@@ -111,9 +148,82 @@ fn read_select(slot: &[u8], pick: &[u8]) -> Option<Item>
     Some(Item::Act(Action::Select { slot, pick }))
 }
 
+/// The item of `insert` with these fields.
+fn read_insert(rest: &[u8]) -> Option<Item>
+    ensures found { IfSome result (λ item. (codes "insert" ∷ pieces 32 rest.now ≡ item_fields item) × InRange item) }
+    ensures none { IfNone result ((item : Each) → codes "insert" ∷ pieces 32 rest.now ≡ item_fields item → InRange item → ⊥) }
+{
+    let Some((slot, card)) = two_fields(rest) else {
+        return None;
+    };
+    let Some(slot) = read_slot(slot) else {
+        return None;
+    };
+    let Some(card) = read_card(card) else {
+        return None;
+    };
+    Some(Item::Act(Action::Insert { slot, card }))
+}
+
+/// The item of `withdraw` with these fields.
+fn read_withdraw(rest: &[u8]) -> Option<Item>
+    ensures found { IfSome result (λ item. (codes "withdraw" ∷ pieces 32 rest.now ≡ item_fields item) × InRange item) }
+    ensures none { IfNone result ((item : Each) → codes "withdraw" ∷ pieces 32 rest.now ≡ item_fields item → InRange item → ⊥) }
+{
+    let Some(slot) = one_field(rest) else {
+        return None;
+    };
+    let Some(slot) = read_slot(slot) else {
+        return None;
+    };
+    Some(Item::Act(Action::Withdraw { slot }))
+}
+
+/// The item of `tear` with these fields.
+fn read_tear(rest: &[u8]) -> Option<Item>
+    ensures found { IfSome result (λ item. (codes "tear" ∷ pieces 32 rest.now ≡ item_fields item) × InRange item) }
+    ensures none { IfNone result ((item : Each) → codes "tear" ∷ pieces 32 rest.now ≡ item_fields item → InRange item → ⊥) }
+{
+    let Some(slot) = one_field(rest) else {
+        return None;
+    };
+    let Some(slot) = read_slot(slot) else {
+        return None;
+    };
+    Some(Item::Act(Action::Tear { slot }))
+}
+
+/// The item of `place` with these fields.
+fn read_place(rest: &[u8]) -> Option<Item>
+    ensures found { IfSome result (λ item. (codes "place" ∷ pieces 32 rest.now ≡ item_fields item) × InRange item) }
+    ensures none { IfNone result ((item : Each) → codes "place" ∷ pieces 32 rest.now ≡ item_fields item → InRange item → ⊥) }
+{
+    let Some((slot, ending, country, region)) = four_fields(rest) else {
+        return None;
+    };
+    let Some(slot) = read_slot(slot) else {
+        return None;
+    };
+    let Some(ending) = read_ending(ending) else {
+        return None;
+    };
+    let Some(country) = byte(country) else {
+        return None;
+    };
+    let Some(region) = byte(region) else {
+        return None;
+    };
+    Some(Item::Act(Action::Place {
+        slot,
+        ending,
+        country,
+        region,
+    }))
+}
+
 fn read_slot(word: &[u8]) -> Option<Slot>
     ensures found { IfSome result (λ slot. word.now ≡ slot_word slot) }
-    ensures none { IfNone result ((slot : Which) → word.now ≡ slot_word slot → ⊥) }
+    ensures none { IfNone result ((slot : EachSlot) → word.now ≡ slot_word slot → ⊥) }
 {
     if is_word(word, b"driver") {
         return Some(Slot::Driver);
@@ -126,7 +236,7 @@ fn read_slot(word: &[u8]) -> Option<Slot>
 
 fn read_pick(word: &[u8]) -> Option<Pick>
     ensures found { IfSome result (λ pick. word.now ≡ pick_word pick) }
-    ensures none { IfNone result ((pick : Picked) → word.now ≡ pick_word pick → ⊥) }
+    ensures none { IfNone result ((pick : EachPick) → word.now ≡ pick_word pick → ⊥) }
 {
     if is_word(word, b"rest") {
         return Some(Pick::Rest);
@@ -136,6 +246,33 @@ fn read_pick(word: &[u8]) -> Option<Pick>
     }
     if is_word(word, b"work") {
         return Some(Pick::Work);
+    }
+    None
+}
+
+fn read_card(word: &[u8]) -> Option<Card>
+    ensures found { IfSome result (λ card. word.now ≡ card_word card) }
+    ensures none { IfNone result ((card : EachCard) → word.now ≡ card_word card → ⊥) }
+{
+    if is_word(word, b"a") {
+        return Some(Card::A);
+    }
+    if is_word(word, b"b") {
+        return Some(Card::B);
+    }
+    None
+}
+
+/// Whether a place is where the day ends, and not where it begins.
+fn read_ending(word: &[u8]) -> Option<bool>
+    ensures found { IfSome result (λ ending. word.now ≡ ending_word ending) }
+    ensures none { IfNone result ((ending : Bool) → word.now ≡ ending_word ending → ⊥) }
+{
+    if is_word(word, b"begin") {
+        return Some(false);
+    }
+    if is_word(word, b"end") {
+        return Some(true);
     }
     None
 }

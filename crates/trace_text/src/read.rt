@@ -2,17 +2,19 @@
 ghost use Rattle.std.specs.Prelude.{◌≡◌, ℕ, ◌<◌, ◌≤◌, ◌∷◌, List, length, IfOk, IfErr, OnOk, IsErrOf, IsErrAnd, ◌⊎◌, Some, Err, MatchResult};
 ghost use Rattle.std.specs.Io.KnownBytes.{IsAtEnd};
 ghost use Rattle.tach_media.specs.Medium.{Rose};
-ghost use Rattle.trace_text.specs.declared.trace.Item.{Item};
+ghost use Rattle.std.specs.List.{AllByRecursion};
+ghost use Rattle.trace_model.specs.declared.Item.{Item};
+ghost use Rattle.trace_text.specs.Line.{IsKnown};
 ghost use Rattle.trace_text.specs.Text.{lines_of};
 ghost use Rattle.trace_text.specs.Trace.{IsTraceOf, IsWellFormed};
 ghost use Rattle.trace_text.specs.Judged.{IsTraceText, IsBadText, IsLongText, IsFailure};
 ghost use Rattle.trace_text.specs.Reading.{IsFaultOf};
 
-use crate::fields::first_piece;
 use crate::reading::Reading;
 use crate::trace::{Form, Trace, TraceFault};
 use std::alloc::Global;
 use tach_media::{Source, TakeFault, take_all};
+use text_fields::first_piece;
 
 /// The most bytes of a source.
 const MOST_BYTES: u32 = 16777216;
@@ -23,8 +25,9 @@ pub fn read_trace<S: Source>(alloc: Global, source: &mut S, form: Form) -> Resul
     // What is read is the trace that the source told, and nothing of the source is left.
     ensures trace { (text : List ℕ) → S.left source.old ≡ Some text → IfOk result (λ t. IsTraceText form text t.start t.items) }
     ensures end { OnOk result (IsAtEnd (S.left source.new)) }
-    // It is well formed, whether or not the source tells its content.
+    // It is well formed and each of its items is one of the form's, whether or not the source tells its content.
     ensures well_formed { IfOk result (λ t. IsWellFormed t.start t.items) }
+    ensures known { IfOk result (λ t. AllByRecursion (IsKnown form) t.items) }
 
     // Each refusal has its cause.
     ensures bad_line { (text : List ℕ) (n : ℕ) → S.left source.old ≡ Some text → result ≡ Err (TraceFault.BadLine n) → IsBadText form text n }

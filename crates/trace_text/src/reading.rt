@@ -1,8 +1,15 @@
 //! A trace, read line by line.
 
 use crate::line::{LAST, MOST, is_counted, read_item, read_start};
-use crate::trace::{Form, Item, Items, Trace, TraceFault};
+use crate::trace::{Form, Items, Trace, TraceFault};
 use std::alloc::Global;
+use trace_model::Item;
+
+/// The second that is put in.
+const PUT_IN: Item = Item::Run {
+    seconds: 1,
+    speed: 0,
+};
 
 /// A trace as far as its lines were read.
 #[derive(Drop)]
@@ -13,19 +20,20 @@ pub struct Reading {
     pub lines: u32,
     /// The first second, once the `start` line was read.
     pub start: Option<u32>,
-    /// The items behind it.
+    /// The items behind it, with the seconds that are put in before an `off`.
     pub items: Items,
     /// The seconds of these items.
     pub total: u32,
-    /// The last item's line, where that item is an action.
-    pub action_line: Option<u32>,
+    /// The last item's line, where that item is an action, which waits for a second.
+    pub waiting: Option<u32>,
 }
 
 impl Reading {
     ghost use Rattle.std.specs.Prelude.{◌≡◌, ◌+◌, ◌<◌, ℕ, List, [], ◌∷◌, ◌++◌, OnOk, IfErr, MatchResult, None as NoSecond, Some as Second, true};
+    ghost use Rattle.trace_model.specs.declared.Item.{Item as Each};
     ghost use Rattle.trace_text.specs.Text.{counts};
-    ghost use Rattle.trace_text.specs.Trace.{IsTraceOf};
-    ghost use Rattle.trace_text.specs.Reading.{HasRead, IsFaultOf};
+    ghost use Rattle.trace_text.specs.Trace.{IsTraceOf, put_in, added, waits};
+    ghost use Rattle.trace_text.specs.Reading.{HasRead, HasTaken, IsFaultOf, IsFaultAt};
 
     /// No line was read.
     pub fn new(alloc: Global, form: Form) -> Self
@@ -39,7 +47,7 @@ impl Reading {
             start: None,
             items: Items::new(alloc),
             total: 0,
-            action_line: None,
+            waiting: None,
         }
     }
 
@@ -93,58 +101,84 @@ impl Reading {
         let Some(item) = read_item(self.form, line) else {
             return Err(TraceFault::BadLine(number));
         };
+        if let Err(fault) = self.append(start, number, item) {
+            return Err(fault);
+        }
+        self.waiting = waits_behind(item, number);
+        self.lines = number;
+        Ok(())
+    }
+
+    /// Takes the item of a line, with the second that is put in before an `off`.
+    fn append(&mut self, start: u32, line: u32, item: Item) -> Result<(), TraceFault>
+        ensures ok { (placed : List (ℕ × Each)) → HasTaken start placed self.old → OnOk result (HasTaken start (placed ++ added self.old.waiting (line, item)) self.new) }
+        ensures fault { (placed more : List (ℕ × Each)) → HasTaken start placed self.old → IfErr result (IsFaultAt start (placed ++ (added self.old.waiting (line, item) ++ more))) }
+        ensures form { self.new.form ≡ self.old.form }
+        ensures lines { self.new.lines ≡ self.old.lines }
+        ensures start { self.new.start ≡ self.old.start }
+    {
+        if let Item::Off { .. } = item {
+            if let Err(fault) = self.put_in(start) {
+                return Err(fault);
+            }
+        }
+        self.add(start, line, item)
+    }
+
+    /// Takes the second that is put in, where an action waits for one.
+    fn put_in(&mut self, start: u32) -> Result<(), TraceFault>
+        ensures ok { (placed : List (ℕ × Each)) → HasTaken start placed self.old → OnOk result (HasTaken start (placed ++ put_in self.old.waiting) self.new) }
+        ensures fault { (placed more : List (ℕ × Each)) → HasTaken start placed self.old → IfErr result (IsFaultAt start (placed ++ (put_in self.old.waiting ++ more))) }
+        ensures form { self.new.form ≡ self.old.form }
+        ensures lines { self.new.lines ≡ self.old.lines }
+        ensures start { self.new.start ≡ self.old.start }
+    {
+        match self.waiting {
+            None => Ok(()),
+            Some(line) => self.add(start, line, PUT_IN),
+        }
+    }
+
+    /// Takes an item whose seconds count to a line.
+    fn add(&mut self, start: u32, line: u32, item: Item) -> Result<(), TraceFault>
+        ensures ok { (placed : List (ℕ × Each)) → HasTaken start placed self.old → OnOk result (HasTaken start (placed ++ (line, item) ∷ []) self.new) }
+        ensures fault { (placed more : List (ℕ × Each)) → HasTaken start placed self.old → IfErr result (IsFaultAt start (placed ++ ((line, item) ∷ more))) }
+        ensures form { self.new.form ≡ self.old.form }
+        ensures lines { self.new.lines ≡ self.old.lines }
+        ensures start { self.new.start ≡ self.old.start }
+    {
         let seconds = seconds_of(item);
         if !fits(start, self.total, seconds) {
-            return Err(TraceFault::TooLong(number));
+            return Err(TraceFault::TooLong(line));
         }
         let Ok(()) = self.items.push(item) else {
             return Err(TraceFault::Memory);
         };
         self.total += seconds;
-        self.action_line = action_line(item, number);
-        self.lines = number;
         Ok(())
     }
 
     /// The trace of the lines that were read, with the second that is put in where no run follows the actions at the end.
-    pub fn finish(self) -> Result<Trace, TraceFault>
+    pub fn finish(mut self) -> Result<Trace, TraceFault>
         requires { self.lines < 4294967295 }
         ensures { (lines : List (List ℕ)) → HasRead lines self
             → MatchResult result (λ t. IsTraceOf self.form lines t.start t.items) (IsFaultOf self.form lines) }
     {
-        let Reading {
-            form: _,
-            lines,
-            start,
-            mut items,
-            total,
-            action_line,
-        } = self;
-        let Some(start) = start else {
-            return Err(TraceFault::BadLine(lines + 1));
+        let after_last = self.lines + 1;
+        let Some(start) = self.start else {
+            return Err(TraceFault::BadLine(after_last));
         };
-        let Some(line) = action_line else {
-            return Ok(Trace { start, items });
-        };
-        if !fits(start, total, 1) {
-            return Err(TraceFault::TooLong(line));
+        if let Err(fault) = self.put_in(start) {
+            return Err(fault);
         }
-        let Ok(()) = items.push(PUT_IN) else {
-            return Err(TraceFault::Memory);
-        };
+        let Reading { items, .. } = self;
         Ok(Trace { start, items })
     }
 }
 
-/// The second that is put in.
-const PUT_IN: Item = Item::Run {
-    seconds: 1,
-    speed: 0,
-};
-
 ghost use Rattle.std.specs.Prelude.{◌≡◌, ◌↔◌, ◌+◌, IsTrue};
-ghost use Rattle.trace_text.specs.Trace.{IsWithin, item_seconds};
-ghost use Rattle.trace_text.specs.Reading.{action_line_of};
+ghost use Rattle.trace_model.specs.Trace.{item_seconds};
+ghost use Rattle.trace_text.specs.Trace.{IsWithin, waits};
 
 /// The seconds that an item spells.
 fn seconds_of(item: Item) -> u32
@@ -152,16 +186,17 @@ fn seconds_of(item: Item) -> u32
 {
     match item {
         Item::Run { seconds, speed: _ } => seconds,
+        Item::Off { seconds } => seconds,
         Item::Act(_) => 0,
     }
 }
 
 /// The line of an item, where it is an action.
-fn action_line(item: Item, line: u32) -> Option<u32>
-    ensures { result ≡ action_line_of item line }
+fn waits_behind(item: Item, line: u32) -> Option<u32>
+    ensures { result ≡ waits (line, item) }
 {
     match item {
-        Item::Run { .. } => None,
+        Item::Run { .. } | Item::Off { .. } => None,
         Item::Act(_) => Some(line),
     }
 }

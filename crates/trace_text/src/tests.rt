@@ -3,32 +3,183 @@ use activity_codec::{Pick, Slot};
 use std::test::Fail;
 use tach_media::MemSource;
 
-#[test]
-fn a_trace_is_read(rt: HostRuntime) -> Result<(), Fail> {
+/// What is read of a text.
+fn read(rt: &HostRuntime, text: &[u8], form: Form) -> Result<Result<Trace, TraceFault>, Fail> {
     let alloc = rt.alloc();
-    let text = b"# a day\n\nstart 1267401600\nrun 3600 50\nselect codriver available";
     let mut source = MemSource::new(text.to_vec(alloc)?, Vec::new(alloc));
-    let trace = match read_trace(alloc, &mut source, Form::Whole) {
+    Ok(read_trace(alloc, &mut source, form))
+}
+
+/// How a text of the whole form is wrong.
+fn fault(rt: &HostRuntime, text: &[u8]) -> Result<Option<TraceFault>, Fail> {
+    match read(rt, text, Form::Whole)? {
+        Ok(_) => Ok(None),
+        Err(fault) => Ok(Some(fault)),
+    }
+}
+
+const DAYS: Item = Item::Run {
+    seconds: 34559999,
+    speed: 0,
+};
+
+const PUT_IN: Item = Item::Run {
+    seconds: 1,
+    speed: 0,
+};
+
+#[test]
+fn each_kind_of_line_is_read(rt: HostRuntime) -> Result<(), Fail> {
+    let text = b"# a day\n\nstart 1267401600\nrun 3600 50\nselect codriver available\ninsert driver a\nwithdraw codriver\noff 60\ntear driver\nplace driver end 0 255";
+    let trace = match read(&rt, text, Form::Whole)? {
         Ok(trace) => trace,
         Err(fault) => return Err(Fail::from(fault)),
     };
+    let items = [
+        Item::Run {
+            seconds: 3600,
+            speed: 50,
+        },
+        Item::Act(Action::Select {
+            slot: Slot::CoDriver,
+            pick: Pick::Available,
+        }),
+        Item::Act(Action::Insert {
+            slot: Slot::Driver,
+            card: Card::A,
+        }),
+        Item::Act(Action::Withdraw {
+            slot: Slot::CoDriver,
+        }),
+        PUT_IN,
+        Item::Off { seconds: 60 },
+        Item::Act(Action::Tear { slot: Slot::Driver }),
+        Item::Act(Action::Place {
+            slot: Slot::Driver,
+            ending: true,
+            country: 0,
+            region: 255,
+        }),
+        PUT_IN,
+    ];
     assert_eq!(rt; trace.start, 1267401600);
+    assert_eq!(rt; trace.items.len(), 9);
+    for i in 0..9 {
+        assert_eq!(rt; *trace.items.get(i), items[i]);
+    }
+    Ok(())
+}
+
+#[test]
+fn lines_that_are_none(rt: HostRuntime) -> Result<(), Fail> {
+    let bad: [&[u8]; 37] = [
+        b"start 86399",
+        b"start 4294880896",
+        b"start 086400",
+        b"start  86400",
+        b"run 1",
+        b"run 1 0 0",
+        b"run 0 0",
+        b"run 34560001 0",
+        b"run 1 256",
+        b"run 01 0",
+        b"run 1 0 ",
+        b"run 1 0\r",
+        b"off",
+        b"off 0",
+        b"off 34560001",
+        b"off 1 0",
+        b"select driver drive",
+        b"select unit work",
+        b"select driver",
+        b"insert driver c",
+        b"insert driver",
+        b"insert a driver",
+        b"withdraw",
+        b"withdraw both",
+        b"withdraw driver a",
+        b"tear",
+        b"tear Driver",
+        b"tear driver b",
+        b"place driver begin 1",
+        b"place driver begin 256 0",
+        b"place driver begin 0 256",
+        b"place driver middle 1 1",
+        b"place a begin 1 1",
+        b"place driver begin 1 1 1",
+        b"start 86400",
+        b"Run 1 0",
+        b" ",
+    ];
+    for line in bad {
+        let mut text = b"start 86400\nrun 1 0\n".to_vec(rt.alloc())?;
+        text.extend_from_slice(line)?;
+        assert_eq!(rt; fault(&rt, text.as_slice())?, Some(TraceFault::BadLine(3)));
+    }
+    Ok(())
+}
+
+#[test]
+fn the_form_of_minutes_has_runs_and_selections(rt: HostRuntime) -> Result<(), Fail> {
+    let others: [&[u8]; 5] = [
+        b"start 86400\noff 1",
+        b"start 86400\ninsert driver a",
+        b"start 86400\nwithdraw driver",
+        b"start 86400\ntear driver",
+        b"start 86400\nplace driver begin 1 1",
+    ];
+    for text in others {
+        let read_as_minutes = match read(&rt, text, Form::Minutes)? {
+            Ok(_) => None,
+            Err(fault) => Some(fault),
+        };
+        assert_eq!(rt; read_as_minutes, Some(TraceFault::BadLine(2)));
+        assert_eq!(rt; fault(&rt, text)?, None);
+    }
+    Ok(())
+}
+
+#[test]
+fn a_trace_needs_its_start(rt: HostRuntime) -> Result<(), Fail> {
+    assert_eq!(rt; fault(&rt, b"")?, Some(TraceFault::BadLine(1)));
+    assert_eq!(rt; fault(&rt, b"\n")?, Some(TraceFault::BadLine(2)));
+    assert_eq!(rt; fault(&rt, b"# none\n\n")?, Some(TraceFault::BadLine(3)));
+    assert_eq!(rt; fault(&rt, b"run 1 0")?, Some(TraceFault::BadLine(1)));
+    Ok(())
+}
+
+#[test]
+fn a_second_that_is_put_in_counts_to_the_last_action(rt: HostRuntime) -> Result<(), Fail> {
+    let full = b"start 86400\nrun 34560000 0\ntear driver\nselect driver work\n# note\n";
+    let endings: [(&[u8], TraceFault); 5] = [
+        (b"run 1 0", TraceFault::TooLong(6)),
+        (b"off 1", TraceFault::TooLong(4)),
+        (b"", TraceFault::TooLong(4)),
+        (b"run 1", TraceFault::BadLine(6)),
+        (b"\n# end", TraceFault::TooLong(4)),
+    ];
+    for (ending, wanted) in endings {
+        let mut text = full.to_vec(rt.alloc())?;
+        text.extend_from_slice(ending)?;
+        assert_eq!(rt; fault(&rt, text.as_slice())?, Some(wanted));
+    }
+    Ok(())
+}
+
+#[test]
+fn the_last_second_may_be_put_in(rt: HostRuntime) -> Result<(), Fail> {
+    let text = b"start 86400\nrun 34559999 0\ntear driver\n";
+    let trace = match read(&rt, text, Form::Whole)? {
+        Ok(trace) => trace,
+        Err(fault) => return Err(Fail::from(fault)),
+    };
     assert_eq!(rt; trace.items.len(), 3);
-    let driven = Item::Run {
-        seconds: 3600,
-        speed: 50,
-    };
-    let selected = Item::Act(Action::Select {
-        slot: Slot::CoDriver,
-        pick: Pick::Available,
-    });
-    let put_in = Item::Run {
-        seconds: 1,
-        speed: 0,
-    };
-    assert_eq!(rt; *trace.items.get(0), driven);
-    assert_eq!(rt; *trace.items.get(1), selected);
-    assert_eq!(rt; *trace.items.get(2), put_in);
+    assert_eq!(rt; *trace.items.get(0), DAYS);
+    assert_eq!(rt; *trace.items.get(2), PUT_IN);
+    assert_eq!(rt; fault(&rt, b"start 86400\nrun 34559999 0\ntear driver\noff 1")?, Some(TraceFault::TooLong(4)));
+    assert_eq!(rt; fault(&rt, b"start 4294880895\nrun 1 0")?, None);
+    assert_eq!(rt; fault(&rt, b"start 4294880895\noff 2")?, Some(TraceFault::TooLong(2)));
+    assert_eq!(rt; fault(&rt, b"start 4294880895\nrun 1 0\nselect driver rest")?, Some(TraceFault::TooLong(3)));
     Ok(())
 }
 

@@ -2,34 +2,18 @@
 ghost use Rattle.std.specs.Prelude.{◌≡◌, ◌==◌, ◌<◌, [], ◌∷◌, ◌++◌, OnOk, OnErr, length, slice_get, Some};
 ghost use Rattle.trace_text.specs.Line.{knows};
 
-use activity_codec::{Pick, Slot};
 use std::alloc::Global;
 use std::marker::Model;
 use tach_media::Memory;
+use trace_model::{Action, Item};
 
 /// Which lines may follow the `start` line.
 #[derive(Clone, Copy, Debug, PartialEq, Eq)]
 pub enum Form {
     /// `run` and `select`.
     Minutes,
-    /// All that a run can have; as yet `run` and `select`.
+    /// All that a run can have: `run`, `off` and all actions.
     Whole,
-}
-
-/// What is asked of the unit at the start of a second.
-#[derive(Clone, Copy, Debug, PartialEq, Eq)]
-pub enum Action {
-    /// An activity is selected by hand.
-    Select { slot: Slot, pick: Pick },
-}
-
-/// A line of a trace behind its `start` line.
-#[derive(Clone, Copy, Debug, PartialEq, Eq)]
-pub enum Item {
-    /// So many seconds, 1 to 34560000, at a speed in km/h.
-    Run { seconds: u32, speed: u8 },
-    /// An action at the start of the second that follows.
-    Act(Action),
 }
 
 impl Form {
@@ -38,8 +22,9 @@ impl Form {
         ensures { result ≡ knows self item }
     {
         match (self, item) {
-            (Form::Minutes | Form::Whole, Item::Run { .. }) => true,
-            (Form::Minutes | Form::Whole, Item::Act(Action::Select { .. })) => true,
+            (Form::Whole, _) => true,
+            (Form::Minutes, Item::Run { .. } | Item::Act(Action::Select { .. })) => true,
+            (Form::Minutes, Item::Off { .. } | Item::Act(_)) => false,
         }
     }
 }
@@ -52,7 +37,7 @@ pub struct Items {
 
 impl Model for Items {
     ghost use Rattle.std.specs.Prelude.{List};
-    ghost use Rattle.trace_text.specs.declared.trace.Item.{Item as Each};
+    ghost use Rattle.trace_model.specs.declared.Item.{Item as Each};
 
     ghost Value = { List Each };
 
@@ -103,7 +88,7 @@ impl Items {
     }
 }
 
-/// A trace. The second that is put in where no run follows the actions at the end is one of its items.
+/// A trace. The seconds that are put in, where no run follows actions before the next `off` or the end, are among its items.
 #[derive(Drop)]
 pub struct Trace {
     /// The first second, in seconds since 1970-01-01 00:00 GMT: 86400 to 4294880895.

@@ -3,10 +3,10 @@ use Rattle.std.specs.Prelude.{map}
 use Rattle.std.proofs.lemmas.List.{take_all}
 use Rattle.minute_model.specs.declared.Rule.TheVariants.{Original}
 use Rattle.minute_model.specs.Span.{Span, begin, decided_in}
-use Rattle.trace_text.specs.declared.trace.Item.{Item}
+use Rattle.trace_model.specs.declared.Item.{Item}
 use Rattle.tacho.specs.Feeding.{fed_items}
 use Rattle.tacho.specs.Minutes.{without_card}
-use Rattle.tacho.proofs.Fed.{fed_items-at, total-at, decided-items, decided-begin}
+use Rattle.tacho.proofs.Fed.{fed_items-at, total-at, known-at, decided-items, decided-begin}
 use Rattle.tacho.proofs.minutes.minutes_of.Goals as goal
 
 pub loop-i-init : goal.loop-i-init
@@ -14,12 +14,15 @@ loop-i-init c =
     record {
       stands = c.new-minutes.ensures.span;
       all = c.new-all.ensures.items ∙ sym (ap (map without_card) (decided-begin Original c.args.trace.now.start));
-      next = omega (arith, c.new-minutes.ensures.next, c.requires.within.1);
+      next = omega (arith, c.new-minutes.ensures.next, c.requires.well.within.1);
     }
 
-pub feed_item-requires : goal.feed_item-requires
-feed_item-requires c =
+pub feed_item-requires-clause-fits : goal.feed_item-requires-clause-fits
+feed_item-requires-clause-fits c =
     omega (arith, total-at c.args.trace.now.items c.loop-i.i c.get-item.result.now c.get-item.ensures, c.loop-i.invariant.next)
+
+pub feed_item-requires-clause-known : goal.feed_item-requires-clause-known
+feed_item-requires-clause-known c = known-at c.args.trace.now.items c.loop-i.i c.get-item.result.now c.get-item.ensures c.requires.known
 
 pub loop-i-preserved : goal.loop-i-preserved
 loop-i-preserved c =
@@ -35,4 +38,4 @@ loop-i-preserved c =
 pub returns : goal.returns
 returns c =
     let end : length c.args.trace.now.items ≤ c.loop-i.i = omega arith in
-    c.loop-i.invariant.all ∙ ap (λ (items : List Item). map without_card (decided_in (fed_items (begin Original c.args.trace.now.start) items))) (take_all c.loop-i.i c.args.trace.now.items end) ∙ ap (map without_card) (decided-items c.args.trace.now.start c.args.trace.now.items c.requires.each)
+    c.loop-i.invariant.all ∙ ap (λ (items : List Item). map without_card (decided_in (fed_items (begin Original c.args.trace.now.start) items))) (take_all c.loop-i.i c.args.trace.now.items end) ∙ ap (map without_card) (decided-items c.args.trace.now.start c.args.trace.now.items c.requires.known)

@@ -3,7 +3,7 @@ use Rattle.std.specs.Prelude.{map}
 use Rattle.minute_model.specs.declared.Rule.TheVariants.{Original}
 use Rattle.minute_model.specs.Span.{begin, decided_in}
 use Rattle.minute_rules.specs.Kept.{StandsFor}
-use Rattle.trace_text.specs.Trace.{total_seconds}
+use Rattle.trace_model.specs.Trace.{total_seconds}
 use Rattle.tacho.specs.Feeding.{fed_items}
 use Rattle.tacho.specs.Minutes.{without_card}
 use Rattle.tacho.proofs.minutes.minutes_of.Given as goal

@@ -1,6 +1,6 @@
 use Rattle.std.proofs.Common.{ℕ, List, ◌≡◌, ◌∙◌, ◌≤◌, length, sym, subst, arith, Some}
 use Rattle.trace_text.specs.Text.{lines_of}
-use Rattle.trace_text.proofs.Answered.{Judges, told-text, judges-trace, judges-bad, judges-long, reads-trace, finds-bad, finds-long, trace-well_formed}
+use Rattle.trace_text.proofs.Answered.{Judges, told-text, judges-trace, judges-bad, judges-long, reads-trace, finds-bad, finds-long, trace-well_formed, trace-known}
 use Rattle.trace_text.proofs.read.read_trace.Given.{Over}
 use Rattle.trace_text.proofs.read.read_trace.Goals as goal
 
@@ -17,6 +17,9 @@ returns-clause-trace g c = λ text told.
 
 pub returns-clause-well_formed : goal.returns-clause-well_formed
 returns-clause-well_formed g c = trace-well_formed c.args.form (lines_of c.as_slice.result.now) c.trace_of.result c.trace_of.ensures
+
+pub returns-clause-known : goal.returns-clause-known
+returns-clause-known g c = trace-known c.args.form (lines_of c.as_slice.result.now) c.trace_of.result c.trace_of.ensures
 
 pub returns-clause-bad_line : goal.returns-clause-bad_line
 returns-clause-bad_line g c = λ text n told is.
