@@ -1,0 +1,6 @@
+pub mod Log
+pub mod Slots
+pub mod Course
+pub mod Spans
+pub mod Same
+pub mod Causes

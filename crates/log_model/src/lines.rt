@@ -1,0 +1,86 @@
+//! The lines of a run log (profile). A second is counted from 1970-01-01 00:00 GMT, a minute is that divided by 60.
+
+use activity_codec::Slot;
+use card_layout::Fid;
+use run_model::Device;
+use trace_model::Card;
+
+/// Why an action was refused.
+#[derive(Clone, Copy, Debug, PartialEq, Eq)]
+pub enum SlotFault {
+    /// A card is not withdrawn while the vehicle moves: its speed in km/h, 1 to 255.
+    Moving(u8),
+    /// The slot holds no card.
+    Empty(Slot),
+    /// The slot holds a card already.
+    Occupied(Slot),
+    /// The slot holds no accepted card.
+    NoCard(Slot),
+    /// The card is in the other slot.
+    Elsewhere(Card),
+    /// There is no power.
+    NoPower,
+}
+
+/// A minute that a device has acknowledged: from now on it stands there, whatever stops come.
+#[derive(Clone, Copy, Debug, PartialEq, Eq)]
+pub struct Mark {
+    pub device: Device,
+    pub minute: u32,
+    /// The device's clock, in writes begun, after the call that kept the minute.
+    pub clock: u64,
+}
+
+/// Power was lost, or a card was torn out.
+#[derive(Clone, Copy, Debug, PartialEq, Eq)]
+pub enum Break {
+    /// The power was lost in a second.
+    Cut {
+        second: u32,
+        /// The last-kept minute that the next power-on found which loaded the unit, 0 where none came.
+        kept: u32,
+        /// Whether a call on the unit failed; else it is the last second before an `off` line.
+        failed: bool,
+        /// How many actions of the second had begun.
+        begun: u32,
+    },
+    /// A card left its slot in a second with no orderly withdrawal.
+    Tear {
+        second: u32,
+        slot: Slot,
+        /// Whether a call on the card failed; else it is a `tear` line.
+        failed: bool,
+        /// How many actions of the second had begun, the one in which it came included.
+        begun: u32,
+        /// Whether it came in the keeping of minutes, behind all actions of the second.
+        late: bool,
+    },
+}
+
+/// What an insertion found, or the power-on for a card in a slot.
+#[derive(Clone, Copy, Debug, PartialEq, Eq)]
+pub enum Verdict {
+    /// The card is accepted, and so many owed entries were put on it, 0 to 4.
+    Accepted { replayed: u8 },
+    /// The card is not valid: the first file that fails, and the place in it.
+    NotValid { fid: Fid, place: u32 },
+    /// The card tells of a later time than this second.
+    TimeOverlap { stored: u32, now: u32 },
+}
+
+/// A card was judged.
+#[derive(Clone, Copy, Debug, PartialEq, Eq)]
+pub struct Find {
+    pub second: u32,
+    pub slot: Slot,
+    pub verdict: Verdict,
+    /// How many actions of the second had begun, the insertion included; 0 at a power-on.
+    pub begun: u32,
+}
+
+/// An action was refused.
+#[derive(Clone, Copy, Debug, PartialEq, Eq)]
+pub struct Refused {
+    pub second: u32,
+    pub fault: SlotFault,
+}
