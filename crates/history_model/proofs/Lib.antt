@@ -1,0 +1,10 @@
+pub mod Filters
+pub mod Deciding
+pub mod Stilled
+pub mod Closing
+pub mod Growing
+pub mod Books
+pub mod Following
+pub mod BySeconds
+pub mod Rising
+pub mod Told

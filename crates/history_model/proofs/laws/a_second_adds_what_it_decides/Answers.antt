@@ -1,0 +1,7 @@
+use Rattle.std.proofs.Common.{◌+◌, List, [], ◌∷◌, ◌++◌, length}
+use Rattle.log_model.specs.Course.{went, second_told}
+use Rattle.history_model.proofs.Told.{grows, more-told, spanned-so_far, told-next}
+use Rattle.history_model.proofs.laws.a_second_adds_what_it_decides.Goals as goal
+
+pub returns : goal.returns
+returns c = λ rule start log ss s order lit starts two. grows rule start log c.args.n (c.args.n + length ss) (went log ss) (second_told log (went log ss).before s) (went log (ss ++ s ∷ [])).told (more-told log ss s) (spanned-so_far c.args.n log ss s order) (told-next c.args.n log ss s order) lit starts two
