@@ -1,1 +1,2 @@
 pub mod WorkedMinutes
+pub mod WorkedRuns
