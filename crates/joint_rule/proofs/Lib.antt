@@ -1,0 +1,12 @@
+pub mod Viewed
+pub mod Owing
+pub mod Pairs
+pub mod CardLaws
+pub mod UnitLaws
+pub mod KeepLaws
+pub mod EnterLaws
+pub mod Opening
+pub mod Holding
+pub mod Repairing
+pub mod Simple
+pub mod OwedView

@@ -1,0 +1,60 @@
+-- The rules at the opening of a run, of what the views show there.
+use Rattle.std.proofs.Common.{All, ◌≡◌, inl, ℕ, ◌<◌, ◌≤◌, cond, true, None, Option, List, [], ◌++◌, refl, ap, subst, ◌∙◌, sym, arith, nat_lt}
+use Rattle.std.proofs.lemmas.List.Elements.{All-weaker, All-nil}
+use Rattle.std.proofs.lemmas.List.{append-nil}
+use Rattle.activity_codec.specs.declared.entries.Entry.{Entry}
+use Rattle.trace_model.specs.declared.Card.{Card}
+use Rattle.history_model.specs.Minutes.{HistoryMinute}
+use Rattle.history_model.specs.Presence.{CardStart, trimmed_by}
+use Rattle.joint_rule.specs.Views.{UnitView, CardView, Held, owed}
+use Rattle.joint_rule.specs.Device.{Seen}
+use Rattle.history_model.specs.Book.{not_begun, Between, IsFork}
+use Rattle.joint_rule.specs.Rules.{Shows, UnitHolds, UnitRule, Brings, Meets, CardDark}
+use Rattle.history_model.proofs.Books.{history-none}
+use Rattle.joint_rule.proofs.Pairs.{newest-more, owed-above, had-meets}
+use Rattle.joint_rule.proofs.UnitLaws.{showed-shown}
+use Rattle.unit_model.specs.Days.{Day}
+
+-- a unit that leaves one view only, with these days
+pub opened-unit : (Fills : Option HistoryMinute → List HistoryMinute → List Day → Type 0) (U : Seen UnitView) (u : UnitView) (due : ℕ) → ((v : UnitView) → U.may_leave v → v ≡ u) → ((v : UnitView) → U.left_since U.clock v → v ≡ u) →
+    Fills None [] u.days → u.last < due → UnitHolds Fills u.last U.clock due not_begun U
+opened-unit Fills U u due now since days late = record {
+  later = omega arith;
+  order = record {
+    begins = late;
+    now = record { rising = tt; until = All-nil (λ (i : HistoryMinute). i.minute < due) };
+    lost = All-nil (Between u.last due);
+    forks = All-nil (IsFork []);
+  };
+  now = λ v on. subst (Shows Fills u.last not_begun) (sym (now v on)) shows;
+  since = λ v on. showed-shown Fills u.last not_begun v (subst (Shows Fills u.last not_begun) (sym (since v on)) shows);
+}
+  where
+    shows : Shows Fills u.last not_begun u
+    shows = record { next = None; comes = tt; days = days; sure = All-nil (λ (i : HistoryMinute). i.minute ≤ u.last); mark = inl refl }
+
+pub opened-rule : (Fills : Option HistoryMinute → List HistoryMinute → List Day → Type 0) (U : Seen UnitView) (first began due : ℕ) → U.works ≡ true → UnitHolds Fills first began due not_begun U → UnitRule Fills first began due not_begun U
+opened-rule Fills U first began due works holds = record { works = works; none = refl; holds = holds }
+
+module _ (c : Card) (start : CardStart) (Keeps : List Entry → Held → Type 0) where
+  pub opened-pair : (u : UnitView) (x : CardView) → Brings Keeps c start u x → Meets c start Keeps [] u x
+  opened-pair u x b = record {
+    more = [];
+    left = subst (λ (zs : List Entry). Keeps zs x.held) (sym b.entries ∙ sym (append-nil start.entries)) b.kept;
+    had = subst (All (λ (e : Entry). e.minute ≤ x.mark)) (sym b.entries ∙ sym (append-nil start.entries)) b.marked;
+    whole = sym b.owed ∙ sym (append-nil start.owed) ∙ ap (λ (zs : List Entry). start.owed ++ zs) (sym (history-none c));
+    newest = newest-more x start start.entries [] (owed c u x) (All-weaker (λ (e : Entry). x.mark < e.minute) (λ e. start.mark ≤ e.minute) (λ e lt. omega (arith, lt, b.mark)) (owed c u x) (owed-above c u x))
+        (b.newest ∙ ap (trimmed_by start) (sym b.entries ∙ sym (append-nil start.entries)));
+    mark = omega (arith, b.mark);
+    bound = b.bound;
+    words = λ closed. omega (arith, b.word ∙ ap (λ (s : ℕ). cond (nat_lt 0 s) 0 x.word) closed);
+  }
+
+  -- a card that leaves one view only, and a unit that does
+  pub opened-card : (U : Seen UnitView) (X : Seen CardView) (u : UnitView) (x : CardView) → ((v : UnitView) → U.may_leave v → v ≡ u) → ((y : CardView) → X.may_leave y → y ≡ x) → ((y : CardView) → X.left_since X.clock y → y ≡ x) →
+      Brings Keeps c start u x → CardDark c start Keeps X.clock not_begun U X
+  opened-card U X u x now there since b = record {
+    meets = λ v y on left. subst (λ (w : UnitView). Meets c start Keeps [] w y) (sym (now v on)) (subst (Meets c start Keeps [] u) (sym (there y left)) (opened-pair u x b));
+    later = omega arith;
+    since = λ y left. had-meets c start Keeps not_begun u y refl (All-nil (λ (i : HistoryMinute). i.minute ≤ u.last)) (subst (Meets c start Keeps [] u) (sym (since y left)) (opened-pair u x b));
+  }

@@ -1,0 +1,5 @@
+pub mod Views
+pub mod Device
+pub mod Steps
+pub mod Rules
+pub mod Filling

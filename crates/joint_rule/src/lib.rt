@@ -1,0 +1,7 @@
+//! The rules that join a unit and its cards between two calls (profile), over what their images show: definitions (specs/) of
+//! the views, of the rules, and of what each kind of step leaves, with the laws that each step keeps the rules (proofs/).
+#![tactic(auto)]
+
+mod laws;
+
+pub use laws::{days_go_on, owed_is_seen, presence_is_the_same};
