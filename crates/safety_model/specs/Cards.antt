@@ -1,0 +1,115 @@
+-- What a run promises of its cards, and of a unit and a card together (profile).
+use Rattle.std.specs.Prelude.{◌≡◌, ◌⊎◌, ℕ, ◌/◌, ◌≤◌, ◌<◌, Bool, true, false, ◌&&◌, Option, Some, None, List, [], ◌∷◌, ◌++◌, All, Contains, length, filter, map, flat_map, nat_lt, nat_le, not}
+use Rattle.std.specs.List.{list_any}
+use Rattle.activity_codec.specs.declared.entries.Entry.{Entry}
+use Rattle.activity_codec.specs.declared.values.Slot.{Slot}
+use Rattle.activity_codec.specs.declared.values.Slot.TheVariants.{Driver, CoDriver}
+use Rattle.trace_model.specs.declared.Card.{Card}
+use Rattle.tach_media.specs.Medium.{State}
+use Rattle.view_model.specs.declared.State.{State as SlotState}
+use Rattle.unit_model.specs.Days.{Day, UnitMinute}
+use Rattle.unit_model.specs.Image.{recorded, unit_minutes, last_kept}
+use Rattle.log_model.specs.declared.lines.Break.{Break}
+use Rattle.log_model.specs.declared.lines.Break.TheVariants.{Cut, Tear}
+use Rattle.log_model.specs.declared.lines.Mark.{Mark}
+use Rattle.log_model.specs.declared.lines.Verdict.{Verdict}
+use Rattle.log_model.specs.declared.lines.Verdict.TheVariants.{Accepted, NotValid, TimeOverlap}
+use Rattle.log_model.specs.Log.{is_accepting}
+use Rattle.log_model.specs.Slots.{same_card}
+use Rattle.log_model.specs.Course.{Told}
+use Rattle.log_model.specs.Causes.{device_of}
+use Rattle.history_model.specs.Minutes.{HistoryMinute, card_history, up_to}
+use Rattle.joint_rule.specs.Views.{CardView, Held, owed}
+use Rattle.safety_model.specs.Recording.{CardReading, Recording, card_image, told_of, brought, history_of, expected_of, unit_seen}
+use Rattle.safety_model.specs.Unit.{marks_of, Increase}
+
+-- an entry of this minute
+abbrev pub HasEntry : ℕ → List Entry → Type 0
+HasEntry minute es = (e : Entry) × Contains es e × (e.minute ≡ minute)
+
+-- a cut before a second, after which the unit was found not to have kept this minute
+abbrev pub shows_lost : (second minute : ℕ) → Break → Bool
+shows_lost u minute (Cut second kept failed begun) = nat_lt second u && nat_lt kept minute && nat_le minute (second / 60)
+shows_lost u minute (Tear second slot failed begun late) = false
+
+module _ (cards : CardReading) (r : Recording) (c : Card) where
+  -- An image shows the card's entries at the start and some of the others that are expected, from their front, but for the days that
+  -- overwriting took.
+  pub record CardShows (x : List ℕ) : Type 0 where
+    pub more : List Entry
+    pub rest : List Entry
+    pub whole : expected_of cards r c ≡ (brought cards r c).entries ++ (more ++ rest)
+    pub kept : cards.Keeps (card_image r c) ((brought cards r c).entries ++ more) (cards.view x).held
+
+  -- an image is valid: no file of it fails
+  abbrev pub IsValid : List ℕ → Type 0
+  IsValid x = cards.first_bad x ≡ None
+
+  -- it was found to tell of a later time
+  abbrev pub is_overlap : Verdict → Bool
+  is_overlap (Accepted replayed) = false
+  is_overlap (NotValid fid place) = false
+  is_overlap (TimeOverlap stored now) = true
+
+  -- how often it entered a slot, or met power there
+  abbrev pub entered : ℕ
+  entered = length (flat_map (λ t. filter (λ e. same_card c e.card) t.course.entered) (told_of r))
+
+  -- how often it was found to tell of a later time
+  abbrev pub overlaps : ℕ
+  overlaps = length (flat_map (λ t. filter (λ f. same_card c f.0.card && is_overlap f.1) t.course.found) (told_of r))
+
+  -- a run may not write it: it was not valid, or each time that it entered it was found to tell of a later time
+  abbrev pub MayNotWrite : Type 0
+  MayNotWrite = ((cards.first_bad (card_image r c) ≡ None) → ⊥) ⊎ (entered ≡ overlaps)
+
+  -- an acknowledged minute is that of an expected entry, and every image since shows it, unless overwriting took its day
+  pub record CardMarkHolds (card : State) (m : Mark) : Type 0 where
+    pub stands : HasEntry m.minute (expected_of cards r c)
+    pub clock : m.clock ≤ card.clock
+    pub shown : (x : List ℕ) → card.left_since m.clock x → (s : CardShows x) × HasEntry m.minute ((brought cards r c).entries ++ s.more)
+
+  -- the seconds in which it was accepted
+  abbrev pub acceptances : List ℕ
+  acceptances = flat_map (λ t. map (λ f. t.second.number) (filter (λ f. same_card c f.0.card && is_accepting f.1) t.course.found)) (told_of r)
+
+  -- the unit had kept a minute before a second: it is earlier, and no cut before that second shows that it was not
+  abbrev pub was_kept : ℕ → ℕ → Bool
+  was_kept u minute = nat_lt minute (u / 60) && not (list_any (shows_lost u minute) r.log.breaks)
+
+  -- after each acceptance every image at the end shows the expected entries up to the minute that the unit had kept last at that time
+  pub record IsRepaired (x : List ℕ) : Type 0 where
+    pub shows : CardShows x
+    pub brought : (u : ℕ) → Contains acceptances u → All (λ e. was_kept u e.minute ≡ false) shows.rest
+
+  -- A CARD: what every image that a stop might have left since a clock shows, where it was valid; one that may not be written is as it was;
+  -- the acknowledged minutes increase, and hold; and at the end it is repaired
+  pub record CardSafe (marks : List Mark) (since : ℕ) (card : State) : Type 0 where
+    pub entries : IsValid (card_image r c) → (x : List ℕ) → card.left_since since x → CardShows x
+    pub valid : IsValid (card_image r c) → (x : List ℕ) → card.left_since since x → IsValid x
+    pub untouched : MayNotWrite → (x : List ℕ) → card.left_since since x → x ≡ card_image r c
+    pub in_order : Increase (marks_of (device_of c) marks)
+    pub marked : (m : Mark) → Contains (marks_of (device_of c) marks) m → CardMarkHolds card m
+    pub repaired : IsValid (card_image r c) → (x : List ℕ) → card.may_leave x → IsRepaired x
+
+  -- a slot in a minute of the unit
+  abbrev pub slot_state : Slot → UnitMinute → SlotState
+  slot_state Driver m = m.driver
+  slot_state CoDriver m = m.codriver
+
+  -- an entry stands in the unit's minutes as present
+  abbrev pub StandsInUnit : List UnitMinute → Entry → Type 0
+  StandsInUnit known e = (m : UnitMinute) × Contains known m × (m.minute ≡ e.minute) × (slot_state e.slot m ≡ record { act = e.act; present = true })
+
+  -- one of these days
+  abbrev pub HasDay : List Day → ℕ → Type 0
+  HasDay days day = (d : Day) × Contains days d × (d.day ≡ day)
+
+  -- the expected entries that are not later than a minute, where they are of the run
+  abbrev pub expected_to : ℕ → List Entry
+  expected_to k = (brought cards r c).entries ++ ((brought cards r c).owed ++ card_history c (up_to k (history_of cards r)))
+
+  -- A UNIT AND A CARD: a card never runs ahead of the unit, and what it lacks is owed to it
+  pub record Agree (u x : List ℕ) : Type 0 where
+    pub behind : (e : Entry) → Contains (card_history c (history_of cards r)) e → Contains (cards.view x).held.entries e → HasDay (recorded u) (e.minute / 1440) → StandsInUnit (unit_minutes u) e
+    pub rest : cards.Keeps (card_image r c) (expected_to (last_kept u)) (record (cards.view x).held { entries = (cards.view x).held.entries ++ owed c (unit_seen cards r u) (cards.view x) })

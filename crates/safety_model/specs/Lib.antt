@@ -1,0 +1,4 @@
+pub mod Recording
+pub mod Unit
+pub mod Cards
+pub mod Safe

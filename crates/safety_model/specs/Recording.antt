@@ -1,0 +1,79 @@
+-- A run as it is told: the images at its start, its trace, and its log (profile).
+use Rattle.std.specs.Prelude.{◌≡◌, ◌⊎◌, ℕ, Option, Some, None, List, [], ◌∷◌, ◌++◌, Contains}
+use Rattle.activity_codec.specs.declared.entries.Entry.{Entry}
+use Rattle.card_layout.specs.declared.files.Fid.{Fid}
+use Rattle.trace_model.specs.declared.Card.{Card}
+use Rattle.trace_model.specs.declared.Card.TheVariants.{A, B}
+use Rattle.trace_model.specs.Trace.{TraceSecond}
+use Rattle.minute_model.specs.declared.Rule.{Rule}
+use Rattle.log_model.specs.Log.{RunLog}
+use Rattle.log_model.specs.Course.{Told, went}
+use Rattle.history_model.specs.Minutes.{HistoryMinute}
+use Rattle.history_model.specs.Presence.{Start, CardStart, expected_entries}
+use Rattle.history_model.specs.History.{unit_history, with_lost}
+use Rattle.joint_rule.specs.Views.{UnitView, CardView, Held, unit_view, owed, beyond}
+
+-- how a card's image is read: what it shows, its number, the first file that fails and the place in it, and the time that it stores;
+-- and which entries its string keeps, where it began as an image
+pub record CardReading : Type 1 where
+  pub view : List ℕ → CardView
+  pub number : List ℕ → List ℕ
+  pub first_bad : List ℕ → Option (Fid × ℕ)
+  pub stored : List ℕ → ℕ
+  pub Keeps : List ℕ → List Entry → Held → Type 0
+
+-- a run: the rule of minutes, the images that a read gives at the end of the opening, the seconds of the trace, and the log
+pub record Recording : Type 0 where
+  pub rule : Rule
+  pub unit : List ℕ
+  pub card_a : List ℕ
+  pub card_b : List ℕ
+  pub trace : List TraceSecond
+  pub log : RunLog
+
+-- the image of a card at the start
+abbrev pub card_image : Recording → Card → List ℕ
+card_image r A = r.card_a
+card_image r B = r.card_b
+
+-- its seconds as they went
+abbrev pub told_of : Recording → List Told
+told_of r = (went r.log r.trace).told
+
+module _ (cards : CardReading) (r : Recording) where
+  -- a unit's image as the run sees it
+  abbrev pub unit_seen : List ℕ → UnitView
+  unit_seen x = unit_view (cards.number r.card_a) (cards.number r.card_b) x
+
+  -- what a card brings
+  abbrev pub brought : Card → CardStart
+  brought c = record {
+    entries = (cards.view (card_image r c)).held.entries;
+    owed = owed c (unit_seen r.unit) (cards.view (card_image r c));
+    mark = (cards.view (card_image r c)).mark;
+    word = beyond (cards.view (card_image r c));
+  }
+
+  -- what both bring
+  abbrev pub start_of : Start
+  start_of = record { card_a = brought A; card_b = brought B }
+
+  -- the unit history of the run, and its histories with a lost minute
+  abbrev pub history_of : List HistoryMinute
+  history_of = unit_history r.rule start_of r.log (told_of r)
+
+  abbrev pub lost_of : List (List HistoryMinute)
+  lost_of = with_lost r.rule start_of r.log (told_of r)
+
+  -- the expected entries of a card
+  abbrev pub expected_of : Card → List Entry
+  expected_of c = expected_entries start_of c history_of
+
+-- a device may have stood after these minutes: some of the history from its front, or a history with a lost minute
+abbrev pub IsPassed : (past : List HistoryMinute) → (lost : List (List HistoryMinute)) → List HistoryMinute → Type 0
+IsPassed past lost some = ((rest : List HistoryMinute) × (past ≡ some ++ rest)) ⊎ Contains lost some
+
+-- the minute that comes next after these, in the history or as a lost one; or none
+abbrev pub MayCome : (past : List HistoryMinute) → (lost : List (List HistoryMinute)) → List HistoryMinute → Option HistoryMinute → Type 0
+MayCome past lost some None = Unit {0}
+MayCome past lost some (Some i) = IsPassed past lost (some ++ i ∷ [])

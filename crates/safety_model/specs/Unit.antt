@@ -1,0 +1,61 @@
+-- What a run promises of its unit (profile).
+use Rattle.std.specs.Prelude.{◌≡◌, ℕ, ◌<◌, ◌≤◌, Option, List, [], ◌∷◌, Contains, filter, map, Bool, true, false}
+use Rattle.run_model.specs.declared.Device.{Device}
+use Rattle.run_model.specs.declared.Device.TheVariants.{Unit as Recorder, CardA, CardB}
+use Rattle.tach_media.specs.Medium.{State}
+use Rattle.unit_model.specs.Days.{Day}
+use Rattle.unit_model.specs.Image.{recorded}
+use Rattle.unit_model.specs.Decoding.{Decodes}
+use Rattle.log_model.specs.declared.lines.Mark.{Mark}
+use Rattle.history_model.specs.Minutes.{HistoryMinute}
+use Rattle.joint_rule.specs.Filling.{FillsDays}
+use Rattle.safety_model.specs.Recording.{IsPassed, MayCome}
+
+-- An image shows the start's days filled with these minutes, of which only the oldest days may be gone: the newest 366 are there, or one
+-- fewer where the minute that may come next begins a further day.
+pub record UnitShows (start : List Day) (past : List HistoryMinute) (lost : List (List HistoryMinute)) (x : List ℕ) : Type 0 where
+  pub some : List HistoryMinute
+  pub passed : IsPassed past lost some
+  pub next : Option HistoryMinute
+  pub comes : MayCome past lost some next
+  pub days : FillsDays start next some (recorded x)
+
+-- these are the device's
+abbrev pub is_of : Device → Device → Bool
+is_of Recorder Recorder = true
+is_of CardA CardA = true
+is_of CardB CardB = true
+is_of Recorder CardA = false
+is_of Recorder CardB = false
+is_of CardA Recorder = false
+is_of CardA CardB = false
+is_of CardB Recorder = false
+is_of CardB CardA = false
+
+-- the marks of a device
+abbrev pub marks_of : Device → List Mark → List Mark
+marks_of device marks = filter (λ m. is_of device m.device) marks
+
+-- the minutes of marks increase
+abbrev pub Increase : List Mark → Type 0
+Increase [] = Unit {0}
+Increase (m ∷ []) = Unit {0}
+Increase (m ∷ n ∷ marks) = (m.minute < n.minute) × Increase (n ∷ marks)
+
+-- a minute is one of these
+abbrev pub HasMinute : ℕ → List HistoryMinute → Type 0
+HasMinute minute past = (i : HistoryMinute) × Contains past i × (i.minute ≡ minute)
+
+-- an acknowledged minute stands in the history, and every image since shows it, unless its day was given up as the oldest
+pub record UnitMarkHolds (start : List Day) (past : List HistoryMinute) (lost : List (List HistoryMinute)) (unit : State) (m : Mark) : Type 0 where
+  pub stands : HasMinute m.minute past
+  pub clock : m.clock ≤ unit.clock
+  pub shown : (x : List ℕ) → unit.left_since m.clock x → (s : UnitShows start past lost x) × HasMinute m.minute s.some
+
+-- THE UNIT: every image that a stop might have left since a clock shows the start and a part of the history from its front, and decodes;
+-- the acknowledged minutes increase, and hold
+pub record UnitSafe (start : List Day) (past : List HistoryMinute) (lost : List (List HistoryMinute)) (marks : List Mark) (since : ℕ) (unit : State) : Type 0 where
+  pub minutes : (x : List ℕ) → unit.left_since since x → UnitShows start past lost x
+  pub decodes : (x : List ℕ) → unit.left_since since x → Decodes x
+  pub in_order : Increase (marks_of Recorder marks)
+  pub marked : (m : Mark) → Contains (marks_of Recorder marks) m → UnitMarkHolds start past lost unit m
