@@ -101,7 +101,8 @@ pub follows-second : (rule : Rule) (start : Start) (log : RunLog) (from until : 
     Follows (unit_history rule start log w.told) (with_lost rule start log w.told) b → AreLost (with_lost rule start log w.told) b →
     All (λ i. i.minute ≤ k) b.sure → All (λ i. i.minute ≤ k) (history_by rule start (closed_limit log) w.told [] limit.before) →
     ((rest : List HistoryMinute) → unit_history rule start log w.told ≡ all b ++ rest → All (λ i. k < i.minute) rest) →
-    Follows (unit_history rule start log (w.told ++ t ∷ [])) (with_lost rule start log (w.told ++ t ∷ [])) (found k b) × AreLost (with_lost rule start log (w.told ++ t ∷ [])) (found k b)
+    (Follows (unit_history rule start log (w.told ++ t ∷ [])) (with_lost rule start log (w.told ++ t ∷ [])) (found k b) × AreLost (with_lost rule start log (w.told ++ t ∷ [])) (found k b))
+    × (history_by rule start (closed_limit log) w.told [] s.before ≡ all (found k b))
 unfolding unit_history with_lost
 follows-second rule start log from until w t h next lit starts one k limit b follows lost known low high =
     let s = goes rule start log from until w t h next lit starts in
@@ -121,4 +122,4 @@ follows-second rule start log from until w t h next lit starts one k limit b fol
     let goes_on = follows-limit k b known shut own follows.front.0 more (lost_by rule start (limit_of log) (w.told ++ t ∷ []) [] (spans_of (w.told ++ t ∷ []))) (sym now ∙ follows.front.1) low (high follows.front.0 follows.front.1)
         (λ i is. subst (λ (ls : List (List HistoryMinute)). Contains ls (shut ++ (limited_to (Some k) own ++ i ∷ []))) (sym (then_lost ∙ ap (λ (o : Option HistoryMinute). old_lost ++ map (λ i. shut ++ (limited_to (Some k) own ++ i ∷ [])) (option_to_list o)) is)) (Contains-push old_lost (shut ++ (limited_to (Some k) own ++ i ∷ []))))
         (λ past at. ⊎_elim (λ in_. inl in_) (λ old. inr (subst (λ (ls : List (List HistoryMinute)). Contains ls past) (sym then_lost) (Contains-append_left old_lost (map (λ i. shut ++ (limited_to (Some k) own ++ i ∷ [])) (option_to_list (lost_minute (Some k) own))) past (subst (λ (ls : List (List HistoryMinute)). Contains ls past) now_lost old)))) (lost past at)) in
-    (subst (λ (minutes : List HistoryMinute). Follows minutes (lost_by rule start (limit_of log) (w.told ++ t ∷ []) [] (spans_of (w.told ++ t ∷ []))) (found k b)) (sym then_) goes_on.0, goes_on.1)
+    ((subst (λ (minutes : List HistoryMinute). Follows minutes (lost_by rule start (limit_of log) (w.told ++ t ∷ []) [] (spans_of (w.told ++ t ∷ []))) (found k b)) (sym then_) goes_on.0.0, goes_on.0.1), closed-history rule start log w.told k s.before limit from front.0 front.1 ∙ goes_on.1)

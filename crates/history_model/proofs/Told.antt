@@ -13,10 +13,11 @@ use Rattle.log_model.proofs.Spanning.{IsSpanned, IsNext, spanned, next-told, ord
 use Rattle.history_model.specs.Minutes.{HistoryMinute}
 use Rattle.history_model.specs.Presence.{Start}
 use Rattle.history_model.specs.History.{decided_of, minutes_after, any_long, history_by, limit_of, unit_history, with_lost}
-use Rattle.history_model.specs.Growth.{as_span, settled_where, picking, newest_span, earlier_spans, closed_history, EndsAtLimit, Rises}
+use Rattle.history_model.specs.Growth.{closed_limit, as_span, settled_where, picking, newest_span, earlier_spans, closed_history, EndsAtLimit, Rises}
 use Rattle.history_model.specs.Book.{Book, all, found, Follows, AreLost}
-use Rattle.history_model.proofs.Deciding.{span-more}
-use Rattle.history_model.proofs.Growing.{Split, split, apart-last, newest-last, earlier-last, dark-history, dark-lost, begun-history, begun-lost, goes, new-minutes, on-grown, on-grown_lost}
+use Rattle.history_model.proofs.Deciding.{span-more, apart-ended}
+use Rattle.history_model.proofs.Stilled.{history-still}
+use Rattle.history_model.proofs.Growing.{AreBefore, Split, split, apart-last, newest-last, earlier-last, dark-history, dark-lost, begun-history, begun-lost, goes, new-minutes, on-grown, on-grown_lost}
 use Rattle.history_model.proofs.BySeconds.{follows-second}
 use Rattle.history_model.proofs.Rising.{rises-spans}
 
@@ -67,12 +68,16 @@ module _ (rule : Rule) (start : Start) (log : RunLog) (n u : ℕ) (w : Went) (t 
         Follows (unit_history rule start log w.told) (with_lost rule start log w.told) b → AreLost (with_lost rule start log w.told) b →
         All (λ i. i.minute ≤ k) b.sure → All (λ i. i.minute ≤ k) (closed_history rule start log w.told limit.before) →
         ((rest : List HistoryMinute) → unit_history rule start log w.told ≡ all b ++ rest → All (λ i. k < i.minute) rest) →
-        Follows (unit_history rule start log later) (with_lost rule start log later) (found k b) × AreLost (with_lost rule start log later) (found k b)
+        (Follows (unit_history rule start log later) (with_lost rule start log later) (found k b) × AreLost (with_lost rule start log later) (found k b))
+        × (closed_history rule start log w.told (earlier_spans (spans_of w.told)) ≡ all (found k b))
     second one k limit b follows lost known low high =
         let at = at_limit k (earlier_spans (spans_of w.told)) parts.before earlier limit in
-        subst (λ (told : List Told). Follows (unit_history rule start log told) (with_lost rule start log told) (found k b) × AreLost (with_lost rule start log told) (found k b)) (sym more)
-        (follows-second rule start log n u w t so_far next lit starts (ap (λ (span : List Told). length span) (sym newest) ∙ one) k at.0 b follows lost known
-        (subst (λ (spans : List (List Told)). All (λ (i : HistoryMinute). i.minute ≤ k) (closed_history rule start log w.told spans)) (sym at.1) low) high)
+        let goes_on = follows-second rule start log n u w t so_far next lit starts (ap (λ (span : List Told). length span) (sym newest) ∙ one) k at.0 b follows lost known
+            (subst (λ (spans : List (List Told)). All (λ (i : HistoryMinute). i.minute ≤ k) (closed_history rule start log w.told spans)) (sym at.1) low) high in
+        (
+          subst (λ (told : List Told). Follows (unit_history rule start log told) (with_lost rule start log told) (found k b) × AreLost (with_lost rule start log told) (found k b)) (sym more) goes_on.0,
+          subst (λ (spans : List (List Told)). closed_history rule start log w.told spans ≡ all (found k b)) (sym earlier) goes_on.1,
+        )
 
 -- one second more of a trace
 pub more-told : (log : RunLog) (ss : List TraceSecond) (s : TraceSecond) → (went log (ss ++ s ∷ [])).told ≡ (went log ss).told ++ second_told log (went log ss).before s ∷ []
@@ -85,6 +90,24 @@ pub told-next : (n : ℕ) (log : RunLog) (ss : List TraceSecond) (s : TraceSecon
 told-next n log ss s order =
     let is = (order-parts n ss s order).1 in
     subst (λ (u : ℕ). IsNext (went log ss).before u (second_told log (went log ss).before s)) is (next-told log (went log ss).before s)
+
+-- the closed history of the spans before the newest stays as seconds come
+closed-still : (rule : Rule) (start : Start) (log : RunLog) (n u : ℕ) (w : Went) (t : Told) → IsSpanned n u w → IsNext w.before u t →
+    closed_history rule start log (w.told ++ t ∷ []) (earlier_spans (spans_of w.told)) ≡ closed_history rule start log w.told (earlier_spans (spans_of w.told))
+closed-still rule start log n u w t so_far next =
+    history-still start w.told t rule (closed_limit log) [] (earlier_spans (spans_of w.told))
+    (earlier-before t.second.number (spans_of w.told) (subst (λ (m : ℕ). AreBefore rule m (spans_of w.told)) (sym next.number) (apart-ended rule n u (spans_of w.told) so_far.apart)))
+  where
+    earlier-before : (m : ℕ) (spans : List (List Told)) → AreBefore rule m spans → AreBefore rule m (earlier_spans spans)
+    earlier-before m [] h = tt
+    earlier-before m (x ∷ []) h = tt
+    earlier-before m (x ∷ y ∷ spans) h = (h.0, earlier-before m (y ∷ spans) h.1)
+
+pub closed-stays : (n : ℕ) (rule : Rule) (start : Start) (log : RunLog) (ss : List TraceSecond) (s : TraceSecond) → AreInOrder n (ss ++ s ∷ []) →
+    closed_history rule start log (went log (ss ++ s ∷ [])).told (earlier_spans (spans_of (went log ss).told)) ≡ closed_history rule start log (went log ss).told (earlier_spans (spans_of (went log ss).told))
+closed-stays n rule start log ss s order =
+    ap (λ (told : List Told). closed_history rule start log told (earlier_spans (spans_of (went log ss).told))) (more-told log ss s)
+    ∙ closed-still rule start log n (n + length ss) (went log ss) (second_told log (went log ss).before s) (spanned-so_far n log ss s order) (told-next n log ss s order)
 
 -- the minutes of the history rise, and all of them have ended
 pub rises : (n : ℕ) (rule : Rule) (start : Start) (log : RunLog) (ss : List TraceSecond) → AreInOrder n ss → Rises (n / 60) (unit_history rule start log (went log ss).told) ((n + length ss) / 60)

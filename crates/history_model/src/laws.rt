@@ -41,7 +41,8 @@ pub fn a_second_adds_what_it_decides(n: u32)
         × (with_lost rule start log (went log (ss ++ s ∷ [])).told ≡ with_lost rule start log (went log ss).told) }
 {}
 
-/// In the second second of a span the limit of the cut before it begins to count, and a book follows in which that minute was found.
+/// In the second second of a span the limit of the cut before it begins to count, and a book follows in which that minute was found;
+/// its minutes are the history of the spans before.
 pub fn a_limit_counts_from_the_second_second(n: u32)
     ensures { (rule : Rule) (start : Start) (log : RunLog) (ss : List TraceSecond) (s : TraceSecond) → AreInOrder n (ss ++ s ∷ []) →
         let t : Told = second_told log (went log ss).before s in
@@ -52,7 +53,15 @@ pub fn a_limit_counts_from_the_second_second(n: u32)
         Follows (unit_history rule start log told) (with_lost rule start log told) b → AreLost (with_lost rule start log told) b →
         All (λ i. i.minute ≤ k) b.sure → All (λ i. i.minute ≤ k) (closed_history rule start log told limit.before) →
         ((rest : List HistoryMinute) → unit_history rule start log told ≡ all b ++ rest → All (λ i. k < i.minute) rest) →
-        Follows (unit_history rule start log later) (with_lost rule start log later) (found k b) × AreLost (with_lost rule start log later) (found k b) }
+        (Follows (unit_history rule start log later) (with_lost rule start log later) (found k b) × AreLost (with_lost rule start log later) (found k b))
+        × (closed_history rule start log told (earlier_spans (spans_of told)) ≡ all (found k b)) }
+{}
+
+/// The history of the spans before the newest stays as seconds come.
+pub fn a_closed_history_stays(n: u32)
+    ensures { (rule : Rule) (start : Start) (log : RunLog) (ss : List TraceSecond) (s : TraceSecond) → AreInOrder n (ss ++ s ∷ []) →
+        let earlier : List (List Told) = earlier_spans (spans_of (went log ss).told) in
+        closed_history rule start log (went log (ss ++ s ∷ [])).told earlier ≡ closed_history rule start log (went log ss).told earlier }
 {}
 
 /// What the log tells later of cuts that have no limit yet changes nothing.
