@@ -66,4 +66,3 @@ next_left room date (d ∷ e ∷ ds) new words big are next = ⊎_elim
     (λ fits. let same : roomier room (d ∷ e ∷ ds) ≡ d ∷ e ∷ ds = roomier_all room (d ∷ e ∷ ds) fits in
     (subst (λ (l : List Day). IsNext l new words) (sym same) next, ap (λ (l : List Day). new_day l new words) same))
     (cases_lt room (total (d ∷ e ∷ ds)))
-

@@ -347,9 +347,7 @@ fn a_stopped_first_day_is_there_or_not(rt: HostRuntime) -> Result<(), Fail> {
 }
 
 #[test]
-fn a_stopped_first_day_of_two_words_has_both_or_is_not_there(
-    rt: HostRuntime,
-) -> Result<(), Fail> {
+fn a_stopped_first_day_of_two_words_has_both_or_is_not_there(rt: HostRuntime) -> Result<(), Fail> {
     let alloc = rt.alloc();
     let first = loading(alloc, empty(alloc)?)?;
     for (call, left, days) in DAY_STOPS {

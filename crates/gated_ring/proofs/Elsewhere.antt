@@ -65,13 +65,16 @@ module _ (r : Shape) (shape : IsShape r) (x c : List ℕ) (same : bytes_at c r.b
     pub dense_elsewhere : IsDense r x → IsDense r c
     dense_elsewhere (inl none) = inl (indices_elsewhere ∙ none)
     dense_elsewhere (inr (last, run)) =
-        inr (last, record {
-          below = run.below;
-          at_pointer = ⊎_elim (λ at. inl (at ∙ sym pointer_elsewhere)) (λ before. inr (before ∙ sym pointer_elsewhere)) run.at_pointer;
-          len = run.len;
-          few = run.few;
-          indices_are = indices_elsewhere ∙ run.indices_are;
-        })
+        inr (
+          last,
+          record {
+            below = run.below;
+            at_pointer = ⊎_elim (λ at. inl (at ∙ sym pointer_elsewhere)) (λ before. inr (before ∙ sym pointer_elsewhere)) run.at_pointer;
+            len = run.len;
+            few = run.few;
+            indices_are = indices_elsewhere ∙ run.indices_are;
+          },
+        )
 
     -- all that is said of the ring
     pub ring_elsewhere : (pointer r c ≡ pointer r x) × (indices r c ≡ indices r x) × (ring_list r c ≡ ring_list r x) × (IsDense r x → IsDense r c)

@@ -57,9 +57,9 @@ module _ (rule : Rule) (start : Start) (log : RunLog) (told : List Told) (k : �
       ap (history_by rule start (limit_of log) told []) limit.are
       ∙ history-parts rule start told (limit_of log) (closed_limit log) [] limit.before (limit.span ∷ limit.short) (agree-closed log (limit.span ∷ limit.short) long limit.before)
       ∙ ap (λ (is : List HistoryMinute). closed ++ is) (
-        ap (λ (b : Bool). limited_to (cond b (limit_by log (cut_second (last limit.span))) None) mine ++ history_by rule start (limit_of log) told (closed ++ limited_to (cond b (limit_by log (cut_second (last limit.span))) None) mine) limit.short) limit.none
-        ∙ ap (λ (is : List HistoryMinute). mine ++ is) (history-none rule start told (limit_of log) (closed ++ mine) limit.short none)
-        ∙ append-nil mine
+      ap (λ (b : Bool). limited_to (cond b (limit_by log (cut_second (last limit.span))) None) mine ++ history_by rule start (limit_of log) told (closed ++ limited_to (cond b (limit_by log (cut_second (last limit.span))) None) mine) limit.short) limit.none
+      ∙ ap (λ (is : List HistoryMinute). mine ++ is) (history-none rule start told (limit_of log) (closed ++ mine) limit.short none)
+      ∙ append-nil mine
       )
 
   pub open-lost : lost_by rule start (limit_of log) told [] spans ≡ lost_by rule start (closed_limit log) told [] limit.before
@@ -67,8 +67,8 @@ module _ (rule : Rule) (start : Start) (log : RunLog) (told : List Told) (k : �
       ap (lost_by rule start (limit_of log) told []) limit.are
       ∙ lost-parts rule start told (limit_of log) (closed_limit log) [] limit.before (limit.span ∷ limit.short) (agree-closed log (limit.span ∷ limit.short) long limit.before)
       ∙ ap (λ (ls : List (List HistoryMinute)). lost_by rule start (closed_limit log) told [] limit.before ++ ls) (
-        ap (λ (b : Bool). map (λ i. closed ++ (limited_to (cond b (limit_by log (cut_second (last limit.span))) None) mine ++ i ∷ [])) (option_to_list (lost_minute (cond b (limit_by log (cut_second (last limit.span))) None) mine)) ++ lost_by rule start (limit_of log) told (closed ++ limited_to (cond b (limit_by log (cut_second (last limit.span))) None) mine) limit.short) limit.none
-        ∙ lost-none rule start told (limit_of log) (closed ++ mine) limit.short none
+      ap (λ (b : Bool). map (λ i. closed ++ (limited_to (cond b (limit_by log (cut_second (last limit.span))) None) mine ++ i ∷ [])) (option_to_list (lost_minute (cond b (limit_by log (cut_second (last limit.span))) None) mine)) ++ lost_by rule start (limit_of log) told (closed ++ limited_to (cond b (limit_by log (cut_second (last limit.span))) None) mine) limit.short) limit.none
+      ∙ lost-none rule start told (limit_of log) (closed ++ mine) limit.short none
       )
       ∙ append-nil (lost_by rule start (closed_limit log) told [] limit.before)
 
@@ -78,9 +78,9 @@ module _ (rule : Rule) (start : Start) (log : RunLog) (told : List Told) (k : �
       ap (history_by rule start (closed_limit log) told []) limit.are
       ∙ history-parts rule start told (closed_limit log) (closed_limit log) [] limit.before (limit.span ∷ limit.short) (agree-all (closed_limit log) (closed_limit log) (λ span later. refl) limit.before)
       ∙ ap (λ (is : List HistoryMinute). closed ++ is) (
-        ap (λ (o : Option ℕ). limited_to o mine ++ history_by rule start (closed_limit log) told (closed ++ limited_to o mine) limit.short) limit.limit
-        ∙ ap (λ (is : List HistoryMinute). limited_to (Some k) mine ++ is) (history-none rule start told (closed_limit log) (closed ++ limited_to (Some k) mine) limit.short none)
-        ∙ append-nil (limited_to (Some k) mine)
+      ap (λ (o : Option ℕ). limited_to o mine ++ history_by rule start (closed_limit log) told (closed ++ limited_to o mine) limit.short) limit.limit
+      ∙ ap (λ (is : List HistoryMinute). limited_to (Some k) mine ++ is) (history-none rule start told (closed_limit log) (closed ++ limited_to (Some k) mine) limit.short none)
+      ∙ append-nil (limited_to (Some k) mine)
       )
 
   pub closed-lost : lost_by rule start (closed_limit log) told [] spans
@@ -89,9 +89,9 @@ module _ (rule : Rule) (start : Start) (log : RunLog) (told : List Told) (k : �
       ap (lost_by rule start (closed_limit log) told []) limit.are
       ∙ lost-parts rule start told (closed_limit log) (closed_limit log) [] limit.before (limit.span ∷ limit.short) (agree-all (closed_limit log) (closed_limit log) (λ span later. refl) limit.before)
       ∙ ap (λ (ls : List (List HistoryMinute)). lost_by rule start (closed_limit log) told [] limit.before ++ ls) (
-        ap (λ (o : Option ℕ). map (λ i. closed ++ (limited_to o mine ++ i ∷ [])) (option_to_list (lost_minute o mine)) ++ lost_by rule start (closed_limit log) told (closed ++ limited_to o mine) limit.short) limit.limit
-        ∙ ap (λ (ls : List (List HistoryMinute)). map (λ i. closed ++ (limited_to (Some k) mine ++ i ∷ [])) (option_to_list (lost_minute (Some k) mine)) ++ ls) (lost-none rule start told (closed_limit log) (closed ++ limited_to (Some k) mine) limit.short none)
-        ∙ append-nil (map (λ i. closed ++ (limited_to (Some k) mine ++ i ∷ [])) (option_to_list (lost_minute (Some k) mine)))
+      ap (λ (o : Option ℕ). map (λ i. closed ++ (limited_to o mine ++ i ∷ [])) (option_to_list (lost_minute o mine)) ++ lost_by rule start (closed_limit log) told (closed ++ limited_to o mine) limit.short) limit.limit
+      ∙ ap (λ (ls : List (List HistoryMinute)). map (λ i. closed ++ (limited_to (Some k) mine ++ i ∷ [])) (option_to_list (lost_minute (Some k) mine)) ++ ls) (lost-none rule start told (closed_limit log) (closed ++ limited_to (Some k) mine) limit.short none)
+      ∙ append-nil (map (λ i. closed ++ (limited_to (Some k) mine ++ i ∷ [])) (option_to_list (lost_minute (Some k) mine)))
       )
 
 -- the second second of a span: the limit of the cut before it counts, and the book, in which this minute was found, follows
@@ -120,6 +120,6 @@ follows-second rule start log from until w t h next lit starts one k limit b fol
     let then_ = on-history rule start log from until w t h next lit starts ∙ ap (λ (is : List HistoryMinute). is ++ more) (closed-history rule start log w.told k s.before limit from front.0 front.1) in
     let then_lost = on-lost rule start log from until w t h next lit starts ∙ closed-lost rule start log w.told k s.before limit from front.0 front.1 in
     let goes_on = follows-limit k b known shut own follows.front.0 more (lost_by rule start (limit_of log) (w.told ++ t ∷ []) [] (spans_of (w.told ++ t ∷ []))) (sym now ∙ follows.front.1) low (high follows.front.0 follows.front.1)
-        (λ i is. subst (λ (ls : List (List HistoryMinute)). Contains ls (shut ++ (limited_to (Some k) own ++ i ∷ []))) (sym (then_lost ∙ ap (λ (o : Option HistoryMinute). old_lost ++ map (λ i. shut ++ (limited_to (Some k) own ++ i ∷ [])) (option_to_list o)) is)) (Contains-push old_lost (shut ++ (limited_to (Some k) own ++ i ∷ []))))
-        (λ past at. ⊎_elim (λ in_. inl in_) (λ old. inr (subst (λ (ls : List (List HistoryMinute)). Contains ls past) (sym then_lost) (Contains-append_left old_lost (map (λ i. shut ++ (limited_to (Some k) own ++ i ∷ [])) (option_to_list (lost_minute (Some k) own))) past (subst (λ (ls : List (List HistoryMinute)). Contains ls past) now_lost old)))) (lost past at)) in
+    (λ i is. subst (λ (ls : List (List HistoryMinute)). Contains ls (shut ++ (limited_to (Some k) own ++ i ∷ []))) (sym (then_lost ∙ ap (λ (o : Option HistoryMinute). old_lost ++ map (λ i. shut ++ (limited_to (Some k) own ++ i ∷ [])) (option_to_list o)) is)) (Contains-push old_lost (shut ++ (limited_to (Some k) own ++ i ∷ []))))
+    (λ past at. ⊎_elim (λ in_. inl in_) (λ old. inr (subst (λ (ls : List (List HistoryMinute)). Contains ls past) (sym then_lost) (Contains-append_left old_lost (map (λ i. shut ++ (limited_to (Some k) own ++ i ∷ [])) (option_to_list (lost_minute (Some k) own))) past (subst (λ (ls : List (List HistoryMinute)). Contains ls past) now_lost old)))) (lost past at)) in
     ((subst (λ (minutes : List HistoryMinute). Follows minutes (lost_by rule start (limit_of log) (w.told ++ t ∷ []) [] (spans_of (w.told ++ t ∷ []))) (found k b)) (sym then_) goes_on.0.0, goes_on.0.1), closed-history rule start log w.told k s.before limit from front.0 front.1 ∙ goes_on.1)

@@ -122,34 +122,40 @@ module _ (k : ℕ) (b : Book) (known : All (λ i. i.minute ≤ k) b.sure) where
       ((i : HistoryMinute) → lost_minute (Some k) span ≡ Some i → Contains later (closed ++ (limited_to (Some k) span ++ i ∷ []))) → AreLost later b →
       (Follows ((closed ++ limited_to (Some k) span) ++ more) later (found k b) × AreLost later (found k b)) × (closed ++ limited_to (Some k) span ≡ all (found k b))
   follows-limit closed span rest more later is low high with_lost olds = ⊎_elim
-      (λ whole. let limit = limit-kept k closed span (all b) rest low whole.1 is high in ((
-        record {
-          front = (more, ap (λ (zs : List HistoryMinute). zs ++ more) (limit ∙ sym (all-found k b ∙ whole.0)));
-          each = λ past at. ⊎_elim
-              (λ first. inl (more, ap (λ (zs : List HistoryMinute). zs ++ more) (limit ∙ first)))
-              (λ old. ⊎_elim
-              (λ in_. inl ((in_.0 ++ option_to_list b.maybe) ++ more, longer (closed ++ limited_to (Some k) span) past (in_.0 ++ option_to_list b.maybe) more (limit ∙ longer b.sure past in_.0 (option_to_list b.maybe) in_.1)))
-              (λ gone. inr gone) (olds past old))
-              (cons (all b) b.lost past at);
-        },
-        λ past at. ⊎_elim
-        (λ first. inl ([], whole.0 ∙ first ∙ sym (append-nil past)))
-        (λ old. ⊎_elim (λ in_. inl (in_.0 ++ option_to_list b.maybe, whole.0 ∙ longer b.sure past in_.0 (option_to_list b.maybe) in_.1)) (λ gone. inr gone) (olds past old))
-        (cons (all b) b.lost past at),
-      ), limit ∙ sym (all-found k b ∙ whole.0)))
+      (λ whole. let limit = limit-kept k closed span (all b) rest low whole.1 is high in (
+        (
+          record {
+            front = (more, ap (λ (zs : List HistoryMinute). zs ++ more) (limit ∙ sym (all-found k b ∙ whole.0)));
+            each = λ past at. ⊎_elim
+                (λ first. inl (more, ap (λ (zs : List HistoryMinute). zs ++ more) (limit ∙ first)))
+                (λ old. ⊎_elim
+                (λ in_. inl ((in_.0 ++ option_to_list b.maybe) ++ more, longer (closed ++ limited_to (Some k) span) past (in_.0 ++ option_to_list b.maybe) more (limit ∙ longer b.sure past in_.0 (option_to_list b.maybe) in_.1)))
+                (λ gone. inr gone) (olds past old))
+                (cons (all b) b.lost past at);
+          },
+          λ past at. ⊎_elim
+              (λ first. inl ([], whole.0 ∙ first ∙ sym (append-nil past)))
+              (λ old. ⊎_elim (λ in_. inl (in_.0 ++ option_to_list b.maybe, whole.0 ∙ longer b.sure past in_.0 (option_to_list b.maybe) in_.1)) (λ gone. inr gone) (olds past old))
+              (cons (all b) b.lost past at),
+        ),
+        limit ∙ sym (all-found k b ∙ whole.0),
+      ))
       (λ gone. let goes = is ∙ ap (λ (o : Option HistoryMinute). (b.sure ++ option_to_list o) ++ rest) gone.1 ∙ append_assoc b.sure (gone.0 ∷ []) rest in
       let lost = limit-lost k closed span b.sure rest low known gone.0 goes gone.2 high in
       let limit = limit-kept k closed span b.sure (gone.0 ∷ rest) low known goes (All-append (λ (j : HistoryMinute). k < j.minute) (gone.0 ∷ []) rest (all-one (λ (j : HistoryMinute). k < j.minute) gone.0 gone.2) high) in
-      let here : (past : List HistoryMinute) → all b ≡ past → Contains later past = λ past first. subst (λ (zs : List HistoryMinute). Contains later zs) (lost.1 ∙ ap (λ (o : Option HistoryMinute). b.sure ++ option_to_list o) (sym gone.1) ∙ first) (with_lost gone.0 lost.0) in ((
-        record {
-          front = (more, ap (λ (zs : List HistoryMinute). zs ++ more) (limit ∙ sym (all-found k b ∙ gone.3)));
-          each = λ past at. ⊎_elim
+      let here : (past : List HistoryMinute) → all b ≡ past → Contains later past = λ past first. subst (λ (zs : List HistoryMinute). Contains later zs) (lost.1 ∙ ap (λ (o : Option HistoryMinute). b.sure ++ option_to_list o) (sym gone.1) ∙ first) (with_lost gone.0 lost.0) in (
+        (
+          record {
+            front = (more, ap (λ (zs : List HistoryMinute). zs ++ more) (limit ∙ sym (all-found k b ∙ gone.3)));
+            each = λ past at. ⊎_elim
+                (λ first. inr (here past first))
+                (λ old. ⊎_elim (λ in_. inl (in_.0 ++ more, longer (closed ++ limited_to (Some k) span) past in_.0 more (limit ∙ in_.1))) (λ lost. inr lost) (olds past old))
+                (cons (all b) b.lost past at);
+          },
+          λ past at. ⊎_elim
               (λ first. inr (here past first))
-              (λ old. ⊎_elim (λ in_. inl (in_.0 ++ more, longer (closed ++ limited_to (Some k) span) past in_.0 more (limit ∙ in_.1))) (λ lost. inr lost) (olds past old))
-              (cons (all b) b.lost past at);
-        },
-        λ past at. ⊎_elim
-        (λ first. inr (here past first))
-        (λ old. ⊎_elim (λ in_. inl (in_.0, gone.3 ∙ in_.1)) (λ lost. inr lost) (olds past old))
-        (cons (all b) b.lost past at),
-      ), limit ∙ sym (all-found k b ∙ gone.3))) side
+              (λ old. ⊎_elim (λ in_. inl (in_.0, gone.3 ∙ in_.1)) (λ lost. inr lost) (olds past old))
+              (cons (all b) b.lost past at),
+        ),
+        limit ∙ sym (all-found k b ∙ gone.3),
+      )) side

@@ -53,8 +53,7 @@ module _ (rule : Rule) (start : Start) (log : RunLog) (n u : ℕ) (w : Went) (t 
         let new = new-minutes rule start log n u w t so_far next lit starts in
         let here : nat_lt 1 (length (newest_span (spans_of w.told))) ≡ true = grind (arith, nat_tests) in
         let test : nat_lt 1 (length parts.span) ≡ true = subst (λ (span : List Told). nat_lt 1 (length span) ≡ true) newest here in
-        let long : any_long (parts.span ∷ []) ≡ true = ap (λ (b : Bool). b || false) test in
-        (
+        let long : any_long (parts.span ∷ []) ≡ true = ap (λ (b : Bool). b || false) test in (
           new.0,
           subst (λ (span : List Told). decided_of rule (span ++ t ∷ []) ≡ decided_of rule span ++ new.0) (sym newest) new.1,
           subst (λ (told : List Told). unit_history rule start log told ≡ unit_history rule start log w.told ++ minutes_after start told (unit_history rule start log w.told) new.0) (sym more) (on-grown rule start log n u w t so_far next lit starts long),
@@ -73,8 +72,7 @@ module _ (rule : Rule) (start : Start) (log : RunLog) (n u : ℕ) (w : Went) (t 
     second one k limit b follows lost known low high =
         let at = at_limit k (earlier_spans (spans_of w.told)) parts.before earlier limit in
         let goes_on = follows-second rule start log n u w t so_far next lit starts (ap (λ (span : List Told). length span) (sym newest) ∙ one) k at.0 b follows lost known
-            (subst (λ (spans : List (List Told)). All (λ (i : HistoryMinute). i.minute ≤ k) (closed_history rule start log w.told spans)) (sym at.1) low) high in
-        (
+        (subst (λ (spans : List (List Told)). All (λ (i : HistoryMinute). i.minute ≤ k) (closed_history rule start log w.told spans)) (sym at.1) low) high in (
           subst (λ (told : List Told). Follows (unit_history rule start log told) (with_lost rule start log told) (found k b) × AreLost (with_lost rule start log told) (found k b)) (sym more) goes_on.0,
           subst (λ (spans : List (List Told)). closed_history rule start log w.told spans ≡ all (found k b)) (sym earlier) goes_on.1,
         )

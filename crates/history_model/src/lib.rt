@@ -6,5 +6,6 @@ mod laws;
 
 pub use laws::{
     a_book_follows, a_closed_history_stays, a_limit_counts_from_the_second_second,
-    a_limit_may_be_told_later, a_second_adds_what_it_decides, minutes_rise, power_alone_adds_nothing, rules_see_the_span,
+    a_limit_may_be_told_later, a_second_adds_what_it_decides, minutes_rise,
+    power_alone_adds_nothing, rules_see_the_span,
 };

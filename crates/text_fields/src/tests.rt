@@ -11,7 +11,17 @@ fn numbers_are_read(rt: HostRuntime) {
 
 #[test]
 fn what_is_no_number(rt: HostRuntime) {
-    let bad: [&[u8]; 9] = [b"", b"00", b"01", b"+1", b"-1", b"1 ", b"1:", b"1/", b"4294967296"];
+    let bad: [&[u8]; 9] = [
+        b"",
+        b"00",
+        b"01",
+        b"+1",
+        b"-1",
+        b"1 ",
+        b"1:",
+        b"1/",
+        b"4294967296",
+    ];
     for digits in bad {
         assert_eq!(rt; number(digits), None);
     }

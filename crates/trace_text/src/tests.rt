@@ -30,7 +30,8 @@ const PUT_IN: Item = Item::Run {
 
 #[test]
 fn each_kind_of_line_is_read(rt: HostRuntime) -> Result<(), Fail> {
-    let text = b"# a day\n\nstart 1267401600\nrun 3600 50\nselect codriver available\ninsert driver a\nwithdraw codriver\noff 60\ntear driver\nplace driver end 0 255";
+    let text =
+        b"# a day\n\nstart 1267401600\nrun 3600 50\nselect codriver available\ninsert driver a\nwithdraw codriver\noff 60\ntear driver\nplace driver end 0 255";
     let trace = match read(&rt, text, Form::Whole)? {
         Ok(trace) => trace,
         Err(fault) => return Err(Fail::from(fault)),
@@ -176,10 +177,19 @@ fn the_last_second_may_be_put_in(rt: HostRuntime) -> Result<(), Fail> {
     assert_eq!(rt; trace.items.len(), 3);
     assert_eq!(rt; *trace.items.get(0), DAYS);
     assert_eq!(rt; *trace.items.get(2), PUT_IN);
-    assert_eq!(rt; fault(&rt, b"start 86400\nrun 34559999 0\ntear driver\noff 1")?, Some(TraceFault::TooLong(4)));
+    assert_eq!(rt;
+        fault(&rt, b"start 86400\nrun 34559999 0\ntear driver\noff 1")?,
+        Some(TraceFault::TooLong(4))
+    );
     assert_eq!(rt; fault(&rt, b"start 4294880895\nrun 1 0")?, None);
-    assert_eq!(rt; fault(&rt, b"start 4294880895\noff 2")?, Some(TraceFault::TooLong(2)));
-    assert_eq!(rt; fault(&rt, b"start 4294880895\nrun 1 0\nselect driver rest")?, Some(TraceFault::TooLong(3)));
+    assert_eq!(rt;
+        fault(&rt, b"start 4294880895\noff 2")?,
+        Some(TraceFault::TooLong(2))
+    );
+    assert_eq!(rt;
+        fault(&rt, b"start 4294880895\nrun 1 0\nselect driver rest")?,
+        Some(TraceFault::TooLong(3))
+    );
     Ok(())
 }
 

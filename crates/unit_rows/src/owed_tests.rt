@@ -25,10 +25,38 @@ const LATE_SESSION: u32 = 60 * (FIRST + 98) + 59;
 /// that is asked for, the minute after which; and the first and the end of the minutes that are owed.
 const ROWS: [(u32, u32, u32, u32, u32, u32); 6] = [
     (FIRST + 100, SESSION, SESSION, 0, FIRST + 97, FIRST + 101),
-    (FIRST + 100, SESSION, SESSION, FIRST + 98, FIRST + 99, FIRST + 101),
-    (FIRST + 100, SESSION, SESSION, FIRST + 100, FIRST + 101, FIRST + 101),
-    (FIRST + 100, SESSION, SESSION + 60, 0, FIRST + 101, FIRST + 101),
-    (FIRST + 100, LATE_SESSION, LATE_SESSION, 0, FIRST + 98, FIRST + 101),
+    (
+        FIRST + 100,
+        SESSION,
+        SESSION,
+        FIRST + 98,
+        FIRST + 99,
+        FIRST + 101,
+    ),
+    (
+        FIRST + 100,
+        SESSION,
+        SESSION,
+        FIRST + 100,
+        FIRST + 101,
+        FIRST + 101,
+    ),
+    (
+        FIRST + 100,
+        SESSION,
+        SESSION + 60,
+        0,
+        FIRST + 101,
+        FIRST + 101,
+    ),
+    (
+        FIRST + 100,
+        LATE_SESSION,
+        LATE_SESSION,
+        0,
+        FIRST + 98,
+        FIRST + 101,
+    ),
     (FIRST + 98, SESSION, SESSION, 0, FIRST + 97, FIRST + 99),
 ];
 
@@ -217,7 +245,11 @@ fn a_ninth_card_takes_the_row_of_the_least_session_but_the_spared_one(
 
 /// A `put_owed` of 01:41 into the cell of 01:37, stopped at a call that is counted from its first: how many calls it made,
 /// whether it was `Ok`, what is owed after it, and what is owed once the minute was put again.
-fn put_stopped(alloc: Global, call: u64, left: Left) -> Result<(u64, bool, Vec<u32>, Vec<u32>), Fail> {
+fn put_stopped(
+    alloc: Global,
+    call: u64,
+    left: Left,
+) -> Result<(u64, bool, Vec<u32>, Vec<u32>), Fail> {
     let mut unit = unit(alloc, one_day(alloc, FIRST + 101)?, call, left)?;
     let mut journal = open(&mut unit)?;
     begin(&mut journal, &mut unit, 1, SESSION, None)?;
@@ -310,7 +342,12 @@ fn begin_stopped(alloc: Global, call: u64, left: Left) -> Result<Begun, Fail> {
 }
 
 /// That a stop leaves the old row or one that is nobody's, and the other card's row as it was.
-fn check_begin(rt: &(impl Abort + AllocGlobal), end: u64, back: u64, left: Left) -> Result<(), Fail> {
+fn check_begin(
+    rt: &(impl Abort + AllocGlobal),
+    end: u64,
+    back: u64,
+    left: Left,
+) -> Result<(), Fail> {
     let alloc = rt.alloc();
     if end < back {
         return Err(Fail::from("too few calls"));
