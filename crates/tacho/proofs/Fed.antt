@@ -1,9 +1,7 @@
 -- A span that is fed with the items of a trace has the trace's seconds.
 use Rattle.std.proofs.Common.{◌≡◌, ◌∙◌, ℕ, suc, zero, ◌+◌, true, false, List, [], ◌∷◌, ◌++◌, take, drop, refl, ap, sym, subst, arith, append_assoc, append-nil}
-use Rattle.std.specs.Prelude.{map, filter, slice_get, Some}
+use Rattle.std.specs.Prelude.{slice_get, Some}
 use Rattle.std.specs.List.{AllByRecursion}
-use Rattle.std.proofs.lemmas.List.{map-append}
-use Rattle.std.proofs.lemmas.List.Elements.{filter-append}
 use Rattle.std.proofs.lemmas.List.Sums.{sum_by-cons}
 use Rattle.activity_codec.specs.declared.values.Slot.{Slot}
 use Rattle.activity_codec.specs.declared.values.Pick.{Pick}
@@ -17,6 +15,7 @@ use Rattle.trace_model.specs.declared.Action.{Action}
 use Rattle.trace_model.specs.declared.Action.TheVariants.{Select, Insert, Withdraw, Tear, Place}
 use Rattle.trace_model.specs.Trace.{TraceSecond, driven, seconds_from, seconds_of, item_seconds, total_seconds}
 use Rattle.run_model.specs.Span.{picks_of, span_of, trace_span}
+use Rattle.run_model.proofs.LeftToRight.{picks_of-more, span_of-append}
 use Rattle.trace_model.specs.declared.Item.{Item}
 use Rattle.trace_model.specs.declared.Item.TheVariants.{Run, Off, Act}
 use Rattle.trace_text.specs.declared.trace.Form.TheVariants.{Minutes}
@@ -28,24 +27,9 @@ fed_items-more : (span : Span) (items : List Item) (item : Item) → fed_items s
 fed_items-more span [] item = refl
 fed_items-more span (first ∷ items) item = fed_items-more (fed_item span first) items item
 
--- the selections among some actions and one more
-picks_of-more : (actions : List Action) (slot : Slot) (pick : Pick) → picks_of (actions ++ Select slot pick ∷ []) ≡ picks_of actions ++ (slot, pick) ∷ []
-picks_of-more [] slot pick = refl
-picks_of-more (Select s p ∷ actions) slot pick = ap (λ (ps : List (Slot × Pick)). (s, p) ∷ ps) (picks_of-more actions slot pick)
-picks_of-more (Insert s card ∷ actions) slot pick = picks_of-more actions slot pick
-picks_of-more (Withdraw s ∷ actions) slot pick = picks_of-more actions slot pick
-picks_of-more (Tear s ∷ actions) slot pick = picks_of-more actions slot pick
-picks_of-more (Place s ending country region ∷ actions) slot pick = picks_of-more actions slot pick
-
 -- one second at the end of a span
 one-more : (xs : List Second) (x : Second) (ys : List Second) → (xs ++ x ∷ []) ++ ys ≡ xs ++ x ∷ ys
 one-more xs x ys = append_assoc xs (x ∷ []) ys
-
--- the seconds with power of some seconds and of others
-span_of-append : (xs ys : List TraceSecond) → span_of (xs ++ ys) ≡ span_of xs ++ span_of ys
-span_of-append xs ys =
-    let f : TraceSecond → Second = λ s. record { number = s.number; speed = s.speed; picks = picks_of s.actions } in
-    ap (map f) (filter-append (λ (s : TraceSecond). s.has_power) xs ys) ∙ map-append f (filter (λ (s : TraceSecond). s.has_power) xs) (filter (λ (s : TraceSecond). s.has_power) ys)
 
 -- what seconds at one speed add to a span
 fed_many-seconds : (span : Span) (waiting : List Action) (speed n : ℕ) → span.pending ≡ picks_of waiting → (fed_many span speed n).seconds ≡ span.seconds ++ span_of (driven n (end_of span) speed waiting)

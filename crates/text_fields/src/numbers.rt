@@ -2,6 +2,12 @@
 ghost use Rattle.std.specs.Prelude.{◌≡◌, ℕ, ◌<◌, ◌≤◌, ◌^◌, IfSome, IfNone, decimal};
 ghost use Rattle.std.specs.Str.Parse.{AllDigits, digits_value};
 
+/// The largest number that is read.
+const LAST: u64 = 4294967295;
+
+/// How many digits 0 has; other numbers do not begin with it.
+const DIGITS_OF_ZERO: usize = 1;
+
 /// The number that these digits spell.
 pub fn number(digits: &[u8]) -> Option<u32>
     ensures found { IfSome result (λ n. digits.now ≡ decimal n) }
@@ -10,7 +16,7 @@ pub fn number(digits: &[u8]) -> Option<u32>
     if digits.len() == 0 {
         return None;
     }
-    if digits[0] == b'0' && digits.len() > 1 {
+    if digits[0] == b'0' && digits.len() > DIGITS_OF_ZERO {
         return None;
     }
     value(digits)
@@ -49,7 +55,7 @@ fn value(digits: &[u8]) -> Option<u32>
             return None;
         }
         let next = value as u64 * 10 + (*digit - b'0') as u64;
-        if next > 4294967295 {
+        if next > LAST {
             return None;
         }
         value = next as u32;

@@ -1,5 +1,5 @@
 -- What is answered over a text follows from what the text is judged to be.
-use Rattle.std.proofs.Common.{◌≡◌, ℕ, ◌≤◌, List, length, refl, sym, ap, subst, arith, inl, inr, false, Ok, Err, Some, Option}
+use Rattle.std.proofs.Common.{◌≡◌, ℕ, ◌≤◌, List, length, refl, sym, ap, subst, arith, inl, inr, Ok, Err, Some, Option}
 use Rattle.std.specs.Prelude.{Result, MatchResult, IfOk, IsErrAnd, ◌⊎◌, IfSome}
 use Rattle.std.specs.Io.KnownBytes.{Consumes, IsAtEnd}
 use Rattle.std.proofs.KnownBytes.{Consumes-whole}
@@ -13,7 +13,7 @@ use Rattle.trace_text.specs.Trace.{IsTraceOf, IsWellFormed, HasRuns}
 use Rattle.trace_text.specs.Judged.{IsTraceText, IsBadText, IsLongText, IsFailure}
 use Rattle.trace_text.specs.Reading.{IsFaultOf}
 use Rattle.std.specs.List.{AllByRecursion}
-use Rattle.trace_text.specs.Line.{InRange, IsKnown}
+use Rattle.trace_text.specs.Line.{IsKnown}
 use Rattle.trace_text.proofs.PutIn.{ended-runs, ended-known, known-ranges}
 use Rattle.trace_text.proofs.Once.{no_bad_line, no_too_long, bad-one, long-one, bad-not_long, trace-one}
 

@@ -7,3 +7,4 @@ pub mod Passed
 pub mod Once
 pub mod LinesRead
 pub mod Answered
+mod Worked

@@ -11,7 +11,7 @@ use Rattle.trace_text.specs.declared.reading.Reading.{Reading}
 use Rattle.trace_text.specs.Text.{counts, fields, counted, numbered}
 use Rattle.trace_text.specs.Line.{IsStart, IsItem}
 use Rattle.trace_text.specs.Trace.{Spells, IsTraceOf, IsWithin, items_of, put_in, added, waits, waiting_from, opened, ended}
-use Rattle.trace_text.specs.Judged.{IsFirstBad, bad_line, no_start, IsFirstTooLong, IsPassedAt, items_before}
+use Rattle.trace_text.specs.Judged.{IsFirstBad, bad_line, no_start, IsPassedAt, items_before}
 use Rattle.trace_text.specs.Reading.{HasTaken, HasSpelled, HasStarted, HasRead, IsFaultAt, IsFaultOf}
 use Rattle.trace_text.proofs.Numbering.{counted-line, counted-same}
 use Rattle.trace_text.proofs.Grammar.{spells-start, spells-more, bad_item, bad_start}

@@ -1,5 +1,5 @@
 -- The lines that count, one line after another.
-use Rattle.std.proofs.Common.{◌≡◌, ◌∙◌, ℕ, ◌+◌, true, false, List, [], ◌∷◌, ◌++◌, length, refl, ap, subst, arith, append-nil}
+use Rattle.std.proofs.Common.{◌≡◌, ◌∙◌, ℕ, ◌+◌, true, false, List, [], ◌∷◌, ◌++◌, length, refl, ap, arith, append-nil}
 use Rattle.text_fields.proofs.PieceLemmas.{by_test}
 use Rattle.trace_text.specs.Text.{counts, fields, numbered, counted}
 

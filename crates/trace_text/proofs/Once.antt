@@ -1,10 +1,10 @@
 -- A text is judged in one way only: it is one trace, or bad at one line, or too long at one line.
-use Rattle.std.proofs.Common.{◌≡◌, ◌∙◌, ℕ, ◌+◌, List, [], ◌∷◌, ◌++◌, length, refl, ap, sym, subst, arith, append_assoc, append-nil, inl, inr}
+use Rattle.std.proofs.Common.{◌≡◌, ◌∙◌, ℕ, ◌+◌, List, [], ◌∷◌, ◌++◌, refl, ap, sym, subst, arith, append_assoc, append-nil, inl, inr}
 use Rattle.trace_model.specs.declared.Item.{Item}
 use Rattle.trace_model.specs.Trace.{total_seconds}
 use Rattle.trace_text.specs.declared.trace.Form.{Form}
 use Rattle.trace_text.specs.Text.{counted}
-use Rattle.trace_text.specs.Trace.{Spells, IsTraceOf, IsWithin, InGrammar, BeginsWell, items_of, opened, ended}
+use Rattle.trace_text.specs.Trace.{Spells, IsTraceOf, InGrammar, BeginsWell, items_of, opened, ended}
 use Rattle.trace_text.specs.Judged.{IsFirstBad, bad_line, no_start, IsFirstTooLong, IsPassedAt, items_before}
 use Rattle.trace_text.proofs.Grammar.{no_push, spells-some, spells-front, spells-one, front-in_grammar}
 use Rattle.trace_text.proofs.PutIn.{before-front}

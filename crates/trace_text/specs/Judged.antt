@@ -11,7 +11,9 @@ use Rattle.trace_text.specs.Trace.{Spells, IsTraceOf, IsWithin, InGrammar, Begin
 -- Line n is the first outside the grammar, and no limit is passed before it: the lines before it begin a trace, and with
 -- it they do not. Where no line counts, it is the one after the last.
 pub data IsFirstBad (form : Form) (lines : List (List ℕ)) (n : ℕ) : Type 0 where
-  bad_line : (before : List (ℕ × List (List ℕ))) (fields : List (List ℕ)) (after : List (ℕ × List (List ℕ))) → counted lines ≡ before ++ (n, fields) ∷ after → BeginsWell form before → (InGrammar form (before ++ (n, fields) ∷ []) → ⊥) → IsFirstBad form lines n
+  bad_line : (before : List (ℕ × List (List ℕ))) (fields : List (List ℕ)) (after : List (ℕ × List (List ℕ)))
+      → counted lines ≡ before ++ (n, fields) ∷ after → BeginsWell form before → (InGrammar form (before ++ (n, fields) ∷ []) → ⊥)
+      → IsFirstBad form lines n
   no_start : counted lines ≡ [] → n ≡ length lines + 1 → IsFirstBad form lines n
 
 -- behind so many seconds, a limit is first passed at an item that counts to line n
@@ -26,7 +28,7 @@ abbrev pub items_before : List (ℕ × List (List ℕ)) → List (ℕ × Item) �
 items_before [] written = ended written
 items_before (line ∷ lines) written = opened written
 
--- line n is the one at which a limit is first passed, and all lines read by then are in the grammar
+-- line n is the one at which the items of some first lines, all in the grammar, first pass a limit
 pub record IsFirstTooLong (form : Form) (lines : List (List ℕ)) (n : ℕ) : Type 0 where
   pub front : List (ℕ × List (List ℕ))
   pub behind : List (ℕ × List (List ℕ))

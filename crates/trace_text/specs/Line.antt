@@ -42,7 +42,8 @@ item_fields (Act (Select slot pick)) = codes "select" ∷ slot_word slot ∷ pic
 item_fields (Act (Insert slot card)) = codes "insert" ∷ slot_word slot ∷ card_word card ∷ []
 item_fields (Act (Withdraw slot)) = codes "withdraw" ∷ slot_word slot ∷ []
 item_fields (Act (Tear slot)) = codes "tear" ∷ slot_word slot ∷ []
-item_fields (Act (Place slot ending country region)) = codes "place" ∷ slot_word slot ∷ ending_word ending ∷ decimal country ∷ decimal region ∷ []
+item_fields (Act (Place slot ending country region)) =
+    codes "place" ∷ slot_word slot ∷ ending_word ending ∷ decimal country ∷ decimal region ∷ []
 
 -- the lines that a form knows behind `start`: the form of minutes `run` and `select`, and the whole form all
 abbrev pub knows : Form → Item → Bool

@@ -97,4 +97,5 @@ InGrammar form lines = (lines ≡ []) ⊎ ((start : ℕ) × (written : List (ℕ
 -- these lines begin a trace, or there are none, and no limit is passed at one of them
 abbrev pub BeginsWell : Form → List (ℕ × List (List ℕ)) → Type 0
 BeginsWell form lines =
-    (lines ≡ []) ⊎ ((start : ℕ) × (written : List (ℕ × Item)) × Spells form lines start written × IsWithin start (total_seconds (items_of (opened written))))
+    (lines ≡ [])
+    ⊎ ((start : ℕ) × (written : List (ℕ × Item)) × Spells form lines start written × IsWithin start (total_seconds (items_of (opened written))))

@@ -1,5 +1,5 @@
 //! One line of a trace.
-ghost use Rattle.std.specs.Prelude.{◌≡◌, ◌↔◌, ℕ, ◌∷◌, [], IfSome, IfNone, codes, Bool};
+ghost use Rattle.std.specs.Prelude.{◌≡◌, ℕ, ◌∷◌, [], IfSome, IfNone, codes, Bool};
 ghost use Rattle.activity_codec.specs.declared.values.Pick.{Pick as EachPick};
 ghost use Rattle.activity_codec.specs.declared.values.Slot.{Slot as EachSlot};
 ghost use Rattle.text_fields.specs.Pieces.{pieces};

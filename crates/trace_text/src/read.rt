@@ -1,5 +1,5 @@
 //! Reading a trace from a source.
-ghost use Rattle.std.specs.Prelude.{◌≡◌, ℕ, ◌<◌, ◌≤◌, ◌∷◌, List, length, IfOk, IfErr, OnOk, IsErrOf, IsErrAnd, ◌⊎◌, Some, Err, MatchResult};
+ghost use Rattle.std.specs.Prelude.{◌≡◌, ℕ, ◌<◌, ◌≤◌, ◌∷◌, List, length, IfOk, OnOk, IsErrOf, IsErrAnd, ◌⊎◌, Some, Err, MatchResult};
 ghost use Rattle.std.specs.Io.KnownBytes.{IsAtEnd};
 ghost use Rattle.tach_media.specs.Medium.{Rose};
 ghost use Rattle.std.specs.List.{AllByRecursion};
@@ -30,13 +30,16 @@ pub fn read_trace<S: Source>(alloc: Global, source: &mut S, form: Form) -> Resul
     ensures known { IfOk result (λ t. AllByRecursion (IsKnown form) t.items) }
 
     // Each refusal has its cause.
-    ensures bad_line { (text : List ℕ) (n : ℕ) → S.left source.old ≡ Some text → result ≡ Err (TraceFault.BadLine n) → IsBadText form text n }
-    ensures too_long { (text : List ℕ) (n : ℕ) → S.left source.old ≡ Some text → result ≡ Err (TraceFault.TooLong n) → IsLongText form text n }
+    ensures bad_line { (text : List ℕ) (n : ℕ) → S.left source.old ≡ Some text
+        → result ≡ Err (TraceFault.BadLine n) → IsBadText form text n }
+    ensures too_long { (text : List ℕ) (n : ℕ) → S.left source.old ≡ Some text
+        → result ≡ Err (TraceFault.TooLong n) → IsLongText form text n }
     ensures read_fault { IsErrOf result TraceFault.ReadFault → Rose (S.faults source.old) (S.faults source.new) }
     ensures later { S.faults source.old ≤ S.faults source.new }
 
     // And each cause its refusal, unless the source fails or memory runs out.
-    ensures reads { (text : List ℕ) (start : ℕ) (items : List Item) → S.left source.old ≡ Some text → IsTraceText form text start items
+    ensures reads { (text : List ℕ) (start : ℕ) (items : List Item) → S.left source.old ≡ Some text
+        → IsTraceText form text start items
         → MatchResult result (λ t. (t.start ≡ start) × (t.items ≡ items)) IsFailure }
     ensures finds_bad_line { (text : List ℕ) (n : ℕ) → S.left source.old ≡ Some text → IsBadText form text n
         → IsErrAnd result (λ fault. (fault ≡ TraceFault.BadLine n) ⊎ IsFailure fault) }

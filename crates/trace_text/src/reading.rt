@@ -55,7 +55,8 @@ impl Reading {
     pub fn take(&mut self, line: &[u8]) -> Result<(), TraceFault>
         requires { self.old.lines < 4294967295 }
         ensures ok { (lines : List (List ℕ)) → HasRead lines self.old → OnOk result (HasRead (lines ++ line.now ∷ []) self.new) }
-        ensures fault { (lines behind : List (List ℕ)) → HasRead lines self.old → IfErr result (IsFaultOf self.old.form (lines ++ line.now ∷ behind)) }
+        ensures fault { (lines behind : List (List ℕ)) → HasRead lines self.old
+            → IfErr result (IsFaultOf self.old.form (lines ++ line.now ∷ behind)) }
         ensures form { self.new.form ≡ self.old.form }
         ensures lines { OnOk result (self.new.lines ≡ self.old.lines + 1) }
     {
@@ -75,7 +76,8 @@ impl Reading {
         requires first { self.old.start ≡ NoSecond }
         requires counted { counts line.now ≡ true }
         ensures ok { (lines : List (List ℕ)) → HasRead lines self.old → OnOk result (HasRead (lines ++ line.now ∷ []) self.new) }
-        ensures fault { (lines behind : List (List ℕ)) → HasRead lines self.old → IfErr result (IsFaultOf self.old.form (lines ++ line.now ∷ behind)) }
+        ensures fault { (lines behind : List (List ℕ)) → HasRead lines self.old
+            → IfErr result (IsFaultOf self.old.form (lines ++ line.now ∷ behind)) }
         ensures form { self.new.form ≡ self.old.form }
         ensures lines { OnOk result (self.new.lines ≡ self.old.lines + 1) }
     {
@@ -93,7 +95,8 @@ impl Reading {
         requires later { self.old.start ≡ Second start }
         requires counted { counts line.now ≡ true }
         ensures ok { (lines : List (List ℕ)) → HasRead lines self.old → OnOk result (HasRead (lines ++ line.now ∷ []) self.new) }
-        ensures fault { (lines behind : List (List ℕ)) → HasRead lines self.old → IfErr result (IsFaultOf self.old.form (lines ++ line.now ∷ behind)) }
+        ensures fault { (lines behind : List (List ℕ)) → HasRead lines self.old
+            → IfErr result (IsFaultOf self.old.form (lines ++ line.now ∷ behind)) }
         ensures form { self.new.form ≡ self.old.form }
         ensures lines { OnOk result (self.new.lines ≡ self.old.lines + 1) }
     {
@@ -111,8 +114,10 @@ impl Reading {
 
     /// Takes the item of a line, with the second that is put in before an `off`.
     fn append(&mut self, start: u32, line: u32, item: Item) -> Result<(), TraceFault>
-        ensures ok { (placed : List (ℕ × Each)) → HasTaken start placed self.old → OnOk result (HasTaken start (placed ++ added self.old.waiting (line, item)) self.new) }
-        ensures fault { (placed more : List (ℕ × Each)) → HasTaken start placed self.old → IfErr result (IsFaultAt start (placed ++ (added self.old.waiting (line, item) ++ more))) }
+        ensures ok { (placed : List (ℕ × Each)) → HasTaken start placed self.old
+            → OnOk result (HasTaken start (placed ++ added self.old.waiting (line, item)) self.new) }
+        ensures fault { (placed more : List (ℕ × Each)) → HasTaken start placed self.old
+            → IfErr result (IsFaultAt start (placed ++ (added self.old.waiting (line, item) ++ more))) }
         ensures form { self.new.form ≡ self.old.form }
         ensures lines { self.new.lines ≡ self.old.lines }
         ensures start { self.new.start ≡ self.old.start }
@@ -127,8 +132,10 @@ impl Reading {
 
     /// Takes the second that is put in, where an action waits for one.
     fn put_in(&mut self, start: u32) -> Result<(), TraceFault>
-        ensures ok { (placed : List (ℕ × Each)) → HasTaken start placed self.old → OnOk result (HasTaken start (placed ++ put_in self.old.waiting) self.new) }
-        ensures fault { (placed more : List (ℕ × Each)) → HasTaken start placed self.old → IfErr result (IsFaultAt start (placed ++ (put_in self.old.waiting ++ more))) }
+        ensures ok { (placed : List (ℕ × Each)) → HasTaken start placed self.old
+            → OnOk result (HasTaken start (placed ++ put_in self.old.waiting) self.new) }
+        ensures fault { (placed more : List (ℕ × Each)) → HasTaken start placed self.old
+            → IfErr result (IsFaultAt start (placed ++ (put_in self.old.waiting ++ more))) }
         ensures form { self.new.form ≡ self.old.form }
         ensures lines { self.new.lines ≡ self.old.lines }
         ensures start { self.new.start ≡ self.old.start }
@@ -141,8 +148,10 @@ impl Reading {
 
     /// Takes an item whose seconds count to a line.
     fn add(&mut self, start: u32, line: u32, item: Item) -> Result<(), TraceFault>
-        ensures ok { (placed : List (ℕ × Each)) → HasTaken start placed self.old → OnOk result (HasTaken start (placed ++ (line, item) ∷ []) self.new) }
-        ensures fault { (placed more : List (ℕ × Each)) → HasTaken start placed self.old → IfErr result (IsFaultAt start (placed ++ ((line, item) ∷ more))) }
+        ensures ok { (placed : List (ℕ × Each)) → HasTaken start placed self.old
+            → OnOk result (HasTaken start (placed ++ (line, item) ∷ []) self.new) }
+        ensures fault { (placed more : List (ℕ × Each)) → HasTaken start placed self.old
+            → IfErr result (IsFaultAt start (placed ++ ((line, item) ∷ more))) }
         ensures form { self.new.form ≡ self.old.form }
         ensures lines { self.new.lines ≡ self.old.lines }
         ensures start { self.new.start ≡ self.old.start }

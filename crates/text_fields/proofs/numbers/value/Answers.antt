@@ -11,8 +11,8 @@ returns-then-digit-lt48-clause-none c = λ all small.
       | then-digit-lt48-via-else-digit-lt48+then-digit-gt57 w ↦ omega (arith, here.1)
     ]
 
-pub returns-then-next-gt4294967295-clause-none : goal.returns-then-next-gt4294967295-clause-none
-returns-then-next-gt4294967295-clause-none c = λ all small.
+pub returns-then-next-gt-LAST-clause-none : goal.returns-then-next-gt-LAST-clause-none
+returns-then-next-gt-LAST-clause-none c = λ all small.
     let v = c.loop-digit.invariant in
     let more = one-more c.args.digits.now c.loop-digit.digit-index (slice_index_or c.args.digits.now c.loop-digit.digit-index 0) c.loop-digit.value (omega arith) v.0 v.1 refl (omega arith) (omega arith) in
     let le = no_smaller c.args.digits.now (c.loop-digit.digit-index + 1) in
