@@ -1,9 +1,9 @@
 -- Which days go for room, and which are left.
-use Rattle.std.proofs.Common.{◌≡◌, ◌⊎◌, inl, inr, ⊎_elim, ℕ, ◌+◌, ◌<◌, ◌≤◌, Bool, true, false, cond, List, [], ◌∷◌, ◌++◌, refl, sym, ◌∙◌, ap, subst, arith}
+use Rattle.std.proofs.Common.{◌≡◌, ◌⊎◌, inl, inr, ⊎_elim, ℕ, ◌+◌, ◌<◌, ◌≤◌, Bool, cond, List, [], ◌∷◌, ◌++◌, refl, sym, ◌∙◌, ap, subst, arith}
 use Rattle.std.proofs.lemmas.Bool.{cases_lt, le-leb, lt-leb}
 use Rattle.card_model.specs.Days.{Day, len_of, total, AreDays}
 use Rattle.card_model.specs.Changes.{Remain, fitting, OnNewest}
-use Rattle.card_model.proofs.Lists.{len_least, len_most}
+use Rattle.card_model.proofs.Lists.{len_most}
 
 pub remain_all : (room : ℕ) (days : List Day) → Remain room days days
 remain_all room [] = refl

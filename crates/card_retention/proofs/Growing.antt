@@ -1,10 +1,9 @@
 -- New words and days, fewer words, and drops of the string's own days.
-use Rattle.std.proofs.Common.{◌≡◌, inl, inr, ⊎_elim, ℕ, ◌+◌, ◌-◌, ◌/◌, ◌<◌, ◌≤◌, Bool, true, false, cond, List, [], ◌∷◌, ◌++◌, length, refl, sym, ◌∙◌, ap, subst, arith, append_assoc, length-append}
-use Rattle.std.specs.Prelude.{nat_eq, nat_le}
+use Rattle.std.proofs.Common.{◌≡◌, inl, inr, ⊎_elim, ℕ, ◌+◌, ◌-◌, ◌/◌, ◌<◌, ◌≤◌, true, false, List, [], ◌∷◌, ◌++◌, length, refl, sym, ◌∙◌, ap, subst, arith, append_assoc, length-append}
+use Rattle.std.specs.Prelude.{nat_eq}
 use Rattle.std.proofs.lemmas.Bool.Decides.{nat_tests}
-use Rattle.std.proofs.lemmas.Bool.{cases_lt}
 use Rattle.card_model.specs.Days.{Day, total}
-use Rattle.card_model.specs.Changes.{Remain, fitting, with_newest, with_word}
+use Rattle.card_model.specs.Changes.{Remain, with_newest, with_word}
 use Rattle.card_retention.specs.Expected.{WordDay, size_of, size_all, one_more, more, is_newest}
 use Rattle.card_retention.specs.Shown.{Takes, Covers, IsFull, Bound, InDays, AllFrom, AllIn, Shows, Left, Grows, Rising, Fits, AllBefore, Filled, sizes, size_day}
 use Rattle.activity_codec.specs.declared.entries.Entry.{Entry}

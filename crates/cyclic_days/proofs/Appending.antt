@@ -1,5 +1,5 @@
 -- The two writes that add a word to the newest day.
-use Rattle.std.proofs.Common.{◌≡◌, ◌⊎◌, inl, inr, ⊎_elim, ℕ, ◌+◌, ◌%◌, ◌<◌, ◌≤◌, List, [], ◌∷◌, ◌++◌, length, take, drop, sym, ◌∙◌, ap, subst, arith, lit≤}
+use Rattle.std.proofs.Common.{◌≡◌, ◌⊎◌, inl, inr, ⊎_elim, ℕ, ◌+◌, ◌≤◌, List, [], ◌∷◌, ◌++◌, length, take, drop, sym, ◌∙◌, ap, subst, arith, lit≤}
 use Rattle.tach_media.specs.Medium.{put, SameOutside}
 use Rattle.write_plan.specs.Plan.{piece, IsPartway}
 use Rattle.tach_media.specs.LogLaws.{put_outside}

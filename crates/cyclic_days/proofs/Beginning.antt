@@ -9,7 +9,7 @@ use Rattle.tach_media.proofs.Images.{part_before}
 use Rattle.card_model.specs.Days.{last_len, Day, len_of, total, far, body, record_of, records, IsDay, AreDays}
 use Rattle.card_model.specs.Bytes.{number, two_bytes}
 use Rattle.card_model.specs.Changes.{next_counter, new_day, IsLater, IsNext}
-use Rattle.card_model.specs.Image.{StringShape, IsStringShape, oldest_pointer, newest_pointer, circle_of, IsPointer, IsPlace, spot, Holds, at}
+use Rattle.card_model.specs.Image.{StringShape, IsStringShape, oldest_pointer, newest_pointer, circle_of, IsPointer, IsPlace, spot, Holds}
 use Rattle.cyclic_days.specs.Steps.{preceded, day_filled, measured, begun, IsBeginStep}
 use Rattle.card_model.proofs.Circle.{put_back}
 use Rattle.card_model.proofs.Lists.{records_length, previous_of, records-append, far_last}

@@ -1,5 +1,5 @@
 -- A drop where there is no room, and then a word.
-use Rattle.std.proofs.Common.{◌≡◌, ◌≢◌, ◌⊎◌, inl, inr, ⊎_elim, ℕ, ◌+◌, ◌-◌, ◌*◌, ◌<◌, ◌≤◌, Bool, true, cond, IfSome, Some, List, [], ◌∷◌, ◌++◌, length, take, refl, sym, ◌∙◌, ap, subst, arith, length-append}
+use Rattle.std.proofs.Common.{◌≡◌, ◌≢◌, ◌⊎◌, inl, inr, ⊎_elim, ℕ, ◌+◌, ◌-◌, ◌*◌, ◌<◌, ◌≤◌, Bool, true, cond, IfSome, List, [], ◌∷◌, ◌++◌, length, take, refl, sym, ◌∙◌, ap, subst, arith, length-append}
 use Rattle.std.specs.Prelude.{nat_lt}
 use Rattle.std.proofs.lemmas.Bool.{cases_lt}
 use Rattle.card_model.specs.Bytes.{two_bytes}
@@ -7,14 +7,13 @@ use Rattle.std.proofs.lemmas.Bool.Decides.{nat_tests}
 use Rattle.tach_media.specs.Medium.{State}
 use Rattle.write_plan.specs.Plan.{put_all, IsPartway, PutsAll, PutsBy}
 use Rattle.write_plan.proofs.Plans.{put_all-append, partway_either, partway_outside, puts_outside}
-use Rattle.card_model.specs.Days.{Day, len_of, total, last_len, AreDays, last_word}
+use Rattle.card_model.specs.Days.{Day, total, last_word}
 use Rattle.card_model.specs.Changes.{Remain, fitting, with_newest, with_word, OnNewest, TakesWord}
-use Rattle.card_model.specs.Image.{StringShape, IsPlace, IsPointer, Holds, circle_of, newest_pointer, spot}
-use Rattle.card_model.proofs.Lists.{total-append, len_least}
+use Rattle.card_model.specs.Image.{StringShape, IsPlace, IsPointer, Holds, circle_of, spot}
+use Rattle.card_model.proofs.Lists.{total-append}
 use Rattle.card_model.proofs.Reading.{fills}
 use Rattle.card_model.proofs.Walking.{one_list}
 use Rattle.cyclic_days.specs.declared.head.DayHead.{DayHead}
-use Rattle.cyclic_days.specs.declared.head.Tail.{Tail}
 use Rattle.cyclic_days.specs.Heads.{day_head}
 use Rattle.cyclic_days.specs.Held.{Held, IsHeld, Knows, IsNewestHead, newest_len, end_of}
 use Rattle.cyclic_days.specs.Moments.{IfKnown, IsChanging, IsChanged, KnowsChanged, ClearsChanged}
@@ -30,7 +29,7 @@ use Rattle.cyclic_days.proofs.Matching.{front_cleared, Matches, matches, end_is,
 use Rattle.card_model.proofs.Retention.{fitting_all}
 use Rattle.cyclic_days.proofs.Roomier.{fitting_once, newest_left, remain_once}
 use Rattle.cyclic_days.proofs.Rounds.{spot_is}
-use Rattle.cyclic_days.proofs.Tails.{newest_last, last_newest}
+use Rattle.cyclic_days.proofs.Tails.{newest_last}
 
 -- the newest of some days is told, where there is one
 newest_told : (h : DayHead) (w v : ℕ) (days : List Day) → OnNewest (TakesWord v) days → IsNewestHead h w days → OnNewest (λ d. h ≡ day_head h.place d) days

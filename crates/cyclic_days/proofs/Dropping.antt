@@ -1,5 +1,5 @@
 -- The two writes that drop the oldest day.
-use Rattle.std.proofs.Common.{◌≡◌, ◌⊎◌, inl, inr, ⊎_elim, ℕ, ◌+◌, ◌%◌, ◌<◌, ◌≤◌, List, [], ◌∷◌, length, take, refl, sym, ◌∙◌, ap, subst, arith, lit≤}
+use Rattle.std.proofs.Common.{◌≡◌, ◌⊎◌, inl, inr, ⊎_elim, ℕ, ◌+◌, ◌≤◌, List, [], ◌∷◌, length, take, sym, ◌∙◌, ap, subst, arith, lit≤}
 use Rattle.tach_media.specs.Medium.{put, SameOutside}
 use Rattle.tach_media.specs.LogLaws.{put_outside}
 use Rattle.write_plan.specs.Plan.{piece, IsPartway}

@@ -1,16 +1,16 @@
 -- The planned writes lie in the string's file.
-use Rattle.std.proofs.Common.{◌≡◌, ⊎_elim, inl, inr, ℕ, ◌+◌, ◌-◌, ◌*◌, ◌%◌, ◌<◌, ◌≤◌, Bool, true, false, cond, List, [], ◌∷◌, ◌++◌, length, take, drop, refl, sym, ◌∙◌, ap, subst, arith, length-drop}
+use Rattle.std.proofs.Common.{◌≡◌, ℕ, ◌+◌, ◌-◌, ◌%◌, ◌<◌, ◌≤◌, Bool, true, false, cond, List, [], ◌∷◌, ◌++◌, length, take, drop, refl, arith, length-drop}
 use Rattle.std.specs.Prelude.{◌==◌, nat_le, nat_eq, ◌&&◌}
 use Rattle.std.specs.List.{AllByRecursion}
 use Rattle.std.proofs.lemmas.Bool.Decides.{nat_tests}
 use Rattle.std.proofs.lemmas.List.{length-take-le}
-use Rattle.tach_media.specs.Medium.{bytes_at, SameOutside}
+use Rattle.tach_media.specs.Medium.{bytes_at}
 use Rattle.write_plan.specs.Plan.{Piece, piece, put_all, IsInside}
 use Rattle.write_plan.proofs.Plans.{puts_outside}
 use Rattle.card_model.specs.Bytes.{number, two_bytes}
-use Rattle.card_model.specs.Image.{StringShape, IsStringShape, IsPointer, spot, at}
+use Rattle.card_model.specs.Image.{StringShape, IsPointer, spot, at}
 use Rattle.cyclic_days.specs.Held.{Held, IsHeld, newest_len, end_of, oldest_at}
-use Rattle.cyclic_days.specs.Plans.{dropped_len, left_in, drop_pieces, word_pieces, change_pieces, round_pieces, pointer_pieces, day_pieces, beginning_pieces}
+use Rattle.cyclic_days.specs.Plans.{dropped_len, left_in, drop_pieces, word_pieces, change_pieces, round_pieces, pointer_pieces, day_pieces}
 use Rattle.cyclic_days.proofs.Matching.{end_is, oldest_is}
 use Rattle.cyclic_days.proofs.Rounds.{spot_is}
 

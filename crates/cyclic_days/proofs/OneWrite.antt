@@ -1,5 +1,5 @@
 -- The calls of one write, where the image tells what is kept.
-use Rattle.std.proofs.Common.{◌≡◌, ◌≢◌, inl, inr, ⊎_elim, ℕ, ◌+◌, ◌<◌, ◌≤◌, List, [], ◌∷◌, ◌++◌, length, refl, sym, ◌∙◌, ap, subst, arith}
+use Rattle.std.proofs.Common.{◌≡◌, ⊎_elim, ℕ, ◌+◌, ◌≤◌, List, [], ◌∷◌, length, refl, sym, ◌∙◌, ap, subst, arith}
 use Rattle.tach_media.specs.Medium.{put}
 use Rattle.tach_media.specs.LogLaws.{put_outside}
 use Rattle.tach_media.proofs.Images.{part_before}
@@ -8,10 +8,9 @@ use Rattle.write_plan.proofs.Plans.{partway_outside, puts_outside}
 use Rattle.card_model.specs.Bytes.{number, two_bytes}
 use Rattle.card_model.specs.Days.{Day, total}
 use Rattle.card_model.specs.Changes.{with_newest, with_km}
-use Rattle.card_model.specs.Image.{StringShape, oldest_pointer, newest_pointer, IsPlace, IsPointer, Holds, spot, at}
+use Rattle.card_model.specs.Image.{StringShape, oldest_pointer, newest_pointer, IsPlace, IsPointer, spot, at}
 use Rattle.cyclic_days.specs.declared.head.DayHead.{DayHead}
 use Rattle.cyclic_days.specs.declared.head.Tail.{Tail}
-use Rattle.cyclic_days.specs.Heads.{day_head}
 use Rattle.cyclic_days.specs.Held.{Held, IsHeld, Knows, IsNewestHead, oldest_at}
 use Rattle.cyclic_days.specs.Moments.{IfKnown}
 use Rattle.cyclic_days.specs.Plans.{mend_pieces, km_pieces, tail_km}

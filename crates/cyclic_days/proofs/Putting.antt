@@ -1,6 +1,6 @@
 -- What is looked at, if anything, and then a plan.
-use Rattle.std.proofs.Common.{◌≡◌, ⊎_elim, inl, inr, ℕ, Bool, true, false, List, length, Option, Some, None, IfSome, option_map, refl, sym, ◌∙◌, ap, subst, arith}
-use Rattle.std.specs.Prelude.{◌+◌, ◌<◌, ◌≤◌, ◌⊎◌}
+use Rattle.std.proofs.Common.{◌≡◌, ⊎_elim, inl, inr, ℕ, Bool, true, List, length, Option, Some, None, IfSome, option_map, refl, sym, ◌∙◌, ap, subst, arith}
+use Rattle.std.specs.Prelude.{◌≤◌}
 use Rattle.tach_media.specs.Medium.{State, Reads, Writes, HasCause, IsSettled}
 use Rattle.tach_media.proofs.Runs.{weaken, after_reads, goes_same, reads_then, reads_writes, settled_then}
 use Rattle.write_plan.specs.Plan.{Piece, put_all, IsPartway, PutsAll, PutsBy}

@@ -1,7 +1,7 @@
 -- What is left of the days after one drop, and after two.
-use Rattle.std.proofs.Common.{◌≡◌, ◌⊎◌, inl, inr, ⊎_elim, ℕ, ◌+◌, ◌<◌, ◌≤◌, Bool, true, false, cond, List, [], ◌∷◌, ◌++◌, refl, sym, ◌∙◌, ap, subst, arith}
+use Rattle.std.proofs.Common.{◌≡◌, inl, inr, ⊎_elim, ℕ, ◌+◌, ◌<◌, ◌≤◌, Bool, cond, List, [], ◌∷◌, refl, sym, ◌∙◌, ap, subst, arith}
 use Rattle.std.proofs.lemmas.Bool.{cases_lt, le-leb, lt-leb}
-use Rattle.card_model.specs.Days.{Day, len_of, total, AreDays}
+use Rattle.card_model.specs.Days.{Day, total, AreDays}
 use Rattle.card_model.specs.Changes.{Remain, fitting, OnNewest, new_day, IsNext}
 use Rattle.card_model.proofs.Retention.{remain_all, fitting_all, fitting_more}
 use Rattle.cyclic_days.specs.Steps.{roomier}

@@ -1,33 +1,31 @@
 -- Drops where there is no room, and then a day.
-use Rattle.std.proofs.Common.{◌≡◌, ◌≢◌, ◌⊎◌, inl, inr, ⊎_elim, ℕ, ◌+◌, ◌-◌, ◌*◌, ◌%◌, ◌<◌, ◌≤◌, Bool, true, false, cond, IfSome, Some, List, [], ◌∷◌, ◌++◌, length, take, drop, refl, sym, ◌∙◌, ap, subst, arith, length-append, append_assoc}
-use Rattle.std.specs.Prelude.{◌==◌, nat_le}
+use Rattle.std.proofs.Common.{◌≡◌, ◌≢◌, ◌⊎◌, inl, inr, ⊎_elim, ℕ, ◌+◌, ◌-◌, ◌*◌, ◌%◌, ◌<◌, ◌≤◌, Bool, true, false, cond, IfSome, List, [], ◌∷◌, ◌++◌, length, take, refl, sym, ◌∙◌, ap, subst, arith, length-append, append_assoc}
+use Rattle.std.specs.Prelude.{◌==◌}
 use Rattle.std.proofs.lemmas.Bool.Decides.{nat_tests}
 use Rattle.std.proofs.lemmas.Bool.{cases_lt}
-use Rattle.tach_media.specs.Medium.{State, put, IsPartlyWritten}
+use Rattle.tach_media.specs.Medium.{State}
 use Rattle.tach_media.proofs.Runs.{both_told}
-use Rattle.write_plan.specs.Plan.{Piece, piece, put_all, IsPartway, PutsAll, PutsBy}
+use Rattle.write_plan.specs.Plan.{Piece, put_all, IsPartway, PutsAll, PutsBy}
 use Rattle.write_plan.proofs.Plans.{put_all-append, partway_either, partway_outside, puts_outside}
 use Rattle.card_model.specs.Bytes.{two_bytes}
-use Rattle.card_model.specs.Days.{Day, len_of, total, body, AreDays, last_word}
+use Rattle.card_model.specs.Days.{Day, total, body, AreDays, last_word}
 use Rattle.card_model.specs.Changes.{Remain, fitting, counter_after, next_counter, new_day, IsNext}
-use Rattle.card_model.specs.Image.{StringShape, IsPlace, IsPointer, Holds, circle_of, oldest_pointer, newest_pointer, spot, at}
+use Rattle.card_model.specs.Image.{StringShape, Holds, circle_of, oldest_pointer, newest_pointer}
 use Rattle.card_model.proofs.Lists.{total-append, len_least, days_after}
 use Rattle.card_model.proofs.Reading.{fills}
 use Rattle.card_model.proofs.Walking.{one_list}
 use Rattle.cyclic_days.specs.declared.head.DayHead.{DayHead}
-use Rattle.cyclic_days.specs.declared.head.Tail.{Tail}
 use Rattle.cyclic_days.specs.Heads.{day_head}
 use Rattle.cyclic_days.specs.Held.{Held, IsHeld, Knows, IsNewestHead, newest_len, end_of, oldest_at}
 use Rattle.cyclic_days.specs.Moments.{IfKnown, IsDayBeginning, IsDayBegun, KnowsBegun, ClearsBegun, BeginsAgain}
-use Rattle.cyclic_days.specs.Plans.{most_drops, left_in, drop_pieces, round_pieces, pointer_pieces, day_pieces, count_of, day_by, beginning_pieces, tail_begun}
-use Rattle.cyclic_days.specs.Steps.{roomier, put_round, IsRounding, newest_pointed, IsPointing, begun, IsBeginStep, preceded, day_filled, measured, Looks}
+use Rattle.cyclic_days.specs.Plans.{most_drops, left_in, drop_pieces, day_pieces, count_of, day_by, beginning_pieces, tail_begun}
+use Rattle.cyclic_days.specs.Steps.{roomier, begun, Looks}
 use Rattle.cyclic_days.proofs.Beginning.{placed, newest_placed, placing, front_first, front_same, again}
 use Rattle.cyclic_days.proofs.Counting.{drops_most}
 use Rattle.cyclic_days.proofs.DayPlan.{day_put, day_part, day_most, day_least}
 use Rattle.cyclic_days.proofs.Inside.{AreInside, all_then, put_length, left_low, drop_inside, day_inside}
 use Rattle.cyclic_days.proofs.Lists.{body_long}
 use Rattle.cyclic_days.proofs.Matching.{front_cleared, begins, dropped_cleared, Matches, matches, end_is, left_is, dropped, dropping, dropped_count}
-use Rattle.cyclic_days.proofs.Newest.{counter_last}
 use Rattle.cyclic_days.proofs.Putting.{puts_told, looks_clock}
 use Rattle.card_model.proofs.Retention.{fitting_all, newest_gone, remain_then}
 use Rattle.cyclic_days.proofs.Roomier.{fitting_twice, next_left, remain_once, roomier_all, roomier_less}

@@ -1,9 +1,8 @@
 -- What is kept of the newest day.
-use Rattle.std.proofs.Common.{◌≡◌, ◌≢◌, inl, inr, ⊎_elim, ℕ, suc, ◌+◌, ◌-◌, ◌*◌, ◌/◌, ◌%◌, ◌<◌, ◌≤◌, Option, Some, None, List, [], ◌∷◌, ◌++◌, length, take, get_or, refl, sym, ◌∙◌, ap, subst, arith}
-use Rattle.tach_media.specs.Medium.{bytes_at}
-use Rattle.card_model.specs.Days.{Day, len_of, total, far, last_len, record_of, records, IsDay, AreDays, last_word}
+use Rattle.std.proofs.Common.{◌≡◌, ℕ, suc, ◌+◌, ◌-◌, ◌%◌, ◌<◌, ◌≤◌, Option, Some, None, List, [], ◌∷◌, ◌++◌, length, take, get_or, refl, sym, ◌∙◌, ap, subst, arith}
+use Rattle.card_model.specs.Days.{Day, len_of, far, records, IsDay, last_word}
 use Rattle.card_model.specs.Image.{StringShape, IsStringShape, turned, oldest_pointer, newest_pointer, string_of, IsPointer, IsPlace, Holds, IsAt}
-use Rattle.card_model.proofs.Lists.{len_least, last_len_is, previous_of, far_last, last_len_last, some_words}
+use Rattle.card_model.proofs.Lists.{len_least, last_len_is, previous_of, last_len_last, some_words}
 use Rattle.card_model.proofs.Reading.{fills, same_distance, from_day, day_is}
 use Rattle.cyclic_days.specs.declared.head.DayHead.{DayHead}
 use Rattle.cyclic_days.specs.declared.head.RecordHead.{RecordHead}

@@ -12,7 +12,7 @@ use Rattle.std.specs.Prelude.{nat_le, not}
 use Rattle.card_model.proofs.Lists.{count_least}
 use Rattle.card_model.proofs.Trims.{until_none}
 use Rattle.cyclic_days.specs.Trim.{newest_later, ShorterBy, IsTrimming, IsTrimmed, IsWithoutLast, IsLosingLast}
-use Rattle.card_model.specs.Changes.{until, AllLater, Shorter}
+use Rattle.card_model.specs.Changes.{until, AllLater}
 use Rattle.card_model.proofs.Circle.{part_back}
 use Rattle.card_model.proofs.Lists.{previous_of, records_length, total-append, far_last, last_is}
 use Rattle.cyclic_days.proofs.Places.{Pointed, stands, points}

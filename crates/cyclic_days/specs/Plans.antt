@@ -1,5 +1,5 @@
 -- The writes of the calls on a string, in their order, by what is kept of it.
-use Rattle.std.specs.Prelude.{◌≡◌, ℕ, ◌+◌, ◌-◌, ◌*◌, ◌%◌, ◌≤◌, ◌&&◌, List, [], ◌∷◌, ◌++◌, length, take, drop, nat_eq, nat_le, nat_lt, if◌then◌else◌, ◌==◌}
+use Rattle.std.specs.Prelude.{ℕ, ◌+◌, ◌-◌, ◌*◌, ◌%◌, ◌&&◌, List, [], ◌∷◌, ◌++◌, length, take, drop, nat_eq, nat_le, nat_lt, if◌then◌else◌, ◌==◌}
 use Rattle.tach_media.specs.Medium.{bytes_at}
 use Rattle.write_plan.specs.Plan.{Piece, piece}
 use Rattle.card_model.specs.Bytes.{number, two_bytes}

@@ -1,9 +1,9 @@
 -- What the steps of a write on the string do.
-use Rattle.std.specs.Prelude.{◌≡◌, ◌⊎◌, false, ℕ, ◌+◌, ◌-◌, ◌<◌, ◌≤◌, ◌≢◌, List, [], ◌∷◌, ◌++◌, length, take, drop, nat_le, ◌==◌, if◌then◌else◌, ◌*◌}
+use Rattle.std.specs.Prelude.{◌≡◌, ◌⊎◌, false, ℕ, ◌+◌, ◌-◌, ◌<◌, ◌≤◌, ◌≢◌, List, [], ◌∷◌, length, take, drop, nat_le, ◌==◌, if◌then◌else◌}
 use Rattle.tach_media.specs.Medium.{State, Reads, LeavesOnly, Unchanged, put, SameOutside, IsPartlyWritten, IsSettled, last_count}
 use Rattle.card_model.specs.Bytes.{two_bytes}
 use Rattle.card_model.specs.Days.{Day, total}
-use Rattle.card_model.specs.Changes.{with_newest, OnNewest, with_word, TakesWord, with_km, new_day, IsNext}
+use Rattle.card_model.specs.Changes.{with_newest, with_km}
 use Rattle.cyclic_days.specs.Held.{Held, Knows}
 use Rattle.card_model.specs.Image.{StringShape, Holds, IsPointer, at, oldest_pointer, spot}
 

@@ -1,11 +1,11 @@
 -- A write outside a ring's range changes nothing of the ring.
-use Rattle.std.proofs.Common.{◌≡◌, ◌⊎◌, inl, inr, ⊎_elim, ℕ, ◌+◌, ◌-◌, ◌<◌, ◌≤◌, Bool, cond, not, List, [], ◌++◌, filter, map, Option, Some, None, replicate, sym, ◌∙◌, ap, subst, arith}
+use Rattle.std.proofs.Common.{◌≡◌, ◌⊎◌, inl, inr, ⊎_elim, ℕ, ◌+◌, ◌-◌, ◌<◌, ◌≤◌, Bool, cond, not, List, ◌++◌, filter, map, Option, Some, None, replicate, sym, ◌∙◌, ap, subst, arith}
 use Rattle.std.specs.Prelude.{◌==◌}
 use Rattle.std.specs.Int.{from_be_bytes, w32}
 use Rattle.tach_media.specs.Medium.{bytes_at, SameOutside}
 use Rattle.tach_media.proofs.Images.{part_before, part_after}
-use Rattle.gated_ring.specs.Ring.{Shape, IsShape, size_of, place_of, gate_of, number_at, pointer, PointsInside, is_there, entry_at, next, order, indices, ring_list, IsLast, IsNewest, taken, staying, without_first, up_to, IsRun, IsDense}
-use Rattle.gated_ring.proofs.Orders.{Each, each_weaker, order_each, next_below, filter_same, map_same}
+use Rattle.gated_ring.specs.Ring.{Shape, IsShape, size_of, place_of, gate_of, pointer, PointsInside, is_there, entry_at, next, order, indices, ring_list, IsNewest, taken, staying, without_first, IsDense}
+use Rattle.gated_ring.proofs.Orders.{each_weaker, order_each, next_below, filter_same, map_same}
 use Rattle.gated_ring.proofs.Listing.{indices_below}
 use Rattle.gated_ring.proofs.Places.{place_high, part_of}
 

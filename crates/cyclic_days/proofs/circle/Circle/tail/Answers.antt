@@ -1,4 +1,4 @@
-use Rattle.std.proofs.Common.{◌≡◌, ℕ, List, ◌+◌, ◌-◌, ◌<◌, ◌≤◌, ◌%◌, length, take, get_or, arith, ap, sym, subst, refl, ◌∙◌, Some}
+use Rattle.std.proofs.Common.{◌≡◌, ◌-◌, ◌<◌, length, take, get_or, arith, ap, sym, subst, refl, ◌∙◌}
 use Rattle.tach_media.proofs.Runs.{at_image, reads_then}
 use Rattle.card_model.specs.Days.{Day}
 use Rattle.card_model.specs.Image.{IsAt, IsPointer, turned, string_of, oldest_pointer, newest_pointer}

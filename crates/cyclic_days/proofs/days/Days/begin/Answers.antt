@@ -1,9 +1,9 @@
-use Rattle.std.proofs.Common.{rules, ◌≡◌, ℕ, ◌+◌, ◌*◌, ◌≤◌, ◌<◌, List, ◌++◌, length, take, Bool, true, false, arith, ap, sym, refl, ◌∙◌, subst, IfSome, Some, Option}
+use Rattle.std.proofs.Common.{rules, ◌≡◌, ℕ, ◌+◌, ◌*◌, List, ◌++◌, length, take, Bool, true, false, ap, sym, ◌∙◌, subst, IfSome, Option}
 use Rattle.std.specs.Prelude.{is_err}
 use Rattle.tach_media.proofs.Runs.{both_told}
-use Rattle.write_plan.specs.Plan.{Pieces, Piece, PutsAll, PutsBy, more}
+use Rattle.write_plan.specs.Plan.{Pieces, PutsAll, PutsBy, more}
 use Rattle.card_model.specs.Days.{body}
-use Rattle.cyclic_days.specs.Held.{Held, IsHeld}
+use Rattle.cyclic_days.specs.Held.{Held}
 use Rattle.cyclic_days.specs.Plans.{most_drops, left_in, drop_pieces, day_pieces, day_by, beginning_pieces}
 use Rattle.cyclic_days.proofs.Putting.{looks_same, looks_then}
 use Rattle.cyclic_days.proofs.Starting.{begun_puts, begun_exact}

@@ -1,11 +1,10 @@
-use Rattle.std.proofs.Common.{◌≡◌, ℕ, ◌+◌, ◌*◌, ◌≤◌, ◌<◌, List, length, arith, ap, sym, refl, ◌∙◌, subst, IfSome, Some}
-use Rattle.tach_media.proofs.Runs.{weaken, at_image, where_told, turned_into, settled_now, on_ok}
+use Rattle.std.proofs.Common.{◌≡◌, ℕ, ◌+◌, ◌*◌, List, length, arith, ap, sym, refl, ◌∙◌, subst}
+use Rattle.tach_media.proofs.Runs.{weaken, at_image, where_told, turned_into}
 use Rattle.write_plan.specs.Plan.{put_all}
-use Rattle.write_plan.proofs.Plans.{puts_outside, partway_outside}
 use Rattle.card_model.specs.Image.{StringShape}
 use Rattle.cyclic_days.specs.declared.head.Tail.{Tail}
-use Rattle.cyclic_days.specs.Held.{Held, IsHeld, Knows}
-use Rattle.cyclic_days.specs.Moments.{IfKnown, IsDayBeginning, IsDayBegun, KnowsBegun, ClearsBegun, BeginsAgain}
+use Rattle.cyclic_days.specs.Held.{Held, IsHeld}
+use Rattle.cyclic_days.specs.Moments.{IfKnown, IsDayBegun, KnowsBegun, ClearsBegun, BeginsAgain}
 use Rattle.cyclic_days.specs.Plans.{left_in, beginning_pieces, tail_begun}
 use Rattle.cyclic_days.proofs.Starting.{beginning_known, begun_told, begun_knows, begun_clears, begins_again, beginning_count}
 use Rattle.cyclic_days.proofs.Told.{from_told}

@@ -1,8 +1,8 @@
-use Rattle.std.proofs.Common.{rules, ◌≡◌, ℕ, ◌+◌, ◌*◌, ◌≤◌, ◌<◌, List, ◌++◌, length, Bool, true, false, arith, ap, sym, refl, ◌∙◌, subst, IfSome, Some, length-append}
+use Rattle.std.proofs.Common.{rules, ◌≡◌, ◌+◌, ◌*◌, ◌++◌, Bool, true, false, ap, sym, ◌∙◌, subst}
 use Rattle.std.specs.Prelude.{is_err}
 use Rattle.write_plan.specs.Plan.{Pieces, PutsAll, PutsBy, more}
 use Rattle.cyclic_days.specs.Held.{Held, IsHeld}
-use Rattle.cyclic_days.specs.Plans.{most_drops, left_in, drop_pieces, word_pieces, change_pieces}
+use Rattle.cyclic_days.specs.Plans.{most_drops, drop_pieces, word_pieces, change_pieces}
 use Rattle.cyclic_days.proofs.Changing.{change_puts}
 use Rattle.cyclic_days.proofs.days.Days.change.Goals as goal
 

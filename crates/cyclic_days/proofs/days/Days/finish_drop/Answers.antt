@@ -1,4 +1,4 @@
-use Rattle.std.proofs.Common.{◌≡◌, ℕ, ◌+◌, ◌≤◌, List, length, arith, sym, subst, Some}
+use Rattle.std.proofs.Common.{◌≡◌, ℕ, List, arith, sym, subst}
 use Rattle.tach_media.proofs.Runs.{weaken, where_told, turned_into, on_ok}
 use Rattle.write_plan.specs.Plan.{put_all}
 use Rattle.card_model.specs.Days.{Day}

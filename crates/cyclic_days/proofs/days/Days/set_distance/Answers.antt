@@ -1,4 +1,4 @@
-use Rattle.std.proofs.Common.{◌≡◌, ℕ, ◌+◌, ◌≤◌, List, length, arith, sym, subst, ap, refl, ◌∙◌, Some}
+use Rattle.std.proofs.Common.{◌≡◌, ℕ, List, arith, sym, subst, ap, refl, ◌∙◌}
 use Rattle.tach_media.proofs.Runs.{weaken, where_told, turned_into}
 use Rattle.write_plan.specs.Plan.{put_all}
 use Rattle.card_model.specs.Image.{StringShape}

@@ -1,6 +1,5 @@
-use Rattle.std.proofs.Common.{◌≡◌, ap, ◌∙◌, sym, arith, Some}
+use Rattle.std.proofs.Common.{ap, ◌∙◌, arith, Some}
 use Rattle.cyclic_days.specs.Held.{Held}
-use Rattle.cyclic_days.specs.declared.head.Tail.{Tail}
 use Rattle.cyclic_days.proofs.Tails.{told_none, told_some}
 use Rattle.cyclic_days.proofs.days.Days.tail.Goals as goal
 

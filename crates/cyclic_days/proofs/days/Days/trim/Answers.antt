@@ -1,6 +1,6 @@
-use Rattle.std.proofs.Common.{rules, ◌≡◌, ◌≢◌, ◌<◌, ℕ, Bool, true, false, List, [], Some, IfSome, refl, sym, ◌∙◌, subst, ap}
+use Rattle.std.proofs.Common.{rules, ◌≡◌, Bool, true, List, [], Some, IfSome, refl, sym, ◌∙◌, subst, ap}
 use Rattle.std.specs.Prelude.{is_err}
-use Rattle.tach_media.specs.Medium.{Reads, IsSettled, last_count}
+use Rattle.tach_media.specs.Medium.{Reads}
 use Rattle.tach_media.proofs.Runs.{at_image, where_told, reads_then}
 use Rattle.card_model.specs.Days.{Day}
 use Rattle.card_model.specs.Changes.{trimmed}
