@@ -1,0 +1,4 @@
+pub mod Exact
+pub mod Growing
+pub mod Adding
+pub mod Entries

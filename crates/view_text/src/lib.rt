@@ -1,0 +1,16 @@
+//! The view of a unit's minutes, or of a card's entries, as text (profile): one line for each change of what is shown, and for
+//! each day that begins. A minute that shows what the one before it shows only moves the end of the last line.
+#![tactic(auto)]
+
+mod lines;
+mod shown;
+mod text;
+mod views;
+
+pub use lines::add_minute;
+pub use shown::Shown;
+pub use text::{DAYS, lines_text};
+pub use views::{card_text, unit_text};
+
+#[cfg(test)]
+mod tests;

@@ -1,0 +1,142 @@
+//! What a view shows of a minute: that of a unit, and that of a card.
+ghost use Rattle.std.specs.Prelude.{◌≡◌, ◌++◌, OnOk, Bool, true, List, ℕ};
+ghost use Rattle.activity_codec.specs.Activity.{same_slot, same_activity};
+ghost use Rattle.view_model.specs.Lines.{same_state, same_bool};
+ghost use Rattle.view_model.specs.Text.{slot_word, activity_word, crew_word, state_words};
+
+use activity_codec::{Activity, Slot};
+use std::alloc::AllocError;
+use view_model::{CardShown, State, UnitShown};
+
+/// What a view shows of a minute.
+pub trait Shown: Copy {
+    // whether the same is shown
+    ghost same: { Self → Self → Bool };
+
+    // in which words
+    ghost words: { Self → List ℕ };
+
+    /// Whether the same is shown.
+    fn is_same(self, other: Self) -> bool
+        ensures { result ≡ same self other };
+
+    /// Writes what is shown at the end of a text.
+    fn write(self, text: &mut Vec<u8>) -> Result<(), AllocError>
+        ensures { OnOk result (text.new.items ≡ text.old.items ++ words self) };
+
+    // the same is shown of equal values alone
+    ghost exact: { (one other : Self) → same one other ≡ true → one ≡ other };
+}
+
+impl Shown for UnitShown {
+    ghost use Rattle.view_model.specs.Lines.{same_unit};
+    ghost use Rattle.view_model.specs.Text.{unit_words};
+    ghost use Rattle.view_text.specs.Exact.{unit_exact};
+
+    ghost same = { same_unit };
+
+    ghost words = { unit_words };
+
+    ghost exact = { unit_exact };
+
+    fn is_same(self, other: Self) -> bool {
+        is_same_state(self.driver, other.driver)
+            && is_same_state(self.codriver, other.codriver)
+            && self.crew == other.crew
+    }
+
+    fn write(self, text: &mut Vec<u8>) -> Result<(), AllocError> {
+        text.extend_from_slice(b"driver=")?;
+        write_state(text, self.driver)?;
+        text.extend_from_slice(b" codriver=")?;
+        write_state(text, self.codriver)?;
+        text.extend_from_slice(b" ")?;
+        text.extend_from_slice(crew_name(self.crew))?;
+        Ok(())
+    }
+}
+
+impl Shown for CardShown {
+    ghost use Rattle.view_model.specs.Lines.{same_card};
+    ghost use Rattle.view_model.specs.Text.{card_words};
+    ghost use Rattle.view_text.specs.Exact.{card_exact};
+
+    ghost same = { same_card };
+
+    ghost words = { card_words };
+
+    ghost exact = { card_exact };
+
+    fn is_same(self, other: Self) -> bool {
+        is_same_slot(self.slot, other.slot)
+            && is_same_activity(self.act, other.act)
+            && self.crew == other.crew
+    }
+
+    fn write(self, text: &mut Vec<u8>) -> Result<(), AllocError> {
+        text.extend_from_slice(slot_name(self.slot))?;
+        text.extend_from_slice(b"=")?;
+        text.extend_from_slice(activity_name(self.act))?;
+        text.extend_from_slice(b" ")?;
+        text.extend_from_slice(crew_name(self.crew))?;
+        Ok(())
+    }
+}
+
+fn is_same_state(one: State, other: State) -> bool
+    ensures { result ≡ same_state one other }
+{
+    is_same_activity(one.act, other.act) && one.present == other.present
+}
+
+fn is_same_activity(one: Activity, other: Activity) -> bool
+    ensures { result ≡ same_activity one other }
+{
+    one == other
+}
+
+fn is_same_slot(one: Slot, other: Slot) -> bool
+    ensures { result ≡ same_slot one other }
+{
+    one == other
+}
+
+/// The activity of a slot, and whether a card was present in it.
+fn write_state(text: &mut Vec<u8>, state: State) -> Result<(), AllocError>
+    ensures { OnOk result (text.new.items ≡ text.old.items ++ state_words state) }
+{
+    text.extend_from_slice(activity_name(state.act))?;
+    text.extend_from_slice(b",")?;
+    text.extend_from_slice(if state.present {
+        b"in".as_slice()
+    } else {
+        b"out"
+    })?;
+    Ok(())
+}
+
+fn slot_name(slot: Slot) -> &'static [u8]
+    ensures { result.now ≡ slot_word slot }
+{
+    match slot {
+        Slot::Driver => b"driver",
+        Slot::CoDriver => b"codriver",
+    }
+}
+
+fn crew_name(crew: bool) -> &'static [u8]
+    ensures { result.now ≡ crew_word crew }
+{
+    if crew { b"crew" } else { b"single" }
+}
+
+fn activity_name(activity: Activity) -> &'static [u8]
+    ensures { result.now ≡ activity_word activity }
+{
+    match activity {
+        Activity::Rest => b"rest",
+        Activity::Available => b"available",
+        Activity::Work => b"work",
+        Activity::Driving => b"drive",
+    }
+}
