@@ -1,4 +1,4 @@
--- The decided minutes of a trace begin before the last second that is told.
+-- The decided minutes of a trace are on days that a time can name.
 use Rattle.std.proofs.Common.{ℕ, ◌+◌, ◌*◌, ◌<◌, ◌≤◌, List, [], ◌∷◌, subst, arith}
 use Rattle.std.specs.Prelude.{map}
 use Rattle.std.specs.List.{AllByRecursion}
@@ -18,6 +18,10 @@ use Rattle.trace_text.specs.Trace.{IsWellFormed}
 use Rattle.run_model.specs.Span.{trace_span}
 use Rattle.view_model.specs.declared.UnitShown.{UnitShown}
 use Rattle.view_model.specs.declared.Viewed.{Viewed}
+use Rattle.view_model.specs.declared.Line.{Line}
+use Rattle.view_model.specs.Lines.{day_of, lines_of, same_unit}
+use Rattle.view_text.specs.declared.text.TheConstants.{DAYS}
+use Rattle.view_text.proofs.Texts.{lines-below}
 use Rattle.tacho.specs.Feeding.{fed_items}
 use Rattle.tacho.specs.Minutes.{without_card, minutes_shown}
 use Rattle.tacho.proofs.Fed.{fed-span, fed_items-end, fed_items-rule, fed_items-settlings}
@@ -36,12 +40,12 @@ fed_items-numbered span (Act (Withdraw slot) ∷ items) numbered = fed_items-num
 fed_items-numbered span (Act (Tear slot) ∷ items) numbered = fed_items-numbered span items numbered
 fed_items-numbered span (Act (Place slot ending country region) ∷ items) numbered = fed_items-numbered span items numbered
 
--- minutes that have ended before a second begin before it
-shown-below : (end : ℕ) (minutes : List Minute) → end ≤ 4294880896 → AllByRecursion (λ (m : Minute). 60 * m.minute + 60 ≤ end) minutes → AllByRecursion (λ (v : Viewed UnitShown). v.minute < 71582788) (map without_card minutes)
+-- minutes that have ended before a second are on days that a time can name
+shown-below : (end : ℕ) (minutes : List Minute) → end ≤ 4294880896 → AllByRecursion (λ (m : Minute). 60 * m.minute + 60 ≤ end) minutes → AllByRecursion (λ (v : Viewed UnitShown). day_of v.minute < DAYS) (map without_card minutes)
 shown-below end [] le all = tt
 shown-below end (m ∷ minutes) le all = (omega (arith, all.0, le), shown-below end minutes le all.1)
 
-pub trace-below : (start : ℕ) (items : List Item) → IsWellFormed start items → AllByRecursion (IsKnown Minutes) items → AllByRecursion (λ (v : Viewed UnitShown). v.minute < 71582788) (minutes_shown start items)
+trace-below : (start : ℕ) (items : List Item) → IsWellFormed start items → AllByRecursion (IsKnown Minutes) items → AllByRecursion (λ (v : Viewed UnitShown). day_of v.minute < DAYS) (minutes_shown start items)
 trace-below start items well known =
     let span = fed_items (begin Original start) items in
     let none = fed_items-settlings (begin Original start) items in
@@ -50,3 +54,7 @@ trace-below start items well known =
     let ended = rw (rule, none) at (decided-ended span (fed_items-numbered (begin Original start) items tt) settled) in
     let P : List Second → Type 0 = λ xs. AllByRecursion (λ (m : Minute). 60 * m.minute + 60 ≤ end_of span) (decided Original xs []) in
     shown-below (end_of span) (decided Original (trace_span start items) []) (omega (arith, fed_items-end (begin Original start) items known, well.within.1)) (subst P (fed-span start items known) ended)
+
+-- so their lines begin on such days
+pub lines-of-trace : (start : ℕ) (items : List Item) → IsWellFormed start items → AllByRecursion (IsKnown Minutes) items → AllByRecursion (λ (l : Line UnitShown). day_of l.first < DAYS) (lines_of same_unit (minutes_shown start items))
+lines-of-trace start items well known = lines-below DAYS same_unit (minutes_shown start items) (trace-below start items well known)

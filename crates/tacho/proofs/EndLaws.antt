@@ -1,36 +1,25 @@
 -- How a call ends, by what reading its trace answered.
-use Rattle.std.proofs.Common.{◌≡◌, ℕ, refl, ap, inl, inr}
-use Rattle.std.specs.Prelude.{◌⊎◌}
+use Rattle.std.proofs.Common.{◌≡◌, ◌⊎◌, ℕ, refl, ap, inl, inr}
 use Rattle.trace_text.specs.declared.trace.TraceFault.{TraceFault}
 use Rattle.trace_text.specs.declared.trace.TraceFault.TheVariants as trace
 use Rattle.trace_text.specs.Judged.{IsFailure}
-use Rattle.tacho.specs.declared.top.Fault.{Fault}
-use Rattle.tacho.specs.declared.top.Fault.TheVariants.{Done, Usage, BadTrace, TooLong, ReadFault, WriteFault, MediumFault, Memory}
-use Rattle.tacho.specs.Ends.{refusal_of, IsUnread, IsUnprinted}
+use Rattle.tacho.specs.declared.end.Fault.{Fault}
+use Rattle.tacho.specs.declared.end.Fault.TheVariants.{Done, BadTrace, ReadFault, WriteFault, Memory}
+use Rattle.tacho.specs.End.{refusal_of, IsUnread, IsUnprinted}
 
 pub refusal-bad : (fault : TraceFault) (n : ℕ) → refusal_of fault ≡ BadTrace n → fault ≡ trace.BadLine n
 refusal-bad (trace.BadLine m) n is = let e : m ≡ n = cc in ap trace.BadLine e
-refusal-bad (trace.TooLong m) n is = cc
-refusal-bad trace.ReadFault n is = cc
-refusal-bad trace.Memory n is = cc
-
-pub refusal-long : (fault : TraceFault) (n : ℕ) → refusal_of fault ≡ TooLong n → fault ≡ trace.TooLong n
-refusal-long (trace.TooLong m) n is = let e : m ≡ n = cc in ap trace.TooLong e
-refusal-long (trace.BadLine m) n is = cc
-refusal-long trace.ReadFault n is = cc
-refusal-long trace.Memory n is = cc
+refusal-bad _ n is = cc
 
 failure-unread : (fault : TraceFault) → IsFailure fault → IsUnread (refusal_of fault)
 failure-unread trace.ReadFault is = tt
 failure-unread trace.Memory is = tt
-failure-unread (trace.BadLine n) is = absurd is
-failure-unread (trace.TooLong n) is = absurd is
+failure-unread _ is = absurd is
 
 pub failure-unprinted : (fault : TraceFault) → IsFailure fault → IsUnprinted (refusal_of fault)
 failure-unprinted trace.ReadFault is = tt
 failure-unprinted trace.Memory is = tt
-failure-unprinted (trace.BadLine n) is = absurd is
-failure-unprinted (trace.TooLong n) is = absurd is
+failure-unprinted _ is = absurd is
 
 -- what a fault of a trace ends with
 pub refused : (fault wanted : TraceFault) → (fault ≡ wanted) ⊎ IsFailure fault → (refusal_of fault ≡ refusal_of wanted) ⊎ IsUnread (refusal_of fault)
@@ -42,20 +31,11 @@ pub prints-end : (fault : Fault) → IsUnprinted fault → (fault ≡ ReadFault 
 prints-end Memory is read write = inr refl
 prints-end ReadFault is read write = absurd (read refl)
 prints-end WriteFault is read write = absurd (write refl)
-prints-end Done is read write = absurd is
-prints-end Usage is read write = absurd is
-prints-end (BadTrace n) is read write = absurd is
-prints-end (TooLong n) is read write = absurd is
-prints-end (MediumFault device) is read write = absurd is
+prints-end _ is read write = absurd is
 
 -- where the source did not fail, it is the wanted end, or memory ran out
 pub wanted-end : (fault wanted : Fault) → (fault ≡ wanted) ⊎ IsUnread fault → (fault ≡ ReadFault → ⊥) → (fault ≡ wanted) ⊎ (fault ≡ Memory)
 wanted-end fault wanted (inl same) read = inl same
 wanted-end Memory wanted (inr is) read = inr refl
 wanted-end ReadFault wanted (inr is) read = absurd (read refl)
-wanted-end WriteFault wanted (inr is) read = absurd is
-wanted-end Done wanted (inr is) read = absurd is
-wanted-end Usage wanted (inr is) read = absurd is
-wanted-end (BadTrace n) wanted (inr is) read = absurd is
-wanted-end (TooLong n) wanted (inr is) read = absurd is
-wanted-end (MediumFault device) wanted (inr is) read = absurd is
+wanted-end _ wanted (inr is) read = absurd is

@@ -9,13 +9,15 @@ use Rattle.tach_media.specs.Chip.{IsIssued}
 use Rattle.tach_media.proofs.Runs.{weaken}
 use Rattle.run_model.specs.declared.Device.{Device}
 use Rattle.card_layout.specs.Files.{files_of, image_size_of}
-use Rattle.tacho.specs.declared.top.Fault.{Fault}
-use Rattle.tacho.specs.declared.top.Fault.TheVariants.{WriteFault, MediumFault}
-use Rattle.tacho.specs.declared.top.TheConstants.{LARGEST}
-use Rattle.tacho.specs.Ends.{end_of}
-use Rattle.tacho.specs.Formatting.{IsCard, SinkState, EndsFormat, IsIssuing, IsMade, formatted_line}
+use Rattle.tacho.specs.declared.end.Fault.{Fault}
+use Rattle.tacho.specs.declared.end.Fault.TheVariants.{WriteFault, MediumFault}
+use Rattle.tacho.specs.declared.sizes.TheConstants.{CARD_SIZE, LARGEST}
+use Rattle.tacho.specs.End.{end_of}
+use Rattle.tacho.specs.Outside.{SinkTold}
+use Rattle.tacho.specs.Formatting.{IsCard, EndsFormat, IsIssuing, IsMade, formatted_line}
 
-pub largest-size : image_size_of LARGEST ≡ 24959
+-- a card of the largest sizes
+pub largest-size : image_size_of LARGEST ≡ CARD_SIZE
 unfolding files_of
 largest-size = refl
 
@@ -35,7 +37,7 @@ made-by image None p is sized = is
 made-by image (Some x) p is sized = is ∙ ap Some (put-whole image x (sized x refl))
 
 -- the device failed
-pub make-failed : (device : Device) (image : List ℕ) (R : List ℕ → List ℕ → Type 0) (old new : State) (sink : SinkState) → LeavesOnly old new R → HasCause old new true → EndsFormat device image R old new sink sink (MediumFault device)
+pub make-failed : (device : Device) (image : List ℕ) (R : List ℕ → List ℕ → Type 0) (old new : State) (sink : SinkTold) → LeavesOnly old new R → HasCause old new true → EndsFormat device image R old new sink sink (MediumFault device)
 make-failed device image R old new sink run cause = record {
   ends = refl;
   done = λ is. absurd (cc);
@@ -48,7 +50,7 @@ make-failed device image R old new sink run cause = record {
 }
 
 -- the device is new, and the line was printed or the sink failed
-pub make-done : {T : Type 0} (device : Device) (image : List ℕ) (R : List ℕ → List ℕ → Type 0) (old new : State) (before after : SinkState) (r : Result T Fault) → LeavesOnly old new R → IsMade image old new → (new.clock < last_count → IsSettled new) → HasCause old new false
+pub make-done : {T : Type 0} (device : Device) (image : List ℕ) (R : List ℕ → List ℕ → Type 0) (old new : State) (before after : SinkTold) (r : Result T Fault) → LeavesOnly old new R → IsMade image old new → (new.clock < last_count → IsSettled new) → HasCause old new false
     → OnOk r (Appends before.held after.held formatted_line) → IfErr r (λ fault. (fault ≡ WriteFault) × AppendsFront before.held after.held formatted_line) → IfErr r (λ fault. Rose before.faults after.faults)
     → EndsFormat device image R old new before after (end_of r)
 make-done device image R old new before after (Ok u) run made settled cause appends front rose = record {
@@ -73,20 +75,20 @@ make-done device image R old new before after (Err fault) run made settled cause
       finishes = λ no_device no_sink. absurd (no_sink rose);
     })
 
-module _ (device : Device) (image : List ℕ) (old new : State) (whole : IsCoherent old) (size : length image ≡ 24959) (card : IsCard old) where
+module _ (device : Device) (image : List ℕ) (old new : State) (whole : IsCoherent old) (size : length image ≡ CARD_SIZE) (card : IsCard old) where
   sized : (x : List ℕ) → old.image ≡ Some x → length x ≡ length image
   sized x told = omega (arith, whole.sized x told, card.sized, card.behind, size)
 
   -- what a stop leaves of an issue that covers the card
   issuing : LeavesOnly old new (IsIssued image) → LeavesOnly old new (IsIssuing image)
-  issuing run = weaken run (λ x c told left. ⊎_elim (λ part. inl (part.outside.same_length, part.typeless)) (λ all. inr (all ∙ put-whole image x (sized x told))) left)
+  issuing run = weaken run (λ x c told left. ⊎_elim (λ part. inl part) (λ all. inr (all ∙ put-whole image x (sized x told))) left)
 
   -- the issue failed
-  pub issue-failed : (sink : SinkState) → LeavesOnly old new (IsIssued image) → HasCause old new true → EndsFormat device image (IsIssuing image) old new sink sink (MediumFault device)
+  pub issue-failed : (sink : SinkTold) → LeavesOnly old new (IsIssued image) → HasCause old new true → EndsFormat device image (IsIssuing image) old new sink sink (MediumFault device)
   issue-failed sink run cause = make-failed device image (IsIssuing image) old new sink (issuing run) cause
 
   -- it is done, and the line was printed or the sink failed
-  pub issue-done : {T : Type 0} (before after : SinkState) (r : Result T Fault) → LeavesOnly old new (IsIssued image) → new.image ≡ option_map (put 0 image) old.image → (new.clock < last_count → IsSettled new) → HasCause old new false
+  pub issue-done : {T : Type 0} (before after : SinkTold) (r : Result T Fault) → LeavesOnly old new (IsIssued image) → new.image ≡ option_map (put 0 image) old.image → (new.clock < last_count → IsSettled new) → HasCause old new false
       → OnOk r (Appends before.held after.held formatted_line) → IfErr r (λ fault. (fault ≡ WriteFault) × AppendsFront before.held after.held formatted_line) → IfErr r (λ fault. Rose before.faults after.faults)
       → EndsFormat device image (IsIssuing image) old new before after (end_of r)
   issue-done before after r run written settled cause appends front rose =

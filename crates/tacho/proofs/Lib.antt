@@ -1,8 +1,8 @@
-pub mod Views
-pub mod OneWord
+pub mod WordLists
+pub mod Spelled
 pub mod Fed
 pub mod Below
 pub mod EndLaws
 pub mod Endings
 pub mod Formats
-pub mod WordForms
+pub mod WordRows

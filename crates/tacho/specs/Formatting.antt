@@ -1,21 +1,25 @@
 -- How a device is made new (profile).
-use Rattle.std.specs.Prelude.{◌≡◌, ◌⊎◌, ℕ, ◌<◌, false, Option, option_map, List, [], ◌∷◌, ◌++◌, length, codes}
+use Rattle.std.specs.Prelude.{◌≡◌, ◌⊎◌, ◌<◌, false, ℕ, option_map, List, [], ◌∷◌, ◌++◌, codes}
 use Rattle.std.specs.Io.KnownBytes.{Appends}
-use Rattle.tach_media.specs.Medium.{State, LeavesOnly, IsSettled, HasCause, Rose, bytes_at, last_count}
+use Rattle.tach_media.specs.Medium.{State, LeavesOnly, IsSettled, HasCause, Rose, last_count}
 use Rattle.tach_media.specs.Streams.{AppendsFront}
+use Rattle.tach_media.specs.Chip.{IsPartlyIssued, just_issued}
 use Rattle.run_model.specs.declared.Device.{Device}
+use Rattle.run_model.specs.declared.Device.TheVariants.{Unit as OfUnit}
 use Rattle.card_files.specs.declared.new_card.CardIdentity.{CardIdentity}
 use Rattle.card_files.specs.NewCard.{new_card}
 use Rattle.unit_model.specs.NewImage.{new_image}
 use Rattle.unit_memory.specs.declared.format.Identity.{Identity}
-use Rattle.tacho.specs.declared.top.Fault.{Fault}
-use Rattle.tacho.specs.declared.top.Fault.TheVariants.{Done, Usage, BadTrace, TooLong, ReadFault, WriteFault, MediumFault, Memory}
-use Rattle.tacho.specs.declared.top.TheConstants.{LARGEST}
-use Rattle.tacho.specs.Ends.{is_medium_fault}
+use Rattle.unit_memory.specs.Formats.{IsFormatting}
+use Rattle.tacho.specs.declared.end.Fault.{Fault}
+use Rattle.tacho.specs.declared.end.Fault.TheVariants.{Done, WriteFault, MediumFault, Memory}
+use Rattle.tacho.specs.declared.sizes.TheConstants.{CARD_SIZE, LARGEST}
+use Rattle.tacho.specs.End.{is_medium_fault}
+use Rattle.tacho.specs.Outside.{SinkTold, CardTold}
 
 -- a device that is a card's: it has the largest card's size, and no bytes behind
 pub record IsCard (s : State) : Type 0 where
-  pub sized : s.size ≡ 24959
+  pub sized : s.size ≡ CARD_SIZE
   pub behind : s.behind ≡ 0
 
 -- what is printed of a device that was made new
@@ -32,12 +36,7 @@ unit_image identity = new_image identity.vin identity.registration.0 identity.li
 
 -- what a stop leaves of a card that is issued, beside the image before: one whose card type is 0, or the new one
 abbrev pub IsIssuing : (image old left : List ℕ) → Type 0
-IsIssuing image old left = ((length left ≡ length old) × (bytes_at left 33 1 ≡ 0 ∷ [])) ⊎ (left ≡ image)
-
--- what a sink tells: what it holds, and its count of faults
-pub record SinkState : Type 0 where
-  pub held : Option (List ℕ)
-  pub faults : ℕ
+IsIssuing image old left = IsPartlyIssued image old left ⊎ (left ≡ image)
 
 -- the image that is told is now this one
 abbrev pub IsMade : (image : List ℕ) (old new : State) → Type 0
@@ -49,13 +48,10 @@ IsFormatEnd device Done = Unit {0}
 IsFormatEnd device WriteFault = Unit {0}
 IsFormatEnd device (MediumFault failed) = failed ≡ device
 IsFormatEnd device Memory = Unit {0}
-IsFormatEnd device Usage = ⊥
-IsFormatEnd device (BadTrace n) = ⊥
-IsFormatEnd device (TooLong n) = ⊥
-IsFormatEnd device ReadFault = ⊥
+IsFormatEnd device _ = ⊥
 
 -- How a command ends that makes a device new, and then prints so.
-pub record EndsFormat (device : Device) (image : List ℕ) (IsMoment : List ℕ → List ℕ → Type 0) (old new : State) (before after : SinkState) (fault : Fault) : Type 0 where
+pub record EndsFormat (device : Device) (image : List ℕ) (IsMoment : List ℕ → List ℕ → Type 0) (old new : State) (before after : SinkTold) (fault : Fault) : Type 0 where
   pub ends : IsFormatEnd device fault
   pub done : fault ≡ Done → IsMade image old new × Appends before.held after.held formatted_line
   -- a front of the line was printed, of the device that was made new
@@ -68,3 +64,14 @@ pub record EndsFormat (device : Device) (image : List ℕ) (IsMoment : List ℕ 
   pub write_fault : fault ≡ WriteFault → Rose before.faults after.faults
   -- where neither fails, all is done or memory ran out
   pub finishes : (Rose old.faults new.faults → ⊥) → (Rose before.faults after.faults → ⊥) → (fault ≡ Done) ⊎ (fault ≡ Memory)
+
+-- How `format a` and `format b` end: the card is issued to an identity, and answers as a card that was just issued, also where
+-- the issue failed.
+pub record EndsIssue (device : Device) (identity : CardIdentity) (old new : CardTold) (before after : SinkTold) (fault : Fault) : Type 0 where
+  pub made : EndsFormat device (card_image identity) (IsIssuing (card_image identity)) old.memory new.memory before after fault
+  pub state : (fault ≡ Memory → ⊥) → new.state ≡ just_issued
+
+-- How `format unit` ends: the unit is made new, of an identity. It takes no memory.
+pub record EndsMaking (identity : Identity) (old new : State) (before after : SinkTold) (fault : Fault) : Type 0 where
+  pub made : EndsFormat OfUnit (unit_image identity) (IsFormatting (unit_image identity)) old new before after fault
+  pub no_memory : fault ≡ Memory → ⊥

@@ -1,74 +1,83 @@
 -- The forms of words that the program knows (profile).
-use Rattle.std.specs.Prelude.{◌≡◌, ℕ, ◌≤◌, true, List, [], ◌∷◌, codes, decimal}
+use Rattle.std.specs.Prelude.{ℕ, if◌then◌else◌, Option, Some, None, option_map, List, [], ◌∷◌, codes, bytes_eq}
 use Rattle.trace_model.specs.declared.Card.{Card}
 use Rattle.trace_model.specs.declared.Card.TheVariants.{A, B}
+use Rattle.tacho_types.specs.declared.texts.Name36.{Name36}
+use Rattle.tacho_types.specs.declared.texts.Registration.{Registration}
 use Rattle.card_files.specs.declared.new_card.CardIdentity.{CardIdentity}
 use Rattle.unit_memory.specs.declared.format.Identity.{Identity}
 use Rattle.tacho.specs.declared.forms.Form.{Form}
 use Rattle.tacho.specs.declared.forms.Form.TheVariants.{Minutes, FormatCard, FormatUnit}
-use Rattle.tacho.specs.Texts.{is_word, padded}
+use Rattle.tacho.specs.declared.forms.TheConstants.{CARD_NUMBER, NAME, PLATE, VIN, NATION_MOST, LIMIT_LEAST, LIMIT_MOST}
+use Rattle.tacho.specs.Texts.{word_in, number_in, padded}
 
--- `minutes`: reads a trace, prints its decided minutes with no card
-abbrev pub minutes_form : List (List ℕ)
-minutes_form = codes "minutes" ∷ []
+-- steps each of which may tell nothing
+infixl 10 ◌>>=◌
+abbrev pub ◌>>=◌ : {A B : Type 0} → Option A → (A → Option B) → Option B
+None >>= rest = None
+(Some x) >>= rest = rest x
 
-abbrev pub card_letter : Card → List ℕ
-card_letter A = codes "a"
-card_letter B = codes "b"
+-- a name of 1 to 35 characters
+abbrev pub name_in : List ℕ → Option Name36
+name_in text = option_map (λ name. record { 0 = padded NAME name }) (word_in 1 NAME text)
 
--- what N, NUMBER, SURNAME and FIRST tell of a card
-pub record TellsCard (state number surname first : List ℕ) (identity : CardIdentity) : Type 0 where
-  -- a number from 0 to 255, without a sign or a leading zero
-  pub state_is : state ≡ decimal identity.state.0
-  pub state_most : identity.state.0 ≤ 255
-  -- 16 characters
-  pub number_is : identity.number ≡ number
-  pub number_word : is_word 16 16 number ≡ true
-  -- 1 to 35 characters each
-  pub surname_is : identity.surname.0 ≡ padded 35 surname
-  pub surname_word : is_word 1 35 surname ≡ true
-  pub first_is : identity.first.0 ≡ padded 35 first
-  pub first_word : is_word 1 35 first ≡ true
-
--- `format a N NUMBER SURNAME FIRST`, and `format b N NUMBER SURNAME FIRST`
-pub record AsksCard (card : Card) (identity : CardIdentity) (words : List (List ℕ)) : Type 0 where
-  pub state : List ℕ
-  pub number : List ℕ
-  pub surname : List ℕ
-  pub first : List ℕ
-  pub words_are : words ≡ codes "format" ∷ card_letter card ∷ state ∷ number ∷ surname ∷ first ∷ []
-  pub tells : TellsCard state number surname first identity
+-- what N, NUMBER, SURNAME and FIRST tell of a card: the state, a number from 0 to 255, the card's number of 16 characters, and
+-- two names
+abbrev pub card_in : (state number surname first : List ℕ) → Option CardIdentity
+card_in state number surname first = do
+  state ← number_in 0 NATION_MOST state
+  number ← word_in CARD_NUMBER CARD_NUMBER number
+  surname ← name_in surname
+  first ← name_in first
+  Some (record { state = record { 0 = state }; number = number; surname = surname; first = first })
 
 -- what N and PLATE tell: a number from 0 to 255, and 1 to 13 characters
-pub record TellsRegistration (nation plate bytes : List ℕ) : Type 0 where
-  pub state : ℕ
-  pub state_is : nation ≡ decimal state
-  pub state_most : state ≤ 255
-  pub plate_word : is_word 1 13 plate ≡ true
-  pub bytes_are : bytes ≡ state ∷ padded 13 plate
+abbrev pub registration_in : (nation plate : List ℕ) → Option Registration
+registration_in nation plate = do
+  nation ← number_in 0 NATION_MOST nation
+  plate ← word_in 1 PLATE plate
+  Some (record { 0 = nation ∷ padded PLATE plate })
 
--- what N, PLATE, VIN and LIMIT tell of a unit
-pub record TellsUnit (nation plate vin limit : List ℕ) (identity : Identity) : Type 0 where
-  pub registration : TellsRegistration nation plate identity.registration.0
-  -- 17 characters
-  pub vin_is : identity.vin ≡ vin
-  pub vin_word : is_word 17 17 vin ≡ true
-  -- a number from 1 to 254
-  pub limit_is : limit ≡ decimal identity.limit
-  pub limit_least : 1 ≤ identity.limit
-  pub limit_most : identity.limit ≤ 254
+-- what N, PLATE, VIN and LIMIT tell of a unit: its registration, its number of 17 characters, and a limit from 1 to 254
+abbrev pub unit_in : (nation plate vin limit : List ℕ) → Option Identity
+unit_in nation plate vin limit = do
+  registration ← registration_in nation plate
+  vin ← word_in VIN VIN vin
+  limit ← number_in LIMIT_LEAST LIMIT_MOST limit
+  Some (record { vin = vin; registration = registration; limit = limit })
 
--- `format unit N PLATE VIN LIMIT`
-pub record AsksUnit (identity : Identity) (words : List (List ℕ)) : Type 0 where
-  pub nation : List ℕ
-  pub plate : List ℕ
-  pub vin : List ℕ
-  pub limit : List ℕ
-  pub words_are : words ≡ codes "format" ∷ codes "unit" ∷ nation ∷ plate ∷ vin ∷ limit ∷ []
-  pub tells : TellsUnit nation plate vin limit identity
+-- the card that a word names
+abbrev pub card_named : List ℕ → Option Card
+card_named word = if bytes_eq word (codes "a") then Some A else if bytes_eq word (codes "b") then Some B else None
 
--- the words are in this form
-abbrev pub Asks : Form → List (List ℕ) → Type 0
-Asks Minutes words = words ≡ minutes_form
-Asks (FormatCard card identity) words = AsksCard card identity words
-Asks (FormatUnit identity) words = AsksUnit identity words
+-- `minutes`
+abbrev pub form_of_one : List ℕ → Option Form
+form_of_one word = if bytes_eq word (codes "minutes") then Some Minutes else None
+
+-- `unit N PLATE VIN LIMIT`
+abbrev pub unit_form : (nation plate vin limit : List ℕ) → Option Form
+unit_form nation plate vin limit = do
+  identity ← unit_in nation plate vin limit
+  Some (FormatUnit identity)
+
+-- `a N NUMBER SURNAME FIRST` and `b N NUMBER SURNAME FIRST`
+abbrev pub card_form : (letter state number surname first : List ℕ) → Option Form
+card_form letter state number surname first = do
+  card ← card_named letter
+  identity ← card_in state number surname first
+  Some (FormatCard card identity)
+
+abbrev pub format_of : (what first second third fourth : List ℕ) → Option Form
+format_of what first second third fourth =
+    if bytes_eq what (codes "unit") then unit_form first second third fourth else card_form what first second third fourth
+
+-- `format` and what follows it
+abbrev pub form_of_six : (command what first second third fourth : List ℕ) → Option Form
+form_of_six command what first second third fourth =
+    if bytes_eq command (codes "format") then format_of what first second third fourth else None
+
+-- what the words ask for; nothing where they are in no form
+unfoldable pub form_of : List (List ℕ) → Option Form
+form_of (word ∷ []) = form_of_one word
+form_of (command ∷ what ∷ first ∷ second ∷ third ∷ fourth ∷ []) = form_of_six command what first second third fourth
+form_of _ = None

@@ -1,7 +1,8 @@
 pub mod Texts
 pub mod Forms
-pub mod View
 pub mod Feeding
+pub mod End
+pub mod Outside
 pub mod Minutes
-pub mod Ends
 pub mod Formatting
+pub mod Program

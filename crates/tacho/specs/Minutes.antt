@@ -8,13 +8,16 @@ use Rattle.minute_model.specs.declared.Rule.TheVariants.{Original}
 use Rattle.minute_model.specs.Minute.{decided}
 use Rattle.view_model.specs.declared.UnitShown.{UnitShown}
 use Rattle.view_model.specs.declared.Viewed.{Viewed}
+use Rattle.view_model.specs.declared.Line.{Line}
+use Rattle.view_model.specs.Lines.{lines_of, same_unit}
 use Rattle.view_model.specs.Text.{IsUnitView}
 use Rattle.trace_text.specs.declared.trace.Form.TheVariants.{Minutes}
 use Rattle.trace_model.specs.declared.Item.{Item}
 use Rattle.run_model.specs.Span.{trace_span}
 use Rattle.trace_text.specs.Judged.{IsTraceText, IsBadText, IsLongText}
-use Rattle.tacho.specs.declared.top.Fault.{Fault}
-use Rattle.tacho.specs.declared.top.Fault.TheVariants.{Done, BadTrace, TooLong, WriteFault, Memory}
+use Rattle.tacho.specs.declared.end.Fault.{Fault}
+use Rattle.tacho.specs.declared.end.Fault.TheVariants.{Done, BadTrace, TooLong, WriteFault, Memory}
+use Rattle.tacho.specs.Outside.{Outside}
 
 -- a minute with no card present
 abbrev pub without_card : Minute → Viewed UnitShown
@@ -27,6 +30,10 @@ without_card m = record {
   };
 }
 
+-- the lines of minutes, no card present
+abbrev pub lines_shown : List Minute → List (Line UnitShown)
+lines_shown minutes = lines_of same_unit (map without_card minutes)
+
 -- the decided minutes of the one span of a trace, no card present
 abbrev pub minutes_shown : ℕ → List Item → List (Viewed UnitShown)
 minutes_shown start items = map without_card (decided Original (trace_span start items) [])
@@ -38,29 +45,22 @@ pub record PrintsMinutes (text out : List ℕ) : Type 0 where
   pub trace : IsTraceText Minutes text start items
   pub view : IsUnitView (minutes_shown start items) out
 
--- what a source and a sink tell: what is left, what is held, and their counts of faults
-pub record Streams : Type 0 where
-  pub left : Option (List ℕ)
-  pub read_faults : ℕ
-  pub held : Option (List ℕ)
-  pub write_faults : ℕ
-
 -- How the command `minutes` ends.
-pub record EndsMinutes (old new : Streams) (fault : Fault) : Type 0 where
+pub record EndsMinutes (old new : Outside) (fault : Fault) : Type 0 where
   -- Done: the sink gained exactly the view text of the decided minutes of the source's trace, and nothing of the source is
   -- left.
-  pub printed : (text : List ℕ) → old.left ≡ Some text → fault ≡ Done → (out : List ℕ) × PrintsMinutes text out × Appends old.held new.held out
-  pub read : fault ≡ Done → IsAtEnd new.left
+  pub printed : (text : List ℕ) → old.source.left ≡ Some text → fault ≡ Done → (out : List ℕ) × PrintsMinutes text out × Appends old.sink.held new.sink.held out
+  pub read : fault ≡ Done → IsAtEnd new.source.left
   -- Each refusal has its cause.
-  pub bad_trace : (text : List ℕ) (n : ℕ) → old.left ≡ Some text → fault ≡ BadTrace n → IsBadText Minutes text n
-  pub too_long : (text : List ℕ) (n : ℕ) → old.left ≡ Some text → fault ≡ TooLong n → IsLongText Minutes text n
+  pub bad_trace : (text : List ℕ) (n : ℕ) → old.source.left ≡ Some text → fault ≡ BadTrace n → IsBadText Minutes text n
+  pub too_long : (text : List ℕ) (n : ℕ) → old.source.left ≡ Some text → fault ≡ TooLong n → IsLongText Minutes text n
   -- And each cause its end, unless memory runs out: a trace is printed where neither stream fails, a bad or a long text is
   -- refused by its line where the source does not fail.
-  pub prints : (text : List ℕ) (start : ℕ) (items : List Item) → old.left ≡ Some text → IsTraceText Minutes text start items
-      → (Rose old.read_faults new.read_faults → ⊥) → (Rose old.write_faults new.write_faults → ⊥) → (fault ≡ Done) ⊎ (fault ≡ Memory)
-  pub finds_bad_trace : (text : List ℕ) (n : ℕ) → old.left ≡ Some text → IsBadText Minutes text n
-      → (Rose old.read_faults new.read_faults → ⊥) → (fault ≡ BadTrace n) ⊎ (fault ≡ Memory)
-  pub finds_too_long : (text : List ℕ) (n : ℕ) → old.left ≡ Some text → IsLongText Minutes text n
-      → (Rose old.read_faults new.read_faults → ⊥) → (fault ≡ TooLong n) ⊎ (fault ≡ Memory)
+  pub prints : (text : List ℕ) (start : ℕ) (items : List Item) → old.source.left ≡ Some text → IsTraceText Minutes text start items
+      → (Rose old.source.faults new.source.faults → ⊥) → (Rose old.sink.faults new.sink.faults → ⊥) → (fault ≡ Done) ⊎ (fault ≡ Memory)
+  pub finds_bad_trace : (text : List ℕ) (n : ℕ) → old.source.left ≡ Some text → IsBadText Minutes text n
+      → (Rose old.source.faults new.source.faults → ⊥) → (fault ≡ BadTrace n) ⊎ (fault ≡ Memory)
+  pub finds_too_long : (text : List ℕ) (n : ℕ) → old.source.left ≡ Some text → IsLongText Minutes text n
+      → (Rose old.source.faults new.source.faults → ⊥) → (fault ≡ TooLong n) ⊎ (fault ≡ Memory)
   -- At a write fault a front of what Done appends was appended.
-  pub front : (text : List ℕ) → old.left ≡ Some text → fault ≡ WriteFault → (out : List ℕ) × PrintsMinutes text out × AppendsFront old.held new.held out
+  pub front : (text : List ℕ) → old.source.left ≡ Some text → fault ≡ WriteFault → (out : List ℕ) × PrintsMinutes text out × AppendsFront old.sink.held new.sink.held out

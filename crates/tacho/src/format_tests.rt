@@ -1,5 +1,6 @@
 use crate::tests::{card_of_ones, unknown, words_of};
-use crate::top::{Fault, tacho};
+use crate::end::Fault;
+use crate::top::tacho;
 use crate::words::Words;
 use run_model::Device;
 use std::alloc::Global;

@@ -1,8 +1,8 @@
 //! The forms of words that the program knows (profile).
-ghost use Rattle.std.specs.Prelude.{◌≡◌, ◌∷◌, List, ◌+◌, ◌-◌, ◌≤◌, ◌↔◌, ℕ, true, false, length, decimal, IfSome, IfNone, IsTrue};
+ghost use Rattle.std.specs.Prelude.{◌≡◌, ◌∷◌, ◌+◌, ◌-◌, ◌≤◌, length, bytes_eq};
 ghost use Rattle.std.specs.List.{list_all};
-ghost use Rattle.tacho.specs.Texts.{is_character, is_word, begins_with_dash, padded};
-ghost use Rattle.tacho.specs.Forms.{card_letter, TellsCard, TellsRegistration, TellsUnit, Asks};
+ghost use Rattle.tacho.specs.Texts.{is_character, is_word, begins_with_dash, word_in, number_in, padded};
+ghost use Rattle.tacho.specs.Forms.{name_in, card_in, registration_in, unit_in, card_named, form_of_one, format_of, form_of_six, form_of};
 
 use crate::words::Words;
 use card_files::CardIdentity;
@@ -10,6 +10,27 @@ use run_model::Card;
 use tacho_types::{Name36, Nation, Registration};
 use text_fields::number;
 use unit_memory::Identity;
+
+/// How many characters a card's number has.
+pub const CARD_NUMBER: usize = 16;
+
+/// The most characters of a name.
+pub const NAME: usize = 35;
+
+/// The most characters of a vehicle's registration.
+pub const PLATE: usize = 13;
+
+/// How many characters a vehicle's identification number has.
+pub const VIN: usize = 17;
+
+/// The greatest number of a nation.
+pub const NATION_MOST: u8 = 255;
+
+/// The least speed limit in km/h.
+pub const LIMIT_LEAST: u8 = 1;
+
+/// The greatest speed limit in km/h.
+pub const LIMIT_MOST: u8 = 254;
 
 /// What the words of the command line ask for.
 #[derive(Clone, Copy, Debug, PartialEq, Eq)]
@@ -24,44 +45,73 @@ pub enum Form {
 
 /// What the words ask for, if they are in a form that is known. The test takes no memory.
 pub fn form_of(words: &Words) -> Option<Form>
-    ensures asked { IfSome result (λ form. Asks form words.now) }
-    ensures none { IfNone result ((form : Form) → Asks form words.now → ⊥) }
+    ensures { result ≡ form_of words.now }
 {
-    if words.is_minutes() {
-        return Some(Form::Minutes);
+    if let Some(word) = words.one() {
+        return form_of_one(word);
     }
-    let Some((format, what, first, second, third, fourth)) = words.six() else {
+    let Some((command, what, first, second, third, fourth)) = words.six() else {
         return None;
     };
-    if !is_text(format, "format") {
-        return None;
+    form_of_six(command, what, first, second, third, fourth)
+}
+
+/// The form of one word.
+fn form_of_one(word: &str) -> Option<Form>
+    ensures { result ≡ form_of_one word.now }
+{
+    if is_text(word, "minutes") {
+        return Some(Form::Minutes);
     }
+    None
+}
+
+/// The form of six words.
+fn form_of_six(
+    command: &str,
+    what: &str,
+    first: &str,
+    second: &str,
+    third: &str,
+    fourth: &str,
+) -> Option<Form>
+    ensures { result ≡ form_of_six command.now what.now first.now second.now third.now fourth.now }
+{
+    if is_text(command, "format") {
+        return format_of(what, first, second, third, fourth);
+    }
+    None
+}
+
+/// What is made new, and of which identity.
+fn format_of(what: &str, first: &str, second: &str, third: &str, fourth: &str) -> Option<Form>
+    ensures { result ≡ format_of what.now first.now second.now third.now fourth.now }
+{
     if is_text(what, "unit") {
-        return match unit_identity(first, second, third, fourth) {
-            Some(identity) => Some(Form::FormatUnit { identity }),
-            None => None,
+        let Some(identity) = unit_identity(first, second, third, fourth) else {
+            return None;
         };
+        return Some(Form::FormatUnit { identity });
     }
     let Some(card) = card_of(what) else {
         return None;
     };
-    match card_identity(first, second, third, fourth) {
-        Some(identity) => Some(Form::FormatCard { card, identity }),
-        None => None,
-    }
+    let Some(identity) = card_identity(first, second, third, fourth) else {
+        return None;
+    };
+    Some(Form::FormatCard { card, identity })
 }
 
 /// Whether a word is this text.
 fn is_text(word: &str, text: &str) -> bool
-    ensures { IsTrue result ↔ (word.now ≡ text.now) }
+    ensures { result ≡ bytes_eq word.now text.now }
 {
     word == text
 }
 
 /// The card that a word names.
 fn card_of(word: &str) -> Option<Card>
-    ensures named { IfSome result (λ card. word.now ≡ card_letter card) }
-    ensures none { IfNone result ((card : Card) → word.now ≡ card_letter card → ⊥) }
+    ensures { result ≡ card_named word.now }
 {
     if is_text(word, "a") {
         return Some(Card::A);
@@ -74,10 +124,9 @@ fn card_of(word: &str) -> Option<Card>
 
 /// The identity that N, NUMBER, SURNAME and FIRST tell.
 fn card_identity(state: &str, number: &str, surname: &str, first: &str) -> Option<CardIdentity>
-    ensures told { IfSome result (TellsCard state.now number.now surname.now first.now) }
-    ensures none { IfNone result ((identity : CardIdentity) → TellsCard state.now number.now surname.now first.now identity → ⊥) }
+    ensures { result ≡ card_in state.now number.now surname.now first.now }
 {
-    let Some(state) = byte(state) else {
+    let Some(state) = byte(state, 0, NATION_MOST) else {
         return None;
     };
     let Some(number) = card_number(number) else {
@@ -99,8 +148,7 @@ fn card_identity(state: &str, number: &str, surname: &str, first: &str) -> Optio
 
 /// The identity that N, PLATE, VIN and LIMIT tell.
 fn unit_identity(nation: &str, plate: &str, vin: &str, limit: &str) -> Option<Identity>
-    ensures told { IfSome result (TellsUnit nation.now plate.now vin.now limit.now) }
-    ensures none { IfNone result ((identity : Identity) → TellsUnit nation.now plate.now vin.now limit.now identity → ⊥) }
+    ensures { result ≡ unit_in nation.now plate.now vin.now limit.now }
 {
     let Some(registration) = registration(nation, plate) else {
         return None;
@@ -108,7 +156,7 @@ fn unit_identity(nation: &str, plate: &str, vin: &str, limit: &str) -> Option<Id
     let Some(vin) = vehicle_number(vin) else {
         return None;
     };
-    let Some(limit) = speed_limit(limit) else {
+    let Some(limit) = byte(limit, LIMIT_LEAST, LIMIT_MOST) else {
         return None;
     };
     Some(Identity {
@@ -120,39 +168,37 @@ fn unit_identity(nation: &str, plate: &str, vin: &str, limit: &str) -> Option<Id
 
 /// The registration that N and a word of 1 to 13 characters tell.
 fn registration(nation: &str, plate: &str) -> Option<Registration>
-    ensures told { IfSome result (λ registration. TellsRegistration nation.now plate.now registration.0) }
-    ensures none { IfNone result ((bytes : List ℕ) → TellsRegistration nation.now plate.now bytes → ⊥) }
+    ensures { result ≡ registration_in nation.now plate.now }
 {
-    let Some(nation) = byte(nation) else {
+    let Some(nation) = byte(nation, 0, NATION_MOST) else {
         return None;
     };
     let text = plate.as_bytes();
-    if !is_word(text, 1, 13) {
+    if !is_word(text, 1, PLATE) {
         return None;
     }
-    let mut bytes = [0; 15];
+    let mut bytes = [0; Registration::SIZE];
     write_registration(nation, text, &mut bytes);
     Some(Registration(bytes))
 }
 
 /// Writes a nation's number and a registration's characters.
 fn write_registration(nation: u8, text: &[u8], out: &mut [u8])
-    requires out { length out.old ≡ 15 }
-    requires text { length text.now ≤ 13 }
-    ensures { out.new ≡ nation ∷ padded 13 text.now }
+    requires out { length out.old ≡ PLATE + 2 }
+    requires text { length text.now ≤ PLATE }
+    ensures { out.new ≡ nation ∷ padded PLATE text.now }
 {
     let (first, rest) = out.split_at_mut(1);
     first.copy_from_slice(&[nation]);
     write_padded(text, rest);
 }
 
-/// The vehicle's number that a word of 17 characters tells.
+/// The vehicle's number that a word tells.
 fn vehicle_number(word: &str) -> Option<[u8; 17]>
-    ensures told { IfSome result (λ number. (is_word 17 17 word.now ≡ true) × (number ≡ word.now)) }
-    ensures none { IfNone result (is_word 17 17 word.now ≡ false) }
+    ensures { result ≡ word_in VIN VIN word.now }
 {
     let text = word.as_bytes();
-    if !is_word(text, 17, 17) {
+    if !is_word(text, VIN, VIN) {
         return None;
     }
     let mut number = [0; 17];
@@ -160,35 +206,22 @@ fn vehicle_number(word: &str) -> Option<[u8; 17]>
     Some(number)
 }
 
-/// The speed limit in km/h, from 1 to 254, that a word spells.
-fn speed_limit(word: &str) -> Option<u8>
-    ensures spelled { IfSome result (λ n. (word.now ≡ decimal n) × (1 ≤ n) × (n ≤ 254)) }
-    ensures none { IfNone result ((n : ℕ) → 1 ≤ n → n ≤ 254 → word.now ≡ decimal n → ⊥) }
-{
-    match byte(word) {
-        Some(n) if n > 0 && n < 255 => Some(n),
-        _ => None,
-    }
-}
-
-/// The number from 0 to 255 that a word spells, without a sign or a leading zero.
-fn byte(word: &str) -> Option<u8>
-    ensures spelled { IfSome result (λ n. word.now ≡ decimal n) }
-    ensures none { IfNone result ((n : ℕ) → n ≤ 255 → word.now ≡ decimal n → ⊥) }
+/// The number in this range that a word spells, without a sign or a leading zero.
+fn byte(word: &str, least: u8, most: u8) -> Option<u8>
+    ensures { result ≡ number_in least most word.now }
 {
     match number(word.as_bytes()) {
-        Some(n) if n <= 255 => Some(n as u8),
+        Some(n) if least as u32 <= n && n <= most as u32 => Some(n as u8),
         _ => None,
     }
 }
 
-/// The card number that a word of 16 characters tells.
+/// The card number that a word tells.
 fn card_number(word: &str) -> Option<[u8; 16]>
-    ensures told { IfSome result (λ number. (is_word 16 16 word.now ≡ true) × (number ≡ word.now)) }
-    ensures none { IfNone result (is_word 16 16 word.now ≡ false) }
+    ensures { result ≡ word_in CARD_NUMBER CARD_NUMBER word.now }
 {
     let text = word.as_bytes();
-    if !is_word(text, 16, 16) {
+    if !is_word(text, CARD_NUMBER, CARD_NUMBER) {
         return None;
     }
     let mut number = [0; 16];
@@ -196,16 +229,15 @@ fn card_number(word: &str) -> Option<[u8; 16]>
     Some(number)
 }
 
-/// The name that a word of 1 to 35 characters tells.
+/// The name that a word tells.
 fn name(word: &str) -> Option<Name36>
-    ensures told { IfSome result (λ name. (is_word 1 35 word.now ≡ true) × (name.0 ≡ padded 35 word.now)) }
-    ensures none { IfNone result (is_word 1 35 word.now ≡ false) }
+    ensures { result ≡ name_in word.now }
 {
     let text = word.as_bytes();
-    if !is_word(text, 1, 35) {
+    if !is_word(text, 1, NAME) {
         return None;
     }
-    let mut bytes = [0; 36];
+    let mut bytes = [0; Name36::SIZE];
     write_padded(text, &mut bytes);
     Some(Name36(bytes))
 }

@@ -2,19 +2,25 @@
 //! with its status.
 #![tactic(auto)]
 
+mod end;
+mod format_command;
 mod forms;
 mod minutes;
+mod minutes_command;
+mod sizes;
 mod top;
-mod view;
 mod words;
 
 use card_commands::SimCard;
+use end::{Ended, Fault};
 use run_model::Device;
+use sizes::CARD_SIZE;
 use std::io::ErrorKind;
 use std::process::ExitCode;
 use std::{env, io};
 use tach_media::{FileMedium, StdSink, StdSource};
-use top::{CARD_SIZE, Ended, Fault, UNIT_SIZE, tacho};
+use top::tacho;
+use unit_model::layout::IMAGE_SIZE;
 use words::Words;
 
 /// The words behind the program's name. One that is no text is in no form.
@@ -45,7 +51,7 @@ fn run(rt: &HostRuntime) -> Ended {
             &words,
             &mut StdSource::new(rt.stdin()),
             &mut StdSink::new(rt.stdout()),
-            &mut FileMedium::new(rt, "unit.img", UNIT_SIZE),
+            &mut FileMedium::new(rt, "unit.img", IMAGE_SIZE),
             &mut SimCard::new(FileMedium::new(rt, "card-a.img", CARD_SIZE)),
             &mut SimCard::new(FileMedium::new(rt, "card-b.img", CARD_SIZE)),
         ),

@@ -2,7 +2,8 @@ ghost use Rattle.std.specs.Prelude.{IfOk};
 ghost use Rattle.tach_media.specs.MemMedium.{memory_state};
 ghost use Rattle.tacho.specs.Formatting.{IsCard};
 
-use crate::top::{Fault, tacho};
+use crate::end::Fault;
+use crate::top::tacho;
 use crate::words::Words;
 use card_commands::SimCard;
 use std::alloc::{AllocError, Global};

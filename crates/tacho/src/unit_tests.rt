@@ -2,8 +2,10 @@ ghost use Rattle.std.specs.Prelude.{◌≡◌, IfOk, vec_len};
 ghost use Rattle.tach_media.specs.MemMedium.{memory_state};
 ghost use Rattle.unit_model.specs.Image.{IsUnit};
 
+use crate::end::Fault;
+use crate::sizes::CARD_SIZE;
 use crate::tests::{unknown, words_of};
-use crate::top::{CARD_SIZE, Fault, UNIT_SIZE, tacho};
+use crate::top::tacho;
 use crate::words::Words;
 use run_model::Device;
 use std::alloc::{AllocError, Global};
@@ -12,6 +14,7 @@ use std::test::Fail;
 use tach_media::{
     AbsentChip, AbsentMedium, Failed, Left, Medium, MemMedium, MemSink, MemSource, Memory, Stop,
 };
+use unit_model::layout::IMAGE_SIZE;
 
 /// The words that make the unit new.
 const FORMAT_UNIT: [&str; 6] = ["format", "unit", "13", "DEMO", "TACHODEMO00000001", "90"];
@@ -33,8 +36,8 @@ fn filled(alloc: Global, byte: u8, count: usize) -> Result<Vec<u8>, AllocError>
 fn unit_of_ones(alloc: Global, stops: Vec<Stop>) -> Result<MemMedium, Memory>
     ensures { IfOk result (λ unit. IsUnit (memory_state unit.log unit.counts)) }
 {
-    let ones = filled(alloc, 1, UNIT_SIZE as usize)?;
-    MemMedium::new(alloc, ones, 700, UNIT_SIZE + 256, stops)
+    let ones = filled(alloc, 1, IMAGE_SIZE as usize)?;
+    MemMedium::new(alloc, ones, 700, IMAGE_SIZE + 256, stops)
 }
 
 /// How the call ends over this unit, and what the sink then holds.
@@ -60,9 +63,9 @@ fn ends<U: Medium>(alloc: Global, words: &Words, unit: &mut U) -> Result<(Fault,
 
 /// The image of a unit that works again.
 fn left<U: Medium>(alloc: Global, unit: &mut U) -> Result<Vec<u8>, Fail> {
-    let mut image = filled(alloc, 0, UNIT_SIZE as usize)?;
+    let mut image = filled(alloc, 0, IMAGE_SIZE as usize)?;
     unit.revive()?;
-    if unit.size() < UNIT_SIZE {
+    if unit.size() < IMAGE_SIZE {
         return Err(Failed)?;
     }
     unit.read_at(0, image.as_mut_slice())?;
@@ -71,7 +74,7 @@ fn left<U: Medium>(alloc: Global, unit: &mut U) -> Result<Vec<u8>, Fail> {
 
 /// Whether an image is these bytes and zeros.
 fn is_new(image: &[u8], front: &[u8; 37]) -> bool {
-    image.len() == UNIT_SIZE as usize
+    image.len() == IMAGE_SIZE as usize
         && image.starts_with(front)
         && image.iter().skip(37).all(|byte| *byte == 0)
 }
@@ -161,7 +164,7 @@ fn a_torn_write_of_a_unit(rt: HostRuntime) -> Result<(), Fail> {
 fn known(rt: &(impl Abort + AllocGlobal), list: &[&str]) -> Result<(), Fail> {
     let alloc = rt.alloc();
     let words = words_of(alloc, list)?;
-    let (fault, held) = ends(alloc, &words, &mut AbsentMedium::new(UNIT_SIZE))?;
+    let (fault, held) = ends(alloc, &words, &mut AbsentMedium::new(IMAGE_SIZE))?;
     assert_eq!(rt; fault, Fault::MediumFault(Device::Unit));
     assert_eq!(rt; held.len(), 0);
     Ok(())

@@ -1,6 +1,5 @@
 //! The words of the command line.
-ghost use Rattle.std.specs.Prelude.{◌≡◌, ◌==◌, ◌↔◌, ◌<◌, [], ◌∷◌, ◌++◌, IsTrue, IfSome, IfNone, OnOk, OnErr, length, slice_get, Some};
-ghost use Rattle.tacho.specs.Forms.{minutes_form};
+ghost use Rattle.std.specs.Prelude.{◌≡◌, ◌==◌, ◌<◌, [], ◌∷◌, ◌++◌, IfSome, IfNone, OnOk, OnErr, length, slice_get, Some};
 
 use std::alloc::Global;
 use std::marker::Model;
@@ -66,11 +65,15 @@ impl Words {
         self.list[index].as_str()
     }
 
-    /// Whether these words are the form `minutes`. The test takes no memory.
-    pub fn is_minutes(&self) -> bool
-        ensures { IsTrue result ↔ (self.now ≡ minutes_form) }
+    /// The word, where there is one.
+    pub fn one(&self) -> Option<&str>
+        ensures found { IfSome result (λ word. self.now ≡ word.now ∷ []) }
+        ensures none { IfNone result (length self.now ≡ 1 → ⊥) }
     {
-        self.len() == 1 && self.get(0) == "minutes"
+        if self.len() != 1 {
+            return None;
+        }
+        Some(self.get(0))
     }
 
     /// The words, where there are six.

@@ -1,12 +1,8 @@
 use Rattle.std.proofs.Common.{◌≡◌, ◌∙◌, ℕ, ◌+◌, ◌-◌, ◌++◌, List, ap, sym, arith}
-use Rattle.std.specs.Prelude.{map}
-use Rattle.std.proofs.lemmas.List.{map-append}
 use Rattle.minute_model.specs.declared.Minute.{Minute}
 use Rattle.minute_model.specs.Span.{Span, fed_many, decided_in}
 use Rattle.minute_model.proofs.Spans.{fed_many-parts}
-use Rattle.view_model.specs.declared.UnitShown.{UnitShown}
-use Rattle.view_model.specs.declared.Viewed.{Viewed}
-use Rattle.tacho.specs.Minutes.{without_card}
+use Rattle.tacho.specs.Minutes.{lines_shown}
 use Rattle.tacho.proofs.minutes.run_pieces.Goals as goal
 
 pub loop-left-init : goal.loop-left-init
@@ -16,7 +12,7 @@ loop-left-init g c =
       most = omega arith;
       next = omega arith;
       stands = λ span h. rw e h;
-      all = λ span h given. rw e given;
+      lines = λ span h given. rw e given;
     }
 
 pub loop-left-preserved : goal.loop-left-preserved
@@ -30,14 +26,13 @@ loop-left-preserved g c =
       most = omega (arith, v.most);
       next = omega (arith, v.next, c.feed_run-decided.ensures.next, c.min-n.ensures);
       stands = λ span h. rw (← later span) (c.feed_run-decided.ensures.fed (fed_many span c.args.speed done) (v.stands span h));
-      all = λ span h given.
+      lines = λ span h given.
           let now = fed_many span c.args.speed done in
+          let more = c.feed_run-decided.ensures.given now (v.stands span h) in
           rw (← later span) (
-          c.in_ok-show.ensures
-          ∙ ap (λ (ms : List Minute). c.loop-left.all.items ++ map without_card ms) c.as_slice.ensures.value
-          ∙ ap (λ (vs : List (Viewed UnitShown)). vs ++ map without_card c.feed_run-decided.result.items) (v.all span h given)
-          ∙ sym (map-append without_card (decided_in now) c.feed_run-decided.result.items)
-          ∙ ap (map without_card) (sym (c.feed_run-decided.ensures.given now (v.stands span h))));
+          c.in_ok-show.ensures (decided_in now) (v.lines span h given)
+          ∙ ap (λ (ms : List Minute). lines_shown (decided_in now ++ ms)) c.as_slice.ensures.value
+          ∙ ap lines_shown (sym more));
     }
 
 pub returns-clause-stands : goal.returns-clause-stands

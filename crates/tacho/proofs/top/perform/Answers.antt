@@ -1,7 +1,10 @@
-use Rattle.tacho.proofs.Endings.{ends-minutes}
+use Rattle.tacho.proofs.Endings.{ends-minutes, minutes-ends}
 use Rattle.tacho.proofs.top.perform.Goals as goal
 
-pub returns-in-Minutes-clause-minutes : goal.returns-in-Minutes-clause-minutes
-returns-in-Minutes-clause-minutes g c = λ is.
+pub returns-in-Minutes-clause-ends : goal.returns-in-Minutes-clause-ends
+returns-in-Minutes-clause-ends g c =
     let e = c.print_minutes.ensures in
-    ends-minutes _ _ c.print_minutes.result e.printed e.read e.bad_trace e.too_long e.read_fault e.write_fault e.prints e.finds_bad_trace e.finds_too_long e.front e.other
+    rw (c.in-Minutes.is, c.after.ensures)
+    (minutes-ends _ _ c.print_minutes.result
+        (ends-minutes _ _ c.print_minutes.result e.printed e.read e.bad_trace e.too_long e.read_fault e.write_fault e.prints e.finds_bad_trace e.finds_too_long e.front e.other)
+        e.other e.read_fault e.write_fault e.counts)

@@ -1,5 +1,5 @@
 use Rattle.std.proofs.Common.{arith}
-use Rattle.tacho.proofs.WordForms.{six-words}
+use Rattle.tacho.proofs.WordLists.{six-words}
 use Rattle.tacho.proofs.words.Words.six.Goals as goal
 
 pub returns-clause-found : goal.returns-clause-found

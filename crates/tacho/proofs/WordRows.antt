@@ -1,0 +1,31 @@
+-- Words and what they ask for, computed.
+use Rattle.std.specs.Prelude.{◌≡◌, Some, None, [], ◌∷◌, ◌++◌, codes, replicate, refl}
+use Rattle.trace_model.specs.declared.Card.TheVariants.{B}
+use Rattle.tacho.specs.declared.forms.Form.TheVariants.{Minutes}
+use Rattle.tacho.specs.declared.forms.TheConstants.{PLATE}
+use Rattle.tacho.specs.Texts.{word_in}
+use Rattle.tacho.specs.Forms.{name_in, card_named, form_of}
+
+minutes-row : form_of (codes "minutes" ∷ []) ≡ Some Minutes
+unfolding form_of
+minutes-row = refl
+
+misspelled-row : form_of (codes "minute" ∷ []) ≡ None
+unfolding form_of
+misspelled-row = refl
+
+two-words-row : form_of (codes "minutes" ∷ codes "minutes" ∷ []) ≡ None
+unfolding form_of
+two-words-row = refl
+
+card-row : card_named (codes "b") ≡ Some B
+card-row = refl
+
+name-row : name_in (codes "Doe") ≡ Some (record { 0 = 1 ∷ (codes "Doe" ++ replicate 32 32) })
+name-row = refl
+
+dash-row : word_in 1 PLATE (codes "-AB1") ≡ None
+dash-row = refl
+
+long-row : word_in 1 PLATE (codes "ABCDEFGHIJKLMN") ≡ None
+long-row = refl

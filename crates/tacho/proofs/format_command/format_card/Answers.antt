@@ -1,0 +1,37 @@
+use Rattle.std.proofs.Common.{◌∙◌, List, ℕ, Bool, subst, sym, arith}
+use Rattle.tach_media.specs.Medium.{HasCause}
+use Rattle.tacho.specs.Formatting.{EndsFormat, IsIssuing}
+use Rattle.tacho.specs.Outside.{SinkTold}
+use Rattle.tacho.specs.End.{end_of}
+use Rattle.tacho.specs.declared.end.Fault.TheVariants.{MediumFault}
+use Rattle.tacho.proofs.Formats.{largest-size, of-ok, issue-failed, issue-done}
+use Rattle.tacho.proofs.format_command.format_card.Goals as goal
+
+pub issue-requires-clause-least : goal.issue-requires-clause-least
+issue-requires-clause-least g c = omega (arith, c.as_slice.ensures.len, c.in-Ok.ensures.size, largest-size)
+
+pub issue-requires-clause-most : goal.issue-requires-clause-most
+issue-requires-clause-most g c = omega (arith, c.as_slice.ensures.len, c.in-Ok.ensures.size, largest-size, c.requires.sized)
+
+pub returns-then-is_err-clause-ends : goal.returns-then-is_err-clause-ends
+returns-then-is_err-clause-ends g c =
+    let old = g.C.Chip.state c.args.card.now in
+    let new = g.C.Chip.state c.issue.new.self in
+    let sink : SinkTold = record { held = g.K.Sink.held c.args.sink.now; faults = g.K.Sink.faults c.args.sink.now } in
+    let failed = sym c.is_err.ensures.value ∙ c.if-is_err.true in
+    let cause = subst (λ (f : Bool). HasCause old new f) failed c.issue.ensures.cause in
+    subst (λ (image : List ℕ). EndsFormat c.args.device image (IsIssuing image) old new sink sink (MediumFault c.args.device)) (c.as_slice.ensures.value ∙ c.in-Ok.ensures.image)
+    (issue-failed c.args.device c.as_slice.result.now old new (g.met.C.Chip.coherent c.args.card.now) (omega (arith, c.as_slice.ensures.len, c.in-Ok.ensures.size, largest-size)) c.requires sink c.issue.ensures.moments cause)
+
+pub returns-clause-ends : goal.returns-clause-ends
+returns-clause-ends g c =
+    let old = g.C.Chip.state c.args.card.now in
+    let new = g.C.Chip.state c.issue.new.self in
+    let before : SinkTold = record { held = g.K.Sink.held c.args.sink.now; faults = g.K.Sink.faults c.args.sink.now } in
+    let after : SinkTold = record { held = g.K.Sink.held c.print_formatted.new.sink; faults = g.K.Sink.faults c.print_formatted.new.sink } in
+    let fine = sym c.is_err.ensures.value ∙ c.if-is_err.false in
+    let cause = subst (λ (f : Bool). HasCause old new f) fine c.issue.ensures.cause in
+    subst (λ (image : List ℕ). EndsFormat c.args.device image (IsIssuing image) old new before after (end_of c.print_formatted.result)) (c.as_slice.ensures.value ∙ c.in-Ok.ensures.image)
+    (issue-done c.args.device c.as_slice.result.now old new (g.met.C.Chip.coherent c.args.card.now) (omega (arith, c.as_slice.ensures.len, c.in-Ok.ensures.size, largest-size)) c.requires
+    before after c.print_formatted.result c.issue.ensures.moments (of-ok c.issue.result fine c.issue.ensures.written) (of-ok c.issue.result fine c.issue.ensures.settled) cause
+    c.print_formatted.ensures.ok c.print_formatted.ensures.err c.print_formatted.ensures.cause)

@@ -1,0 +1,15 @@
+use Rattle.std.proofs.Common.{sym}
+use Rattle.tacho.specs.Forms.{form_of}
+use Rattle.tacho.proofs.WordLists.{no-form}
+use Rattle.tacho.proofs.forms.form_of.Goals as goal
+
+pub returns-in-Some : goal.returns-in-Some
+unfolding form_of
+returns-in-Some c = rw c.in-Some.ensures.found c.form_of_one.ensures
+
+pub returns-in_default-six : goal.returns-in_default-six
+returns-in_default-six c = sym (no-form c.args.words.now c.in_default.ensures.none c.in_default-six.ensures.none)
+
+pub returns : goal.returns
+unfolding form_of
+returns c = rw c.in-Some-six.ensures.found c.form_of_six.ensures

@@ -1,0 +1,50 @@
+-- Why a call ends, and its status (profile).
+use Rattle.std.specs.Prelude.{ℕ, Bool, true, false, Result, Ok, Err}
+use Rattle.trace_text.specs.declared.trace.TraceFault.{TraceFault}
+use Rattle.trace_text.specs.declared.trace.TraceFault.TheVariants as trace
+use Rattle.tacho.specs.declared.end.Fault.{Fault}
+use Rattle.tacho.specs.declared.end.Fault.TheVariants.{Done, Usage, BadTrace, TooLong, ReadFault, WriteFault, MediumFault, Memory}
+use Rattle.tacho.specs.declared.end.Ended.{Ended}
+
+abbrev pub status_of : Fault → ℕ
+status_of Done = 0
+status_of Usage = 2
+status_of (BadTrace n) = 3
+status_of (TooLong n) = 3
+status_of ReadFault = 7
+status_of WriteFault = 8
+status_of (MediumFault device) = 9
+status_of Memory = 10
+
+-- the end by a fault
+abbrev pub ended_by : Fault → Ended
+ended_by fault = record { status = status_of fault; fault = fault }
+
+-- the end where no trace was read
+abbrev pub refusal_of : TraceFault → Fault
+refusal_of trace.ReadFault = ReadFault
+refusal_of (trace.BadLine n) = BadTrace n
+refusal_of (trace.TooLong n) = TooLong n
+refusal_of trace.Memory = Memory
+
+-- the source failed, or memory ran out
+abbrev pub IsUnread : Fault → Type 0
+IsUnread ReadFault = Unit {0}
+IsUnread Memory = Unit {0}
+IsUnread _ = ⊥
+
+-- the source or the sink failed, or memory ran out
+abbrev pub IsUnprinted : Fault → Type 0
+IsUnprinted ReadFault = Unit {0}
+IsUnprinted WriteFault = Unit {0}
+IsUnprinted Memory = Unit {0}
+IsUnprinted _ = ⊥
+
+abbrev pub is_medium_fault : Fault → Bool
+is_medium_fault (MediumFault device) = true
+is_medium_fault _ = false
+
+-- why a command ends, by what it answers
+abbrev pub end_of : {T : Type 0} → Result T Fault → Fault
+end_of (Ok done) = Done
+end_of (Err fault) = fault

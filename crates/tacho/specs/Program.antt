@@ -1,0 +1,62 @@
+-- THE PROGRAM: how its one call ends, and what it leaves untouched (profile). What each form promises stands in the form's own
+-- file: Minutes, Formatting.
+use Rattle.std.specs.Prelude.{◌≡◌, ◌↔◌, ◌≤◌, Option, Some, None, IfSome}
+use Rattle.tach_media.specs.Medium.{State, Rose}
+use Rattle.trace_model.specs.declared.Card.TheVariants.{A, B}
+use Rattle.run_model.specs.declared.Device.{Device}
+use Rattle.run_model.specs.declared.Device.TheVariants.{Unit as OfUnit, CardA, CardB}
+use Rattle.unit_model.specs.Image.{IsUnit}
+use Rattle.tacho.specs.declared.end.Fault.{Fault}
+use Rattle.tacho.specs.declared.end.Fault.TheVariants.{Done, Usage, ReadFault, WriteFault, MediumFault, Memory}
+use Rattle.tacho.specs.declared.end.Ended.{Ended}
+use Rattle.tacho.specs.declared.forms.Form.{Form}
+use Rattle.tacho.specs.declared.forms.Form.TheVariants.{Minutes, FormatCard, FormatUnit}
+use Rattle.tacho.specs.End.{status_of}
+use Rattle.tacho.specs.Outside.{Outside, memory_of}
+use Rattle.tacho.specs.Minutes.{EndsMinutes}
+use Rattle.tacho.specs.Formatting.{IsCard, EndsIssue, EndsMaking}
+
+-- the devices have the sizes of a unit and of cards
+pub record AreDevices (unit card_a card_b : State) : Type 0 where
+  pub of_unit : IsUnit unit
+  pub of_card_a : IsCard card_a
+  pub of_card_b : IsCard card_b
+
+-- what each form does, by its own record
+abbrev pub EndsForm : Form → (old new : Outside) → Fault → Type 0
+EndsForm Minutes old new fault = EndsMinutes old new fault
+EndsForm (FormatCard A identity) old new fault = EndsIssue CardA identity old.card_a new.card_a old.sink new.sink fault
+EndsForm (FormatCard B identity) old new fault = EndsIssue CardB identity old.card_b new.card_b old.sink new.sink fault
+EndsForm (FormatUnit identity) old new fault = EndsMaking identity old.unit new.unit old.sink new.sink fault
+
+-- What a form leaves as it was: all but the sink and what it names. Each argument says that one of them is as it was.
+abbrev pub LeavesOthers : Option Form → (source unit card_a card_b : Type 0) → Type 0
+LeavesOthers None source unit card_a card_b = source × unit × card_a × card_b
+LeavesOthers (Some Minutes) source unit card_a card_b = unit × card_a × card_b
+LeavesOthers (Some (FormatCard A identity)) source unit card_a card_b = source × unit × card_b
+LeavesOthers (Some (FormatCard B identity)) source unit card_a card_b = source × unit × card_a
+LeavesOthers (Some (FormatUnit identity)) source unit card_a card_b = source × card_a × card_b
+
+-- a stream or a device that is told to have failed has failed, and no count of a stream falls
+pub record HasCauses (old new : Outside) (fault : Fault) : Type 0 where
+  pub read_fault : fault ≡ ReadFault → Rose old.source.faults new.source.faults
+  pub write_fault : fault ≡ WriteFault → Rose old.sink.faults new.sink.faults
+  pub medium_fault : (device : Device) → fault ≡ MediumFault device → Rose (memory_of device old).faults (memory_of device new).faults
+  pub reads : old.source.faults ≤ new.source.faults
+  pub writes : old.sink.faults ≤ new.sink.faults
+
+-- HOW THE CALL ENDS, whose words ask for this form, or are in none.
+pub record Ends (asked : Option Form) (old new : Outside) (ended : Ended) : Type 0 where
+  pub status : ended.status ≡ status_of ended.fault
+  -- Usage comes exactly where the words are in no form.
+  pub usage : (ended.fault ≡ Usage) ↔ (asked ≡ None)
+  pub form : IfSome asked (λ form. EndsForm form old new ended.fault)
+  pub causes : HasCauses old new ended.fault
+
+-- WHAT IT LEAVES UNTOUCHED. Each argument says that one of what it is handed is as it was.
+pub record Spares (asked : Option Form) (fault : Fault) (source sink unit card_a card_b : Type 0) : Type 0 where
+  pub others : LeavesOthers asked source unit card_a card_b
+  -- Memory runs out only before the first write to a device.
+  pub memory : fault ≡ Memory → unit × card_a × card_b
+  -- But at Done and at a write fault the sink is as it was.
+  pub nothing : (fault ≡ Done → ⊥) → (fault ≡ WriteFault → ⊥) → sink

@@ -1,0 +1,64 @@
+//! How the top call ends.
+use run_model::Device;
+
+/// Why the call ended.
+#[derive(Clone, Copy, Debug, PartialEq, Eq)]
+pub enum Fault {
+    /// All was done.
+    Done,
+    /// The words are no form that is known.
+    Usage,
+    /// This line of the trace, from 1, is the first outside the grammar.
+    BadTrace(u32),
+    /// At this line of the trace, from 1, a limit is passed first; 0 where the source has more than 16777216 bytes.
+    TooLong(u32),
+    /// The source failed.
+    ReadFault,
+    /// The sink failed.
+    WriteFault,
+    /// This device failed.
+    MediumFault(Device),
+    /// Out of memory.
+    Memory,
+}
+
+/// How the call ended.
+#[derive(Clone, Copy, Debug, PartialEq, Eq)]
+pub struct Ended {
+    /// The program's status: 0, or by the fault.
+    pub status: u8,
+    /// Why it ended.
+    pub fault: Fault,
+}
+
+impl Ended {
+    ghost use Rattle.std.specs.Prelude.{◌≡◌};
+    ghost use Rattle.tacho.specs.End.{ended_by, end_of};
+
+    /// The end by this fault.
+    pub fn of(fault: Fault) -> Self
+        ensures { result ≡ ended_by fault }
+    {
+        let status = match fault {
+            Fault::Done => 0,
+            Fault::Usage => 2,
+            Fault::BadTrace(_) => 3,
+            Fault::TooLong(_) => 3,
+            Fault::ReadFault => 7,
+            Fault::WriteFault => 8,
+            Fault::MediumFault(_) => 9,
+            Fault::Memory => 10,
+        };
+        Ended { status, fault }
+    }
+
+    /// The end by what a command answers.
+    pub fn after(done: Result<(), Fault>) -> Self
+        ensures { result ≡ ended_by (end_of done) }
+    {
+        match done {
+            Ok(()) => Ended::of(Fault::Done),
+            Err(fault) => Ended::of(fault),
+        }
+    }
+}

@@ -1,0 +1,82 @@
+//! The command `minutes`: the view text of a trace's decided minutes.
+ghost use Rattle.std.specs.Prelude.{◌≡◌, ◌≢◌, ◌≤◌, ◌⊎◌, ℕ, List, Some, Err, OnOk, IfOk, IfErr, IsErrAnd};
+ghost use Rattle.std.specs.Io.KnownBytes.{Appends, IsAtEnd};
+ghost use Rattle.tach_media.specs.Medium.{Rose};
+ghost use Rattle.tach_media.specs.Streams.{AppendsFront};
+ghost use Rattle.run_model.specs.declared.Device.{Device as DeviceName};
+ghost use Rattle.view_model.specs.Text.{IsUnitView};
+ghost use Rattle.trace_text.specs.declared.trace.Form.TheVariants.{Minutes as FormOfMinutes};
+ghost use Rattle.trace_model.specs.declared.Item.{Item};
+ghost use Rattle.trace_text.specs.Line.{IsKnown};
+ghost use Rattle.trace_text.specs.Trace.{IsWellFormed};
+ghost use Rattle.std.specs.List.{AllByRecursion};
+ghost use Rattle.trace_text.specs.Judged.{IsTraceText, IsBadText, IsLongText};
+ghost use Rattle.tacho.specs.End.{refusal_of, IsUnread, IsUnprinted};
+ghost use Rattle.tacho.specs.Minutes.{PrintsMinutes, minutes_shown};
+
+use crate::end::Fault;
+use crate::minutes::lines_of;
+use std::alloc::{AllocError, Global};
+use tach_media::{Sink, Source, put_all};
+use trace_text::{Trace, TraceFault, read_trace};
+use view_text::lines_text;
+
+/// The command `minutes`.
+pub fn print_minutes<S: Source, K: Sink>(
+    alloc: Global,
+    source: &mut S,
+    sink: &mut K,
+) -> Result<(), Fault>
+    ensures printed { (text : List ℕ) → S.left source.old ≡ Some text
+        → OnOk result ((out : List ℕ) × PrintsMinutes text out × Appends (K.held sink.old) (K.held sink.new) out) }
+    ensures read { OnOk result (IsAtEnd (S.left source.new)) }
+    ensures bad_trace { (text : List ℕ) (n : ℕ) → S.left source.old ≡ Some text → result ≡ Err (Fault.BadTrace n) → IsBadText FormOfMinutes text n }
+    ensures too_long { (text : List ℕ) (n : ℕ) → S.left source.old ≡ Some text → result ≡ Err (Fault.TooLong n) → IsLongText FormOfMinutes text n }
+    ensures read_fault { result ≡ Err Fault.ReadFault → Rose (S.faults source.old) (S.faults source.new) }
+    ensures write_fault { result ≡ Err Fault.WriteFault → Rose (K.faults sink.old) (K.faults sink.new) }
+    ensures prints { (text : List ℕ) (start : ℕ) (items : List Item) → S.left source.old ≡ Some text → IsTraceText FormOfMinutes text start items
+        → IfErr result IsUnprinted }
+    ensures finds_bad_trace { (text : List ℕ) (n : ℕ) → S.left source.old ≡ Some text → IsBadText FormOfMinutes text n
+        → IsErrAnd result (λ fault. (fault ≡ Fault.BadTrace n) ⊎ IsUnread fault) }
+    ensures finds_too_long { (text : List ℕ) (n : ℕ) → S.left source.old ≡ Some text → IsLongText FormOfMinutes text n
+        → IsErrAnd result (λ fault. (fault ≡ Fault.TooLong n) ⊎ IsUnread fault) }
+    ensures counts { (S.faults source.old ≤ S.faults source.new) × (K.faults sink.old ≤ K.faults sink.new) }
+    ensures front { (text : List ℕ) → S.left source.old ≡ Some text → result ≡ Err Fault.WriteFault
+        → (out : List ℕ) × PrintsMinutes text out × AppendsFront (K.held sink.old) (K.held sink.new) out }
+    ensures nothing { IfErr result (λ fault. fault ≢ Fault.WriteFault → sink.new ≡ sink.old) }
+    ensures other { IfErr result (λ fault. (fault ≢ Fault.Done) × (fault ≢ Fault.Usage) × ((device : DeviceName) → fault ≢ Fault.MediumFault device)) }
+{
+    let trace = match read_trace(alloc, source, trace_text::Form::Minutes) {
+        Ok(trace) => trace,
+        Err(fault) => return Err(refusal(fault)),
+    };
+    let Ok(text) = text_of(alloc, &trace) else {
+        return Err(Fault::Memory);
+    };
+    if put_all(sink, text.as_slice()).is_err() {
+        return Err(Fault::WriteFault);
+    }
+    Ok(())
+}
+
+/// The end where no trace was read.
+fn refusal(fault: TraceFault) -> Fault
+    ensures { result ≡ refusal_of fault }
+{
+    match fault {
+        TraceFault::ReadFault => Fault::ReadFault,
+        TraceFault::BadLine(n) => Fault::BadTrace(n),
+        TraceFault::TooLong(n) => Fault::TooLong(n),
+        TraceFault::Memory => Fault::Memory,
+    }
+}
+
+/// The view text of the decided minutes of a trace, no card present.
+fn text_of(alloc: Global, trace: &Trace) -> Result<Vec<u8>, AllocError>
+    requires well { IsWellFormed trace.now.start trace.now.items }
+    requires known { AllByRecursion (IsKnown FormOfMinutes) trace.now.items }
+    ensures { IfOk result (λ text. IsUnitView (minutes_shown trace.now.start trace.now.items) text.items) }
+{
+    let lines = lines_of(alloc, trace)?;
+    lines_text(alloc, lines.as_slice())
+}
