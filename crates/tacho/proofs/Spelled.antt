@@ -1,6 +1,6 @@
 -- The number that a word spells.
-use Rattle.std.proofs.Common.{◌≡◌, ◌∙◌, ℕ, ◌^◌, ◌<◌, ◌≤◌, ◌&&◌, true, false, Bool, List, [], ◌∷◌, refl, ap, sym, arith}
-use Rattle.std.specs.Prelude.{nat_eq, nat_le, decimal, bytes_eq, Option, Some, None}
+use Rattle.std.proofs.Common.{◌≡◌, ◌∙◌, ℕ, ◌^◌, ◌<◌, ◌≤◌, ◌&&◌, true, false, Bool, List, refl, ap, sym, arith}
+use Rattle.std.specs.Prelude.{nat_le, decimal, bytes_eq, Some, None}
 use Rattle.std.specs.Str.Parse.{digits_value}
 use Rattle.std.proofs.lemmas.Bool.Decides.{nat_tests}
 use Rattle.std.proofs.lemmas.Fmt.{decimal_is_IsNumeral}
@@ -49,5 +49,5 @@ not-in-range least most text none =
     let n : ℕ = digits_value 10 text in
     by_test (nat_le least n && nat_le n most && bytes_eq (decimal n) text)
     (λ all. let parts = of-three (nat_le least n) (nat_le n most) (bytes_eq (decimal n) text) all in
-        absurd (none n (sym (same-text (decimal n) text parts.2)) (true-le least n parts.0) (true-le n most parts.1)))
+    absurd (none n (sym (same-text (decimal n) text parts.2)) (true-le least n parts.0) (true-le n most parts.1)))
     (λ not_all. rw not_all refl)

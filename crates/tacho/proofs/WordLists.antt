@@ -1,7 +1,6 @@
 -- The words, one after another.
 use Rattle.std.proofs.Common.{◌≡◌, ℕ, List, [], ◌∷◌, length, refl, arith}
-use Rattle.std.specs.Prelude.{Option, Some, None, slice_get}
-use Rattle.tacho.specs.declared.forms.Form.{Form}
+use Rattle.std.specs.Prelude.{Some, None, slice_get}
 use Rattle.tacho.specs.Forms.{form_of}
 
 pub one-word : (words : List (List ℕ)) (a : List ℕ) → length words ≡ 1 → slice_get words 0 ≡ Some a → words ≡ a ∷ []

@@ -4,7 +4,7 @@ use Rattle.std.specs.Prelude.{◌≡◌, ◌↔◌, ◌≤◌, Option, Some, Non
 use Rattle.tach_media.specs.Medium.{State, Rose}
 use Rattle.trace_model.specs.declared.Card.TheVariants.{A, B}
 use Rattle.run_model.specs.declared.Device.{Device}
-use Rattle.run_model.specs.declared.Device.TheVariants.{Unit as OfUnit, CardA, CardB}
+use Rattle.run_model.specs.declared.Device.TheVariants.{CardA, CardB}
 use Rattle.unit_model.specs.Image.{IsUnit}
 use Rattle.tacho.specs.declared.end.Fault.{Fault}
 use Rattle.tacho.specs.declared.end.Fault.TheVariants.{Done, Usage, ReadFault, WriteFault, MediumFault, Memory}

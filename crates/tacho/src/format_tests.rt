@@ -1,5 +1,5 @@
-use crate::tests::{card_of_ones, unknown, words_of};
 use crate::end::Fault;
+use crate::tests::{card_of_ones, unknown, words_of};
 use crate::top::tacho;
 use crate::words::Words;
 use run_model::Device;
