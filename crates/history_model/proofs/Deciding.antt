@@ -1,14 +1,14 @@
 -- The decided minutes of a power span, as its seconds come.
-use Rattle.std.proofs.Common.{◌≡◌, ℕ, suc, zero, ◌+◌, ◌-◌, ◌*◌, ◌/◌, max, ◌<◌, ◌≤◌, Bool, true, false, cond, List, [], ◌∷◌, ◌++◌, length, map, filter, refl, ap, sym, subst, ◌∙◌, arith, append_assoc, append-nil}
+use Rattle.std.proofs.Common.{◌≡◌, ℕ, suc, ◌+◌, ◌-◌, ◌*◌, ◌/◌, ◌<◌, ◌≤◌, Bool, true, false, cond, List, [], ◌∷◌, ◌++◌, length, map, filter, refl, ap, sym, subst, ◌∙◌, arith, append_assoc, append-nil}
 use Rattle.std.specs.List.{AllByRecursion}
-use Rattle.std.proofs.lemmas.List.{length-append, map-append}
+use Rattle.std.proofs.lemmas.List.{map-append}
 use Rattle.std.proofs.lemmas.List.Elements.{filter-append}
 use Rattle.minute_model.specs.declared.Rule.{Rule}
 use Rattle.minute_model.specs.declared.Rule.TheVariants.{Original, Amended}
 use Rattle.minute_model.specs.declared.Minute.{Minute}
 use Rattle.minute_model.specs.Second.{Second}
-use Rattle.minute_model.specs.Minute.{minutes_ahead, decided, class_of}
-use Rattle.minute_model.specs.Span.{Span, end_of, fed, settled, decided_in, ungiven_of, latest, AreSettled, AreNumbered, count_from}
+use Rattle.minute_model.specs.Minute.{minutes_ahead, class_of}
+use Rattle.minute_model.specs.Span.{Span, end_of, fed, decided_in, ungiven_of, latest, AreSettled, AreNumbered, count_from}
 use Rattle.minute_model.proofs.Counted.{judged, decided-counted, decided-ended, decided-settled, settled-more}
 use Rattle.minute_model.proofs.Spans.{decided-fed_many}
 use Rattle.log_model.specs.Course.{Told}

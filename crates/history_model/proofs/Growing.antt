@@ -1,16 +1,15 @@
 -- How the history grows with one second more: not at all where there is no power or power begins, and else by the minutes that the second decides.
-use Rattle.std.proofs.Common.{◌≡◌, ℕ, ◌+◌, ◌/◌, ◌<◌, Bool, true, false, not, ◌||◌, Option, Some, List, [], ◌∷◌, ◌++◌, length, refl, ap, sym, subst, ◌∙◌, arith, nat_lt, append_assoc, length-append}
+use Rattle.std.proofs.Common.{◌≡◌, ℕ, ◌/◌, ◌<◌, Bool, true, false, not, ◌||◌, Option, List, [], ◌∷◌, ◌++◌, length, refl, ap, sym, subst, ◌∙◌, arith, nat_lt, append_assoc, length-append}
 use Rattle.std.specs.Prelude.{unwrap_or}
 use Rattle.std.specs.List.{AllByRecursion}
 use Rattle.std.proofs.lemmas.Bool.Decides.{nat_tests}
 use Rattle.minute_model.specs.declared.Rule.{Rule}
 use Rattle.minute_model.specs.declared.Minute.{Minute}
 use Rattle.minute_model.specs.Span.{AreNumbered}
-use Rattle.minute_model.specs.Activity.{last}
 use Rattle.minute_model.proofs.Ranges.{last-push}
 use Rattle.log_model.specs.Log.{RunLog}
 use Rattle.log_model.specs.Course.{Told, Went}
-use Rattle.log_model.specs.Spans.{go_on, spans_with, spans_of, seconds_in, first_in, end_in, AreApart}
+use Rattle.log_model.specs.Spans.{go_on, spans_of, seconds_in, first_in, end_in, AreApart}
 use Rattle.log_model.proofs.Spanning.{IsSpanned, IsNext, EndsAt, spans-more, spans-new, spans-on, spans-dark}
 use Rattle.history_model.specs.Minutes.{HistoryMinute}
 use Rattle.history_model.specs.Presence.{Start}

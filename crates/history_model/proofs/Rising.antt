@@ -1,18 +1,16 @@
 -- The minutes of the history rise, and have ended.
-use Rattle.std.proofs.Common.{◌≡◌, ℕ, ◌+◌, ◌*◌, ◌/◌, ◌-◌, ◌<◌, ◌≤◌, Bool, true, false, cond, Option, Some, None, List, [], ◌∷◌, ◌++◌, zero, suc, map, filter, refl, ap, subst, ◌∙◌, sym, arith, nat_le}
-use Rattle.std.proofs.lemmas.Bool.Decides.{nat_tests}
+use Rattle.std.proofs.Common.{◌≡◌, ℕ, ◌+◌, ◌/◌, ◌-◌, ◌≤◌, Bool, true, false, cond, Option, Some, None, List, [], ◌∷◌, ◌++◌, zero, suc, map, filter, arith, nat_le}
 use Rattle.minute_model.specs.declared.Rule.{Rule}
 use Rattle.minute_model.specs.declared.Minute.{Minute}
-use Rattle.minute_model.specs.Span.{Span, ungiven_of, count_from, AreNumbered}
+use Rattle.minute_model.specs.Span.{ungiven_of, count_from, AreNumbered}
 use Rattle.minute_model.proofs.Counted.{decided-minutes, ungiven-most}
-use Rattle.log_model.specs.Log.{RunLog}
 use Rattle.log_model.specs.Course.{Told}
 use Rattle.log_model.specs.Spans.{seconds_in, first_in, end_in, AreApart}
 use Rattle.history_model.specs.Minutes.{HistoryMinute}
 use Rattle.history_model.specs.Presence.{Start}
 use Rattle.history_model.specs.History.{seated, minutes_after, decided_of, span_minutes, limited_to, history_by}
 use Rattle.history_model.specs.Growth.{as_span, Rises}
-use Rattle.history_model.proofs.Deciding.{counted, span-settled, apart-until}
+use Rattle.history_model.proofs.Deciding.{counted, span-settled}
 
 pub rises-from : (a b until : ℕ) (past : List HistoryMinute) → a ≤ b → Rises b past until → Rises a past until
 rises-from a b until [] le h = omega (arith, le, h)

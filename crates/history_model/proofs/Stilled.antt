@@ -1,5 +1,5 @@
 -- A second that comes later changes no minute of the past.
-use Rattle.std.proofs.Common.{◌≡◌, ℕ, ◌<◌, Bool, true, false, Option, None, List, [], ◌∷◌, ◌++◌, map, refl, ap, ◌∙◌, arith, nat_eq, append-nil}
+use Rattle.std.proofs.Common.{◌≡◌, ℕ, ◌<◌, false, Option, None, List, [], ◌∷◌, ◌++◌, map, refl, ap, ◌∙◌, arith, nat_eq, append-nil}
 use Rattle.std.specs.Prelude.{option_to_list, option_map, unwrap_or}
 use Rattle.std.specs.List.{AllByRecursion}
 use Rattle.std.proofs.lemmas.Bool.Decides.{nat_tests}

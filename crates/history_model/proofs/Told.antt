@@ -1,23 +1,23 @@
 -- The laws of one second more, said of the seconds of a trace.
-use Rattle.std.proofs.Common.{◌≡◌, ◌⊎◌, inl, inr, ⊎_elim, ℕ, ◌+◌, ◌<◌, ◌≤◌, ◌/◌, Bool, true, false, ◌||◌, List, [], ◌∷◌, ◌++◌, All, length, refl, ap, sym, subst, ◌∙◌, arith, nat_lt}
+use Rattle.std.proofs.Common.{◌≡◌, ◌⊎◌, inl, inr, ℕ, ◌+◌, ◌<◌, ◌≤◌, ◌/◌, Bool, true, false, ◌||◌, List, [], ◌∷◌, ◌++◌, All, length, refl, ap, sym, subst, ◌∙◌, arith, nat_lt}
 use Rattle.std.proofs.lemmas.Bool.Decides.{nat_tests}
 use Rattle.trace_model.specs.Trace.{TraceSecond}
 use Rattle.minute_model.specs.declared.Rule.{Rule}
 use Rattle.minute_model.specs.declared.Minute.{Minute}
 use Rattle.minute_model.specs.Span.{fed}
 use Rattle.log_model.specs.Log.{RunLog}
-use Rattle.log_model.specs.Course.{Told, Went, went, went_on, second_told}
-use Rattle.log_model.specs.Spans.{spans_of, end_in, AreInOrder, AreApart}
+use Rattle.log_model.specs.Course.{Told, Went, went, second_told}
+use Rattle.log_model.specs.Spans.{spans_of, AreInOrder, AreApart}
 use Rattle.log_model.proofs.Growth.{went-more}
 use Rattle.log_model.proofs.Spanning.{IsSpanned, IsNext, spanned, next-told, order-parts}
 use Rattle.history_model.specs.Minutes.{HistoryMinute}
 use Rattle.history_model.specs.Presence.{Start}
-use Rattle.history_model.specs.History.{decided_of, minutes_after, any_long, history_by, limit_of, unit_history, with_lost}
+use Rattle.history_model.specs.History.{decided_of, minutes_after, any_long, limit_of, unit_history, with_lost}
 use Rattle.history_model.specs.Growth.{closed_limit, as_span, settled_where, picking, newest_span, earlier_spans, closed_history, EndsAtLimit, Rises}
 use Rattle.history_model.specs.Book.{Book, all, found, Follows, AreLost}
 use Rattle.history_model.proofs.Deciding.{span-more, apart-ended}
 use Rattle.history_model.proofs.Stilled.{history-still}
-use Rattle.history_model.proofs.Growing.{AreBefore, Split, split, apart-last, newest-last, earlier-last, dark-history, dark-lost, begun-history, begun-lost, goes, new-minutes, on-grown, on-grown_lost}
+use Rattle.history_model.proofs.Growing.{AreBefore, Split, apart-last, newest-last, earlier-last, dark-history, dark-lost, begun-history, begun-lost, goes, new-minutes, on-grown, on-grown_lost}
 use Rattle.history_model.proofs.BySeconds.{follows-second}
 use Rattle.history_model.proofs.Rising.{rises-spans}
 

@@ -1,5 +1,5 @@
 -- The history of a run as its keeping unfolds (profile).
-use Rattle.std.specs.Prelude.{◌≡◌, ◌⊎◌, ℕ, ◌<◌, Option, Some, None, List, [], ◌∷◌, ◌++◌, All, Contains, filter, nat_le, option_to_list}
+use Rattle.std.specs.Prelude.{◌≡◌, ◌⊎◌, ℕ, ◌<◌, Option, Some, None, List, [], ◌∷◌, ◌++◌, All, Contains, option_to_list}
 use Rattle.history_model.specs.Minutes.{HistoryMinute, up_to}
 
 -- the minutes that the unit has, the one that it may have, and what it might have had at a stop and lost
@@ -66,7 +66,8 @@ pub record Ordered (first due : ℕ) (b : Book) : Type 0 where
 -- the book follows the history (`minutes`) and the histories with a lost minute (`lost`) of the seconds so far
 pub record Follows (minutes : List HistoryMinute) (with_lost : List (List HistoryMinute)) (b : Book) : Type 0 where
   pub front : (rest : List HistoryMinute) × (minutes ≡ all b ++ rest)
-  pub each : (past : List HistoryMinute) → Contains b.lost past → ((rest : List HistoryMinute) × (minutes ≡ past ++ rest)) ⊎ Contains with_lost past
+  pub each : (past : List HistoryMinute) → Contains b.lost past → ((rest : List HistoryMinute) × (minutes ≡ past ++ rest))
+      ⊎ Contains with_lost past
 
 -- a mark: the one at the start, or one of these minutes
 abbrev pub IsMark : ℕ → List HistoryMinute → ℕ → Type 0
@@ -74,4 +75,5 @@ IsMark first past last = (last ≡ first) ⊎ ((i : HistoryMinute) × Contains p
 
 -- each history that was broken off stands in front of the sure minutes, or is one with a lost minute
 abbrev pub AreLost : List (List HistoryMinute) → Book → Type 0
-AreLost with_lost b = (past : List HistoryMinute) → Contains b.lost past → ((rest : List HistoryMinute) × (b.sure ≡ past ++ rest)) ⊎ Contains with_lost past
+AreLost with_lost b = (past : List HistoryMinute) → Contains b.lost past →
+    ((rest : List HistoryMinute) × (b.sure ≡ past ++ rest)) ⊎ Contains with_lost past

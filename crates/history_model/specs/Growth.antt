@@ -14,7 +14,8 @@ use Rattle.history_model.specs.History.{settlings_of, cut_second, limit_by, any_
 
 -- a power span as the rules of minutes see it
 abbrev pub as_span : Rule → List Told → Span
-as_span rule span = record { rule = rule; first = first_in span; seconds = seconds_in span; pending = []; settlings = settlings_of span }
+as_span rule span =
+    record { rule = rule; first = first_in span; seconds = seconds_in span; pending = []; settlings = settlings_of span }
 
 -- a settling at the next second, where there is one
 abbrev pub settled_where : Bool → Span → Span
@@ -23,7 +24,8 @@ settled_where false span = span
 
 -- with these selections for the next second
 abbrev pub picking : List (Slot × Pick) → Span → Span
-picking picks span = record { rule = span.rule; first = span.first; seconds = span.seconds; pending = picks; settlings = span.settlings }
+picking picks span =
+    record { rule = span.rule; first = span.first; seconds = span.seconds; pending = picks; settlings = span.settlings }
 
 -- the spans before the newest
 abbrev pub earlier_spans : List (List Told) → List (List Told)
@@ -46,7 +48,8 @@ closed_history rule start log told spans = history_by rule start (closed_limit l
 -- two logs tell the same limit for each cut that has one
 abbrev pub SameLimits : (log later : RunLog) → List (List Told) → Type 0
 SameLimits log later [] = Unit {0}
-SameLimits log later (span ∷ spans) = (any_long spans ≡ true → closed_limit later span spans ≡ closed_limit log span spans) × SameLimits log later spans
+SameLimits log later (span ∷ spans) =
+    (any_long spans ≡ true → closed_limit later span spans ≡ closed_limit log span spans) × SameLimits log later spans
 
 -- the last of these spans that has more than one second ends with a cut, after which this minute was found to be the last kept one
 pub record EndsAtLimit (log : RunLog) (k : ℕ) (spans : List (List Told)) : Type 0 where

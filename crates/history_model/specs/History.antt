@@ -23,7 +23,8 @@ seated start told past d = record {
 -- decided minutes likewise, one after another
 abbrev pub minutes_after : Start → List Told → List HistoryMinute → List Minute → List HistoryMinute
 minutes_after start told past [] = []
-minutes_after start told past (d ∷ ds) = let i : HistoryMinute = seated start told past d in i ∷ minutes_after start told (past ++ i ∷ []) ds
+minutes_after start told past (d ∷ ds) =
+    let i : HistoryMinute = seated start told past d in i ∷ minutes_after start told (past ++ i ∷ []) ds
 
 -- the seconds of a span that have a settling
 abbrev pub settlings_of : List Told → List ℕ
@@ -66,7 +67,8 @@ lost_minute None past = None
 lost_minute (Some k) past = find (λ i. nat_lt k i.minute) past
 
 -- the history of these spans, each up to its limit, where these minutes came before them
-abbrev pub history_by : Rule → Start → (List Told → List (List Told) → Option ℕ) → List Told → List HistoryMinute → List (List Told) → List HistoryMinute
+abbrev pub history_by : Rule → Start → (List Told → List (List Told) → Option ℕ) → List Told → List HistoryMinute →
+    List (List Told) → List HistoryMinute
 history_by rule start limit told past [] = []
 history_by rule start limit told past (span ∷ later) =
     let more : List HistoryMinute = limited_to (limit span later) (span_minutes rule start told past span) in
@@ -77,12 +79,14 @@ unfoldable pub unit_history : Rule → Start → RunLog → List Told → List H
 unit_history rule start log told = history_by rule start (limit_of log) told [] (spans_of told)
 
 -- a front of the history with the lost minute of a cut, for each of these spans that has one
-abbrev pub lost_by : Rule → Start → (List Told → List (List Told) → Option ℕ) → List Told → List HistoryMinute → List (List Told) → List (List HistoryMinute)
+abbrev pub lost_by : Rule → Start → (List Told → List (List Told) → Option ℕ) → List Told → List HistoryMinute →
+    List (List Told) → List (List HistoryMinute)
 lost_by rule start limit told past [] = []
 lost_by rule start limit told past (span ∷ later) =
     let whole : List HistoryMinute = span_minutes rule start told past span in
     let more : List HistoryMinute = limited_to (limit span later) whole in
-    map (λ i. past ++ (more ++ i ∷ [])) (option_to_list (lost_minute (limit span later) whole)) ++ lost_by rule start limit told (past ++ more) later
+    map (λ i. past ++ (more ++ i ∷ [])) (option_to_list (lost_minute (limit span later) whole))
+        ++ lost_by rule start limit told (past ++ more) later
 
 -- the histories up to a cut's limit, each with its lost minute
 unfoldable pub with_lost : Rule → Start → RunLog → List Told → List (List HistoryMinute)

@@ -24,7 +24,9 @@ is_crew i = is_some i.driver.card && is_some i.codriver.card
 
 -- the entry of a card in a slot, where it was present there
 abbrev pub entry_in : Card → Slot → HistoryMinute → Seat → List Entry
-entry_in card slot i seat = map (λ c. record { minute = i.minute; slot = slot; crew = is_crew i; act = seat.act }) (filter (same_card card) (option_to_list seat.card))
+entry_in card slot i seat =
+    map (λ c. record { minute = i.minute; slot = slot; crew = is_crew i; act = seat.act })
+    (filter (same_card card) (option_to_list seat.card))
 
 -- what a minute says on a card
 abbrev pub on_card : Card → HistoryMinute → List Entry

@@ -11,7 +11,8 @@ use Rattle.log_model.specs.Slots.{Sitting, same_card, in_slot}
 use Rattle.log_model.specs.Course.{Told}
 use Rattle.history_model.specs.Minutes.{HistoryMinute, card_history}
 
--- what a card brings to a run: its entries, those that the unit owes it, its end mark, and the minute of its newest word where no session is open, else 0
+-- what a card brings to a run: its entries, those that the unit owes it, its end mark, and the minute of its newest word where
+-- no session is open, else 0
 pub record CardStart : Type 0 where
   pub entries : List Entry
   pub owed : List Entry
@@ -45,20 +46,25 @@ trimmed_by c entries = max c.mark (closed_at (last entries))
 abbrev pub newest_by : CardStart → List Entry → ℕ
 newest_by c entries = max (max c.mark c.word) (closed_at (last entries))
 
--- The newest minute of a card that is accepted in a second, after these minutes. Words later than the end mark count for good here. The card itself loses them
--- when it is accepted again; that changes no presence, since they are not later than the minute of the first acceptance, and the card left in that minute.
+-- The newest minute of a card that is accepted in a second, after these minutes. Words later than the end mark count for good
+-- here. The card itself loses them when it is accepted again; that changes no presence, since they are not later than the minute
+-- of the first acceptance, and the card left in that minute.
 unfoldable pub newest_minute : Start → List HistoryMinute → Card → ℕ → ℕ
-newest_minute start past card u = newest_by (card_start start card) (expected_entries start card (filter (λ i. nat_lt i.minute (u / 60)) past))
+newest_minute start past card u =
+    newest_by (card_start start card) (expected_entries start card (filter (λ i. nat_lt i.minute (u / 60)) past))
 
--- it was accepted, the minute is later than its newest one by then, and it was not withdrawn, torn out or cut off from power in these seconds of the minute
+-- it was accepted, the minute is later than its newest one by then, and it was not withdrawn, torn out or cut off from power in
+-- these seconds of the minute
 abbrev pub is_present : Start → List HistoryMinute → ℕ → List Told → Card → Option ℕ → Bool
 is_present start past m ts card None = false
-is_present start past m ts card (Some u) = nat_lt (newest_minute start past card u) m && not (list_any (λ t. list_any (same_card card) t.course.left) ts)
+is_present start past m ts card (Some u) =
+    nat_lt (newest_minute start past card u) m && not (list_any (λ t. list_any (same_card card) t.course.left) ts)
 
 -- the card that sits there, where it is present
 abbrev pub present_sitting : Start → List HistoryMinute → ℕ → List Told → Option Sitting → Option Card
 present_sitting start past m ts None = None
-present_sitting start past m ts (Some sitting) = if is_present start past m ts sitting.card sitting.accepted then Some sitting.card else None
+present_sitting start past m ts (Some sitting) =
+    if is_present start past m ts sitting.card sitting.accepted then Some sitting.card else None
 
 -- the seconds of a minute
 abbrev pub in_minute : ℕ → List Told → List Told

@@ -26,7 +26,8 @@ pub fn rules_see_the_span(n: u32)
     ensures { (rule : Rule) (start : Start) (log : RunLog) (ss : List TraceSecond) (s : TraceSecond) → AreInOrder n (ss ++ s ∷ []) →
         let t : Told = second_told log (went log ss).before s in
         let span : List Told = newest_span (spans_of (went log ss).told) in
-        t.lit ≡ true → t.starts ≡ false → as_span rule (span ++ t ∷ []) ≡ fed (picking t.second.picks (settled_where t.course.settled (as_span rule span))) t.second.speed }
+        t.lit ≡ true → t.starts ≡ false → as_span rule (span ++ t ∷ [])
+            ≡ fed (picking t.second.picks (settled_where t.course.settled (as_span rule span))) t.second.speed }
 {}
 
 /// From the third second of a span on, a second adds to the history the minutes that it decides.
@@ -37,12 +38,13 @@ pub fn a_second_adds_what_it_decides(n: u32)
         let before : List HistoryMinute = unit_history rule start log (went log ss).told in
         t.lit ≡ true → t.starts ≡ false → 1 < length span →
         (new : List Minute) × (decided_of rule (span ++ t ∷ []) ≡ decided_of rule span ++ new)
-        × (unit_history rule start log (went log (ss ++ s ∷ [])).told ≡ before ++ minutes_after start (went log (ss ++ s ∷ [])).told before new)
+        × (unit_history rule start log (went log (ss ++ s ∷ [])).told
+            ≡ before ++ minutes_after start (went log (ss ++ s ∷ [])).told before new)
         × (with_lost rule start log (went log (ss ++ s ∷ [])).told ≡ with_lost rule start log (went log ss).told) }
 {}
 
-/// In the second second of a span the limit of the cut before it begins to count, and a book follows in which that minute was found;
-/// its minutes are the history of the spans before.
+/// In the second second of a span the limit of the cut before it begins to count, and a book follows in which that minute was
+/// found; its minutes are the history of the spans before.
 pub fn a_limit_counts_from_the_second_second(n: u32)
     ensures { (rule : Rule) (start : Start) (log : RunLog) (ss : List TraceSecond) (s : TraceSecond) → AreInOrder n (ss ++ s ∷ []) →
         let t : Told = second_told log (went log ss).before s in
@@ -53,7 +55,8 @@ pub fn a_limit_counts_from_the_second_second(n: u32)
         Follows (unit_history rule start log told) (with_lost rule start log told) b → AreLost (with_lost rule start log told) b →
         All (λ i. i.minute ≤ k) b.sure → All (λ i. i.minute ≤ k) (closed_history rule start log told limit.before) →
         ((rest : List HistoryMinute) → unit_history rule start log told ≡ all b ++ rest → All (λ i. k < i.minute) rest) →
-        (Follows (unit_history rule start log later) (with_lost rule start log later) (found k b) × AreLost (with_lost rule start log later) (found k b))
+        (Follows (unit_history rule start log later) (with_lost rule start log later) (found k b)
+            × AreLost (with_lost rule start log later) (found k b))
         × (closed_history rule start log told (earlier_spans (spans_of told)) ≡ all (found k b)) }
 {}
 
@@ -61,13 +64,15 @@ pub fn a_limit_counts_from_the_second_second(n: u32)
 pub fn a_closed_history_stays(n: u32)
     ensures { (rule : Rule) (start : Start) (log : RunLog) (ss : List TraceSecond) (s : TraceSecond) → AreInOrder n (ss ++ s ∷ []) →
         let earlier : List (List Told) = earlier_spans (spans_of (went log ss).told) in
-        closed_history rule start log (went log (ss ++ s ∷ [])).told earlier ≡ closed_history rule start log (went log ss).told earlier }
+        closed_history rule start log (went log (ss ++ s ∷ [])).told earlier
+            ≡ closed_history rule start log (went log ss).told earlier }
 {}
 
 /// What the log tells later of cuts that have no limit yet changes nothing.
 pub fn a_limit_may_be_told_later()
     ensures { (rule : Rule) (start : Start) (log later : RunLog) (told : List Told) → SameLimits log later (spans_of told) →
-        (unit_history rule start later told ≡ unit_history rule start log told) × (with_lost rule start later told ≡ with_lost rule start log told) }
+        (unit_history rule start later told ≡ unit_history rule start log told)
+            × (with_lost rule start later told ≡ with_lost rule start log told) }
 {}
 
 /// The minutes of the history rise, and have ended.
@@ -79,7 +84,9 @@ pub fn minutes_rise(n: u32)
 /// A book in which the next minute of the history is kept, or broken off, follows it; and so does one in which a minute is found
 /// at the next power-on that no sure one is later than.
 pub fn a_book_follows(k: u32)
-    ensures kept { (past rest : List HistoryMinute) (lost : List (List HistoryMinute)) (b : Book) (i : HistoryMinute) → b.maybe ≡ None → past ≡ all b ++ i ∷ rest → Follows past lost b →
+    ensures kept { (past rest : List HistoryMinute) (lost : List (List HistoryMinute)) (b : Book) (i : HistoryMinute) →
+        b.maybe ≡ None → past ≡ all b ++ i ∷ rest → Follows past lost b →
         Follows past lost (kept i b) × Follows past lost (broken i b) }
-    ensures found { (past : List HistoryMinute) (lost : List (List HistoryMinute)) (b : Book) → All (λ i. i.minute ≤ k) b.sure → Follows past lost b → Follows past lost (found k b) }
+    ensures found { (past : List HistoryMinute) (lost : List (List HistoryMinute)) (b : Book) →
+        All (λ i. i.minute ≤ k) b.sure → Follows past lost b → Follows past lost (found k b) }
 {}

@@ -1,6 +1,6 @@
 -- What a unit's image owes to a card is what its view owes: sorting entries and filtering them go together.
 use Rattle.std.proofs.Common.{◌≡◌, ⊎_elim, ℕ, suc, ◌+◌, ◌/◌, ◌<◌, ◌≤◌, Bool, true, false, cond, not, Option, Some, None, List, [], ◌∷◌, filter, find, fold, refl, ap, sym, subst, ◌∙◌, arith}
-use Rattle.std.specs.Prelude.{◌&&◌, ◌==◌, nat_eq, nat_le, nat_lt, option_map}
+use Rattle.std.specs.Prelude.{◌&&◌, ◌==◌, nat_le, nat_lt, option_map}
 use Rattle.std.specs.List.{insert, prefix_len, AllByRecursion, range_with_len}
 use Rattle.std.proofs.lemmas.Bool.{cases_lt}
 use Rattle.std.proofs.lemmas.Bool.Decides.{nat_tests}
@@ -8,7 +8,7 @@ use Rattle.activity_codec.specs.declared.entries.Entry.{Entry}
 use Rattle.unit_model.specs.Image.{last_kept}
 use Rattle.owed_model.specs.Owed as unit
 use Rattle.owed_model.specs.Owed.{Cell, OwedRow, entry_of, holds, cell_entries, placed, in_order, counted, rows_in, row_in, session_in, is_row_of, row_index, row_of, owed_of, owed_to, Row, seen_row, row_view}
-use Rattle.joint_rule.specs.Views.{counts, is_session, owed_in}
+use Rattle.joint_rule.specs.Views.{counts, owed_in}
 
 lt_true : (a b : ℕ) → a < b → nat_lt a b ≡ true
 lt_true a b is = grind (arith, nat_tests)

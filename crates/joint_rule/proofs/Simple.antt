@@ -1,11 +1,11 @@
 -- The laws asked of days and of entries can be met: by the days of a unit, and by entries of which none is lost.
-use Rattle.std.proofs.Common.{◌≡◌, ◌⊎◌, inl, inr, ℕ, ◌-◌, ◌≤◌, Option, Some, None, List, [], ◌∷◌, ◌++◌, length, map, refl, ap, subst, sym, ◌∙◌, arith, length-drop}
+use Rattle.std.proofs.Common.{◌≡◌, inl, inr, ℕ, ◌-◌, ◌≤◌, Option, Some, None, List, [], ◌∷◌, ◌++◌, length, map, ap, subst, sym, ◌∙◌, arith, length-drop}
 use Rattle.std.specs.Prelude.{option_to_list}
 use Rattle.std.proofs.lemmas.List.{map-append}
 use Rattle.std.proofs.lemmas.List.Sums.{fold-append}
 use Rattle.activity_codec.specs.declared.entries.Entry.{Entry}
-use Rattle.unit_model.specs.Days.{Day, UnitMinute, filled, filled_all, newest_of, Each}
-use Rattle.unit_model.specs.Retention.{UnitRetains, retained, last_day}
+use Rattle.unit_model.specs.Days.{Day, filled, filled_all, newest_of, Each}
+use Rattle.unit_model.specs.Retention.{UnitRetains}
 use Rattle.unit_model.proofs.Retention.{kept_retains, given_retains}
 use Rattle.history_model.specs.Minutes.{HistoryMinute}
 use Rattle.joint_rule.specs.Filling.{seen_by_unit, filled_with, FillsDays, KeepsMinute, GivesUpDay}

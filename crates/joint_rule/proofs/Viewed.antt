@@ -1,5 +1,5 @@
 -- A device of bytes, seen by what its images show: what is proved of views holds of it.
-use Rattle.std.proofs.Common.{◌≡◌, ◌⊎◌, inl, inr, ⊎_elim, ℕ, ◌≤◌, true, List, Some, refl, ap, subst, ◌∙◌, sym}
+use Rattle.std.proofs.Common.{◌≡◌, inl, inr, ⊎_elim, ℕ, List, Some, refl, ap, subst, ◌∙◌, sym}
 use Rattle.tach_media.specs.Medium.{State, IsCoherent, LeavesOnly}
 use Rattle.joint_rule.specs.Device.{seen, CoherentViews, LeavesViews}
 

@@ -1,5 +1,5 @@
 -- What a unit's days are to show of the history (profile).
-use Rattle.std.specs.Prelude.{◌≡◌, ℕ, ◌/◌, ◌<◌, Option, List, map, length, is_some, option_to_list}
+use Rattle.std.specs.Prelude.{◌≡◌, ◌/◌, ◌<◌, Option, List, map, length, is_some, option_to_list}
 use Rattle.view_model.specs.declared.State.{State}
 use Rattle.unit_model.specs.Days.{Day, UnitMinute, filled_all, newest_of}
 use Rattle.unit_model.specs.Retention.{UnitRetains, retained, last_day}

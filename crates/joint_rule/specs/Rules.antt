@@ -1,5 +1,5 @@
 -- The rules between two calls: of the unit, of each card, and of the pair.
-use Rattle.std.specs.Prelude.{◌≡◌, ◌⊎◌, ℕ, ◌+◌, ◌/◌, max, ◌<◌, ◌≤◌, true, Option, Some, None, List, [], ◌∷◌, ◌++◌, All, Contains, option_to_list}
+use Rattle.std.specs.Prelude.{◌≡◌, ◌⊎◌, ℕ, ◌+◌, ◌/◌, max, ◌<◌, ◌≤◌, true, Option, Some, None, List, [], ◌∷◌, ◌++◌, All, option_to_list}
 use Rattle.activity_codec.specs.declared.entries.Entry.{Entry}
 use Rattle.trace_model.specs.declared.Card.{Card}
 use Rattle.history_model.specs.Minutes.{HistoryMinute, card_history, on_card, up_to}
@@ -9,8 +9,10 @@ use Rattle.joint_rule.specs.Views.{UnitView, CardView, Held, row, owed, newest_w
 use Rattle.joint_rule.specs.Device.{Seen}
 use Rattle.history_model.specs.Book.{Book, all, IsReached, IsNext, IsMark, Ordered}
 
--- UNIT. An image shows the start and all minutes up to its mark, among them the sure ones, but for days given up; the minute that comes next may have taken one.
-pub record Shows (Fills : Option HistoryMinute → List HistoryMinute → List Day → Type 0) (first : ℕ) (b : Book) (u : UnitView) : Type 0 where
+-- UNIT. An image shows the start and all minutes up to its mark, among them the sure ones, but for days given up; the minute
+-- that comes next may have taken one.
+pub record Shows (Fills : Option HistoryMinute → List HistoryMinute → List Day → Type 0)
+    (first : ℕ) (b : Book) (u : UnitView) : Type 0 where
   pub next : Option HistoryMinute
   pub comes : IsNext b (up_to u.last (all b)) next
   pub days : Fills next (up_to u.last (all b)) u.days
@@ -18,7 +20,8 @@ pub record Shows (Fills : Option HistoryMinute → List HistoryMinute → List D
   pub mark : IsMark first (all b) u.last
 
 -- an image since the start shows the start and minutes that were reached, and has the mark of the last of them
-pub record Showed (Fills : Option HistoryMinute → List HistoryMinute → List Day → Type 0) (first : ℕ) (b : Book) (u : UnitView) : Type 0 where
+pub record Showed (Fills : Option HistoryMinute → List HistoryMinute → List Day → Type 0)
+    (first : ℕ) (b : Book) (u : UnitView) : Type 0 where
   pub past : List HistoryMinute
   pub next : Option HistoryMinute
   pub reached : IsReached b past
@@ -28,7 +31,8 @@ pub record Showed (Fills : Option HistoryMinute → List HistoryMinute → List 
   pub until : All (λ i. i.minute ≤ u.last) past
 
 -- a unit, with power or without: each image shows the minutes, and each since the start
-pub record UnitHolds (Fills : Option HistoryMinute → List HistoryMinute → List Day → Type 0) (first began due : ℕ) (b : Book) (unit : Seen UnitView) : Type 0 where
+pub record UnitHolds (Fills : Option HistoryMinute → List HistoryMinute → List Day → Type 0)
+    (first began due : ℕ) (b : Book) (unit : Seen UnitView) : Type 0 where
   pub later : began ≤ unit.clock
   pub order : Ordered first due b
   pub now : (u : UnitView) → unit.may_leave u → Shows Fills first b u
@@ -40,9 +44,12 @@ IsBefore None i = Unit {0}
 IsBefore (Some next) i = next.minute ≤ i.minute
 
 -- what is asked of `Fills`: it goes on with a minute that is kept, and with one that a day was given up for
-pub record DaysGoOn (Fills : Option HistoryMinute → List HistoryMinute → List Day → Type 0) (Adds Gives : HistoryMinute → List Day → List Day → Type 0) : Type 0 where
-  pub added : (next : Option HistoryMinute) (past : List HistoryMinute) (i : HistoryMinute) (x y : List Day) → Fills next past x → IsBefore next i → Adds i x y → Fills None (past ++ i ∷ []) y
-  pub given : (next : Option HistoryMinute) (past : List HistoryMinute) (i : HistoryMinute) (x y : List Day) → Fills next past x → IsBefore next i → Gives i x y → Fills (Some i) past y
+pub record DaysGoOn (Fills : Option HistoryMinute → List HistoryMinute → List Day → Type 0)
+    (Adds Gives : HistoryMinute → List Day → List Day → Type 0) : Type 0 where
+  pub added : (next : Option HistoryMinute) (past : List HistoryMinute) (i : HistoryMinute) (x y : List Day) →
+      Fills next past x → IsBefore next i → Adds i x y → Fills None (past ++ i ∷ []) y
+  pub given : (next : Option HistoryMinute) (past : List HistoryMinute) (i : HistoryMinute) (x y : List Day) →
+      Fills next past x → IsBefore next i → Gives i x y → Fills (Some i) past y
 
 -- a mark: every view left since its clock is not behind it
 abbrev pub Acknowledges : {V : Type 0} → (V → ℕ) → (minute clock : ℕ) → Seen V → Type 0
@@ -51,7 +58,8 @@ Acknowledges {V} level minute clock s = (clock ≤ s.clock) × ((v : V) → s.le
 -- what a card's string does: entries more, and later ones, that are owed, count as there
 pub record EntriesGoOn (Keeps : List Entry → Held → Type 0) (Adds : Held → List Entry → Held → Type 0) : Type 0 where
   pub added : (full taken : List Entry) (x y : Held) → Keeps full x → Adds x taken y → Keeps (full ++ taken) y
-  pub owed : (full later : List Entry) (mark : ℕ) (x : Held) → All (λ e. e.minute ≤ mark) full → All (λ e. mark < e.minute) later → Keeps full x → Keeps (full ++ later) (record x { entries = x.entries ++ later })
+  pub owed : (full later : List Entry) (mark : ℕ) (x : Held) → All (λ e. e.minute ≤ mark) full →
+      All (λ e. mark < e.minute) later → Keeps full x → Keeps (full ++ later) (record x { entries = x.entries ++ later })
 
 -- what a card brings, of the views at the opening
 pub record Brings (Keeps : List Entry → Held → Type 0) (c : Card) (start : CardStart) (u : UnitView) (x : CardView) : Type 0 where
@@ -65,7 +73,8 @@ pub record Brings (Keeps : List Entry → Held → Type 0) (c : Card) (start : C
   pub newest : x.newest ≡ trimmed_by start x.held.entries
 
 -- PAIR. Between two calls, for each view that a stop may leave of the unit, and of the card.
-pub record Meets (c : Card) (start : CardStart) (Keeps : List Entry → Held → Type 0) (past : List HistoryMinute) (u : UnitView) (x : CardView) : Type 0 where
+pub record Meets (c : Card) (start : CardStart) (Keeps : List Entry → Held → Type 0)
+    (past : List HistoryMinute) (u : UnitView) (x : CardView) : Type 0 where
   -- what the card has had beside its entries at the start; of all of these its entries are left
   pub more : List Entry
   pub left : Keeps (start.entries ++ more) x.held
@@ -144,23 +153,28 @@ pub record Had (c : Card) (start : CardStart) (Keeps : List Entry → Held → T
   pub bound : x.mark ≤ trimmed_by start (start.entries ++ (start.owed ++ card_history c b.sure))
 
 -- a card while the unit is without power, or may be
-pub record CardDark (c : Card) (start : CardStart) (Keeps : List Entry → Held → Type 0) (began : ℕ) (b : Book) (unit : Seen UnitView) (card : Seen CardView) : Type 0 where
+pub record CardDark (c : Card) (start : CardStart) (Keeps : List Entry → Held → Type 0)
+    (began : ℕ) (b : Book) (unit : Seen UnitView) (card : Seen CardView) : Type 0 where
   pub meets : (u : UnitView) (x : CardView) → unit.may_leave u → card.may_leave x → Meets c start Keeps (all b) u x
   pub later : began ≤ card.clock
   pub since : (x : CardView) → card.left_since began x → Had c start Keeps b x
 
 -- and while the unit has power
-pub record CardRule (c : Card) (start : CardStart) (Keeps : List Entry → Held → Type 0) (began : ℕ) (b : Book) (s : Standing) (mine due : List Entry) (unit : Seen UnitView) (card : Seen CardView) : Type 0 where
+pub record CardRule (c : Card) (start : CardStart) (Keeps : List Entry → Held → Type 0)
+    (began : ℕ) (b : Book) (s : Standing)
+    (mine due : List Entry) (unit : Seen UnitView) (card : Seen CardView) : Type 0 where
   pub dark : CardDark c start Keeps began b unit card
   pub cells : (u : UnitView) → unit.may_leave u → Cells c mine u
   pub stands : Stands c start began s due unit card
 
 -- and while the unit has power, no minute is half kept
-pub record UnitRule (Fills : Option HistoryMinute → List HistoryMinute → List Day → Type 0) (first began due : ℕ) (b : Book) (unit : Seen UnitView) : Type 0 where
+pub record UnitRule (Fills : Option HistoryMinute → List HistoryMinute → List Day → Type 0)
+    (first began due : ℕ) (b : Book) (unit : Seen UnitView) : Type 0 where
   pub works : unit.works ≡ true
   pub none : b.maybe ≡ None
   pub holds : UnitHolds Fills first began due b unit
 
 -- a card that was accepted when the unit's last-kept minute was this: nothing up to it is owed to it since
 abbrev pub IsRepaired : Card → ℕ → Seen UnitView → Seen CardView → Type 0
-IsRepaired c k unit card = (u : UnitView) (x : CardView) → unit.may_leave u → card.may_leave x → All (λ e. k < e.minute) (owed c u x)
+IsRepaired c k unit card =
+    (u : UnitView) (x : CardView) → unit.may_leave u → card.may_leave x → All (λ e. k < e.minute) (owed c u x)

@@ -44,7 +44,8 @@ IsPutting c e u v = (v ≡ u) ⊎ ((v ≡ with_row c (cleared e (row c u)) u) �
 abbrev pub IsPut : Card → Entry → UnitView → UnitView → Type 0
 IsPut c e u v = v ≡ with_row c (owing e (row c u)) u
 
--- BEGIN_OWED: the minutes stay and the other card's row is spared; of the own one nothing is said before the end, since a number may have two rows
+-- BEGIN_OWED: the minutes stay and the other card's row is spared; of the own one nothing is said before the end, since a
+-- number may have two rows
 pub record IsBeginning (c : Card) (u v : UnitView) : Type 0 where
   pub days : v.days ≡ u.days
   pub last : v.last ≡ u.last
@@ -59,6 +60,7 @@ pub record IsBegun (c : Card) (session : ℕ) (u v : UnitView) : Type 0 where
 abbrev pub settled_cells : ℕ → Row → List Entry
 settled_cells last r = filter (λ e. nat_le e.minute last) r.cells
 
+-- at each moment
 pub record IsMending (u v : UnitView) : Type 0 where
   pub days : v.days ≡ u.days
   pub last : v.last ≡ u.last
@@ -91,7 +93,8 @@ pub record IsInserting (Adds : Held → List Entry → Held → Type 0) (given :
   pub words : y.session ≡ 0 → IsTrimming x y
 
 -- at its end the session is open, and `newest` is the newest minute that it answers
-pub record IsInserted (Adds : Held → List Entry → Held → Type 0) (given : List Entry) (now newest : ℕ) (x y : CardView) : Type 0 where
+pub record IsInserted (Adds : Held → List Entry → Held → Type 0)
+    (given : List Entry) (now newest : ℕ) (x y : CardView) : Type 0 where
   pub inserting : IsInserting Adds given now x y
   pub session : y.session ≡ now
   pub words : IsTrimming x y
@@ -100,7 +103,8 @@ pub record IsInserted (Adds : Held → List Entry → Held → Type 0) (given : 
 -- KEEP of a card: the end mark tells which side of the commit it is
 pub record IsOnCard (Adds : Held → List Entry → Held → Type 0) (e : Entry) (x y : CardView) : Type 0 where
   pub session : y.session ≡ x.session
-  pub side : ((y.mark ≡ x.mark) × Adds x.held [] y.held × (y.newest ≡ x.newest)) ⊎ ((y.mark ≡ e.minute) × Adds x.held (e ∷ []) y.held × (y.newest ≡ newest_with x (e ∷ [])))
+  pub side : ((y.mark ≡ x.mark) × Adds x.held [] y.held × (y.newest ≡ x.newest))
+      ⊎ ((y.mark ≡ e.minute) × Adds x.held (e ∷ []) y.held × (y.newest ≡ newest_with x (e ∷ [])))
   pub bound : y.mark ≤ y.newest
 
 -- at its end it is on the card, and no word stands beyond

@@ -10,7 +10,8 @@ use Rattle.owed_model.specs.Owed.{Row, row_view}
 use Rattle.card_retention.specs.Expected.{WordDay}
 use Rattle.history_model.specs.Presence.{closed_at}
 
--- what a unit's image shows: its recorded days, its last-kept minute, and the rows of both cards; session 0 and no cells where a number has no row
+-- what a unit's image shows: its recorded days, its last-kept minute, and the rows of both cards; session 0 and no cells where
+-- a number has no row
 pub record UnitView : Type 0 where
   pub days : List Day
   pub last : ℕ
@@ -19,15 +20,16 @@ pub record UnitView : Type 0 where
 
 -- the same of an image, where the cards have these numbers
 unfoldable pub unit_view : (number_a number_b image : List ℕ) → UnitView
-unit_view number_a number_b x = record { days = recorded x; last = last_kept x; row_a = row_view number_a x; row_b = row_view number_b x }
+unit_view number_a number_b x =
+    record { days = recorded x; last = last_kept x; row_a = row_view number_a x; row_b = row_view number_b x }
 
 -- what a card's string holds: the days that are there, and the entries on them
 pub record Held : Type 0 where
   pub days : List WordDay
   pub entries : List Entry
 
--- What a card's image shows: its string, its end mark, its session time; `newest` is the end mark, or the minute after it where the latest word up to the mark is an entry's and that minute lies in its day;
--- `word` is the minute of the newest word that stands there, up to the mark or beyond it
+-- What a card's image shows: its string, its end mark, its session time; `newest` is the end mark, or the minute after it where
+-- the latest word up to the mark is an entry's and that minute lies in its day; `word` is the minute of the newest word that stands there, up to the mark or beyond it
 pub record CardView : Type 0 where
   pub held : Held
   pub mark : ℕ
@@ -54,7 +56,8 @@ abbrev pub with_row : Card → Row → UnitView → UnitView
 with_row A r u = record u { row_a = r }
 with_row B r u = record u { row_b = r }
 
--- a minute counts that is not one of the first day, not earlier than the session's, later than the card's end mark, and not later than the last-kept one
+-- a minute counts that is not one of the first day, not earlier than the session's, later than the card's end mark, and not
+-- later than the last-kept one
 abbrev pub counts : (from mark last : ℕ) → ℕ → Bool
 counts from mark last m = nat_le 1440 m && (nat_le from m && (nat_lt mark m && nat_le m last))
 
@@ -64,7 +67,8 @@ is_session s t = nat_lt 0 s && nat_eq s t
 
 -- what is owed of a row
 abbrev pub owed_in : Row → (last session mark : ℕ) → List Entry
-owed_in r last session mark = if is_session r.session session then filter (λ e. counts (session / 60) mark last e.minute) r.cells else []
+owed_in r last session mark =
+    if is_session r.session session then filter (λ e. counts (session / 60) mark last e.minute) r.cells else []
 
 -- the entries owed to a card
 abbrev pub owed : Card → UnitView → CardView → List Entry

@@ -1,12 +1,12 @@
 -- A run goes on: one second more is one step more, and lines of the log that come later change no earlier second.
-use Rattle.std.proofs.Common.{◌≡◌, ℕ, ◌+◌, Bool, true, false, List, [], ◌∷◌, ◌++◌, All, refl, ap, ◌∙◌, not, is_some, fold}
+use Rattle.std.proofs.Common.{◌≡◌, ℕ, ◌+◌, Bool, false, List, [], ◌∷◌, ◌++◌, All, refl, ap, ◌∙◌, not, is_some, fold}
 use Rattle.std.proofs.lemmas.List.Sums.{fold-append}
 use Rattle.std.proofs.lemmas.List.Elements.{All-head, All-tail}
 use Rattle.activity_codec.specs.declared.values.Slot.{Slot}
 use Rattle.activity_codec.specs.declared.values.Slot.TheVariants.{Driver, CoDriver}
 use Rattle.trace_model.specs.declared.Action.{Action}
 use Rattle.trace_model.specs.Trace.{TraceSecond}
-use Rattle.log_model.specs.Log.{RunLog, Phase, In, Keeping, cut_in, is_torn_in, found_in}
+use Rattle.log_model.specs.Log.{RunLog, Phase, In, Keeping, cut_in}
 use Rattle.log_model.specs.Course.{Course, Told, Went, Before, slot_told, both_told, acted, all_acted, went_on, went, not_begun, Moved, moved_by, unmoved, answered, fresh, cut_told, lit_course, second_told, before_next}
 use Rattle.log_model.specs.Slots.{Slots, refusal}
 use Rattle.log_model.specs.Same.{SameAt}

@@ -1,12 +1,11 @@
 -- The spans of a run whose seconds are numbered: each is numbered, and begins no earlier than the one before it ends.
-use Rattle.std.proofs.Common.{◌≡◌, ℕ, zero, suc, ◌+◌, ◌<◌, ◌≤◌, Bool, true, false, cond, List, [], ◌∷◌, ◌++◌, length, refl, ap, sym, subst, ◌∙◌, arith, not, ◌&&◌, fold, map}
+use Rattle.std.proofs.Common.{◌≡◌, ℕ, zero, suc, ◌+◌, ◌<◌, ◌≤◌, Bool, true, false, cond, List, [], ◌∷◌, ◌++◌, length, refl, ap, sym, subst, ◌∙◌, arith, not, ◌&&◌, fold}
 use Rattle.std.proofs.lemmas.List.Sums.{fold-append}
 use Rattle.std.proofs.lemmas.List.{length-append, map-append}
 use Rattle.trace_model.specs.declared.Action.{Action}
 use Rattle.trace_model.specs.declared.Item.{Item}
 use Rattle.trace_model.specs.declared.Item.TheVariants.{Run, Off, Act}
 use Rattle.trace_model.specs.Trace.{TraceSecond, driven, dark, seconds_from, seconds_of}
-use Rattle.minute_model.specs.Second.{Second}
 use Rattle.minute_model.specs.Span.{AreNumbered}
 use Rattle.minute_model.proofs.Numbered.{numbered-more}
 use Rattle.log_model.specs.Log.{RunLog}

@@ -82,7 +82,8 @@ abbrev pub off_cuts : List ℕ → List Told → List ℕ
 off_cuts failed [] = []
 off_cuts failed (t ∷ []) = []
 off_cuts failed (t ∷ next ∷ told) =
-    (if t.lit && not next.given && not (list_any (nat_eq t.second.number) failed) then t.second.number ∷ [] else []) ++ off_cuts failed (next ∷ told)
+    (if t.lit && not next.given && not (list_any (nat_eq t.second.number) failed) then t.second.number ∷ [] else [])
+        ++ off_cuts failed (next ∷ told)
 
 -- a count of breakdowns rose by so many, or stands at its last value
 abbrev pub RoseBy : ℕ → ℕ → ℕ → Type 0
@@ -108,10 +109,13 @@ CutBy (Some begun) Keeping = Unit {0}
 -- a card that entered was judged once, but where it was torn out at that moment, or a cut came by then
 pub record IsJudged (log : RunLog) (t : Told) (e : Visit) : Type 0 where
   pub once : length (found_of t e) ≤ 1
-  pub missing : found_of t e ≡ [] → (is_torn_in log t.second.number e.phase e.slot ≡ true) ⊎ CutBy (cut_in log t.second.number) e.phase
+  pub missing : found_of t e ≡ [] → (is_torn_in log t.second.number e.phase e.slot ≡ true)
+      ⊎ CutBy (cut_in log t.second.number) e.phase
 
--- the causes of a run log: `before` and `now` count the breakdowns of the devices, `IsVerdict` says what may be found of a card in a second
-pub record HasCauses (IsVerdict : Card → ℕ → Verdict → Type 0) (before now : Device → ℕ) (ss : List TraceSecond) (log : RunLog) : Type 0 where
+-- the causes of a run log: `before` and `now` count the breakdowns of the devices, `IsVerdict` says what may be found of a card
+-- in a second
+pub record HasCauses (IsVerdict : Card → ℕ → Verdict → Type 0) (before now : Device → ℕ)
+    (ss : List TraceSecond) (log : RunLog) : Type 0 where
   -- refusals are exactly those of the slots, the speed and the power
   pub refused : map (λ r. (r.second, r.fault)) log.refused ≡ refusals_of (went log ss).told
   -- a cut stands in a second with power, one in a second, and their seconds increase
@@ -123,10 +127,13 @@ pub record HasCauses (IsVerdict : Card → ℕ → Verdict → Type 0) (before n
   -- each `tear` line that is not refused is a tear
   pub tear_lines : flat_map places (tears false log) ≡ pulled_of (went log ss).told
   -- any other tear is of a card that sits in its slot or is taken out of it, and a breakdown of it
-  pub failed_tears : (slot : Slot) → in_the_slot slot (flat_map places (tears true log)) ≡ in_the_slot slot (torn_of (went log ss).told)
-  pub torn_cards : (card : Card) → RoseBy (length (filter (same_card card) (cards_torn (went log ss).told))) (before (device_of card)) (now (device_of card))
+  pub failed_tears : (slot : Slot) → in_the_slot slot (flat_map places (tears true log))
+      ≡ in_the_slot slot (torn_of (went log ss).told)
+  pub torn_cards : (card : Card) →
+      RoseBy (length (filter (same_card card) (cards_torn (went log ss).told))) (before (device_of card)) (now (device_of card))
   pub begun : (b : Break) → Contains log.breaks b → IsBegun ss b
   -- finds are exactly those of the cards that entered
   pub finds : map (λ f. (f.second, In f.begun, f.slot, f.verdict)) log.finds ≡ finds_of (went log ss).told
   pub judged : (t : Told) (e : Visit) → Contains (went log ss).told t → Contains t.course.entered e → IsJudged log t e
-  pub verdicts : (t : Told) (e : Visit) (v : Verdict) → Contains (went log ss).told t → Contains t.course.found (e, v) → IsVerdict e.card t.second.number v
+  pub verdicts : (t : Told) (e : Visit) (v : Verdict) → Contains (went log ss).told t → Contains t.course.found (e, v) →
+      IsVerdict e.card t.second.number v

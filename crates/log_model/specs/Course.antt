@@ -22,8 +22,9 @@ pub record Visit : Type 0 where
   pub slot : Slot
   pub card : Card
 
--- a second as far as it has gone: its selections, the cards that left or lost power, those that a `tear` line pulled and those that a
--- failed call tore out, those that entered and what was found of them, the refusals, whether there was a settling, and the slots now
+-- a second as far as it has gone: its selections, the cards that left or lost power, those that a `tear` line pulled and those
+-- that a failed call tore out, those that entered and what was found of them, the refusals, whether there was a settling, and
+-- the slots now
 pub record Course : Type 0 where
   pub picks : List (Slot × Pick)
   pub left : List Card
@@ -84,18 +85,23 @@ abbrev pub moved_by : ℕ → Option SlotFault → Action → Slots → Moved
 moved_by n (Some r) a slots = unmoved false
 moved_by n None (Select s pick) slots = unmoved false
 moved_by n None (Insert s card) slots = record { enters = same_slot s; leaving = λ slot. [] }
-moved_by n None (Withdraw s) slots = record { enters = λ slot. false; leaving = λ slot. if same_slot s slot then visits (In (n + 1)) slot slots else [] }
+moved_by n None (Withdraw s) slots =
+    record { enters = λ slot. false; leaving = λ slot. if same_slot s slot then visits (In (n + 1)) slot slots else [] }
 moved_by n None (Tear s) slots = unmoved false
 moved_by n None (Place s ending country region) slots = unmoved false
 
--- what the log tells of a slot at a moment: what was found of its card where one entered, and then whether it, or one that was taken out, was torn
+-- what the log tells of a slot at a moment: what was found of its card where one entered, and then whether it, or one that was
+-- taken out, was torn
 abbrev pub slot_told : RunLog → ℕ → Phase → Moved → Slot → Course → Course
 slot_told log u p moved slot c =
     let verdicts : List Verdict = if moved.enters slot then found_in log u p slot else [] in
-    let judged : Course = record c { found = c.found ++ flat_map (λ visit. map (λ v. (visit, v)) verdicts) (visits p slot c.slots) } in
+    let seen : List (Visit × Verdict) = flat_map (λ visit. map (λ v. (visit, v)) verdicts) (visits p slot c.slots) in
+    let judged : Course = record c { found = c.found ++ seen } in
     if is_torn_in log u p slot then record (leaves slot judged) { torn = c.torn ++ (moved.leaving slot ++ visits p slot c.slots) }
     else (if list_any is_accepting verdicts
-    then record judged { slots = with_slot c.slots slot (option_map {T = Sitting} (λ x. record x { accepted = Some u }) (in_slot c.slots slot)) }
+    then record judged {
+      slots = with_slot c.slots slot (option_map {T = Sitting} (λ x. record x { accepted = Some u }) (in_slot c.slots slot));
+    }
     else judged)
 
 -- the driver slot before the co-driver slot
@@ -119,7 +125,8 @@ is_settling (Place slot ending country region) = false
 abbrev pub acted : RunLog → TraceSecond → ℕ → Action → Course → Course
 acted log s n a c =
     if begins (cut_in log s.number) n
-    then both_told log s.number (In (n + 1)) (moved_by n (refusal c.slots s.speed a) a c.slots) (answered n (refusal c.slots s.speed a) a c)
+    then both_told log s.number
+        (In (n + 1)) (moved_by n (refusal c.slots s.speed a) a c.slots) (answered n (refusal c.slots s.speed a) a c)
     else record c { settled = c.settled || is_settling a }
 
 -- these actions, with n before them
@@ -157,11 +164,22 @@ fresh starts slots = record {
 abbrev pub lit_course : RunLog → TraceSecond → (starts : Bool) → Slots → Course
 lit_course log s starts slots =
     cut_told (is_some (cut_in log s.number))
-    (both_told log s.number Keeping (unmoved false) (all_acted log s 0 s.actions (both_told log s.number (In 0) (unmoved starts) (fresh starts slots))))
+    (both_told log s.number Keeping
+        (unmoved false) (all_acted log s 0 s.actions (both_told log s.number (In 0) (unmoved starts) (fresh starts slots))))
 
 -- a second without power: each action is refused
 abbrev pub dark_course : TraceSecond → Slots → Course
-dark_course s slots = record { picks = []; left = []; pulled = []; torn = []; entered = []; found = []; refused = map (λ a. NoPower) s.actions; settled = false; slots = slots }
+dark_course s slots = record {
+  picks = [];
+  left = [];
+  pulled = [];
+  torn = [];
+  entered = [];
+  found = [];
+  refused = map (λ a. NoPower) s.actions;
+  settled = false;
+  slots = slots;
+}
 
 -- a second as it went: whether the trace gave it power, whether it had power, whether that began or ended with it, and its course
 pub record Told : Type 0 where
@@ -172,7 +190,8 @@ pub record Told : Type 0 where
   pub cut : Bool
   pub course : Course
 
--- what the next second has to know of those before it: whether the last one kept its power, whether power is gone, whether the trace gave the last one power, and the slots
+-- what the next second has to know of those before it: whether the last one kept its power, whether power is gone, whether the
+-- trace gave the last one power, and the slots
 pub record Before : Type 0 where
   pub running : Bool
   pub gone : Bool
@@ -188,7 +207,8 @@ abbrev pub second_told : RunLog → Before → TraceSecond → Told
 second_told log before s =
     if has_power before s
     then (let c : Course = lit_course log s (not before.running) before.slots in
-    record { second = record { number = s.number; speed = s.speed; picks = c.picks }; given = s.has_power; lit = true; starts = not before.running; cut = is_some (cut_in log s.number); course = c })
+    record { second = record { number = s.number; speed = s.speed; picks = c.picks };
+        given = s.has_power; lit = true; starts = not before.running; cut = is_some (cut_in log s.number); course = c })
     else record {
       second = record { number = s.number; speed = s.speed; picks = [] };
       given = s.has_power;
@@ -200,7 +220,8 @@ second_told log before s =
 
 -- what the second after it has to know
 abbrev pub before_next : Before → Told → Before
-before_next before t = record { running = t.lit && not t.cut; gone = t.cut || (before.gone && not t.lit); given = t.given; slots = t.course.slots }
+before_next before t =
+    record { running = t.lit && not t.cut; gone = t.cut || (before.gone && not t.lit); given = t.given; slots = t.course.slots }
 
 -- the seconds so far, and what the next has to know
 pub record Went : Type 0 where
@@ -213,7 +234,10 @@ went_on log w s = let t : Told = second_told log w.before s in record { told = w
 
 -- before the first second
 abbrev pub not_begun : Went
-not_begun = record { told = []; before = record { running = false; gone = false; given = true; slots = record { driver = None; codriver = None } } }
+not_begun = record {
+  told = [];
+  before = record { running = false; gone = false; given = true; slots = record { driver = None; codriver = None } };
+}
 
 -- how the seconds of a trace went
 unfoldable pub went : RunLog → List TraceSecond → Went

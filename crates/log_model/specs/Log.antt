@@ -69,7 +69,8 @@ is_torn_in log u p slot = list_any (tears_here u p slot) log.breaks
 
 -- what was found of a slot's card at a moment of a second
 unfoldable pub found_in : RunLog → ℕ → Phase → Slot → List Verdict
-found_in log u p slot = map (λ f. f.verdict) (filter (λ f. nat_eq f.second u && same_phase (In f.begun) p && same_slot f.slot slot) log.finds)
+found_in log u p slot =
+    map (λ f. f.verdict) (filter (λ f. nat_eq f.second u && same_phase (In f.begun) p && same_slot f.slot slot) log.finds)
 
 -- the card is accepted
 abbrev pub is_accepting : Verdict → Bool

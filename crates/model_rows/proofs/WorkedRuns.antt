@@ -1,5 +1,5 @@
 -- Worked runs with cards: the minutes of the unit, the entries of the cards and the refusals, computed from the lines of a trace and a written run log.
-use Rattle.std.proofs.Common.{◌≡◌, ℕ, zero, suc, ◌+◌, Bool, true, false, Option, Some, None, List, [], ◌∷◌, ◌++◌, map, refl}
+use Rattle.std.proofs.Common.{◌≡◌, ℕ, zero, suc, ◌+◌, true, false, Some, None, List, [], ◌∷◌, ◌++◌, refl}
 use Rattle.activity_codec.specs.declared.entries.Entry.{Entry}
 use Rattle.activity_codec.specs.declared.values.Slot.{Slot}
 use Rattle.activity_codec.specs.declared.values.Slot.TheVariants.{Driver, CoDriver}
@@ -18,13 +18,13 @@ use Rattle.log_model.specs.declared.lines.Break.{Break}
 use Rattle.log_model.specs.declared.lines.Break.TheVariants as torn
 use Rattle.log_model.specs.declared.lines.Find.{Find}
 use Rattle.log_model.specs.declared.lines.SlotFault.{SlotFault}
-use Rattle.log_model.specs.declared.lines.SlotFault.TheVariants.{Moving, Empty, Occupied, NoPower}
+use Rattle.log_model.specs.declared.lines.SlotFault.TheVariants.{Moving, Empty}
 use Rattle.log_model.specs.declared.lines.Verdict.TheVariants.{Accepted}
 use Rattle.log_model.specs.Log.{RunLog, cut_in, kept_after, is_torn_in, found_in}
 use Rattle.log_model.specs.Course.{Told, went}
 use Rattle.log_model.specs.Spans.{spans_of}
-use Rattle.log_model.specs.Causes.{refusals_of, pulled_of}
-use Rattle.history_model.specs.Minutes.{HistoryMinute, Seat, card_history}
+use Rattle.log_model.specs.Causes.{refusals_of}
+use Rattle.history_model.specs.Minutes.{HistoryMinute, card_history}
 use Rattle.history_model.specs.Presence.{Start, CardStart, newest_minute, present_in}
 use Rattle.history_model.specs.History.{unit_history, with_lost}
 

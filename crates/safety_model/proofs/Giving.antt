@@ -1,20 +1,19 @@
 -- The rules between two calls give what is promised at a run's end.
-use Rattle.std.proofs.Common.{◌≡◌, ◌⊎◌, inl, inr, ℕ, ◌≤◌, Option, Some, None, List, [], ◌∷◌, ◌++◌, Contains, refl, ap, subst, ◌∙◌, sym, append_assoc}
+use Rattle.std.proofs.Common.{◌≡◌, inl, inr, ℕ, ◌≤◌, Option, Some, None, List, [], ◌∷◌, ◌++◌, Contains, refl, ap, subst, ◌∙◌, sym, append_assoc}
 use Rattle.activity_codec.specs.declared.entries.Entry.{Entry}
 use Rattle.trace_model.specs.declared.Card.{Card}
 use Rattle.tach_media.specs.Medium.{State}
 use Rattle.unit_model.specs.Days.{Day}
-use Rattle.unit_model.specs.Image.{recorded, last_kept}
+use Rattle.unit_model.specs.Image.{recorded}
 use Rattle.history_model.specs.Minutes.{HistoryMinute, card_history, up_to}
-use Rattle.history_model.specs.Book.{Book, all, IsReached, IsNext, Follows}
-use Rattle.joint_rule.specs.Views.{UnitView, CardView, Held, owed, unit_view}
-use Rattle.joint_rule.specs.Device.{Seen, seen, CoherentViews}
+use Rattle.history_model.specs.Book.{Book, IsReached, IsNext, Follows}
+use Rattle.joint_rule.specs.Views.{Held, owed, unit_view}
+use Rattle.joint_rule.specs.Device.{seen, CoherentViews}
 use Rattle.joint_rule.specs.Rules.{UnitHolds, Showed, Meets, EntriesGoOn, Acknowledges}
 use Rattle.joint_rule.specs.Filling.{FillsDays}
 use Rattle.joint_rule.proofs.Holding.{agree, unit-holds}
 use Rattle.safety_model.specs.Recording.{CardReading, Recording, card_image, brought, history_of, unit_seen, IsPassed, MayCome}
 use Rattle.safety_model.specs.Unit.{UnitShows, HasMinute}
-use Rattle.safety_model.specs.Cards.{expected_to}
 
 -- what a book reached was passed in the history that it follows
 pub passed-reached : (past : List HistoryMinute) (lost : List (List HistoryMinute)) (b : Book) (some : List HistoryMinute) → Follows past lost b → IsReached b some → IsPassed past lost some

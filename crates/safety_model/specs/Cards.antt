@@ -1,5 +1,5 @@
 -- What a run promises of its cards, and of a unit and a card together (profile).
-use Rattle.std.specs.Prelude.{◌≡◌, ◌⊎◌, ℕ, ◌/◌, ◌≤◌, ◌<◌, Bool, true, false, ◌&&◌, Option, Some, None, List, [], ◌∷◌, ◌++◌, All, Contains, length, filter, map, flat_map, nat_lt, nat_le, not}
+use Rattle.std.specs.Prelude.{◌≡◌, ◌⊎◌, ℕ, ◌/◌, ◌≤◌, Bool, true, false, ◌&&◌, None, List, ◌++◌, All, Contains, length, filter, map, flat_map, nat_lt, nat_le, not}
 use Rattle.std.specs.List.{list_any}
 use Rattle.activity_codec.specs.declared.entries.Entry.{Entry}
 use Rattle.activity_codec.specs.declared.values.Slot.{Slot}
@@ -16,10 +16,9 @@ use Rattle.log_model.specs.declared.lines.Verdict.{Verdict}
 use Rattle.log_model.specs.declared.lines.Verdict.TheVariants.{Accepted, NotValid, TimeOverlap}
 use Rattle.log_model.specs.Log.{is_accepting}
 use Rattle.log_model.specs.Slots.{same_card}
-use Rattle.log_model.specs.Course.{Told}
 use Rattle.log_model.specs.Causes.{device_of}
-use Rattle.history_model.specs.Minutes.{HistoryMinute, card_history, up_to}
-use Rattle.joint_rule.specs.Views.{CardView, Held, owed}
+use Rattle.history_model.specs.Minutes.{card_history, up_to}
+use Rattle.joint_rule.specs.Views.{owed}
 use Rattle.safety_model.specs.Recording.{CardReading, Recording, card_image, told_of, brought, history_of, expected_of, unit_seen}
 use Rattle.safety_model.specs.Unit.{marks_of, Increase}
 
@@ -33,8 +32,8 @@ shows_lost u minute (Cut second kept failed begun) = nat_lt second u && nat_lt k
 shows_lost u minute (Tear second slot failed begun late) = false
 
 module _ (cards : CardReading) (r : Recording) (c : Card) where
-  -- An image shows the card's entries at the start and some of the others that are expected, from their front, but for the days that
-  -- overwriting took.
+  -- An image shows the card's entries at the start and some of the others that are expected, from their front, but for the days
+  -- that overwriting took.
   pub record CardShows (x : List ℕ) : Type 0 where
     pub more : List Entry
     pub rest : List Entry
@@ -67,23 +66,26 @@ module _ (cards : CardReading) (r : Recording) (c : Card) where
   pub record CardMarkHolds (card : State) (m : Mark) : Type 0 where
     pub stands : HasEntry m.minute (expected_of cards r c)
     pub clock : m.clock ≤ card.clock
-    pub shown : (x : List ℕ) → card.left_since m.clock x → (s : CardShows x) × HasEntry m.minute ((brought cards r c).entries ++ s.more)
+    pub shown : (x : List ℕ) → card.left_since m.clock x → (s : CardShows x)
+        × HasEntry m.minute ((brought cards r c).entries ++ s.more)
 
   -- the seconds in which it was accepted
   abbrev pub acceptances : List ℕ
-  acceptances = flat_map (λ t. map (λ f. t.second.number) (filter (λ f. same_card c f.0.card && is_accepting f.1) t.course.found)) (told_of r)
+  acceptances = flat_map
+      (λ t. map (λ f. t.second.number) (filter (λ f. same_card c f.0.card && is_accepting f.1) t.course.found)) (told_of r)
 
   -- the unit had kept a minute before a second: it is earlier, and no cut before that second shows that it was not
   abbrev pub was_kept : ℕ → ℕ → Bool
   was_kept u minute = nat_lt minute (u / 60) && not (list_any (shows_lost u minute) r.log.breaks)
 
-  -- after each acceptance every image at the end shows the expected entries up to the minute that the unit had kept last at that time
+  -- after each acceptance every image at the end shows the expected entries up to the minute that the unit had kept last at
+  -- that time
   pub record IsRepaired (x : List ℕ) : Type 0 where
     pub shows : CardShows x
     pub brought : (u : ℕ) → Contains acceptances u → All (λ e. was_kept u e.minute ≡ false) shows.rest
 
-  -- A CARD: what every image that a stop might have left since a clock shows, where it was valid; one that may not be written is as it was;
-  -- the acknowledged minutes increase, and hold; and at the end it is repaired
+  -- A CARD: what every image that a stop might have left since a clock shows, where it was valid; one that may not be written
+  -- is as it was; the acknowledged minutes increase, and hold; and at the end it is repaired
   pub record CardSafe (marks : List Mark) (since : ℕ) (card : State) : Type 0 where
     pub entries : IsValid (card_image r c) → (x : List ℕ) → card.left_since since x → CardShows x
     pub valid : IsValid (card_image r c) → (x : List ℕ) → card.left_since since x → IsValid x
@@ -99,7 +101,8 @@ module _ (cards : CardReading) (r : Recording) (c : Card) where
 
   -- an entry stands in the unit's minutes as present
   abbrev pub StandsInUnit : List UnitMinute → Entry → Type 0
-  StandsInUnit known e = (m : UnitMinute) × Contains known m × (m.minute ≡ e.minute) × (slot_state e.slot m ≡ record { act = e.act; present = true })
+  StandsInUnit known e =
+      (m : UnitMinute) × Contains known m × (m.minute ≡ e.minute) × (slot_state e.slot m ≡ record { act = e.act; present = true })
 
   -- one of these days
   abbrev pub HasDay : List Day → ℕ → Type 0
@@ -111,5 +114,8 @@ module _ (cards : CardReading) (r : Recording) (c : Card) where
 
   -- A UNIT AND A CARD: a card never runs ahead of the unit, and what it lacks is owed to it
   pub record Agree (u x : List ℕ) : Type 0 where
-    pub behind : (e : Entry) → Contains (card_history c (history_of cards r)) e → Contains (cards.view x).held.entries e → HasDay (recorded u) (e.minute / 1440) → StandsInUnit (unit_minutes u) e
-    pub rest : cards.Keeps (card_image r c) (expected_to (last_kept u)) (record (cards.view x).held { entries = (cards.view x).held.entries ++ owed c (unit_seen cards r u) (cards.view x) })
+    pub behind : (e : Entry) → Contains (card_history c (history_of cards r)) e → Contains (cards.view x).held.entries e →
+        HasDay (recorded u) (e.minute / 1440) → StandsInUnit (unit_minutes u) e
+    pub rest : cards.Keeps
+        (card_image r c) (expected_to (last_kept u))
+        (record (cards.view x).held { entries = (cards.view x).held.entries ++ owed c (unit_seen cards r u) (cards.view x) })

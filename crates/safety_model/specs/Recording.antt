@@ -13,8 +13,8 @@ use Rattle.history_model.specs.Presence.{Start, CardStart, expected_entries}
 use Rattle.history_model.specs.History.{unit_history, with_lost}
 use Rattle.joint_rule.specs.Views.{UnitView, CardView, Held, unit_view, owed, beyond}
 
--- how a card's image is read: what it shows, its number, the first file that fails and the place in it, and the time that it stores;
--- and which entries its string keeps, where it began as an image
+-- how a card's image is read: what it shows, its number, the first file that fails and the place in it, and the time that it
+-- stores; and which entries its string keeps, where it began as an image
 pub record CardReading : Type 1 where
   pub view : List ℕ → CardView
   pub number : List ℕ → List ℕ
@@ -58,10 +58,11 @@ module _ (cards : CardReading) (r : Recording) where
   abbrev pub start_of : Start
   start_of = record { card_a = brought A; card_b = brought B }
 
-  -- the unit history of the run, and its histories with a lost minute
+  -- the unit history of the run
   abbrev pub history_of : List HistoryMinute
   history_of = unit_history r.rule start_of r.log (told_of r)
 
+  -- its histories with a lost minute
   abbrev pub lost_of : List (List HistoryMinute)
   lost_of = with_lost r.rule start_of r.log (told_of r)
 
@@ -74,6 +75,7 @@ abbrev pub IsPassed : (past : List HistoryMinute) → (lost : List (List History
 IsPassed past lost some = ((rest : List HistoryMinute) × (past ≡ some ++ rest)) ⊎ Contains lost some
 
 -- the minute that comes next after these, in the history or as a lost one; or none
-abbrev pub MayCome : (past : List HistoryMinute) → (lost : List (List HistoryMinute)) → List HistoryMinute → Option HistoryMinute → Type 0
+abbrev pub MayCome : (past : List HistoryMinute) → (lost : List (List HistoryMinute)) → List HistoryMinute →
+    Option HistoryMinute → Type 0
 MayCome past lost some None = Unit {0}
 MayCome past lost some (Some i) = IsPassed past lost (some ++ i ∷ [])

@@ -41,43 +41,49 @@ first_of [] = None
 first_of (x ∷ xs) = Some x
 
 module _ (cards : CardReading) (r : Recording) where
-  -- What may be found of a card in a second, by its image at the start. It is not valid, and that is the first file that fails; or the second is
-  -- earlier than the time that it stores; or else it is accepted, and so many entries are brought as some images owed to it.
+  -- What may be found of a card in a second, by its image at the start. It is not valid, and that is the first file that fails;
+  -- or the second is earlier than the time that it stores; or else it is accepted, and so many entries are brought as some images owed to it.
   abbrev pub IsVerdict : (unit card : List ℕ → Type 0) → Card → ℕ → Verdict → Type 0
   IsVerdict unit card c u (Accepted replayed) =
       (cards.first_bad (card_image r c) ≡ None) × (cards.stored (card_image r c) ≤ u)
       × ((i x : List ℕ) × unit i × card x × (length (owed c (unit_seen cards r i) (cards.view x)) ≡ replayed))
   IsVerdict unit card c u (NotValid fid place) = cards.first_bad (card_image r c) ≡ Some (fid, place)
-  IsVerdict unit card c u (TimeOverlap stored now) = (cards.first_bad (card_image r c) ≡ None) × (stored ≡ cards.stored (card_image r c)) × (now ≡ u) × (u < stored)
+  IsVerdict unit card c u (TimeOverlap stored now) =
+      (cards.first_bad (card_image r c) ≡ None) × (stored ≡ cards.stored (card_image r c)) × (now ≡ u) × (u < stored)
 
   -- THE CRASH-SAFETY THEOREM: `began` are the devices at the end of the opening, `now` those at the end of the run
   pub record IsSafe (marks : List Mark) (began now : Devices) : Type 0 where
     pub unit : UnitSafe (recorded r.unit) (history_of cards r) (lost_of cards r) marks began.unit.clock now.unit
     pub card : (c : Card) → CardSafe cards r c marks (card_of began c).clock (card_of now c)
-    pub both : (c : Card) (u x : List ℕ) → cards.first_bad (card_image r c) ≡ None → now.unit.may_leave u → (card_of now c).may_leave x → Agree cards r c u x
+    pub both : (c : Card) (u x : List ℕ) → cards.first_bad (card_image r c) ≡ None → now.unit.may_leave u →
+        (card_of now c).may_leave x → Agree cards r c u x
 
   -- CAUSES: each line of the log has its cause, and what happened has its line
   pub record IsCaused (marks : List Mark) (began now : Devices) : Type 0 where
-    pub causes : HasCauses (λ c u v. IsVerdict (now.unit.left_since began.unit.clock) ((card_of now c).left_since (card_of began c).clock) c u v) (breakdowns_of began) (breakdowns_of now) r.trace r.log
+    pub causes : HasCauses
+        (λ c u v. IsVerdict (now.unit.left_since began.unit.clock) ((card_of now c).left_since (card_of began c).clock) c u v)
+        (breakdowns_of began) (breakdowns_of now) r.trace r.log
     pub complete : IsComplete r.rule (start_of cards r) r.log (told_of r) marks
 
-  -- a run begins where the unit's image decodes, the trace's first second lies in a later minute than the last-kept one, and the cards that are
-  -- valid have two numbers
+  -- a run begins where the unit's image decodes, the trace's first second lies in a later minute than the last-kept one, and
+  -- the cards that are valid have two numbers
   pub record MayBegin : Type 0 where
     pub decodes : Decodes r.unit
     pub clock : (s : TraceSecond) → first_of r.trace ≡ Some s → last_kept r.unit < s.number / 60
     pub numbers : cards.first_bad r.card_a ≡ None → cards.first_bad r.card_b ≡ None → cards.number r.card_a ≢ cards.number r.card_b
 
-  -- why it does not: the unit's image fails first at a place; the first second is in no later minute than this last-kept one; both cards carry this number
+  -- it does not where the unit's image fails, first at this place
   abbrev pub IsBadUnit : ℕ → Type 0
   IsBadUnit place = first_bad_place r.unit ≡ Some place
 
+  -- nor where the first second is in no later minute than this last-kept one
   pub record IsClockBack (kept second : ℕ) : Type 0 where
     pub decodes : Decodes r.unit
     pub kept_ : last_kept r.unit ≡ kept
     pub first : (s : TraceSecond) × (first_of r.trace ≡ Some s) × (s.number ≡ second)
     pub back : second / 60 ≤ kept
 
+  -- nor where both cards are valid and carry this number
   pub record IsSameCard (number : List ℕ) : Type 0 where
     pub decodes : Decodes r.unit
     pub clock : (s : TraceSecond) → first_of r.trace ≡ Some s → last_kept r.unit < s.number / 60

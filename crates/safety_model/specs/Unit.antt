@@ -1,5 +1,5 @@
 -- What a run promises of its unit (profile).
-use Rattle.std.specs.Prelude.{◌≡◌, ℕ, ◌<◌, ◌≤◌, Option, List, [], ◌∷◌, Contains, filter, map, Bool, true, false}
+use Rattle.std.specs.Prelude.{◌≡◌, ℕ, ◌<◌, ◌≤◌, Option, List, [], ◌∷◌, Contains, filter, Bool, true, false}
 use Rattle.run_model.specs.declared.Device.{Device}
 use Rattle.run_model.specs.declared.Device.TheVariants.{Unit as Recorder, CardA, CardB}
 use Rattle.tach_media.specs.Medium.{State}
@@ -11,8 +11,8 @@ use Rattle.history_model.specs.Minutes.{HistoryMinute}
 use Rattle.joint_rule.specs.Filling.{FillsDays}
 use Rattle.safety_model.specs.Recording.{IsPassed, MayCome}
 
--- An image shows the start's days filled with these minutes, of which only the oldest days may be gone: the newest 366 are there, or one
--- fewer where the minute that may come next begins a further day.
+-- An image shows the start's days filled with these minutes, of which only the oldest days may be gone: the newest 366 are
+-- there, or one fewer where the minute that may come next begins a further day.
 pub record UnitShows (start : List Day) (past : List HistoryMinute) (lost : List (List HistoryMinute)) (x : List ℕ) : Type 0 where
   pub some : List HistoryMinute
   pub passed : IsPassed past lost some
@@ -47,14 +47,16 @@ abbrev pub HasMinute : ℕ → List HistoryMinute → Type 0
 HasMinute minute past = (i : HistoryMinute) × Contains past i × (i.minute ≡ minute)
 
 -- an acknowledged minute stands in the history, and every image since shows it, unless its day was given up as the oldest
-pub record UnitMarkHolds (start : List Day) (past : List HistoryMinute) (lost : List (List HistoryMinute)) (unit : State) (m : Mark) : Type 0 where
+pub record UnitMarkHolds
+    (start : List Day) (past : List HistoryMinute) (lost : List (List HistoryMinute)) (unit : State) (m : Mark) : Type 0 where
   pub stands : HasMinute m.minute past
   pub clock : m.clock ≤ unit.clock
   pub shown : (x : List ℕ) → unit.left_since m.clock x → (s : UnitShows start past lost x) × HasMinute m.minute s.some
 
--- THE UNIT: every image that a stop might have left since a clock shows the start and a part of the history from its front, and decodes;
--- the acknowledged minutes increase, and hold
-pub record UnitSafe (start : List Day) (past : List HistoryMinute) (lost : List (List HistoryMinute)) (marks : List Mark) (since : ℕ) (unit : State) : Type 0 where
+-- THE UNIT: every image that a stop might have left since a clock shows the start and a part of the history from its front, and
+-- decodes; the acknowledged minutes increase, and hold
+pub record UnitSafe (start : List Day)
+    (past : List HistoryMinute) (lost : List (List HistoryMinute)) (marks : List Mark) (since : ℕ) (unit : State) : Type 0 where
   pub minutes : (x : List ℕ) → unit.left_since since x → UnitShows start past lost x
   pub decodes : (x : List ℕ) → unit.left_since since x → Decodes x
   pub in_order : Increase (marks_of Recorder marks)

@@ -1,4 +1,4 @@
-use Rattle.std.proofs.Common.{◌+◌, List, [], ◌∷◌, ◌++◌, length}
+use Rattle.std.proofs.Common.{◌+◌, [], ◌∷◌, ◌++◌, length}
 use Rattle.log_model.specs.Course.{went, second_told}
 use Rattle.history_model.proofs.Told.{second, more-told, spanned-so_far, told-next}
 use Rattle.history_model.proofs.laws.a_limit_counts_from_the_second_second.Goals as goal
