@@ -1,5 +1,5 @@
 -- The string of days and the vehicles behind a port.
-use Rattle.std.proofs.Common.{◌≡◌, ◌+◌, ◌*◌, ◌≤◌, ℕ, Option, inl, inr, arith, sym, subst}
+use Rattle.std.proofs.Common.{◌≡◌, ◌+◌, ◌*◌, ◌≤◌, Option, inl, inr, arith, sym, subst}
 use Rattle.card_layout.specs.declared.files.Application.{Application}
 use Rattle.card_layout.specs.Files.{files_of, image_size_of}
 use Rattle.card_layout.proofs.Sizes.{largest_image}

@@ -1,5 +1,5 @@
 -- What a call on a card says of the card itself, through whatever it reaches it.
-use Rattle.std.specs.Prelude.{◌≡◌, ℕ, ◌+◌, ◌*◌, ◌≤◌, Bool, true, false, None, Result, Ok, Err, List, take}
+use Rattle.std.specs.Prelude.{◌≡◌, ℕ, ◌+◌, Bool, true, false, None, Result, Ok, Err, List}
 use Rattle.card_layout.specs.declared.files.Application.{Application}
 use Rattle.card_layout.specs.Application.{first_bad_field, application_of}
 use Rattle.tach_media.specs.Medium.{bytes_at, SameOutside}

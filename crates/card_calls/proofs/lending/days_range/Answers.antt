@@ -1,6 +1,5 @@
-use Rattle.std.proofs.Common.{◌≡◌, ◌+◌, ◌*◌, ◌≤◌, ℕ, inl, inr, arith}
+use Rattle.std.proofs.Common.{◌+◌, ◌*◌, ◌≤◌, inl, inr, arith}
 use Rattle.card_layout.specs.declared.files.Application.{Application}
-use Rattle.card_layout.specs.Application.{IsApplication}
 use Rattle.card_layout.specs.Files.{files_of, image_size_of}
 use Rattle.tach_media.specs.Medium.{LiesInside}
 use Rattle.card_commands.specs.Ports.{writable_of}
