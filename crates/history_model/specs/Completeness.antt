@@ -47,4 +47,4 @@ pub record IsComplete (rule : Rule) (start : Start) (log : RunLog) (told : List 
       Contains (decided_of rule span) d →
       Contains (unit_history rule start log told) i → i.minute ≡ d.minute → Contains (on_card card i) e →
       IsMarked marks (device_of card) i.minute
-          ⊎ BrokenIn told card (60 * (i.minute + 1)) (deciding_of rule (settlings_of span) i.minute)
+      ⊎ BrokenIn told card (60 * (i.minute + 1)) (deciding_of rule (settlings_of span) i.minute)

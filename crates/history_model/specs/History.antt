@@ -86,7 +86,7 @@ lost_by rule start limit told past (span ∷ later) =
     let whole : List HistoryMinute = span_minutes rule start told past span in
     let more : List HistoryMinute = limited_to (limit span later) whole in
     map (λ i. past ++ (more ++ i ∷ [])) (option_to_list (lost_minute (limit span later) whole))
-        ++ lost_by rule start limit told (past ++ more) later
+    ++ lost_by rule start limit told (past ++ more) later
 
 -- the histories up to a cut's limit, each with its lost minute
 unfoldable pub with_lost : Rule → Start → RunLog → List Told → List (List HistoryMinute)

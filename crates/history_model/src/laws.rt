@@ -27,7 +27,7 @@ pub fn rules_see_the_span(n: u32)
         let t : Told = second_told log (went log ss).before s in
         let span : List Told = newest_span (spans_of (went log ss).told) in
         t.lit ≡ true → t.starts ≡ false → as_span rule (span ++ t ∷ [])
-            ≡ fed (picking t.second.picks (settled_where t.course.settled (as_span rule span))) t.second.speed }
+        ≡ fed (picking t.second.picks (settled_where t.course.settled (as_span rule span))) t.second.speed }
 {}
 
 /// From the third second of a span on, a second adds to the history the minutes that it decides.
@@ -39,7 +39,7 @@ pub fn a_second_adds_what_it_decides(n: u32)
         t.lit ≡ true → t.starts ≡ false → 1 < length span →
         (new : List Minute) × (decided_of rule (span ++ t ∷ []) ≡ decided_of rule span ++ new)
         × (unit_history rule start log (went log (ss ++ s ∷ [])).told
-            ≡ before ++ minutes_after start (went log (ss ++ s ∷ [])).told before new)
+        ≡ before ++ minutes_after start (went log (ss ++ s ∷ [])).told before new)
         × (with_lost rule start log (went log (ss ++ s ∷ [])).told ≡ with_lost rule start log (went log ss).told) }
 {}
 
@@ -56,7 +56,7 @@ pub fn a_limit_counts_from_the_second_second(n: u32)
         All (λ i. i.minute ≤ k) b.sure → All (λ i. i.minute ≤ k) (closed_history rule start log told limit.before) →
         ((rest : List HistoryMinute) → unit_history rule start log told ≡ all b ++ rest → All (λ i. k < i.minute) rest) →
         (Follows (unit_history rule start log later) (with_lost rule start log later) (found k b)
-            × AreLost (with_lost rule start log later) (found k b))
+        × AreLost (with_lost rule start log later) (found k b))
         × (closed_history rule start log told (earlier_spans (spans_of told)) ≡ all (found k b)) }
 {}
 
@@ -65,14 +65,14 @@ pub fn a_closed_history_stays(n: u32)
     ensures { (rule : Rule) (start : Start) (log : RunLog) (ss : List TraceSecond) (s : TraceSecond) → AreInOrder n (ss ++ s ∷ []) →
         let earlier : List (List Told) = earlier_spans (spans_of (went log ss).told) in
         closed_history rule start log (went log (ss ++ s ∷ [])).told earlier
-            ≡ closed_history rule start log (went log ss).told earlier }
+        ≡ closed_history rule start log (went log ss).told earlier }
 {}
 
 /// What the log tells later of cuts that have no limit yet changes nothing.
 pub fn a_limit_may_be_told_later()
     ensures { (rule : Rule) (start : Start) (log later : RunLog) (told : List Told) → SameLimits log later (spans_of told) →
         (unit_history rule start later told ≡ unit_history rule start log told)
-            × (with_lost rule start later told ≡ with_lost rule start log told) }
+        × (with_lost rule start later told ≡ with_lost rule start log told) }
 {}
 
 /// The minutes of the history rise, and have ended.

@@ -83,7 +83,7 @@ off_cuts failed [] = []
 off_cuts failed (t ∷ []) = []
 off_cuts failed (t ∷ next ∷ told) =
     (if t.lit && not next.given && not (list_any (nat_eq t.second.number) failed) then t.second.number ∷ [] else [])
-        ++ off_cuts failed (next ∷ told)
+    ++ off_cuts failed (next ∷ told)
 
 -- a count of breakdowns rose by so many, or stands at its last value
 abbrev pub RoseBy : ℕ → ℕ → ℕ → Type 0

@@ -126,7 +126,7 @@ abbrev pub acted : RunLog → TraceSecond → ℕ → Action → Course → Cour
 acted log s n a c =
     if begins (cut_in log s.number) n
     then both_told log s.number
-        (In (n + 1)) (moved_by n (refusal c.slots s.speed a) a c.slots) (answered n (refusal c.slots s.speed a) a c)
+    (In (n + 1)) (moved_by n (refusal c.slots s.speed a) a c.slots) (answered n (refusal c.slots s.speed a) a c)
     else record c { settled = c.settled || is_settling a }
 
 -- these actions, with n before them
@@ -165,7 +165,7 @@ abbrev pub lit_course : RunLog → TraceSecond → (starts : Bool) → Slots →
 lit_course log s starts slots =
     cut_told (is_some (cut_in log s.number))
     (both_told log s.number Keeping
-        (unmoved false) (all_acted log s 0 s.actions (both_told log s.number (In 0) (unmoved starts) (fresh starts slots))))
+    (unmoved false) (all_acted log s 0 s.actions (both_told log s.number (In 0) (unmoved starts) (fresh starts slots))))
 
 -- a second without power: each action is refused
 abbrev pub dark_course : TraceSecond → Slots → Course
@@ -207,8 +207,14 @@ abbrev pub second_told : RunLog → Before → TraceSecond → Told
 second_told log before s =
     if has_power before s
     then (let c : Course = lit_course log s (not before.running) before.slots in
-    record { second = record { number = s.number; speed = s.speed; picks = c.picks };
-        given = s.has_power; lit = true; starts = not before.running; cut = is_some (cut_in log s.number); course = c })
+    record {
+      second = record { number = s.number; speed = s.speed; picks = c.picks };
+      given = s.has_power;
+      lit = true;
+      starts = not before.running;
+      cut = is_some (cut_in log s.number);
+      course = c;
+    })
     else record {
       second = record { number = s.number; speed = s.speed; picks = [] };
       given = s.has_power;
