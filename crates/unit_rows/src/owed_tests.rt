@@ -109,7 +109,8 @@ fn put<M: Medium>(journal: &mut Journal, unit: &mut M, digit: u8, minute: u32) -
     ensures agrees { OnOk result (IfSome (M.state unit.new).image (Agrees journal.new)) }
 {
     let number = card(digit);
-    if !journal.has_row(unit, &number)? {
+    let found = journal.has_row(unit, &number)?;
+    if !found {
         return Err(Failed);
     }
     let entry = entry(minute);
