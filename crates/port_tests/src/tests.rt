@@ -4,6 +4,8 @@ ghost use Rattle.card_layout.specs.Files.{image_size_of};
 ghost use Rattle.card_commands.specs.Ports.{writable_of};
 ghost use Rattle.tach_media.specs.Medium.{LiesInside};
 
+use crate::images::{blank, full, two_days};
+use crate::keeping::{Figures, VEHICLE, card, new_day, word};
 use card_commands::{Port, SimCard};
 use card_files::file_range;
 use card_layout::{Application, Fid, Range};
@@ -11,31 +13,11 @@ use cyclic_days::{Days, DaysFault};
 use gated_ring::{Ring, RingFault};
 use std::alloc::Global;
 use std::test::Fail;
-use tach_media::{Chip, Medium, MemMedium, Memory};
+use tach_media::{Chip, Medium, MemMedium};
 use tacho_types::TimeReal;
 
 // 2010-03-01
 const MARCH: u32 = 1267401600;
-
-// Application_Identification of a card of 6 events and 12 faults of each type, a string of 5544 bytes, 84 vehicles and
-// 84 places.
-const SMALLEST: [u8; 10] = [0x01, 0x00, 0x00, 0x06, 0x0C, 0x15, 0xA8, 0x00, 0x54, 0x54];
-
-// An entry of a vehicle that is first used at a time.
-const VEHICLE: [u8; 31] = [
-    0, 0, 0, 0, 0, 0, 0x4B, 0x8B, 0x03, 0x80, 0, 0, 0, 0, 0, 0, 0, 0, 0, 0, 0, 0, 0, 0, 0, 0, 0, 0,
-    0, 0, 9,
-];
-
-// The image of a blank card of these sizes.
-fn image(alloc: Global) -> Result<Vec<u8>, Memory>
-    ensures { IfOk result (λ image. vec_len image ≡ 24959) }
-{
-    let mut image = vec![in alloc; 0u8; 24959]?;
-    let place = &mut image[33..43];
-    place.copy_from_slice(&SMALLEST);
-    Ok(image)
-}
 
 // Begins a day, and adds a word: where the newest day stands, and how many words it has.
 fn day_in<M: Medium>(medium: &mut M, range: Range) -> Result<Option<(u32, u16)>, DaysFault>
@@ -78,7 +60,7 @@ fn day_on<C: Chip>(card: &mut C) -> Result<Option<(u32, u16)>, Fail>
 #[test]
 fn a_day_through_a_port(rt: HostRuntime) -> Result<(), Fail> {
     let alloc = rt.alloc();
-    let medium = MemMedium::new(alloc, image(alloc)?, 64, 1024, Vec::new(alloc))?;
+    let medium = MemMedium::new(alloc, blank(alloc)?, 64, 1024, Vec::new(alloc))?;
     let mut card = SimCard::new(medium);
     assert_eq!(rt; day_on(&mut card)?, Some((0, 2)));
     Ok(())
@@ -129,8 +111,53 @@ fn entry_on<C: Chip>(card: &mut C) -> Result<(Option<u32>, u8), Fail>
 #[test]
 fn an_entry_through_a_port(rt: HostRuntime) -> Result<(), Fail> {
     let alloc = rt.alloc();
-    let medium = MemMedium::new(alloc, image(alloc)?, 64, 1024, Vec::new(alloc))?;
+    let medium = MemMedium::new(alloc, blank(alloc)?, 64, 1024, Vec::new(alloc))?;
     let mut card = SimCard::new(medium);
     assert_eq!(rt; entry_on(&mut card)?, (Some(0), 9));
+    Ok(())
+}
+
+// A minute takes at most this many commands, and this many writes.
+const MOST_COMMANDS: u64 = 60;
+
+const MOST_WRITES: u64 = 17;
+
+// What a minute that begins a day takes of a card with this image.
+fn figures(alloc: Global, image: Vec<u8>) -> Result<Figures, Fail> {
+    let mut card = card(alloc, image)?;
+    if card.size() < 24959 {
+        return Err(Fail::from("no card"));
+    }
+    match new_day(&mut card) {
+        Ok(figures) => Ok(figures),
+        Err(_) => Err(Fail::from("stopped")),
+    }
+}
+
+#[test]
+fn a_minute_takes_few_commands(rt: HostRuntime) -> Result<(), Fail> {
+    let alloc = rt.alloc();
+    let room = figures(alloc, two_days(alloc)?)?;
+    let full_one = figures(alloc, full(alloc, 0)?)?;
+    let round = figures(alloc, full(alloc, 12)?)?;
+    for figures in [room, full_one, round] {
+        assert!(rt; figures.commands <= MOST_COMMANDS, "{figures:?}");
+        assert!(rt; figures.writes <= MOST_WRITES, "{figures:?}");
+    }
+    Ok(())
+}
+
+#[test]
+fn a_word_reads_nothing_where_there_is_room(rt: HostRuntime) -> Result<(), Fail> {
+    let alloc = rt.alloc();
+    let mut card = card(alloc, two_days(alloc)?)?;
+    if card.size() < 24959 {
+        return Err(Fail::from("no card"));
+    }
+    // the directory and the file are selected, and two writes
+    match word(&mut card) {
+        Ok(figures) => assert_eq!(rt; (figures.commands, figures.writes), (4, 2)),
+        Err(_) => return Err(Fail::from("stopped")),
+    }
     Ok(())
 }
