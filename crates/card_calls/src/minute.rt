@@ -24,6 +24,48 @@ pub struct NewDay {
 }
 
 impl Session {
+    // Writes the word that closes a gap, and the day behind it.
+    fn keep_words<M: Medium>(&mut self, medium: &mut M, day: &NewDay) -> Result<(), Failed>
+        requires fits { FileFitsIn self.old.days.shape (M.state medium.old) }
+        requires writable { LiesInside (M.state medium.old).writable self.old.days.shape.base (4 + self.old.days.shape.size) }
+        ensures sizes { self.new.application ≡ self.old.application }
+        ensures shape { self.new.days.shape ≡ self.old.days.shape }
+        ensures most { (M.state medium.new).clock ≤ (M.state medium.old).clock + 11 }
+        ensures leaves { LeavesOnly (M.state medium.old) (M.state medium.new) Anything }
+        ensures cause { HasCause (M.state medium.old) (M.state medium.new) (is_err result) }
+    {
+        self.days.add_change(medium, day.closing)?;
+        self.days.begin_day(medium, day.date, &day.words)
+    }
+
+    // Writes the distance of the day, and a vehicle's entry.
+    fn keep_distance<M: Medium>(
+        &mut self,
+        medium: &mut M,
+        vehicles: &mut Ring,
+        day: &NewDay,
+        entry: &[u8],
+    ) -> Result<(), Failed>
+        requires days_fit { FileFitsIn self.old.days.shape (M.state medium.old) }
+        requires days_writable { LiesInside (M.state medium.old).writable self.old.days.shape.base (4 + self.old.days.shape.size) }
+        requires ring_fits { vehicles.old.base + size_of vehicles.old ≤ (M.state medium.old).size }
+        requires ring_writable { LiesInside (M.state medium.old).writable vehicles.old.base (size_of vehicles.old) }
+        requires pointer { 0 < vehicles.old.pointer_width }
+        requires gate { vehicles.old.gate + 4 ≤ length entry.now }
+        requires width { length entry.now ≤ vehicles.old.width }
+        requires short { length entry.now ≤ 255 }
+        requires open { from_be_bytes w32 (gate_bytes vehicles.old entry.now) ≢ 0 }
+        ensures sizes { self.new.application ≡ self.old.application }
+        ensures ring { vehicles.new ≡ vehicles.old }
+        ensures most { (M.state medium.new).clock ≤ (M.state medium.old).clock + 6 }
+        ensures leaves { LeavesOnly (M.state medium.old) (M.state medium.new) Anything }
+        ensures cause { HasCause (M.state medium.old) (M.state medium.new) (is_err result) }
+    {
+        self.days.set_distance(medium, day.distance)?;
+        vehicles.add(medium, entry)?;
+        Ok(())
+    }
+
     /// Writes such a minute, and a vehicle's entry. No minute takes more writes; these are at most 17.
     pub fn keep_new_day<M: Medium>(
         &mut self,
@@ -47,11 +89,8 @@ impl Session {
         ensures leaves { LeavesOnly (M.state medium.old) (M.state medium.new) Anything }
         ensures cause { HasCause (M.state medium.old) (M.state medium.new) (is_err result) }
     {
-        self.days.add_change(medium, day.closing)?;
-        self.days.begin_day(medium, day.date, &day.words)?;
-        self.days.set_distance(medium, day.distance)?;
-        vehicles.add(medium, entry)?;
-        Ok(())
+        self.keep_words(medium, day)?;
+        self.keep_distance(medium, vehicles, day, entry)
     }
 
     /// The same on a card, through a port of its own.
