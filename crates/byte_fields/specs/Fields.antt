@@ -51,3 +51,7 @@ abbrev pub HaveWidths : List ℕ → List (List ℕ) → Type 0
 HaveWidths [] fields = fields ≡ []
 HaveWidths (width ∷ widths) [] = ⊥
 HaveWidths (width ∷ widths) (field ∷ fields) = (length field ≡ width) × HaveWidths widths fields
+
+-- the place of the k-th field of these widths
+abbrev pub place_in : List ℕ → ℕ → ℕ
+place_in widths k = total_width (take k widths)

@@ -1,8 +1,8 @@
 -- What a call on a card says of the card itself, through whatever it reaches it.
 use Rattle.std.specs.Prelude.{◌≡◌, ℕ, ◌+◌, Bool, true, false, None, Result, Ok, Err, List}
 use Rattle.card_layout.specs.declared.files.Application.{Application}
-use Rattle.card_layout.specs.Application.{first_bad_field, application_of}
-use Rattle.tach_media.specs.Medium.{bytes_at, SameOutside}
+use Rattle.card_layout.specs.Application.{first_bad_field, application_of, application_in}
+use Rattle.tach_media.specs.Medium.{SameOutside}
 use Rattle.cyclic_days.specs.Moments.{IsChanging}
 use Rattle.card_calls.specs.Strings.{days_at}
 use Rattle.card_calls.specs.declared.lending.Stop.{Stop}
@@ -10,11 +10,11 @@ use Rattle.card_calls.specs.declared.lending.Stop.TheVariants.{Failed, Bad}
 
 -- the sizes that an image tells
 abbrev pub sizes_in : List ℕ → Application
-sizes_in x = application_of (bytes_at x 33 10)
+sizes_in x = application_of (application_in x)
 
 -- a moment of a call that adds a word to the newest day of a card
 pub record IsAddingWord (word : ℕ) (x c : List ℕ) : Type 0 where
-  pub good : first_bad_field (bytes_at x 33 10) ≡ None
+  pub good : first_bad_field (application_in x) ≡ None
   pub changing : IsChanging (days_at (sizes_in x)) word x c
 
 -- a call on the card failed

@@ -2,7 +2,7 @@
 use Rattle.std.specs.Prelude.{ℕ, List, Option, Some, None}
 use Rattle.std.specs.Option.{ForSome}
 use Rattle.tach_media.specs.Medium.{State}
-use Rattle.tach_media.specs.declared.command.CardState.{CardState}
+use Rattle.chip_model.specs.declared.command.CardState.{CardState}
 use Rattle.card_commands.specs.Ports.{IsPort}
 use Rattle.card_calls.specs.declared.session.Session.{Session}
 use Rattle.card_calls.specs.Lending.{IsInDays}

@@ -8,7 +8,7 @@ ghost use Rattle.card_calls.specs.Strings.{days_at};
 ghost use Rattle.card_calls.specs.Lending.{sizes_in, IsAddingWord, has_failed};
 
 use card_commands::{Port, PortFault, read_sizes};
-use card_layout::{Application, Range};
+use card_layout::{Application, LARGEST_IMAGE, Range};
 use cyclic_days::{Days, DaysFault};
 use gated_ring::RingFault;
 use tach_media::{Chip, Failed, Medium};
@@ -99,7 +99,7 @@ pub fn add_word_by<C: Chip>(card: &mut C, app: Application, word: u16) -> Result
 
 /// Adds a word to the card's newest day.
 pub fn add_word_on<C: Chip>(card: &mut C, word: u16) -> Result<(), Stop>
-    requires { 24959 ≤ (C.state card.old).size }
+    requires { LARGEST_IMAGE ≤ (C.state card.old).size }
     ensures moments { LeavesOnly (C.state card.old) (C.state card.new) (IsAddingWord word) }
     ensures changed { OnOk result (IfSome (C.state card.old).image (λ x. IfSome (C.state card.new).image (IsChanged (days_at (sizes_in x)) word x))) }
     ensures cause { HasCause (C.state card.old) (C.state card.new) (has_failed result) }

@@ -1,8 +1,7 @@
 ghost use Rattle.std.specs.Prelude.{◌≡◌, ◌≢◌, ◌≤◌, ◌<◌, ◌+◌, None, length, is_err};
-ghost use Rattle.std.specs.Int.{from_be_bytes, w32};
 ghost use Rattle.tach_media.specs.Medium.{LiesInside, LeavesOnly, HasCause};
 ghost use Rattle.card_commands.specs.Ports.{IsPort};
-ghost use Rattle.gated_ring.specs.Ring.{size_of, gate_bytes};
+ghost use Rattle.gated_ring.specs.Ring.{size_of, gate_number};
 ghost use Rattle.cyclic_days.specs.Moments.{FileFitsIn};
 ghost use Rattle.card_calls.specs.Lending.{Anything};
 ghost use Rattle.card_calls.specs.Strings.{vehicles_at};
@@ -54,7 +53,7 @@ impl Session {
         requires gate { vehicles.old.gate + 4 ≤ length entry.now }
         requires width { length entry.now ≤ vehicles.old.width }
         requires short { length entry.now ≤ 255 }
-        requires open { from_be_bytes w32 (gate_bytes vehicles.old entry.now) ≢ 0 }
+        requires open { gate_number vehicles.old entry.now ≢ 0 }
         ensures sizes { self.new.application ≡ self.old.application }
         ensures ring { vehicles.new ≡ vehicles.old }
         ensures most { (M.state medium.new).clock ≤ (M.state medium.old).clock + 6 }
@@ -82,7 +81,7 @@ impl Session {
         requires gate { vehicles.old.gate + 4 ≤ length entry.now }
         requires width { length entry.now ≤ vehicles.old.width }
         requires short { length entry.now ≤ 255 }
-        requires open { from_be_bytes w32 (gate_bytes vehicles.old entry.now) ≢ 0 }
+        requires open { gate_number vehicles.old entry.now ≢ 0 }
         ensures sizes { self.new.application ≡ self.old.application }
         ensures ring { vehicles.new ≡ vehicles.old }
         ensures most { (M.state medium.new).clock ≤ (M.state medium.old).clock + 17 }
@@ -105,7 +104,7 @@ impl Session {
         requires vehicles { vehicles.old ≡ vehicles_at self.old.application }
         requires head { 10 ≤ length entry.now }
         requires width { length entry.now ≤ 31 }
-        requires open { from_be_bytes w32 (gate_bytes vehicles.old entry.now) ≢ 0 }
+        requires open { gate_number vehicles.old entry.now ≢ 0 }
         ensures sizes { self.new.application ≡ self.old.application }
         ensures ring { vehicles.new ≡ vehicles.old }
         ensures port { IsPort self.new.application None (C.card card.new) (C.state card.new) }

@@ -9,14 +9,14 @@ ghost use Rattle.card_calls.specs.Strings.{vehicles_at};
 use crate::lending::days_range;
 use crate::{Session, Stop};
 use card_commands::{Port, read_sizes};
-use card_layout::Application;
+use card_layout::{Application, LARGEST_IMAGE};
 use cyclic_days::Days;
 use gated_ring::Ring;
 use tach_media::Chip;
 
 /// Opens a card, which writes nothing.
 pub fn open<C: Chip>(card: &mut C) -> Result<Session, Stop>
-    requires { 24959 ≤ (C.state card.old).size }
+    requires { LARGEST_IMAGE ≤ (C.state card.old).size }
     ensures sizes { IfOk result (λ session. IsPort session.application None (C.card card.new) (C.state card.new)) }
     ensures reads { Reads (C.state card.old) (C.state card.new) (has_failed result) }
 {

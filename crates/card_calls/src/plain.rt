@@ -8,6 +8,7 @@ ghost use Rattle.card_calls.specs.Sessions.{IsInSession, IsCardHeld};
 
 use crate::{Session, Stop, open};
 use card_commands::Port;
+use card_layout::LARGEST_IMAGE;
 use tach_media::{Chip, Failed};
 
 impl Session {
@@ -47,8 +48,8 @@ fn write<C: Chip>(session: &mut Option<Session>, card: &mut C, word: u16) -> Res
 impl Sessions {
     /// Takes a minute: the first word puts the cards in, each later one is written on both.
     pub fn keep<C: Chip>(&mut self, card_a: &mut C, card_b: &mut C, word: u16) -> Result<(), Stop>
-        requires a_size { 24959 ≤ (C.state card_a.old).size }
-        requires b_size { 24959 ≤ (C.state card_b.old).size }
+        requires a_size { LARGEST_IMAGE ≤ (C.state card_a.old).size }
+        requires b_size { LARGEST_IMAGE ≤ (C.state card_b.old).size }
         requires a_held { IsCardHeld self.old.a (C.card card_a.old) (C.state card_a.old) }
         requires b_held { IsCardHeld self.old.b (C.card card_b.old) (C.state card_b.old) }
         ensures a_held { OnOk result (IsCardHeld self.new.a (C.card card_a.new) (C.state card_a.new)) }
@@ -68,8 +69,8 @@ impl Sessions {
 
 /// A run over two cards.
 pub fn run_plain<C: Chip>(card_a: &mut C, card_b: &mut C, words: &[u16]) -> Result<(), Stop>
-    requires a_size { 24959 ≤ (C.state card_a.old).size }
-    requires b_size { 24959 ≤ (C.state card_b.old).size }
+    requires a_size { LARGEST_IMAGE ≤ (C.state card_a.old).size }
+    requires b_size { LARGEST_IMAGE ≤ (C.state card_b.old).size }
     ensures a { LeavesOnly (C.state card_a.old) (C.state card_a.new) Anything }
     ensures b { LeavesOnly (C.state card_b.old) (C.state card_b.new) Anything }
 {

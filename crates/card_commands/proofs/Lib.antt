@@ -6,3 +6,4 @@ pub mod Selecting
 pub mod FileLemmas
 pub mod PortLemmas
 pub mod Pieces
+pub mod Updated

@@ -2,7 +2,8 @@
 use Rattle.std.proofs.Common.{◌≡◌, ℕ, ◌+◌, ◌-◌, ◌≤◌, List, length, take, drop, Option, Some, None, IfSome, refl, sym, ◌∙◌, ap, subst, arith}
 use Rattle.std.proofs.lemmas.List.{take-take, drop-drop, drop-take}
 use Rattle.tach_media.specs.Medium.{State, IsCoherent, bytes_at}
-use Rattle.tach_media.specs.declared.command.CardState.{CardState}
+use Rattle.tach_media.proofs.Runs.{if_told}
+use Rattle.chip_model.specs.declared.command.CardState.{CardState}
 use Rattle.card_commands.specs.Performing.{IsSound}
 
 -- a part of the file is a part of the image
@@ -21,13 +22,9 @@ pub where_some : {A : Type 0} {o : Option A} (P : A → Type 0) {x : A} → o �
 where_some {A} {o} P {x} is holds = subst (λ (p : Option A). IfSome p P) (sym is) holds
 
 -- what is so of a told image
-pub where_told : (o : Option (List ℕ)) {P : List ℕ → Type 0} (Q : List ℕ → Type 0) → IfSome o P → ((x : List ℕ) → P x → Q x) → IfSome o Q
-where_told None Q said weaker = said
-where_told (Some x) Q said weaker = weaker x said
-
-pub if_told : (o : Option (List ℕ)) (P : List ℕ → Type 0) → ((x : List ℕ) → o ≡ Some x → P x) → IfSome o P
-if_told None P holds = tt
-if_told (Some x) P holds = holds x refl
+pub told_weaker : (o : Option (List ℕ)) {P : List ℕ → Type 0} (Q : List ℕ → Type 0) → IfSome o P → ((x : List ℕ) → P x → Q x) → IfSome o Q
+told_weaker None Q said weaker = said
+told_weaker (Some x) Q said weaker = weaker x said
 
 -- the bytes by which a card goes stand in its image
 pub goes_by_image : (card : CardState) (works : _) (s : State) (bytes : List ℕ) → IsCoherent s → IsSound card works s → card.application ≡ Some bytes → IfSome s.image (λ x. bytes ≡ bytes_at x 33 10)

@@ -5,13 +5,13 @@ use Rattle.std.proofs.lemmas.Slice.{take-put_mid}
 use Rattle.std.proofs.Math.Seq.{take-append-add}
 use borrow.Rule.Slice.PartMut.{put_mid}
 use Rattle.tach_media.specs.Medium.{State, LeavesOnly, IsPartlyWritten, HasCause, bytes_at, most_writes}
-use Rattle.tach_media.specs.Chip.{Writes}
+use Rattle.tach_media.specs.Chip.{WritesAt}
 use Rattle.tach_media.proofs.Images.{part_split}
 
 -- a write that failed
-pub fails : (place : ℕ) (bytes : List ℕ) (old new : State) (failed : Bool) → true ≡ failed → LeavesOnly old new (IsPartlyWritten place bytes) → new.clock ≤ old.clock + most_writes (length bytes) → HasCause old new true → Writes place bytes old new failed
+pub fails : (place : ℕ) (bytes : List ℕ) (old new : State) (failed : Bool) → true ≡ failed → LeavesOnly old new (IsPartlyWritten place bytes) → new.clock ≤ old.clock + most_writes (length bytes) → HasCause old new true → WritesAt place bytes old new failed
 fails place bytes old new failed is leaves few cause =
-    subst (λ (f : Bool). Writes place bytes old new f) is (record { written = λ none. absurd (cc); leaves = leaves; settled = λ none. absurd (cc); clock = λ none. absurd (cc); few = few; cause = cause })
+    subst (λ (f : Bool). WritesAt place bytes old new f) is (record { written = λ none. absurd (cc); leaves = leaves; settled = λ none. absurd (cc); clock = λ none. absurd (cc); few = few; cause = cause })
 
 -- what holds of an answer that is no failure
 pub where_ok : {A E : Type 0} (r : Result A E) (P : Type 0) → (is_err r ≡ false → P) → OnOk r P

@@ -1,10 +1,11 @@
 -- A command that comes after a read of the medium.
 use Rattle.std.proofs.Common.{◌≡◌, ℕ, ◌/◌, ◌%◌, Bool, true, false, List, [], ◌∷◌, ◌++◌, Option, option_map, Result, refl, ◌∙◌, ap, subst, arith}
 use Rattle.tach_media.specs.Medium.{State, LeavesOnly, Reads, Rose, put}
-use Rattle.tach_media.specs.Chip.{Effect, nothing, gives, puts, Does, Writes, IsAnswered, outcome_from}
-use Rattle.tach_media.specs.Commands.{command_of}
-use Rattle.tach_media.specs.declared.command.CardState.{CardState}
-use Rattle.tach_media.specs.declared.command.Command.{Command}
+use Rattle.chip_model.specs.Outcomes.{Effect, nothing, gives, puts, IsAnswered, outcome_from}
+use Rattle.tach_media.specs.Chip.{Does, WritesAt}
+use Rattle.chip_model.specs.Commands.{command_of}
+use Rattle.chip_model.specs.declared.command.CardState.{CardState}
+use Rattle.chip_model.specs.declared.command.Command.{Command}
 use Rattle.tach_media.proofs.Runs.{weaken, after_reads, reads_then, cause_after}
 use Rattle.card_commands.specs.Performing.{IsPerformed}
 

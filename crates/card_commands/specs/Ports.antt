@@ -4,12 +4,13 @@ use Rattle.std.specs.Prelude.{◌≡◌, ℕ, ◌+◌, ◌-◌, ◌≤◌, nat_l
 use Rattle.std.specs.Option.{ForSome}
 use Rattle.card_layout.specs.declared.files.Application.{Application}
 use Rattle.card_layout.specs.declared.files.CardFile.{CardFile}
+use Rattle.card_layout.specs.declared.files.TheConstants.{APPLICATION_RANGE, LARGEST_IMAGE}
 use Rattle.card_layout.specs.Application.{first_bad_field, application_of, IsApplication}
 use Rattle.card_layout.specs.Files.{files_of, image_size_of, updated_ranges}
-use Rattle.tach_media.specs.declared.command.CardState.{CardState}
-use Rattle.tach_media.specs.declared.command.ElementaryFile.{ElementaryFile}
+use Rattle.chip_model.specs.declared.command.CardState.{CardState}
+use Rattle.chip_model.specs.declared.command.ElementaryFile.{ElementaryFile}
 use Rattle.tach_media.specs.Medium.{State, IsCoherent, Commands}
-use Rattle.tach_media.specs.Chip.{is_under}
+use Rattle.chip_model.specs.Outcomes.{is_under}
 use Rattle.card_commands.specs.declared.loading.PortFault.{PortFault}
 use Rattle.card_commands.specs.declared.loading.PortFault.TheVariants.{Failed, BadApplication}
 
@@ -57,7 +58,7 @@ sizes_of card = option_and_then told_by card.application
 -- A port's sizes are those by which its chip goes, and the file that it holds for selected the chip has selected.
 pub record IsPort (app : Application) (selected : Option ElementaryFile) (card : CardState) (s : State) : Type 0 where
   pub good : IsApplication app
-  pub size : 24959 ≤ s.size
+  pub size : LARGEST_IMAGE ≤ s.size
   pub sizes : sizes_of card ≡ Some app
   pub works : ForSome selected (λ file. s.works ≡ true)
   pub chosen : ForSome selected (λ file. card.selected ≡ Some file)
@@ -77,4 +78,4 @@ IsJudged bytes (Err (BadApplication field)) = first_bad_field bytes ≡ Some fie
 
 -- Application_Identification as a file
 abbrev pub application_file : ElementaryFile
-application_file = record { fid = record { 0 = 0x0501 }; range = record { base = 33; len = 10 }; updated = false }
+application_file = record { fid = record { 0 = 0x0501 }; range = APPLICATION_RANGE; updated = false }

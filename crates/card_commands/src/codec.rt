@@ -1,10 +1,11 @@
 ghost use Rattle.std.specs.Prelude.{◌≡◌, ◌≤◌, ◌+◌, ◌++◌, Ok, IfOk, length};
-ghost use Rattle.tach_media.specs.Commands.{command_of, meaning, number_at, has_good_parameters, has_good_length};
+ghost use Rattle.byte_fields.specs.Images.{number_at};
+ghost use Rattle.chip_model.specs.Commands.{command_of, meaning, has_good_parameters, has_good_length};
 ghost use Rattle.card_commands.specs.Written.{bytes_of, IsWritable};
 
 use arrayvec::ArrayVec;
 use card_layout::Fid;
-use tach_media::Command;
+use chip_model::Command;
 
 /// The name of DF Tachograph.
 const TACHOGRAPH: [u8; 6] = [0xFF, 0x54, 0x41, 0x43, 0x48, 0x4F];
@@ -82,22 +83,22 @@ fn meaning(b: &[u8]) -> Command
 {
     match b[1] {
         SELECT if b[2] == BY_NAME => Command::Application,
-        SELECT => Command::Select(Fid(number_at(b, 5))),
+        SELECT => Command::Select(Fid(two_bytes(b, 5))),
         READ_BINARY => Command::Read {
-            offset: number_at(b, 2),
+            offset: two_bytes(b, 2),
             len: if b[4] == 0 { 256 } else { b[4] as u16 },
         },
         _ => Command::Update {
-            offset: number_at(b, 2),
+            offset: two_bytes(b, 2),
             bytes: held(&b[5..]),
         },
     }
 }
 
 // The number in two bytes, the highest first.
-fn number_at(b: &[u8], place: usize) -> u16
+fn two_bytes(b: &[u8], place: usize) -> u16
     requires { place + 2 ≤ length b.now }
-    ensures { result ≡ number_at b.now place }
+    ensures { result ≡ number_at b.now place 2 }
 {
     u16::from_be_bytes([b[place], b[place + 1]])
 }

@@ -1,18 +1,18 @@
 ghost use Rattle.std.specs.Prelude.{◌≡◌, ◌≤◌, ◌||◌, ◌&&◌, ◌==◌, nat_le, is_some, false, None, IfSome};
 ghost use Rattle.card_layout.specs.Application.{application_of};
 ghost use Rattle.card_layout.specs.Files.{is_updated};
-ghost use Rattle.tach_media.specs.Chip.{is_under, is_fixed, sized_file, file_of};
+ghost use Rattle.chip_model.specs.Outcomes.{is_under, is_fixed, sized_file, file_of};
 ghost use Rattle.card_commands.specs.Performing.{IsFile};
 
 use card_files::{file_range, read_application};
-use card_layout::{Fid, Range};
-use tach_media::{Directory, ElementaryFile};
+use card_layout::{APPLICATION_RANGE, Fid, Range};
+use chip_model::{Directory, ElementaryFile};
 
 /// Whether a file stands in a directory: ICC and IC in the master file, all the others in DF Tachograph.
 pub fn is_under(directory: Directory, fid: Fid) -> bool
     ensures { result ≡ is_under directory fid }
 {
-    let in_master = fid.0 == 0x0002 || fid.0 == 0x0005;
+    let in_master = fid == Fid::ICC || fid == Fid::IC;
     match directory {
         Directory::Master => in_master,
         Directory::Tachograph => !in_master,
@@ -25,10 +25,10 @@ pub fn fixed_file(fid: Fid) -> Option<ElementaryFile>
     ensures variant { is_some result ≡ is_fixed fid }
     ensures inside { IfSome result IsFile }
 {
-    let range = match fid.0 {
-        0x0002 => Range { base: 0, len: 25 },
-        0x0005 => Range { base: 25, len: 8 },
-        0x0501 => Range { base: 33, len: 10 },
+    let range = match fid {
+        Fid::ICC => Range { base: 0, len: 25 },
+        Fid::IC => Range { base: 25, len: 8 },
+        Fid::APPLICATION => APPLICATION_RANGE,
         _ => return None,
     };
     Some(ElementaryFile {

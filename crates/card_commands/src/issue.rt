@@ -1,11 +1,12 @@
 ghost use Rattle.std.specs.Prelude.{◌≡◌, ◌≤◌, ◌<◌, length, option_map, OnOk, is_err};
 ghost use Rattle.tach_media.specs.Medium.{LiesInside, LeavesOnly, IsSettled, HasCause, Rose, put, last_count};
-ghost use Rattle.tach_media.specs.Chip.{IsIssued};
+ghost use Rattle.chip_model.specs.Issue.{IsIssued};
 
+use card_layout::APPLICATION_RANGE;
 use tach_media::{Failed, Medium};
 
 /// The place of the card type, the first byte of Application_Identification.
-const CARD_TYPE: u32 = 33;
+const CARD_TYPE: u32 = APPLICATION_RANGE.base;
 
 /// Writes a new image over the first bytes of a medium. The card type is 0 from the first write to the last, so that what a
 /// stop leaves in between is no card.

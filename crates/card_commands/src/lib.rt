@@ -15,7 +15,7 @@ pub use codec::{read_command, write_command};
 pub use loading::{PortFault, read_sizes};
 pub use port::Port;
 pub use sim_card::SimCard;
-pub use tach_media::{Answer, CardState, Command, Directory, ElementaryFile};
+pub use tach_media::Answer;
 
 #[cfg(test)]
 mod tests;

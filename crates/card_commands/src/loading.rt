@@ -1,11 +1,13 @@
 ghost use Rattle.std.specs.Prelude.{◌≡◌, ◌≤◌, Some, IfOk, IfSome, IsErrOf};
-ghost use Rattle.tach_media.specs.Medium.{Reads, bytes_at};
+ghost use Rattle.card_layout.specs.Application.{application_in};
+ghost use Rattle.tach_media.specs.Medium.{Reads};
 ghost use Rattle.card_commands.specs.Ports.{IsPort, IsJudged, has_failed, application_file};
 
 use crate::sending::{enter, read, select};
 use card_files::{BadApplication, read_application};
-use card_layout::{Application, Fid, Range};
-use tach_media::{Chip, Directory, ElementaryFile, Failed};
+use card_layout::{APPLICATION_RANGE, Application, Fid, LARGEST_IMAGE};
+use chip_model::{Directory, ElementaryFile};
+use tach_media::{Chip, Failed};
 
 /// Why a card cannot be reached through a port.
 #[derive(Clone, Copy, Debug, PartialEq, Eq)]
@@ -39,15 +41,15 @@ impl From<BadApplication> for PortFault {
 /// Application_Identification as a file.
 pub const APPLICATION: ElementaryFile = ElementaryFile {
     fid: Fid::APPLICATION,
-    range: Range { base: 33, len: 10 },
+    range: APPLICATION_RANGE,
     updated: false,
 };
 
 /// Reads the sizes of a card's files. The chip has Application_Identification selected then.
 pub fn read_sizes<C: Chip>(chip: &mut C) -> Result<Application, PortFault>
-    requires { 24959 ≤ (C.state chip.old).size }
+    requires { LARGEST_IMAGE ≤ (C.state chip.old).size }
     ensures loaded { IfOk result (λ app. IsPort app (Some application_file) (C.card chip.new) (C.state chip.new)) }
-    ensures judged { IfSome (C.state chip.old).image (λ x. IsJudged (bytes_at x 33 10) result) }
+    ensures judged { IfSome (C.state chip.old).image (λ x. IsJudged (application_in x) result) }
     ensures reads { Reads (C.state chip.old) (C.state chip.new) (has_failed result) }
 {
     enter(chip, Directory::Tachograph)?;

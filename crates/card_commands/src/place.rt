@@ -4,7 +4,7 @@ ghost use Rattle.card_commands.specs.Ports.{file_at, file_from};
 
 use card_files::files;
 use card_layout::{Application, CardFile, Range};
-use tach_media::ElementaryFile;
+use chip_model::ElementaryFile;
 
 /// The file in which a place of the flat image lies.
 pub fn file_at(app: &Application, place: u32) -> ElementaryFile

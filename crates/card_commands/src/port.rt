@@ -1,16 +1,18 @@
 ghost use Rattle.std.specs.Prelude.{◌≡◌, ◌≤◌, ◌<◌, ◌+◌, ◌^◌, true, false, length, take, Some, None, Ok, Err, OnOk, IfOk, IfErr, IfSome, is_err};
-ghost use Rattle.card_layout.specs.Application.{IsApplication};
+ghost use Rattle.card_layout.specs.Application.{IsApplication, application_in};
 ghost use Rattle.card_layout.specs.Files.{image_size_of};
 ghost use Rattle.tach_media.specs.Medium.{Reads, bytes_at};
-ghost use Rattle.tach_media.specs.Chip.{Writes, file_of, is_under};
+ghost use Rattle.chip_model.specs.Outcomes.{file_of, is_under};
+ghost use Rattle.tach_media.specs.Chip.{WritesAt};
 ghost use Rattle.card_commands.specs.Ports.{IsPort, IsJudged, application_file};
 
 use crate::loading::{APPLICATION, PortFault, read_sizes};
 use crate::place::file_at;
 use crate::sending::{enter, read, select, update};
 use card_files::image_size;
-use card_layout::{Application, Fid};
-use tach_media::{Chip, Directory, ElementaryFile, Failed, Medium};
+use card_layout::{Application, Fid, LARGEST_IMAGE};
+use chip_model::{Directory, ElementaryFile};
+use tach_media::{Chip, Failed, Medium};
 
 /// At most so many bytes are read, and written, by one command.
 const READ_MOST: usize = 256;
@@ -99,7 +101,7 @@ impl<C: Chip> Port<C> {
         requires some { 0 < length out.old }
         requires few { length out.old ≤ 256 }
         requires inside { offset + length out.old ≤ file.range.len }
-        requires file { file.range.base + file.range.len ≤ 24959 }
+        requires file { file.range.base + file.range.len ≤ LARGEST_IMAGE }
         ensures bytes { OnOk result (IfSome (C.state self.old.chip).image (λ x. out.new ≡ bytes_at x (file.range.base + offset) (length out.old))) }
         ensures reads { Reads (C.state self.old.chip) (C.state self.new.chip) (is_err result) }
         ensures application { self.new.application ≡ self.old.application }
@@ -156,8 +158,8 @@ impl<C: Chip> Port<C> {
         requires few { length bytes.now ≤ 255 }
         requires behind { file.range.base ≤ place }
         requires inside { place + length bytes.now ≤ file.range.base + file.range.len }
-        requires file { file.range.base + file.range.len ≤ 24959 }
-        ensures writes { Writes place bytes.now (C.state self.old.chip) (C.state self.new.chip) (is_err result) }
+        requires file { file.range.base + file.range.len ≤ LARGEST_IMAGE }
+        ensures writes { WritesAt place bytes.now (C.state self.old.chip) (C.state self.new.chip) (is_err result) }
         ensures selected { OnOk result (self.new.selected ≡ Some file) }
         ensures application { self.new.application ≡ self.old.application }
     {
@@ -176,8 +178,8 @@ impl<C: Chip> Port<C> {
         requires some { 0 < length bytes.now }
         requires behind { file.range.base ≤ place }
         requires inside { place + length bytes.now ≤ file.range.base + file.range.len }
-        requires file { file.range.base + file.range.len ≤ 24959 }
-        ensures writes { Writes place bytes.now (C.state self.old.chip) (C.state self.new.chip) (is_err result) }
+        requires file { file.range.base + file.range.len ≤ LARGEST_IMAGE }
+        ensures writes { WritesAt place bytes.now (C.state self.old.chip) (C.state self.new.chip) (is_err result) }
         ensures application { self.new.application ≡ self.old.application }
     {
         let first = bytes.len().min(WRITE_MOST);
@@ -195,11 +197,11 @@ impl<C: Chip> Port<C> {
 impl<C: Chip + Drop> Port<C> {
     /// Reads the card's sizes. The chip's size is at least 24959. A refusal drops `chip`, so callers hand in a `&mut C`.
     pub fn load(mut chip: C) -> Result<Port<C>, PortFault>
-        requires { 24959 ≤ (C.state chip).size }
+        requires { LARGEST_IMAGE ≤ (C.state chip).size }
         ensures reads { IfOk result (λ port. Reads (C.state chip) (C.state port.chip) false) }
         ensures good { IfOk result (λ port. IsApplication port.application) }
-        ensures sizes { IfOk result (λ port. IfSome (C.state chip).image (λ x. IsJudged (bytes_at x 33 10) (Ok port.application))) }
-        ensures refused { IfErr result (λ fault. IfSome (C.state chip).image (λ x. IsJudged (bytes_at x 33 10) (Err fault))) }
+        ensures sizes { IfOk result (λ port. IfSome (C.state chip).image (λ x. IsJudged (application_in x) (Ok port.application))) }
+        ensures refused { IfErr result (λ fault. IfSome (C.state chip).image (λ x. IsJudged (application_in x) (Err fault))) }
     {
         let application = read_sizes(&mut chip)?;
         Ok(Port::new(chip, application))

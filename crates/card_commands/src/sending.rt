@@ -1,13 +1,15 @@
 ghost use Rattle.std.specs.Prelude.{◌≡◌, ◌≤◌, ◌<◌, ◌+◌, true, length, Some, OnOk, OnErr, IfSome, is_err};
 ghost use Rattle.tach_media.specs.Medium.{Reads, bytes_at};
-ghost use Rattle.tach_media.specs.Chip.{command_outcome, in_directory, found, is_application, Does, Fixes, Writes};
+ghost use Rattle.chip_model.specs.Outcomes.{command_outcome, in_directory, found, is_application, Fixes};
+ghost use Rattle.tach_media.specs.Chip.{Does, WritesAt};
 ghost use Rattle.card_commands.specs.Written.{IsWritable};
 ghost use Rattle.card_commands.specs.Sending.{IsSent};
 
 use crate::codec::write_command;
 use arrayvec::ArrayVec;
 use card_layout::Fid;
-use tach_media::{Answer, Chip, Command, Directory, ElementaryFile, Failed};
+use chip_model::{Command, Directory, ElementaryFile};
+use tach_media::{Answer, Chip, Failed};
 
 // Sends a command and takes its answer.
 fn send<C: Chip>(chip: &mut C, command: &Command, answer: &mut Answer) -> Result<(), Failed>
@@ -85,7 +87,7 @@ pub fn update<C: Chip>(
     requires few { length bytes.now ≤ 255 }
     requires inside { offset + length bytes.now ≤ file.range.len }
     requires near { offset < 32768 }
-    ensures writes { Writes (file.range.base + offset) bytes.now (C.state chip.old) (C.state chip.new) (is_err result) }
+    ensures writes { WritesAt (file.range.base + offset) bytes.now (C.state chip.old) (C.state chip.new) (is_err result) }
     ensures card { C.card chip.new ≡ C.card chip.old }
 {
     let mut held = ArrayVec::new();

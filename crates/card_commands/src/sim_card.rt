@@ -1,7 +1,9 @@
 ghost use Rattle.std.specs.Prelude.{◌≡◌, ◌≤◌, ◌<◌, ◌+◌, ◌++◌, ◌/◌, ◌%◌, [], ◌∷◌, true, not, length, Some, None, Ok, OnOk, OnErr, IfOk, IfSome, is_ok, is_err};
-ghost use Rattle.tach_media.specs.declared.command.Command.TheVariants.{Select, Read, Update};
+ghost use Rattle.chip_model.specs.declared.command.Command.TheVariants.{Select, Read, Update};
+ghost use Rattle.card_layout.specs.Application.{application_in};
 ghost use Rattle.tach_media.specs.Medium.{State, LiesInside, Reads, bytes_at};
-ghost use Rattle.tach_media.specs.Chip.{just_issued, in_directory, is_fixed, file_of, Fixes, Does, Writes, command_outcome, outcome_from, gives, IsData, is_application};
+ghost use Rattle.chip_model.specs.Outcomes.{just_issued, in_directory, is_fixed, file_of, Fixes, command_outcome, outcome_from, gives, IsData, is_application};
+ghost use Rattle.tach_media.specs.Chip.{Does, WritesAt};
 ghost use Rattle.card_commands.specs.Performing.{IsFile, IsSound, IsPerformed};
 ghost use Rattle.card_commands.specs.Written.{IsWritable};
 
@@ -9,8 +11,9 @@ use crate::codec::read_command;
 use crate::files::{fixed_file, is_under, sized_file};
 use crate::issue::issue;
 use arrayvec::ArrayVec;
-use card_layout::Fid;
-use tach_media::{Answer, CardState, Chip, Command, Directory, ElementaryFile, Failed, Medium};
+use card_layout::{APPLICATION_RANGE, Fid, LARGEST_IMAGE};
+use chip_model::{CardState, Command, Directory, ElementaryFile};
+use tach_media::{Answer, Chip, Failed, Medium};
 
 /// The status words of commands that read well.
 const DONE: u16 = 0x9000;
@@ -43,7 +46,7 @@ pub struct SimCard<M: Medium> {
 impl<M: Medium> SimCard<M> {
     /// A card that was reset. Every range inside the medium's size, which is at least 24959, may be written.
     pub fn new(medium: M) -> SimCard<M>
-        requires size { 24959 ≤ (M.state medium).size }
+        requires size { LARGEST_IMAGE ≤ (M.state medium).size }
         requires writable { LiesInside (M.state medium).writable 0 (M.state medium).size }
         ensures medium { result.medium ≡ medium }
         ensures state { result.card ≡ just_issued }
@@ -103,9 +106,9 @@ impl<M: Medium> SimCard<M> {
     // Writes behind Application_Identification.
     fn write(&mut self, place: u32, bytes: &[u8]) -> Result<(), Failed>
         requires inside { place + length bytes.now ≤ (M.state self.old.medium).size }
-        requires behind { 43 ≤ place }
+        requires behind { APPLICATION_RANGE.base + APPLICATION_RANGE.len ≤ place }
         requires some { 0 < length bytes.now }
-        ensures writes { Writes place bytes.now (M.state self.old.medium) (M.state self.new.medium) (is_err result) }
+        ensures writes { WritesAt place bytes.now (M.state self.old.medium) (M.state self.new.medium) (is_err result) }
         ensures card { self.new.card ≡ self.old.card }
         ensures works { self.new.works ≡ is_ok result }
     {
@@ -120,7 +123,7 @@ impl<M: Medium> SimCard<M> {
         requires { self.old.works ≡ true }
         ensures sizes { OnOk result (Fixes true (M.state self.old.medium).image self.old.card.application self.new.card.application) }
         ensures card { IfOk result (λ bytes. self.new.card ≡ record self.old.card { application = Some bytes }) }
-        ensures image { IfOk result (λ bytes. IfSome (M.state self.old.medium).image (λ x. bytes ≡ bytes_at x 33 10)) }
+        ensures image { IfOk result (λ bytes. IfSome (M.state self.old.medium).image (λ x. bytes ≡ application_in x)) }
         ensures reads { Reads (M.state self.old.medium) (M.state self.new.medium) (is_err result) }
         ensures kept { OnErr result (self.new.card ≡ self.old.card) }
     {
@@ -128,7 +131,7 @@ impl<M: Medium> SimCard<M> {
             return Ok(application);
         }
         let mut application = [0; 10];
-        self.read(33, &mut application)?;
+        self.read(APPLICATION_RANGE.base, &mut application)?;
         self.card.application = Some(application);
         Ok(application)
     }
@@ -212,7 +215,7 @@ impl<M: Medium> SimCard<M> {
     fn selected(&self) -> Option<ElementaryFile>
         ensures value { result ≡ self.now.card.selected }
         ensures inside { IfSome result IsFile }
-        ensures size { 24959 ≤ (M.state self.now.medium).size }
+        ensures size { LARGEST_IMAGE ≤ (M.state self.now.medium).size }
     {
         self.card.selected
     }

@@ -1,6 +1,8 @@
 ghost use Rattle.std.specs.Prelude.{◌≡◌, ◌≤◌, IfOk, vec_len};
 
+use crate::issue::issue;
 use crate::{Answer, Port, PortFault, SimCard, read_command};
+use card_layout::LARGEST_IMAGE;
 use std::alloc::Global;
 use std::process::Abort;
 use std::test::Fail;
@@ -11,9 +13,9 @@ const LARGEST: [u8; 10] = [0x01, 0x00, 0x00, 0x0C, 0x18, 0x35, 0xD0, 0x00, 0xC8,
 
 /// A card's image of zeros, but for these bytes of Application_Identification.
 fn image(alloc: Global, application: &[u8; 10]) -> Result<Vec<u8>, Memory>
-    ensures { IfOk result (λ image. vec_len image ≡ 24959) }
+    ensures { IfOk result (λ image. vec_len image ≡ LARGEST_IMAGE) }
 {
-    let mut image = vec![in alloc; 0u8; 24959]?;
+    let mut image = vec![in alloc; 0u8; LARGEST_IMAGE as usize]?;
     let place = &mut image[33..43];
     place.copy_from_slice(application);
     Ok(image)
@@ -111,13 +113,13 @@ fn malformed_commands(rt: HostRuntime) -> Result<(), Fail> {
 /// What is left of an issue of a card whose nth call fails so: the place of the card type, and whether all is as issued.
 fn issue_stopped(alloc: Global, call: u64, left: Left) -> Result<(bool, u8, bool, bool), Fail> {
     let stops = vec![in alloc; Stop { call, left }]?;
-    let old = vec![in alloc; 0x11u8; 24959]?;
+    let old = vec![in alloc; 0x11u8; LARGEST_IMAGE as usize]?;
     let new = image(alloc, &LARGEST)?;
     let mut card = SimCard::new(MemMedium::new(alloc, old.clone()?, 4, 24960, stops)?);
     let done = card.issue(&new).is_ok();
     let mut medium = card.into_medium();
     medium.revive().map_err(|_| "revive")?;
-    let mut out = vec![in alloc; 0u8; 24959]?;
+    let mut out = vec![in alloc; 0u8; LARGEST_IMAGE as usize]?;
     medium.read_at(0, &mut out).map_err(|_| "read")?;
     Ok((
         done,
@@ -142,9 +144,37 @@ fn an_issue_that_is_stopped(rt: HostRuntime) -> Result<(), Fail> {
     Ok(())
 }
 
+/// An issue that is stopped at its third write has written what stands before the card type, and nothing behind it.
+#[test]
+fn an_issue_writes_the_front_before_the_back(rt: HostRuntime) -> Result<(), Fail> {
+    let alloc = rt.alloc();
+    let stops = vec![in alloc;
+        Stop {
+            call: 2,
+            left: Left::Before
+        },
+    ]?;
+    let old = vec![in alloc; 0x11u8; 100]?;
+    let new = vec![in alloc; 0x22u8; 100]?;
+    let mut medium = MemMedium::new(alloc, old, 3, 100, stops)?;
+    assert!(rt; issue(&mut medium, new.as_slice()).is_err());
+    assert!(rt; medium.revive().is_ok());
+    let mut front = [0u8; 33];
+    let mut kind = [9u8; 1];
+    let mut back = [0u8; 66];
+    assert!(rt; medium.read_at(0, &mut front).is_ok());
+    assert!(rt; medium.read_at(33, &mut kind).is_ok());
+    assert!(rt; medium.read_at(34, &mut back).is_ok());
+    assert!(rt; front == [0x22u8; 33]);
+    assert!(rt; kind == [0u8; 1]);
+    assert!(rt; back == [0x11u8; 66]);
+    assert_eq!(rt; medium.clock(), 3);
+    Ok(())
+}
+
 /// The clock, the string's length, the card type, and the last of 300 bytes that were written, all through a port.
 fn through_a_port<C: Chip>(card: &mut C) -> Result<(u64, u16, u8, u8), PortFault>
-    requires { 24959 ≤ (C.state card.old).size }
+    requires { LARGEST_IMAGE ≤ (C.state card.old).size }
 {
     let mut bytes = [0; 300];
     bytes[299] = 9;

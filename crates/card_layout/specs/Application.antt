@@ -2,7 +2,9 @@
 use Rattle.std.specs.Prelude.{◌≡◌, ℕ, ◌+◌, ◌-◌, ◌%◌, ◌≤◌, ◌==◌, ◌&&◌, nat_le, if◌then◌else◌, Bool, true, Option, Some, None, List, [], ◌∷◌, map, drop}
 use Rattle.byteorder.specs.Endian.{big_number}
 use Rattle.byte_fields.specs.Fields.{number_in, numbers_written}
+use Rattle.byte_fields.specs.Images.{bytes_at}
 use Rattle.card_layout.specs.declared.files.Application.{Application}
+use Rattle.card_layout.specs.declared.files.TheConstants.{APPLICATION_RANGE}
 
 -- a field of so many bytes, and the numbers that it may hold
 pub record Field : Type 0 where
@@ -79,3 +81,7 @@ pub record IsApplication (app : Application) : Type 0 where
   pub vehicles_most : app.vehicles ≤ 200
   pub places_least : 84 ≤ app.places
   pub places_most : app.places ≤ 112
+
+-- the bytes of Application_Identification in a flat image
+abbrev pub application_in : List ℕ → List ℕ
+application_in image = bytes_at image APPLICATION_RANGE.base APPLICATION_RANGE.len

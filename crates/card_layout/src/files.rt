@@ -70,3 +70,19 @@ pub struct Application {
     /// Place entries, 84 to 112.
     pub places: u8,
 }
+
+/// The largest sizes that a driver card may have.
+pub const LARGEST: Application = Application {
+    structure: 0,
+    events: 12,
+    faults: 24,
+    activity: 13776,
+    vehicles: 200,
+    places: 112,
+};
+
+/// The size in bytes of the flat image of a card of the largest sizes: no image of a driver card is larger.
+pub const LARGEST_IMAGE: u32 = 24959;
+
+/// Where Application_Identification stands in the flat image, at any sizes: the card type is its first byte.
+pub const APPLICATION_RANGE: Range = Range { base: 33, len: 10 };

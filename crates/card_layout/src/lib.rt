@@ -5,4 +5,4 @@
 
 mod files;
 
-pub use files::{Application, CardFile, Fid, Range};
+pub use files::{APPLICATION_RANGE, Application, CardFile, Fid, LARGEST, LARGEST_IMAGE, Range};

@@ -1,10 +1,8 @@
 -- Numbers in bytes, high byte first, and decimal digits in half bytes.
-use Rattle.std.specs.Prelude.{ℕ, ◌+◌, ◌*◌, ◌/◌, ◌%◌, List, [], ◌∷◌, fold}
+use Rattle.std.specs.Prelude.{ℕ, ◌+◌, ◌*◌, ◌/◌, ◌%◌, List, [], ◌∷◌}
+pub use Rattle.byte_fields.specs.Images.{number}
 
--- the number that bytes spell
-abbrev pub number : List ℕ → ℕ
-number bytes = fold (λ n b. 256 * n + b) 0 bytes
-
+-- the bytes of a number below 256 ^ 2, and below 256 ^ 4
 abbrev pub two_bytes : ℕ → List ℕ
 two_bytes n = n / 256 ∷ n % 256 ∷ []
 

@@ -2,7 +2,7 @@
 use Rattle.std.proofs.Common.{◌≡◌, ◌⊎◌, inl, inr, ⊎_elim, ℕ, ◌+◌, ◌≤◌, List, [], ◌∷◌, ◌++◌, length, take, drop, sym, ◌∙◌, ap, subst, arith, lit≤}
 use Rattle.tach_media.specs.Medium.{put, SameOutside}
 use Rattle.write_plan.specs.Plan.{piece, IsPartway}
-use Rattle.tach_media.specs.LogLaws.{put_outside}
+use Rattle.tach_media.proofs.Images.{put_outside}
 use Rattle.card_model.specs.Bytes.{two_bytes}
 use Rattle.card_model.specs.Days.{Day, len_of, total, last_len, IsDay}
 use Rattle.card_model.specs.Changes.{OnNewest, with_newest, with_word, TakesWord}

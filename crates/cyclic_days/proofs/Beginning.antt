@@ -4,8 +4,7 @@ use Rattle.std.specs.Prelude.{◌==◌}
 use Rattle.std.proofs.lemmas.Bool.Decides.{nat_tests}
 use Rattle.std.proofs.lemmas.List.{append-nil}
 use Rattle.tach_media.specs.Medium.{put, bytes_at}
-use Rattle.tach_media.specs.LogLaws.{put_outside}
-use Rattle.tach_media.proofs.Images.{part_before}
+use Rattle.tach_media.proofs.Images.{put_outside, part_before}
 use Rattle.card_model.specs.Days.{last_len, Day, len_of, total, far, body, record_of, records, IsDay, AreDays}
 use Rattle.card_model.specs.Bytes.{number, two_bytes}
 use Rattle.card_model.specs.Changes.{next_counter, new_day, IsLater, IsNext}

@@ -3,8 +3,7 @@ use Rattle.std.proofs.Common.{◌≡◌, ◌≢◌, inl, inr, ⊎_elim, ℕ, ◌
 use Rattle.std.specs.Prelude.{nat_eq, nat_le}
 use Rattle.std.proofs.lemmas.Bool.Decides.{nat_tests}
 use Rattle.tach_media.specs.Medium.{put, bytes_at, SameOutside, IsPartlyWritten}
-use Rattle.tach_media.specs.LogLaws.{put_outside}
-use Rattle.tach_media.proofs.Images.{outside_same, outside_then, outside_wider}
+use Rattle.tach_media.proofs.Images.{put_outside, outside_same, outside_then, outside_wider}
 use Rattle.card_model.specs.Bytes.{number, two_bytes}
 use Rattle.activity_codec.specs.Words.{word_minute}
 use Rattle.card_model.specs.Days.{Day, len_of, total, Ascend, AreWords, IsDay, AreDays, record_of, records}

@@ -1,7 +1,7 @@
 -- The two writes that drop the oldest day.
 use Rattle.std.proofs.Common.{◌≡◌, ◌⊎◌, inl, inr, ⊎_elim, ℕ, ◌+◌, ◌≤◌, List, [], ◌∷◌, length, take, sym, ◌∙◌, ap, subst, arith, lit≤}
 use Rattle.tach_media.specs.Medium.{put, SameOutside}
-use Rattle.tach_media.specs.LogLaws.{put_outside}
+use Rattle.tach_media.proofs.Images.{put_outside}
 use Rattle.write_plan.specs.Plan.{piece, IsPartway}
 use Rattle.card_model.specs.Bytes.{two_bytes}
 use Rattle.card_model.specs.Days.{Day, len_of}

@@ -1,8 +1,7 @@
 -- Writes of one field: the length before the oldest day, and the distance of the newest.
 use Rattle.std.proofs.Common.{◌≡◌, inl, inr, ⊎_elim, ℕ, ◌+◌, ◌≤◌, List, [], ◌∷◌, ◌++◌, length, refl, sym, ◌∙◌, ap, subst, arith, lit≤}
 use Rattle.tach_media.specs.Medium.{put, bytes_at, SameOutside, IsPartlyWritten}
-use Rattle.tach_media.proofs.Images.{outside_same, outside_wider}
-use Rattle.tach_media.specs.LogLaws.{put_outside}
+use Rattle.tach_media.proofs.Images.{outside_same, outside_wider, put_outside}
 use Rattle.card_model.specs.Bytes.{number, two_bytes}
 use Rattle.card_model.specs.Days.{Day, len_of, total, far, record_of, records, IsDay}
 use Rattle.card_model.specs.Changes.{with_newest, with_km}

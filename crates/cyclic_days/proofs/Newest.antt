@@ -77,11 +77,11 @@ module _ (r : StringShape) (shape : IsStringShape r) (x : List ℕ) (inside : r.
       let a = records h.previous older in
       let back = record_of (previous_of h.previous older) d ++ ([] ++ h.rest) in
       let spelled : circle_of r x ≡ a ++ back = h.spelled ∙ spelled_at h.previous older d [] h.rest in
-      let high : number (bytes_at x (at r q) 2) ≡ 256 * (0 + d.date / 16777216) + d.date / 65536 % 256 =
+      let high : number (bytes_at x (at r q) 2) ≡ number (d.date / 16777216 ∷ d.date / 65536 % 256 ∷ []) =
       ap number (sym (circle_part r shape x inside (total older + 4) q 2 h.oldest.below (place_then r.size (oldest_pointer r x) (total older) n 4 q h.oldest.below n_pointer.below q_pointer.below (omega (arith, all, whole, len_least d day)) newest q_place)
       (omega (arith, q_pointer.below, q_pointer.even, shape.even)) (omega (arith, all, whole, len_least d day)))
       ∙ ap (λ (l : List ℕ). bytes_at l (total older + 4) 2) spelled ∙ ap (λ (m : ℕ). bytes_at (a ++ back) (m + 4) 2) (sym (records_length h.previous older)) ∙ part_back 4 2 a back) in
-      let low : number (bytes_at x (at r s) 2) ≡ 256 * (0 + d.date / 256 % 256) + d.date % 256 =
+      let low : number (bytes_at x (at r s) 2) ≡ number (d.date / 256 % 256 ∷ d.date % 256 ∷ []) =
       ap number (sym (circle_part r shape x inside (total older + 6) s 2 h.oldest.below (place_then r.size (oldest_pointer r x) (total older) n 6 s h.oldest.below n_pointer.below s_pointer.below (omega (arith, all, whole, len_least d day)) newest s_place)
       (omega (arith, s_pointer.below, s_pointer.even, shape.even)) (omega (arith, all, whole, len_least d day)))
       ∙ ap (λ (l : List ℕ). bytes_at l (total older + 6) 2) spelled ∙ ap (λ (m : ℕ). bytes_at (a ++ back) (m + 6) 2) (sym (records_length h.previous older)) ∙ part_back 6 2 a back) in

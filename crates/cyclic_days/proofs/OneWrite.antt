@@ -1,8 +1,7 @@
 -- The calls of one write, where the image tells what is kept.
 use Rattle.std.proofs.Common.{◌≡◌, ⊎_elim, ℕ, ◌+◌, ◌≤◌, List, [], ◌∷◌, length, refl, sym, ◌∙◌, ap, subst, arith}
 use Rattle.tach_media.specs.Medium.{put}
-use Rattle.tach_media.specs.LogLaws.{put_outside}
-use Rattle.tach_media.proofs.Images.{part_before}
+use Rattle.tach_media.proofs.Images.{put_outside, part_before}
 use Rattle.write_plan.specs.Plan.{put_all, IsPartway}
 use Rattle.write_plan.proofs.Plans.{partway_outside, puts_outside}
 use Rattle.card_model.specs.Bytes.{number, two_bytes}

@@ -2,8 +2,7 @@
 use Rattle.std.proofs.Common.{◌≡◌, ℕ, ◌+◌, ◌<◌, ◌≤◌, List, ◌++◌, length, take, drop, sym, ◌∙◌, ap, subst, arith, take-append-drop}
 use Rattle.std.proofs.lemmas.List.{take_at, drop_at, length-take-le}
 use Rattle.tach_media.specs.Medium.{put, bytes_at, SameOutside}
-use Rattle.tach_media.specs.LogLaws.{put_outside}
-use Rattle.tach_media.proofs.Images.{part_before, part_after, part_put, outside_wider}
+use Rattle.tach_media.proofs.Images.{put_outside, part_before, part_after, part_put, outside_wider}
 use Rattle.card_model.specs.Bytes.{number, two_bytes}
 use Rattle.card_model.specs.Image.{StringShape, turned, oldest_pointer, newest_pointer, string_of, circle_of, IsPlace, at}
 use Rattle.card_model.proofs.Circle.{put_front, put_back, put_length, turned_put, turned_twice}

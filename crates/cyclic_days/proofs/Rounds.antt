@@ -5,8 +5,7 @@ use Rattle.std.proofs.lemmas.Bool.Decides.{nat_tests}
 use Rattle.std.proofs.lemmas.Bool.{cases_lt}
 use Rattle.std.proofs.lemmas.List.{length-take-le, drop-drop}
 use Rattle.tach_media.specs.Medium.{put, bytes_at, SameOutside}
-use Rattle.tach_media.proofs.Images.{outside_then, outside_wider}
-use Rattle.tach_media.specs.LogLaws.{put_outside}
+use Rattle.tach_media.proofs.Images.{outside_then, outside_wider, put_outside}
 use Rattle.card_model.specs.Image.{StringShape, oldest_pointer, circle_of, IsPointer, IsPlace, spot, at}
 use Rattle.cyclic_days.specs.Steps.{put_round, IsRounding}
 use Rattle.card_model.proofs.Circle.{put_back}

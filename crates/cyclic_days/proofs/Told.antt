@@ -1,7 +1,8 @@
 -- What two runs make of an image that is told.
 use Rattle.std.proofs.Common.{Result, Ok, Err, IfOk, ◌≡◌, List, ℕ, Option, Some, None, is_some, IfSome, refl}
-use Rattle.std.specs.Prelude.{IsErrAnd, true}
-use Rattle.std.proofs.Common.{ap}
+use Rattle.std.specs.Prelude.{IsErrAnd, true, false}
+use Rattle.std.proofs.Common.{arith, ap}
+pub use Rattle.tach_media.proofs.Runs.{if_told, no_reads}
 use Rattle.cyclic_days.specs.declared.fault.DaysFault.{DaysFault}
 use Rattle.cyclic_days.specs.declared.fault.DaysFault.TheVariants as fault
 use Rattle.cyclic_days.specs.Loading.{has_failed, IfBadDays}
@@ -12,10 +13,6 @@ through None m n R S T same first next all = tt
 through (Some x) None n R S T same first next all = absurd (cc)
 through (Some x) (Some y) None R S T same first next all = tt
 through (Some x) (Some y) (Some z) R S T same first next all = all x y z refl first next
-
-pub if_told : (o : Option (List ℕ)) (P : List ℕ → Type 0) → ((x : List ℕ) → o ≡ Some x → P x) → IfSome o P
-if_told None P all = tt
-if_told (Some x) P all = all x refl
 
 -- the same, where the image between is told too
 pub through_both : (o m n : Option (List ℕ)) (R S T : List ℕ → List ℕ → Type 0) → is_some m ≡ is_some o → IfSome o (λ x. IfSome m (R x)) → IfSome m (λ y. IfSome n (S y))

@@ -1,12 +1,11 @@
 -- The moments of an `add`, and what it leaves.
 use Rattle.std.proofs.Common.{◌≡◌, ◌≢◌, ◌⊎◌, inl, inr, ⊎_elim, ℕ, ◌+◌, ◌-◌, ◌<◌, ◌≤◌, Bool, true, false, cond, List, length, replicate, refl, sym, ◌∙◌, ap, subst, arith, lit≤}
 use Rattle.std.specs.Prelude.{◌==◌}
-use Rattle.std.specs.Int.{from_be_bytes, w32}
+use Rattle.byte_fields.specs.Images.{big_number}
 use Rattle.std.proofs.lemmas.Bool.Decides.{nat_tests}
 use Rattle.tach_media.specs.Medium.{put, bytes_at, SameOutside}
-use Rattle.tach_media.specs.LogLaws.{put_outside}
-use Rattle.tach_media.proofs.Images.{outside_wider, outside_then}
-use Rattle.gated_ring.specs.Ring.{Shape, IsShape, size_of, place_of, gate_of, pointer, PointsInside, is_there, entry_at, next, taken, gate_bytes, with_head, IsDense}
+use Rattle.tach_media.proofs.Images.{put_outside, outside_wider, outside_then}
+use Rattle.gated_ring.specs.Ring.{Shape, IsShape, size_of, place_of, gate_of, pointer, PointsInside, is_there, entry_at, next, taken, gate_bytes, gate_number, with_head, IsDense}
 use Rattle.gated_ring.specs.Change.{SameOthers, IsExtended, IsAddStep, IsAdding, IsAdded}
 use Rattle.gated_ring.specs.Steps.{freed, filled, pointed, pointer_bytes, placed, IsPlacing}
 use Rattle.gated_ring.proofs.Others.{IsShut, IsFree, others_none, others_then, others_same, pointer_same, inside_ring, shut_zeros, shut_filling, free_shut, free_pointing, pointer_length, pointer_put, pointer_outside, gate_outside}
@@ -65,7 +64,7 @@ module _ (r : Shape) (shape : IsShape r) (x : List ℕ) (inside : r.base + size_
   placing_outside c (inr (inr (inr opening))) = opened_outside c (gate_outside r shape i below x inside (gate_bytes r head) y2 c (gate_length r shape x inside i below head gate_fits width_fits) opening.outside)
 
   -- where the pointer is the one of the image
-  module _ (some : 0 < r.pointer_width) (is_pointer : pointer r x ≡ p) (gate_open : from_be_bytes w32 (gate_bytes r head) ≢ 0) where
+  module _ (some : 0 < r.pointer_width) (is_pointer : pointer r x ≡ p) (gate_open : gate_number r head ≢ 0) where
     free_2 : IsFree r i x y2 × (pointer r y2 ≡ i)
     free_2 = by (p == i) refl
       where
@@ -149,7 +148,7 @@ module _ (r : Shape) (x head : List ℕ) (known : PointsInside r x) where
 
 module _ (r : Shape) (shape : IsShape r) (some : 0 < r.pointer_width) (x : List ℕ) (inside : r.base + size_of r ≤ length x)
     (last i : ℕ) (below : i < r.count) (is_last : PointsInside r x → last ≡ pointer r x) (is_taken : PointsInside r x → i ≡ taken r x)
-    (head : List ℕ) (gate_fits : r.gate + 4 ≤ length head) (width_fits : length head ≤ r.width) (gate_open : from_be_bytes w32 (gate_bytes r head) ≢ 0) where
+    (head : List ℕ) (gate_fits : r.gate + 4 ≤ length head) (width_fits : length head ≤ r.width) (gate_open : gate_number r head ≢ 0) where
   -- a moment of the writes is one of the `add`
   pub adding : (c : List ℕ) → IsPlacing r last i head x c → IsAdding r head x c
   adding c placing = record {

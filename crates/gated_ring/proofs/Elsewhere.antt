@@ -1,7 +1,7 @@
 -- A write outside a ring's range changes nothing of the ring.
-use Rattle.std.proofs.Common.{◌≡◌, ◌⊎◌, inl, inr, ⊎_elim, ℕ, ◌+◌, ◌-◌, ◌<◌, ◌≤◌, Bool, cond, not, List, ◌++◌, filter, map, Option, Some, None, replicate, sym, ◌∙◌, ap, subst, arith}
+use Rattle.std.proofs.Common.{◌≡◌, ◌⊎◌, inl, inr, ⊎_elim, ℕ, ◌+◌, ◌-◌, ◌<◌, ◌≤◌, Bool, cond, not, List, filter, map, Option, Some, None, sym, ◌∙◌, ap, subst, arith}
 use Rattle.std.specs.Prelude.{◌==◌}
-use Rattle.std.specs.Int.{from_be_bytes, w32}
+use Rattle.byte_fields.specs.Images.{big_number}
 use Rattle.tach_media.specs.Medium.{bytes_at, SameOutside}
 use Rattle.tach_media.proofs.Images.{part_before, part_after}
 use Rattle.gated_ring.specs.Ring.{Shape, IsShape, size_of, place_of, gate_of, pointer, PointsInside, is_there, entry_at, next, order, indices, ring_list, IsNewest, taken, staying, without_first, IsDense}
@@ -26,7 +26,7 @@ module _ (r : Shape) (shape : IsShape r) (x c : List ℕ) (same : bytes_at c r.b
       ap (λ (q : ℕ). bytes_at c q n) (sym is) ∙ part_same k n (omega (arith, low, high)) ∙ ap (λ (q : ℕ). bytes_at x q n) is
 
   pub pointer_elsewhere : pointer r c ≡ pointer r x
-  pointer_elsewhere = ap (λ (b : List ℕ). from_be_bytes w32 (replicate (4 - r.pointer_width) 0 ++ b)) (at_same r.base r.pointer_width (omega arith) (omega arith))
+  pointer_elsewhere = ap (big_number r.pointer_width) (at_same r.base r.pointer_width (omega arith) (omega arith))
 
   pub points_elsewhere : PointsInside r x → PointsInside r c
   points_elsewhere known = subst (λ (n : ℕ). n < r.count) (sym pointer_elsewhere) known
@@ -35,7 +35,7 @@ module _ (r : Shape) (shape : IsShape r) (x c : List ℕ) (same : bytes_at c r.b
   entry_elsewhere i below = at_same (place_of r i) r.width (omega arith) (place_high r i below)
 
   pub there_elsewhere : (i : ℕ) → i < r.count → is_there r c i ≡ is_there r x i
-  there_elsewhere i below = ap (λ (b : List ℕ). not (from_be_bytes w32 (replicate (4 - 4) 0 ++ b) == 0)) (at_same (gate_of r i) 4 (omega arith) (omega (arith, place_high r i below, shape.gate)))
+  there_elsewhere i below = ap (λ (b : List ℕ). not (big_number 4 b == 0)) (at_same (gate_of r i) 4 (omega arith) (omega (arith, place_high r i below, shape.gate)))
 
   -- where the pointer is an index
   module _ (known : PointsInside r x) where

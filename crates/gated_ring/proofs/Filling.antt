@@ -1,8 +1,7 @@
 -- The writes of the bytes beside a gate.
 use Rattle.std.proofs.Common.{◌≡◌, ℕ, ◌+◌, ◌≤◌, List, length, ◌∙◌, arith}
 use Rattle.tach_media.specs.Medium.{put, SameOutside, IsPartlyWritten}
-use Rattle.tach_media.specs.LogLaws.{put_outside}
-use Rattle.tach_media.proofs.Images.{part_before, part_after, outside_wider, outside_then}
+use Rattle.tach_media.proofs.Images.{put_outside, part_before, part_after, outside_wider, outside_then}
 use Rattle.gated_ring.specs.Ring.{Shape, place_of, gate_of}
 use Rattle.gated_ring.specs.Steps.{IsFilling}
 

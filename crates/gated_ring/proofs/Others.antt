@@ -1,12 +1,12 @@
 -- What a write inside one entry, or of the pointer, leaves of the other entries.
 use Rattle.std.proofs.Common.{◌≡◌, ◌≢◌, ◌⊎◌, inl, inr, ⊎_elim, ℕ, zero, suc, ◌^◌, ◌+◌, ◌-◌, ◌<◌, ◌≤◌, Bool, true, false, not, cond, List, [], ◌∷◌, ◌++◌, length, drop, replicate, refl, sym, ◌∙◌, ap, arith, length-drop}
 use Rattle.std.specs.Prelude.{◌==◌}
-use Rattle.std.specs.Int.{from_be_bytes, to_be_bytes, byte_at, w32}
-use Rattle.std.proofs.lemmas.Nat.{from_be_bytes-to_be_bytes_4}
+use Rattle.std.specs.Int.{to_be_bytes, w32}
+use Rattle.byte_fields.specs.Images.{big_number}
+use Rattle.byte_fields.proofs.Spelled.{bytes_filled, number_put}
 use Rattle.std.proofs.lemmas.Bool.{cases_lt}
 use Rattle.tach_media.specs.Medium.{put, bytes_at, SameOutside, IsPartlyWritten}
-use Rattle.tach_media.specs.LogLaws.{put_outside}
-use Rattle.tach_media.proofs.Images.{part_before, part_after, part_put, outside_wider, outside_then, outside_same}
+use Rattle.tach_media.proofs.Images.{put_outside, part_before, part_after, part_put, outside_wider, outside_then, outside_same}
 use Rattle.gated_ring.specs.Ring.{Shape, IsShape, size_of, place_of, gate_of, pointer, is_there, entry_at}
 use Rattle.gated_ring.specs.Change.{SameOthers}
 use Rattle.gated_ring.specs.Steps.{pointer_bytes, IsFilling}
@@ -29,31 +29,14 @@ module _ (r : Shape) (shape : IsShape r) (i : ℕ) (below : i < r.count) (x c : 
   pub others_same : SameOthers r i x c
   others_same j j_below other = (
     ap (λ (p : ℕ). bytes_at c p r.width) (omega arith) ∙ part_other j 0 r.width j_below other (omega arith) ∙ ap (λ (p : ℕ). bytes_at x p r.width) (omega arith),
-    ap (λ (b : List ℕ). not (from_be_bytes w32 (replicate (4 - 4) 0 ++ b) == 0)) (part_other j r.gate 4 j_below other (shape.gate)),
+    ap (λ (b : List ℕ). not (big_number 4 b == 0)) (part_other j r.gate 4 j_below other (shape.gate)),
   )
 
   pub pointer_same : pointer r c ≡ pointer r x
-  pointer_same = ap (λ (b : List ℕ). from_be_bytes w32 (replicate (4 - r.pointer_width) 0 ++ b)) (part_before (place_of r i) r.width r.base r.pointer_width x c same (place_low r i))
+  pointer_same = ap (λ (b : List ℕ). big_number r.pointer_width b) (part_before (place_of r i) r.width r.base r.pointer_width x c same (place_low r i))
 
   pub inside_ring : SameOutside r.base (size_of r) x c
   inside_ring = outside_wider r.base (size_of r) (place_of r i) r.width x c same (omega (arith, place_low r i)) (place_high r i below)
-
--- the number that a pointer of that width holds
-pub pointer_number : (width i : ℕ) → width ≤ 4 → i < 256 ^ width → from_be_bytes w32 (replicate (4 - width) 0 ++ drop (4 - width) (to_be_bytes w32 i)) ≡ i
-pointer_number zero i fits small =
-    let e3 : byte_at 3 i ≡ 0 = omega arith in let e2 : byte_at 2 i ≡ 0 = omega arith in let e1 : byte_at 1 i ≡ 0 = omega arith in let e0 : byte_at 0 i ≡ 0 = omega arith in
-    (λ t. from_be_bytes w32 (sym e3 t ∷ sym e2 t ∷ sym e1 t ∷ sym e0 t ∷ [])) ∙ from_be_bytes-to_be_bytes_4 i (omega arith)
-pointer_number (suc zero) i fits small =
-    let e3 : byte_at 3 i ≡ 0 = omega arith in let e2 : byte_at 2 i ≡ 0 = omega arith in let e1 : byte_at 1 i ≡ 0 = omega arith in
-    (λ t. from_be_bytes w32 (sym e3 t ∷ sym e2 t ∷ sym e1 t ∷ byte_at 0 i ∷ [])) ∙ from_be_bytes-to_be_bytes_4 i (omega arith)
-pointer_number (suc (suc zero)) i fits small =
-    let e3 : byte_at 3 i ≡ 0 = omega arith in let e2 : byte_at 2 i ≡ 0 = omega arith in
-    (λ t. from_be_bytes w32 (sym e3 t ∷ sym e2 t ∷ byte_at 1 i ∷ byte_at 0 i ∷ [])) ∙ from_be_bytes-to_be_bytes_4 i (omega arith)
-pointer_number (suc (suc (suc zero))) i fits small =
-    let e3 : byte_at 3 i ≡ 0 = omega arith in
-    (λ t. from_be_bytes w32 (sym e3 t ∷ byte_at 2 i ∷ byte_at 1 i ∷ byte_at 0 i ∷ [])) ∙ from_be_bytes-to_be_bytes_4 i (omega arith)
-pointer_number (suc (suc (suc (suc zero)))) i fits small = from_be_bytes-to_be_bytes_4 i (omega arith)
-pointer_number (suc (suc (suc (suc (suc width))))) i fits small = absurd (omega arith)
 
 -- no byte outside the place of one entry differs, and no entry is there
 pub record IsShut (r : Shape) (i : ℕ) (x c : List ℕ) : Type 0 where
@@ -72,7 +55,7 @@ module _ (r : Shape) (shape : IsShape r) (i : ℕ) (below : i < r.count) (x : Li
   gate_inside = omega (arith, place_high r i below, shape.gate, inside)
 
   zeros_shut : (y : List ℕ) → length y ≡ length x → is_there r (put (gate_of r i) (replicate 4 0) y) i ≡ false
-  zeros_shut y same = ap (λ (b : List ℕ). not (from_be_bytes w32 (replicate (4 - 4) 0 ++ b) == 0)) (part_put (gate_of r i) (replicate 4 0) y (omega (arith, gate_inside, same)))
+  zeros_shut y same = ap (λ (b : List ℕ). not (big_number 4 b == 0)) (part_put (gate_of r i) (replicate 4 0) y (omega (arith, gate_inside, same)))
 
   pub gate_outside : (bytes y c : List ℕ) → length bytes ≡ 4 → SameOutside (gate_of r i) (length bytes) y c → SameOutside (place_of r i) r.width y c
   gate_outside bytes y c four same = outside_wider (place_of r i) r.width (gate_of r i) (length bytes) y c same (omega arith) (omega (arith, four, shape.gate))
@@ -92,7 +75,7 @@ module _ (r : Shape) (shape : IsShape r) (i : ℕ) (below : i < r.count) (x : Li
   pub shut_filling : (y c : List ℕ) → IsShut r i x y → IsFilling r i y c → IsShut r i x c
   shut_filling y c was filling = record {
     outside = outside_then (place_of r i) r.width x y c was.outside filling.outside;
-    shut = ap (λ (b : List ℕ). not (from_be_bytes w32 (replicate (4 - 4) 0 ++ b) == 0)) filling.gate ∙ was.shut;
+    shut = ap (λ (b : List ℕ). not (big_number 4 b == 0)) filling.gate ∙ was.shut;
   }
 
   pub free_shut : (c : List ℕ) → IsShut r i x c → IsFree r i x c
@@ -109,7 +92,7 @@ module _ (r : Shape) (shape : IsShape r) (i : ℕ) (below : i < r.count) (x : Li
   pointer_others : (bytes y c : List ℕ) → length bytes ≤ r.pointer_width → SameOutside r.base (length bytes) y c → (j : ℕ) → (entry_at r c j ≡ entry_at r y j) × (is_there r c j ≡ is_there r y j)
   pointer_others bytes y c short same j = (
     ap (λ (p : ℕ). bytes_at c p r.width) (omega arith) ∙ pointer_outside bytes y c short same j 0 r.width ∙ ap (λ (p : ℕ). bytes_at y p r.width) (omega arith),
-    ap (λ (b : List ℕ). not (from_be_bytes w32 (replicate (4 - 4) 0 ++ b) == 0)) (pointer_outside bytes y c short same j r.gate 4),
+    ap (λ (b : List ℕ). not (big_number 4 b == 0)) (pointer_outside bytes y c short same j r.gate 4),
   )
 
   pub pointer_length : length (pointer_bytes r i) ≡ r.pointer_width
@@ -117,9 +100,8 @@ module _ (r : Shape) (shape : IsShape r) (i : ℕ) (below : i < r.count) (x : Li
 
   pub pointer_put : (y : List ℕ) → length y ≡ length x → 0 < r.pointer_width → pointer r (put r.base (pointer_bytes r i) y) ≡ i
   pointer_put y same some =
-      ap (λ (n : ℕ). from_be_bytes w32 (replicate (4 - r.pointer_width) 0 ++ bytes_at (put r.base (pointer_bytes r i) y) r.base n)) (sym pointer_length)
-      ∙ ap (λ (b : List ℕ). from_be_bytes w32 (replicate (4 - r.pointer_width) 0 ++ b)) (part_put r.base (pointer_bytes r i) y (omega (arith, pointer_length, inside, same)))
-      ∙ pointer_number r.pointer_width i shape.pointer (omega (arith, shape.holds some, below))
+      ap (λ (b : List ℕ). pointer r (put r.base b y)) (bytes_filled r.pointer_width i shape.pointer)
+      ∙ number_put r.base r.pointer_width i y (omega (arith, inside, same)) (omega (arith, shape.holds some, below))
 
   pub free_pointing : (y c : List ℕ) → 0 < r.pointer_width → IsFree r i x y → IsPartlyWritten r.base (pointer_bytes r i) y c → IsFree r i x c
   free_pointing y c some free part =

@@ -1,14 +1,13 @@
 -- One entry is replaced, closed, or written in a few bytes, and the others stay.
 use Rattle.std.proofs.Common.{◌≡◌, ◌≢◌, ◌⊎◌, inl, inr, ⊎_elim, ℕ, ◌+◌, ◌-◌, ◌<◌, ◌≤◌, Bool, true, false, not, cond, ◌||◌, List, [], ◌∷◌, ◌++◌, length, take, drop, map, filter, replicate, refl, sym, ◌∙◌, ap, subst, arith, lit≤}
 use Rattle.std.specs.Prelude.{◌==◌, if◌then◌else◌}
-use Rattle.std.specs.Int.{from_be_bytes, w32}
+use Rattle.byte_fields.specs.Images.{big_number}
 use Rattle.std.proofs.lemmas.Bool.Decides.{nat_tests}
 use Rattle.std.proofs.lemmas.Bool.{cases_eq, cases_lt}
 use Rattle.std.proofs.lemmas.List.{take-take, drop-take, drop-drop}
 use Rattle.tach_media.specs.Medium.{put, bytes_at, SameOutside, IsPartlyWritten}
-use Rattle.tach_media.specs.LogLaws.{put_outside}
-use Rattle.tach_media.proofs.Images.{part_before, part_after, part_put, part_split, outside_wider, outside_then}
-use Rattle.gated_ring.specs.Ring.{Shape, IsShape, size_of, place_of, gate_of, pointer, PointsInside, is_there, entry_at, next, order, indices, indices_with, indices_without, gate_bytes, with_head, up_to, IsRun, IsDense}
+use Rattle.tach_media.proofs.Images.{put_outside, part_before, part_after, part_put, part_split, outside_wider, outside_then}
+use Rattle.gated_ring.specs.Ring.{Shape, IsShape, size_of, place_of, gate_of, pointer, PointsInside, is_there, entry_at, next, order, indices, indices_with, indices_without, gate_bytes, gate_number, with_head, up_to, IsRun, IsDense}
 use Rattle.gated_ring.specs.Change.{SameOthers, IsReplaced, IsAbsent, IsReplacingEntry, IsClosed, IsSet, OrUnwritten}
 use Rattle.gated_ring.specs.Steps.{freed, filled, replaced, IsReplacing}
 use Rattle.gated_ring.proofs.Places.{place_high}
@@ -215,7 +214,7 @@ module _ (r : Shape) (shape : IsShape r) (x : List ℕ) (inside : r.base + size_
         (λ front. part_after (place_of r i + offset) (length bytes) (gate_of r i) 4 x y from (omega (arith, front)))
         (λ back. part_before (place_of r i + offset) (length bytes) (gate_of r i) 4 x y from (omega (arith, back)))
         apart in
-        let there : is_there r y i ≡ is_there r x i = ap (λ (b : List ℕ). not (from_be_bytes w32 (replicate (4 - 4) 0 ++ b) == 0)) gate in
+        let there : is_there r y i ≡ is_there r x i = ap (λ (b : List ℕ). not (big_number 4 b == 0)) gate in
         let entry : entry_at r y i ≡ put offset bytes (entry_at r x i) = ap (λ (l : List ℕ). entry_at r l i) is ∙ part_inside x bytes (place_of r i) offset r.width fits entry_inside in
         record {
           image_is = is;
@@ -233,7 +232,7 @@ module _ (r : Shape) (shape : IsShape r) (x : List ℕ) (inside : r.base + size_
     setting c part = ⊎_elim (λ none. inl none) (λ whole. inr (set c whole)) (part.whole few)
 
   -- the whole entry, gate last
-  module _ (head : List ℕ) (gate_fits : r.gate + 4 ≤ length head) (width_fits : length head ≤ r.width) (gate_open : from_be_bytes w32 (gate_bytes r head) ≢ 0) where
+  module _ (head : List ℕ) (gate_fits : r.gate + 4 ≤ length head) (width_fits : length head ≤ r.width) (gate_open : gate_number r head ≢ 0) where
     abbrev y1 : List ℕ
     y1 = filled r i head (freed r i x)
 

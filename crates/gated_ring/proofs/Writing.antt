@@ -1,13 +1,12 @@
 -- The writes of one entry: its gate is shut, the bytes beside the gate, and the gate is opened.
 use Rattle.std.proofs.Common.{◌≡◌, ◌≢◌, inr, ℕ, ◌+◌, ◌-◌, ◌<◌, ◌≤◌, Bool, true, false, not, cond, List, ◌++◌, length, take, drop, replicate, refl, sym, ◌∙◌, ap, subst, arith, length-drop, take-append-drop}
 use Rattle.std.specs.Prelude.{◌==◌}
-use Rattle.std.specs.Int.{from_be_bytes, w32}
+use Rattle.byte_fields.specs.Images.{big_number}
 use Rattle.std.proofs.lemmas.Bool.Decides.{nat_tests}
 use Rattle.std.proofs.lemmas.List.{length-take-le, drop-take, drop-drop}
 use Rattle.tach_media.specs.Medium.{put, bytes_at, SameOutside, IsPartlyWritten}
-use Rattle.tach_media.specs.LogLaws.{put_outside}
-use Rattle.tach_media.proofs.Images.{part_before, part_after, part_put, part_split, outside_same}
-use Rattle.gated_ring.specs.Ring.{Shape, IsShape, size_of, place_of, gate_of, is_there, entry_at, gate_bytes, with_head}
+use Rattle.tach_media.proofs.Images.{put_outside, part_before, part_after, part_put, part_split, outside_same}
+use Rattle.gated_ring.specs.Ring.{Shape, IsShape, size_of, place_of, gate_of, is_there, entry_at, gate_bytes, gate_number, with_head}
 use Rattle.gated_ring.specs.Steps.{freed, filled, opened, IsFilling}
 use Rattle.gated_ring.proofs.Places.{place_high}
 use Rattle.gated_ring.proofs.Filling.{filling_back}
@@ -18,10 +17,10 @@ pub full : (place : ℕ) (bytes image : List ℕ) → place + length bytes ≤ l
 full place bytes image le = record { outside = put_outside place bytes image le; whole = λ short. inr refl }
 
 -- an open gate that was written
-put_open : (place : ℕ) (bytes image : List ℕ) → length bytes ≡ 4 → place + length bytes ≤ length image → from_be_bytes w32 bytes ≢ 0 → not (from_be_bytes w32 (replicate (4 - 4) 0 ++ bytes_at (put place bytes image) place 4) == 0) ≡ true
+put_open : (place : ℕ) (bytes image : List ℕ) → length bytes ≡ 4 → place + length bytes ≤ length image → big_number 4 bytes ≢ 0 → not (big_number 4 (bytes_at (put place bytes image) place 4) == 0) ≡ true
 put_open place bytes image four le opened =
     let stands : bytes_at (put place bytes image) place 4 ≡ bytes = ap (λ (n : ℕ). bytes_at (put place bytes image) place n) (sym four) ∙ part_put place bytes image le in
-    ap (λ (b : List ℕ). not (from_be_bytes w32 b == 0)) stands ∙ differs (from_be_bytes w32 bytes) opened
+    ap (λ (b : List ℕ). not (big_number 4 b == 0)) stands ∙ differs (big_number 4 bytes) opened
   where
     differs : (n : ℕ) → n ≢ 0 → not (n == 0) ≡ true
     differs n other = grind (arith, nat_tests)
@@ -109,7 +108,7 @@ module _ (r : Shape) (shape : IsShape r) (x : List ℕ) (inside : r.base + size_
     pub opened_same : SameOutside (place_of r i) r.width y2 z
     opened_same = gate_outside r shape i below x inside (gate_bytes r head) y2 z gate_length (put_outside (gate_of r i) (gate_bytes r head) y2 gate_inside)
 
-    pub opened_there : from_be_bytes w32 (gate_bytes r head) ≢ 0 → is_there r z i ≡ true
+    pub opened_there : gate_number r head ≢ 0 → is_there r z i ≡ true
     opened_there gate_open = put_open (gate_of r i) (gate_bytes r head) y2 gate_length gate_inside gate_open
 
     -- the entry begins as it was given, and ends as it stood there

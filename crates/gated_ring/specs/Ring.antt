@@ -1,7 +1,7 @@
 -- A ring of entries inside an image: a pointer, and behind it places of one width. An entry is there where its gate is not 0.
 use Rattle.std.specs.Prelude.{◌≡◌, ◌⊎◌, ℕ, ◌+◌, ◌-◌, ◌*◌, ◌^◌, ◌<◌, ◌≤◌, Bool, not, ◌||◌, List, [], ◌∷◌, ◌++◌, length, drop, map, filter, replicate, if◌then◌else◌, ◌==◌, true, Option, Some, None}
 use Rattle.std.specs.List.{range_with_len}
-use Rattle.std.specs.Int.{from_be_bytes, w32}
+pub use Rattle.byte_fields.specs.Images.{number_at}
 use Rattle.tach_media.specs.Medium.{State, bytes_at}
 
 -- where a ring begins, how wide an entry is, how many places there are, how wide the pointer is, and where the gate stands in an entry
@@ -37,10 +37,6 @@ place_of r i = r.base + r.pointer_width + i * r.width
 
 abbrev pub gate_of : Shape → ℕ → ℕ
 gate_of r i = place_of r i + r.gate
-
--- the number in at most four bytes of an image, the highest first
-abbrev pub number_at : List ℕ → ℕ → ℕ → ℕ
-number_at x place len = from_be_bytes w32 (replicate (4 - len) 0 ++ bytes_at x place len)
 
 -- the index of the newest entry; 0 in a ring without a pointer
 abbrev pub pointer : Shape → List ℕ → ℕ
@@ -107,9 +103,12 @@ staying r x = without_first (taken r x) (indices r x)
 abbrev pub with_head : Shape → List ℕ → ℕ → List ℕ → List ℕ
 with_head r x i head = head ++ drop (length head) (entry_at r x i)
 
--- the number in the gate's bytes of a head
+-- the gate's bytes of a head, and the number in them
 abbrev pub gate_bytes : Shape → List ℕ → List ℕ
 gate_bytes r head = bytes_at head r.gate 4
+
+abbrev pub gate_number : Shape → List ℕ → ℕ
+gate_number r head = number_at head r.gate 4
 
 -- the n indices that end with this one, round the end
 abbrev pub up_to : Shape → ℕ → ℕ → List ℕ

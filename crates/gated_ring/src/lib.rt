@@ -6,7 +6,6 @@ mod fields;
 mod ring;
 
 pub use fault::RingFault;
-pub use fields::number;
 pub use ring::Ring;
 
 #[cfg(test)]

@@ -1,15 +1,14 @@
 ghost use Rattle.std.specs.Prelude.{◌≡◌, ◌≢◌, ◌≤◌, ◌<◌, ◌+◌, ◌^◌, length, take, drop, replicate, IfOk, OnOk, IfSome, is_err, option_map, true, IsTrue, IsFalse, IfErr, IsOk, ◌⊎◌, ◌*◌, ◌-◌};
 ghost use Rattle.std.specs.List.{range_with_len};
-ghost use Rattle.std.specs.Int.{from_be_bytes, w32};
 ghost use Rattle.tach_media.specs.Medium.{bytes_at, LeavesOnly, Reads, HasCause, LiesInside, IsPartlyWritten, IsSettled, Rose, last_count};
-ghost use Rattle.gated_ring.specs.Ring.{IsShape, FitsIn, size_of, is_pointer_width, place_of, gate_of, gate_bytes, is_there, IsNewest, pointer, PointsInside, number_at, next, taken};
+ghost use Rattle.gated_ring.specs.Ring.{IsShape, FitsIn, size_of, is_pointer_width, place_of, gate_of, gate_bytes, gate_number, is_there, IsNewest, pointer, PointsInside, number_at, next, taken};
 ghost use Rattle.gated_ring.specs.Change.{shut_writes, pointer_writes, adding_writes, replacing_writes, IsAdding, IsAdded, IsReplaced, IsReplacingEntry, IsClosed, IsSet, OrUnwritten};
 ghost use Rattle.gated_ring.specs.Steps.{pointer_bytes, freed, filled, pointed, replaced, placed, IsFilling, IsReplacing, IsPlacing, IsNewestOf};
 
 use crate::RingFault;
-use crate::fields::{number, write};
+use crate::fields::write;
 use std::marker::Model;
-use tach_media::{Failed, Medium};
+use tach_media::{Failed, Medium, read_number};
 
 /// A place and a shape inside a medium: a pointer, which may be absent, and then `count` places of `width` bytes.
 /// An entry is there where its gate, a number of four bytes, is not 0. Such are the card's files with a pointer to the
@@ -79,7 +78,7 @@ impl Ring {
             gate,
         };
         if pointer_width > 0 {
-            let pointer = number(medium, base, pointer_width as u32)?;
+            let pointer = read_number(medium, base, pointer_width as u32)?;
             if pointer >= count {
                 return Err(RingFault::BadPointer(pointer));
             }
@@ -129,7 +128,7 @@ impl Ring {
         ensures shape { IsShape self.now }
         ensures reads { Reads (M.state medium.old) (M.state medium.new) (is_err result) }
     {
-        number(medium, self.gate_place(index), 4)
+        read_number(medium, self.gate_place(index), 4)
     }
 
     // The pointer. One past the end is read as 0.
@@ -140,7 +139,7 @@ impl Ring {
         ensures shape { IsShape self.now }
         ensures reads { Reads (M.state medium.old) (M.state medium.new) (is_err result) }
     {
-        let pointer = number(medium, self.base, self.pointer_width)?;
+        let pointer = read_number(medium, self.base, self.pointer_width)?;
         Ok(if pointer < self.count { pointer } else { 0 })
     }
 
@@ -172,7 +171,7 @@ impl Ring {
         ensures cause { HasCause (M.state medium.old) (M.state medium.new) (is_err result) }
     {
         let place = self.gate_place(index);
-        if number(medium, place, 4)? != 0 {
+        if read_number(medium, place, 4)? != 0 {
             medium.write_at(place, &[0; 4])?;
         }
         Ok(())
@@ -298,7 +297,7 @@ impl Ring {
         requires pointer { 0 < self.old.pointer_width }
         requires gate { self.old.gate + 4 ≤ length head.now }
         requires width { length head.now ≤ self.old.width }
-        requires open { from_be_bytes w32 (gate_bytes self.old head.now) ≢ 0 }
+        requires open { gate_number self.old head.now ≢ 0 }
         ensures shape { self.new ≡ self.old }
         ensures index { IfOk result (λ index. IfSome (M.state medium.old).image (λ x. PointsInside self.old x → index ≡ taken self.old x)) }
         ensures below { IfOk result (λ index. index < self.old.count) }
@@ -330,7 +329,7 @@ impl Ring {
         requires index { index < self.old.count }
         requires gate { self.old.gate + 4 ≤ length head.now }
         requires width { length head.now ≤ self.old.width }
-        requires open { from_be_bytes w32 (gate_bytes self.old head.now) ≢ 0 }
+        requires open { gate_number self.old head.now ≢ 0 }
         ensures shape { self.new ≡ self.old }
         ensures replaced { OnOk result (IfSome (M.state medium.old).image (λ x. IfSome (M.state medium.new).image (IsReplaced self.old index head.now x))) }
         ensures moments { LeavesOnly (M.state medium.old) (M.state medium.new) (IsReplacingEntry self.old index head.now) }

@@ -7,8 +7,7 @@ use Rattle.std.specs.Cmp.Lexicographic.{pointwise, bytes_decides}
 use Rattle.std.proofs.lemmas.Bool.{cases_lt}
 use Rattle.std.proofs.lemmas.Bool.Decides.{nat_tests}
 use Rattle.tach_media.specs.Medium.{put, bytes_at, SameOutside}
-use Rattle.tach_media.specs.LogLaws.{put_outside}
-use Rattle.tach_media.proofs.Images.{part_before, part_after, part_put, outside_wider}
+use Rattle.tach_media.proofs.Images.{put_outside, part_before, part_after, part_put, outside_wider}
 use Rattle.gated_ring.specs.Ring.{number_at}
 use Rattle.write_plan.specs.Plan.{Piece, piece, put_all, IsPartway, IsInside}
 use Rattle.write_plan.proofs.Plans.{partway_either, partway_outside, puts_outside}

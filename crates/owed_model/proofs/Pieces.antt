@@ -3,8 +3,7 @@ use Rattle.std.proofs.Common.{◌≡◌, ◌⊎◌, inl, inr, ⊎_elim, ℕ, ◌
 use Rattle.std.specs.List.{AllByRecursion}
 use Rattle.std.specs.Int.{to_be_bytes, w32}
 use Rattle.tach_media.specs.Medium.{put, bytes_at, SameOutside}
-use Rattle.tach_media.specs.LogLaws.{put_outside}
-use Rattle.tach_media.proofs.Images.{part_before, part_after}
+use Rattle.tach_media.proofs.Images.{put_outside, part_before, part_after}
 use Rattle.gated_ring.specs.Ring.{number_at}
 use Rattle.write_plan.specs.Plan.{Piece, put_all, IsPartway, IsInside}
 use Rattle.unit_model.proofs.Numbers.{number_same, number_put4}

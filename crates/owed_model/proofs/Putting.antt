@@ -7,8 +7,7 @@ use Rattle.std.specs.Cmp.Lexicographic.{pointwise, bytes_decides}
 use Rattle.std.proofs.lemmas.Bool.{cases_lt}
 use Rattle.std.proofs.lemmas.Bool.Decides.{nat_tests}
 use Rattle.tach_media.specs.Medium.{put, bytes_at, SameOutside}
-use Rattle.tach_media.specs.LogLaws.{put_outside}
-use Rattle.tach_media.proofs.Images.{part_before, part_after, outside_same, outside_wider, outside_then}
+use Rattle.tach_media.proofs.Images.{put_outside, part_before, part_after, outside_same, outside_wider, outside_then}
 use Rattle.gated_ring.specs.Ring.{number_at}
 use Rattle.write_plan.specs.Plan.{put_all, IsPartway}
 use Rattle.write_plan.proofs.Plans.{after_some}

@@ -8,7 +8,7 @@ use crate::images::{blank, full, two_days};
 use crate::keeping::{Figures, VEHICLE, card, new_day, word};
 use card_commands::{Port, SimCard};
 use card_files::file_range;
-use card_layout::{Application, Fid, Range};
+use card_layout::{Application, Fid, LARGEST_IMAGE, Range};
 use cyclic_days::{Days, DaysFault};
 use gated_ring::{Ring, RingFault};
 use std::alloc::Global;
@@ -48,7 +48,7 @@ fn file_of_days(app: &Application) -> Option<Range>
 
 // The same on a card, through a port.
 fn day_on<C: Chip>(card: &mut C) -> Result<Option<(u32, u16)>, Fail>
-    requires { 24959 ≤ (C.state card.old).size }
+    requires { LARGEST_IMAGE ≤ (C.state card.old).size }
 {
     let mut port = Port::load(&mut *card)?;
     let Some(range) = file_of_days(&port.application()) else {
@@ -98,7 +98,7 @@ fn file_of_vehicles(app: &Application) -> Option<Range>
 
 // The same on a card, through a port.
 fn entry_on<C: Chip>(card: &mut C) -> Result<(Option<u32>, u8), Fail>
-    requires { 24959 ≤ (C.state card.old).size }
+    requires { LARGEST_IMAGE ≤ (C.state card.old).size }
 {
     let mut port = Port::load(&mut *card)?;
     let app = port.application();

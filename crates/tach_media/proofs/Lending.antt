@@ -2,7 +2,8 @@
 use Rattle.std.specs.Borrow.{GName}
 use Rattle.std.proofs.Common.{◌≡◌, ℕ, Bool, List, ◌∷◌, ap}
 use Rattle.tach_media.specs.Medium.{State, Layer, Reference, LeavesOnly, Reads, HasCause, lent}
-use Rattle.tach_media.specs.Chip.{Effect, nothing, gives, puts, Does}
+use Rattle.chip_model.specs.Outcomes.{Effect, nothing, gives, puts}
+use Rattle.tach_media.specs.Chip.{Does}
 
 module _ (name : GName) {old new : State} where
   pub lent_leaves : {R : List ℕ → List ℕ → Type 0} → LeavesOnly old new R → LeavesOnly (lent name old) (lent name new) R

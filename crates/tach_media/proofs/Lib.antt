@@ -1,4 +1,5 @@
 pub mod Lending
+pub mod Breakdowns
 pub mod Chunks
 pub mod Images
 pub mod Ranges

@@ -109,6 +109,11 @@ where_told (Some x) (Some y) R all = all x y refl refl
 pub turned_into : {o p : Option (List ℕ)} (f : List ℕ → List ℕ) {x y : List ℕ} → p ≡ option_map f o → o ≡ Some x → p ≡ Some y → y ≡ f x
 turned_into {o} {p} f {x} {y} known was is = let made : p ≡ Some (f x) = known ∙ ap (option_map f) was in cc
 
+-- what holds of an image that is told
+pub if_told : (o : Option (List ℕ)) (P : List ℕ → Type 0) → ((x : List ℕ) → o ≡ Some x → P x) → IfSome o P
+if_told None P holds = tt
+if_told (Some x) P holds = holds x refl
+
 -- from two facts of a told image to a third
 pub both_told : (o : Option (List ℕ)) {A B : List ℕ → Type 0} (C : List ℕ → Type 0) → IfSome o A → IfSome o B → ((x : List ℕ) → o ≡ Some x → A x → B x → C x) → IfSome o C
 both_told None C a b all = tt

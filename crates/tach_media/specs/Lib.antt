@@ -1,5 +1,4 @@
 pub mod Chip
-pub mod Commands
 pub mod Counting
 pub mod Log
 pub mod LogLaws

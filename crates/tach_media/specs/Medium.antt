@@ -1,13 +1,8 @@
 -- What a medium tells of itself, and what its calls do to that.
-use Rattle.std.specs.Prelude.{◌≡◌, ◌⊎◌, ℕ, ◌+◌, ◌≤◌, ◌<◌, ◌^◌, ◌-◌, ◌/◌, min, max, Bool, true, false, not, List, [], ◌∷◌, ◌++◌, length, take, drop, Option, Some, is_some, option_map}
+use Rattle.std.specs.Prelude.{◌≡◌, ◌⊎◌, ℕ, ◌+◌, ◌≤◌, ◌<◌, ◌^◌, ◌-◌, ◌/◌, min, max, ◌&&◌, if◌then◌else◌, Bool, true, false, not, List, [], ◌∷◌, length, Option, Some, is_some, option_map}
 use Rattle.std.specs.Borrow.{GName}
-use Rattle.card_layout.specs.declared.files.Application.{Application}
-
--- Through what a memory is reached: a reference, or a card's commands by these sizes, where the card has this size, and
--- these of its ranges may be written.
-pub data Layer : Type 0 where
-  Reference : GName → Layer
-  Commands : Application → (size : ℕ) → (writable : List (ℕ × ℕ)) → Layer
+pub use Rattle.byte_fields.specs.Images.{bytes_at, put, SameOutside}
+pub use Rattle.chip_model.specs.Layers.{Layer, Reference, Commands}
 
 -- A medium as far as it tells. One that doesn't tell its image tells of no image that a stop may leave.
 pub record State : Type 1 where
@@ -59,20 +54,6 @@ abbrev pub LiesInside : List (ℕ × ℕ) → ℕ → ℕ → Type 0
 LiesInside [] place len = ⊥
 LiesInside (range ∷ ranges) place len = ((range.0 ≤ place) × (place + len ≤ range.0 + range.1)) ⊎ LiesInside ranges place len
 
--- an image with other bytes at a place
-abbrev pub put : ℕ → List ℕ → List ℕ → List ℕ
-put place bytes image = take place image ++ (bytes ++ drop (place + length bytes) image)
-
--- the bytes of an image at a place
-abbrev pub bytes_at : List ℕ → ℕ → ℕ → List ℕ
-bytes_at image place len = take len (drop place image)
-
--- two images that differ in this range alone
-pub record SameOutside (place len : ℕ) (old new : List ℕ) : Type 0 where
-  pub before : take place new ≡ take place old
-  pub after : drop (place + len) new ≡ drop (place + len) old
-  pub same_length : length new ≡ length old
-
 -- A write of these bytes that is cut short: of at most four all are written or none, of more there may be any bytes in the range.
 pub record IsPartlyWritten (place : ℕ) (bytes old new : List ℕ) : Type 0 where
   pub outside : SameOutside place (length bytes) old new
@@ -111,6 +92,16 @@ pub record HasCause (old new : State) (failed : Bool) : Type 0 where
   pub breaks : old.works ≡ true → failed ≡ true → Rose old.breakdowns new.breakdowns
   pub unbroken : failed ≡ false → new.breakdowns ≡ old.breakdowns
   pub already : old.works ≡ false → new.breakdowns ≡ old.breakdowns
+
+-- Over calls, however they ended, and calls of `revive`: so many of them at least broke the medium, or that count stands at its
+-- last value.
+pub record HasBroken (old new : State) (times : ℕ) : Type 0 where
+  pub faults : old.faults ≤ new.faults
+  pub breakdowns : min (old.breakdowns + times) last_count ≤ new.breakdowns
+
+-- a call breaks what works where it fails
+abbrev pub broken_by : (works failed : Bool) → ℕ
+broken_by works failed = if works && failed then 1 else 0
 
 -- What a call does that only reads.
 pub record Reads (old new : State) (failed : Bool) : Type 0 where

@@ -1,3 +1,4 @@
+ghost use Rattle.std.specs.Prelude.{◌≡◌, false};
 ghost use Rattle.tach_media.specs.Medium.{IsUntouched};
 
 use crate::{Failed, Medium};
@@ -12,7 +13,8 @@ pub struct AbsentMedium {
 
 impl AbsentMedium {
     pub fn new(size: u32) -> AbsentMedium
-        ensures { IsUntouched size (⟦<AbsentMedium as Medium>⟧.state result) }
+        ensures untouched { IsUntouched size (⟦<AbsentMedium as Medium>⟧.state result) }
+        ensures absent { (⟦<AbsentMedium as Medium>⟧.state result).works ≡ false }
     {
         AbsentMedium {
             size,
@@ -23,7 +25,7 @@ impl AbsentMedium {
 }
 
 impl Medium for AbsentMedium {
-    ghost use Rattle.std.specs.Prelude.{false, [], ◌∷◌};
+    ghost use Rattle.std.specs.Prelude.{[], ◌∷◌};
     ghost use Rattle.tach_media.specs.Untold.{untold_state, untold};
 
     ghost state = { λ m. untold_state m.size ((0, m.size) ∷ []) 0 false m.faults m.breakdowns };

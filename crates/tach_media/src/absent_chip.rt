@@ -1,4 +1,4 @@
-ghost use Rattle.std.specs.Prelude.{◌≡◌, ℕ, None, false, refl, [], ◌∷◌};
+ghost use Rattle.std.specs.Prelude.{◌≡◌, false, [], ◌∷◌};
 ghost use Rattle.tach_media.specs.Medium.{IsUntouched};
 
 use crate::{Answer, Chip, Failed};
@@ -13,7 +13,8 @@ pub struct AbsentChip {
 
 impl AbsentChip {
     pub fn new(size: u32) -> AbsentChip
-        ensures { IsUntouched size (⟦<AbsentChip as Chip>⟧.state result) }
+        ensures untouched { IsUntouched size (⟦<AbsentChip as Chip>⟧.state result) }
+        ensures absent { (⟦<AbsentChip as Chip>⟧.state result).works ≡ false }
     {
         AbsentChip {
             size,
@@ -24,13 +25,13 @@ impl AbsentChip {
 }
 
 impl Chip for AbsentChip {
-    ghost state = { λ m. record { size = m.size; behind = 0; writable = (0, m.size) ∷ []; image = None; may_leave = λ c. ⊥; left_since = λ t c. ⊥; clock = 0; works = false; faults = m.faults; breakdowns = m.breakdowns; layers = [] } };
+    ghost use Rattle.tach_media.specs.Untold.{untold_state, untold};
 
-    ghost use Rattle.tach_media.specs.Chip.{just_issued};
+    ghost state = { λ m. untold_state m.size ((0, m.size) ∷ []) 0 false m.faults m.breakdowns };
+
+    ghost use Rattle.chip_model.specs.Outcomes.{just_issued};
 
     ghost card = { λ m. just_issued };
-
-    ghost use Rattle.tach_media.specs.Untold.{untold};
 
     ghost coherent = { λ m. untold m.size ((0, m.size) ∷ []) 0 false m.faults m.breakdowns };
 

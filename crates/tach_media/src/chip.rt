@@ -1,8 +1,10 @@
 ghost use Rattle.std.specs.Prelude.{◌≡◌, ◌≤◌, ◌<◌, [], length, option_map, OnOk, OnErr, is_err};
 ghost use Rattle.std.specs.Option.{ForSome};
-ghost use Rattle.tach_media.specs.declared.command.CardState.{CardState};
+ghost use Rattle.chip_model.specs.declared.command.CardState.{CardState};
 ghost use Rattle.tach_media.specs.Medium.{State, IsCoherent, LeavesOnly, IsSettled, HasCause, Unchanged, Rose, put, last_count, revivable};
-ghost use Rattle.tach_media.specs.Chip.{outcome_of, Does, IsAnswered, IsIssued, just_issued, after_reset};
+ghost use Rattle.chip_model.specs.Outcomes.{outcome_of, IsAnswered, just_issued, after_reset};
+ghost use Rattle.chip_model.specs.Issue.{IsIssued};
+ghost use Rattle.tach_media.specs.Chip.{Does};
 
 use crate::Failed;
 use arrayvec::ArrayVec;

@@ -1,4 +1,3 @@
-ghost use Rattle.std.specs.Prelude.{IsErr};
 ghost use Rattle.tach_media.specs.Medium.{IsUntouched};
 
 use crate::{Counts, Failed, Medium};
@@ -11,20 +10,25 @@ use std::os::unix::fs::FileExt;
 enum Backing {
     // No call has asked for it yet.
     Unopened,
+    // It is locked: nobody else who asks for its lock has it.
     Open(File),
-    // It can be neither opened nor made, so every call fails.
-    Absent,
+    // It can be neither opened nor made, or somebody else has its lock, or a write could not be synchronised, so that nobody
+    // knows what a power cut leaves of it: every call fails.
+    Lost,
 }
 
 /// A file, as a medium of a fixed size: of a longer file only the front, of a shorter one a read past its end is a fault.
 ///
-/// The first call opens the file, and makes it, as zeros, where it is missing. Every write stands in the file before `Ok`.
+/// The first call opens the file, and makes it, as zeros, where it is missing. From then on it is locked; where another program
+/// has locked it, every call fails. Every write stands on the disk before `Ok`, and so does the name of a file that was made.
 /// It tells nothing of its content.
 #[derive(Drop)]
 pub struct FileMedium<'a, R: Files<File = File>> {
     files: &'a R,
     path: &'a str,
     backing: Backing,
+    // whether a write waits for the disk
+    waits: bool,
     size: u32,
     clock: u64,
     counts: Counts,
@@ -39,9 +43,20 @@ impl<'a, R: Files<File = File>> FileMedium<'a, R> {
             files,
             path,
             backing: Backing::Unopened,
+            waits: true,
             size,
             clock: 0,
             counts: Counts::new(),
+        }
+    }
+
+    /// The same for what need not outlive a power cut, as a demonstration: no write waits for the disk.
+    pub fn without_waiting(files: &'a R, path: &'a str, size: u32) -> FileMedium<'a, R>
+        ensures { IsUntouched size (⟦<FileMedium<'a, R> as Medium>⟧.state result) }
+    {
+        FileMedium {
+            waits: false,
+            ..FileMedium::new(files, path, size)
         }
     }
 }
@@ -75,7 +90,7 @@ impl<'a, R: Files<File = File>> Medium for FileMedium<'a, R> {
         reach(self.files, self.path, self.size, &mut self.backing);
         if self.counts.works {
             self.clock = self.clock.saturating_add(1);
-            if write(&self.backing, place, bytes) {
+            if write(&self.backing, place, bytes) && stands(self.waits, &mut self.backing) {
                 return Ok(());
             }
         }
@@ -86,7 +101,7 @@ impl<'a, R: Files<File = File>> Medium for FileMedium<'a, R> {
     fn revive(&mut self) -> Result<(), Failed> {
         reach(self.files, self.path, self.size, &mut self.backing);
         self.counts.works = true;
-        if is_open(&self.backing) {
+        if stands(self.waits, &mut self.backing) {
             return Ok(());
         }
         self.counts.fail();
@@ -99,7 +114,7 @@ fn reach<R: Files<File = File>>(files: &R, path: &str, size: u32, backing: &mut 
     if let Backing::Unopened = backing {
         *backing = match opened(files, path, size) {
             Some(file) => Backing::Open(file),
-            None => Backing::Absent,
+            None => Backing::Lost,
         };
     }
 }
@@ -108,26 +123,44 @@ fn opened<R: Files<File = File>>(files: &R, path: &str, size: u32) -> Option<Fil
     let mut options = OpenOptions::new();
     options.read(true).write(true);
     match options.open(files, path) {
-        Ok(file) => Some(file),
+        Ok(file) => locked(file),
         Err(error) if error.kind() == ErrorKind::NotFound => made(files, path, size),
         Err(_) => None,
     }
 }
 
-// A new file of so many zeros. One that could not be filled is taken away again.
+// A file that nobody else has locked.
+fn locked(file: File) -> Option<File> {
+    if file.try_lock().is_ok() {
+        Some(file)
+    } else {
+        None
+    }
+}
+
+// A new file of so many zeros. One that could not be filled, or whose name does not stand in its folder, is taken away again.
 fn made<R: Files<File = File>>(files: &R, path: &str, size: u32) -> Option<File> {
     let mut options = OpenOptions::new();
     options.read(true).write(true).create_new(true);
-    let file = options.open(files, path).ok()?;
-    if file.set_len(size as u64).is_ok() && file.sync_all().is_ok() {
+    let file = locked(options.open(files, path).ok()?)?;
+    if file.set_len(size as u64).is_ok() && file.sync_all().is_ok() && is_named(files, path) {
         return Some(file);
     }
     let _ = files.remove_file(path);
     None
 }
 
-fn is_open(backing: &Backing) -> bool {
-    matches!(backing, Backing::Open(_))
+// Waits until the name of a file stands in its folder.
+fn is_named<R: Files<File = File>>(files: &R, path: &str) -> bool {
+    let folder = match path.rsplit_once('/') {
+        None => ".",
+        Some((folder, _name)) if folder.is_empty() => "/",
+        Some((folder, _name)) => folder,
+    };
+    match File::open(files, folder) {
+        Ok(folder) => folder.sync_all().is_ok(),
+        Err(_) => false,
+    }
 }
 
 fn read(backing: &Backing, place: u32, out: &mut [u8]) -> bool {
@@ -137,12 +170,21 @@ fn read(backing: &Backing, place: u32, out: &mut [u8]) -> bool {
     }
 }
 
-// Writes, and waits until it stands there.
 fn write(backing: &Backing, place: u32, bytes: &[u8]) -> bool {
     match backing {
-        Backing::Open(file) => {
-            file.write_all_at(bytes, place as u64).is_ok() && file.sync_data().is_ok()
-        }
+        Backing::Open(file) => file.write_all_at(bytes, place as u64).is_ok(),
         _ => false,
     }
+}
+
+// Waits until what was written stands on the disk. A file of which that cannot be said is lost.
+fn stands(waits: bool, backing: &mut Backing) -> bool {
+    let stands = match backing {
+        Backing::Open(file) => !waits || file.sync_data().is_ok(),
+        _ => false,
+    };
+    if !stands {
+        *backing = Backing::Lost;
+    }
+    stands
 }

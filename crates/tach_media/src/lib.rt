@@ -5,7 +5,6 @@
 mod absent;
 mod absent_chip;
 mod chip;
-mod command;
 mod counts;
 mod fault;
 mod file;
@@ -14,6 +13,7 @@ mod log;
 mod medium;
 mod mem_medium;
 mod mem_streams;
+mod number;
 mod slice;
 mod std_streams;
 mod stop;
@@ -23,19 +23,22 @@ mod transfer;
 pub use absent::AbsentMedium;
 pub use absent_chip::AbsentChip;
 pub use chip::{Answer, Chip};
-pub use command::{CardState, Command, Directory, ElementaryFile};
-pub use counts::Counts;
+use counts::Counts;
 pub use fault::{Failed, Memory};
 pub use file::FileMedium;
-pub use log::{Entry, Left, Log};
+pub use log::Left;
+use log::Log;
 pub use medium::Medium;
 pub use mem_medium::MemMedium;
 pub use mem_streams::{MemSink, MemSource};
+pub use number::read_number;
 pub use slice::SliceMedium;
 pub use std_streams::{StdSink, StdSource};
 pub use stop::Stop;
 pub use stream::{Sink, Source};
 pub use transfer::{TakeFault, put_all, take_all};
 
+#[cfg(test)]
+mod file_tests;
 #[cfg(test)]
 mod tests;

@@ -2,8 +2,8 @@ ghost use Rattle.std.specs.Prelude.{◌≡◌, ◌≤◌, ◌+◌, ◌⊎◌, le
 ghost use Rattle.tach_media.specs.Medium.{IsPartlyWritten, LeavesOnly, HasCause, LiesInside, put};
 
 use super::*;
-use std::fs;
-use std::io::Cursor;
+use std::io;
+use std::io::{Cursor, ErrorKind, Read, Write};
 use std::test::Fail;
 
 /// A layer above, as an example: a value, and then the mark in front of it that says that it is there. A stop leaves the
@@ -78,24 +78,52 @@ fn all_is_taken_and_put(rt: HostRuntime) -> Result<(), Fail> {
     Ok(())
 }
 
+/// A stream of which a signal interrupts the next so many calls.
+#[derive(Drop)]
+struct Interrupted<T> {
+    inner: T,
+    times: u32,
+}
+
+impl<T> Interrupted<T> {
+    fn interrupt(&mut self) -> io::Result<()> {
+        if self.times == 0 {
+            return Ok(());
+        }
+        self.times -= 1;
+        Err(io::Error::from(ErrorKind::Interrupted))
+    }
+}
+
+impl<R: Read> Read for Interrupted<R> {
+    fn read(&mut self, buf: &mut [u8]) -> io::Result<usize> {
+        self.interrupt()?;
+        self.inner.read(buf)
+    }
+}
+
+impl<W: Write> Write for Interrupted<W> {
+    fn write(&mut self, piece: &[u8]) -> io::Result<usize> {
+        self.interrupt()?;
+        self.inner.write(piece)
+    }
+
+    fn flush(&mut self) -> io::Result<()> {
+        self.inner.flush()
+    }
+}
+
 #[test]
-fn a_file_is_made_written_and_read(rt: HostRuntime) -> Result<(), Fail> {
-    let mut out = [9u8; 4];
-    let mut made = FileMedium::new(&rt, "tach_media_made", 64);
-    assert!(rt; !fs::exists(&rt, "tach_media_made")?);
-    assert!(rt; made.write_at(10, b"abc").is_ok());
-    assert!(rt; made.read_at(9, &mut out).is_ok());
-    assert!(rt; &out == b"\0abc");
-    assert_eq!(rt; fs::metadata(&rt, "tach_media_made")?.len(), 64);
-    let mut longer = FileMedium::new(&rt, "tach_media_made", 65);
-    assert!(rt; longer.read_at(61, &mut out).is_err());
-    assert!(rt; longer.read_at(0, &mut out).is_err());
-    assert!(rt; longer.revive().is_ok());
-    assert!(rt; longer.read_at(10, &mut out).is_ok());
-    assert!(rt; &out == b"abc\0");
-    fs::remove_file(&rt, "tach_media_made")?;
-    let mut nowhere = FileMedium::new(&rt, "no_such_folder/file", 64);
-    assert!(rt; nowhere.read_at(0, &mut out).is_err());
-    assert!(rt; nowhere.revive().is_err());
+fn an_interrupted_call_is_made_again(rt: HostRuntime) -> Result<(), Fail> {
+    let alloc = rt.alloc();
+    let inner = Cursor::new(b"a line");
+    let mut source = StdSource::new(Interrupted { inner, times: 3 });
+    let text = take_all(alloc, &mut source, 16)?;
+    assert!(rt; text.as_slice() == b"a line".as_slice());
+    let mut bytes = Vec::new(alloc);
+    let inner = &mut bytes;
+    let mut sink = StdSink::new(Interrupted { inner, times: 3 });
+    assert!(rt; put_all(&mut sink, b"a line").is_ok());
+    assert!(rt; bytes.as_slice() == b"a line".as_slice());
     Ok(())
 }

@@ -1,13 +1,14 @@
 -- The moments of a new day's writes, and what they leave.
 use Rattle.std.proofs.Common.{None, ◌≡◌, ◌≢◌, ◌⊎◌, inl, inr, ⊎_elim, ℕ, zero, suc, ◌+◌, ◌-◌, ◌*◌, ◌/◌, ◌%◌, ◌<◌, ◌≤◌, Bool, true, false, not, cond, List, [], ◌∷◌, ◌++◌, length, drop, map, filter, refl, sym, ◌∙◌, ap, subst, arith, length-append, length-drop, lit≤, min, replicate}
 use Rattle.std.specs.Prelude.{◌==◌, ◌&&◌, nat_le, nat_lt}
-use Rattle.std.specs.Int.{from_be_bytes, to_be_bytes, w16, w32}
+use Rattle.std.specs.Int.{to_be_bytes, w16, w32}
+use Rattle.byte_fields.specs.Images.{big_number}
 use Rattle.std.proofs.lemmas.Bool.Decides.{nat_tests}
 use Rattle.std.proofs.lemmas.Bool.{cases_lt, cases_eq}
-use Rattle.std.proofs.lemmas.Nat.{from_be_bytes-to_be_bytes_4}
+use Rattle.byte_fields.proofs.Numbers.{big_number-big_bytes}
 use Rattle.std.proofs.lemmas.List.{length-map, map-append}
 use Rattle.tach_media.specs.Medium.{SameOutside, IsPartlyWritten, bytes_at}
-use Rattle.tach_media.specs.LogLaws.{put_outside}
+use Rattle.tach_media.proofs.Images.{put_outside}
 use Rattle.gated_ring.specs.Ring.{number_at, pointer, is_there, entry_at, taken, newest_of}
 use Rattle.gated_ring.specs.Change.{IsAdding, IsAdded}
 use Rattle.unit_model.specs.Days.{word_slot, word_minute, word_of, bare, state_at, UnitMinute, Day, StoredDay, day_of, day_shown, days_shown, filled, Each, minute_by}
@@ -33,7 +34,7 @@ use Rattle.write_plan.proofs.Plans.{partway_either}
 use Rattle.unit_model.proofs.States.{slot_of, minute_of, minutes_by}
 use Rattle.unit_model.proofs.Commits.{begun_at}
 use Rattle.unit_model.proofs.Growth.{day_later}
-use Rattle.unit_model.proofs.Numbers.{number_before, number_after, number_put4, short_number, part_in, number_in, words_in, AreShort}
+use Rattle.unit_model.proofs.Numbers.{number_before, number_after, number_put4, part_in, number_in, words_in, AreShort}
 use Rattle.unit_model.proofs.Slots.{day_at, IsSlot, slot_days, slot_behind, slot_front, slot_counted}
 use Rattle.unit_journal.proofs.Besides.{before_mark, behind_mark, besides_then, besides_front, besides_days, few_slots}
 use Rattle.unit_model.proofs.Front.{HasOdometer, front_then}
@@ -87,13 +88,13 @@ shown_length k days all = ap length (shown_all k days all) ∙ length-map days (
 head_day : (date odometer d c : ℕ) (rest : List ℕ) → date < 4294967296 → odometer < 4294967296 → d < 16 → c < 16
     → unit_day (head_of date odometer d c ++ rest) ≡ record { date = date; odometer = odometer; words = word_of 0 d 0 ∷ word_of 1 c 0 ∷ [] }
 head_day date odometer d c rest small far s1 s2 =
-    let w0 : from_be_bytes w32 (0 ∷ 0 ∷ to_be_bytes w16 (word_of 0 d 0)) ≡ word_of 0 d 0 = short_number (word_of 0 d 0) (omega arith) in
-    let w1 : from_be_bytes w32 (0 ∷ 0 ∷ to_be_bytes w16 (word_of 1 c 0)) ≡ word_of 1 c 0 = short_number (word_of 1 c 0) (omega arith) in
-    λ i. record { date = from_be_bytes-to_be_bytes_4 date (omega (arith, small)) i; odometer = from_be_bytes-to_be_bytes_4 odometer (omega (arith, far)) i; words = w0 i ∷ w1 i ∷ [] }
+    let w0 : big_number 2 (to_be_bytes w16 (word_of 0 d 0)) ≡ word_of 0 d 0 = big_number-big_bytes 2 (word_of 0 d 0) (omega arith) in
+    let w1 : big_number 2 (to_be_bytes w16 (word_of 1 c 0)) ≡ word_of 1 c 0 = big_number-big_bytes 2 (word_of 1 c 0) (omega arith) in
+    λ i. record { date = big_number-big_bytes 4 date (omega (arith, small)) i; odometer = big_number-big_bytes 4 odometer (omega (arith, far)) i; words = w0 i ∷ w1 i ∷ [] }
 
 -- the odometer of a head, and how many words it has
 head_odometer : (date odometer d c : ℕ) (rest : List ℕ) → odometer < 4294967296 → number_at (head_of date odometer d c ++ rest) 4 4 ≡ odometer
-head_odometer date odometer d c rest small = from_be_bytes-to_be_bytes_4 odometer (omega (arith, small))
+head_odometer date odometer d c rest small = big_number-big_bytes 4 odometer (omega (arith, small))
 
 -- the first two words are good
 module _ (d c : ℕ) (s1 : d < 16) (s2 : c < 16) where

@@ -6,7 +6,7 @@ use Rattle.std.specs.List.{range_with_len}
 use Rattle.std.proofs.lemmas.Bool.Decides.{nat_tests}
 use Rattle.std.proofs.lemmas.List.FromFn.{length-range_with_len}
 use Rattle.tach_media.specs.Medium.{SameOutside}
-use Rattle.tach_media.proofs.Images.{part_before, part_after, outside_wider}
+use Rattle.tach_media.proofs.Images.{put_outside, part_before, part_after, outside_wider}
 use Rattle.gated_ring.specs.Ring.{indices as ring_indices, pointer, is_there, next, order}
 use Rattle.unit_model.specs.Days.{Day, UnitMinute, day_of, day_shown, newest_of}
 use Rattle.unit_model.specs.Image.{day_ring, last_kept, odometer_at, indices, unit_days, recorded}

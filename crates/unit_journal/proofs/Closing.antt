@@ -5,8 +5,7 @@ use Rattle.std.specs.Int.{to_be_bytes, w16, w32}
 use Rattle.std.proofs.lemmas.Bool.Decides.{nat_tests}
 use Rattle.std.proofs.lemmas.List.{append-nil, length-map}
 use Rattle.tach_media.specs.Medium.{SameOutside, IsPartlyWritten}
-use Rattle.tach_media.specs.LogLaws.{put_outside}
-use Rattle.tach_media.proofs.Images.{part_after}
+use Rattle.tach_media.proofs.Images.{put_outside, part_after}
 use Rattle.gated_ring.specs.Ring.{number_at, pointer, entry_at, next}
 use Rattle.unit_model.specs.Days.{word_minute, bare, UnitMinute, Day, StoredDay, day_of, days_shown, filled, Each, minute_by}
 use Rattle.unit_model.specs.Changes.{changes, closing_words}

@@ -4,7 +4,7 @@ use Rattle.std.specs.Prelude.{◌==◌, ◌⊎◌}
 use Rattle.std.specs.Int.{to_be_bytes, w16, w32}
 use Rattle.std.proofs.lemmas.Bool.Decides.{nat_tests}
 use Rattle.tach_media.specs.Medium.{SameOutside, IsPartlyWritten}
-use Rattle.tach_media.specs.LogLaws.{put_outside}
+use Rattle.tach_media.proofs.Images.{put_outside}
 use Rattle.gated_ring.specs.Ring.{number_at, pointer, newest_of}
 use Rattle.unit_model.specs.Days.{word_minute, word_of, bare, state_at, UnitMinute, Day, StoredDay, day_of, days_shown, filled, Each, minute_by}
 use Rattle.unit_model.specs.Changes.{change, changes, new_words}

@@ -1,13 +1,13 @@
 -- A later day is closed, and later words are cut off.
 use Rattle.std.proofs.Common.{◌≡◌, ◌≢◌, ⊎_elim, ℕ, ◌+◌, ◌-◌, ◌*◌, ◌/◌, ◌%◌, ◌<◌, ◌≤◌, Bool, true, false, not, cond, List, [], ◌∷◌, ◌++◌, length, map, filter, replicate, refl, sym, ◌∙◌, ap, subst, arith, None}
 use Rattle.std.specs.Prelude.{◌==◌}
-use Rattle.std.specs.Int.{from_be_bytes, to_be_bytes, w16, w32}
+use Rattle.std.specs.Int.{to_be_bytes, w16}
+use Rattle.byte_fields.specs.Images.{big_number}
 use Rattle.std.proofs.lemmas.Bool.Decides.{nat_tests}
 use Rattle.std.proofs.lemmas.Bool.{cases_lt}
 use Rattle.std.proofs.lemmas.List.{map-append, append-nil}
 use Rattle.tach_media.specs.Medium.{put, bytes_at, SameOutside}
-use Rattle.tach_media.specs.LogLaws.{put_outside}
-use Rattle.tach_media.proofs.Images.{part_before, part_after, part_put, outside_wider}
+use Rattle.tach_media.proofs.Images.{put_outside, part_before, part_after, part_put, outside_wider}
 use Rattle.gated_ring.specs.Ring.{indices as ring_indices, number_at, pointer, is_there, entry_at, next, order, taken}
 use Rattle.gated_ring.proofs.Orders as orders
 use Rattle.gated_ring.proofs.Orders.{without_last}
@@ -87,10 +87,10 @@ module _ (x : List ℕ) (sized : length x ≡ 2485808) (s : ℕ) (below : s < 36
   shut_pointer = number_before (slot_place s) 4 1024 4 x c gate_outside (omega arith)
 
   pub shut_gate : is_there day_ring c s ≡ false
-  shut_gate = ap (λ (n : ℕ). not (number_at c n 4 == 0)) (omega arith) ∙ ap (λ (b : List ℕ). not (from_be_bytes w32 b == 0)) (part_put (slot_place s) (replicate 4 0) x (omega (arith, below, sized)))
+  shut_gate = ap (λ (n : ℕ). not (number_at c n 4 == 0)) (omega arith) ∙ ap (λ (b : List ℕ). not (big_number 4 b == 0)) (part_put (slot_place s) (replicate 4 0) x (omega (arith, below, sized)))
 
   pub other_there : (j : ℕ) → j ≢ s → is_there day_ring c j ≡ is_there day_ring x j
-  other_there j other = ap (λ (b : List ℕ). not (from_be_bytes w32 (replicate (4 - 4) 0 ++ b) == 0)) (⊎_elim
+  other_there j other = ap (λ (b : List ℕ). not (big_number 4 b == 0)) (⊎_elim
       (λ less. part_before (slot_place s) 4 (slot_place j + 0) 4 x c gate_outside (omega (arith, less)))
       (λ more. let greater : s < j = omega (arith, more, other) in part_after (slot_place s) 4 (slot_place j + 0) 4 x c gate_outside (omega (arith, greater)))
       (cases_lt j s))

@@ -4,8 +4,7 @@ ghost use Rattle.unit_model.specs.Decoding.{cell_minute};
 ghost use Rattle.unit_model.specs.Image.{IsUnit};
 ghost use Rattle.unit_model.specs.Cells.{cell_emptied, cells_emptied, IsEmptying, IsEmptyingAll};
 
-use tach_media::{Failed, Medium};
-use unit_memory::number;
+use tach_media::{Failed, Medium, read_number};
 use unit_model::layout::{CELLS, OWED_ROWS, cell_place};
 
 // Empties the cell of a number where it is later than the last-kept minute.
@@ -19,7 +18,7 @@ fn empty_cell<M: Medium>(unit: &mut M, kept: u32, nth: u32) -> Result<(), Failed
     ensures cause { HasCause (M.state unit.old) (M.state unit.new) (is_err result) }
 {
     let place = cell_place(nth);
-    let minute = number(unit, place, 4)?;
+    let minute = read_number(unit, place, 4)?;
     if minute > kept {
         unit.write_at(place, &[0; 4])?;
     }

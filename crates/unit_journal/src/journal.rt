@@ -24,9 +24,9 @@ use crate::words::{BARE, new_head};
 use gated_ring::Ring;
 pub use reading::UnitDay;
 use std::marker::Model;
-use tach_media::{Failed, Medium};
+use tach_media::{Failed, Medium, read_number};
 use tacho_types::Odometer;
-use unit_memory::{Judged, UnitFault, judge_image, number};
+use unit_memory::{Judged, UnitFault, judge_image};
 use unit_model::layout::{
     DAY_SLOTS, HIGHEST_ODOMETER, IMAGE_SIZE, LAST_KEPT, LAST_MINUTE, ODOMETER,
 };
@@ -100,7 +100,7 @@ impl Journal {
         let kept = judged.kept.min(LAST_MINUTE);
         let pointer = judged.pointer.min(DAY_SLOTS - 1);
         let index = index_of(judged.walk.today);
-        let odometer = number(unit, ODOMETER.place, ODOMETER.size)?.min(HIGHEST_ODOMETER);
+        let odometer = read_number(unit, ODOMETER.place, ODOMETER.size)?.min(HIGHEST_ODOMETER);
         let stray = later_day(kept, pointer, judged.walk.last_date);
         let today = read_today(unit, kept, index)?;
         let day_count = recorded_days(kept, judged.walk.there, stray);

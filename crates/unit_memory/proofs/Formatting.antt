@@ -1,10 +1,10 @@
 -- The images while a unit is made new.
 use Rattle.std.proofs.Common.{◌≡◌, inl, inr, ⊎_elim, ℕ, ◌+◌, ◌-◌, ◌<◌, ◌≤◌, true, false, List, [], ◌∷◌, ◌++◌, length, take, drop, replicate, refl, sym, ◌∙◌, ap, subst, arith, append_assoc, length-append, lit≤, Option, Some, None, option_map}
-use Rattle.std.specs.Int.{to_be_bytes, from_be_bytes, w32}
+use Rattle.std.specs.Int.{to_be_bytes, w32}
+use Rattle.byte_fields.specs.Images.{big_number}
 use Rattle.std.proofs.lemmas.List.{append-nil, length-replicate, take-replicate, drop-replicate, length-take-le, drop_all}
 use Rattle.tach_media.specs.Medium.{State, put, SameOutside, IsPartlyWritten, HasCause}
-use Rattle.tach_media.specs.LogLaws.{put_outside}
-use Rattle.tach_media.proofs.Images.{part_before, part_put, outside_wider, outside_then}
+use Rattle.tach_media.proofs.Images.{put_outside, part_before, part_put, outside_wider, outside_then}
 use Rattle.tach_media.proofs.Chunks.{put_behind, chunk_more, chunk_next}
 use Rattle.unit_model.specs.NewImage.{zeros, new_image}
 use Rattle.unit_memory.specs.Formats.{IsBlank, IsFormatting, identified}
@@ -72,7 +72,7 @@ chunk_length m few = ap length (zeros_take m 4096 few) ∙ zeros_length m
 pub still_blank : (p n : ℕ) (x y c : List ℕ) → IsBlank x y → 4 ≤ p → SameOutside p n y c → IsBlank x c
 still_blank p n x y c blank low same = record {
   same_length = same.same_length ∙ blank.same_length;
-  version = ap (λ (b : List ℕ). from_be_bytes w32 (replicate (4 - 4) 0 ++ b)) (part_before p n 0 4 y c same low) ∙ blank.version;
+  version = ap (λ (b : List ℕ). big_number 4 b) (part_before p n 0 4 y c same low) ∙ blank.version;
 }
 
 module _ (x : List ℕ) (sized : length x ≡ 2485808) where
@@ -82,7 +82,7 @@ module _ (x : List ℕ) (sized : length x ≡ 2485808) where
   pub version_blank : IsBlank x unversioned
   version_blank = record {
     same_length = (put_outside 0 (to_be_bytes w32 0) x (omega (arith, sized))).same_length;
-    version = ap (λ (b : List ℕ). from_be_bytes w32 (replicate (4 - 4) 0 ++ b)) (part_put 0 (to_be_bytes w32 0) x (omega (arith, sized)));
+    version = ap (λ (b : List ℕ). big_number 4 b) (part_put 0 (to_be_bytes w32 0) x (omega (arith, sized)));
   }
 
   module _ (v r : List ℕ) (l : ℕ) (v_length : length v ≡ 17) (r_length : length r ≡ 15) where

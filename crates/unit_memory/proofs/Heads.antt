@@ -1,6 +1,7 @@
 -- The head of a slot, and a block of words, that are read at once.
-use Rattle.std.proofs.Common.{◌≡◌, ◌≢◌, ℕ, ◌+◌, ◌*◌, ◌≤◌, Bool, true, false, cond, List, [], Option, None, sym, ◌∙◌, ap, arith}
-use Rattle.std.specs.Prelude.{◌==◌}
+use Rattle.std.proofs.Common.{◌≡◌, ◌≢◌, ℕ, ◌+◌, ◌*◌, ◌≤◌, Bool, true, false, cond, List, [], Option, None, drop, sym, ◌∙◌, ap, arith}
+use Rattle.std.specs.Prelude.{◌==◌, slice_index}
+use Rattle.std.proofs.lemmas.List.{get_or-take, get_or-drop}
 use Rattle.std.proofs.lemmas.Bool.Decides.{nat_tests}
 use Rattle.tach_media.specs.Medium.{bytes_at}
 use Rattle.gated_ring.specs.Ring.{number_at}
@@ -32,3 +33,12 @@ day_there kept latest x i h found is some here =
 pub block_words : (x bytes : List ℕ) (p len count : ℕ) → bytes ≡ bytes_at x p len → 2 * count ≤ len → words_at bytes 0 count ≡ words_at x p count
 block_words x bytes p len count read inside =
     ap (λ (l : List ℕ). words_at l 0 count) read ∙ words_in x p len 0 count (omega (arith, inside)) ∙ ap (λ (q : ℕ). words_at x q count) (let e : p + 0 ≡ p = omega arith in e)
+
+-- the number in four bytes, by the four
+pub number_four_bytes : (x : List ℕ) (p : ℕ) → number_at x p 4 ≡ slice_index x p * 16777216 + slice_index x (p + 1) * 65536 + slice_index x (p + 2) * 256 + slice_index x (p + 3)
+number_four_bytes x p =
+    let b0 : slice_index (bytes_at x p 4) 0 ≡ slice_index x p = get_or-take 4 (drop p x) 0 0 (omega arith) ∙ get_or-drop p x 0 0 ∙ ap (slice_index x) (omega arith) in
+    let b1 : slice_index (bytes_at x p 4) 1 ≡ slice_index x (p + 1) = get_or-take 4 (drop p x) 1 0 (omega arith) ∙ get_or-drop p x 1 0 ∙ ap (slice_index x) (omega arith) in
+    let b2 : slice_index (bytes_at x p 4) 2 ≡ slice_index x (p + 2) = get_or-take 4 (drop p x) 2 0 (omega arith) ∙ get_or-drop p x 2 0 ∙ ap (slice_index x) (omega arith) in
+    let b3 : slice_index (bytes_at x p 4) 3 ≡ slice_index x (p + 3) = get_or-take 4 (drop p x) 3 0 (omega arith) ∙ get_or-drop p x 3 0 ∙ ap (slice_index x) (omega arith) in
+    omega (arith, b0, b1, b2, b3)

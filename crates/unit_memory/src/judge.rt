@@ -7,8 +7,7 @@ ghost use Rattle.unit_model.specs.Decoding.{or_failing};
 
 use crate::slots::{judge_slots, or_else};
 use crate::walk::{Density, Walk};
-use gated_ring::number;
-use tach_media::{Failed, Medium};
+use tach_media::{Failed, Medium, read_number};
 use unit_model::layout::{
     CELL_WORD, CELLS, DAY_SLOTS, DAYS, HIGHEST_ODOMETER, INSERTIONS, LAST_KEPT, LAST_MINUTE,
     ODOMETER, OVER_COUNT, OWED_ROWS, PLACES, VERSION, cell_place,
@@ -40,9 +39,9 @@ fn bad_front<M: Medium>(unit: &mut M, kept: u32, has_today: bool) -> Result<Opti
     ensures found { IfOk result (λ found. IfSome (M.state unit.old).image (λ x. found ≡ first_failing (front_by kept has_today x))) }
     ensures reads { Reads (M.state unit.old) (M.state unit.new) (is_err result) }
 {
-    let version = number(unit, VERSION.place, VERSION.size)?;
-    let odometer = number(unit, ODOMETER.place, ODOMETER.size)?;
-    let overs = number(unit, OVER_COUNT.place, OVER_COUNT.size)?;
+    let version = read_number(unit, VERSION.place, VERSION.size)?;
+    let odometer = read_number(unit, ODOMETER.place, ODOMETER.size)?;
+    let overs = read_number(unit, OVER_COUNT.place, OVER_COUNT.size)?;
     Ok(front_place(version, kept, has_today, odometer, overs))
 }
 
@@ -74,8 +73,8 @@ fn bad_cell<M: Medium>(unit: &mut M) -> Result<Option<u32>, Failed>
     let mut found = None;
     for nth in 0..OWED_ROWS * CELLS {
         let place = cell_place(nth);
-        let minute = number(unit, place, 4)?;
-        let word = number(unit, place + CELL_WORD.place, 2)?;
+        let minute = read_number(unit, place, 4)?;
+        let word = read_number(unit, place + CELL_WORD.place, 2)?;
         found = or_failing(found, place + CELL_WORD.place, cell_passes(minute, word));
     }
     Ok(found)
@@ -93,8 +92,8 @@ fn bad_ring<M: Medium>(unit: &mut M) -> Result<Option<u32>, Failed>
     ensures found { IfOk result (λ found. IfSome (M.state unit.old).image (λ x. found ≡ first_failing (ring_checks x))) }
     ensures reads { Reads (M.state unit.old) (M.state unit.new) (is_err result) }
 {
-    let insertion = number(unit, INSERTIONS.place, 4)?;
-    let place = number(unit, PLACES.place, 4)?;
+    let insertion = read_number(unit, INSERTIONS.place, 4)?;
+    let place = read_number(unit, PLACES.place, 4)?;
     Ok(ring_place(insertion, place))
 }
 
@@ -148,8 +147,8 @@ pub fn judge_image<M: Medium>(unit: &mut M) -> Result<Judged, Failed>
     ensures few { IfOk result (λ judged. judged.walk.there ≤ 366) }
     ensures reads { Reads (M.state unit.old) (M.state unit.new) (is_err result) }
 {
-    let kept = number(unit, LAST_KEPT.place, LAST_KEPT.size)?;
-    let pointer = number(unit, DAYS.place, 4)?;
+    let kept = read_number(unit, LAST_KEPT.place, LAST_KEPT.size)?;
+    let pointer = read_number(unit, DAYS.place, 4)?;
     let turn = turn_at(pointer);
     let (oldest, high) = judge_slots(unit, kept, turn, DAY_SLOTS, Walk::START)?;
     let (walk, low) = judge_slots(unit, kept, 0, turn, oldest)?;

@@ -11,7 +11,6 @@ mod words;
 
 pub use fault::UnitFault;
 pub use format::{Identity, format_unit};
-pub use gated_ring::number;
 pub use judge::{Judged, judge_image};
 pub use memory::UnitMemory;
 pub use walk::{Density, Walk};

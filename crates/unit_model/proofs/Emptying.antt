@@ -1,11 +1,10 @@
 -- Cells that are emptied, one after the other.
 use Rattle.std.proofs.Common.{◌≡◌, ◌≢◌, inl, inr, ⊎_elim, ℕ, zero, suc, ◌+◌, ◌*◌, ◌/◌, ◌<◌, ◌≤◌, Bool, true, false, cond, List, length, replicate, Option, Some, None, option_map, refl, sym, ◌∙◌, ap, arith, add-one}
 use Rattle.std.specs.Prelude.{nat_lt}
-use Rattle.std.specs.Int.{from_be_bytes, w32}
+use Rattle.byte_fields.specs.Images.{big_number}
 use Rattle.std.proofs.lemmas.Bool.{cases_lt}
 use Rattle.tach_media.specs.Medium.{put, SameOutside}
-use Rattle.tach_media.specs.LogLaws.{put_outside}
-use Rattle.tach_media.proofs.Images.{part_before, part_after, part_put, outside_same, outside_wider, outside_then}
+use Rattle.tach_media.proofs.Images.{put_outside, part_before, part_after, part_put, outside_same, outside_wider, outside_then}
 use Rattle.unit_model.specs.Decoding.{cell_place, cell_minute, cell_word}
 use Rattle.unit_model.specs.Cells.{row_head, minute_kept, cells_emptied, cell_emptied, IsEmptying, IsEmptyingAll}
 use Rattle.unit_model.proofs.Numbers.{number_before, number_after}
@@ -26,7 +25,7 @@ module _ (n : ℕ) (below : n < 32) (y : List ℕ) (sized : length y ≡ 2485808
   cell_outside = put_outside (cell_place n) (replicate 4 0) y (omega (arith, cell_last n below, sized))
 
   cell_here : cell_minute c n ≡ 0
-  cell_here = ap (from_be_bytes w32) (part_put (cell_place n) (replicate 4 0) y (omega (arith, cell_last n below, sized)))
+  cell_here = ap (big_number 4) (part_put (cell_place n) (replicate 4 0) y (omega (arith, cell_last n below, sized)))
 
   cell_else : (m : ℕ) → m ≢ n → cell_minute c m ≡ cell_minute y m
   cell_else m other = ⊎_elim

@@ -2,7 +2,7 @@
 use Rattle.std.proofs.Common.{◌≡◌, ℕ, ◌≤◌, List, length, ◌∙◌, arith}
 use Rattle.std.specs.Int.{to_be_bytes, w32}
 use Rattle.tach_media.specs.Medium.{SameOutside}
-use Rattle.tach_media.specs.LogLaws.{put_outside}
+use Rattle.tach_media.proofs.Images.{put_outside}
 use Rattle.unit_model.specs.Image.{last_kept, odometer_at}
 use Rattle.unit_model.specs.Writing.{with_odometer}
 use Rattle.unit_model.proofs.Numbers.{number_before, number_put4}

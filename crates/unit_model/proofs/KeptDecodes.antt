@@ -6,8 +6,7 @@ use Rattle.std.proofs.lemmas.Bool.Decides.{nat_tests}
 use Rattle.std.proofs.lemmas.Bool.{cases_eq}
 use Rattle.std.specs.Int.{to_be_bytes, w32}
 use Rattle.tach_media.specs.Medium.{SameOutside, IsPartlyWritten}
-use Rattle.tach_media.specs.LogLaws.{put_outside}
-use Rattle.tach_media.proofs.Images.{outside_wider}
+use Rattle.tach_media.proofs.Images.{put_outside, outside_wider}
 use Rattle.gated_ring.specs.Ring.{number_at, pointer, is_there, entry_at, next, order}
 use Rattle.unit_model.specs.Days.{word_minute, Each}
 use Rattle.unit_model.specs.Image.{last_kept, odometer_at, day_ring, slot_place, indices, slot_date, slot_count, slot_words, words_at}

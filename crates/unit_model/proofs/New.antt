@@ -2,7 +2,7 @@
 use Rattle.std.proofs.Common.{◌≡◌, ℕ, ◌+◌, ◌-◌, ◌/◌, ◌<◌, ◌≤◌, Bool, true, false, not, cond, List, [], ◌∷◌, ◌++◌, length, take, drop, map, filter, refl, sym, ◌∙◌, ap, arith, append_assoc, length-append}
 use Rattle.std.specs.Prelude.{◌==◌, ◌&&◌, ◌||◌, nat_le, nat_lt}
 use Rattle.std.specs.List.{list_all}
-use Rattle.std.specs.Int.{from_be_bytes, w32}
+use Rattle.byte_fields.specs.Images.{big_number}
 use Rattle.std.proofs.lemmas.List.{length-replicate, take-replicate, drop-replicate, drop_at, drop-drop}
 use Rattle.tach_media.specs.Medium.{bytes_at}
 use Rattle.gated_ring.specs.Ring.{number_at, pointer, is_there, entry_at, next, order, indices as ring_indices}
@@ -19,7 +19,7 @@ zeros_part : (k m n : ℕ) → k + m ≤ n → take m (drop k (zeros n)) ≡ zer
 unfolding zeros
 zeros_part k m n le = ap (take m) (drop-replicate k n 0) ∙ take-replicate m (n - k) 0 (omega (arith, le))
 
-zeros_four : from_be_bytes w32 (zeros 4) ≡ 0
+zeros_four : big_number 4 (zeros 4) ≡ 0
 unfolding zeros
 zeros_four = refl
 
@@ -62,7 +62,7 @@ module _ (vin registration : List ℕ) (limit : ℕ) (vin_long : length vin ≡ 
       ∙ ap (λ (l : List ℕ). take n (drop k l)) (drop_at front (zeros 2485771) 37 front_long) ∙ zeros_part k n 2485771 (omega (arith, low, high))
 
   zero : (p : ℕ) → 37 ≤ p → p + 4 ≤ 2485808 → number_at x p 4 ≡ 0
-  zero p low high = ap (from_be_bytes w32) (new_zeros p 4 low high) ∙ zeros_four
+  zero p low high = ap (big_number 4) (new_zeros p 4 low high) ∙ zeros_four
 
   version : number_of x VERSION ≡ 1
   unfolding new_image

@@ -1,47 +1,23 @@
 -- Numbers in images that are written.
 use Rattle.std.proofs.Common.{◌≡◌, ℕ, suc, ◌+◌, ◌-◌, ◌*◌, ◌<◌, ◌≤◌, List, [], ◌∷◌, ◌++◌, length, take, drop, replicate, refl, sym, ◌∙◌, ap, arith}
-use Rattle.std.specs.Int.{from_be_bytes, to_be_bytes, byte_at, w16, w32}
-use Rattle.std.proofs.lemmas.Nat.{from_be_bytes-to_be_bytes_4}
+use Rattle.std.specs.Int.{to_be_bytes, byte_at, w16, w32}
+use Rattle.byte_fields.proofs.Spelled.{number_put}
+pub use Rattle.byte_fields.proofs.Spelled.{number_same, number_before, number_after, number_within as number_in}
+pub use Rattle.byte_fields.proofs.Images.{part_in}
 use Rattle.std.proofs.lemmas.List.{take-take, drop-take, drop-drop}
 use Rattle.tach_media.specs.Medium.{put, bytes_at, SameOutside}
-use Rattle.tach_media.specs.LogLaws.{put_outside}
-use Rattle.tach_media.proofs.Images.{part_before, part_after, part_put, outside_same, outside_wider, outside_then}
+use Rattle.tach_media.proofs.Images.{put_outside, part_before, part_after, part_put, outside_same, outside_wider, outside_then}
 use Rattle.gated_ring.specs.Ring.{number_at}
 use Rattle.unit_model.specs.Image.{words_at}
 use Rattle.unit_model.specs.Writing.{written}
 use Rattle.unit_model.proofs.Words.{words_split}
 use Rattle.unit_model.proofs.Growth.{map_range_same}
 
-pub number_same : (x c : List ℕ) (a n : ℕ) → bytes_at c a n ≡ bytes_at x a n → number_at c a n ≡ number_at x a n
-number_same x c a n same = ap (λ (b : List ℕ). from_be_bytes w32 (replicate (4 - n) 0 ++ b)) same
-
-pub number_before : (p len a n : ℕ) (x c : List ℕ) → SameOutside p len x c → a + n ≤ p → number_at c a n ≡ number_at x a n
-number_before p len a n x c same le = number_same x c a n (part_before p len a n x c same le)
-
-pub number_after : (p len a n : ℕ) (x c : List ℕ) → SameOutside p len x c → p + len ≤ a → number_at c a n ≡ number_at x a n
-number_after p len a n x c same le = number_same x c a n (part_after p len a n x c same le)
-
 pub number_put4 : (p n : ℕ) (x : List ℕ) → p + 4 ≤ length x → n < 4294967296 → number_at (put p (to_be_bytes w32 n) x) p 4 ≡ n
-number_put4 p n x le small = ap (λ (b : List ℕ). from_be_bytes w32 b) (part_put p (to_be_bytes w32 n) x le) ∙ from_be_bytes-to_be_bytes_4 n (omega arith)
-
-pub short_number : (n : ℕ) → n < 65536 → from_be_bytes w32 (0 ∷ 0 ∷ to_be_bytes w16 n) ≡ n
-short_number n small =
-    let e3 : byte_at 3 n ≡ 0 = omega arith in let e2 : byte_at 2 n ≡ 0 = omega arith in
-    (λ t. from_be_bytes w32 (sym e3 t ∷ sym e2 t ∷ byte_at 1 n ∷ byte_at 0 n ∷ [])) ∙ from_be_bytes-to_be_bytes_4 n (omega arith)
+number_put4 p n x le small = number_put p 4 n x le (omega (arith, small))
 
 pub number_put2 : (p n : ℕ) (x : List ℕ) → p + 2 ≤ length x → n < 65536 → number_at (put p (to_be_bytes w16 n) x) p 2 ≡ n
-number_put2 p n x le small = ap (λ (b : List ℕ). from_be_bytes w32 (0 ∷ 0 ∷ b)) (part_put p (to_be_bytes w16 n) x le) ∙ short_number n small
-
--- a part of a part
-pub part_in : (x : List ℕ) (p w q n : ℕ) → q + n ≤ w → bytes_at (bytes_at x p w) q n ≡ bytes_at x (p + q) n
-part_in x p w q n le =
-    let k = w - q in
-    let whole : q + k ≡ w = omega (arith, le) in
-    ap (λ (m : ℕ). take n (drop q (take m (drop p x)))) (sym whole) ∙ ap (λ (l : List ℕ). take n l) (drop-take q k (drop p x))
-    ∙ take-take n k (drop q (drop p x)) (omega (arith, le)) ∙ ap (λ (l : List ℕ). take n l) (drop-drop q p x)
-
-pub number_in : (x : List ℕ) (p w q n : ℕ) → q + n ≤ w → number_at (bytes_at x p w) q n ≡ number_at x (p + q) n
-number_in x p w q n le = ap (λ (b : List ℕ). from_be_bytes w32 (replicate (4 - n) 0 ++ b)) (part_in x p w q n le)
+number_put2 p n x le small = number_put p 2 n x le (omega (arith, small))
 
 -- the words of images that are the same up to a place
 pub words_before : (p len a n : ℕ) (x c : List ℕ) → SameOutside p len x c → a + 2 * n ≤ p → words_at c a n ≡ words_at x a n

@@ -1,12 +1,12 @@
 -- The newest day's slot while it is written.
 use Rattle.std.proofs.Common.{◌≡◌, ◌≢◌, ⊎_elim, ℕ, ◌+◌, ◌-◌, ◌*◌, ◌<◌, ◌≤◌, not, cond, List, [], ◌∷◌, ◌++◌, length, map, filter, replicate, refl, ◌∙◌, ap, arith}
 use Rattle.std.specs.Prelude.{◌==◌}
-use Rattle.std.specs.Int.{from_be_bytes, to_be_bytes, w16, w32}
+use Rattle.std.specs.Int.{to_be_bytes, w16}
+use Rattle.byte_fields.specs.Images.{big_number}
 use Rattle.std.proofs.lemmas.List.{map-append}
 use Rattle.std.proofs.lemmas.Bool.{cases_lt}
 use Rattle.tach_media.specs.Medium.{bytes_at, SameOutside}
-use Rattle.tach_media.specs.LogLaws.{put_outside}
-use Rattle.tach_media.proofs.Images.{part_before, part_after}
+use Rattle.tach_media.proofs.Images.{put_outside, part_before, part_after}
 use Rattle.gated_ring.specs.Ring.{indices as ring_indices, number_at, pointer, is_there, entry_at, next, order, taken}
 use Rattle.unit_model.specs.Days.{StoredDay, Each}
 use Rattle.unit_model.specs.Image.{day_ring, slot_place, last_kept, words_at, unit_day, indices, unit_days, day_head, unit_heads, slot_date, slot_odometer, slot_count, slot_words}
@@ -51,7 +51,7 @@ same_days i x c (j ∷ js) same others = ap (λ (e : List ℕ). unit_day e ∷ m
 pub in_slot : (i p n : ℕ) (x c : List ℕ) → slot_place i + 4 ≤ p → p + n ≤ slot_place i + 5776 → SameOutside p n x c → SameButOne i x c
 in_slot i p n x c low high same = record {
   pointer_is = number_before p n 1024 4 x c same (omega (arith, low));
-  there = λ j. ap (λ (b : List ℕ). not (from_be_bytes w32 (replicate (4 - 4) 0 ++ b) == 0)) (gate j);
+  there = λ j. ap (λ (b : List ℕ). not (big_number 4 b == 0)) (gate j);
   entries = λ j other. ⊎_elim
       (λ less. part_before p n (slot_place j) 5776 x c same (omega (arith, less, low)))
       (λ more. let greater : i < j = omega (arith, more, other) in part_after p n (slot_place j) 5776 x c same (omega (arith, greater, high)))
@@ -68,7 +68,7 @@ in_slot i p n x c low high same = record {
 pub in_front : (i p n : ℕ) (x c : List ℕ) → p + n ≤ 1024 → SameOutside p n x c → SameButOne i x c
 in_front i p n x c high same = record {
   pointer_is = number_after p n 1024 4 x c same high;
-  there = λ j. ap (λ (b : List ℕ). not (from_be_bytes w32 (replicate (4 - 4) 0 ++ b) == 0)) (part_after p n (slot_place j + 0) 4 x c same (omega (arith, high)));
+  there = λ j. ap (λ (b : List ℕ). not (big_number 4 b == 0)) (part_after p n (slot_place j + 0) 4 x c same (omega (arith, high)));
   entries = λ j other. part_after p n (slot_place j) 5776 x c same (omega (arith, high));
 }
 

@@ -6,9 +6,8 @@ use crate::keeping::{keep_all, open, show_days};
 use crate::{image, unit};
 use std::alloc::Global;
 use std::io::{self, Print};
-use tach_media::{Left, Medium, MemMedium, Memory, Stop};
+use tach_media::{Left, Medium, MemMedium, Memory, Stop, read_number};
 use unit_journal::{Journal, KeptMinute};
-use unit_memory::number;
 
 const LEFT: [Left; 3] = [Left::Before, Left::After, Left::Torn(0x55)];
 
@@ -111,9 +110,9 @@ fn show_left<R: Print, M: Medium>(rt: &R, unit: &mut M) -> io::Result<()>
     requires { IsUnit (M.state unit.old) }
     ensures { IsUnit (M.state unit.new) }
 {
-    let cell = number(unit, 648, 4).unwrap_or(0);
-    let count = number(unit, 6812, 2).unwrap_or(0);
-    let date = number(unit, 12580, 4).unwrap_or(0);
+    let cell = read_number(unit, 648, 4).unwrap_or(0);
+    let count = read_number(unit, 6812, 2).unwrap_or(0);
+    let date = read_number(unit, 12580, 4).unwrap_or(0);
     print!(rt; "{cell} {count} {date}; ")
 }
 

@@ -2,8 +2,7 @@
 use Rattle.std.proofs.Common.{◌≡◌, ◌⊎◌, inl, inr, ⊎_elim, ℕ, zero, suc, ◌+◌, ◌≤◌, List, [], ◌∷◌, ◌++◌, length, take, refl, sym, ◌∙◌, ap, subst, arith}
 use Rattle.std.specs.List.{AllByRecursion}
 use Rattle.tach_media.specs.Medium.{put, IsPartlyWritten, SameOutside}
-use Rattle.tach_media.specs.LogLaws.{put_outside}
-use Rattle.tach_media.proofs.Images.{outside_same, outside_wider, outside_then}
+use Rattle.tach_media.proofs.Images.{put_outside, outside_same, outside_wider, outside_then}
 use Rattle.write_plan.specs.Plan.{Piece, put_all, IsPartway, IsInside, AreShort, IsAfterSome, PutsAll, PutsBy}
 use Rattle.std.proofs.Common.{Bool, true, false, Option, Some, None, IfSome, option_map, length-append}
 use Rattle.tach_media.specs.Medium.{State, Reads, Writes}

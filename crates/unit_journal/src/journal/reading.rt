@@ -4,9 +4,8 @@ ghost use Rattle.gated_ring.specs.Ring.{number_at};
 ghost use Rattle.unit_model.specs.Image.{recorded, slot_place, slot_date, slot_odometer, slot_count};
 
 use crate::journal::Journal;
-use tach_media::{Failed, Medium};
+use tach_media::{Failed, Medium, read_number};
 use tacho_types::{Odometer, TimeReal};
-use unit_memory::number;
 use unit_model::layout::{
     DAY_COUNT, DAY_ODOMETER, DAY_SLOTS, DAY_WORD_LIMIT, DAY_WORDS, HIGHEST_ODOMETER, slot_place,
 };
@@ -34,8 +33,8 @@ fn whole_day<M: Medium>(unit: &mut M, index: u32, date: u32) -> Result<UnitDay, 
     ensures reads { Reads (M.state unit.old) (M.state unit.new) (is_err result) }
 {
     let place = slot_place(index);
-    let odometer = number(unit, place + DAY_ODOMETER.place, DAY_ODOMETER.size)?;
-    let count = number(unit, place + DAY_COUNT.place, DAY_COUNT.size)?;
+    let odometer = read_number(unit, place + DAY_ODOMETER.place, DAY_ODOMETER.size)?;
+    let count = read_number(unit, place + DAY_COUNT.place, DAY_COUNT.size)?;
     Ok(UnitDay {
         place,
         date: TimeReal(date),
@@ -88,7 +87,7 @@ impl Journal {
     {
         let place = slot_place(self.index);
         let date = self.last_date();
-        let odometer = number(unit, place + DAY_ODOMETER.place, DAY_ODOMETER.size)?;
+        let odometer = read_number(unit, place + DAY_ODOMETER.place, DAY_ODOMETER.size)?;
         Ok(UnitDay {
             place,
             date: TimeReal(date),
@@ -131,7 +130,7 @@ impl Journal {
         if nth + 1 == self.day_count {
             return self.last_day(unit);
         }
-        let date = number(unit, slot_place(self.index_at(nth)), 4)?;
+        let date = read_number(unit, slot_place(self.index_at(nth)), 4)?;
         self.older_day(unit, nth, date)
     }
 
@@ -149,7 +148,7 @@ impl Journal {
     {
         for nth in 0..self.day_count - 1 {
             let place = slot_place(self.index_at(nth));
-            if number(unit, place, 4)? == date {
+            if read_number(unit, place, 4)? == date {
                 let day = self.older_day(unit, nth, date)?;
                 return Ok(Some(day));
             }

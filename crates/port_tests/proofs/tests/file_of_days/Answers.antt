@@ -1,40 +1,22 @@
-use Rattle.std.proofs.Common.{◌≡◌, ◌≤◌, ◌%◌, Option, IfSome, inl, inr, arith, sym, subst}
-use Rattle.card_layout.specs.declared.files.Application.{Application}
+use Rattle.std.proofs.Common.{◌≡◌, ◌≤◌, ◌%◌, ◌+◌, refl, arith}
 use Rattle.card_layout.specs.declared.files.Fid.{Fid}
-use Rattle.card_layout.specs.declared.files.Range.{Range}
-use Rattle.card_layout.specs.Application.{IsApplication}
-use Rattle.card_layout.specs.Files.{files_of, range_of}
-use Rattle.tach_media.specs.Medium.{LiesInside}
-use Rattle.card_commands.specs.Ports.{writable_of}
+use Rattle.card_layout.specs.Files.{files_of}
+use Rattle.card_layout.proofs.Sizes.{days_at, of_range}
+use Rattle.card_commands.proofs.Updated.{if_writable}
 use Rattle.port_tests.proofs.tests.file_of_days.Goals as goal
 
 abbrev fid : Fid
 fid = record { 0 = 0x0504 }
 
-writable : (app : Application) → IsApplication app → (o : Option Range) → o ≡ range_of app fid → IfSome o (λ r. LiesInside (writable_of app) r.base r.len)
-unfolding files_of
-writable app good o is = subst (λ (o : Option Range). IfSome o (λ r. LiesInside (writable_of app) r.base r.len)) (sym is) (inr (inr (inl (omega arith, omega arith))))
-
 pub returns-clause-writable : goal.returns-clause-writable
-returns-clause-writable c = writable c.args.app.now c.requires c.file_range.result c.file_range.ensures.value
-
-even : (app : Application) → IsApplication app → (o : Option Range) → o ≡ range_of app fid → IfSome o (λ r. r.len % 2 ≡ 0)
 unfolding files_of
-even app good o is = subst (λ (o : Option Range). IfSome o (λ r. r.len % 2 ≡ 0)) (sym is) (omega (arith, good.string_even))
+returns-clause-writable c = if_writable c.args.app.now fid c.file_range.result refl c.file_range.ensures.value
 
 pub returns-clause-even : goal.returns-clause-even
-returns-clause-even c = even c.args.app.now c.requires c.file_range.result c.file_range.ensures.value
-
-low : (app : Application) → IsApplication app → (o : Option Range) → o ≡ range_of app fid → IfSome o (λ r. 5548 ≤ r.len)
-unfolding files_of
-low app good o is = subst (λ (o : Option Range). IfSome o (λ r. 5548 ≤ r.len)) (sym is) (omega (arith, good.string_least))
+returns-clause-even c = of_range (λ r. r.len % 2 ≡ 0) c.args.app.now fid _ c.file_range.result (days_at c.args.app.now) c.file_range.ensures.value (omega (arith, c.requires.string_even))
 
 pub returns-clause-low : goal.returns-clause-low
-returns-clause-low c = low c.args.app.now c.requires c.file_range.result c.file_range.ensures.value
-
-high : (app : Application) → IsApplication app → (o : Option Range) → o ≡ range_of app fid → IfSome o (λ r. r.len ≤ 13780)
-unfolding files_of
-high app good o is = subst (λ (o : Option Range). IfSome o (λ r. r.len ≤ 13780)) (sym is) (omega (arith, good.string_most))
+returns-clause-low c = of_range (λ r. 5548 ≤ r.len) c.args.app.now fid _ c.file_range.result (days_at c.args.app.now) c.file_range.ensures.value (omega (arith, c.requires.string_least))
 
 pub returns-clause-high : goal.returns-clause-high
-returns-clause-high c = high c.args.app.now c.requires c.file_range.result c.file_range.ensures.value
+returns-clause-high c = of_range (λ r. r.len ≤ 13780) c.args.app.now fid _ c.file_range.result (days_at c.args.app.now) c.file_range.ensures.value (omega (arith, c.requires.string_most))

@@ -1,26 +1,23 @@
-use Rattle.std.proofs.Common.{◌≡◌, ◌≤◌, ◌+◌, ◌*◌, Option, IfSome, inl, inr, arith, sym, subst}
-use Rattle.card_layout.specs.declared.files.Application.{Application}
+use Rattle.std.proofs.Common.{◌≡◌, ◌≤◌, ◌+◌, ◌*◌, refl, arith}
 use Rattle.card_layout.specs.declared.files.Fid.{Fid}
-use Rattle.card_layout.specs.declared.files.Range.{Range}
-use Rattle.card_layout.specs.Application.{IsApplication}
-use Rattle.card_layout.specs.Files.{files_of, image_size_of, range_of}
+use Rattle.card_layout.specs.Files.{files_of, image_size_of}
+use Rattle.card_layout.proofs.Ranges.{range_inside}
+use Rattle.card_layout.proofs.Sizes.{vehicles_at, of_range}
 use Rattle.tach_media.specs.Medium.{LiesInside}
 use Rattle.card_commands.specs.Ports.{writable_of}
+use Rattle.card_commands.proofs.Updated.{updated_writable}
 use Rattle.port_tests.proofs.tests.file_of_vehicles.Goals as goal
 
 abbrev fid : Fid
 fid = record { 0 = 0x0505 }
 
-inside : (app : Application) → IsApplication app → (o : Option Range) → o ≡ range_of app fid → IfSome o (λ r. r.base + (2 + 31 * app.vehicles) ≤ image_size_of app)
-unfolding files_of
-inside app good o is = subst (λ (o : Option Range). IfSome o (λ r. r.base + (2 + 31 * app.vehicles) ≤ image_size_of app)) (sym is) (omega arith)
-
 pub returns-clause-inside : goal.returns-clause-inside
-returns-clause-inside c = inside c.args.app.now c.requires c.file_range.result c.file_range.ensures.value
-
-writable : (app : Application) → IsApplication app → (o : Option Range) → o ≡ range_of app fid → IfSome o (λ r. LiesInside (writable_of app) r.base (2 + 31 * app.vehicles))
-unfolding files_of
-writable app good o is = subst (λ (o : Option Range). IfSome o (λ r. LiesInside (writable_of app) r.base (2 + 31 * app.vehicles))) (sym is) (inr (inr (inr (inl (omega arith, omega arith)))))
+returns-clause-inside c =
+    let app = c.args.app.now in
+    of_range (λ r. r.base + (2 + 31 * app.vehicles) ≤ image_size_of app) app fid _ c.file_range.result (vehicles_at app) c.file_range.ensures.value (range_inside app fid _ (vehicles_at app))
 
 pub returns-clause-writable : goal.returns-clause-writable
-returns-clause-writable c = writable c.args.app.now c.requires c.file_range.result c.file_range.ensures.value
+unfolding files_of
+returns-clause-writable c =
+    let app = c.args.app.now in
+    of_range (λ r. LiesInside (writable_of app) r.base (2 + 31 * app.vehicles)) app fid _ c.file_range.result (vehicles_at app) c.file_range.ensures.value (updated_writable app fid _ (vehicles_at app) refl)

@@ -1,6 +1,6 @@
 use Rattle.std.proofs.Common.{◌≡◌, ◌+◌, ◌≤◌, ⊎_elim, inl, inr, List, ℕ, length, refl, sym, subst, arith}
 use Rattle.tach_media.specs.Medium.{IsPartlyWritten, put}
-use Rattle.tach_media.specs.LogLaws.{put_outside}
+use Rattle.tach_media.proofs.Images.{put_outside}
 use Rattle.tach_media.proofs.Ranges.{lies_part, lies_still}
 use Rattle.tach_media.proofs.Runs.{weaken, goes_by}
 use Rattle.tach_media.proofs.tests.put_marked.Goals as goal

@@ -15,10 +15,10 @@ returns-clause-found g c =
     let i = c.args.index in
     let n = c.min-stored.result in
     let r = c.in_ok-scan.scan in
-    let read = c.in_ok-number.field-0 in
-    let count : IfSome image (λ x. read ≡ slot_count x i) = c.in_ok-number.ensures.value in
+    let read = c.in_ok-read_number.field-0 in
+    let count : IfSome image (λ x. read ≡ slot_count x i) = c.in_ok-read_number.ensures.value in
     let scan : IfSome image (λ x. r ≡ scan_from (kept % 1440) (slot_place i + 16) 0 start (slot_words x i n)) =
-    carried (λ x. r ≡ scan_from (kept % 1440) (slot_place i + 16) 0 start (slot_words x i n)) (c.in_ok-number.ensures.reads.same refl) c.in_ok-scan.ensures.scan in
+    carried (λ x. r ≡ scan_from (kept % 1440) (slot_place i + 16) 0 start (slot_words x i n)) (c.in_ok-read_number.ensures.reads.same refl) c.in_ok-scan.ensures.scan in
     both_told image _ count scan (λ x is count scan some few none.
     let stored : n ≡ min (slot_count x i) 2880 = omega (arith, count) in
     subst (λ (t : Today). IsToday kept i t.stored t.count t.driver t.codriver x) (sym c.today_of.ensures.today) (scan_today kept i n r x stored few none scan))

@@ -1,7 +1,7 @@
 use Rattle.std.proofs.Common.{◌≡◌, ℕ, ◌+◌, Bool, true, false, not, List, length, take, drop, refl, ◌∙◌, ap, arith, ◌≤◌}
 use Rattle.tach_media.specs.Medium.{bytes_at}
-use Rattle.tach_media.specs.Chip.{is_application}
-use Rattle.card_commands.proofs.Parts.{part_of, where_some, where_told}
+use Rattle.chip_model.specs.Outcomes.{is_application}
+use Rattle.card_commands.proofs.Parts.{part_of, where_some, told_weaker}
 use Rattle.card_commands.proofs.sim_card.SimCard.file_bytes.Goals as goal
 
 is_so : (b : Bool) → false ≡ not b → b ≡ true
@@ -19,6 +19,6 @@ returns-clause-bytes g c =
     let inside : offset + n ≤ 10 = omega (arith, c.requires.inside, c.requires.file.len same) in
     let place : 33 + offset ≡ file.range.base + offset = omega (arith, c.requires.file.base same) in (
       c.copy_from_slice.ensures.len,
-      where_told _ _ c.in_ok-application.ensures.image (λ x is. copied ∙ part_of x application offset n inside is ∙ ap (λ (m : ℕ). bytes_at x m n) place),
+      told_weaker _ _ c.in_ok-application.ensures.image (λ x is. copied ∙ part_of x application offset n inside is ∙ ap (λ (m : ℕ). bytes_at x m n) place),
       λ same. where_some _ (ap (λ s. s.application) c.in_ok-application.ensures.card) copied,
     )

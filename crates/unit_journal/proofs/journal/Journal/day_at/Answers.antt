@@ -31,7 +31,7 @@ returns-clause-day g c =
     let image = (g.M.Medium.state c.args.unit.now).image in
     let place_is : c.slot_place.result ≡ slot_place i = c.slot_place.ensures ∙ ap slot_place c.index_at.ensures.index in
     IfOk-weaker c.older_day.result
-    (λ day. IfSome (g.M.Medium.state c.number.new.medium).image (λ x. AreRight j x → date ≡ slot_date x i → IsRecordedDay x n i day))
+    (λ day. IfSome (g.M.Medium.state c.read_number.new.medium).image (λ x. AreRight j x → date ≡ slot_date x i → IsRecordedDay x n i day))
     (λ day. IfSome image (λ x. AreRight j x → (k : ℕ) × IsRecordedDay x n k day))
     (λ day it. both_told image (λ x. AreRight j x → (k : ℕ) × IsRecordedDay x n k day) c.in_ok-date.ensures.value
     (carried (λ x. AreRight j x → date ≡ slot_date x i → IsRecordedDay x n i day) (c.in_ok-date.ensures.reads.same refl) it)

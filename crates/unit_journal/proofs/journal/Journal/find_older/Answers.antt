@@ -27,6 +27,6 @@ returns-then-branch-date-clause-found g c =
     let place_is : c.slot_place-place.result ≡ slot_place i = c.slot_place-place.ensures ∙ ap slot_place c.index_at.ensures.index in
     let same = read_same c.loop-nth.invariant.reads in
     both_told (g.M.Medium.state c.args.unit.now).image _
-    (carried (λ x. c.in_ok-number.field-0 ≡ number_at x c.slot_place-place.result 4) same c.in_ok-number.ensures.value)
-    (carried (λ x. AreRight j x → date ≡ slot_date x i → IsRecordedDay x n i day) (c.in_ok-number.ensures.reads.same refl ∙ same) c.in_ok-day.ensures.day)
+    (carried (λ x. c.in_ok-read_number.field-0 ≡ number_at x c.slot_place-place.result 4) same c.in_ok-read_number.ensures.value)
+    (carried (λ x. AreRight j x → date ≡ slot_date x i → IsRecordedDay x n i day) (c.in_ok-read_number.ensures.reads.same refl ∙ same) c.in_ok-day.ensures.day)
     (λ x told number is right. (c.in_ok-day.ensures.date, (n, i, is right (sym c.if-branch-date.true ∙ number ∙ ap (λ (p : ℕ). number_at x p 4) place_is))))

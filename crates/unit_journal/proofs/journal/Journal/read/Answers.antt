@@ -20,14 +20,14 @@ unfolding odometer_at
 returns-clause-found g c =
     let image = (g.M.Medium.state c.args.unit.now).image in
     let r = c.in_ok-days.ensures.reads in
-    let r1 = reads_then r c.in_ok-number.ensures.reads in
+    let r1 = reads_then r c.in_ok-read_number.ensures.reads in
     let k = c.min-kept.result in
     let p = c.min-pointer.result in
     let i = c.index_of-index.result in
     let d = c.recorded_days-day_count.result in
     let t = c.in_ok-today.today in
     let s = c.later_day-stray.result in
-    let o = c.in_ok-number.field-0 in
+    let o = c.in_ok-read_number.field-0 in
     let w = c.args.judged.walk in
     told_all image _ (λ x is.
     let judged = at_image (IsJudged c.args.judged) is c.requires.judged in
@@ -35,7 +35,7 @@ returns-clause-found g c =
     let ok = decoded x none in
     let kept_is : k ≡ last_kept x = omega (arith, judged.kept, ok.kept) in
     let p_is : p ≡ pointer day_ring x = omega (arith, judged.pointer_is, ok.known) in
-    let o_is : o ≡ odometer_at x = at_image (λ x. o ≡ number_at x 568 4) is (carried (λ x. o ≡ number_at x 568 4) (r.same refl) c.in_ok-number.ensures.value) in
+    let o_is : o ≡ odometer_at x = at_image (λ x. o ≡ number_at x 568 4) is (carried (λ x. o ≡ number_at x 568 4) (r.same refl) c.in_ok-read_number.ensures.value) in
     let odometer_is : c.min-odometer.result ≡ odometer_at x = omega (arith, o_is, ok.odometer) in
     let s_is : s ≡ stray_of (last_kept x) (pointer day_ring x) (slot_date x (pointer day_ring x)) =
     c.later_day-stray.ensures.stray ∙ (λ j. stray_of (kept_is j) (p_is j) w.last_date) ∙ last_stray x ok w judged.walk in

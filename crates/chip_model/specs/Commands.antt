@@ -1,8 +1,9 @@
 -- The commands of a card (Appendix 2, section 3.6) by their bytes: class, instruction, P1, P2, then a length and data.
-use Rattle.std.specs.Prelude.{ℕ, ◌+◌, ◌*◌, ◌==◌, ◌&&◌, ◌||◌, not, nat_le, nat_lt, if◌then◌else◌, Bool, true, false, Result, Ok, Err, List, [], ◌∷◌, length, drop, slice_index, bytes_eq}
+use Rattle.std.specs.Prelude.{ℕ, ◌+◌, ◌==◌, ◌&&◌, ◌||◌, not, nat_le, nat_lt, if◌then◌else◌, Bool, true, false, Result, Ok, Err, List, [], ◌∷◌, length, drop, slice_index, bytes_eq}
+use Rattle.byte_fields.specs.Images.{number_at}
 use Rattle.card_layout.specs.declared.files.Fid.{Fid}
-use Rattle.tach_media.specs.declared.command.Command.{Command}
-use Rattle.tach_media.specs.declared.command.Command.TheVariants.{Application, Select, Read, Update}
+use Rattle.chip_model.specs.declared.command.Command.{Command}
+use Rattle.chip_model.specs.declared.command.Command.TheVariants.{Application, Select, Read, Update}
 
 -- the name of DF Tachograph: FF, then TACHO
 abbrev pub tachograph_name : List ℕ
@@ -34,16 +35,12 @@ has_good_length b =
     else if is_read b then length b == 5
     else not (slice_index b 4 == 0) && length b == 5 + slice_index b 4
 
--- the number in the two bytes at a place
-abbrev pub number_at : List ℕ → ℕ → ℕ
-number_at b place = slice_index b place * 256 + slice_index b (place + 1)
-
 -- what a command means that passes the checks; a read of length 0 is one of 256 bytes
 abbrev pub meaning : List ℕ → Command
 meaning b =
-    if is_select b then (if is_by_name b then Application else Select (record { 0 = number_at b 5 }))
-    else if is_read b then Read (number_at b 2) (if slice_index b 4 == 0 then 256 else slice_index b 4)
-    else Update (number_at b 2) (record { items = drop 5 b })
+    if is_select b then (if is_by_name b then Application else Select (record { 0 = number_at b 5 2 }))
+    else if is_read b then Read (number_at b 2 2) (if slice_index b 4 == 0 then 256 else slice_index b 4)
+    else Update (number_at b 2 2) (record { items = drop 5 b })
 
 -- The table of the checks on the bytes alone, in their order: the first that fails gives the status word.
 abbrev pub command_of : List ℕ → Result Command ℕ

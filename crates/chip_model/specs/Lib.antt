@@ -1,0 +1,4 @@
+pub mod Commands
+pub mod Issue
+pub mod Layers
+pub mod Outcomes

@@ -1,0 +1,128 @@
+use super::*;
+use std::fs;
+use std::fs::File;
+use std::os::unix::fs::symlink;
+use std::test::Fail;
+
+#[test]
+fn a_file_is_made_written_and_read(rt: HostRuntime) -> Result<(), Fail> {
+    let mut out = [9u8; 4];
+    let mut made = FileMedium::new(&rt, "tach_media_made", 64);
+    assert!(rt; !fs::exists(&rt, "tach_media_made")?);
+    assert!(rt; made.write_at(10, b"abc").is_ok());
+    assert!(rt; made.read_at(9, &mut out).is_ok());
+    assert!(rt; &out == b"\0abc");
+    assert_eq!(rt; fs::metadata(&rt, "tach_media_made")?.len(), 64);
+    fs::remove_file(&rt, "tach_media_made")?;
+    let mut nowhere = FileMedium::new(&rt, "no_such_folder/file", 64);
+    assert!(rt; nowhere.read_at(0, &mut out).is_err());
+    assert!(rt; nowhere.revive().is_err());
+    Ok(())
+}
+
+#[test]
+fn of_a_longer_file_the_front(rt: HostRuntime) -> Result<(), Fail> {
+    let mut out = [0u8; 4];
+    fs::write(&rt, "tach_media_long", b"0123456789")?;
+    let mut front = FileMedium::new(&rt, "tach_media_long", 8);
+    assert!(rt; front.write_at(4, b"abcd").is_ok());
+    assert!(rt; front.read_at(3, &mut out).is_ok());
+    assert!(rt; &out == b"3abc");
+    assert!(rt; fs::read(&rt, "tach_media_long")?.as_slice() == b"0123abcd89".as_slice());
+    fs::remove_file(&rt, "tach_media_long")?;
+    Ok(())
+}
+
+#[test]
+fn a_short_file_grows_by_a_write(rt: HostRuntime) -> Result<(), Fail> {
+    let mut out = [0u8; 4];
+    fs::write(&rt, "tach_media_short", b"01234567")?;
+    let mut medium = FileMedium::new(&rt, "tach_media_short", 16);
+    assert!(rt; medium.read_at(6, &mut out).is_err());
+    assert!(rt; medium.read_at(0, &mut out).is_err());
+    assert!(rt; medium.revive().is_ok());
+    assert!(rt; medium.read_at(4, &mut out).is_ok());
+    assert!(rt; &out == b"4567");
+    assert!(rt; medium.write_at(12, b"abcd").is_ok());
+    assert!(rt; medium.read_at(10, &mut out).is_ok());
+    assert!(rt; &out == b"\0\0ab");
+    fs::remove_file(&rt, "tach_media_short")?;
+    Ok(())
+}
+
+#[test]
+fn a_file_that_another_has_locked(rt: HostRuntime) -> Result<(), Fail> {
+    let mut out = [0u8; 4];
+    {
+        let mut first = FileMedium::new(&rt, "tach_media_locked", 8);
+        let mut second = FileMedium::new(&rt, "tach_media_locked", 8);
+        assert!(rt; first.write_at(0, b"abcd").is_ok());
+        assert!(rt; second.read_at(0, &mut out).is_err());
+        assert!(rt; second.revive().is_err());
+        assert!(rt; second.write_at(0, b"efgh").is_err());
+        assert!(rt; first.read_at(0, &mut out).is_ok());
+        assert!(rt; &out == b"abcd");
+    }
+    let mut later = FileMedium::new(&rt, "tach_media_locked", 8);
+    assert!(rt; later.write_at(4, b"efgh").is_ok());
+    fs::remove_file(&rt, "tach_media_locked")?;
+    Ok(())
+}
+
+#[test]
+fn a_link_to_a_file_and_one_to_none(rt: HostRuntime) -> Result<(), Fail> {
+    let mut out = [0u8; 4];
+    fs::write(&rt, "tach_media_target", b"01234567")?;
+    symlink(&rt, "tach_media_target", "tach_media_link")?;
+    let mut through = FileMedium::new(&rt, "tach_media_link", 8);
+    assert!(rt; through.write_at(0, b"abcd").is_ok());
+    assert!(rt; fs::read(&rt, "tach_media_target")?.as_slice() == b"abcd4567".as_slice());
+    symlink(&rt, "tach_media_nothing", "tach_media_dangling")?;
+    let mut dangling = FileMedium::new(&rt, "tach_media_dangling", 8);
+    assert!(rt; dangling.read_at(0, &mut out).is_err());
+    assert!(rt; dangling.revive().is_err());
+    assert!(rt; !fs::exists(&rt, "tach_media_nothing")?);
+    fs::remove_file(&rt, "tach_media_link")?;
+    fs::remove_file(&rt, "tach_media_dangling")?;
+    fs::remove_file(&rt, "tach_media_target")?;
+    Ok(())
+}
+
+#[test]
+fn a_folder_is_no_medium(rt: HostRuntime) -> Result<(), Fail> {
+    let mut out = [0u8; 4];
+    let mut folder = FileMedium::new(&rt, ".", 8);
+    assert!(rt; folder.read_at(0, &mut out).is_err());
+    assert!(rt; folder.revive().is_err());
+    Ok(())
+}
+
+/// A program that runs may be read, and not written.
+#[test]
+fn a_file_that_may_only_be_read(rt: HostRuntime) -> Result<(), Fail> {
+    let mut out = [0u8; 4];
+    assert!(rt; File::open(&rt, "/proc/self/exe").is_ok());
+    let mut program = FileMedium::new(&rt, "/proc/self/exe", 8);
+    assert!(rt; program.read_at(0, &mut out).is_err());
+    assert!(rt; program.revive().is_err());
+    Ok(())
+}
+
+/// What of a process goes into its core file can be written, and stands on no disk.
+#[test]
+fn a_write_that_cannot_be_synchronised(rt: HostRuntime) -> Result<(), Fail> {
+    let mut out = [0u8; 8];
+    {
+        let mut shown = FileMedium::without_waiting(&rt, "/proc/self/coredump_filter", 8);
+        assert!(rt; shown.write_at(0, b"0x33").is_ok());
+        assert!(rt; shown.revive().is_ok());
+    }
+    let mut filter = FileMedium::new(&rt, "/proc/self/coredump_filter", 8);
+    assert!(rt; filter.read_at(0, &mut out).is_ok());
+    assert!(rt; &out == b"00000033");
+    assert!(rt; filter.write_at(0, b"0x33").is_err());
+    assert!(rt; filter.revive().is_err());
+    assert!(rt; filter.read_at(0, &mut out).is_err());
+    assert_eq!(rt; filter.clock(), 1);
+    Ok(())
+}
