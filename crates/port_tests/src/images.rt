@@ -1,11 +1,12 @@
 ghost use Rattle.std.specs.Prelude.{◌≡◌, IfOk, vec_len};
 
 use crate::keeping::VEHICLE;
+use card_layout::LARGEST_IMAGE;
 use std::alloc::Global;
 use tach_media::Memory;
 
-/// The size of the flat image of a card of the smallest sizes.
-pub const SIZE: usize = 24959;
+/// The size of the flat image of these cards, as long as the largest card's.
+pub const SIZE: usize = LARGEST_IMAGE as usize;
 
 // Application_Identification of a card of 6 events and 12 faults of each type, a string of 5544 bytes, 84 vehicles and
 // 84 places.
@@ -24,7 +25,7 @@ const TWO_DAYS: [u8; 36] = [
 
 /// The image of a blank card of these sizes.
 pub fn blank(alloc: Global) -> Result<Vec<u8>, Memory>
-    ensures { IfOk result (λ image. vec_len image ≡ 24959) }
+    ensures { IfOk result (λ image. vec_len image ≡ LARGEST_IMAGE) }
 {
     let mut image = vec![in alloc; 0u8; SIZE]?;
     let place = &mut image[33..43];
@@ -34,7 +35,7 @@ pub fn blank(alloc: Global) -> Result<Vec<u8>, Memory>
 
 /// A card of two days.
 pub fn two_days(alloc: Global) -> Result<Vec<u8>, Memory>
-    ensures { IfOk result (λ image. vec_len image ≡ 24959) }
+    ensures { IfOk result (λ image. vec_len image ≡ LARGEST_IMAGE) }
 {
     let mut image = blank(alloc)?;
     let place = &mut image[DAYS..DAYS + 36];
@@ -83,7 +84,7 @@ fn vehicles(alloc: Global) -> Result<Vec<u8>, Memory> {
 
 /// A card that is full: of days, the oldest of which stands so many bytes before the string's end, and of vehicles.
 pub fn full(alloc: Global, back: usize) -> Result<Vec<u8>, Memory>
-    ensures { IfOk result (λ image. vec_len image ≡ 24959) }
+    ensures { IfOk result (λ image. vec_len image ≡ LARGEST_IMAGE) }
 {
     let string = full_string(alloc)?;
     let vehicles = vehicles(alloc)?;

@@ -4,6 +4,7 @@ use crate::counted::Counted;
 use crate::images::SIZE;
 use card_calls::{NewDay, Stop, open, open_vehicles};
 use card_commands::SimCard;
+use card_layout::LARGEST_IMAGE;
 use std::alloc::Global;
 use tach_media::{Chip, MemMedium, Memory};
 use tacho_types::{Distance, TimeReal};
@@ -40,7 +41,7 @@ pub fn card(alloc: Global, image: Vec<u8>) -> Result<Counted<SimCard<MemMedium>>
 
 /// A word on the newest day of a card.
 pub fn word<C: Chip>(card: &mut Counted<C>) -> Result<Figures, Stop>
-    requires { 24959 ≤ (C.state card.old.chip).size }
+    requires { LARGEST_IMAGE ≤ (C.state card.old.chip).size }
 {
     let mut session = open(&mut *card)?;
     let commands = card.commands();
@@ -54,7 +55,7 @@ pub fn word<C: Chip>(card: &mut Counted<C>) -> Result<Figures, Stop>
 
 /// A minute that begins a day: a word that closes a gap, the day, its distance, and a vehicle.
 pub fn new_day<C: Chip>(card: &mut Counted<C>) -> Result<Figures, Stop>
-    requires { 24959 ≤ (C.state card.old.chip).size }
+    requires { LARGEST_IMAGE ≤ (C.state card.old.chip).size }
 {
     let mut session = open(&mut *card)?;
     let mut vehicles = open_vehicles(&mut *card, session.application)?;

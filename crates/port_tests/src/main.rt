@@ -8,6 +8,7 @@ mod keeping;
 #[cfg(test)]
 mod tests;
 
+use card_layout::LARGEST_IMAGE;
 use keeping::{Figures, card, new_day, word};
 use std::alloc::Global;
 use std::io;
@@ -28,7 +29,7 @@ fn show<R: Print>(
     let Ok(mut card) = card(alloc, image) else {
         return println!(rt; "out of memory");
     };
-    if card.size() < 24959 {
+    if card.size() < LARGEST_IMAGE {
         return println!(rt; "no card");
     }
     let figures = if begins {

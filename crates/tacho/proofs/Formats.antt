@@ -11,13 +11,13 @@ use Rattle.run_model.specs.declared.Device.{Device}
 use Rattle.card_layout.specs.Files.{files_of, image_size_of}
 use Rattle.tacho.specs.declared.end.Fault.{Fault}
 use Rattle.tacho.specs.declared.end.Fault.TheVariants.{WriteFault, MediumFault}
-use Rattle.tacho.specs.declared.sizes.TheConstants.{CARD_SIZE, LARGEST}
+use Rattle.card_layout.specs.declared.files.TheConstants.{LARGEST, LARGEST_IMAGE}
 use Rattle.tacho.specs.End.{end_of}
 use Rattle.tacho.specs.Outside.{SinkTold}
 use Rattle.tacho.specs.Formatting.{IsCard, EndsFormat, IsIssuing, IsMade, formatted_line}
 
 -- a card of the largest sizes
-pub largest-size : image_size_of LARGEST ≡ CARD_SIZE
+pub largest-size : image_size_of LARGEST ≡ LARGEST_IMAGE
 unfolding files_of
 largest-size = refl
 
@@ -75,7 +75,7 @@ make-done device image R old new before after (Err fault) run made settled cause
       finishes = λ no_device no_sink. absurd (no_sink rose);
     })
 
-module _ (device : Device) (image : List ℕ) (old new : State) (whole : IsCoherent old) (size : length image ≡ CARD_SIZE) (card : IsCard old) where
+module _ (device : Device) (image : List ℕ) (old new : State) (whole : IsCoherent old) (size : length image ≡ LARGEST_IMAGE) (card : IsCard old) where
   sized : (x : List ℕ) → old.image ≡ Some x → length x ≡ length image
   sized x told = omega (arith, whole.sized x told, card.sized, card.behind, size)
 

@@ -14,13 +14,13 @@ use Rattle.unit_memory.specs.declared.format.Identity.{Identity}
 use Rattle.unit_memory.specs.Formats.{IsFormatting}
 use Rattle.tacho.specs.declared.end.Fault.{Fault}
 use Rattle.tacho.specs.declared.end.Fault.TheVariants.{Done, WriteFault, MediumFault, Memory}
-use Rattle.tacho.specs.declared.sizes.TheConstants.{CARD_SIZE, LARGEST}
+use Rattle.card_layout.specs.declared.files.TheConstants.{LARGEST, LARGEST_IMAGE}
 use Rattle.tacho.specs.End.{is_medium_fault}
 use Rattle.tacho.specs.Outside.{SinkTold, CardTold}
 
 -- a device that is a card's: it has the largest card's size, and no bytes behind
 pub record IsCard (s : State) : Type 0 where
-  pub sized : s.size ≡ CARD_SIZE
+  pub sized : s.size ≡ LARGEST_IMAGE
   pub behind : s.behind ≡ 0
 
 -- what is printed of a device that was made new

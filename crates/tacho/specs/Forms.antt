@@ -1,7 +1,6 @@
 -- The forms of words that the program knows (profile).
 use Rattle.std.specs.Prelude.{ℕ, if◌then◌else◌, Option, Some, None, option_map, List, [], ◌∷◌, codes, bytes_eq}
-use Rattle.trace_model.specs.declared.Card.{Card}
-use Rattle.trace_model.specs.declared.Card.TheVariants.{A, B}
+use Rattle.trace_model.specs.Names.{card_named}
 use Rattle.tacho_types.specs.declared.texts.Name36.{Name36}
 use Rattle.tacho_types.specs.declared.texts.Registration.{Registration}
 use Rattle.card_files.specs.declared.new_card.CardIdentity.{CardIdentity}
@@ -45,10 +44,6 @@ unit_in nation plate vin limit = do
   vin ← word_in VIN VIN vin
   limit ← number_in LIMIT_LEAST LIMIT_MOST limit
   Some (record { vin = vin; registration = registration; limit = limit })
-
--- the card that a word names
-abbrev pub card_named : List ℕ → Option Card
-card_named word = if bytes_eq word (codes "a") then Some A else if bytes_eq word (codes "b") then Some B else None
 
 -- `minutes`
 abbrev pub form_of_one : List ℕ → Option Form

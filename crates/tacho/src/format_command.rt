@@ -11,8 +11,8 @@ ghost use Rattle.tacho.specs.End.{end_of};
 ghost use Rattle.tacho.specs.Formatting.{EndsFormat, IsCard, IsIssuing, formatted_line, card_image, unit_image};
 
 use crate::end::Fault;
-use crate::sizes::LARGEST;
 use card_files::{CardIdentity, blank_card};
+use card_layout::LARGEST;
 use run_model::Device;
 use std::alloc::Global;
 use tach_media::{Chip, Medium, Sink, put_all};

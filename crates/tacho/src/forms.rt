@@ -2,13 +2,13 @@
 ghost use Rattle.std.specs.Prelude.{◌≡◌, ◌∷◌, ◌+◌, ◌-◌, ◌≤◌, length, bytes_eq};
 ghost use Rattle.std.specs.List.{list_all};
 ghost use Rattle.tacho.specs.Texts.{is_character, is_word, begins_with_dash, word_in, number_in, padded};
-ghost use Rattle.tacho.specs.Forms.{name_in, card_in, registration_in, unit_in, card_named, form_of_one, format_of, form_of_six, form_of};
+ghost use Rattle.tacho.specs.Forms.{name_in, card_in, registration_in, unit_in, form_of_one, format_of, form_of_six, form_of};
 
 use crate::words::Words;
 use card_files::CardIdentity;
-use run_model::Card;
 use tacho_types::{Name36, Nation, Registration};
-use text_fields::number;
+use text_fields::number_between;
+use trace_model::Card;
 use unit_memory::Identity;
 
 /// How many characters a card's number has.
@@ -93,7 +93,7 @@ fn format_of(what: &str, first: &str, second: &str, third: &str, fourth: &str) -
         };
         return Some(Form::FormatUnit { identity });
     }
-    let Some(card) = card_of(what) else {
+    let Some(card) = Card::named(what.as_bytes()) else {
         return None;
     };
     let Some(identity) = card_identity(first, second, third, fourth) else {
@@ -107,19 +107,6 @@ fn is_text(word: &str, text: &str) -> bool
     ensures { result ≡ bytes_eq word.now text.now }
 {
     word == text
-}
-
-/// The card that a word names.
-fn card_of(word: &str) -> Option<Card>
-    ensures { result ≡ card_named word.now }
-{
-    if is_text(word, "a") {
-        return Some(Card::A);
-    }
-    if is_text(word, "b") {
-        return Some(Card::B);
-    }
-    None
 }
 
 /// The identity that N, NUMBER, SURNAME and FIRST tell.
@@ -210,9 +197,9 @@ fn vehicle_number(word: &str) -> Option<[u8; 17]>
 fn byte(word: &str, least: u8, most: u8) -> Option<u8>
     ensures { result ≡ number_in least most word.now }
 {
-    match number(word.as_bytes()) {
-        Some(n) if least as u32 <= n && n <= most as u32 => Some(n as u8),
-        _ => None,
+    match number_between(word.as_bytes(), least as u32, most as u32) {
+        Some(n) => Some(n as u8),
+        None => None,
     }
 }
 

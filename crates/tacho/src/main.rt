@@ -7,14 +7,13 @@ mod format_command;
 mod forms;
 mod minutes;
 mod minutes_command;
-mod sizes;
 mod top;
 mod words;
 
 use card_commands::SimCard;
+use card_layout::LARGEST_IMAGE;
 use end::{Ended, Fault};
 use run_model::Device;
-use sizes::CARD_SIZE;
 use std::io::ErrorKind;
 use std::process::ExitCode;
 use std::{env, io};
@@ -52,8 +51,8 @@ fn run(rt: &HostRuntime) -> Ended {
             &mut StdSource::new(rt.stdin()),
             &mut StdSink::new(rt.stdout()),
             &mut FileMedium::new(rt, "unit.img", IMAGE_SIZE),
-            &mut SimCard::new(FileMedium::new(rt, "card-a.img", CARD_SIZE)),
-            &mut SimCard::new(FileMedium::new(rt, "card-b.img", CARD_SIZE)),
+            &mut SimCard::new(FileMedium::new(rt, "card-a.img", LARGEST_IMAGE)),
+            &mut SimCard::new(FileMedium::new(rt, "card-b.img", LARGEST_IMAGE)),
         ),
         Err(fault) => Ended::of(fault),
     }

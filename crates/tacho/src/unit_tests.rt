@@ -3,10 +3,10 @@ ghost use Rattle.tach_media.specs.MemMedium.{memory_state};
 ghost use Rattle.unit_model.specs.Image.{IsUnit};
 
 use crate::end::Fault;
-use crate::sizes::CARD_SIZE;
 use crate::tests::{unknown, words_of};
 use crate::top::tacho;
 use crate::words::Words;
+use card_layout::LARGEST_IMAGE;
 use run_model::Device;
 use std::alloc::{AllocError, Global};
 use std::process::Abort;
@@ -46,8 +46,8 @@ fn ends<U: Medium>(alloc: Global, words: &Words, unit: &mut U) -> Result<(Fault,
 {
     let mut source = MemSource::new(Vec::new(alloc), Vec::new(alloc));
     let mut sink = MemSink::new(Vec::with_capacity(alloc, 16)?, Vec::new(alloc));
-    let mut card_a = AbsentChip::new(CARD_SIZE);
-    let mut card_b = AbsentChip::new(CARD_SIZE);
+    let mut card_a = AbsentChip::new(LARGEST_IMAGE);
+    let mut card_b = AbsentChip::new(LARGEST_IMAGE);
     let ended = tacho(
         alloc,
         words,

@@ -10,6 +10,24 @@ pub enum Card {
     B,
 }
 
+impl Card {
+    ghost use Rattle.std.specs.Prelude.{◌≡◌};
+    ghost use Rattle.trace_model.specs.Names.{card_named};
+
+    /// The card that a word names: `a` or `b`.
+    pub fn named(word: &[u8]) -> Option<Card>
+        ensures { result ≡ card_named word.now }
+    {
+        if word == b"a".as_slice() {
+            return Some(Card::A);
+        }
+        if word == b"b".as_slice() {
+            return Some(Card::B);
+        }
+        None
+    }
+}
+
 /// What a line asks for at the start of the second that follows it.
 #[derive(Clone, Copy, Debug, PartialEq, Eq)]
 pub enum Action {

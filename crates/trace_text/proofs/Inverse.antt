@@ -13,7 +13,9 @@ use Rattle.trace_model.specs.declared.Card.TheVariants.{A, B}
 use Rattle.trace_model.specs.declared.Action.TheVariants.{Select, Insert, Withdraw, Tear, Place}
 use Rattle.trace_model.specs.declared.Item.{Item}
 use Rattle.trace_model.specs.declared.Item.TheVariants.{Run, Off, Act}
-use Rattle.trace_text.specs.Line.{item_fields, InRange, slot_word, pick_word, card_word, ending_word}
+use Rattle.activity_codec.specs.Names.{slot_name, pick_name}
+use Rattle.trace_model.specs.Names.{card_name}
+use Rattle.trace_text.specs.Line.{item_fields, InRange, ending_word}
 
 -- the first byte of a word, by which words are told apart
 abbrev first : List ℕ → ℕ
@@ -70,16 +72,16 @@ item_of (word ∷ rest) = item_by (first word) rest
 back-number : (n : ℕ) → n < 2 ^ 64 → number_of (decimal n) ≡ n
 back-number n small = (decimal_is_IsNumeral n small).1
 
-back-slot : (slot : Slot) → slot_of (slot_word slot) ≡ slot
+back-slot : (slot : Slot) → slot_of (slot_name slot) ≡ slot
 back-slot Driver = refl
 back-slot CoDriver = refl
 
-back-pick : (pick : Pick) → pick_of (pick_word pick) ≡ pick
+back-pick : (pick : Pick) → pick_of (pick_name pick) ≡ pick
 back-pick Rest = refl
 back-pick Available = refl
 back-pick Work = refl
 
-back-card : (card : Card) → card_of (card_word card) ≡ card
+back-card : (card : Card) → card_of (card_name card) ≡ card
 back-card A = refl
 back-card B = refl
 

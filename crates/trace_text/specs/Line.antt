@@ -1,29 +1,12 @@
 -- The grammar of one line of a trace (profile).
 use Rattle.std.specs.Prelude.{◌≡◌, ℕ, ◌≤◌, Bool, true, false, IsTrue, List, [], ◌∷◌, codes, decimal}
-use Rattle.activity_codec.specs.declared.values.Pick.{Pick}
-use Rattle.activity_codec.specs.declared.values.Pick.TheVariants.{Rest, Available, Work}
-use Rattle.activity_codec.specs.declared.values.Slot.{Slot}
-use Rattle.activity_codec.specs.declared.values.Slot.TheVariants.{Driver, CoDriver}
-use Rattle.trace_model.specs.declared.Card.{Card}
-use Rattle.trace_model.specs.declared.Card.TheVariants.{A, B}
+use Rattle.activity_codec.specs.Names.{slot_name, pick_name}
+use Rattle.trace_model.specs.Names.{card_name}
 use Rattle.trace_model.specs.declared.Action.TheVariants.{Select, Insert, Withdraw, Tear, Place}
 use Rattle.trace_model.specs.declared.Item.{Item}
 use Rattle.trace_model.specs.declared.Item.TheVariants.{Run, Off, Act}
 use Rattle.trace_text.specs.declared.trace.Form.{Form}
 use Rattle.trace_text.specs.declared.trace.Form.TheVariants.{Minutes, Whole}
-
-abbrev pub slot_word : Slot → List ℕ
-slot_word Driver = codes "driver"
-slot_word CoDriver = codes "codriver"
-
-abbrev pub pick_word : Pick → List ℕ
-pick_word Rest = codes "rest"
-pick_word Available = codes "available"
-pick_word Work = codes "work"
-
-abbrev pub card_word : Card → List ℕ
-card_word A = codes "a"
-card_word B = codes "b"
 
 -- whether a place is where the day begins or where it ends
 abbrev pub ending_word : Bool → List ℕ
@@ -38,12 +21,12 @@ start_fields second = codes "start" ∷ decimal second ∷ []
 abbrev pub item_fields : Item → List (List ℕ)
 item_fields (Run seconds speed) = codes "run" ∷ decimal seconds ∷ decimal speed ∷ []
 item_fields (Off seconds) = codes "off" ∷ decimal seconds ∷ []
-item_fields (Act (Select slot pick)) = codes "select" ∷ slot_word slot ∷ pick_word pick ∷ []
-item_fields (Act (Insert slot card)) = codes "insert" ∷ slot_word slot ∷ card_word card ∷ []
-item_fields (Act (Withdraw slot)) = codes "withdraw" ∷ slot_word slot ∷ []
-item_fields (Act (Tear slot)) = codes "tear" ∷ slot_word slot ∷ []
+item_fields (Act (Select slot pick)) = codes "select" ∷ slot_name slot ∷ pick_name pick ∷ []
+item_fields (Act (Insert slot card)) = codes "insert" ∷ slot_name slot ∷ card_name card ∷ []
+item_fields (Act (Withdraw slot)) = codes "withdraw" ∷ slot_name slot ∷ []
+item_fields (Act (Tear slot)) = codes "tear" ∷ slot_name slot ∷ []
 item_fields (Act (Place slot ending country region)) =
-    codes "place" ∷ slot_word slot ∷ ending_word ending ∷ decimal country ∷ decimal region ∷ []
+    codes "place" ∷ slot_name slot ∷ ending_word ending ∷ decimal country ∷ decimal region ∷ []
 
 -- the lines that a form knows behind `start`: the form of minutes `run` and `select`, and the whole form all
 abbrev pub knows : Form → Item → Bool

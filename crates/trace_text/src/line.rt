@@ -5,11 +5,13 @@ ghost use Rattle.activity_codec.specs.declared.values.Slot.{Slot as EachSlot};
 ghost use Rattle.text_fields.specs.Pieces.{pieces};
 ghost use Rattle.trace_model.specs.declared.Card.{Card as EachCard};
 ghost use Rattle.trace_model.specs.declared.Item.{Item as Each};
-ghost use Rattle.trace_text.specs.Line.{IsStart, IsItem, InRange, item_fields, slot_word, pick_word, card_word, ending_word};
+ghost use Rattle.activity_codec.specs.Names.{slot_name, pick_name};
+ghost use Rattle.trace_model.specs.Names.{card_name};
+ghost use Rattle.trace_text.specs.Line.{IsStart, IsItem, InRange, item_fields, ending_word};
 ghost use Rattle.trace_text.specs.Text.{counts, fields};
 
 use crate::trace::Form;
-use activity_codec::{Pick, Slot};
+use activity_codec::{Activity, Pick, Slot};
 use text_fields::{byte, first_piece, four_fields, is_word, number_between, one_field, two_fields};
 use trace_model::{Action, Card, Item};
 
@@ -222,45 +224,39 @@ fn read_place(rest: &[u8]) -> Option<Item>
 }
 
 fn read_slot(word: &[u8]) -> Option<Slot>
-    ensures found { IfSome result (λ slot. word.now ≡ slot_word slot) }
-    ensures none { IfNone result ((slot : EachSlot) → word.now ≡ slot_word slot → ⊥) }
+    ensures found { IfSome result (λ slot. word.now ≡ slot_name slot) }
+    ensures none { IfNone result ((slot : EachSlot) → word.now ≡ slot_name slot → ⊥) }
 {
-    if is_word(word, b"driver") {
+    if is_word(word, Slot::Driver.name()) {
         return Some(Slot::Driver);
     }
-    if is_word(word, b"codriver") {
+    if is_word(word, Slot::CoDriver.name()) {
         return Some(Slot::CoDriver);
     }
     None
 }
 
 fn read_pick(word: &[u8]) -> Option<Pick>
-    ensures found { IfSome result (λ pick. word.now ≡ pick_word pick) }
-    ensures none { IfNone result ((pick : EachPick) → word.now ≡ pick_word pick → ⊥) }
+    ensures found { IfSome result (λ pick. word.now ≡ pick_name pick) }
+    ensures none { IfNone result ((pick : EachPick) → word.now ≡ pick_name pick → ⊥) }
 {
-    if is_word(word, b"rest") {
+    if is_word(word, Activity::Rest.name()) {
         return Some(Pick::Rest);
     }
-    if is_word(word, b"available") {
+    if is_word(word, Activity::Available.name()) {
         return Some(Pick::Available);
     }
-    if is_word(word, b"work") {
+    if is_word(word, Activity::Work.name()) {
         return Some(Pick::Work);
     }
     None
 }
 
 fn read_card(word: &[u8]) -> Option<Card>
-    ensures found { IfSome result (λ card. word.now ≡ card_word card) }
-    ensures none { IfNone result ((card : EachCard) → word.now ≡ card_word card → ⊥) }
+    ensures found { IfSome result (λ card. word.now ≡ card_name card) }
+    ensures none { IfNone result ((card : EachCard) → word.now ≡ card_name card → ⊥) }
 {
-    if is_word(word, b"a") {
-        return Some(Card::A);
-    }
-    if is_word(word, b"b") {
-        return Some(Card::B);
-    }
-    None
+    Card::named(word)
 }
 
 /// Whether a place is where the day ends, and not where it begins.

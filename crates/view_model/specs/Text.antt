@@ -1,9 +1,6 @@
 -- The text of a view (profile).
 use Rattle.std.specs.Prelude.{◌≡◌, ℕ, ◌+◌, ◌/◌, ◌%◌, Bool, true, false, List, [], ◌∷◌, ◌++◌, codes}
-use Rattle.activity_codec.specs.declared.values.Slot.{Slot}
-use Rattle.activity_codec.specs.declared.values.Slot.TheVariants.{Driver, CoDriver}
-use Rattle.activity_codec.specs.declared.values.Activity.{Activity}
-use Rattle.activity_codec.specs.declared.values.Activity.TheVariants.{Rest, Available, Work, Driving}
+use Rattle.activity_codec.specs.Names.{slot_name, activity_name}
 use Rattle.tacho_types.specs.Calendar.{IsDateText}
 use Rattle.view_model.specs.declared.State.{State}
 use Rattle.view_model.specs.declared.UnitShown.{UnitShown}
@@ -19,16 +16,6 @@ two_digits n = (48 + n / 10) ∷ (48 + n % 10) ∷ []
 abbrev pub clock_text : ℕ → List ℕ
 clock_text minute = two_digits (minute % 1440 / 60) ++ codes ":" ++ two_digits (minute % 60)
 
-abbrev pub slot_word : Slot → List ℕ
-slot_word Driver = codes "driver"
-slot_word CoDriver = codes "codriver"
-
-abbrev pub activity_word : Activity → List ℕ
-activity_word Rest = codes "rest"
-activity_word Available = codes "available"
-activity_word Work = codes "work"
-activity_word Driving = codes "drive"
-
 -- whether a card was present
 abbrev pub presence_word : Bool → List ℕ
 presence_word true = codes "in"
@@ -39,7 +26,7 @@ crew_word true = codes "crew"
 crew_word false = codes "single"
 
 abbrev pub state_words : State → List ℕ
-state_words state = activity_word state.act ++ codes "," ++ presence_word state.present
+state_words state = activity_name state.act ++ codes "," ++ presence_word state.present
 
 -- `driver=ACT,IN codriver=ACT,IN CREW`
 abbrev pub unit_words : UnitShown → List ℕ
@@ -48,7 +35,7 @@ unit_words shown =
 
 -- `SLOT=ACT CREW`
 abbrev pub card_words : CardShown → List ℕ
-card_words shown = slot_word shown.slot ++ codes "=" ++ activity_word shown.act ++ codes " " ++ crew_word shown.crew
+card_words shown = slot_name shown.slot ++ codes "=" ++ activity_name shown.act ++ codes " " ++ crew_word shown.crew
 
 -- a line behind its date: ` HH:MM-HH:MM WORDS`
 abbrev pub line_text : {X : Type 0} → (X → List ℕ) → Line X → List ℕ

@@ -2,7 +2,7 @@
 ghost use Rattle.std.specs.Prelude.{◌≡◌, ◌++◌, OnOk, Bool, true, List, ℕ};
 ghost use Rattle.activity_codec.specs.Activity.{same_slot, same_activity};
 ghost use Rattle.view_model.specs.Lines.{same_state, same_bool};
-ghost use Rattle.view_model.specs.Text.{slot_word, activity_word, crew_word, state_words};
+ghost use Rattle.view_model.specs.Text.{crew_word, state_words};
 
 use activity_codec::{Activity, Slot};
 use std::alloc::AllocError;
@@ -74,9 +74,9 @@ impl Shown for CardShown {
     }
 
     fn write(self, text: &mut Vec<u8>) -> Result<(), AllocError> {
-        text.extend_from_slice(slot_name(self.slot))?;
+        text.extend_from_slice(self.slot.name())?;
         text.extend_from_slice(b"=")?;
-        text.extend_from_slice(activity_name(self.act))?;
+        text.extend_from_slice(self.act.name())?;
         text.extend_from_slice(b" ")?;
         text.extend_from_slice(crew_name(self.crew))?;
         Ok(())
@@ -105,7 +105,7 @@ fn is_same_slot(one: Slot, other: Slot) -> bool
 fn write_state(text: &mut Vec<u8>, state: State) -> Result<(), AllocError>
     ensures { OnOk result (text.new.items ≡ text.old.items ++ state_words state) }
 {
-    text.extend_from_slice(activity_name(state.act))?;
+    text.extend_from_slice(state.act.name())?;
     text.extend_from_slice(b",")?;
     text.extend_from_slice(if state.present {
         b"in".as_slice()
@@ -115,28 +115,8 @@ fn write_state(text: &mut Vec<u8>, state: State) -> Result<(), AllocError>
     Ok(())
 }
 
-fn slot_name(slot: Slot) -> &'static [u8]
-    ensures { result.now ≡ slot_word slot }
-{
-    match slot {
-        Slot::Driver => b"driver",
-        Slot::CoDriver => b"codriver",
-    }
-}
-
 fn crew_name(crew: bool) -> &'static [u8]
     ensures { result.now ≡ crew_word crew }
 {
     if crew { b"crew" } else { b"single" }
-}
-
-fn activity_name(activity: Activity) -> &'static [u8]
-    ensures { result.now ≡ activity_word activity }
-{
-    match activity {
-        Activity::Rest => b"rest",
-        Activity::Available => b"available",
-        Activity::Work => b"work",
-        Activity::Driving => b"drive",
-    }
 }
