@@ -4,7 +4,8 @@ use Rattle.trace_model.specs.declared.Card.TheVariants.{B}
 use Rattle.tacho.specs.declared.forms.Form.TheVariants.{Minutes}
 use Rattle.tacho.specs.declared.forms.TheConstants.{PLATE}
 use Rattle.tacho.specs.Texts.{word_in}
-use Rattle.tacho.specs.Forms.{name_in, card_named, form_of}
+use Rattle.trace_model.specs.Names.{card_named}
+use Rattle.tacho.specs.Forms.{name_in, form_of}
 
 minutes-row : form_of (codes "minutes" ∷ []) ≡ Some Minutes
 unfolding form_of

@@ -1,0 +1,163 @@
+ghost use Rattle.std.specs.Prelude.{◌≡◌, ◌≤◌, ◌+◌, ◌*◌, ◌%◌, IfOk, IfSome, vec_len};
+ghost use Rattle.card_layout.specs.Application.{IsApplication};
+ghost use Rattle.card_layout.specs.Files.{image_size_of};
+ghost use Rattle.card_commands.specs.Ports.{writable_of};
+ghost use Rattle.tach_media.specs.Medium.{LiesInside};
+
+use crate::card::images::{blank, full, two_days};
+use crate::card::keeping::{Figures, VEHICLE, card, new_day, word};
+use card_commands::{Port, SimCard};
+use card_files::file_range;
+use card_layout::{Application, Fid, LARGEST_IMAGE, Range};
+use cyclic_days::{Days, DaysFault};
+use gated_ring::{Ring, RingFault};
+use std::alloc::Global;
+use std::test::Fail;
+use tach_media::{Chip, Medium, MemMedium};
+use tacho_types::TimeReal;
+
+// 2010-03-01
+const MARCH: u32 = 1267401600;
+
+// Begins a day, and adds a word: where the newest day stands, and how many words it has.
+fn day_in<M: Medium>(medium: &mut M, range: Range) -> Result<Option<(u32, u16)>, DaysFault>
+    requires inside { range.base + range.len ≤ (M.state medium.old).size }
+    requires writable { LiesInside (M.state medium.old).writable range.base range.len }
+    requires even { range.len % 2 ≡ 0 }
+    requires low { 5548 ≤ range.len }
+    requires high { range.len ≤ 13780 }
+{
+    let mut days = Days::load(medium, range)?;
+    days.begin_day(medium, TimeReal(MARCH), &[0])?;
+    days.add_change(medium, 0x1805)?;
+    let last = days.last(medium)?;
+    Ok(last.map(|day| (day.place, day.words)))
+}
+
+// The file of days on a card of these sizes.
+fn file_of_days(app: &Application) -> Option<Range>
+    requires { IsApplication app.now }
+    ensures inside { IfSome result (λ r. r.base + r.len ≤ image_size_of app.now) }
+    ensures writable { IfSome result (λ r. LiesInside (writable_of app.now) r.base r.len) }
+    ensures even { IfSome result (λ r. r.len % 2 ≡ 0) }
+    ensures low { IfSome result (λ r. 5548 ≤ r.len) }
+    ensures high { IfSome result (λ r. r.len ≤ 13780) }
+{
+    file_range(app, Fid::ACTIVITY)
+}
+
+// The same on a card, through a port.
+fn day_on<C: Chip>(card: &mut C) -> Result<Option<(u32, u16)>, Fail>
+    requires { LARGEST_IMAGE ≤ (C.state card.old).size }
+{
+    let mut port = Port::load(&mut *card)?;
+    let Some(range) = file_of_days(&port.application()) else {
+        return Err(Fail::from("no days"));
+    };
+    Ok(day_in(&mut port, range)?)
+}
+
+#[test]
+fn a_day_through_a_port(rt: HostRuntime) -> Result<(), Fail> {
+    let alloc = rt.alloc();
+    let medium = MemMedium::new(alloc, blank(alloc)?, 64, 1024, Vec::new(alloc))?;
+    let mut card = SimCard::new(medium);
+    assert_eq!(rt; day_on(&mut card)?, Some((0, 2)));
+    Ok(())
+}
+
+// Adds an entry: the newest one then, and its last byte.
+fn entry_in<M: Medium>(
+    medium: &mut M,
+    base: u32,
+    count: u32,
+) -> Result<(Option<u32>, u8), RingFault>
+    requires inside { base + (2 + 31 * count) ≤ (M.state medium.old).size }
+    requires writable { LiesInside (M.state medium.old).writable base (2 + 31 * count) }
+    requires some { 84 ≤ count }
+    requires few { count ≤ 200 }
+{
+    let mut ring = Ring::load(medium, base, 31, count, 2, 6)?;
+    ring.add(medium, &VEHICLE)?;
+    let newest = ring.newest(medium)?;
+    let mut out = [0; 31];
+    if let Some(index) = newest {
+        ring.entry(medium, index, &mut out)?;
+    }
+    Ok((newest, out[30]))
+}
+
+// The file of vehicles on a card of these sizes.
+fn file_of_vehicles(app: &Application) -> Option<Range>
+    requires { IsApplication app.now }
+    ensures inside { IfSome result (λ r. r.base + (2 + 31 * app.now.vehicles) ≤ image_size_of app.now) }
+    ensures writable { IfSome result (λ r. LiesInside (writable_of app.now) r.base (2 + 31 * app.now.vehicles)) }
+{
+    file_range(app, Fid::VEHICLES)
+}
+
+// The same on a card, through a port.
+fn entry_on<C: Chip>(card: &mut C) -> Result<(Option<u32>, u8), Fail>
+    requires { LARGEST_IMAGE ≤ (C.state card.old).size }
+{
+    let mut port = Port::load(&mut *card)?;
+    let app = port.application();
+    let Some(range) = file_of_vehicles(&app) else {
+        return Err(Fail::from("no vehicles"));
+    };
+    Ok(entry_in(&mut port, range.base, app.vehicles as u32)?)
+}
+
+#[test]
+fn an_entry_through_a_port(rt: HostRuntime) -> Result<(), Fail> {
+    let alloc = rt.alloc();
+    let medium = MemMedium::new(alloc, blank(alloc)?, 64, 1024, Vec::new(alloc))?;
+    let mut card = SimCard::new(medium);
+    assert_eq!(rt; entry_on(&mut card)?, (Some(0), 9));
+    Ok(())
+}
+
+// A minute takes at most this many commands, and this many writes.
+const MOST_COMMANDS: u64 = 60;
+
+const MOST_WRITES: u64 = 17;
+
+// What a minute that begins a day takes of a card with this image.
+fn figures(alloc: Global, image: Vec<u8>) -> Result<Figures, Fail> {
+    let mut card = card(alloc, image)?;
+    if card.size() < 24959 {
+        return Err(Fail::from("no card"));
+    }
+    match new_day(&mut card) {
+        Ok(figures) => Ok(figures),
+        Err(_) => Err(Fail::from("stopped")),
+    }
+}
+
+#[test]
+fn a_minute_takes_few_commands(rt: HostRuntime) -> Result<(), Fail> {
+    let alloc = rt.alloc();
+    let room = figures(alloc, two_days(alloc)?)?;
+    let full_one = figures(alloc, full(alloc, 0)?)?;
+    let round = figures(alloc, full(alloc, 12)?)?;
+    for figures in [room, full_one, round] {
+        assert!(rt; figures.commands <= MOST_COMMANDS, "{figures:?}");
+        assert!(rt; figures.writes <= MOST_WRITES, "{figures:?}");
+    }
+    Ok(())
+}
+
+#[test]
+fn a_word_reads_nothing_where_there_is_room(rt: HostRuntime) -> Result<(), Fail> {
+    let alloc = rt.alloc();
+    let mut card = card(alloc, two_days(alloc)?)?;
+    if card.size() < 24959 {
+        return Err(Fail::from("no card"));
+    }
+    // the directory and the file are selected, and two writes
+    match word(&mut card) {
+        Ok(figures) => assert_eq!(rt; (figures.commands, figures.writes), (4, 2)),
+        Err(_) => return Err(Fail::from("stopped")),
+    }
+    Ok(())
+}

@@ -1,0 +1,417 @@
+//! Each call of a `keep` and of a `mend` fails in turn, in each manner, and the unit goes on after it.
+ghost use Rattle.std.specs.Prelude.{◌≤◌, IfOk};
+ghost use Rattle.tach_media.specs.MemMedium.{memory_state};
+ghost use Rattle.unit_model.specs.Image.{IsUnit};
+ghost use Rattle.unit_journal.specs.Reading.{IsSlotPlace};
+
+use crate::unit::image::{DAY, empty, put, put_head, put_word};
+use activity_codec::Activity;
+use std::alloc::{AllocError, Global};
+use std::process::Abort;
+use std::test::Fail;
+use tach_media::{Left, Medium, MemMedium, Memory, Stop};
+use tacho_types::Odometer;
+use unit_journal::{Journal, KeptMinute, State, UnitDay};
+use unit_model::layout::IMAGE_SIZE;
+
+/// 00:00 of 2010-02-27, as the number of its minute.
+pub const FIRST: u32 = 14667 * 1440;
+
+const REST: State = State {
+    act: Activity::Rest,
+    present: false,
+};
+
+const DRIVES: State = State {
+    act: Activity::Driving,
+    present: true,
+};
+
+const AVAILABLE: State = State {
+    act: Activity::Available,
+    present: true,
+};
+
+/// What is kept: on a day that goes on, behind a gap, behind 23:59, on an empty unit, on the 367th day, and as the last words
+/// of a day with 2880.
+#[derive(Clone, Copy, Debug, PartialEq, Eq)]
+enum Row {
+    SameDay,
+    Gap,
+    Midnight,
+    FirstDay,
+    FurtherDay,
+    FullDay,
+}
+
+impl Row {
+    /// The unit on which the minute is kept.
+    fn image(self, alloc: Global) -> Result<Vec<u8>, AllocError> {
+        match self {
+            Row::SameDay => one_day(alloc, FIRST + 100),
+            Row::Gap => one_day(alloc, FIRST + 100),
+            Row::Midnight => one_day(alloc, FIRST + 1439),
+            Row::FirstDay => empty(alloc, 0, 1000, 0),
+            Row::FurtherDay => all_days(alloc),
+            Row::FullDay => full_day(alloc),
+        }
+    }
+
+    /// The minute that is kept.
+    fn minute(self) -> KeptMinute {
+        let (minute, driver, codriver) = match self {
+            Row::SameDay => (FIRST + 101, AVAILABLE, AVAILABLE),
+            Row::Gap => (FIRST + 105, DRIVES, REST),
+            Row::Midnight => (FIRST + 1440, DRIVES, AVAILABLE),
+            Row::FirstDay => (FIRST + 600, DRIVES, REST),
+            Row::FurtherDay => (FIRST + 366 * 1440 + 5, DRIVES, AVAILABLE),
+            Row::FullDay => (FIRST + 1439, DRIVES, AVAILABLE),
+        };
+        KeptMinute {
+            minute,
+            driver,
+            codriver,
+            odometer: Odometer(1001),
+        }
+    }
+}
+
+/// 2010-02-27 up to a minute: no card until 00:10, then the driver drives and the co-driver is available.
+pub fn one_day(alloc: Global, kept: u32) -> Result<Vec<u8>, AllocError> {
+    let mut image = empty(alloc, kept, 1000, 0)?;
+    put_day(image.as_mut_slice(), 0, 14667);
+    Ok(image)
+}
+
+fn put_day(image: &mut [u8], index: usize, day: u32) {
+    if day < 49711 {
+        put_head(image, index, DAY * day, 900, 4);
+    }
+    put_word(image, index, 0, 0x2000);
+    put_word(image, index, 1, 0xA000);
+    put_word(image, index, 2, 0x580A);
+    put_word(image, index, 3, 0xC80A);
+}
+
+/// The 366 days from 2010-02-27 on, the newest up to 12:00; it stands at index 100.
+fn all_days(alloc: Global) -> Result<Vec<u8>, AllocError> {
+    let mut image = empty(alloc, FIRST + 365 * 1440 + 720, 1000, 100)?;
+    for index in 0..366 {
+        let day = 14667 + (index as u32 + 265) % 366;
+        put_day(image.as_mut_slice(), index, day);
+    }
+    Ok(image)
+}
+
+/// 2010-02-27 up to 23:58, both states changed at each minute.
+fn full_day(alloc: Global) -> Result<Vec<u8>, AllocError> {
+    let mut image = empty(alloc, FIRST + 1438, 1000, 0)?;
+    put_head(image.as_mut_slice(), 0, DAY * 14667, 900, 2878);
+    for minute in 0..1439 {
+        let word = minute as u16;
+        let odd = word % 2;
+        put_word(image.as_mut_slice(), 0, 2 * minute, odd * 0x1800 + word);
+        put_word(
+            image.as_mut_slice(),
+            0,
+            2 * minute + 1,
+            0x8000 + odd * 0x0800 + word,
+        );
+    }
+    Ok(image)
+}
+
+/// 2010-02-27 up to 00:20, and what a stop may have left behind it: words of 00:21, a later day, and two cells of 00:21 and
+/// 00:23; the cell of 00:20 is not later.
+fn with_later(alloc: Global) -> Result<Vec<u8>, AllocError> {
+    let mut image = one_day(alloc, FIRST + 20)?;
+    let slice = image.as_mut_slice();
+    put_head(slice, 0, DAY * 14667, 900, 6);
+    put_word(slice, 0, 4, 0x1015);
+    put_word(slice, 0, 5, 0x9015);
+    put_head(slice, 1, DAY * 14668, 1000, 2);
+    put_word(slice, 1, 0, 0x2000);
+    put_word(slice, 1, 1, 0xA000);
+    put(slice, 1024, &[0, 0, 0, 1]);
+    put(slice, 648, &(FIRST + 20).to_be_bytes());
+    put(slice, 654, &(FIRST + 21).to_be_bytes());
+    put(slice, 1002, &(FIRST + 23).to_be_bytes());
+    Ok(image)
+}
+
+/// A unit with this image, whose call of that number fails so.
+pub fn unit(alloc: Global, image: Vec<u8>, call: u64, left: Left) -> Result<MemMedium, Memory>
+    ensures { IfOk result (λ unit. IsUnit (memory_state unit.log unit.counts)) }
+{
+    if image.len() != IMAGE_SIZE as usize {
+        return Err(Memory);
+    }
+    let mut stops = Vec::new(alloc);
+    stops.push(Stop { call, left }).map_err(|_| Memory)?;
+    MemMedium::new(alloc, image, 200, 1000, stops)
+}
+
+/// A word of a recorded day.
+fn word(journal: &Journal, unit: &mut MemMedium, day: &UnitDay, index: u16) -> Result<u16, Fail>
+    requires place { IsSlotPlace day.now.place }
+    requires few { day.now.words ≤ 2880 }
+{
+    if unit.size() != IMAGE_SIZE || index >= day.words {
+        return Err(Fail::from("no word"));
+    }
+    Ok(journal.word(unit, day, index)?)
+}
+
+/// Adds a day's date and its words.
+fn push_words(
+    list: &mut Vec<u32>,
+    journal: &Journal,
+    unit: &mut MemMedium,
+    day: &UnitDay,
+) -> Result<(), Fail>
+    requires place { IsSlotPlace day.now.place }
+    requires few { day.now.words ≤ 2880 }
+{
+    list.push(day.date.0)?;
+    for index in 0..day.words {
+        let word = word(journal, unit, day, index)?;
+        list.push(word as u32)?;
+    }
+    Ok(())
+}
+
+/// Adds a recorded day, by its number.
+fn push_day(
+    list: &mut Vec<u32>,
+    journal: &Journal,
+    unit: &mut MemMedium,
+    nth: u16,
+) -> Result<(), Fail> {
+    if unit.size() != IMAGE_SIZE || nth >= journal.days() {
+        return Err(Fail::from("no day"));
+    }
+    let day = journal.day_at(unit, nth)?;
+    push_words(list, journal, unit, &day)
+}
+
+/// The recorded days, oldest first: of each its date, then its words.
+fn recorded(alloc: Global, unit: &mut MemMedium) -> Result<Vec<u32>, Fail> {
+    if unit.size() != IMAGE_SIZE {
+        return Err(Fail::from("no unit"));
+    }
+    let journal = Journal::load(unit)?;
+    let mut list = Vec::new(alloc);
+    for nth in 0..journal.days() {
+        push_day(&mut list, &journal, unit, nth)?;
+    }
+    Ok(list)
+}
+
+/// Loads a unit, mends it, and keeps a minute: the number of the first call of the `keep`, and whether it was `Ok`.
+fn keep(unit: &mut MemMedium, kept: &KeptMinute) -> Result<(u64, bool), Fail> {
+    if unit.size() != IMAGE_SIZE {
+        return Err(Fail::from("no unit"));
+    }
+    let mut journal = Journal::load(unit)?;
+    journal.mend(unit)?;
+    let first = unit.calls();
+    if kept.minute < 1440 || kept.minute > 71582788 || kept.odometer.0 > 9999999 {
+        return Err(Fail::from("no minute"));
+    }
+    if kept.minute <= journal.last_kept() {
+        return Ok((first, true));
+    }
+    Ok((first, journal.keep(unit, kept).is_ok()))
+}
+
+/// What a `keep` that is not stopped does: its first call, the one behind its last, and the days before and after it.
+fn kept_whole(alloc: Global, row: Row) -> Result<(u64, u64, Vec<u32>, Vec<u32>), Fail> {
+    let mut unit = unit(alloc, row.image(alloc)?, u64::MAX, Left::Before)?;
+    let old = recorded(alloc, &mut unit)?;
+    let before = unit.calls();
+    let (first, _) = keep(&mut unit, &row.minute())?;
+    let end = unit.calls();
+    let new = recorded(alloc, &mut unit)?;
+    if first < before || end < before {
+        return Err(Fail::from("too many calls"));
+    }
+    Ok((first - before, end - before, old, new))
+}
+
+/// The same `keep` stopped at a call: whether it was `Ok`, the days that the stop leaves, and those once it was kept again.
+fn kept_again(
+    alloc: Global,
+    row: Row,
+    call: u64,
+    left: Left,
+) -> Result<(bool, Vec<u32>, Vec<u32>), Fail> {
+    let mut unit = unit(alloc, row.image(alloc)?, call, left)?;
+    let (_, is_ok) = keep(&mut unit, &row.minute())?;
+    unit.revive()?;
+    let found = recorded(alloc, &mut unit)?;
+    keep(&mut unit, &row.minute())?;
+    let again = recorded(alloc, &mut unit)?;
+    Ok((is_ok, found, again))
+}
+
+/// The days without the oldest, where the next one takes its place; it has a date and four words.
+fn given_up(row: Row, old: &[u32]) -> &[u32] {
+    if row == Row::FurtherDay && old.len() > 5 {
+        return &old[5..];
+    }
+    old
+}
+
+/// That this stop leaves the days before, or those with the minute where it may count, and that it can be kept again.
+fn check_stop(
+    rt: &(impl Abort + AllocGlobal),
+    row: Row,
+    call: u64,
+    left: Left,
+    old: &[u32],
+    new: &[u32],
+    counts: bool,
+) -> Result<(), Fail> {
+    let (is_ok, found, again) = kept_again(rt.alloc(), row, call, left)?;
+    assert!(rt; !is_ok);
+    if counts {
+        assert!(rt; found.as_slice() == new);
+    } else {
+        let without_oldest = given_up(row, old);
+        assert!(rt; found.as_slice() == old || found.as_slice() == without_oldest);
+    }
+    assert!(rt; again.as_slice() == new);
+    Ok(())
+}
+
+/// Stops a `keep` at each of its calls in each manner; its last call is the write of the last-kept minute.
+fn check_row(rt: &(impl Abort + AllocGlobal), row: Row, calls: u64) -> Result<(), Fail> {
+    let (first, end, old, new) = kept_whole(rt.alloc(), row)?;
+    assert!(rt; old.as_slice() != new.as_slice());
+    assert!(rt; first <= end);
+    assert_eq!(rt; end - first, calls);
+    let (old, new) = (old.as_slice(), new.as_slice());
+    for call in first..end {
+        let last = call + 1 == end;
+        check_stop(rt, row, call, Left::Before, old, new, false)?;
+        check_stop(rt, row, call, Left::After, old, new, last)?;
+        check_stop(rt, row, call, Left::Torn(0xFF), old, new, false)?;
+    }
+    Ok(())
+}
+
+/// Loads a unit and mends it: the number of the first call of the `mend`, and whether it was `Ok`.
+fn mend(unit: &mut MemMedium) -> Result<(u64, bool), Fail> {
+    if unit.size() != IMAGE_SIZE {
+        return Err(Fail::from("no unit"));
+    }
+    let mut journal = Journal::load(unit)?;
+    let first = unit.calls();
+    Ok((first, journal.mend(unit).is_ok()))
+}
+
+/// Four bytes of a unit.
+fn four(unit: &mut MemMedium, place: u32) -> Result<[u8; 4], Fail> {
+    let mut bytes = [0; 4];
+    if unit.size() != IMAGE_SIZE || place > 2485000 {
+        return Err(Fail::from("no place"));
+    }
+    unit.read_at(place, &mut bytes)?;
+    Ok(bytes)
+}
+
+/// A `mend` stopped at a call: whether it was `Ok`, the days that the stop leaves, and those once it was mended again and
+/// 00:30 was kept.
+fn mended_again(alloc: Global, call: u64, left: Left) -> Result<(bool, Vec<u32>, Vec<u32>), Fail> {
+    let mut unit = unit(alloc, with_later(alloc)?, call, left)?;
+    let (_, is_ok) = mend(&mut unit)?;
+    unit.revive()?;
+    let found = recorded(alloc, &mut unit)?;
+    let next = KeptMinute {
+        minute: FIRST + 30,
+        ..Row::SameDay.minute()
+    };
+    keep(&mut unit, &next)?;
+    let again = recorded(alloc, &mut unit)?;
+    Ok((is_ok, found, again))
+}
+
+/// That this stop leaves the days before, and that it can be mended again.
+fn check_mend(
+    rt: &(impl Abort + AllocGlobal),
+    call: u64,
+    left: Left,
+    old: &[u32],
+    new: &[u32],
+) -> Result<(), Fail> {
+    let (is_ok, found, again) = mended_again(rt.alloc(), call, left)?;
+    assert!(rt; !is_ok);
+    assert!(rt; found.as_slice() == old);
+    assert!(rt; again.as_slice() == new);
+    Ok(())
+}
+
+/// Stops a `mend` at each of its calls in each manner.
+fn check_mends(rt: &(impl Abort + AllocGlobal), first: u64, end: u64) -> Result<(), Fail> {
+    let (is_ok, old, new) = mended_again(rt.alloc(), u64::MAX, Left::Before)?;
+    assert!(rt; is_ok);
+    assert_eq!(rt; old.len(), 5);
+    assert!(rt; old.as_slice() != new.as_slice());
+    for call in first..end {
+        check_mend(rt, call, Left::Before, old.as_slice(), new.as_slice())?;
+        check_mend(rt, call, Left::After, old.as_slice(), new.as_slice())?;
+        check_mend(rt, call, Left::Torn(0xFF), old.as_slice(), new.as_slice())?;
+    }
+    Ok(())
+}
+
+#[test]
+fn a_unit_with_later_words_days_and_cells(rt: HostRuntime) -> Result<(), Fail> {
+    let alloc = rt.alloc();
+    let mut unit = unit(alloc, with_later(alloc)?, u64::MAX, Left::Before)?;
+    let (first, is_ok) = mend(&mut unit)?;
+    assert!(rt; is_ok);
+    let end = unit.calls();
+    assert!(rt; first <= end);
+    // 32 cells are read, two of them emptied; a gate, a count
+    assert_eq!(rt; end - first, 36);
+    assert_eq!(rt; four(&mut unit, 648)?, (FIRST + 20).to_be_bytes());
+    assert_eq!(rt; four(&mut unit, 654)?, [0; 4]);
+    assert_eq!(rt; four(&mut unit, 1002)?, [0; 4]);
+    assert_eq!(rt; four(&mut unit, 1036)?, [0, 4, 0, 0]);
+    assert_eq!(rt; four(&mut unit, 6804)?, [0; 4]);
+    check_mends(&rt, first, end)
+}
+
+#[test]
+fn a_minute_on_the_same_day(rt: HostRuntime) -> Result<(), Fail> {
+    // the odometer, a word, the count, the minute
+    check_row(&rt, Row::SameDay, 4)
+}
+
+#[test]
+fn a_minute_behind_a_gap(rt: HostRuntime) -> Result<(), Fail> {
+    // the odometer, two words of the gap, one of the minute, the count, the minute
+    check_row(&rt, Row::Gap, 6)
+}
+
+#[test]
+fn a_minute_behind_midnight(rt: HostRuntime) -> Result<(), Fail> {
+    check_row(&rt, Row::Midnight, 9)
+}
+
+#[test]
+fn the_first_minute(rt: HostRuntime) -> Result<(), Fail> {
+    check_row(&rt, Row::FirstDay, 9)
+}
+
+#[test]
+fn a_minute_on_the_367th_day(rt: HostRuntime) -> Result<(), Fail> {
+    check_row(&rt, Row::FurtherDay, 15)
+}
+
+#[test]
+fn the_last_words_of_a_full_day(rt: HostRuntime) -> Result<(), Fail> {
+    // the odometer, two words, the count, the minute
+    check_row(&rt, Row::FullDay, 5)
+}
