@@ -1,0 +1,5 @@
+pub mod Moves
+pub mod Marking
+pub mod Mending
+pub mod Found
+pub mod Safety

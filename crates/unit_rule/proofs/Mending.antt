@@ -1,0 +1,31 @@
+-- A mend at power-on is a step beside the minutes.
+use Rattle.std.proofs.Common.{◌≡◌, ℕ, ◌+◌, ◌≤◌, List, take, drop, ap, sym, ◌∙◌, arith}
+use Rattle.std.proofs.lemmas.List.{take-take, drop-take}
+use Rattle.gated_ring.specs.Ring.{number_at}
+use Rattle.unit_model.specs.Image.{last_kept, odometer_at, recorded}
+use Rattle.unit_model.specs.Decoding.{Decodes}
+use Rattle.unit_model.proofs.Numbers.{number_same}
+use Rattle.unit_journal.specs.Image.{Notes}
+use Rattle.unit_journal.specs.Mends.{IsMending}
+
+-- a number among the first 624 bytes, as the last-kept minute and the odometer are
+number-kept : (p : ℕ) → p + 4 ≤ 624 → (x c : List ℕ) → take 624 c ≡ take 624 x → number_at c p 4 ≡ number_at x p 4
+number-kept p low x c before = number_same x c p 4
+    (sym (drop-take p 4 c)
+    ∙ ap (λ (l : List ℕ). drop p l) (sym (take-take (p + 4) 624 c low) ∙ ap (λ (l : List ℕ). take (p + 4) l) before ∙ take-take (p + 4) 624 x low)
+    ∙ drop-take p 4 x)
+
+mark-kept : (x c : List ℕ) → take 624 c ≡ take 624 x → last_kept c ≡ last_kept x
+unfolding last_kept
+mark-kept x c before = number-kept 564 (omega arith) x c before
+
+odometer-kept : (x c : List ℕ) → take 624 c ≡ take 624 x → odometer_at c ≡ odometer_at x
+unfolding odometer_at
+odometer-kept x c before = number-kept 568 (omega arith) x c before
+
+pub mending-aside : (j : Notes) (x c : List ℕ) → IsMending j x c → (recorded c ≡ recorded x) × (last_kept c ≡ last_kept x) × (Decodes x → Decodes c)
+mending-aside j x c is = (is.minutes, mark-kept x c is.outside.before, is.decodes)
+
+-- and beside the odometer
+pub mending-odometer : (j : Notes) (x c : List ℕ) → IsMending j x c → (odometer_at c ≡ odometer_at x) × (last_kept c ≡ last_kept x)
+mending-odometer j x c is = (odometer-kept x c is.outside.before, mark-kept x c is.outside.before)

@@ -1,0 +1,25 @@
+-- The unit and the minutes that it has acknowledged, between two calls (profile).
+use Rattle.std.specs.Prelude.{ℕ, ◌<◌, ◌≤◌, List, All}
+use Rattle.run_model.specs.declared.Device.TheVariants.{Unit as Recorder}
+use Rattle.tach_media.specs.Medium.{State}
+use Rattle.unit_model.specs.Decoding.{Decodes}
+use Rattle.log_model.specs.declared.lines.Mark.{Mark}
+use Rattle.history_model.specs.Book.{Book}
+use Rattle.joint_rule.specs.Rules.{Acknowledges}
+use Rattle.safety_model.specs.Unit.{marks_of, Increase, HasMinute}
+use Rattle.unit_rule.specs.Rule.{Started, seen_unit, IsRuled}
+
+-- a mark's minute is a sure one, and every image since its clock is not behind it
+pub record IsHeld (s : Started) (b : Book) (unit : State) (m : Mark) : Type 0 where
+  pub began : s.began ≤ m.clock
+  pub holds : (number_a number_b : List ℕ) → Acknowledges (λ u. u.last) m.minute m.clock (seen_unit number_a number_b unit)
+  pub sure : HasMinute m.minute b.sure
+
+-- Between two calls: the unit's rule, whatever numbers the cards have; every image that a stop might have left since the start
+-- decodes; and of the marks those of the unit are held, increase, and are earlier than what is decided next.
+pub record Holds (s : Started) (due : ℕ) (b : Book) (marks : List Mark) (unit : State) : Type 0 where
+  pub unit_holds : (number_a number_b : List ℕ) → IsRuled s due b (seen_unit number_a number_b unit)
+  pub decodes : (x : List ℕ) → unit.left_since s.began x → Decodes x
+  pub marks_hold : All (IsHeld s b unit) (marks_of Recorder marks)
+  pub marks_rise : Increase (marks_of Recorder marks)
+  pub marks_until : All (λ m. m.minute < due) (marks_of Recorder marks)

@@ -1,0 +1,30 @@
+ghost use Rattle.std.specs.Prelude.{◌≡◌, ◌<◌, [], Some, ℕ, List};
+ghost use Rattle.unit_model.specs.Decoding.{Decodes};
+ghost use Rattle.unit_model.specs.Image.{last_kept};
+ghost use Rattle.log_model.specs.declared.lines.Mark.{Mark};
+ghost use Rattle.history_model.specs.Minutes.{HistoryMinute};
+ghost use Rattle.history_model.specs.Book.{Book, Follows, not_begun};
+ghost use Rattle.safety_model.specs.Unit.{UnitSafe};
+ghost use Rattle.unit_rule.specs.Rule.{Started, started};
+ghost use Rattle.unit_rule.specs.Marks.{Holds};
+
+use tach_media::Medium;
+
+/// Where the unit holds what a book says, and the book follows the history of the run, the unit is safe: each image that a stop
+/// might have left shows the start and a front of the history, retained, and decodes, and each mark is kept.
+pub fn a_followed_run_is_safe<M: Medium>(unit: &M)
+    ensures { (s : Started) (past : List HistoryMinute) (lost : List (List HistoryMinute)) (due : ℕ) (b : Book) (marks : List Mark) →
+        Holds s due b marks (M.state unit.now) → Follows past lost b → UnitSafe s.days past lost marks s.began (M.state unit.now) }
+{}
+
+/// An image that a read gives decodes, and its last-kept minute is earlier than any that may be decided next.
+pub fn what_is_found_decodes<M: Medium>(unit: &M)
+    ensures decodes { (s : Started) (due : ℕ) (b : Book) (marks : List Mark) → Holds s due b marks (M.state unit.now) → (x : List ℕ) → (M.state unit.now).image ≡ Some x → Decodes x }
+    ensures earlier { (s : Started) (due : ℕ) (b : Book) (marks : List Mark) → Holds s due b marks (M.state unit.now) → (x : List ℕ) → (M.state unit.now).image ≡ Some x → last_kept x < due }
+{}
+
+/// A unit that has an image which decodes, and no other, is a start: so is each image that a run may leave.
+pub fn an_image_that_decodes_is_a_start<M: Medium>(unit: &M)
+    ensures { (x : List ℕ) (due : ℕ) → ((c : List ℕ) → (M.state unit.now).left_since (M.state unit.now).clock c → c ≡ x) → Decodes x → last_kept x < due →
+        Holds (started x (M.state unit.now).clock) due not_begun [] (M.state unit.now) }
+{}

@@ -1,0 +1,9 @@
+//! What the images of a unit hold of a run, as definitions (specs/) with their laws: at each moment the days at the start
+//! with a front of the run's minutes, retained, and each minute that was acknowledged (profile).
+#![tactic(auto)]
+
+mod laws;
+
+pub use laws::{
+    a_followed_run_is_safe, an_image_that_decodes_is_a_start, what_is_found_decodes,
+};
