@@ -2,4 +2,8 @@ pub mod Moves
 pub mod Marking
 pub mod Mending
 pub mod Found
+pub mod Travelling
+pub mod Elsewhere
+pub mod Completing
 pub mod Safety
+pub mod Worked

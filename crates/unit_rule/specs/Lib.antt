@@ -1,2 +1,4 @@
 pub mod Rule
 pub mod Marks
+pub mod Odometer
+pub mod Complete

@@ -1,12 +1,14 @@
-ghost use Rattle.std.specs.Prelude.{◌≡◌, ◌<◌, [], Some, ℕ, List};
+ghost use Rattle.std.specs.Prelude.{◌≡◌, ◌⊎◌, ◌+◌, ◌<◌, ◌++◌, ◌∷◌, [], min, Some, ℕ, List};
+ghost use Rattle.unit_model.specs.declared.layout.TheConstants.{HIGHEST_ODOMETER};
 ghost use Rattle.unit_model.specs.Decoding.{Decodes};
-ghost use Rattle.unit_model.specs.Image.{last_kept};
+ghost use Rattle.unit_model.specs.Image.{last_kept, odometer_at};
 ghost use Rattle.log_model.specs.declared.lines.Mark.{Mark};
 ghost use Rattle.history_model.specs.Minutes.{HistoryMinute};
 ghost use Rattle.history_model.specs.Book.{Book, Follows, not_begun};
 ghost use Rattle.safety_model.specs.Unit.{UnitSafe};
 ghost use Rattle.unit_rule.specs.Rule.{Started, started};
 ghost use Rattle.unit_rule.specs.Marks.{Holds};
+ghost use Rattle.unit_rule.specs.Odometer.{Travel, HasTravelled, kilometres_of};
 
 use tach_media::Medium;
 
@@ -21,6 +23,13 @@ pub fn a_followed_run_is_safe<M: Medium>(unit: &M)
 pub fn what_is_found_decodes<M: Medium>(unit: &M)
     ensures decodes { (s : Started) (due : ℕ) (b : Book) (marks : List Mark) → Holds s due b marks (M.state unit.now) → (x : List ℕ) → (M.state unit.now).image ≡ Some x → Decodes x }
     ensures earlier { (s : Started) (due : ℕ) (b : Book) (marks : List Mark) → Holds s due b marks (M.state unit.now) → (x : List ℕ) → (M.state unit.now).image ≡ Some x → last_kept x < due }
+{}
+
+/// The odometer of an image that a stop may leave is the start's and the whole kilometres of each time that there was power, up
+/// to the last-kept minute or to the one of which the keeping was broken off.
+pub fn an_odometer_is_a_sum<M: Medium>(unit: &M)
+    ensures { (start : ℕ) (b : Book) (g : Travel) → HasTravelled start b g (M.state unit.now) → (x : List ℕ) → (M.state unit.now).may_leave x →
+        (leg : ℕ) × ((leg ≡ g.sure) ⊎ (g.maybe ≡ Some leg)) × (odometer_at x ≡ min (start + kilometres_of (g.before ++ leg ∷ [])) HIGHEST_ODOMETER) }
 {}
 
 /// A unit that has an image which decodes, and no other, is a start: so is each image that a run may leave.

@@ -5,5 +5,6 @@
 mod laws;
 
 pub use laws::{
-    a_followed_run_is_safe, an_image_that_decodes_is_a_start, what_is_found_decodes,
+    a_followed_run_is_safe, an_image_that_decodes_is_a_start, an_odometer_is_a_sum,
+    what_is_found_decodes,
 };

@@ -1,0 +1,42 @@
+-- Writes elsewhere: in the owed rows, and of insertions, places and events.
+use Rattle.std.proofs.Common.{inl, inr, ⊎_elim, ℕ, List, arith}
+use Rattle.tach_media.specs.Medium.{State, IsCoherent, LeavesOnly, SameOutside}
+use Rattle.unit_model.specs.Decoding.{Decodes}
+use Rattle.unit_model.proofs.WholeDays.{decoded_of}
+use Rattle.unit_journal.specs.Beside.{SameJournal}
+use Rattle.unit_journal.proofs.Beside.{beside, last_beside, odometer_beside, recorded_beside}
+use Rattle.log_model.specs.declared.lines.Mark.{Mark}
+use Rattle.history_model.specs.Book.{Book}
+use Rattle.unit_rule.specs.Rule.{Started}
+use Rattle.unit_rule.specs.Marks.{Holds}
+use Rattle.unit_rule.specs.Odometer.{Travel, HasTravelled}
+use Rattle.unit_rule.proofs.Found.{left-decodes}
+use Rattle.unit_rule.proofs.Marking.{holds-aside}
+use Rattle.unit_rule.proofs.Travelling.{travelled-aside}
+
+-- a write in the owed rows is not read by the journal
+pub rows-elsewhere : (x c : List ℕ) → SameOutside 624 384 x c → SameJournal x c
+rows-elsewhere x c same = beside 624 384 x c (inr (inl (omega arith, omega arith))) same
+
+-- the unit's rule and its marks
+pub holds-elsewhere : (s : Started) {U V : State} (due : ℕ) (b : Book) (marks : List Mark) → Holds s due b marks U → IsCoherent U → (R : List ℕ → List ℕ → Type 0) → LeavesOnly U V R →
+    ((x c : List ℕ) → R x c → SameJournal x c × (Decodes x → Decodes c)) → Holds s due b marks V
+holds-elsewhere s {U} {V} due b marks h before R run same = holds-aside s due b marks h before (λ x c. Decodes x × R x c)
+    (record {
+      size = run.size;
+      behind = run.behind;
+      writable = run.writable;
+      layers = run.layers;
+      tells = run.tells;
+      later = run.later;
+      since = λ t c le left. ⊎_elim inl (λ here. inr (here.0, here.1, (left-decodes s due b marks U before h here.0 (before.is_left here.0 here.1), here.2))) (run.since t c le left);
+      now = λ c left. ⊎_elim inl (λ here. inr (here.0, here.1, (left-decodes s due b marks U before h here.0 (before.is_left here.0 here.1), here.2))) (run.now c left);
+      keeps = run.keeps;
+    })
+    (λ x c both.
+    let is = same x c both.1 in
+    (recorded_beside x c is.0 (decoded_of x both.0).known, last_beside x c is.0, is.1))
+
+-- and the odometer
+pub travelled-elsewhere : (start : ℕ) (b : Book) (g : Travel) {U V : State} → HasTravelled start b g U → IsCoherent U → (R : List ℕ → List ℕ → Type 0) → LeavesOnly U V R → ((x c : List ℕ) → R x c → SameJournal x c) → HasTravelled start b g V
+travelled-elsewhere start b g {U} {V} t before R run same = travelled-aside start b g t before R run (λ x c here. (odometer_beside x c (same x c here), last_beside x c (same x c here)))
