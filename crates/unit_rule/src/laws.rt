@@ -1,13 +1,17 @@
-ghost use Rattle.std.specs.Prelude.{◌≡◌, ◌⊎◌, ◌+◌, ◌<◌, ◌++◌, ◌∷◌, [], min, Some, ℕ, List};
+ghost use Rattle.std.specs.Prelude.{◌≡◌, ◌⊎◌, ◌+◌, ◌<◌, ◌++◌, ◌∷◌, [], min, map, Some, None, ℕ, List};
 ghost use Rattle.unit_model.specs.declared.layout.TheConstants.{HIGHEST_ODOMETER};
+ghost use Rattle.run_model.specs.declared.Device.TheVariants.{Unit as Recorder};
+ghost use Rattle.unit_model.specs.Days.{newest_of};
 ghost use Rattle.unit_model.specs.Decoding.{Decodes};
-ghost use Rattle.unit_model.specs.Image.{last_kept, odometer_at};
+ghost use Rattle.unit_model.specs.Image.{last_kept, odometer_at, recorded};
 ghost use Rattle.log_model.specs.declared.lines.Mark.{Mark};
 ghost use Rattle.history_model.specs.Minutes.{HistoryMinute};
-ghost use Rattle.history_model.specs.Book.{Book, Follows, not_begun};
-ghost use Rattle.safety_model.specs.Unit.{UnitSafe};
+ghost use Rattle.history_model.specs.Book.{Book, Follows, AreLost, not_begun};
+ghost use Rattle.joint_rule.specs.Filling.{filled_with};
+ghost use Rattle.safety_model.specs.Unit.{UnitSafe, marks_of};
 ghost use Rattle.unit_rule.specs.Rule.{Started, started};
 ghost use Rattle.unit_rule.specs.Marks.{Holds};
+ghost use Rattle.unit_rule.specs.Complete.{AreMarked};
 ghost use Rattle.unit_rule.specs.Odometer.{Travel, HasTravelled, kilometres_of};
 
 use tach_media::Medium;
@@ -36,4 +40,18 @@ pub fn an_odometer_is_a_sum<M: Medium>(unit: &M)
 pub fn an_image_that_decodes_is_a_start<M: Medium>(unit: &M)
     ensures { (x : List ℕ) (due : ℕ) → ((c : List ℕ) → (M.state unit.now).left_since (M.state unit.now).clock c → c ≡ x) → Decodes x → last_kept x < due →
         Holds (started x (M.state unit.now).clock) due not_begun [] (M.state unit.now) }
+{}
+
+/// Where nothing was lost and no minute is begun, each image that a stop may leave has the start and all sure minutes, of which the
+/// newest 366 days are retained.
+pub fn what_is_left_is_whole<M: Medium>(unit: &M)
+    ensures { (s : Started) (due : ℕ) (b : Book) (marks : List Mark) → Holds s due b marks (M.state unit.now) → b.maybe ≡ None → AreLost [] b →
+        (x : List ℕ) → (M.state unit.now).may_leave x → recorded x ≡ newest_of 366 (filled_with s.days b.sure) }
+{}
+
+/// Where the unit has marked each sure minute and none is begun, its marks are the minutes of a front of the history, once each
+/// and in order.
+pub fn marks_are_the_minutes()
+    ensures { (past : List HistoryMinute) (lost : List (List HistoryMinute)) (b : Book) (marks : List Mark) → AreMarked b marks → b.maybe ≡ None → Follows past lost b →
+        (rest : List HistoryMinute) × (map (λ i. i.minute) past ≡ map (λ m. m.minute) (marks_of Recorder marks) ++ map (λ i. i.minute) rest) }
 {}
