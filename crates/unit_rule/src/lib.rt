@@ -4,4 +4,7 @@
 
 mod laws;
 
-pub use laws::{a_followed_run_is_safe, an_image_that_decodes_is_a_start, an_odometer_is_a_sum, marks_are_the_minutes, what_is_found_decodes, what_is_left_is_whole};
+pub use laws::{
+    a_followed_run_is_safe, an_image_that_decodes_is_a_start, an_odometer_is_a_sum,
+    marks_are_the_minutes, what_is_found_decodes, what_is_left_is_whole,
+};
