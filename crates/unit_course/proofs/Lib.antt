@@ -1,0 +1,11 @@
+pub mod Lines
+pub mod Turns
+pub mod Spans
+pub mod Alike
+pub mod Parts
+pub mod Ties
+pub mod Resting
+pub mod Lighted
+pub mod Cutting
+pub mod Steps
+pub mod Rows

@@ -1,0 +1,4 @@
+pub mod Turn
+pub mod Lines
+pub mod Keeping
+pub mod Followed
