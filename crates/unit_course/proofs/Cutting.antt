@@ -27,7 +27,7 @@ use Rattle.unit_course.specs.Keeping.{plain, broken_at}
 use Rattle.unit_course.specs.Followed.{Lit, Progress, going_before, lost_before, HadActions, IsShut, IsOpen, Followed}
 use Rattle.unit_course.proofs.Lines.{cut-none, cut-here, torn-none, found-none, cuts-later, cuts-push, went-cut, tells-here, tells-none, cuts-front, take-front}
 use Rattle.unit_course.proofs.Turns.{IsQuiet, given_second, lit-told, cut-told, lit-next}
-use Rattle.unit_course.proofs.Spans.{cut_spans, cut-with, cut-spans-last, decided-cut, length-cut, cut-number}
+use Rattle.unit_course.proofs.Spans.{cut_spans, cut-with, cut-push, cut-spans-last, decided-cut, length-cut, cut-number}
 use Rattle.unit_course.proofs.Parts.{plain-append, plain-front, follows-whole, follows-same, whole-history, whole-lost, short-history, short-lost}
 use Rattle.unit_course.proofs.Ties.{closed-same, shut-off, cut-long, cut-lost, same-minutes, same-losses}
 use Rattle.unit_course.proofs.Alike.{known-open, decided-empty}
@@ -86,7 +86,7 @@ module _ (rule : Rule) (start : Start) (from first : ℕ) (done : List TraceSeco
   quiet : (bs : List Break) → AllByRecursion (IsCutBefore p.next) bs → (u : ℕ) → IsQuiet (log_of bs) u
   quiet bs cuts u = record { torn = λ phase slot. torn-none p.next bs u phase slot cuts; found = λ phase slot. found-none bs u phase slot }
 
-  told-lit : went (log_of p.breaks) done ≡ record { told = before.told ++ t-as false ∷ []; before = going_before }
+  pub told-lit : went (log_of p.breaks) done ≡ record { told = before.told ++ t-as false ∷ []; before = going_before }
   told-lit =
       let is = lit-told (log_of p.breaks) before.before h.number h.speed h.actions f.last.power f.last.slots (quiet p.breaks (cuts-later (p.next - 1) p.next p.breaks (omega arith) last-cuts) h.number)
       (cut-none (p.next - 1) p.breaks h.number last-cuts (let n = number in omega (arith, n))) h.selections in
@@ -94,7 +94,7 @@ module _ (rule : Rule) (start : Start) (from first : ℕ) (done : List TraceSeco
       ∙ ap (λ (x : Told). record { told = before.told ++ x ∷ []; before = before_next before.before x }) is
       ∙ ap (λ (b : Before). record { told = before.told ++ t-as false ∷ []; before = b }) (lit-next before.before h.number h.speed (picks_of h.actions) (not before.before.running))
 
-  told-cut : went (log_of later) done ≡ record { told = before.told ++ t-as true ∷ []; before = lost_before }
+  pub told-cut : went (log_of later) done ≡ record { told = before.told ++ t-as true ∷ []; before = lost_before }
   told-cut =
       let some = ap (cut_in (log_of later)) number ∙ cut-here p.breaks (p.next - 1) failed p.begun last-cuts ∙ ap (λ (k : ℕ). Some k) (sym h.count) in
       let is = cut-told (log_of later) before.before h.number h.speed h.actions f.last.power f.last.slots (quiet later later-cuts h.number) some h.selections in
@@ -108,7 +108,11 @@ module _ (rule : Rule) (start : Start) (from first : ℕ) (done : List TraceSeco
   abbrev now : List Told
   now = (went (log_of later) done).told
 
-  spans-cut : spans_of now ≡ f.ended ++ cut_last (t ∷ span) ∷ []
+  -- they are the same seconds but for the last
+  pub now-cut : now ≡ cut_last told
+  now-cut = ap (λ (w : Went). w.told) told-cut ∙ sym (cut-push before.told (t-as false)) ∙ ap cut_last (sym (ap (λ (w : Went). w.told) told-lit))
+
+  pub spans-cut : spans_of now ≡ f.ended ++ cut_last (t ∷ span) ∷ []
   spans-cut =
       ap (λ (w : Went). spans_of w.told) told-cut ∙ spans-more before.told (t-as true)
       ∙ cut-with (spans_of before.told) h.number h.speed (picks_of h.actions) (not before.before.running)

@@ -8,4 +8,5 @@ pub mod Resting
 pub mod Lighted
 pub mod Cutting
 pub mod Steps
+pub mod Seconds
 pub mod Rows

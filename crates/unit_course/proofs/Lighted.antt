@@ -132,7 +132,7 @@ module _ (rule : Rule) (start : Start) (from first : ℕ) (done : List TraceSeco
   -- the minutes that it decides wait for their keeping
   module _ (x : Told) (xs : List Told) (is : span ++ more ≡ x ∷ xs) (none : p.waiting ≡ []) (new : List Minute)
       (decides : decided_in (fed_many (picking (picks_of actions) (span_at rule p.next span)) speed (suc n)) ≡ decided_in (span_at rule p.next span) ++ new) (end : begins_with span ≡ false → end_in span ≡ p.next) where
-    decided-on : decided_of rule (x ∷ xs) ≡ decided_of rule span ++ new
+    pub decided-on : decided_of rule (x ∷ xs) ≡ decided_of rule span ++ new
     decided-on =
         ap (decided_of rule) (sym is) ∙ ap decided_in (seen rule p.next span n speed (picks_of actions) end) ∙ decides
         ∙ ap (λ (ds : List Minute). ds ++ new) (decided-at rule p.next span)
@@ -140,13 +140,13 @@ module _ (rule : Rule) (start : Start) (from first : ℕ) (done : List TraceSeco
     abbrev now : List Told
     now = (went log (done ++ ss)).told
 
-    told-now : now ≡ told ++ more
+    pub told-now : now ≡ told ++ more
     told-now = ap (λ (w : Went). w.told) turn-told
 
     plain-now : ArePlain now
     plain-now = subst ArePlain (sym told-now) (plain-append told more f.plain (plain-lit (suc n) p.next speed (picks_of actions) (begins_with span)))
 
-    spans-now : spans_of now ≡ f.ended ++ (x ∷ xs) ∷ []
+    pub spans-now : spans_of now ≡ f.ended ++ (x ∷ xs) ∷ []
     spans-now =
         ap spans_of told-now ∙ spans-parts told more ∙ ap (λ (ss : List (List Told)). fold spans_with ss more) f.spans
         ∙ spans-lit f.ended span (suc n) p.next speed (picks_of actions) ∙ ap (λ (s : List Told). f.ended ++ as_spans s) is

@@ -119,32 +119,33 @@ module _ (rule : Rule) (start : Start) (from first : ℕ) (done : List TraceSeco
       ∙ ap (λ (running : Bool). lit_second next speed [] (not running) true) comes.running in
       ap (λ (t : Told). record { told = (went (log_of breaks) done).told ++ t ∷ []; before = before_next (went (log_of breaks) done).before t }) is
 
+  begun-failed : (speed : ℕ) (actions : List Action) → AllByRecursion IsSelection actions → (n : ℕ) → went (log_of failed) (done ++ driven (suc n) next speed actions)
+      ≡ fold (went_on (log_of failed)) (record { told = (went (log_of breaks) done).told ++ lit_second next speed [] true true ∷ []; before = lost_before }) (driven n (next + 1) speed [])
+  begun-failed speed actions each n =
+      went-parts (log_of failed) done (driven (suc n) next speed actions)
+      ∙ ap (λ (w : Went). fold (went_on (log_of failed)) w (driven (suc n) next speed actions)) so-far
+      ∙ ap (λ (w : Went). fold (went_on (log_of failed)) w (driven n (next + 1) speed [])) (failed-first speed actions each)
+
+  -- how these seconds went
+  pub failed-goes : (speed : ℕ) (actions : List Action) → AllByRecursion IsSelection actions → (n : ℕ) → next % 60 + suc n ≤ 60 → went (log_of failed) (done ++ driven (suc n) next speed actions)
+      ≡ record { told = (went (log_of breaks) done).told ++ lit_second next speed [] true true ∷ dark_seconds n (next + 1) speed true []; before = lost_before }
+  failed-goes speed actions each zero within = begun-failed speed actions each zero
+  failed-goes speed actions each (suc n) within =
+      let step : (next + 1) % 60 ≡ next % 60 + 1 = omega (arith, within) in
+      begun-failed speed actions each (suc n)
+      ∙ lost-goes (log_of failed) ((went (log_of breaks) done).told ++ lit_second next speed [] true true ∷ []) (suc n) (next + 1) speed [] (omega (arith, step)) (omega (arith, step, within))
+      ∙ ap (λ (ts : List Told). record { told = ts; before = lost_before }) (append_assoc (went (log_of breaks) done).told (lit_second next speed [] true true ∷ []) (dark_seconds (suc n) (next + 1) speed true []))
+
   pub rest-failed : (n speed : ℕ) (actions : List Action) → next % 60 + suc n ≤ 60 → AllByRecursion IsSelection actions →
       Resting rule start from first (done ++ driven (suc n) next speed actions) failed unfound (next + suc n) b × (went (log_of failed) (done ++ driven (suc n) next speed actions)).before ≡ lost_before
   rest-failed n speed actions within each = (
     rest-more rule start from first done breaks unfound next b r failed (driven (suc n) next speed actions) (lit_second next speed [] true true ∷ dark_seconds n (next + 1) speed true []) lost_before (suc n) ((lit_second next speed [] true true ∷ []) ∷ [])
-        (goes n within) (subst (λ (m : ℕ). AreInOrder m (driven (suc n) next speed actions)) r.number (driven-order (suc n) next speed actions)) (driven-length (suc n) next speed actions)
+        (failed-goes speed actions each n within) (subst (λ (m : ℕ). AreInOrder m (driven (suc n) next speed actions)) r.number (driven-order (suc n) next speed actions)) (driven-length (suc n) next speed actions)
         (failed-cuts n) (take-front unfound breaks (cut_at next true 0 ∷ []) r.within) (let le = r.within in let m = length-append breaks (cut_at next true 0 ∷ []) in omega (arith, le, m))
         (added-tells breaks (cut_at next true 0)) (added-same breaks unfound (cut_at next true 0) r.within) ((refl, refl), plain-dark n (next + 1) speed true [])
         (spans-dark ((r.ended ++ []) ++ (lit_second next speed [] true true ∷ []) ∷ []) n (next + 1) speed true []) (short-none rule (lit_second next speed [] true true), tt) refl,
-    ap (λ (w : Went). w.before) (goes n within),
+    ap (λ (w : Went). w.before) (failed-goes speed actions each n within),
   )
-    where
-      begun : (n : ℕ) → went (log_of failed) (done ++ driven (suc n) next speed actions)
-          ≡ fold (went_on (log_of failed)) (record { told = (went (log_of breaks) done).told ++ lit_second next speed [] true true ∷ []; before = lost_before }) (driven n (next + 1) speed [])
-      begun n =
-          went-parts (log_of failed) done (driven (suc n) next speed actions)
-          ∙ ap (λ (w : Went). fold (went_on (log_of failed)) w (driven (suc n) next speed actions)) so-far
-          ∙ ap (λ (w : Went). fold (went_on (log_of failed)) w (driven n (next + 1) speed [])) (failed-first speed actions each)
-
-      goes : (n : ℕ) → next % 60 + suc n ≤ 60 → went (log_of failed) (done ++ driven (suc n) next speed actions)
-          ≡ record { told = (went (log_of breaks) done).told ++ lit_second next speed [] true true ∷ dark_seconds n (next + 1) speed true []; before = lost_before }
-      goes zero within = begun zero
-      goes (suc n) within =
-          let step : (next + 1) % 60 ≡ next % 60 + 1 = omega (arith, within) in
-          begun (suc n)
-          ∙ lost-goes (log_of failed) ((went (log_of breaks) done).told ++ lit_second next speed [] true true ∷ []) (suc n) (next + 1) speed [] (omega (arith, step)) (omega (arith, step, within))
-          ∙ ap (λ (ts : List Told). record { told = ts; before = lost_before }) (append_assoc (went (log_of breaks) done).told (lit_second next speed [] true true ∷ []) (dark_seconds (suc n) (next + 1) speed true []))
 
 -- it is found what was kept
 module _ (rule : Rule) (start : Start) (from first : ℕ) (done : List TraceSecond) (breaks : List Break) (unfound next : ℕ) (b : Book)

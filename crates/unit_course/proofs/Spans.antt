@@ -85,7 +85,7 @@ seconds-cut [] = refl
 seconds-cut (t ∷ []) = refl
 seconds-cut (t ∷ u ∷ ts) = ap (λ (ss : List Second). t.second ∷ ss) (seconds-cut (u ∷ ts))
 
-settlings-cut : (ts : List Told) → settlings_of (cut_last ts) ≡ settlings_of ts
+pub settlings-cut : (ts : List Told) → settlings_of (cut_last ts) ≡ settlings_of ts
 settlings-cut [] = refl
 settlings-cut (t ∷ []) = go t.course.settled
   where

@@ -74,13 +74,13 @@ as-due rule start from first done breaks unfound next begun b r comes = record {
 }
 
 module _ (rule : Rule) (start : Start) (from first : ℕ) (done : List TraceSecond) (p : Progress) where
-  rests-due : Followed rule start from first done (record p { supply = Due }) → Resting rule start from first done p.breaks p.unfound p.next p.book
+  pub rests-due : Followed rule start from first done (record p { supply = Due }) → Resting rule start from first done p.breaks p.unfound p.next p.book
   rests-due f = record { early = f.early; order = f.order; number = f.next; cuts = f.breaks; within = f.unfound; plain = f.plain; ended = f.ended; spans = f.spans; tied = f.tied.1; follows = f.follows }
 
-  rests-lost : Followed rule start from first done (record p { supply = Lost }) → Resting rule start from first done p.breaks p.unfound p.next p.book
+  pub rests-lost : Followed rule start from first done (record p { supply = Lost }) → Resting rule start from first done p.breaks p.unfound p.next p.book
   rests-lost f = record { early = f.early; order = f.order; number = f.next; cuts = f.breaks; within = f.unfound; plain = f.plain; ended = f.ended; spans = f.spans; tied = f.tied.1; follows = f.follows }
 
-  rests-lit : Followed rule start from first done (record p { supply = Lit [] }) → Resting rule start from first done p.breaks p.unfound p.next p.book
+  pub rests-lit : Followed rule start from first done (record p { supply = Lit [] }) → Resting rule start from first done p.breaks p.unfound p.next p.book
   rests-lit f =
       let wait = ⊎_elim (λ (e : p.waiting ≡ []). e) (λ long. absurd (let no : false ≡ true = long in cc)) f.tied.whole in
       record {
@@ -96,7 +96,7 @@ module _ (rule : Rule) (start : Start) (from first : ℕ) (done : List TraceSeco
         follows = f.follows;
       }
 
-  lost-comes : (before : Before) → before ≡ lost_before → p.next % 60 ≡ 0 → Comes before p.next
+  pub lost-comes : (before : Before) → before ≡ lost_before → p.next % 60 ≡ 0 → Comes before p.next
   lost-comes before is minute = record {
     running = ap (λ (b : Before). b.running) is;
     comes = ap (λ (b : Before). has_power b (given_second p.next 0 [])) is ∙ now;
@@ -224,7 +224,7 @@ module _ (rule : Rule) (start : Start) (from first : ℕ) (done : List TraceSeco
   goes_off f is = off-by p.supply is f
 
 -- WITH POWER
-keeps-all : (rule : Rule) (start : Start) (from first : ℕ) (done : List TraceSecond) (p : Progress) (t : Told) (span : List Told) (front : List Minute) (rest : List HistoryMinute) →
+pub keeps-all : (rule : Rule) (start : Start) (from first : ℕ) (done : List TraceSecond) (p : Progress) (t : Told) (span : List Told) (front : List Minute) (rest : List HistoryMinute) →
     Followed rule start from first done (record p { supply = Lit (t ∷ span); waiting = map plain front ++ rest }) → Followed rule start from first done (record p { supply = Lit (t ∷ span); book = kept_all front p.book; waiting = rest })
 keeps-all rule start from first done p t span [] rest f = f
 keeps-all rule start from first done p t span (d ∷ front) rest f =
@@ -235,7 +235,7 @@ module _ (rule : Rule) (start : Start) (from first : ℕ) (done : List TraceSeco
   ss = driven (suc n) p.next speed actions
 
   -- what is fed of a turn
-  feeds-by : (span : List Told) → Followed rule start from first done (record p { supply = Lit span }) → p.waiting ≡ [] →
+  pub feeds-by : (span : List Told) → Followed rule start from first done (record p { supply = Lit span }) → p.waiting ≡ [] →
       decided_in (fed_many (picking (picks_of actions) (span_at rule p.next span)) speed (suc n)) ≡ decided_in (span_at rule p.next span) ++ new →
       (t : Told) × (longer : List Told) × (span ++ lit_seconds (suc n) p.next speed (picks_of actions) (begins_with span) ≡ t ∷ longer)
       × Followed rule start from first (done ++ ss) (record p { next = p.next + suc n; begun = length (actions_of_last (suc n) actions); supply = Lit (t ∷ longer); waiting = map plain new })

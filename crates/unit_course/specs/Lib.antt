@@ -2,3 +2,4 @@ pub mod Turn
 pub mod Lines
 pub mod Keeping
 pub mod Followed
+pub mod Complete
