@@ -3,7 +3,7 @@ use Rattle.std.proofs.Common.{◌≡◌, ◌⊎◌, inl, inr, ⊎_elim, ℕ, zer
 use Rattle.std.specs.List.{AllByRecursion}
 use Rattle.std.proofs.lemmas.Bool.Decides.{nat_tests}
 use Rattle.std.proofs.lemmas.List.{append_cancel_left}
-use Rattle.std.proofs.lemmas.List.Elements.{Contains-append_left, Contains-append_cases, Contains-push, Contains-push_cases}
+use Rattle.std.proofs.lemmas.List.Elements.{Contains-append_left, Contains-append_right, Contains-append_cases, Contains-push, Contains-push_cases}
 use Rattle.trace_model.specs.declared.Action.{Action}
 use Rattle.trace_model.specs.Trace.{TraceSecond, driven, dark}
 use Rattle.run_model.specs.Span.{picks_of}
@@ -62,15 +62,15 @@ pub goes-on : (rule : Rule) (told more : List Told) (minute more_minute second m
     OfDecided rule told minute second → OfDecided rule more more_minute more_second
 goes-on rule told more minute more_minute second more_second ended span longer new are now decides settles goes cuts added old s d in_spans in_decided =
     ⊎_elim
-    (λ earlier. on (old s d (subst (λ (ss : List (List Told)). Contains ss s) (sym are) (Contains-append_left ended (as_spans span) s earlier)) in_decided))
+    (λ earlier. on (deciding_of rule (settlings_of s) d.minute) (old s d (subst (λ (ss : List (List Told)). Contains ss s) (sym are) (Contains-append_left ended (as_spans span) s earlier)) in_decided))
     (λ is. let here = subst (λ (x : List Told). Contains (decided_of rule x) d) (sym is) in_decided in
     subst (λ (x : List Told). more_minute d.minute ⊎ more_second (deciding_of rule (settlings_of x) d.minute)) is
-    (⊎_elim (λ before. subst (λ (us : List ℕ). more_minute d.minute ⊎ more_second (deciding_of rule us d.minute)) (sym settles) (on (before_too span are before))) (λ new_. added d new_)
+    (⊎_elim (λ before. subst (λ (us : List ℕ). more_minute d.minute ⊎ more_second (deciding_of rule us d.minute)) (sym settles) (on (deciding_of rule (settlings_of span) d.minute) (before_too span are before))) (λ new_. added d new_)
     (Contains-append_cases (decided_of rule span) new d (subst (λ (ds : List Minute). Contains ds d) decides here))))
     (Contains-push_cases ended longer s (subst (λ (ss : List (List Told)). Contains ss s) now in_spans))
   where
-    on : {u : ℕ} → minute d.minute ⊎ second u → more_minute d.minute ⊎ more_second u
-    on {u} which = ⊎_elim (λ m. inl (goes d.minute m)) (λ c. inr (cuts u c)) which
+    on : (u : ℕ) → minute d.minute ⊎ second u → more_minute d.minute ⊎ more_second u
+    on u which = ⊎_elim (λ m. inl (goes d.minute m)) (λ c. inr (cuts u c)) which
 
     before_too : (x : List Told) → spans_of told ≡ ended ++ as_spans x → Contains (decided_of rule x) d → minute d.minute ⊎ second (deciding_of rule (settlings_of x) d.minute)
     before_too [] are at = absurd (let none = subst (λ (ds : List Minute). Contains ds d) (decided-empty rule) at in omega (arith, none.1))
@@ -83,3 +83,13 @@ stays rule told more minute second more_second same cuts old s d in_spans in_dec
 -- CUTS stay
 pub cuts-stay : (told more : List Told) (u : ℕ) → CutIn told u → CutIn (told ++ more) u
 cuts-stay told more u c = (c.0, Contains-append_left told more c.0 c.1, c.2, c.3)
+
+pub cuts-cut : (told : List Told) (u : ℕ) → CutIn told u → CutIn (cut_last told) u
+cuts-cut [] u c = absurd (let at = c.1 in omega (arith, at.1))
+cuts-cut (t ∷ []) u c =
+    ⊎_elim (λ none. absurd (omega (arith, none.1))) (λ same. (cut_at_end t, Contains-push [] (cut_at_end t), ap (λ (x : Told). x.second.number) same ∙ c.2, refl))
+    (Contains-push_cases [] t c.0 c.1)
+cuts-cut (t ∷ next ∷ told) u c =
+    ⊎_elim (λ first. (c.0, Contains-append_left (t ∷ []) (cut_last (next ∷ told)) c.0 first, c.2, c.3))
+    (λ rest. let later = cuts-cut (next ∷ told) u (c.0, rest, c.2, c.3) in (later.0, Contains-append_right (t ∷ []) (cut_last (next ∷ told)) later.0 later.1, later.2, later.3))
+    (Contains-append_cases (t ∷ []) (next ∷ told) c.0 c.1)

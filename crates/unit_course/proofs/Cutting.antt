@@ -1,7 +1,9 @@
 -- The span that goes on ends with a cut in its last second.
-use Rattle.std.proofs.Common.{◌≡◌, ◌⊎◌, inl, inr, ⊎_elim, ℕ, suc, ◌+◌, ◌-◌, Bool, true, false, not, ◌||◌, nat_lt, Option, Some, None, List, [], ◌∷◌, ◌++◌, length, map, take, refl, ap, sym, subst, ◌∙◌, arith, append_assoc, append-nil, length-append}
+use Rattle.std.proofs.Common.{◌≡◌, ◌⊎◌, inl, inr, ⊎_elim, ℕ, suc, ◌+◌, ◌-◌, Bool, true, false, not, ◌||◌, nat_lt, Option, Some, None, List, [], ◌∷◌, ◌++◌, Contains, length, map, take, refl, ap, sym, subst, ◌∙◌, arith, append_assoc, append-nil, length-append}
 use Rattle.std.specs.Prelude.{option_to_list}
 use Rattle.std.specs.List.{AllByRecursion}
+use Rattle.std.proofs.lemmas.List.Elements.{Contains-push}
+use Rattle.history_model.specs.Completeness.{CutIn}
 use Rattle.std.proofs.lemmas.Bool.Decides.{nat_tests}
 use Rattle.trace_model.specs.Trace.{TraceSecond}
 use Rattle.minute_model.specs.declared.Rule.{Rule}
@@ -107,6 +109,9 @@ module _ (rule : Rule) (start : Start) (from first : ℕ) (done : List TraceSeco
 
   abbrev now : List Told
   now = (went (log_of later) done).told
+
+  pub cut-in : CutIn now (p.next - 1)
+  cut-in = (t-as true, subst (λ (ts : List Told). Contains ts (t-as true)) (sym (ap (λ (w : Went). w.told) told-cut)) (Contains-push before.told (t-as true)), number, refl)
 
   -- they are the same seconds but for the last
   pub now-cut : now ≡ cut_last told

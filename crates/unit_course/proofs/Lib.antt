@@ -9,4 +9,6 @@ pub mod Lighted
 pub mod Cutting
 pub mod Steps
 pub mod Seconds
+pub mod Completing
+pub mod Marked
 pub mod Rows

@@ -21,7 +21,7 @@ use Rattle.unit_course.proofs.Cutting.{told-cut, now-cut}
 use Rattle.unit_course.proofs.Steps.{rests-due, rests-lost, rests-lit, lost-comes}
 
 module _ (rule : Rule) (start : Start) (from first : ℕ) (done : List TraceSecond) (p : Progress) where
-  by-supply : Followed rule start from first done p → (s : Supply) → p.supply ≡ s → Followed rule start from first done (record p { supply = s })
+  pub by-supply : Followed rule start from first done p → (s : Supply) → p.supply ≡ s → Followed rule start from first done (record p { supply = s })
   by-supply g s is = subst (λ (s : Supply). Followed rule start from first done (record p { supply = s })) is g
 
   -- it is found what was kept: nothing changes

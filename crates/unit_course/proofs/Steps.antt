@@ -293,15 +293,22 @@ module _ (rule : Rule) (start : Start) (from first : ℕ) (done : List TraceSeco
       one None = refl
       one (Some d) = refl
 
+-- power is lost in the last second so far, behind all of its actions, and no minute waits
+pub cut_now : (rule : Rule) (start : Start) (from first : ℕ) (done : List TraceSecond) (p : Progress) → Followed rule start from first done p → (t : Told) (span : List Told) → p.supply ≡ Lit (t ∷ span) → p.waiting ≡ [] → (failed : Bool) →
+    Followed rule start from first done
+    (record { breaks = p.breaks ++ cut_at (p.next - 1) failed p.begun ∷ []; unfound = p.unfound; next = p.next; begun = p.begun; supply = Lost; book = p.book; waiting = [] })
+cut_now rule start from first done p g t span is none failed =
+    let f = subst (λ (s : Supply). Followed rule start from first done (record p { supply = s })) is g in
+    let cut = ends rule start from first done p t span f failed None [] none in
+    as-lost rule start from first done (p.breaks ++ cut_at (p.next - 1) failed p.begun ∷ []) p.unfound p.next p.begun p.book cut.0 cut.1
+
 -- an `off` line of a second at least, while there is power: its last second turns out to be a cut's
 pub cut_off : (rule : Rule) (start : Start) (from first : ℕ) (done : List TraceSecond) (p : Progress) → Followed rule start from first done p → (t : Told) (span : List Told) → p.supply ≡ Lit (t ∷ span) → p.waiting ≡ [] → (n : ℕ) →
     Followed rule start from first (done ++ dark (suc n) p.next)
     (record { breaks = p.breaks ++ cut_at (p.next - 1) false p.begun ∷ []; unfound = p.unfound; next = p.next + suc n; begun = 0; supply = Due; book = p.book; waiting = [] })
 cut_off rule start from first done p g t span is none n =
-    let f = subst (λ (s : Supply). Followed rule start from first done (record p { supply = s })) is g in
-    let cut = ends rule start from first done p t span f false None [] none in
     goes_off rule start from first done (record { breaks = p.breaks ++ cut_at (p.next - 1) false p.begun ∷ []; unfound = p.unfound; next = p.next; begun = p.begun; supply = Lost; book = p.book; waiting = [] })
-    (as-lost rule start from first done (p.breaks ++ cut_at (p.next - 1) false p.begun ∷ []) p.unfound p.next p.begun p.book cut.0 cut.1) tt n
+    (cut_now rule start from first done p g t span is none false) tt n
 
 -- AT THE START
 pub begins : (rule : Rule) (start : Start) (from first : ℕ) → first < from / 60 →
