@@ -11,4 +11,7 @@ pub mod Steps
 pub mod Seconds
 pub mod Completing
 pub mod Marked
+pub mod Causing
+pub mod Offs
+pub mod Caused
 pub mod Rows

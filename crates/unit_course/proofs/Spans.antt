@@ -2,6 +2,7 @@
 use Rattle.std.proofs.Common.{◌≡◌, ℕ, zero, suc, ◌+◌, ◌-◌, Bool, true, false, cond, Some, List, [], ◌∷◌, ◌++◌, length, map, filter, fold, refl, ap, sym, subst, ◌∙◌, arith, append_assoc, append-nil, length-append}
 use Rattle.std.proofs.lemmas.List.Sums.{fold-append}
 use Rattle.std.proofs.lemmas.List.{map-append}
+use Rattle.std.proofs.lemmas.List.Elements.{filter-append}
 use Rattle.activity_codec.specs.declared.values.Slot.{Slot}
 use Rattle.activity_codec.specs.declared.values.Pick.{Pick}
 use Rattle.trace_model.specs.declared.Action.{Action}
@@ -180,3 +181,10 @@ begun-turn-seen rule next n speed picks =
 pub decided-at : (rule : Rule) (next : ℕ) (span : List Told) → decided_in (span_at rule next span) ≡ decided_of rule span
 decided-at rule next [] = refl
 decided-at rule next (t ∷ span) = refl
+
+-- THE SECONDS OF CUTS
+abbrev pub cuts_of : List Told → List ℕ
+cuts_of told = map (λ (t : Told). t.second.number) (filter (λ (t : Told). t.cut) told)
+
+pub cuts-append : (xs ys : List Told) → cuts_of (xs ++ ys) ≡ cuts_of xs ++ cuts_of ys
+cuts-append xs ys = ap (map (λ (t : Told). t.second.number)) (filter-append (λ (t : Told). t.cut) xs ys) ∙ map-append (λ (t : Told). t.second.number) (filter (λ (t : Told). t.cut) xs) (filter (λ (t : Told). t.cut) ys)

@@ -3,3 +3,4 @@ pub mod Lines
 pub mod Keeping
 pub mod Followed
 pub mod Complete
+pub mod Caused
