@@ -91,7 +91,7 @@ module _ (rule : Rule) (start : Start) (from first : ℕ) (done : List TraceSeco
   abbrev told : List Told
   told = (went (log_of p.breaks) done).told
 
-  within-next : AllByRecursion (IsCutBefore p.next) p.breaks
+  pub within-next : AllByRecursion (IsCutBefore p.next) p.breaks
   within-next = by p.supply g
     where
       by : (s : Supply) → Followed rule start from first done (record p { supply = s }) → AllByRecursion (IsCutBefore p.next) p.breaks

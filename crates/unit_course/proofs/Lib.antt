@@ -14,4 +14,5 @@ pub mod Marked
 pub mod Causing
 pub mod Offs
 pub mod Caused
+pub mod WithCauses
 pub mod Rows

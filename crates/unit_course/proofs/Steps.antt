@@ -370,7 +370,7 @@ kept-refusing : (breaks : List Break) (refused : List Refused) (u : ℕ) → kep
 unfolding kept_after
 kept-refusing breaks refused u = refl
 
-went-refusing : (breaks : List Break) (refused : List Refused) (ss : List TraceSecond) → went (refusing breaks refused) ss ≡ went (log_of breaks) ss
+pub went-refusing : (breaks : List Break) (refused : List Refused) (ss : List TraceSecond) → went (refusing breaks refused) ss ≡ went (log_of breaks) ss
 went-refusing breaks refused ss =
     went-same (log_of breaks) (refusing breaks refused) ss
     (all-numbered (λ (u : ℕ). SameAt (log_of breaks) (refusing breaks refused) u) ss (λ u. record { cut = cut-refusing breaks refused u; torn = torn-refusing breaks refused u; found = found-refusing breaks refused u }))

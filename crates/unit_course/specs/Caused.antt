@@ -4,10 +4,11 @@ use Rattle.std.specs.List.{AllByRecursion, list_any}
 use Rattle.trace_model.specs.Trace.{TraceSecond}
 use Rattle.log_model.specs.declared.lines.Break.{Break}
 use Rattle.log_model.specs.declared.lines.Refused.{Refused}
-use Rattle.log_model.specs.Course.{Told}
+use Rattle.log_model.specs.Course.{Told, went}
 use Rattle.log_model.specs.Causes.{is_cut, second_of, cuts, off_cuts, refusals_of, IsBegun}
 use Rattle.unit_course.specs.Turn.{plain_course}
 use Rattle.unit_course.specs.Lines.{log_of}
+use Rattle.unit_course.specs.Followed.{Progress, IsDark}
 
 -- nothing happened in a second but selections and refusals
 abbrev pub IsBare : Told → Type 0
@@ -30,3 +31,8 @@ pub record Caused (breaks : List Break) (refusals : List Refused) (ss : List Tra
   pub cut_seconds : map second_of (filter is_cut breaks) ≡ map (λ t. t.second.number) (filter (λ t. t.cut) told)
   pub off_lines : cuts_by false breaks ≡ off_cuts (cuts_by true breaks) told
   pub begun : AllByRecursion (IsBegun ss) breaks
+
+-- the same of a run as far as it has gone; without power it is over
+pub record WellCaused (done : List TraceSecond) (p : Progress) (refusals : List Refused) : Type 0 where
+  pub caused : Caused p.breaks refusals done (went (log_of p.breaks) done).told
+  pub over : IsDark p.supply → IsOver (cuts_by true p.breaks) (went (log_of p.breaks) done).told
