@@ -1,8 +1,7 @@
 -- The causes of a run of a unit alone, over each step.
-use Rattle.std.proofs.Common.{◌≡◌, ◌⊎◌, inl, inr, ⊎_elim, ℕ, zero, suc, ◌+◌, ◌-◌, ◌%◌, ◌<◌, ◌≤◌, Bool, true, false, not, nat_eq, List, [], ◌∷◌, ◌++◌, All, Contains, length, map, filter, refl, ap, sym, subst, ◌∙◌, arith, append_assoc, append-nil, length-append}
+use Rattle.std.proofs.Common.{◌≡◌, ⊎_elim, ℕ, zero, suc, ◌+◌, ◌-◌, ◌%◌, ◌<◌, ◌≤◌, Bool, true, false, nat_eq, List, [], ◌∷◌, ◌++◌, Contains, length, map, refl, ap, sym, subst, ◌∙◌, arith, length-append}
 use Rattle.std.specs.List.{AllByRecursion, list_any}
-use Rattle.std.proofs.lemmas.List.{map-append}
-use Rattle.std.proofs.lemmas.List.Elements.{Contains-append_cases, Contains-push, Contains-push_cases, All-contains}
+use Rattle.std.proofs.lemmas.List.Elements.{Contains-append_cases, Contains-push_cases}
 use Rattle.activity_codec.specs.declared.values.Slot.{Slot}
 use Rattle.activity_codec.specs.declared.values.Pick.{Pick}
 use Rattle.trace_model.specs.declared.Action.{Action}
@@ -14,23 +13,23 @@ use Rattle.log_model.specs.declared.lines.Break.TheVariants.{Cut, Tear}
 use Rattle.log_model.specs.declared.lines.Refused.{Refused}
 use Rattle.log_model.specs.declared.lines.SlotFault.{SlotFault}
 use Rattle.log_model.specs.declared.lines.SlotFault.TheVariants.{NoPower}
-use Rattle.log_model.specs.Course.{Told, Went, Course, went, cut_told}
+use Rattle.log_model.specs.Course.{Told, Went, went, cut_told}
 use Rattle.log_model.specs.Spans.{AreInOrder, seconds_in}
 use Rattle.minute_model.specs.Span.{AreNumbered}
-use Rattle.log_model.specs.Causes.{is_cut, second_of, off_cuts, refusals_of, IsBegun}
+use Rattle.log_model.specs.Causes.{off_cuts, IsBegun}
 use Rattle.log_model.proofs.Spanning.{spanned, order-parts}
 use Rattle.history_model.specs.Presence.{Start}
-use Rattle.unit_course.specs.Turn.{IsSelection, plain_course, lit_second, lit_seconds, dark_seconds, cut_at_end, cut_last, begins_with}
+use Rattle.unit_course.specs.Turn.{IsSelection, lit_second, lit_seconds, dark_seconds, cut_at_end, cut_last, begins_with}
 use Rattle.unit_course.specs.Lines.{log_of, cut_at, found_from, with_kept, IsCutBefore}
-use Rattle.unit_course.specs.Followed.{Supply, Lit, Due, Lost, Progress, Followed, MayPower, MayFail, IsDark, HadActions}
+use Rattle.unit_course.specs.Followed.{Supply, Lit, Due, Lost, Progress, Followed, MayPower, MayFail, IsDark}
 use Rattle.unit_course.specs.Caused.{IsBare, cuts_by, IsOver, Caused}
 use Rattle.unit_course.proofs.Seconds.{by-supply, powered_seconds, turned_seconds, cut_seconds, failed_seconds, dark_minute, off_seconds}
-use Rattle.unit_course.proofs.Offs.{off-given, given-lit, given-dark, off-over, off-cut-last, off-later, off-same, over-dark, over-failed, any-last, by-same, by-other, by-found, by-before}
-use Rattle.unit_course.proofs.Causing.{told-added, told-found, turned_causes, dark_causes, failed_causes, off_causes, powered_causes, cut_causes}
+use Rattle.unit_course.proofs.Offs.{off-given, given-lit, given-dark, off-over, off-cut-last, off-later, off-same, by-same, by-other, by-found, by-before}
+use Rattle.unit_course.proofs.Causing.{told-added, told-found, turned_causes, dark_causes, failed_causes, off_causes, cut_causes}
 use Rattle.unit_course.proofs.Lines.{cuts-later}
 use Rattle.unit_course.proofs.Cutting.{last-second}
 use Rattle.unit_course.proofs.Steps.{cut_now}
-use Rattle.unit_course.proofs.Parts.{order-behind, driven-order, dark-order}
+use Rattle.unit_course.proofs.Parts.{driven-order, dark-order}
 
 -- SECONDS IN WHICH NOTHING HAPPENED but selections and refusals
 bare-append : (xs ys : List Told) → AllByRecursion IsBare xs → AllByRecursion IsBare ys → AllByRecursion IsBare (xs ++ ys)
@@ -64,11 +63,12 @@ numbers-from n (x ∷ ss) s order at =
 
 begun-behind : (from next : ℕ) (done ss : List TraceSecond) (bs : List Break) → AreInOrder next ss → AllByRecursion (IsCutBefore next) bs → AllByRecursion (IsBegun done) bs → AllByRecursion (IsBegun (done ++ ss)) bs
 begun-behind from next done ss [] more before h = tt
-begun-behind from next done ss (Cut second kept failed begun ∷ bs) more before h =
-    (λ s at is. ⊎_elim (λ old. h.0 s old is)
-        (λ new. absurd (let w = numbers-from next ss s more new in let lt : second < next = before.0 in let ge = w.0 in omega (arith, lt, ge, is)))
-        (Contains-append_cases done ss s at),
-    begun-behind from next done ss bs more before.1 h.1)
+begun-behind from next done ss (Cut second kept failed begun ∷ bs) more before h = (
+  λ s at is. ⊎_elim (λ old. h.0 s old is)
+      (λ new. absurd (let w = numbers-from next ss s more new in let lt : second < next = before.0 in let ge = w.0 in omega (arith, lt, ge, is)))
+      (Contains-append_cases done ss s at),
+  begun-behind from next done ss bs more before.1 h.1,
+)
 begun-behind from next done ss (Tear second slot failed begun late ∷ bs) more before h = absurd before.0
 
 begun-map : (ss : List TraceSecond) (k : ℕ) (bs : List Break) → AllByRecursion (IsBegun ss) bs → AllByRecursion (IsBegun ss) (map (with_kept k) bs)

@@ -1,6 +1,5 @@
 -- What the seconds of each step refuse, and which of them are cuts: with the log, two of the causes of a run.
-use Rattle.std.proofs.Common.{◌≡◌, ⊎_elim, ℕ, zero, suc, ◌+◌, ◌-◌, ◌%◌, ◌<◌, ◌≤◌, Bool, true, false, cond, List, [], ◌∷◌, ◌++◌, length, map, filter, take, drop, refl, ap, sym, subst, ◌∙◌, append_assoc, append-nil}
-use Rattle.std.specs.Prelude.{flat_map}
+use Rattle.std.proofs.Common.{◌≡◌, ℕ, zero, suc, ◌+◌, ◌-◌, ◌%◌, ◌<◌, ◌≤◌, Bool, true, false, List, [], ◌∷◌, ◌++◌, map, filter, refl, ap, ◌∙◌, append-nil}
 use Rattle.std.specs.List.{AllByRecursion}
 use Rattle.std.proofs.lemmas.List.{map-append}
 use Rattle.std.proofs.lemmas.List.Elements.{filter-append}
@@ -18,9 +17,9 @@ use Rattle.log_model.specs.declared.lines.SlotFault.TheVariants.{NoPower}
 use Rattle.log_model.specs.Course.{Told, Went, went}
 use Rattle.log_model.specs.Causes.{refusals_of, is_cut, second_of}
 use Rattle.history_model.specs.Presence.{Start}
-use Rattle.unit_course.specs.Turn.{IsSelection, lit_second, lit_seconds, dark_second, dark_seconds, cut_at_end, cut_last, begins_with}
+use Rattle.unit_course.specs.Turn.{IsSelection, lit_second, lit_seconds, dark_seconds, cut_last, begins_with}
 use Rattle.unit_course.specs.Lines.{log_of, cut_at, with_kept, found_from}
-use Rattle.unit_course.specs.Followed.{Supply, Lit, Due, Lost, Progress, Followed, MayPower, MayFail, IsDark}
+use Rattle.unit_course.specs.Followed.{Lit, Lost, Progress, Followed, MayPower, MayFail, IsDark}
 use Rattle.unit_course.proofs.Seconds.{by-supply, powered_seconds, turned_seconds, cut_seconds, failed_seconds, dark_minute, off_seconds}
 use Rattle.unit_course.proofs.Spans.{cuts_of, cuts-append}
 use Rattle.unit_course.proofs.Cutting.{cuts-now}

@@ -1,27 +1,21 @@
 -- Which decided minutes are acknowledged, over each step.
-use Rattle.std.proofs.Common.{◌≡◌, ◌⊎◌, inl, inr, ⊎_elim, ℕ, zero, suc, ◌+◌, ◌-◌, ◌*◌, ◌/◌, ◌%◌, ◌<◌, ◌≤◌, Bool, true, false, cond, nat_eq, List, [], ◌∷◌, ◌++◌, Contains, length, map, fold, refl, ap, sym, subst, ◌∙◌, arith, append-nil}
-use Rattle.std.specs.List.{AllByRecursion}
+use Rattle.std.proofs.Common.{◌≡◌, ◌⊎◌, inl, inr, ⊎_elim, ℕ, zero, suc, ◌+◌, ◌-◌, ◌*◌, ◌/◌, ◌<◌, ◌≤◌, true, cond, nat_eq, List, [], ◌∷◌, ◌++◌, Contains, map, refl, ap, sym, subst, ◌∙◌, arith}
 use Rattle.std.proofs.lemmas.Bool.Decides.{nat_tests}
 use Rattle.std.proofs.lemmas.List.{append_cancel_left}
 use Rattle.std.proofs.lemmas.List.Elements.{Contains-append_left, Contains-append_right, Contains-append_cases, Contains-push, Contains-push_cases}
-use Rattle.trace_model.specs.declared.Action.{Action}
-use Rattle.trace_model.specs.Trace.{TraceSecond, driven, dark}
-use Rattle.run_model.specs.Span.{picks_of}
-use Rattle.run_model.specs.declared.Device.TheVariants.{Unit as Recorder}
 use Rattle.minute_model.specs.declared.Rule.{Rule}
 use Rattle.minute_model.specs.declared.Minute.{Minute}
 use Rattle.minute_model.specs.Minute.{minutes_ahead, horizon_of, class_of}
 use Rattle.minute_model.specs.Span.{Span, end_of, fed_many, decided_in, ungiven_of, latest, count_from, AreNumbered, AreSettled}
 use Rattle.minute_model.proofs.Counted.{horizon-ahead}
 use Rattle.minute_model.proofs.Spans.{decided-fed_many, fed_many-end, fed_many-rule, fed_many-first_number, fed_many-settlings}
-use Rattle.log_model.specs.declared.lines.Mark.{Mark}
-use Rattle.log_model.specs.Course.{Told, Went, went}
-use Rattle.log_model.specs.Spans.{spans_of, spans_with}
-use Rattle.history_model.specs.Completeness.{deciding_of, IsMarked, CutIn}
+use Rattle.log_model.specs.Course.{Told}
+use Rattle.log_model.specs.Spans.{spans_of}
+use Rattle.history_model.specs.Completeness.{deciding_of, CutIn}
 use Rattle.history_model.specs.History.{settlings_of, decided_of}
 use Rattle.unit_course.specs.Turn.{cut_last, cut_at_end}
 use Rattle.unit_course.specs.Followed.{as_spans}
-use Rattle.unit_course.specs.Complete.{OfDecided, AreMarked}
+use Rattle.unit_course.specs.Complete.{OfDecided}
 use Rattle.unit_course.proofs.Alike.{decided-empty}
 
 -- THE DECIDING SECOND of a minute that seconds of one minute decide is the last of them
@@ -45,7 +39,7 @@ pub newly-decided : (span : Span) (speed n : ℕ) (new : List Minute) (d : Minut
 newly-decided span speed n new d numbered all within decides at =
     let later : Span = fed_many span speed n in
     let are : new ≡ map (class_of span.rule later.seconds) (count_from (ungiven_of span) (ungiven_of later - ungiven_of span)) =
-        append_cancel_left (decided_in span) new (map (class_of span.rule later.seconds) (count_from (ungiven_of span) (ungiven_of later - ungiven_of span))) (sym decides ∙ decided-fed_many span speed n numbered all within) in
+    append_cancel_left (decided_in span) new (map (class_of span.rule later.seconds) (count_from (ungiven_of span) (ungiven_of later - ungiven_of span))) (sym decides ∙ decided-fed_many span speed n numbered all within) in
     let w = counted-within (class_of span.rule later.seconds) (λ m. refl) (ungiven_of span) (ungiven_of later - ungiven_of span) d (subst (λ (ds : List Minute). Contains ds d) are at) in
     let from = w.0 in
     let to = w.1 in

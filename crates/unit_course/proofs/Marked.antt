@@ -1,5 +1,5 @@
 -- Each decided minute is acknowledged, but where a cut came in the second that decided it: over each step.
-use Rattle.std.proofs.Common.{◌≡◌, ◌⊎◌, inl, inr, ⊎_elim, ℕ, zero, suc, ◌+◌, ◌-◌, ◌*◌, ◌/◌, ◌%◌, ◌<◌, ◌≤◌, Bool, true, false, List, [], ◌∷◌, ◌++◌, Contains, length, map, fold, refl, ap, sym, subst, ◌∙◌, arith, append-nil}
+use Rattle.std.proofs.Common.{◌≡◌, ◌⊎◌, inl, inr, ⊎_elim, ℕ, suc, ◌+◌, ◌-◌, ◌%◌, ◌<◌, ◌≤◌, Bool, true, false, List, [], ◌∷◌, ◌++◌, Contains, length, map, fold, refl, ap, sym, subst, ◌∙◌, arith, append-nil}
 use Rattle.std.specs.List.{AllByRecursion}
 use Rattle.trace_model.specs.declared.Action.{Action}
 use Rattle.trace_model.specs.Trace.{TraceSecond, driven, dark}
@@ -10,14 +10,13 @@ use Rattle.minute_model.specs.declared.Minute.{Minute}
 use Rattle.minute_model.specs.Span.{Span, end_of, fed_many, decided_in, AreNumbered, AreSettled}
 use Rattle.minute_model.proofs.Spans.{fed_many-settlings}
 use Rattle.log_model.specs.declared.lines.Mark.{Mark}
-use Rattle.log_model.specs.Log.{RunLog}
 use Rattle.log_model.specs.Course.{Told, Went, went}
-use Rattle.log_model.specs.Spans.{spans_of, spans_with, seconds_in, first_in, end_in, AreApart}
+use Rattle.log_model.specs.Spans.{spans_of, spans_with, end_in, AreApart}
 use Rattle.log_model.proofs.Spanning.{spanned}
 use Rattle.history_model.specs.Presence.{Start}
 use Rattle.history_model.specs.Completeness.{deciding_of, IsMarked, CutIn}
 use Rattle.history_model.specs.History.{settlings_of, decided_of}
-use Rattle.history_model.specs.Growth.{as_span, picking}
+use Rattle.history_model.specs.Growth.{picking}
 use Rattle.history_model.proofs.Deciding.{counted, span-settled, short-none}
 use Rattle.history_model.proofs.Growing.{apart-last}
 use Rattle.unit_course.specs.Turn.{IsSelection, lit_second, lit_seconds, dark_seconds, cut_last, span_at, begins_with, actions_of_last}
@@ -73,9 +72,11 @@ module _ (rule : Rule) (start : Start) (from first : ℕ) (done : List TraceSeco
         let g = fits span f in
         let settles = ap settlings_of (sym is) ∙ ap (λ (s : Span). s.settlings) (seen rule p.next span n speed (picks_of actions) g.ends) ∙ fed_many-settlings (picking (picks_of actions) (span_at rule p.next span)) speed (suc n) ∙ settled-at rule p.next span in
         let end = g.end in
-        let newly = newly-decided (picking (picks_of actions) (span_at rule p.next span)) speed (suc n) new d g.numbered g.settled (omega (arith, end, within)) decides at in
-        (settles, ap (λ (us : List ℕ). deciding_of rule us d.minute) (settles ∙ sym (settled-at rule p.next span))
-        ∙ ap (λ (r : Rule). deciding_of r (span_at rule p.next span).settlings d.minute) (sym (rule-at rule p.next span)) ∙ newly ∙ ap (λ (k : ℕ). k + suc n - 1) end)
+        let newly = newly-decided (picking (picks_of actions) (span_at rule p.next span)) speed (suc n) new d g.numbered g.settled (omega (arith, end, within)) decides at in (
+          settles,
+          ap (λ (us : List ℕ). deciding_of rule us d.minute) (settles ∙ sym (settled-at rule p.next span))
+              ∙ ap (λ (r : Rule). deciding_of r (span_at rule p.next span).settlings d.minute) (sym (rule-at rule p.next span)) ∙ newly ∙ ap (λ (k : ℕ). k + suc n - 1) end,
+        )
 
     -- they may be acknowledged, or be decided in the last second
     pub fed-marked : (x : Told) (xs : List Told) → span ++ lit_seconds (suc n) p.next speed (picks_of actions) (begins_with span) ≡ x ∷ xs → (marks later : List Mark) (last_too : ℕ → Type 0) →
@@ -102,8 +103,8 @@ module _ (rule : Rule) (start : Start) (from first : ℕ) (done : List TraceSeco
       (λ u. CutIn (went (log_of p.breaks) done).told u ⊎ (u ≡ p.next - 1)) (λ u. CutIn (went (log_of (p.breaks ++ cut_at (p.next - 1) failed p.begun ∷ [])) done).told u) f.ended (t ∷ span) (cut_last (t ∷ span)) []
       f.spans (spans-cut rule start from first done p t span f failed) (decided-cut rule (t ∷ span) ∙ sym (append-nil (decided_of rule (t ∷ span)))) (settlings-cut (t ∷ span)) (λ m is. is)
       (λ u which. ⊎_elim
-          (λ c. subst (λ (ts : List Told). CutIn ts u) (sym (now-cut rule start from first done p t span f failed)) (cuts-cut (went (log_of p.breaks) done).told u c))
-          (λ (is : u ≡ p.next - 1). subst (λ (k : ℕ). CutIn (went (log_of (p.breaks ++ cut_at (p.next - 1) failed p.begun ∷ [])) done).told k) (sym is) (cut-in rule start from first done p t span f failed)) which)
+      (λ c. subst (λ (ts : List Told). CutIn ts u) (sym (now-cut rule start from first done p t span f failed)) (cuts-cut (went (log_of p.breaks) done).told u c))
+      (λ (is : u ≡ p.next - 1). subst (λ (k : ℕ). CutIn (went (log_of (p.breaks ++ cut_at (p.next - 1) failed p.begun ∷ [])) done).told k) (sym is) (cut-in rule start from first done p t span f failed)) which)
       (λ d at. absurd (omega (arith, at.1)))
       old
 

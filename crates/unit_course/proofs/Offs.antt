@@ -1,5 +1,5 @@
 -- Which last seconds before an `off` line are cuts, as seconds and cuts are added.
-use Rattle.std.proofs.Common.{◌≡◌, ⊎_elim, ℕ, zero, suc, ◌+◌, ◌-◌, ◌<◌, ◌≤◌, Bool, true, false, cond, not, ◌&&◌, ◌||◌, nat_eq, List, [], ◌∷◌, ◌++◌, Contains, length, map, filter, take, drop, refl, ap, sym, subst, ◌∙◌, arith, append_assoc, append-nil}
+use Rattle.std.proofs.Common.{◌≡◌, ℕ, zero, suc, ◌+◌, ◌<◌, ◌≤◌, Bool, true, false, cond, not, ◌&&◌, ◌||◌, nat_eq, List, [], ◌∷◌, ◌++◌, length, map, filter, refl, ap, sym, ◌∙◌, arith, append_assoc, append-nil}
 use Rattle.std.specs.List.{AllByRecursion, list_any}
 use Rattle.std.proofs.lemmas.Bool.Decides.{nat_tests}
 use Rattle.std.proofs.lemmas.List.{map-append}
@@ -14,7 +14,7 @@ use Rattle.log_model.specs.declared.lines.Break.TheVariants.{Cut, Tear}
 use Rattle.log_model.specs.Course.{Told}
 use Rattle.log_model.specs.Causes.{is_cut, has_failed, second_of, off_cuts}
 use Rattle.log_model.specs.Spans.{seconds_in}
-use Rattle.unit_course.specs.Turn.{lit_second, lit_seconds, dark_second, dark_seconds, cut_at_end, cut_last}
+use Rattle.unit_course.specs.Turn.{lit_seconds, dark_second, dark_seconds, cut_last}
 use Rattle.unit_course.specs.Lines.{cut_at, with_kept, found_from, IsCutBefore}
 use Rattle.unit_course.specs.Caused.{cuts_by, IsOver}
 

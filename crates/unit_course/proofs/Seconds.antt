@@ -1,20 +1,17 @@
 -- How the seconds of each step went: the seconds so far, and then exactly these.
-use Rattle.std.proofs.Common.{◌≡◌, ℕ, zero, suc, ◌+◌, ◌-◌, ◌%◌, ◌<◌, ◌≤◌, Bool, true, false, List, [], ◌∷◌, ◌++◌, length, fold, refl, ap, sym, subst, ◌∙◌, arith, append_assoc}
+use Rattle.std.proofs.Common.{◌≡◌, ℕ, suc, ◌+◌, ◌-◌, ◌%◌, ◌<◌, ◌≤◌, Bool, true, false, List, [], ◌∷◌, ◌++◌, fold, ap, subst, ◌∙◌}
 use Rattle.std.specs.List.{AllByRecursion}
 use Rattle.trace_model.specs.declared.Action.{Action}
 use Rattle.trace_model.specs.Trace.{TraceSecond, driven, dark}
 use Rattle.minute_model.specs.declared.Rule.{Rule}
-use Rattle.minute_model.specs.declared.Minute.{Minute}
 use Rattle.run_model.specs.Span.{picks_of}
 use Rattle.log_model.specs.Course.{Told, Went, Before, went_on, went}
 use Rattle.history_model.specs.Presence.{Start}
-use Rattle.history_model.specs.Book.{all, IsMark}
-use Rattle.history_model.specs.Minutes.{HistoryMinute}
-use Rattle.unit_course.specs.Turn.{IsSelection, empty_slots, lit_second, lit_seconds, dark_seconds, cut_last, begins_with, actions_of_last}
+use Rattle.unit_course.specs.Turn.{IsSelection, empty_slots, lit_second, lit_seconds, dark_seconds, cut_last, begins_with}
 use Rattle.unit_course.specs.Lines.{log_of, cut_at, found_from, IsCutBefore}
 use Rattle.unit_course.specs.Followed.{Supply, Lit, Due, Lost, Progress, going_before, lost_before, Followed, MayPower, MayFail, IsDark}
 use Rattle.unit_course.proofs.Lines.{went-found}
-use Rattle.unit_course.proofs.Turns.{off_before, lost-goes, off-goes, went-parts}
+use Rattle.unit_course.proofs.Turns.{lost-goes, off-goes, went-parts}
 use Rattle.unit_course.proofs.Resting.{failed-goes}
 use Rattle.unit_course.proofs.Lighted.{turn-told}
 use Rattle.unit_course.proofs.Cutting.{told-cut, now-cut}

@@ -1,9 +1,8 @@
 -- THE STEPS with their causes, and the causes of a run.
-use Rattle.std.proofs.Common.{◌≡◌, ◌⊎◌, inl, inr, ⊎_elim, ℕ, zero, suc, ◌+◌, ◌-◌, ◌%◌, ◌<◌, ◌≤◌, Bool, true, false, nat_eq, Option, List, [], ◌∷◌, ◌++◌, Contains, length, map, filter, refl, ap, sym, subst, ◌∙◌, arith, append_assoc}
-use Rattle.std.specs.Prelude.{option_to_list, flat_map}
+use Rattle.std.proofs.Common.{◌≡◌, inl, ⊎_elim, ℕ, zero, suc, ◌+◌, ◌-◌, ◌%◌, ◌<◌, ◌≤◌, Bool, true, false, nat_eq, List, [], ◌∷◌, ◌++◌, Contains, length, map, filter, refl, ap, sym, subst, ◌∙◌, arith, append_assoc}
+use Rattle.std.specs.Prelude.{flat_map}
 use Rattle.std.specs.List.{AllByRecursion, list_any}
 use Rattle.std.proofs.lemmas.List.Elements.{Contains-append_cases, Contains-push_cases}
-use Rattle.activity_codec.specs.declared.values.Slot.{Slot}
 use Rattle.trace_model.specs.declared.Action.{Action}
 use Rattle.trace_model.specs.declared.Card.{Card}
 use Rattle.trace_model.specs.Trace.{TraceSecond, driven, dark}
@@ -19,20 +18,19 @@ use Rattle.log_model.specs.declared.lines.Refused.{Refused}
 use Rattle.log_model.specs.declared.lines.SlotFault.{SlotFault}
 use Rattle.log_model.specs.declared.lines.SlotFault.TheVariants.{NoPower}
 use Rattle.log_model.specs.declared.lines.Verdict.{Verdict}
-use Rattle.log_model.specs.Log.{RunLog, Phase}
+use Rattle.log_model.specs.Log.{RunLog}
 use Rattle.log_model.specs.Slots.{same_card}
 use Rattle.log_model.specs.Course.{Told, Went, Course, Visit, went}
-use Rattle.log_model.specs.Causes.{cuts, tears, places, visit_places, in_the_slot, second_of, is_cut, off_cuts, refusals_of, pulled_of, torn_of, cards_torn, finds_of, device_of, RoseBy, IsBegun, HasCauses}
+use Rattle.log_model.specs.Causes.{cuts, tears, places, visit_places, in_the_slot, off_cuts, refusals_of, device_of, RoseBy, IsBegun, HasCauses}
 use Rattle.history_model.specs.Presence.{Start}
 use Rattle.history_model.specs.Growth.{picking}
-use Rattle.history_model.specs.Minutes.{HistoryMinute}
 use Rattle.history_model.specs.Book.{not_begun}
-use Rattle.unit_course.specs.Turn.{IsSelection, plain_course, lit_second, lit_seconds, dark_seconds, span_at, begins_with, actions_of_last}
+use Rattle.unit_course.specs.Turn.{IsSelection, lit_second, dark_seconds, span_at, actions_of_last}
 use Rattle.unit_course.specs.Keeping.{plain}
 use Rattle.unit_course.specs.Lines.{log_of, cut_at, found_from, IsCutBefore}
-use Rattle.unit_course.specs.Followed.{Supply, Lit, Due, Lost, Progress, Followed, MayPower, MayFail, IsDark}
+use Rattle.unit_course.specs.Followed.{Lit, Due, Lost, Progress, Followed, MayPower, MayFail, IsDark}
 use Rattle.unit_course.specs.Caused.{IsBare, cuts_by, IsOver, Caused, WellCaused}
-use Rattle.unit_course.proofs.Seconds.{by-supply, cut_seconds, failed_seconds, dark_minute, off_seconds}
+use Rattle.unit_course.proofs.Seconds.{by-supply, failed_seconds, dark_minute, off_seconds}
 use Rattle.unit_course.proofs.Offs.{over-dark, over-failed, any-last, by-same}
 use Rattle.unit_course.proofs.Steps.{feeds-by, went-refusing, cut_now as now-lost}
 use Rattle.unit_course.proofs.Cutting.{last-second}
@@ -154,17 +152,17 @@ has_causes rule start from first done p g refusals c IsVerdict before now rose s
     let early = within-next rule start from first done p g refusals c in
     let bare = subst (λ (w : Went). AllByRecursion IsBare w.told) (sym goes) c.bare in
     record {
-  refused = c.refused ∙ ap (λ (w : Went). refusals_of w.told) (sym goes);
-  cut_seconds = c.cut_seconds ∙ ap (λ (w : Went). map (λ (t : Told). t.second.number) (filter (λ (t : Told). t.cut) w.told)) (sym goes);
-  off_lines = c.off_lines ∙ ap (λ (w : Went). off_cuts (cuts_by true p.breaks) w.told) (sym goes);
-  failed_cuts = rose;
-  tear_lines = ap (flat_map places) (tears-none false p.next p.breaks refusals early) ∙ sym (nothing-of (λ (t : Told). visit_places t.second.number t.course.pulled) told (λ t is. ap (λ (x : Course). visit_places t.second.number x.pulled) is) bare);
-  failed_tears = λ slot. ap (λ (bs : List Break). in_the_slot slot (flat_map places bs)) (tears-none true p.next p.breaks refusals early)
-      ∙ ap (in_the_slot slot) (sym (nothing-of (λ (t : Told). visit_places t.second.number t.course.torn) told (λ t is. ap (λ (x : Course). visit_places t.second.number x.torn) is) bare));
-  torn_cards = λ card. subst (λ (cards : List Card). RoseBy (length (filter (same_card card) cards)) (before (device_of card)) (now (device_of card)))
-      (sym (nothing-of (λ (t : Told). map (λ (v : Visit). v.card) t.course.torn) told (λ t is. ap (λ (x : Course). map (λ (v : Visit). v.card) x.torn) is) bare)) (inl (let le = same card in omega (arith, le)));
-  begun = λ b at. each-of (IsBegun done) p.breaks b c.begun at;
-  finds = sym (nothing-of (λ (t : Told). map (λ (f : Visit × Verdict). (t.second.number, f.0.phase, f.0.slot, f.1)) t.course.found) told (λ t is. ap (λ (x : Course). map (λ (f : Visit × Verdict). (t.second.number, f.0.phase, f.0.slot, f.1)) x.found) is) bare);
-  judged = λ t e at entered. absurd (let none = subst (λ (x : Course). Contains x.entered e) (each-of IsBare told t bare at) entered in omega (arith, none.1));
-  verdicts = λ t e v at seen. absurd (let none = subst (λ (x : Course). Contains x.found (e, v)) (each-of IsBare told t bare at) seen in omega (arith, none.1));
-}
+      refused = c.refused ∙ ap (λ (w : Went). refusals_of w.told) (sym goes);
+      cut_seconds = c.cut_seconds ∙ ap (λ (w : Went). map (λ (t : Told). t.second.number) (filter (λ (t : Told). t.cut) w.told)) (sym goes);
+      off_lines = c.off_lines ∙ ap (λ (w : Went). off_cuts (cuts_by true p.breaks) w.told) (sym goes);
+      failed_cuts = rose;
+      tear_lines = ap (flat_map places) (tears-none false p.next p.breaks refusals early) ∙ sym (nothing-of (λ (t : Told). visit_places t.second.number t.course.pulled) told (λ t is. ap (λ (x : Course). visit_places t.second.number x.pulled) is) bare);
+      failed_tears = λ slot. ap (λ (bs : List Break). in_the_slot slot (flat_map places bs)) (tears-none true p.next p.breaks refusals early)
+          ∙ ap (in_the_slot slot) (sym (nothing-of (λ (t : Told). visit_places t.second.number t.course.torn) told (λ t is. ap (λ (x : Course). visit_places t.second.number x.torn) is) bare));
+      torn_cards = λ card. subst (λ (cards : List Card). RoseBy (length (filter (same_card card) cards)) (before (device_of card)) (now (device_of card)))
+          (sym (nothing-of (λ (t : Told). map (λ (v : Visit). v.card) t.course.torn) told (λ t is. ap (λ (x : Course). map (λ (v : Visit). v.card) x.torn) is) bare)) (inl (let le = same card in omega (arith, le)));
+      begun = λ b at. each-of (IsBegun done) p.breaks b c.begun at;
+      finds = sym (nothing-of (λ (t : Told). map (λ (f : Visit × Verdict). (t.second.number, f.0.phase, f.0.slot, f.1)) t.course.found) told (λ t is. ap (λ (x : Course). map (λ (f : Visit × Verdict). (t.second.number, f.0.phase, f.0.slot, f.1)) x.found) is) bare);
+      judged = λ t e at entered. absurd (let none = subst (λ (x : Course). Contains x.entered e) (each-of IsBare told t bare at) entered in omega (arith, none.1));
+      verdicts = λ t e v at seen. absurd (let none = subst (λ (x : Course). Contains x.found (e, v)) (each-of IsBare told t bare at) seen in omega (arith, none.1));
+    }

@@ -36,8 +36,14 @@ pub fn a_power_on_finds()
     ensures { (rule : Rule) (start : Start) (from first : ℕ) (done : List TraceSecond) (p : Progress) → Followed rule start from first done p → MayPower p.supply p.next → (k : ℕ) →
         IsMark first (all p.book) k → All (λ i. i.minute ≤ k) p.book.sure →
         Followed rule start from first done (record {
-            breaks = found_from p.unfound k p.breaks; unfound = length (found_from p.unfound k p.breaks); next = p.next; begun = p.begun;
-            supply = Lit []; book = found k p.book; waiting = [] }) }
+          breaks = found_from p.unfound k p.breaks;
+          unfound = length (found_from p.unfound k p.breaks);
+          next = p.next;
+          begun = p.begun;
+          supply = Lit [];
+          book = found k p.book;
+          waiting = [];
+        }) }
 {}
 
 /// A power-on fails in the first of these seconds of a minute: none of its actions is carried out, and the others are dark.
@@ -49,8 +55,14 @@ pub fn a_power_on_fails()
     ensures followed { (rule : Rule) (start : Start) (from first : ℕ) (done : List TraceSecond) (p : Progress) → Followed rule start from first done p → MayFail p.supply p.next → (n speed : ℕ) (actions : List Action) (begun : ℕ) →
         p.next % 60 + suc n ≤ 60 → AllByRecursion IsSelection actions →
         Followed rule start from first (done ++ driven (suc n) p.next speed actions) (record {
-            breaks = p.breaks ++ cut_at p.next true 0 ∷ []; unfound = p.unfound; next = p.next + suc n; begun = begun;
-            supply = Lost; book = p.book; waiting = [] }) }
+          breaks = p.breaks ++ cut_at p.next true 0 ∷ [];
+          unfound = p.unfound;
+          next = p.next + suc n;
+          begun = begun;
+          supply = Lost;
+          book = p.book;
+          waiting = [];
+        }) }
 {}
 
 /// A turn of seconds with power: for the rules of minutes the span goes on by them, and where all minutes that they decide are
@@ -68,8 +80,14 @@ pub fn a_turn_goes_on()
         (n speed : ℕ) (actions : List Action) (new : List Minute) → AllByRecursion IsSelection actions →
         decided_in (fed_many (picking (picks_of actions) (span_at rule p.next span)) speed (suc n)) ≡ decided_in (span_at rule p.next span) ++ new →
         Followed rule start from first (done ++ driven (suc n) p.next speed actions) (record {
-            breaks = p.breaks; unfound = p.unfound; next = p.next + suc n; begun = length (actions_of_last (suc n) actions);
-            supply = Lit (span ++ lit_seconds (suc n) p.next speed (picks_of actions) (begins_with span)); book = kept_all new p.book; waiting = [] }) }
+          breaks = p.breaks;
+          unfound = p.unfound;
+          next = p.next + suc n;
+          begun = length (actions_of_last (suc n) actions);
+          supply = Lit (span ++ lit_seconds (suc n) p.next speed (picks_of actions) (begins_with span));
+          book = kept_all new p.book;
+          waiting = [];
+        }) }
 {}
 
 /// A turn in whose last second a call fails: some of the minutes that it decides are kept, one more may be, or none was begun.
@@ -79,9 +97,14 @@ pub fn a_turn_breaks_off()
         decided_in (fed_many (picking (picks_of actions) (span_at rule p.next span)) speed (suc n)) ≡ decided_in (span_at rule p.next span) ++ new →
         (front : List Minute) (d : Option Minute) (rest : List Minute) → new ≡ front ++ (option_to_list d ++ rest) →
         Followed rule start from first (done ++ driven (suc n) p.next speed actions) (record {
-            breaks = p.breaks ++ cut_at (p.next + suc n - 1) true (length (actions_of_last (suc n) actions)) ∷ []; unfound = p.unfound;
-            next = p.next + suc n; begun = length (actions_of_last (suc n) actions);
-            supply = Lost; book = broken_at (option_map {T = Minute} plain d) (kept_all front p.book); waiting = [] }) }
+          breaks = p.breaks ++ cut_at (p.next + suc n - 1) true (length (actions_of_last (suc n) actions)) ∷ [];
+          unfound = p.unfound;
+          next = p.next + suc n;
+          begun = length (actions_of_last (suc n) actions);
+          supply = Lost;
+          book = broken_at (option_map {T = Minute} plain d) (kept_all front p.book);
+          waiting = [];
+        }) }
 {}
 
 /// After a failed call the seconds up to the minute's end are dark.
@@ -93,16 +116,36 @@ pub fn a_minute_stays_dark()
     ensures followed { (rule : Rule) (start : Start) (from first : ℕ) (done : List TraceSecond) (p : Progress) → Followed rule start from first done p → p.supply ≡ Lost → (n speed : ℕ) (actions : List Action) (begun : ℕ) →
         0 < p.next % 60 → p.next % 60 + n ≤ 60 →
         Followed rule start from first (done ++ driven n p.next speed actions) (record {
-            breaks = p.breaks; unfound = p.unfound; next = p.next + n; begun = begun; supply = Lost; book = p.book; waiting = [] }) }
+          breaks = p.breaks;
+          unfound = p.unfound;
+          next = p.next + n;
+          begun = begun;
+          supply = Lost;
+          book = p.book;
+          waiting = [];
+        }) }
 {}
 
 /// An `off` line of a second at least: while there is no power, and while there is, when the last second turns out to be a cut's.
 pub fn an_off_line_is_dark()
     ensures dark { (rule : Rule) (start : Start) (from first : ℕ) (done : List TraceSecond) (p : Progress) → Followed rule start from first done p → IsDark p.supply → (n : ℕ) →
         Followed rule start from first (done ++ dark (suc n) p.next) (record {
-            breaks = p.breaks; unfound = p.unfound; next = p.next + suc n; begun = 0; supply = Due; book = p.book; waiting = [] }) }
+          breaks = p.breaks;
+          unfound = p.unfound;
+          next = p.next + suc n;
+          begun = 0;
+          supply = Due;
+          book = p.book;
+          waiting = [];
+        }) }
     ensures cut { (rule : Rule) (start : Start) (from first : ℕ) (done : List TraceSecond) (p : Progress) → Followed rule start from first done p → (t : Told) (span : List Told) → p.supply ≡ Lit (t ∷ span) → p.waiting ≡ [] → (n : ℕ) →
         Followed rule start from first (done ++ dark (suc n) p.next) (record {
-            breaks = p.breaks ++ cut_at (p.next - 1) false p.begun ∷ []; unfound = p.unfound; next = p.next + suc n; begun = 0;
-            supply = Due; book = p.book; waiting = [] }) }
+          breaks = p.breaks ++ cut_at (p.next - 1) false p.begun ∷ [];
+          unfound = p.unfound;
+          next = p.next + suc n;
+          begun = 0;
+          supply = Due;
+          book = p.book;
+          waiting = [];
+        }) }
 {}
