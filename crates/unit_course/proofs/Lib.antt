@@ -16,3 +16,4 @@ pub mod Offs
 pub mod Caused
 pub mod WithCauses
 pub mod Rows
+pub mod Walk
