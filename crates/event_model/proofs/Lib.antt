@@ -1,0 +1,2 @@
+mod WorkedSpans
+mod WorkedPlaces

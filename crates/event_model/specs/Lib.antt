@@ -1,0 +1,4 @@
+pub mod Kinds
+pub mod Runs
+pub mod Spans
+pub mod Places

@@ -1,0 +1,13 @@
+//! Events and faults of a unit (Annex IB, section III.12; Appendix 1, EventFaultType): which are told of a run, and which are
+//! kept. Small types, and definitions over whole lists (specs/).
+#![tactic(auto)]
+
+mod entries;
+mod kinds;
+
+pub use entries::{Held, Over, Span};
+pub use kinds::{
+    CARD_FAULT, CARD_NOT_VALID, DRIVING_WITHOUT_CARD, EVENT_PLACES, FAULT_PLACES,
+    INSERTION_WHILE_DRIVING, OVER_SPEEDING, POWER_INTERRUPTION, Purpose, SESSION_NOT_CLOSED,
+    TIME_OVERLAP,
+};
