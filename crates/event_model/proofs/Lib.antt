@@ -1,2 +1,4 @@
+pub mod RunLemmas
+pub mod SpanLemmas
 mod WorkedSpans
 mod WorkedPlaces
