@@ -1,0 +1,2 @@
+pub mod Speeding
+pub mod Bare

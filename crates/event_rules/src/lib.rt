@@ -1,0 +1,14 @@
+//! Which events the seconds of a power span bring (Annex IB, section III.12), and which place an event takes.
+#![tactic(auto)]
+
+mod bare;
+mod places;
+mod speeding;
+
+pub use bare::{NoCardRun, power_gap};
+pub use event_model::{Held, Over, Purpose, Span};
+pub use places::{day_place, place_for, purpose_of, similar_after};
+pub use speeding::Overspeed;
+
+#[cfg(test)]
+mod tests;
