@@ -1,0 +1,5 @@
+pub mod Leaving
+pub mod Calling
+pub mod Refusing
+pub mod Agreeing
+mod WorkedCalls

@@ -1,0 +1,5 @@
+use Rattle.slot_machine.proofs.Calling.{end-stands}
+use Rattle.slot_machine.proofs.slots.Slots.end_minute.Goals as goal
+
+pub returns-clause-stands : goal.returns-clause-stands
+returns-clause-stands c = λ calls h. rw (c.remember.ensures, c.ending.ensures) (end-stands c.args.self.now calls c.args.minute c.requires.minute h)

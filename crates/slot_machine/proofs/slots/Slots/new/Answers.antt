@@ -1,0 +1,7 @@
+use Rattle.std.proofs.Common.{rules, []}
+use Rattle.slot_machine.specs.Kept.{nothing_yet}
+use Rattle.slot_machine.proofs.Calling.{by-value, new-stands}
+use Rattle.slot_machine.proofs.slots.Slots.new.Goals as goal
+
+pub returns-clause-stands : goal.returns-clause-stands
+returns-clause-stands c = by-value _ nothing_yet [] new-stands (search rules)

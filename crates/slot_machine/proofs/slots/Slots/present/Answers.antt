@@ -1,0 +1,6 @@
+use Rattle.std.proofs.Common.{◌∙◌}
+use Rattle.slot_machine.proofs.Calling.{present-stands}
+use Rattle.slot_machine.proofs.slots.Slots.present.Goals as goal
+
+pub returns-clause-present : goal.returns-clause-present
+returns-clause-present c = λ calls h. c.kept_present.ensures ∙ present-stands c.args.self.now calls c.args.minute c.requires.ended h
