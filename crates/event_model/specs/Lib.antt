@@ -2,3 +2,5 @@ pub mod Kinds
 pub mod Runs
 pub mod Spans
 pub mod Places
+pub mod Kept
+pub mod Events

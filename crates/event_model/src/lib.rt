@@ -4,6 +4,7 @@
 
 mod entries;
 mod kinds;
+mod laws;
 
 pub use entries::{Held, Over, Span};
 pub use kinds::{
@@ -11,3 +12,4 @@ pub use kinds::{
     INSERTION_WHILE_DRIVING, OVER_SPEEDING, POWER_INTERRUPTION, Purpose, SESSION_NOT_CLOSED,
     TIME_OVERLAP,
 };
+pub use laws::the_most_recent_are_kept;

@@ -1,0 +1,225 @@
+-- The events and faults of a run, by type, from its seconds and its run log (Annex IB, section III.12; the moments: profile).
+use Rattle.std.specs.Prelude.{ℕ, zero, suc, ◌+◌, ◌==◌, Bool, true, false, not, ◌&&◌, Option, Some, None, List, [], ◌∷◌, ◌++◌, take, map, length, nat_lt, slice_get, if◌then◌else◌, option_map, option_to_list, fold, flat_map}
+use Rattle.std.specs.List.{filter_map}
+use Rattle.activity_codec.specs.declared.values.Slot.{Slot}
+use Rattle.activity_codec.specs.declared.values.Slot.TheVariants.{Driver, CoDriver}
+use Rattle.trace_model.specs.declared.Card.{Card}
+use Rattle.trace_model.specs.declared.Action.{Action}
+use Rattle.trace_model.specs.Trace.{TraceSecond}
+use Rattle.log_model.specs.declared.lines.Verdict.{Verdict}
+use Rattle.log_model.specs.declared.lines.Verdict.TheVariants.{Accepted, NotValid, TimeOverlap}
+use Rattle.log_model.specs.Log.{RunLog, Phase, In, Keeping, kept_after, is_torn_in}
+use Rattle.log_model.specs.Slots.{Slots, Sitting, in_slot, other_slot, is_accepted, refusal}
+use Rattle.log_model.specs.Course.{Course, Visit, Told, Before, both_told, unmoved, fresh, all_acted, answered, second_told, before_next, not_begun}
+use Rattle.event_model.specs.declared.kinds.TheConstants.{CARD_NOT_VALID, TIME_OVERLAP, DRIVING_WITHOUT_CARD, INSERTION_WHILE_DRIVING, SESSION_NOT_CLOSED, OVER_SPEEDING, POWER_INTERRUPTION, CARD_FAULT}
+use Rattle.event_model.specs.declared.entries.Over.{Over}
+use Rattle.event_model.specs.declared.entries.Span.{Span}
+use Rattle.event_model.specs.Runs.{ended_runs}
+use Rattle.event_model.specs.Spans.{SpeedSecond, over_of, is_above, gap_of}
+
+-- the accepted cards in the slots
+pub record Crew : Type 0 where
+  pub driver : Option Card
+  pub codriver : Option Card
+
+-- an event or a fault: its type, its first and last second, the highest and the average speed of an over speeding (else 0), and the
+-- cards at its begin and at its end
+pub record Event : Type 0 where
+  pub kind : ℕ
+  pub begin : ℕ
+  pub end : ℕ
+  pub most : ℕ
+  pub average : ℕ
+  pub at_begin : Crew
+  pub at_end : Crew
+
+-- the card of a slot, where it is accepted
+abbrev pub accepted_card : Option Sitting → Option Card
+accepted_card None = None
+accepted_card (Some sitting) = option_map {T = ℕ} {U = Card} (λ u. sitting.card) sitting.accepted
+
+abbrev pub crew_of : Slots → Crew
+crew_of slots = record { driver = accepted_card slots.driver; codriver = accepted_card slots.codriver }
+
+-- with this card in a slot
+abbrev pub with_card : Slot → Option Card → Crew → Crew
+with_card Driver card crew = record crew { driver = card }
+with_card CoDriver card crew = record crew { codriver = card }
+
+-- a second with power, once its power-on, if it is one, and its first n actions were carried out
+abbrev pub course_by : RunLog → Before → TraceSecond → ℕ → Course
+course_by log before s n =
+    all_acted log s 0 (take n s.actions)
+    (both_told log s.number (In 0) (unmoved (not before.running)) (fresh (not before.running) before.slots))
+
+-- the slots as an action with n before it has moved the cards, before any device is called
+abbrev pub moved_by_action : RunLog → Before → TraceSecond → ℕ → Option Action → Slots
+moved_by_action log before s n None = (course_by log before s n).slots
+moved_by_action log before s n (Some a) = (answered n (refusal (course_by log before s n).slots s.speed a) a (course_by log before s n)).slots
+
+-- a second as its events see it: as it went, its speed, the slots after its first n actions, those as action n has moved the cards
+-- (before action 1: as the second began), and those in the second itself, behind all actions and before the keeping
+pub record Seen : Type 0 where
+  pub told : Told
+  pub after : ℕ → Slots
+  pub within : ℕ → Slots
+  pub itself : Slots
+
+abbrev pub within_by : RunLog → Before → TraceSecond → ℕ → Slots
+within_by log before s zero = (fresh (not before.running) before.slots).slots
+within_by log before s (suc n) = moved_by_action log before s n (slice_get s.actions n)
+
+abbrev pub seen_by : RunLog → Before → TraceSecond → Seen
+seen_by log before s = record {
+  told = second_told log before s;
+  after = λ n. (course_by log before s n).slots;
+  within = within_by log before s;
+  itself = (course_by log before s (length s.actions)).slots;
+}
+
+-- the seconds so far, and what the next has to know
+pub record Watched : Type 0 where
+  pub seen : List Seen
+  pub before : Before
+
+abbrev pub watched_on : RunLog → Watched → TraceSecond → Watched
+watched_on log w s = record { seen = w.seen ++ seen_by log w.before s ∷ []; before = before_next w.before (second_told log w.before s) }
+
+-- the seconds of a trace as their events see them
+unfoldable pub seen_of : RunLog → List TraceSecond → List Seen
+seen_of log ss = (fold (watched_on log) (record { seen = []; before = not_begun.before }) ss).seen
+
+-- the last span goes on
+abbrev pub seen_on : List (List Seen) → Seen → List (List Seen)
+seen_on [] x = (x ∷ []) ∷ []
+seen_on (span ∷ []) x = (span ++ x ∷ []) ∷ []
+seen_on (span ∷ next ∷ spans) x = span ∷ seen_on (next ∷ spans) x
+
+abbrev pub seen_with : List (List Seen) → Seen → List (List Seen)
+seen_with spans x = if x.told.lit then (if x.told.starts then spans ++ (x ∷ []) ∷ [] else seen_on spans x) else spans
+
+-- the power spans of these seconds
+abbrev pub seen_spans : List Seen → List (List Seen)
+seen_spans xs = fold seen_with [] xs
+
+abbrev pub number_of : Seen → ℕ
+number_of x = x.told.second.number
+
+-- the last of a run that has this first
+abbrev pub last_seen : Seen → List Seen → Seen
+last_seen first xs = fold (λ last x. x) first xs
+
+-- an event of a run of seconds: the cards are those of the second itself, at its first and at its last
+abbrev pub run_event : (kind most average : ℕ) → Seen → List Seen → Event
+run_event kind most average first run = record {
+  kind = kind;
+  begin = number_of first;
+  end = number_of (last_seen first run);
+  most = most;
+  average = average;
+  at_begin = crew_of first.itself;
+  at_end = crew_of (last_seen first run).itself;
+}
+
+-- a moving second without an accepted card in the driver slot
+abbrev pub is_bare : Seen → Bool
+is_bare x = nat_lt 0 x.told.second.speed && not (is_accepted x.itself.driver)
+
+abbrev pub bare_event : List Seen → Option Event
+bare_event [] = None
+bare_event (x ∷ run) = Some (run_event DRIVING_WITHOUT_CARD 0 0 x run)
+
+-- driving without an appropriate card: the runs of such seconds in a span that have ended in it
+abbrev pub bare_events : RunLog → List TraceSecond → List Event
+bare_events log ss = flat_map (λ span. filter_map bare_event (ended_runs is_bare span)) (seen_spans (seen_of log ss))
+
+abbrev pub speed_second : Seen → SpeedSecond
+speed_second x = record { number = number_of x; speed = x.told.second.speed }
+
+abbrev pub over_event : List Seen → Option Event
+over_event [] = None
+over_event (x ∷ run) =
+    option_map {T = Over} {U = Event} (λ over. run_event OVER_SPEEDING over.most over.average x run) (over_of (map speed_second (x ∷ run)))
+
+-- over speeding: the runs of more than 60 seconds above the limit in a span that have ended in it
+abbrev pub over_events : (limit : ℕ) → RunLog → List TraceSecond → List Event
+over_events limit log ss =
+    flat_map (λ span. filter_map over_event (ended_runs (λ x. is_above limit (speed_second x)) span)) (seen_spans (seen_of log ss))
+
+-- an event that is noted with these cards at both ends
+abbrev pub noted_with : (kind begin end : ℕ) → Crew → Event
+noted_with kind begin end crew = record { kind = kind; begin = begin; end = end; most = 0; average = 0; at_begin = crew; at_end = crew }
+
+-- the last second of a span, 0 without one
+abbrev pub last_number : List Seen → ℕ
+last_number span = fold (λ last x. number_of x) 0 span
+
+-- the interruption before a span that begins with this second: its cards are those accepted by then
+abbrev pub gap_event : RunLog → List Seen → List Seen → List Event
+gap_event log span [] = []
+gap_event log span (x ∷ next) =
+    option_to_list (option_map {T = Span} {U = Event} (λ gap. noted_with POWER_INTERRUPTION gap.begin gap.end (crew_of (x.after 0)))
+    (gap_of (kept_after log (last_number span)) (number_of x)))
+
+abbrev pub gaps_between : RunLog → List (List Seen) → List Event
+gaps_between log [] = []
+gaps_between log (span ∷ []) = []
+gaps_between log (span ∷ next ∷ spans) = gap_event log span next ++ gaps_between log (next ∷ spans)
+
+-- power supply interruption: at each power-on but the start, where a minute was found kept
+abbrev pub gap_events : RunLog → List TraceSecond → List Event
+gap_events log ss = gaps_between log (seen_spans (seen_of log ss))
+
+-- the card beside, when a card is judged: at a power-on the co-driver's is not accepted before the driver's is judged
+abbrev pub beside_judged : Seen → Phase → Slot → Option Card
+beside_judged x (In zero) Driver = None
+beside_judged x (In zero) CoDriver = accepted_card (x.after 0).driver
+beside_judged x (In (suc n)) slot = accepted_card (in_slot (x.after (suc n)) (other_slot slot))
+beside_judged x Keeping slot = None
+
+-- the cards once one was judged: it counts as accepted where it is
+abbrev pub crew_judged : Seen → Visit → Option Card → Crew
+crew_judged x v own = with_card v.slot own (with_card (other_slot v.slot) (beside_judged x v.phase v.slot) (record { driver = None; codriver = None }))
+
+-- events of a type that a judged card brings in a second; `session` is the session time that was found open on the card, 0 without
+abbrev pub found_events : (kind : ℕ) → (session : ℕ) → Seen → Visit → Verdict → List Event
+found_events kind session x v (NotValid fid place) =
+    if kind == CARD_NOT_VALID then noted_with kind (number_of x) (number_of x) (crew_judged x v None) ∷ [] else []
+found_events kind session x v (TimeOverlap stored now) =
+    if kind == TIME_OVERLAP then noted_with kind (number_of x) stored (crew_judged x v None) ∷ [] else []
+found_events kind session x v (Accepted replayed) =
+    if kind == INSERTION_WHILE_DRIVING && nat_lt 0 x.told.second.speed
+    then noted_with kind (number_of x) (number_of x) (crew_judged x v (Some v.card)) ∷ []
+    else (if kind == SESSION_NOT_CLOSED && nat_lt 0 session
+    then noted_with kind session (number_of x) (crew_judged x v (Some v.card)) ∷ [] else [])
+
+-- those of all cards that were judged, where `sessions` tells the session time found open by second and card
+abbrev pub judged_events : (kind : ℕ) → (sessions : ℕ → Card → ℕ) → RunLog → List TraceSecond → List Event
+judged_events kind sessions log ss =
+    flat_map (λ x. flat_map (λ f. found_events kind (sessions (number_of x) f.0.card) x f.0 f.1) x.told.course.found) (seen_of log ss)
+
+-- the card beside, when a card is torn out: in one moment the driver's comes before the co-driver's
+abbrev pub beside_torn : RunLog → Seen → Phase → Slot → Option Card
+beside_torn log x (In n) Driver = accepted_card (x.within n).codriver
+beside_torn log x (In n) CoDriver = accepted_card (x.after n).driver
+beside_torn log x Keeping Driver = accepted_card x.itself.codriver
+beside_torn log x Keeping CoDriver =
+    if is_torn_in log (number_of x) Keeping Driver then None else accepted_card x.itself.driver
+
+-- a card's fault is noted at once, with its own number already gone
+abbrev pub fault_of : RunLog → Seen → Visit → Event
+fault_of log x v =
+    noted_with CARD_FAULT (number_of x) (number_of x)
+    (with_card (other_slot v.slot) (beside_torn log x v.phase v.slot) (record { driver = None; codriver = None }))
+
+-- faults of cards: each tear by a failed call
+abbrev pub fault_events : RunLog → List TraceSecond → List Event
+fault_events log ss = flat_map (λ x. map (fault_of log x) x.told.course.torn) (seen_of log ss)
+
+-- the events of a type in a run, in order of time
+abbrev pub events_of : (kind limit : ℕ) → (sessions : ℕ → Card → ℕ) → RunLog → List TraceSecond → List Event
+events_of kind limit sessions log ss =
+    if kind == DRIVING_WITHOUT_CARD then bare_events log ss
+    else (if kind == OVER_SPEEDING then over_events limit log ss
+    else (if kind == POWER_INTERRUPTION then gap_events log ss
+    else (if kind == CARD_FAULT then fault_events log ss else judged_events kind sessions log ss)))

@@ -1,0 +1,10 @@
+ghost use Rattle.std.specs.Prelude.{◌≡◌, ℕ, ◌<◌, false, List, [], ◌∷◌, ◌++◌, length};
+ghost use Rattle.event_model.specs.declared.entries.Held.{Held};
+ghost use Rattle.event_model.specs.Kinds.{purpose_of, is_by_day};
+ghost use Rattle.event_model.specs.Places.{noted};
+ghost use Rattle.event_model.specs.Kept.{stored, KeepsRecent};
+
+/// Of a type that keeps the most recent, one event more leaves the most recent of all that came, where they were that before.
+pub fn the_most_recent_are_kept()
+    ensures { (kind : ℕ) (held all : List Held) (event : Held) → is_by_day (purpose_of kind) ≡ false → 0 < event.begin → KeepsRecent (length held) all (stored held) → KeepsRecent (length held) (all ++ event ∷ []) (stored (noted kind held event)) }
+{}
