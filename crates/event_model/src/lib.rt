@@ -12,4 +12,4 @@ pub use kinds::{
     INSERTION_WHILE_DRIVING, OVER_SPEEDING, POWER_INTERRUPTION, Purpose, SESSION_NOT_CLOSED,
     TIME_OVERLAP,
 };
-pub use laws::the_most_recent_are_kept;
+pub use laws::{the_best_of_the_last_days_are_kept, the_most_recent_are_kept};
