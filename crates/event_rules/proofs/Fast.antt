@@ -1,16 +1,14 @@
 -- The counts of the run above the limit, as more seconds of one speed come.
-use Rattle.std.proofs.Common.{◌≡◌, ◌∙◌, ℕ, zero, suc, ◌+◌, ◌-◌, ◌*◌, ◌/◌, ◌<◌, ◌≤◌, max, Bool, true, false, cond, Option, Some, None, List, [], ◌∷◌, ◌++◌, length, map, refl, ap, sym, subst, arith, fold, append-nil, zero-add, sum}
+use Rattle.std.proofs.Common.{◌≡◌, ◌∙◌, ℕ, zero, suc, ◌+◌, ◌-◌, ◌*◌, ◌/◌, ◌<◌, max, Bool, true, false, cond, Option, Some, List, [], ◌∷◌, ◌++◌, length, refl, ap, sym, subst, arith, fold, append-nil, zero-add, sum}
 use Rattle.std.specs.Prelude.{nat_lt, ◌==◌, option_to_list}
-use Rattle.std.specs.List.{filter_map}
 use Rattle.std.proofs.lemmas.Bool.{ltb-true, ne_eqb}
 use Rattle.std.proofs.lemmas.List.{length-append, map-append, length-map}
 use Rattle.std.proofs.lemmas.List.Sums.{fold-append, sum_by-append}
 use Rattle.event_model.specs.declared.entries.Over.{Over}
-use Rattle.event_model.specs.Runs.{run_with, last_run, ended_runs}
-use Rattle.event_model.specs.Spans.{SpeedSecond, InARow, first_of, last_of, in_a_row, at_speed, is_above, numbers, speeds, over_of, overs_of}
+use Rattle.event_model.specs.Runs.{last_run}
+use Rattle.event_model.specs.Spans.{SpeedSecond, InARow, first_of, last_of, at_speed, is_above, numbers, speeds, over_of, overs_of}
 use Rattle.event_model.proofs.RunLemmas.{last_run-append, row-on, row-off, ended-on, ended-off}
 use Rattle.event_model.proofs.SpanLemmas.{last_of-row, first_of-row, row-append, row-in, length-row}
-use Rattle.event_rules.specs.declared.speeding.Fast.{Fast}
 use Rattle.event_rules.specs.Speeding.{Speeding, StandsFor, IsNext, no_run, counted, grown, over_in}
 
 -- cases of a test, with what it gave
@@ -28,7 +26,7 @@ sum-row speed number (suc n) =
     let rest : sum (speeds (at_speed (number + 1) n speed)) ≡ n * speed = sum-row speed (number + 1) n in
     let more : suc n * speed ≡ speed + n * speed = grind arith in
     let parts : sum (speeds (at_speed number (suc n) speed)) ≡ sum (speed ∷ []) + sum (speeds (at_speed (number + 1) n speed)) =
-        sum_by-append (λ (x : ℕ). x) (speed ∷ []) (speeds (at_speed (number + 1) n speed)) in
+    sum_by-append (λ (x : ℕ). x) (speed ∷ []) (speeds (at_speed (number + 1) n speed)) in
     let first : sum (speed ∷ []) ≡ speed = zero-add speed in
     parts ∙ ap (λ (k : ℕ). k + sum (speeds (at_speed (number + 1) n speed))) first ∙ ap (λ (k : ℕ). speed + k) rest ∙ sym more
 
@@ -55,9 +53,9 @@ counted-grown run second n speed =
     let first = sym (first-append run second n speed) in
     let many : length run + suc n ≡ length (run ++ row) = sym (length-append run row ∙ ap (λ (k : ℕ). length run + k) (length-row (one speed) second (suc n))) in
     let all : sum (speeds run) + suc n * speed ≡ sum (speeds (run ++ row)) =
-        sym (ap sum (map-append (λ (s : SpeedSecond). s.speed) run row) ∙ sum_by-append (λ (x : ℕ). x) (speeds run) (speeds row) ∙ ap (λ (k : ℕ). sum (speeds run) + k) (sum-row speed second (suc n))) in
+    sym (ap sum (map-append (λ (s : SpeedSecond). s.speed) run row) ∙ sum_by-append (λ (x : ℕ). x) (speeds run) (speeds row) ∙ ap (λ (k : ℕ). sum (speeds run) + k) (sum-row speed second (suc n))) in
     let most : max (fold max 0 (speeds run)) speed ≡ fold max 0 (speeds (run ++ row)) =
-        sym (ap (fold max 0) (map-append (λ (s : SpeedSecond). s.speed) run row) ∙ fold-append max 0 (speeds run) (speeds row) ∙ most-row speed second n (fold max 0 (speeds run))) in
+    sym (ap (fold max 0) (map-append (λ (s : SpeedSecond). s.speed) run row) ∙ fold-append max 0 (speeds run) (speeds row) ∙ most-row speed second n (fold max 0 (speeds run))) in
     cc
 
 -- the numbers of a run and more
@@ -71,7 +69,7 @@ grown-row (s ∷ run) begin second n speed row next =
     let more : InARow (begin + length (numbers (s ∷ run))) (numbers (at_speed second n speed)) = subst (λ (k : ℕ). InARow k (numbers (at_speed second n speed))) from (row-in (λ (x : SpeedSecond). x.number) (one speed) (λ k. refl) second n) in
     let whole : InARow begin (numbers (s ∷ run) ++ numbers (at_speed second n speed)) = row-append begin (numbers (s ∷ run)) (numbers (at_speed second n speed)) row more in
     let all : InARow begin (numbers ((s ∷ run) ++ at_speed second n speed)) =
-        subst (λ (ns : List ℕ). InARow begin ns) (sym (map-append (λ (x : SpeedSecond). x.number) (s ∷ run) (at_speed second n speed))) whole in
+    subst (λ (ns : List ℕ). InARow begin ns) (sym (map-append (λ (x : SpeedSecond). x.number) (s ∷ run) (at_speed second n speed))) whole in
     rw (some-run s run) all
 
 -- the over speeding of a run, by its counts
@@ -102,7 +100,7 @@ module _ (kept : Speeding) (seconds : List SpeedSecond) (stands : StandsFor kept
         go (suc m) is = record {
           run = rw on (ap (grown second n speed) stands.run ∙ rw (← is) (counted-grown (last_run (is_above kept.limit) seconds) second m speed));
           row = rw on (rw stands.run
-          (grown-row (last_run (is_above kept.limit) seconds) (first_of (numbers (last_run (is_above kept.limit) seconds))) second n speed (rw stands.run at stands.row) (rw stands.run at next)));
+              (grown-row (last_run (is_above kept.limit) seconds) (first_of (numbers (last_run (is_above kept.limit) seconds))) second n speed (rw stands.run at stands.row) (rw stands.run at next)));
         }
 
     pub given-on : overs_of kept.limit (seconds ++ at_speed second n speed) ≡ overs_of kept.limit seconds ++ []
@@ -116,6 +114,7 @@ module _ (kept : Speeding) (seconds : List SpeedSecond) (stands : StandsFor kept
       where
         off : (m : ℕ) → last_run (is_above kept.limit) (seconds ++ at_speed second (suc m) speed) ≡ []
         off m = last_run-append (is_above kept.limit) seconds (at_speed second (suc m) speed) ∙ row-off (is_above kept.limit) (one speed) (λ k. within) (last_run (is_above kept.limit) seconds) second m
+
         go : (m : ℕ) → m ≡ n → StandsFor (record { limit = kept.limit; run = no_run }) (seconds ++ at_speed second n speed)
         go zero is = absurd (omega (arith, some, is))
         go (suc m) is = record { run = rw (← is) (rw (off m) refl); row = rw (← is) (rw (off m) tt) }
@@ -126,6 +125,7 @@ module _ (kept : Speeding) (seconds : List SpeedSecond) (stands : StandsFor kept
       where
         over : over_of (last_run (is_above kept.limit) seconds) ≡ over_in kept.run
         over = sym (ap over_in stands.run ∙ over-counted (last_run (is_above kept.limit) seconds) kept.run.begin stands.row)
+
         go : (m : ℕ) → m ≡ n → overs_of kept.limit (seconds ++ at_speed second n speed) ≡ overs_of kept.limit seconds ++ option_to_list (over_in kept.run)
         go zero is = absurd (omega (arith, some, is))
         go (suc m) is =

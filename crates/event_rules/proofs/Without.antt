@@ -1,11 +1,11 @@
 -- The counts of the run without a card, as more seconds of one kind come.
-use Rattle.std.proofs.Common.{◌≡◌, ◌∙◌, ℕ, zero, suc, ◌+◌, ◌-◌, ◌<◌, ◌≤◌, Bool, true, false, cond, Option, Some, None, List, [], ◌∷◌, ◌++◌, length, map, refl, ap, sym, subst, arith, append-nil}
+use Rattle.std.proofs.Common.{◌≡◌, ◌∙◌, ℕ, zero, suc, ◌+◌, ◌-◌, ◌<◌, Bool, true, false, cond, Option, Some, List, [], ◌∷◌, ◌++◌, length, refl, ap, sym, subst, arith, append-nil}
 use Rattle.std.specs.Prelude.{◌==◌, option_to_list}
 use Rattle.std.proofs.lemmas.Bool.{ne_eqb}
 use Rattle.std.proofs.lemmas.List.{length-append, map-append, length-map}
 use Rattle.event_model.specs.declared.entries.Span.{Span}
-use Rattle.event_model.specs.Runs.{run_with, last_run, ended_runs}
-use Rattle.event_model.specs.Spans.{DriverSecond, InARow, first_of, last_of, in_a_row, all_bare, bare_of, bares_of}
+use Rattle.event_model.specs.Runs.{last_run}
+use Rattle.event_model.specs.Spans.{DriverSecond, InARow, first_of, last_of, all_bare, bare_of, bares_of}
 use Rattle.event_model.proofs.RunLemmas.{last_run-append, row-on, row-off, ended-on, ended-off}
 use Rattle.event_model.proofs.SpanLemmas.{last_of-row, row-append, row-in, length-row}
 use Rattle.event_rules.specs.Bare.{Bare, StandsFor, IsNext, no_run, bare_run, numbers, counted, grown, span_in}
@@ -41,7 +41,7 @@ grown-row (s ∷ run) begin second n row next =
     let more : InARow (begin + length (numbers (s ∷ run))) (numbers (all_bare second n true)) = subst (λ (k : ℕ). InARow k (numbers (all_bare second n true))) from (row-in (λ (x : DriverSecond). x.number) (one true) (λ k. refl) second n) in
     let whole : InARow begin (numbers (s ∷ run) ++ numbers (all_bare second n true)) = row-append begin (numbers (s ∷ run)) (numbers (all_bare second n true)) row more in
     let all : InARow begin (numbers ((s ∷ run) ++ all_bare second n true)) =
-        subst (λ (ns : List ℕ). InARow begin ns) (sym (map-append (λ (x : DriverSecond). x.number) (s ∷ run) (all_bare second n true))) whole in
+    subst (λ (ns : List ℕ). InARow begin ns) (sym (map-append (λ (x : DriverSecond). x.number) (s ∷ run) (all_bare second n true))) whole in
     rw (some-run s run) all
 
 -- a run's span, by its counts
@@ -80,6 +80,7 @@ module _ (kept : Bare) (seconds : List DriverSecond) (stands : StandsFor kept se
     where
       off : (m : ℕ) → last_run (λ s. s.bare) (seconds ++ all_bare second (suc m) false) ≡ []
       off m = last_run-append (λ (s : DriverSecond). s.bare) seconds (all_bare second (suc m) false) ∙ row-off (λ (s : DriverSecond). s.bare) (one false) (λ k. refl) (bare_run seconds) second m
+
       go : (m : ℕ) → m ≡ n → StandsFor no_run (seconds ++ all_bare second n false)
       go zero is = absurd (omega (arith, some, is))
       go (suc m) is = record { run = rw (← is) (rw (off m) refl); row = rw (← is) (rw (off m) tt) }
@@ -90,6 +91,7 @@ module _ (kept : Bare) (seconds : List DriverSecond) (stands : StandsFor kept se
     where
       span : bare_of (bare_run seconds) ≡ span_in kept
       span = sym (ap span_in stands.run ∙ span-counted (bare_run seconds) kept.begin stands.row)
+
       go : (m : ℕ) → m ≡ n → bares_of (seconds ++ all_bare second n false) ≡ bares_of seconds ++ option_to_list (span_in kept)
       go zero is = absurd (omega (arith, some, is))
       go (suc m) is =

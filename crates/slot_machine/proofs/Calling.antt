@@ -41,6 +41,7 @@ new-stands = record {
     none-same : (card : Card) (m : ℕ) → left_in (record { a = None; b = None }) card m ≡ has_left [] card m
     none-same A m = refl
     none-same B m = refl
+
     none-most : (card : Card) (m : ℕ) → left_in (record { a = None; b = None }) card m ≡ true → m ≤ 0
     none-most A m is = cc
     none-most B m is = cc

@@ -66,6 +66,7 @@ module _ (minute : ℕ) (left : Lefts) (all : List (Card × ℕ)) (tells : Tells
           same_a : (card : Card) (m : ℕ) → q ≤ m → left_in (record left { a = Some q }) card m ≡ has_left (all ++ (A, q) ∷ []) card m
           same_a A m le = own A m le
           same_a B m le = tells.same B m (omega arith) ∙ or-none (has_left all B m) ∙ sym (has_left-more all A q B m)
+
           most_a : (card : Card) (m : ℕ) → left_in (record left { a = Some q }) card m ≡ true → m ≤ q
           most_a A m is = let e : q ≡ m = eqb-true q m is in omega arith
           most_a B m is = let most : m ≤ minute = tells.most B m is in omega arith
@@ -77,6 +78,7 @@ module _ (minute : ℕ) (left : Lefts) (all : List (Card × ℕ)) (tells : Tells
           same_b : (card : Card) (m : ℕ) → q ≤ m → left_in (record left { b = Some q }) card m ≡ has_left (all ++ (B, q) ∷ []) card m
           same_b B m le = own B m le
           same_b A m le = tells.same A m (omega arith) ∙ or-none (has_left all A m) ∙ sym (has_left-more all B q A m)
+
           most_b : (card : Card) (m : ℕ) → left_in (record left { b = Some q }) card m ≡ true → m ≤ q
           most_b B m is = let e : q ≡ m = eqb-true q m is in omega arith
           most_b A m is = let most : m ≤ minute = tells.most A m is in omega arith

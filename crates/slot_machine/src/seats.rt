@@ -56,8 +56,14 @@ impl Lefts {
             return self;
         };
         match seat.card {
-            Card::A => Lefts { a: Some(minute), b: self.b },
-            Card::B => Lefts { a: self.a, b: Some(minute) },
+            Card::A => Lefts {
+                a: Some(minute),
+                b: self.b,
+            },
+            Card::B => Lefts {
+                a: self.a,
+                b: Some(minute),
+            },
         }
     }
 

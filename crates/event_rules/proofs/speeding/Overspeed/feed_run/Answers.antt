@@ -1,5 +1,4 @@
-use Rattle.std.proofs.Common.{◌≡◌, ◌∙◌, sym, true, false}
-use Rattle.std.specs.Prelude.{nat_lt}
+use Rattle.std.proofs.Common.{◌∙◌, sym}
 use Rattle.event_rules.proofs.Fast.{fed-on, given-on, fed-off, given-off}
 use Rattle.event_rules.proofs.speeding.Overspeed.feed_run.Goals as goal
 
