@@ -128,8 +128,8 @@ module _ (p : Purpose) where
   best-above xs x e is more =
       let each : All (Most (measure p x)) xs = all-most (measure p x) xs (find-passes (tops xs) xs x is) in
       let fail : All (λ (h : Held). tops (xs ++ e ∷ []) h ≡ false) xs =
-          All-weaker (Most (measure p x)) (λ (h : Held). tops (xs ++ e ∷ []) h ≡ false)
-          (λ h m. tops-more xs e h ∙ ap (λ (b : Bool). tops xs h && b) (failed h m) ∙ and-none (tops xs h)) xs each in
+      All-weaker (Most (measure p x)) (λ (h : Held). tops (xs ++ e ∷ []) h ≡ false)
+      (λ h m. tops-more xs e h ∙ ap (λ (b : Bool). tops xs h && b) (failed h m) ∙ and-none (tops xs h)) xs each in
       let top : tops xs e ≡ true = most-all (measure p e) xs (All-weaker (Most (measure p x)) (Most (measure p e)) (λ h m. omega (arith, m, more)) xs each) in
       let passes : tops (xs ++ e ∷ []) e ≡ true = tops-more xs e e ∙ both (tops xs e) (nat_le (measure p e) (measure p e)) top (same e) in
       find-append (tops (xs ++ e ∷ [])) xs (e ∷ []) ∙ rw (find-none (tops (xs ++ e ∷ [])) xs fail) (rw passes refl)
@@ -199,7 +199,7 @@ module _ (p : Purpose) (room : ℕ) (all : List Held) (event : Held) where
   best-off h other is =
       let none : Other (h.begin / 86400) event = λ e. other (sym e) in
       let e : on_day (h.begin / 86400) (all ++ event ∷ []) ≡ on_day (h.begin / 86400) all =
-          on-append (h.begin / 86400) all (event ∷ []) ∙ ap (λ (ys : List Held). on_day (h.begin / 86400) all ++ ys) (on-off (h.begin / 86400) event [] none) ∙ append-nil (on_day (h.begin / 86400) all) in
+      on-append (h.begin / 86400) all (event ∷ []) ∙ ap (λ (ys : List Held). on_day (h.begin / 86400) all ++ ys) (on-off (h.begin / 86400) event [] none) ∙ append-nil (on_day (h.begin / 86400) all) in
       ap (best_of p) e ∙ is
 
   on-more : on_day day (all ++ event ∷ []) ≡ on_day day all ++ event ∷ []
@@ -228,14 +228,14 @@ module _ (p : Purpose) (room : ℕ) (all : List Held) (event : Held) where
           (λ is.
           let e : day ≡ k = eqb-true day k is in
           let parts : on_day k (sb ++ event ∷ sa) ≡ event ∷ [] =
-              on-append k sb (event ∷ sa) ∙ ap (λ (ys : List Held). on_day k sb ++ ys) (on-here k event sa e)
-              ∙ ap (λ (ys : List Held). ys ++ event ∷ on_day k sa) (subst (λ (n : ℕ). on_day n sb ≡ []) e (on-none day sb off_b))
-              ∙ ap (λ (ys : List Held). event ∷ ys) (subst (λ (n : ℕ). on_day n sa ≡ []) e (on-none day sa off_a)) in
+          on-append k sb (event ∷ sa) ∙ ap (λ (ys : List Held). on_day k sb ++ ys) (on-here k event sa e)
+          ∙ ap (λ (ys : List Held). ys ++ event ∷ on_day k sa) (subst (λ (n : ℕ). on_day n sb ≡ []) e (on-none day sb off_b))
+          ∙ ap (λ (ys : List Held). event ∷ ys) (subst (λ (n : ℕ). on_day n sa ≡ []) e (on-none day sa off_a)) in
           let n : length (on_day k (sb ++ event ∷ sa)) ≡ 1 = ap length parts in
           omega (arith, n))
           (λ failed.
           let same_list : on_day k (sb ++ event ∷ sa) ≡ on_day k (sb ++ sa) =
-              on-append k sb (event ∷ sa) ∙ ap (λ (ys : List Held). on_day k sb ++ ys) (on-off k event sa (eqb-false day k failed)) ∙ sym (on-append k sb sa) in
+          on-append k sb (event ∷ sa) ∙ ap (λ (ys : List Held). on_day k sb ++ ys) (on-off k event sa (eqb-false day k failed)) ∙ sym (on-append k sb sa) in
           let n : length (on_day k (sb ++ event ∷ sa)) ≡ length (on_day k (sb ++ sa)) = ap length same_list in
           let o = one k in
           omega (arith, n, o))
@@ -297,8 +297,10 @@ module _ (p : Purpose) (held all : List Held) (event : Held) (some : 0 < event.b
     where
       own : Own x
       own = let at : All Own (sb ++ x ∷ sa) = rw is at keeps.best in All-head Own x sa (all-back Own sb (x ∷ sa) at)
+
       best_x : best_of p (on_day its_day all) ≡ Some x
       best_x = subst (λ (n : ℕ). best_of p (on_day n all) ≡ Some x) same_day own
+
       one_best : (h : Held) → Own h → best_of p (on_day (h.begin / 86400) (all ++ event ∷ [])) ≡ Some h
       one_best h best =
           by_test (h.begin / 86400 == its_day)
@@ -309,6 +311,7 @@ module _ (p : Purpose) (held all : List Held) (event : Held) (some : 0 < event.b
           let below : measure p event ≤ measure p h = subst (λ (y : Held). measure p event ≤ measure p y) x_is le in
           subst (λ (n : ℕ). best_of p (on_day n (all ++ event ∷ [])) ≡ Some h) (sym e) (ap (best_of p) (on-more p room all event) ∙ best-below p (on_day its_day all) h event at below))
           (λ failed. best-off p room all event h (eqb-false (h.begin / 86400) its_day failed) best)
+
       each : (xs : List Held) → All Own xs → All (λ h. best_of p (on_day (h.begin / 86400) (all ++ event ∷ [])) ≡ Some h) xs
       each xs best = All-weaker Own (λ (h : Held). best_of p (on_day (h.begin / 86400) (all ++ event ∷ [])) ≡ Some h) one_best xs best
 
@@ -342,8 +345,11 @@ module _ (p : Purpose) (held all : List Held) (event : Held) (some : 0 < event.b
           let each : All (λ h. d.begin / 86400 < h.begin / 86400) (sb ++ x ∷ sa) = subst (λ (ys : List Held). All (λ h. d.begin / 86400 < h.begin / 86400) ys) was r.1 in
           let at_x : d.begin / 86400 < x.begin / 86400 = All-head (λ (h : Held). d.begin / 86400 < h.begin / 86400) x sa (all-back (λ (h : Held). d.begin / 86400 < h.begin / 86400) sb (x ∷ sa) each) in
           let at_event : d.begin / 86400 < event.begin / 86400 = subst (λ (m : ℕ). d.begin / 86400 < m) same_day at_x in
-          inr (n ∙ r.0, All-append (λ (h : Held). d.begin / 86400 < h.begin / 86400) sb (event ∷ sa) (all-front (λ (h : Held). d.begin / 86400 < h.begin / 86400) sb (x ∷ sa) each)
-          (All-cons (λ (h : Held). d.begin / 86400 < h.begin / 86400) event sa at_event (All-tail (λ (h : Held). d.begin / 86400 < h.begin / 86400) x sa (all-back (λ (h : Held). d.begin / 86400 < h.begin / 86400) sb (x ∷ sa) each))))
+          inr (
+            n ∙ r.0,
+            All-append (λ (h : Held). d.begin / 86400 < h.begin / 86400) sb (event ∷ sa) (all-front (λ (h : Held). d.begin / 86400 < h.begin / 86400) sb (x ∷ sa) each)
+                (All-cons (λ (h : Held). d.begin / 86400 < h.begin / 86400) event sa at_event (All-tail (λ (h : Held). d.begin / 86400 < h.begin / 86400) x sa (all-back (λ (h : Held). d.begin / 86400 < h.begin / 86400) sb (x ∷ sa) each))),
+          )
 
   -- it takes an empty place
   takes-empty : (before after : List Held) (x : Held) → held ≡ before ++ x ∷ after → x.begin ≡ 0 → All (Other its_day) (stored held) → Now (before ++ event ∷ after)
@@ -394,18 +400,18 @@ module _ (p : Purpose) (held all : List Held) (event : Held) (some : 0 < event.b
       let later_b = days-later sb (all-front (Later x.begin) sb (x ∷ sa) late) apart.0 in
       let later_a = days-later sa (All-tail (Later x.begin) x sa (all-back (Later x.begin) sb (x ∷ sa) late)) apart.1 in
       let beyond : All (λ h. x.begin / 86400 < h.begin / 86400) (sb ++ event ∷ sa) =
-          All-append (λ (h : Held). x.begin / 86400 < h.begin / 86400) sb (event ∷ sa) later_b (All-cons (λ (h : Held). x.begin / 86400 < h.begin / 86400) event sa x_first later_a) in
+      All-append (λ (h : Held). x.begin / 86400 < h.begin / 86400) sb (event ∷ sa) later_b (All-cons (λ (h : Held). x.begin / 86400 < h.begin / 86400) event sa x_first later_a) in
       let a : length (sb ++ x ∷ sa) ≡ length sb + length (x ∷ sa) = length-append sb (x ∷ sa) in
       let b : length (sb ++ event ∷ sa) ≡ length sb + length (event ∷ sa) = length-append sb (event ∷ sa) in
       let old : length (stored held) ≡ length (sb ++ x ∷ sa) = ap length was in
       let full_before : length (stored held) ≡ room = ap length whole in
       let full : length (sb ++ event ∷ sa) ≡ room = omega (arith, a, b, old, full_before) in
       let none_all : on_day its_day all ≡ [] =
-          none-before p room all event (stored held) others keeps.days
-          (λ d q. λ e.
-          let each : All (λ h. d.begin / 86400 < h.begin / 86400) (sb ++ x ∷ sa) = subst (λ (ys : List Held). All (λ h. d.begin / 86400 < h.begin / 86400) ys) was q.1 in
-          let at_x : d.begin / 86400 < x.begin / 86400 = All-head (λ (h : Held). d.begin / 86400 < h.begin / 86400) x sa (all-back (λ (h : Held). d.begin / 86400 < h.begin / 86400) sb (x ∷ sa) each) in
-          omega (arith, at_x, x_first, e)) in
+      none-before p room all event (stored held) others keeps.days
+      (λ d q. λ e.
+      let each : All (λ h. d.begin / 86400 < h.begin / 86400) (sb ++ x ∷ sa) = subst (λ (ys : List Held). All (λ h. d.begin / 86400 < h.begin / 86400) ys) was q.1 in
+      let at_x : d.begin / 86400 < x.begin / 86400 = All-head (λ (h : Held). d.begin / 86400 < h.begin / 86400) x sa (all-back (λ (h : Held). d.begin / 86400 < h.begin / 86400) sb (x ∷ sa) each) in
+      omega (arith, at_x, x_first, e)) in
       rw now
       (put p room all event sb sa (all-front (Other its_day) sb (x ∷ sa) off) (All-tail (Other its_day) x sa (all-back (Other its_day) sb (x ∷ sa) off)) (all-front Own sb (x ∷ sa) best) (All-tail Own x sa (all-back Own sb (x ∷ sa) best))
       (rw none_all (best-alone p event))
@@ -420,6 +426,7 @@ module _ (p : Purpose) (held all : List Held) (event : Held) (some : 0 < event.b
           let ne : y.begin / 86400 ≡ x.begin / 86400 → ⊥ = All-head (Other (x.begin / 86400)) y ys apart in
           let less : x.begin / 86400 < y.begin / 86400 = by_test (x.begin / 86400 == y.begin / 86400) (λ e. absurd (ne (sym (eqb-true (x.begin / 86400) (y.begin / 86400) e)))) (λ failed. let ne2 = eqb-false (x.begin / 86400) (y.begin / 86400) failed in omega (arith, le, ne2)) in
           All-cons (λ (h : Held). x.begin / 86400 < h.begin / 86400) y ys less (days-later ys (All-tail (Later x.begin) y ys from) (All-tail (Other (x.begin / 86400)) y ys apart))
+
       moved : (sb sa : List Held) → stored held ≡ sb ++ x ∷ sa → length (sb ++ event ∷ sa) ≡ room → All (λ h. x.begin / 86400 < h.begin / 86400) (sb ++ event ∷ sa) → (d : Held) → Kept d → DayKept p room all event (sb ++ event ∷ sa) d
       moved sb sa was full beyond d (inl passed) =
           let q : Held → Bool = λ h. h.begin / 86400 == d.begin / 86400 in
@@ -466,6 +473,7 @@ module _ (p : Purpose) (held all : List Held) (event : Held) (some : 0 < event.b
           (λ not_later.
           let le : event.begin ≤ (held_at held q).begin = ltb-false (held_at held q).begin event.begin not_later in
           rw not_later (stays (All-weaker (Later (held_at held q).begin) (Later event.begin) (λ h m. omega (arith, le, m)) held least) others))
+
       go : (o : Option ℕ) → position of_its_day held ≡ o → Now (placed held event (place_beside p held event o))
       go None is = recent (none-of-day held (position-none of_its_day held is)) (earliest (λ h. h.begin) held) refl
       go (Some q) is =

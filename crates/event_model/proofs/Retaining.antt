@@ -171,31 +171,34 @@ module _ (held all : List Held) (event : Held) (some : 0 < event.begin) (keeps :
     where
       was : stored held ≡ stored before ++ stored after
       was = ap stored is ∙ stored-append before (x ∷ after) ∙ ap (λ (ys : List Held). stored before ++ ys) (stored-none x after none)
+
       now : stored (before ++ event ∷ after) ≡ stored before ++ event ∷ stored after
       now = stored-append before (event ∷ after) ∙ ap (λ (ys : List Held). stored before ++ ys) (stored-one event after some)
+
       room : length (stored before) + length (stored after) + 1 ≤ length held
       room =
           let a = stored-most before in
           let b = stored-most after in
           let n : length held ≡ length before + length (x ∷ after) = ap length is ∙ length-append before (x ∷ after) in
           omega (arith, a, b, n)
+
       go : (others : List Held) → IsPermutation all (stored held ++ others) →
           All (λ (o : Held). (length (stored held) ≡ length held) × All (λ h. o.begin ≤ h.begin) (stored held)) others → Goal (before ++ event ∷ after)
       go [] parts recent =
-        let base : IsPermutation (all ++ event ∷ []) ((stored held ++ []) ++ event ∷ []) = IsPermutation-append_left (event ∷ []) all (stored held ++ []) parts in
-        let from : IsPermutation (all ++ event ∷ []) ((stored before ++ stored after) ++ event ∷ []) = rw (append-nil (stored held), was) at base in
-        record {
-        others = [];
-        parts =
-            rw now
-            (rw (append-nil (stored before ++ event ∷ stored after))
-            (IsPermutation-trans (all ++ event ∷ []) ((stored before ++ stored after) ++ event ∷ []) (stored before ++ event ∷ stored after) from
-            (IsPermutation-trans ((stored before ++ stored after) ++ event ∷ []) (event ∷ (stored before ++ stored after)) (stored before ++ event ∷ stored after)
-            (IsPermutation-to_front (stored before ++ stored after) event)
-            (IsPermutation-sym (stored before ++ event ∷ stored after) (event ∷ (stored before ++ stored after)) (IsPermutation-middle (stored before) event (stored after))))));
-        most = rw now (let n : length (stored before ++ event ∷ stored after) ≡ length (stored before) + length (event ∷ stored after) = length-append (stored before) (event ∷ stored after) in omega (arith, n, room));
-        recent = All-nil (λ (o : Held). (length (stored (before ++ event ∷ after)) ≡ length held) × All (λ h. o.begin ≤ h.begin) (stored (before ++ event ∷ after)));
-      }
+          let base : IsPermutation (all ++ event ∷ []) ((stored held ++ []) ++ event ∷ []) = IsPermutation-append_left (event ∷ []) all (stored held ++ []) parts in
+          let from : IsPermutation (all ++ event ∷ []) ((stored before ++ stored after) ++ event ∷ []) = rw (append-nil (stored held), was) at base in
+          record {
+            others = [];
+            parts =
+                rw now
+                (rw (append-nil (stored before ++ event ∷ stored after))
+                (IsPermutation-trans (all ++ event ∷ []) ((stored before ++ stored after) ++ event ∷ []) (stored before ++ event ∷ stored after) from
+                (IsPermutation-trans ((stored before ++ stored after) ++ event ∷ []) (event ∷ (stored before ++ stored after)) (stored before ++ event ∷ stored after)
+                (IsPermutation-to_front (stored before ++ stored after) event)
+                (IsPermutation-sym (stored before ++ event ∷ stored after) (event ∷ (stored before ++ stored after)) (IsPermutation-middle (stored before) event (stored after))))));
+            most = rw now (let n : length (stored before ++ event ∷ stored after) ≡ length (stored before) + length (event ∷ stored after) = length-append (stored before) (event ∷ stored after) in omega (arith, n, room));
+            recent = All-nil (λ (o : Held). (length (stored (before ++ event ∷ after)) ≡ length held) × All (λ h. o.begin ≤ h.begin) (stored (before ++ event ∷ after)));
+          }
       go (o ∷ others) parts recent =
           let full : length (stored held) ≡ length held = (All-head (λ (o : Held). (length (stored held) ≡ length held) × All (λ h. o.begin ≤ h.begin) (stored held)) o others recent).0 in
           let n : length (stored held) ≡ length (stored before) + length (stored after) = ap length was ∙ length-append (stored before) (stored after) in
@@ -219,28 +222,28 @@ module _ (held all : List Held) (event : Held) (some : 0 < event.begin) (keeps :
       let kept : All (Later x.begin) (sb ++ x ∷ sa) = rw was at all_later in
       let lower : Later x.begin event = omega (arith, earlier) in
       let below : All (Later x.begin) (sb ++ event ∷ sa) =
-          All-append (Later x.begin) sb (event ∷ sa) (all-front (Later x.begin) sb (x ∷ sa) kept)
-          (All-cons (Later x.begin) event sa lower (All-tail (Later x.begin) x sa (all-back (Later x.begin) sb (x ∷ sa) kept))) in
+      All-append (Later x.begin) sb (event ∷ sa) (all-front (Later x.begin) sb (x ∷ sa) kept)
+      (All-cons (Later x.begin) event sa lower (All-tail (Later x.begin) x sa (all-back (Later x.begin) sb (x ∷ sa) kept))) in
       let rest : List Held = (sb ++ sa) ++ keeps.others in
       let from : IsPermutation (all ++ event ∷ []) (event ∷ x ∷ rest) =
-          IsPermutation-trans (all ++ event ∷ []) (((sb ++ x ∷ sa) ++ keeps.others) ++ event ∷ []) (event ∷ x ∷ rest) (rw was at more)
-          (IsPermutation-trans (((sb ++ x ∷ sa) ++ keeps.others) ++ event ∷ []) (event ∷ ((sb ++ x ∷ sa) ++ keeps.others)) (event ∷ x ∷ rest)
-          (IsPermutation-to_front ((sb ++ x ∷ sa) ++ keeps.others) event)
-          (IsPermutation-cons event ((sb ++ x ∷ sa) ++ keeps.others) (x ∷ rest) (IsPermutation-append_left keeps.others (sb ++ x ∷ sa) (x ∷ (sb ++ sa)) (IsPermutation-middle sb x sa)))) in
+      IsPermutation-trans (all ++ event ∷ []) (((sb ++ x ∷ sa) ++ keeps.others) ++ event ∷ []) (event ∷ x ∷ rest) (rw was at more)
+      (IsPermutation-trans (((sb ++ x ∷ sa) ++ keeps.others) ++ event ∷ []) (event ∷ ((sb ++ x ∷ sa) ++ keeps.others)) (event ∷ x ∷ rest)
+      (IsPermutation-to_front ((sb ++ x ∷ sa) ++ keeps.others) event)
+      (IsPermutation-cons event ((sb ++ x ∷ sa) ++ keeps.others) (x ∷ rest) (IsPermutation-append_left keeps.others (sb ++ x ∷ sa) (x ∷ (sb ++ sa)) (IsPermutation-middle sb x sa)))) in
       let to : IsPermutation ((sb ++ event ∷ sa) ++ x ∷ keeps.others) (x ∷ event ∷ rest) =
-          IsPermutation-trans ((sb ++ event ∷ sa) ++ x ∷ keeps.others) (x ∷ ((sb ++ event ∷ sa) ++ keeps.others)) (x ∷ event ∷ rest)
-          (IsPermutation-middle (sb ++ event ∷ sa) x keeps.others)
-          (IsPermutation-cons x ((sb ++ event ∷ sa) ++ keeps.others) (event ∷ rest) (IsPermutation-append_left keeps.others (sb ++ event ∷ sa) (event ∷ (sb ++ sa)) (IsPermutation-middle sb event sa))) in
+      IsPermutation-trans ((sb ++ event ∷ sa) ++ x ∷ keeps.others) (x ∷ ((sb ++ event ∷ sa) ++ keeps.others)) (x ∷ event ∷ rest)
+      (IsPermutation-middle (sb ++ event ∷ sa) x keeps.others)
+      (IsPermutation-cons x ((sb ++ event ∷ sa) ++ keeps.others) (event ∷ rest) (IsPermutation-append_left keeps.others (sb ++ event ∷ sa) (event ∷ (sb ++ sa)) (IsPermutation-middle sb event sa))) in
       let parts : IsPermutation (all ++ event ∷ []) ((sb ++ event ∷ sa) ++ x ∷ keeps.others) =
-          IsPermutation-trans (all ++ event ∷ []) (event ∷ x ∷ rest) ((sb ++ event ∷ sa) ++ x ∷ keeps.others) from
-          (IsPermutation-trans (event ∷ x ∷ rest) (x ∷ event ∷ rest) ((sb ++ event ∷ sa) ++ x ∷ keeps.others) (heads event x rest)
-          (IsPermutation-sym ((sb ++ event ∷ sa) ++ x ∷ keeps.others) (x ∷ event ∷ rest) to)) in
+      IsPermutation-trans (all ++ event ∷ []) (event ∷ x ∷ rest) ((sb ++ event ∷ sa) ++ x ∷ keeps.others) from
+      (IsPermutation-trans (event ∷ x ∷ rest) (x ∷ event ∷ rest) ((sb ++ event ∷ sa) ++ x ∷ keeps.others) (heads event x rest)
+      (IsPermutation-sym ((sb ++ event ∷ sa) ++ x ∷ keeps.others) (x ∷ event ∷ rest) to)) in
       let others : All (λ (o : Held). (length (sb ++ event ∷ sa) ≡ length held) × All (λ h. o.begin ≤ h.begin) (sb ++ event ∷ sa)) keeps.others =
-          All-weaker (λ (o : Held). (length (stored held) ≡ length held) × All (λ h. o.begin ≤ h.begin) (stored held)) (λ (o : Held). (length (sb ++ event ∷ sa) ≡ length held) × All (λ h. o.begin ≤ h.begin) (sb ++ event ∷ sa))
-          (λ o h.
-          let at : Later o.begin x = All-head (Later o.begin) x sa (all-back (Later o.begin) sb (x ∷ sa) (rw was at h.1)) in
-          (full, All-weaker (Later x.begin) (Later o.begin) (λ y m. omega (arith, at, m)) (sb ++ event ∷ sa) below))
-          keeps.others keeps.recent in
+      All-weaker (λ (o : Held). (length (stored held) ≡ length held) × All (λ h. o.begin ≤ h.begin) (stored held)) (λ (o : Held). (length (sb ++ event ∷ sa) ≡ length held) × All (λ h. o.begin ≤ h.begin) (sb ++ event ∷ sa))
+      (λ o h.
+      let at : Later o.begin x = All-head (Later o.begin) x sa (all-back (Later o.begin) sb (x ∷ sa) (rw was at h.1)) in
+      (full, All-weaker (Later x.begin) (Later o.begin) (λ y m. omega (arith, at, m)) (sb ++ event ∷ sa) below))
+      keeps.others keeps.recent in
       rw now (record {
         others = x ∷ keeps.others;
         parts = parts;
