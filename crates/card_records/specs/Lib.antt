@@ -1,3 +1,5 @@
 pub mod Vehicles
 pub mod Events
 pub mod CurrentUses
+pub mod Rings
+pub mod Noting

@@ -1,11 +1,17 @@
-//! The entries of a driver card's files (Annex IB, Appendix 1) as values and as bytes. Reading what was written gives
-//! the value, and writing what was read gives the bytes.
+//! The entries of a driver card's files (Annex IB, Appendix 1) as values and as bytes: reading what was written gives the
+//! value, and writing what was read gives the bytes. And the rings in which they stand on a card: its vehicles, its places,
+//! and the events of each type, of which the earliest makes room for a new one.
 #![tactic(auto)]
 
 mod card_event;
 mod current_use;
+mod event_set;
+mod events;
+mod rings;
 mod vehicle;
 
 pub use card_event::{CardEvent, read_event, write_event};
 pub use current_use::{CurrentUse, read_current_use, write_current_use};
+pub use events::{has_event, note_event};
+pub use rings::{note_place, places, vehicles};
 pub use vehicle::{Vehicle, read_vehicle, write_vehicle};
