@@ -1,5 +1,4 @@
-use Rattle.std.proofs.Common.{◌≡◌, ◌+◌, ◌-◌, ◌*◌, ℕ, true, take, drop, sym, subst, below_more, arith}
-use Rattle.std.specs.Prelude.{IsTrue}
+use Rattle.std.proofs.Common.{◌≡◌, ◌+◌, ◌-◌, ◌*◌, ℕ, true, take, drop, subst, below_more, arith}
 use Rattle.card_records.specs.Noting.{IsEvent}
 use Rattle.card_records.proofs.event_set.holds.Goals as goal
 

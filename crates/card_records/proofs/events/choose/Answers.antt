@@ -1,4 +1,4 @@
-use Rattle.std.proofs.Common.{◌≡◌, ◌*◌, ℕ, length, arith, rules}
+use Rattle.std.proofs.Common.{rules}
 use Rattle.card_records.proofs.Sets.{told_takes}
 use Rattle.card_records.proofs.events.choose.Goals as goal
 

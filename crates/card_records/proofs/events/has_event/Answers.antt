@@ -1,4 +1,4 @@
-use Rattle.std.proofs.Common.{◌≡◌, rules}
+use Rattle.std.proofs.Common.{rules}
 use Rattle.card_records.proofs.Sets.{told_held}
 use Rattle.card_records.proofs.events.has_event.Goals as goal
 

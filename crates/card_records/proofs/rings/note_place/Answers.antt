@@ -1,4 +1,4 @@
-use Rattle.std.proofs.Common.{refl, ◌∙◌, sym, arith, subst, ℕ, ◌≤◌}
+use Rattle.std.proofs.Common.{refl, arith}
 use Rattle.tach_media.proofs.Runs.{after_reads, if_told}
 use Rattle.card_records.proofs.Sets.{places_fit, places_writable, as_place}
 use Rattle.card_records.proofs.rings.note_place.Goals as goal
