@@ -1,1 +1,4 @@
-mod Rows
+pub mod Rows
+pub mod DaysBeside
+pub mod Beside
+pub mod Newest

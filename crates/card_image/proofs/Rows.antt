@@ -1,10 +1,12 @@
 -- Worked rows of a card: what it shows, and where it is not valid.
-use Rattle.std.proofs.Common.{◌≡◌, ◌+◌, ◌*◌, ℕ, List, [], ◌∷◌, Some, None, length, refl, replicate}
+use Rattle.std.proofs.Common.{◌≡◌, ◌+◌, ◌*◌, ℕ, List, [], ◌∷◌, Some, None, length, map, refl, replicate}
 use Rattle.card_layout.specs.declared.files.Application.{Application}
 use Rattle.card_model.specs.Days.{Day}
 use Rattle.card_model.specs.Checks.{first_failing}
 use Rattle.card_retention.specs.Entries.{day_entries}
+use Rattle.card_image.specs.Fields.{file}
 use Rattle.card_image.specs.View.{CardView, view_of}
+use Rattle.card_image.specs.CardFile.{entry_bytes, entries_of}
 use Rattle.card_image.specs.Judging.{word_checks, first_bad_file}
 use Rattle.card_layout.specs.Application.{first_bad_field}
 use Rattle.card_layout.specs.Files.{files_of}
@@ -86,6 +88,16 @@ round_the_end : first_failing (word_checks 5544 5538 (midnight + 3) 0 (day (0x00
 round_the_end = refl
 
 -- a memory of zeros is no driver card: the card type fails
-zeros : first_bad_file (record { structure = 0; events = 12; faults = 24; activity = 13776; vehicles = 200; places = 112 }) (replicate 24959 0) ≡ Some (0x0501, 0)
+zeros : first_bad_file (record { structure = 0; events = 12; faults = 24; activity = 13776; vehicles = 200; places = 112 }) (replicate 24959 0) ≡ Some (file 0x0501, 0)
 unfolding first_bad_file first_bad_field files_of
 zeros = refl
+
+-- an entry of a card file: identifier, kind, length, bytes
+file_entry : entry_bytes (record { fid = 0x050E; kind = 0; value = 1 ∷ 2 ∷ 3 ∷ 4 ∷ [] }) ≡ 0x05 ∷ 0x0E ∷ 0 ∷ 0 ∷ 4 ∷ 1 ∷ 2 ∷ 3 ∷ 4 ∷ []
+file_entry = refl
+
+-- all files are written but Card_Download
+files_written : map (λ e. e.fid) (entries_of (record { structure = 0; events = 12; faults = 24; activity = 13776; vehicles = 200; places = 112 }) [])
+    ≡ 0x0002 ∷ 0x0005 ∷ 0x0501 ∷ 0x0502 ∷ 0x0503 ∷ 0x0504 ∷ 0x0505 ∷ 0x0506 ∷ 0x0507 ∷ 0x0508 ∷ 0x0520 ∷ 0x0521 ∷ 0x0522 ∷ 0xC100 ∷ 0xC108 ∷ []
+unfolding files_of
+files_written = refl

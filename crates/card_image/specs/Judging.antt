@@ -2,6 +2,7 @@
 use Rattle.std.specs.Prelude.{◌≡◌, ℕ, suc, ◌+◌, ◌*◌, ◌/◌, Bool, true, false, not, ◌&&◌, Option, Some, None, option_map, List, [], ◌∷◌, ◌++◌, map, filter, nat_eq, nat_lt, nat_le, if◌then◌else◌}
 use Rattle.activity_codec.specs.Words.{word_absent, word_minute}
 use Rattle.card_layout.specs.declared.files.Application.{Application}
+use Rattle.card_layout.specs.declared.files.Fid.{Fid}
 use Rattle.card_layout.specs.Application.{first_bad_field, place_of_field}
 use Rattle.card_layout.specs.Files.{place_of, size_of}
 use Rattle.tach_media.specs.Medium.{bytes_at}
@@ -73,16 +74,16 @@ word_checks size oldest mark session days =
 
 -- a file, and the place in it where it first fails
 pub record FileCheck : Type 0 where
-  pub fid : ℕ
+  pub fid : Fid
   pub bad : Option ℕ
 
 abbrev pub file_check : ℕ → Option ℕ → FileCheck
-file_check fid bad = record { fid = fid; bad = bad }
+file_check fid bad = record { fid = file fid; bad = bad }
 
 -- the first file that fails, with the place
-abbrev pub first_bad_of : List FileCheck → Option (ℕ × ℕ)
+abbrev pub first_bad_of : List FileCheck → Option (Fid × ℕ)
 first_bad_of [] = None
-first_bad_of (c ∷ cs) = elim c.bad as (λ _. Option (ℕ × ℕ)) [ Some place ↦ Some (c.fid, place) | None ↦ first_bad_of cs ]
+first_bad_of (c ∷ cs) = elim c.bad as (λ _. Option (Fid × ℕ)) [ Some place ↦ Some (c.fid, place) | None ↦ first_bad_of cs ]
 
 -- a ring's pointer is an index; else its file fails at its front
 abbrev pub pointer_bad : RingShape → List ℕ → Option ℕ
@@ -99,7 +100,7 @@ file_checks app x =
     ∷ []
 
 -- the file of a card's image that first fails, and the place in it, if one does
-unfoldable pub first_bad_file : Application → List ℕ → Option (ℕ × ℕ)
+unfoldable pub first_bad_file : Application → List ℕ → Option (Fid × ℕ)
 first_bad_file app x = first_bad_of (file_checks app x)
 
 -- the card may be inserted

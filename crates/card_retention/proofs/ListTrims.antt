@@ -51,7 +51,7 @@ latest_early low m t (w ∷ ws) a le = by (nat_le (word_minute w) m) refl (lates
         let lt : t < word_minute w = omega (arith, gt_of (word_minute w) m is, le) in
         sym (ap (λ (o : Option ℕ). elim o as (λ _. Option ℕ) [ Some x ↦ Some x | None ↦ cond (nat_le (word_minute w) t) (Some w) None ]) (none lt) ∙ ap (λ (b : Bool). cond b (Some w) None) (above (word_minute w) t lt))
 
-words_ascend : (ws : List ℕ) → AreWords ws → Ascend 0 ws
+pub words_ascend : (ws : List ℕ) → AreWords ws → Ascend 0 ws
 words_ascend [] are = absurd are
 words_ascend (w ∷ ws) are = (omega arith, omega (arith, are.0), subst (λ (k : ℕ). Ascend k ws) (sym are.0) are.1)
 
@@ -120,7 +120,7 @@ lists_trimmed mark all ds are up is = entries_trimmed mark 0 ds are ∙ is ∙ s
         ap (λ (b : Bool). cond b (e ∷ entries_in (sizes (trimmed mark ds)) es) (entries_in (sizes (trimmed mark ds)) es)) same ∙ ap (λ (l : List Entry). cond (is_day (e.minute / 1440) (sizes ds)) (e ∷ l) l) (by es up.1)
 
 -- A STRING WITH NOTHING BEHIND THE MARK ends by it
-last_below : (low : ℕ) (w : ℕ) (ws : List ℕ) → Ascend low (w ∷ ws) → word_minute (last_word (w ∷ ws)) < 1440
+pub last_below : (low : ℕ) (w : ℕ) (ws : List ℕ) → Ascend low (w ∷ ws) → word_minute (last_word (w ∷ ws)) < 1440
 last_below low w [] a = a.1
 last_below low w (v ∷ ws) a = last_below (word_minute w) v ws a.2
 

@@ -1,0 +1,61 @@
+-- The newest minute of a card, by its end mark and its last entry; and the entries of the days that count.
+use Rattle.std.proofs.Common.{◌≡◌, ◌⊎◌, ⊎_elim, ℕ, suc, ◌+◌, ◌*◌, ◌/◌, ◌%◌, ◌<◌, ◌≤◌, max, Bool, true, false, cond, Option, List, [], ◌∷◌, refl, sym, ◌∙◌, ap, subst, arith}
+use Rattle.std.specs.Prelude.{nat_eq}
+use Rattle.std.proofs.lemmas.Bool.Decides.{nat_tests}
+use Rattle.std.proofs.Math.Nat.{max-eq_left}
+use Rattle.activity_codec.specs.declared.entries.Entry.{Entry}
+use Rattle.activity_codec.specs.Words.{word_minute}
+use Rattle.card_layout.specs.declared.files.Application.{Application}
+use Rattle.card_model.specs.Days.{Day, AreDays, AreWords, last_word}
+use Rattle.card_model.specs.Changes.{OnNewest, date_of, trimmed}
+use Rattle.card_model.proofs.Trims.{are_trimmed, trimmed_twice}
+use Rattle.card_retention.specs.Entries.{entries_up_to, last_entry, newest_word, closed_at, newest_minute}
+use Rattle.card_retention.proofs.Flat.{UpTo, newest_flat}
+use Rattle.card_retention.proofs.Checked.{early_last}
+use Rattle.card_retention.proofs.Newest.{newest_law}
+use Rattle.card_retention.proofs.ListTrims.{words_ascend, last_below, entries_trimmed, ends_flat}
+use Rattle.card_image.specs.Fields.{card_days}
+use Rattle.card_image.specs.View.{CardView, counting, card_view}
+
+words_below : (ws : List ℕ) → AreWords ws → word_minute (last_word ws) < 1440
+words_below [] are = absurd are
+words_below (w ∷ ws) are = last_below 0 w ws (words_ascend (w ∷ ws) are)
+
+-- where a trim cuts nothing the newest word is not behind the mark
+newest_low : (mark date : ℕ) (d : Day) (ds : List Day) → AreDays date (d ∷ ds) → OnNewest (UpTo mark) (d ∷ ds) → newest_word (d ∷ ds) ≤ mark
+newest_low mark date d [] are on = by (nat_eq d.date (date_of mark)) refl
+  where
+    is_same : (m n : ℕ) → nat_eq m n ≡ true → m ≡ n
+    is_same m n is = grind (arith, nat_tests)
+
+    apart : (m n : ℕ) → m ≤ n → nat_eq m n ≡ false → m < n
+    apart m n le is = grind (arith, nat_tests)
+
+    by : (b : Bool) → nat_eq d.date (date_of mark) ≡ b → d.date / 60 + word_minute (last_word d.words) ≤ mark
+    by true here = let at : d.date ≡ date_of mark = is_same d.date (date_of mark) here in omega (arith, at, early_last (mark % 1440) d.words are.1.ordered (on.last at))
+    by false here = omega (arith, apart d.date (date_of mark) on.day here, words_below d.words are.1.ordered, are.1.midnight)
+newest_low mark date d (e ∷ ds) are on = newest_low mark d.date e ds are.2 on
+
+newest_flat_low : (mark : ℕ) (ds : List Day) → AreDays 0 ds → trimmed mark ds ≡ ds → newest_word ds ≤ mark
+newest_flat_low mark [] are is = omega arith
+newest_flat_low mark (d ∷ ds) are is = newest_low mark 0 d ds are (newest_flat mark d ds is)
+
+-- THE NEWEST MINUTE as the end mark trims the card: the mark, or that of the closing word behind the last entry
+pub newest_trimmed : (mark : ℕ) (ds : List Day) → AreDays 0 ds → newest_minute mark (trimmed mark ds) ≡ max mark (closed_at (last_entry (entries_up_to mark ds)))
+newest_trimmed mark ds are =
+    let less = are_trimmed mark 0 ds are in
+    newest_law mark (trimmed mark ds) less (ends_flat mark (trimmed mark ds) less (trimmed_twice mark ds))
+    ∙ ap (λ (n : ℕ). max n (closed_at (last_entry (entries_up_to mark (trimmed mark ds))))) (max-eq_left (newest_flat_low mark (trimmed mark ds) less (trimmed_twice mark ds)))
+    ∙ ap (λ (es : List Entry). max mark (closed_at (last_entry es))) (entries_trimmed mark 0 ds are)
+
+pub newest_of_entries : (app : Application) (x : List ℕ) → AreDays 0 (card_days app x) → (card_view app x).newest ≡ max (card_view app x).mark (closed_at (last_entry (card_view app x).held.entries))
+unfolding card_view
+newest_of_entries app x are = newest_trimmed (card_view app x).mark (card_days app x) are
+
+-- THE ENTRIES are those of the days that count
+pub counted_entries : (session mark : ℕ) (ds : List Day) → AreDays 0 ds → entries_up_to mark (counting session mark ds) ≡ entries_up_to mark ds
+counted_entries session mark ds are = by (nat_eq session 0)
+  where
+    by : (b : Bool) → entries_up_to mark (cond b ds (trimmed mark ds)) ≡ entries_up_to mark ds
+    by true = refl
+    by false = entries_trimmed mark 0 ds are

@@ -1,0 +1,54 @@
+-- A card's image read by the sizes that it tells itself, and what the stated overwriting leaves of a card's entries.
+use Rattle.std.specs.Prelude.{◌≡◌, ℕ, ◌^◌, Option, None, List, drop, length}
+use Rattle.activity_codec.specs.declared.entries.Entry.{Entry}
+use Rattle.card_layout.specs.declared.files.Application.{Application}
+use Rattle.card_layout.specs.declared.files.Fid.{Fid}
+use Rattle.card_layout.specs.Application.{application_in, application_of}
+use Rattle.card_retention.specs.Expected.{WordDay, Counted, counted, expected_days}
+use Rattle.card_retention.specs.Entries.{last_entry, newest_word}
+use Rattle.card_retention.specs.Retains.{CardRetains}
+use Rattle.card_model.specs.Changes.{trimmed}
+use Rattle.card_image.specs.Fields.{card_days, card_number, end_mark, session_time}
+use Rattle.card_image.specs.View.{Held, CardView, card_view, counting}
+use Rattle.card_image.specs.Judging.{first_bad_file}
+
+-- the sizes that a card's image tells, in Application_Identification
+unfoldable pub own_sizes : List ℕ → Application
+own_sizes x = application_of (application_in x)
+
+-- what it shows
+unfoldable pub own_view : List ℕ → CardView
+own_view x = card_view (own_sizes x) x
+
+-- its number
+unfoldable pub own_number : List ℕ → List ℕ
+own_number x = card_number (own_sizes x) x
+
+-- the file of it that first fails, and the place in it, if one does
+unfoldable pub own_bad_file : List ℕ → Option (Fid × ℕ)
+own_bad_file x = first_bad_file (own_sizes x) x
+
+-- the card may be inserted
+abbrev pub IsOwnValid : List ℕ → Type 0
+IsOwnValid x = own_bad_file x ≡ None
+
+-- the minute up to which the days that count have words
+abbrev pub own_covered : List ℕ → ℕ
+own_covered x =
+    newest_word (counting (session_time (own_sizes x) x) (end_mark (own_sizes x) x) (card_days (own_sizes x) x))
+
+-- the days that count on a card, and its last entry
+abbrev pub counted_view : CardView → Counted
+counted_view v = record { days = v.held.days; before = last_entry v.held.entries }
+
+-- The days that these entries have, of which the first are those of a card's image at the start: the days that count there, and
+-- those that the further entries bring. Behind the last entry its closing word counts, however late the next one is.
+unfoldable pub days_with : (start : List ℕ) → List Entry → List WordDay
+days_with start all =
+    expected_days (own_covered start) (2 ^ 32)
+    (counted (own_covered start) (counted_view (own_view start)) (drop (length (own_view start).held.entries) all))
+
+-- Of these entries a card, whose image was this at the start, keeps all but those of whole days at the old end; and the newest of
+-- these days, those that are there and 16 bytes together exceed its string.
+abbrev pub KeepsOf : (start : List ℕ) → List Entry → Held → Type 0
+KeepsOf start all held = CardRetains (own_sizes start).activity 16 (days_with start all) all held.entries

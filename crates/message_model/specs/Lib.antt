@@ -1,0 +1,4 @@
+pub mod Records
+pub mod Messages
+pub mod Sending
+pub mod Showing

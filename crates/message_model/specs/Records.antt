@@ -1,0 +1,33 @@
+-- The insertions and places of a unit's image (Appendix 1, VuCardIWRecord, VuPlaceDailyWorkPeriodRecord).
+use Rattle.std.specs.Prelude.{ℕ, List, [], ◌∷◌}
+use Rattle.byte_fields.specs.Fields.{total_width, place_in, number_in}
+use Rattle.gated_ring.specs.Ring.{Shape}
+use Rattle.unit_model.specs.declared.layout.TheConstants.{INSERTIONS, PLACES}
+
+-- an insertion: surname, first names, card number, expiry, time, odometer, slot, withdrawal time and odometer, the previous vehicle and the
+-- time of the withdrawal from it, the manual flag
+abbrev pub insertion_widths : List ℕ
+insertion_widths = 36 ∷ 36 ∷ 18 ∷ 4 ∷ 4 ∷ 3 ∷ 1 ∷ 4 ∷ 3 ∷ 15 ∷ 4 ∷ 1 ∷ []
+
+-- a place: card number, time, type, country, region, odometer
+abbrev pub place_widths : List ℕ
+place_widths = 18 ∷ 4 ∷ 1 ∷ 1 ∷ 1 ∷ 3 ∷ []
+
+-- the insertions of a unit's image: one is there where its time is not 0
+abbrev pub insertion_ring : Shape
+insertion_ring = record { base = INSERTIONS.place; width = total_width insertion_widths; count = 2048; pointer_width = 4; gate = place_in insertion_widths 4 }
+
+-- its places, likewise
+abbrev pub unit_place_ring : Shape
+unit_place_ring = record { base = PLACES.place; width = total_width place_widths; count = 255; pointer_width = 4; gate = place_in place_widths 1 }
+
+-- when a card was inserted, and when it was withdrawn, 0 where it was not
+abbrev pub insertion_time : List ℕ → ℕ
+insertion_time e = number_in insertion_widths 4 e
+
+abbrev pub withdrawal_time : List ℕ → ℕ
+withdrawal_time e = number_in insertion_widths 7 e
+
+-- when a place was entered
+abbrev pub place_time : List ℕ → ℕ
+place_time e = number_in place_widths 1 e

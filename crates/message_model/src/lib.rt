@@ -1,0 +1,7 @@
+//! What a unit hands out on a download, as definitions (Annex IB, Appendix 7): the messages by their fields and as bytes, those
+//! of a unit's image, the unit file, and the minutes that a unit file shows.
+#![tactic(auto)]
+
+mod laws;
+
+pub use laws::{a_file_answers_the_requests, a_file_shows_the_minutes, pieces_are_the_message};
