@@ -8,7 +8,8 @@ use Rattle.trace_model.specs.declared.Card.{Card}
 use Rattle.history_model.specs.Minutes.{up_to, HistoryMinute, on_card, card_history}
 use Rattle.history_model.specs.Presence.{CardStart, closed_at, trimmed_by}
 use Rattle.minute_model.specs.Activity.{last}
-use Rattle.joint_rule.specs.Views.{UnitView, CardView, Held, row, owed}
+use Rattle.card_image.specs.View.{CardView, Held}
+use Rattle.joint_rule.specs.Views.{UnitView, row, owed}
 use Rattle.joint_rule.specs.Device.{Seen, LeavesViews, Nothing}
 use Rattle.history_model.specs.Book.{Book, all, broken}
 use Rattle.joint_rule.specs.Rules.{Meets, Had, IsOpen, Standing, Out, In, Torn, Stands, CardDark, CardRule}

@@ -7,7 +7,8 @@ use Rattle.activity_codec.specs.declared.entries.Entry.{Entry}
 use Rattle.trace_model.specs.declared.Card.{Card}
 use Rattle.history_model.specs.Minutes.{up_to, HistoryMinute, card_history}
 use Rattle.history_model.specs.Presence.{CardStart, trimmed_by}
-use Rattle.joint_rule.specs.Views.{UnitView, CardView, Held, row, other, owed, owed_in, newest_with, beyond}
+use Rattle.card_image.specs.View.{CardView, Held}
+use Rattle.joint_rule.specs.Views.{UnitView, row, other, owed, owed_in, newest_with, beyond}
 use Rattle.joint_rule.specs.Device.{Seen, LeavesViews, EndsWith, Nothing}
 use Rattle.joint_rule.specs.Steps.{IsBeginning, IsBegun, IsMending, IsMended, settled_cells, IsInserting, IsInserted, IsClosing, replayed}
 use Rattle.history_model.specs.Book.{Book, all, found}

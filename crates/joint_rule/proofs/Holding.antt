@@ -6,7 +6,8 @@ use Rattle.activity_codec.specs.declared.entries.Entry.{Entry}
 use Rattle.trace_model.specs.declared.Card.{Card}
 use Rattle.history_model.specs.Minutes.{up_to, HistoryMinute, card_history}
 use Rattle.history_model.specs.Presence.{CardStart, trimmed_by, newest_by}
-use Rattle.joint_rule.specs.Views.{UnitView, CardView, Held, owed}
+use Rattle.card_image.specs.View.{CardView, Held}
+use Rattle.joint_rule.specs.Views.{UnitView, owed}
 use Rattle.joint_rule.specs.Device.{Seen, CoherentViews, LeavesViews, SettledViews}
 use Rattle.history_model.specs.Book.{Book}
 use Rattle.joint_rule.specs.Rules.{Acknowledges, UnitHolds, Showed, Meets, Had, CardDark, EntriesGoOn}

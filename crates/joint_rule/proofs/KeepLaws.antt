@@ -7,7 +7,8 @@ use Rattle.activity_codec.specs.declared.entries.Entry.{Entry}
 use Rattle.trace_model.specs.declared.Card.{Card}
 use Rattle.history_model.specs.Minutes.{up_to, HistoryMinute, on_card}
 use Rattle.history_model.specs.Presence.{CardStart}
-use Rattle.joint_rule.specs.Views.{UnitView, CardView, Held, row, other, owed, owed_in, is_session}
+use Rattle.card_image.specs.View.{CardView, Held}
+use Rattle.joint_rule.specs.Views.{UnitView, row, other, owed, owed_in, is_session}
 use Rattle.joint_rule.specs.Device.{Seen, LeavesViews, EndsWith}
 use Rattle.joint_rule.specs.Steps.{IsKept, IsUnkept, IsKeeping, IsPutting, IsPut, cleared, owing, IsOnCard, IsNowOnCard}
 use Rattle.history_model.specs.Book.{Book, all, kept, broken}

@@ -10,3 +10,4 @@ pub mod Holding
 pub mod Repairing
 pub mod Simple
 pub mod OwedView
+pub mod Brought

@@ -1,13 +1,14 @@
 -- The rules at the opening of a run, of what the views show there.
-use Rattle.std.proofs.Common.{All, ◌≡◌, inl, ℕ, ◌<◌, ◌≤◌, cond, true, None, Option, List, [], ◌++◌, refl, ap, subst, ◌∙◌, sym, arith, nat_lt}
+use Rattle.std.proofs.Common.{All, ◌≡◌, inl, ⊎_elim, ℕ, ◌<◌, ◌≤◌, cond, true, None, Option, List, [], ◌++◌, refl, ap, subst, ◌∙◌, sym, arith, nat_lt}
 use Rattle.std.proofs.lemmas.List.Elements.{All-weaker, All-nil}
 use Rattle.std.proofs.lemmas.List.{append-nil}
 use Rattle.activity_codec.specs.declared.entries.Entry.{Entry}
 use Rattle.trace_model.specs.declared.Card.{Card}
 use Rattle.history_model.specs.Minutes.{HistoryMinute}
 use Rattle.history_model.specs.Presence.{CardStart, trimmed_by}
-use Rattle.joint_rule.specs.Views.{UnitView, CardView, Held, owed}
-use Rattle.joint_rule.specs.Device.{Seen}
+use Rattle.card_image.specs.View.{CardView, Held}
+use Rattle.joint_rule.specs.Views.{UnitView, owed}
+use Rattle.joint_rule.specs.Device.{Seen, SettledViews, LeavesViews, Nothing, IsFresh}
 use Rattle.history_model.specs.Book.{not_begun, Between, IsFork}
 use Rattle.joint_rule.specs.Rules.{Shows, UnitHolds, UnitRule, Brings, Meets, CardDark}
 use Rattle.history_model.proofs.Books.{history-none}
@@ -58,3 +59,10 @@ module _ (c : Card) (start : CardStart) (Keeps : List Entry → Held → Type 0)
     later = omega arith;
     since = λ y left. had-meets c start Keeps not_begun u y refl (All-nil (λ (i : HistoryMinute). i.minute ≤ u.last)) (subst (Meets c start Keeps [] u) (sym (since y left)) (opened-pair u x b));
   }
+
+-- A DEVICE THAT WAS NOT WRITTEN leaves what it left at the opening, also after calls that only read
+pub fresh-opened : {V : Type 0} (s : Seen V) (start : V) → SettledViews s → ((v : V) → s.may_leave v → v ≡ start) → IsFresh s.clock start s
+fresh-opened s start settled one v left = one v (settled v left)
+
+pub fresh-read : {V : Type 0} (began : ℕ) (start : V) (old new : Seen V) → began ≤ old.clock → LeavesViews old new Nothing → IsFresh began start old → IsFresh began start new
+fresh-read began start old new le run fresh v left = ⊎_elim (λ was. fresh v was) (λ none. absurd none.2) (run.since began v le left)

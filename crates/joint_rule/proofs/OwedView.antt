@@ -16,20 +16,20 @@ lt_true a b is = grind (arith, nat_tests)
 lt_false : (a b : ℕ) → b ≤ a → nat_lt a b ≡ false
 lt_false a b is = grind (arith, nat_tests)
 
-placed-more : (f : Entry) (es : List Entry) (e : Entry) → f.minute < e.minute → placed (f ∷ es) e ≡ f ∷ placed es e
+pub placed-more : (f : Entry) (es : List Entry) (e : Entry) → f.minute < e.minute → placed (f ∷ es) e ≡ f ∷ placed es e
 placed-more f es e less =
     let n : ℕ = prefix_len (λ g. nat_lt g.minute e.minute) es in
     let next : 1 + n ≡ suc n = omega arith in
     (λ t. insert (f ∷ es) (cond (lt_true f.minute e.minute less t) (1 + n) 0) e) ∙ ap (λ (m : ℕ). insert (f ∷ es) m e) next
 
-placed-here : (f : Entry) (es : List Entry) (e : Entry) → e.minute ≤ f.minute → placed (f ∷ es) e ≡ e ∷ f ∷ es
+pub placed-here : (f : Entry) (es : List Entry) (e : Entry) → e.minute ≤ f.minute → placed (f ∷ es) e ≡ e ∷ f ∷ es
 placed-here f es e more = λ t. insert (f ∷ es) (cond (lt_false f.minute e.minute more t) (1 + prefix_len (λ g. nat_lt g.minute e.minute) es) 0) e
 
 -- in order of minutes
-abbrev From : ℕ → List Entry → Type 0
+abbrev pub From : ℕ → List Entry → Type 0
 From m es = AllByRecursion (λ (f : Entry). m ≤ f.minute) es
 
-abbrev Ascend : List Entry → Type 0
+abbrev pub Ascend : List Entry → Type 0
 Ascend [] = Unit {0}
 Ascend (e ∷ es) = From e.minute es × Ascend es
 
@@ -51,7 +51,7 @@ ascend-placed (f ∷ es) e h = ⊎_elim
     (λ more. subst Ascend (sym (placed-here f es e more)) ((more, from-less e.minute f.minute es more h.0), (h.0, h.1)))
     (cases_lt f.minute e.minute)
 
-placed-front : (es : List Entry) (e : Entry) → From e.minute es → placed es e ≡ e ∷ es
+pub placed-front : (es : List Entry) (e : Entry) → From e.minute es → placed es e ≡ e ∷ es
 placed-front [] e h = refl
 placed-front (f ∷ es) e h = placed-here f es e h.0
 
@@ -77,7 +77,7 @@ filter-placed p (f ∷ es) e h = ⊎_elim
     behind less false true = refl
     behind less false false = refl
 
-filter-fold : (p : Entry → Bool) (start es : List Entry) → Ascend start → filter p (fold placed start es) ≡ fold placed (filter p start) (filter p es)
+pub filter-fold : (p : Entry → Bool) (start es : List Entry) → Ascend start → filter p (fold placed start es) ≡ fold placed (filter p start) (filter p es)
 filter-fold p start [] h = refl
 filter-fold p start (e ∷ es) h = filter-fold p (placed start e) es (ascend-placed start e h) ∙ ap (λ (zs : List Entry). fold placed zs (filter p es)) (filter-placed p start e h) ∙ go (p e)
   where

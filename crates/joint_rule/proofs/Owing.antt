@@ -6,9 +6,9 @@ use Rattle.std.proofs.lemmas.List.{append-nil}
 use Rattle.activity_codec.specs.declared.entries.Entry.{Entry}
 use Rattle.trace_model.specs.declared.Card.{Card}
 use Rattle.trace_model.specs.declared.Card.TheVariants.{A, B}
-use Rattle.joint_rule.specs.Views.{UnitView, CardView, owed_in, counts, is_session, row, with_row, other, owed}
+use Rattle.card_image.specs.View.{CardView, Held}
+use Rattle.joint_rule.specs.Views.{UnitView, owed_in, counts, is_session, row, with_row, other, owed}
 use Rattle.joint_rule.specs.Steps.{cleared, owing, settled_cells, SameRows, IsPutting, IsMending, IsInserting, IsClosing, replayed}
-use Rattle.joint_rule.specs.Views.{Held}
 use Rattle.history_model.proofs.Filters.{filter-within, filter-weaker, filter-alike, filter-none, filter-cut, filter-whole, filter-and, all-one}
 use Rattle.owed_model.specs.Owed.{Row}
 

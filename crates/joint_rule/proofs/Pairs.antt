@@ -9,7 +9,8 @@ use Rattle.trace_model.specs.declared.Card.{Card}
 use Rattle.minute_model.specs.Activity.{last}
 use Rattle.history_model.specs.Minutes.{up_to, HistoryMinute, on_card, card_history}
 use Rattle.history_model.specs.Presence.{CardStart, closed_at, trimmed_by}
-use Rattle.joint_rule.specs.Views.{UnitView, CardView, Held, row, owed, owed_in, newest_with}
+use Rattle.card_image.specs.View.{CardView, Held}
+use Rattle.joint_rule.specs.Views.{UnitView, row, owed, owed_in, newest_with}
 use Rattle.joint_rule.specs.Steps.{IsOnCard, IsInserting, IsClosing}
 use Rattle.history_model.specs.Book.{Book, all}
 use Rattle.joint_rule.specs.Rules.{Meets, Had, EntriesGoOn}

@@ -5,7 +5,8 @@ use Rattle.activity_codec.specs.declared.entries.Entry.{Entry}
 use Rattle.trace_model.specs.declared.Card.{Card}
 use Rattle.history_model.specs.Minutes.{HistoryMinute, up_to, on_card, card_history}
 use Rattle.history_model.specs.Presence.{CardStart}
-use Rattle.joint_rule.specs.Views.{UnitView, CardView, Held, owed}
+use Rattle.card_image.specs.View.{CardView, Held}
+use Rattle.joint_rule.specs.Views.{UnitView, owed}
 use Rattle.joint_rule.specs.Device.{Seen, LeavesViews}
 use Rattle.joint_rule.specs.Steps.{IsKeeping, IsPutting, IsBeginning, IsMending, IsInserting, IsOnCard, IsClosing}
 use Rattle.joint_rule.specs.Rules.{Meets, Stands, In, IsRepaired}

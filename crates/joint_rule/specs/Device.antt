@@ -42,3 +42,7 @@ Nothing v w = ⊥
 -- since its last write a stop leaves no view but such that it may leave now
 abbrev pub SettledViews : {V : Type 0} → Seen V → Type 0
 SettledViews {V} s = (v : V) → s.left_since s.clock v → s.may_leave v
+
+-- the device was not written: every view that it might have left since a clock is this one
+abbrev pub IsFresh : {V : Type 0} → (began : ℕ) → V → Seen V → Type 0
+IsFresh {V} began start s = (v : V) → s.left_since began v → v ≡ start

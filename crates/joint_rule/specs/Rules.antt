@@ -5,7 +5,8 @@ use Rattle.trace_model.specs.declared.Card.{Card}
 use Rattle.history_model.specs.Minutes.{HistoryMinute, card_history, on_card, up_to}
 use Rattle.unit_model.specs.Days.{Day}
 use Rattle.history_model.specs.Presence.{CardStart, trimmed_by}
-use Rattle.joint_rule.specs.Views.{UnitView, CardView, Held, row, owed, newest_with, beyond}
+use Rattle.card_image.specs.View.{CardView, Held}
+use Rattle.joint_rule.specs.Views.{UnitView, row, owed, newest_with, beyond}
 use Rattle.joint_rule.specs.Device.{Seen}
 use Rattle.history_model.specs.Book.{Book, all, IsReached, IsNext, IsMark, Ordered}
 

@@ -5,7 +5,8 @@ use Rattle.trace_model.specs.declared.Card.{Card}
 use Rattle.history_model.specs.Minutes.{HistoryMinute}
 use Rattle.unit_model.specs.Days.{Day}
 use Rattle.owed_model.specs.Owed.{Row}
-use Rattle.joint_rule.specs.Views.{UnitView, CardView, Held, row, with_row, other, newest_with, beyond}
+use Rattle.card_image.specs.View.{CardView, Held}
+use Rattle.joint_rule.specs.Views.{UnitView, row, with_row, other, newest_with, beyond}
 
 -- what a call on the unit leaves alone, but for the minutes
 pub record SameRows (u v : UnitView) : Type 0 where

@@ -1,4 +1,4 @@
--- What the images of a unit and of a card show (profile).
+-- What the images of a unit show, and what both devices' images say of the other (profile).
 use Rattle.std.specs.Prelude.{ℕ, ◌/◌, Bool, ◌&&◌, List, [], ◌∷◌, filter, nat_eq, nat_lt, nat_le, if◌then◌else◌}
 use Rattle.activity_codec.specs.declared.entries.Entry.{Entry}
 use Rattle.trace_model.specs.declared.Card.{Card}
@@ -7,7 +7,7 @@ use Rattle.minute_model.specs.Activity.{last}
 use Rattle.unit_model.specs.Days.{Day}
 use Rattle.unit_model.specs.Image.{recorded, last_kept}
 use Rattle.owed_model.specs.Owed.{Row, row_view}
-use Rattle.card_retention.specs.Expected.{WordDay}
+use Rattle.card_image.specs.View.{CardView}
 use Rattle.history_model.specs.Presence.{closed_at}
 
 -- what a unit's image shows: its recorded days, its last-kept minute, and the rows of both cards; session 0 and no cells where
@@ -22,20 +22,6 @@ pub record UnitView : Type 0 where
 unfoldable pub unit_view : (number_a number_b image : List ℕ) → UnitView
 unit_view number_a number_b x =
     record { days = recorded x; last = last_kept x; row_a = row_view number_a x; row_b = row_view number_b x }
-
--- what a card's string holds: the days that are there, and the entries on them
-pub record Held : Type 0 where
-  pub days : List WordDay
-  pub entries : List Entry
-
--- What a card's image shows: its string, its end mark, its session time; `newest` is the end mark, or the minute after it where
--- the latest word up to the mark is an entry's and that minute lies in its day; `word` is the minute of the newest word that stands there, up to the mark or beyond it
-pub record CardView : Type 0 where
-  pub held : Held
-  pub mark : ℕ
-  pub session : ℕ
-  pub newest : ℕ
-  pub word : ℕ
 
 -- the newest word counts where no session is open
 abbrev pub beyond : CardView → ℕ

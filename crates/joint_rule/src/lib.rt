@@ -4,4 +4,4 @@
 
 mod laws;
 
-pub use laws::{days_go_on, owed_is_seen, presence_is_the_same};
+pub use laws::{a_card_brings_its_newest_minute, days_go_on, owed_is_seen, presence_is_the_same};

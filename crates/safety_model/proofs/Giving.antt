@@ -7,12 +7,14 @@ use Rattle.unit_model.specs.Days.{Day}
 use Rattle.unit_model.specs.Image.{recorded}
 use Rattle.history_model.specs.Minutes.{HistoryMinute, card_history, up_to}
 use Rattle.history_model.specs.Book.{Book, IsReached, IsNext, Follows}
-use Rattle.joint_rule.specs.Views.{Held, owed, unit_view}
-use Rattle.joint_rule.specs.Device.{seen, CoherentViews}
+use Rattle.card_image.specs.View.{Held}
+use Rattle.card_image.specs.Own.{own_view, KeepsOf}
+use Rattle.joint_rule.specs.Views.{owed, unit_view}
+use Rattle.joint_rule.specs.Device.{seen, CoherentViews, IsFresh}
 use Rattle.joint_rule.specs.Rules.{UnitHolds, Showed, Meets, EntriesGoOn, Acknowledges}
 use Rattle.joint_rule.specs.Filling.{FillsDays}
 use Rattle.joint_rule.proofs.Holding.{agree, unit-holds}
-use Rattle.safety_model.specs.Recording.{CardReading, Recording, card_image, brought, history_of, unit_seen, IsPassed, MayCome}
+use Rattle.safety_model.specs.Recording.{Recording, card_image, brought, history_of, unit_seen, IsPassed, MayCome}
 use Rattle.safety_model.specs.Unit.{UnitShows, HasMinute}
 
 -- what a book reached was passed in the history that it follows
@@ -53,8 +55,15 @@ module _ (start : List Day) (past : List HistoryMinute) (lost : List (List Histo
       let k = shows x first held.0 in
       (k.0, (i, subst (λ (is : List HistoryMinute). Contains is i) (sym k.1) held.1, refl))
 
--- at the end a card's entries followed by those owed to it are the expected ones up to the unit's mark
-pub agrees : (cards : CardReading) (r : Recording) (c : Card) (Adds : Held → List Entry → Held → Type 0) → EntriesGoOn (cards.Keeps (card_image r c)) Adds → (u x : List ℕ) →
-    Meets c (brought cards r c) (cards.Keeps (card_image r c)) (history_of cards r) (unit_seen cards r u) (cards.view x) →
-    cards.Keeps (card_image r c) ((brought cards r c).entries ++ ((brought cards r c).owed ++ card_history c (up_to (unit_seen cards r u).last (history_of cards r)))) (record (cards.view x).held { entries = (cards.view x).held.entries ++ owed c (unit_seen cards r u) (cards.view x) })
-agrees cards r c Adds law u x m = agree c (brought cards r c) (cards.Keeps (card_image r c)) Adds law (history_of cards r) (unit_seen cards r u) (cards.view x) m
+-- at the end a card's entries followed by those owed to it are the expected ones up to the unit's mark, where what is carried of a
+-- card gives the stated rule
+pub agrees : (r : Recording) (c : Card) (Keeps : List Entry → Held → Type 0) (Adds : Held → List Entry → Held → Type 0) → EntriesGoOn Keeps Adds → ((all : List Entry) (held : Held) → Keeps all held → KeepsOf (card_image r c) all held) → (u x : List ℕ) →
+    Meets c (brought r c) Keeps (history_of r) (unit_seen r u) (own_view x) →
+    KeepsOf (card_image r c) ((brought r c).entries ++ ((brought r c).owed ++ card_history c (up_to (unit_seen r u).last (history_of r)))) (record (own_view x).held { entries = (own_view x).held.entries ++ owed c (unit_seen r u) (own_view x) })
+agrees r c Keeps Adds law gives u x m =
+    gives ((brought r c).entries ++ ((brought r c).owed ++ card_history c (up_to (unit_seen r u).last (history_of r)))) (record (own_view x).held { entries = (own_view x).held.entries ++ owed c (unit_seen r u) (own_view x) })
+    (agree c (brought r c) Keeps Adds law (history_of r) (unit_seen r u) (own_view x) m)
+
+-- a card that was not written stays as it was, all bytes of it
+pub untouched : (since : ℕ) (card : State) (start : List ℕ) → IsFresh since start (seen (λ (x : List ℕ). x) card) → (x : List ℕ) → card.left_since since x → x ≡ start
+untouched since card start fresh x left = fresh x (x, left, refl)

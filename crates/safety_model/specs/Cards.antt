@@ -18,8 +18,9 @@ use Rattle.log_model.specs.Log.{is_accepting}
 use Rattle.log_model.specs.Slots.{same_card}
 use Rattle.log_model.specs.Causes.{device_of}
 use Rattle.history_model.specs.Minutes.{card_history, up_to}
+use Rattle.card_image.specs.Own.{own_view, IsOwnValid, KeepsOf}
 use Rattle.joint_rule.specs.Views.{owed}
-use Rattle.safety_model.specs.Recording.{CardReading, Recording, card_image, told_of, brought, history_of, expected_of, unit_seen}
+use Rattle.safety_model.specs.Recording.{Recording, card_image, told_of, brought, history_of, expected_of, unit_seen}
 use Rattle.safety_model.specs.Unit.{marks_of, Increase}
 
 -- an entry of this minute
@@ -31,18 +32,14 @@ abbrev pub shows_lost : (second minute : ℕ) → Break → Bool
 shows_lost u minute (Cut second kept failed begun) = nat_lt second u && nat_lt kept minute && nat_le minute (second / 60)
 shows_lost u minute (Tear second slot failed begun late) = false
 
-module _ (cards : CardReading) (r : Recording) (c : Card) where
+module _ (r : Recording) (c : Card) where
   -- An image shows the card's entries at the start and some of the others that are expected, from their front, but for the days
   -- that overwriting took.
   pub record CardShows (x : List ℕ) : Type 0 where
     pub more : List Entry
     pub rest : List Entry
-    pub whole : expected_of cards r c ≡ (brought cards r c).entries ++ (more ++ rest)
-    pub kept : cards.Keeps (card_image r c) ((brought cards r c).entries ++ more) (cards.view x).held
-
-  -- an image is valid: no file of it fails
-  abbrev pub IsValid : List ℕ → Type 0
-  IsValid x = cards.first_bad x ≡ None
+    pub whole : expected_of r c ≡ (brought r c).entries ++ (more ++ rest)
+    pub kept : KeepsOf (card_image r c) ((brought r c).entries ++ more) (own_view x).held
 
   -- it was found to tell of a later time
   abbrev pub is_overlap : Verdict → Bool
@@ -60,14 +57,14 @@ module _ (cards : CardReading) (r : Recording) (c : Card) where
 
   -- a run may not write it: it was not valid, or each time that it entered it was found to tell of a later time
   abbrev pub MayNotWrite : Type 0
-  MayNotWrite = ((cards.first_bad (card_image r c) ≡ None) → ⊥) ⊎ (entered ≡ overlaps)
+  MayNotWrite = (IsOwnValid (card_image r c) → ⊥) ⊎ (entered ≡ overlaps)
 
   -- an acknowledged minute is that of an expected entry, and every image since shows it, unless overwriting took its day
   pub record CardMarkHolds (card : State) (m : Mark) : Type 0 where
-    pub stands : HasEntry m.minute (expected_of cards r c)
+    pub stands : HasEntry m.minute (expected_of r c)
     pub clock : m.clock ≤ card.clock
     pub shown : (x : List ℕ) → card.left_since m.clock x → (s : CardShows x)
-        × HasEntry m.minute ((brought cards r c).entries ++ s.more)
+        × HasEntry m.minute ((brought r c).entries ++ s.more)
 
   -- the seconds in which it was accepted
   abbrev pub acceptances : List ℕ
@@ -87,12 +84,12 @@ module _ (cards : CardReading) (r : Recording) (c : Card) where
   -- A CARD: what every image that a stop might have left since a clock shows, where it was valid; one that may not be written
   -- is as it was; the acknowledged minutes increase, and hold; and at the end it is repaired
   pub record CardSafe (marks : List Mark) (since : ℕ) (card : State) : Type 0 where
-    pub entries : IsValid (card_image r c) → (x : List ℕ) → card.left_since since x → CardShows x
-    pub valid : IsValid (card_image r c) → (x : List ℕ) → card.left_since since x → IsValid x
+    pub entries : IsOwnValid (card_image r c) → (x : List ℕ) → card.left_since since x → CardShows x
+    pub valid : IsOwnValid (card_image r c) → (x : List ℕ) → card.left_since since x → IsOwnValid x
     pub untouched : MayNotWrite → (x : List ℕ) → card.left_since since x → x ≡ card_image r c
     pub in_order : Increase (marks_of (device_of c) marks)
     pub marked : (m : Mark) → Contains (marks_of (device_of c) marks) m → CardMarkHolds card m
-    pub repaired : IsValid (card_image r c) → (x : List ℕ) → card.may_leave x → IsRepaired x
+    pub repaired : IsOwnValid (card_image r c) → (x : List ℕ) → card.may_leave x → IsRepaired x
 
   -- a slot in a minute of the unit
   abbrev pub slot_state : Slot → UnitMinute → SlotState
@@ -110,12 +107,12 @@ module _ (cards : CardReading) (r : Recording) (c : Card) where
 
   -- the expected entries that are not later than a minute, where they are of the run
   abbrev pub expected_to : ℕ → List Entry
-  expected_to k = (brought cards r c).entries ++ ((brought cards r c).owed ++ card_history c (up_to k (history_of cards r)))
+  expected_to k = (brought r c).entries ++ ((brought r c).owed ++ card_history c (up_to k (history_of r)))
 
   -- A UNIT AND A CARD: a card never runs ahead of the unit, and what it lacks is owed to it
   pub record Agree (u x : List ℕ) : Type 0 where
-    pub behind : (e : Entry) → Contains (card_history c (history_of cards r)) e → Contains (cards.view x).held.entries e →
+    pub behind : (e : Entry) → Contains (card_history c (history_of r)) e → Contains (own_view x).held.entries e →
         HasDay (recorded u) (e.minute / 1440) → StandsInUnit (unit_minutes u) e
-    pub rest : cards.Keeps
-        (card_image r c) (expected_to (last_kept u))
-        (record (cards.view x).held { entries = (cards.view x).held.entries ++ owed c (unit_seen cards r u) (cards.view x) })
+    pub rest : KeepsOf (card_image r c)
+        (expected_to (last_kept u))
+        (record (own_view x).held { entries = (own_view x).held.entries ++ owed c (unit_seen r u) (own_view x) })

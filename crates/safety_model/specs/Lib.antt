@@ -2,3 +2,4 @@ pub mod Recording
 pub mod Unit
 pub mod Cards
 pub mod Safe
+pub mod Side

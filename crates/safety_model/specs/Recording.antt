@@ -1,7 +1,6 @@
 -- A run as it is told: the images at its start, its trace, and its log (profile).
 use Rattle.std.specs.Prelude.{◌≡◌, ◌⊎◌, ℕ, Option, Some, None, List, [], ◌∷◌, ◌++◌, Contains}
 use Rattle.activity_codec.specs.declared.entries.Entry.{Entry}
-use Rattle.card_layout.specs.declared.files.Fid.{Fid}
 use Rattle.trace_model.specs.declared.Card.{Card}
 use Rattle.trace_model.specs.declared.Card.TheVariants.{A, B}
 use Rattle.trace_model.specs.Trace.{TraceSecond}
@@ -11,16 +10,8 @@ use Rattle.log_model.specs.Course.{Told, went}
 use Rattle.history_model.specs.Minutes.{HistoryMinute}
 use Rattle.history_model.specs.Presence.{Start, CardStart, expected_entries}
 use Rattle.history_model.specs.History.{unit_history, with_lost}
-use Rattle.joint_rule.specs.Views.{UnitView, CardView, Held, unit_view, owed, beyond}
-
--- how a card's image is read: what it shows, its number, the first file that fails and the place in it, and the time that it
--- stores; and which entries its string keeps, where it began as an image
-pub record CardReading : Type 1 where
-  pub view : List ℕ → CardView
-  pub number : List ℕ → List ℕ
-  pub first_bad : List ℕ → Option (Fid × ℕ)
-  pub stored : List ℕ → ℕ
-  pub Keeps : List ℕ → List Entry → Held → Type 0
+use Rattle.card_image.specs.Own.{own_view, own_number}
+use Rattle.joint_rule.specs.Views.{UnitView, unit_view, owed, beyond}
 
 -- a run: the rule of minutes, the images that a read gives at the end of the opening, the seconds of the trace, and the log
 pub record Recording : Type 0 where
@@ -40,18 +31,18 @@ card_image r B = r.card_b
 abbrev pub told_of : Recording → List Told
 told_of r = (went r.log r.trace).told
 
-module _ (cards : CardReading) (r : Recording) where
+module _ (r : Recording) where
   -- a unit's image as the run sees it
   abbrev pub unit_seen : List ℕ → UnitView
-  unit_seen x = unit_view (cards.number r.card_a) (cards.number r.card_b) x
+  unit_seen x = unit_view (own_number r.card_a) (own_number r.card_b) x
 
   -- what a card brings
   abbrev pub brought : Card → CardStart
   brought c = record {
-    entries = (cards.view (card_image r c)).held.entries;
-    owed = owed c (unit_seen r.unit) (cards.view (card_image r c));
-    mark = (cards.view (card_image r c)).mark;
-    word = beyond (cards.view (card_image r c));
+    entries = (own_view (card_image r c)).held.entries;
+    owed = owed c (unit_seen r.unit) (own_view (card_image r c));
+    mark = (own_view (card_image r c)).mark;
+    word = beyond (own_view (card_image r c));
   }
 
   -- what both bring

@@ -13,8 +13,9 @@ use Rattle.log_model.specs.declared.lines.Verdict.{Verdict}
 use Rattle.log_model.specs.declared.lines.Verdict.TheVariants.{Accepted, NotValid, TimeOverlap}
 use Rattle.log_model.specs.Causes.{HasCauses}
 use Rattle.history_model.specs.Completeness.{IsComplete}
+use Rattle.card_image.specs.Own.{own_view, own_number, own_bad_file, IsOwnValid}
 use Rattle.joint_rule.specs.Views.{owed}
-use Rattle.safety_model.specs.Recording.{CardReading, Recording, card_image, told_of, start_of, history_of, lost_of, unit_seen}
+use Rattle.safety_model.specs.Recording.{Recording, card_image, told_of, start_of, history_of, lost_of, unit_seen}
 use Rattle.safety_model.specs.Unit.{UnitSafe}
 use Rattle.safety_model.specs.Cards.{CardSafe, Agree}
 
@@ -40,37 +41,37 @@ abbrev pub first_of : {X : Type 0} → List X → Option X
 first_of [] = None
 first_of (x ∷ xs) = Some x
 
-module _ (cards : CardReading) (r : Recording) where
+module _ (r : Recording) where
   -- What may be found of a card in a second, by its image at the start. It is not valid, and that is the first file that fails;
   -- or the second is earlier than the time that it stores; or else it is accepted, and so many entries are brought as some images owed to it.
   abbrev pub IsVerdict : (unit card : List ℕ → Type 0) → Card → ℕ → Verdict → Type 0
   IsVerdict unit card c u (Accepted replayed) =
-      (cards.first_bad (card_image r c) ≡ None) × (cards.stored (card_image r c) ≤ u)
-      × ((i x : List ℕ) × unit i × card x × (length (owed c (unit_seen cards r i) (cards.view x)) ≡ replayed))
-  IsVerdict unit card c u (NotValid fid place) = cards.first_bad (card_image r c) ≡ Some (fid, place)
+      IsOwnValid (card_image r c) × ((own_view (card_image r c)).stored ≤ u)
+      × ((i x : List ℕ) × unit i × card x × (length (owed c (unit_seen r i) (own_view x)) ≡ replayed))
+  IsVerdict unit card c u (NotValid fid place) = own_bad_file (card_image r c) ≡ Some (fid, place)
   IsVerdict unit card c u (TimeOverlap stored now) =
-      (cards.first_bad (card_image r c) ≡ None) × (stored ≡ cards.stored (card_image r c)) × (now ≡ u) × (u < stored)
+      IsOwnValid (card_image r c) × (stored ≡ (own_view (card_image r c)).stored) × (now ≡ u) × (u < stored)
 
   -- THE CRASH-SAFETY THEOREM: `began` are the devices at the end of the opening, `now` those at the end of the run
   pub record IsSafe (marks : List Mark) (began now : Devices) : Type 0 where
-    pub unit : UnitSafe (recorded r.unit) (history_of cards r) (lost_of cards r) marks began.unit.clock now.unit
-    pub card : (c : Card) → CardSafe cards r c marks (card_of began c).clock (card_of now c)
-    pub both : (c : Card) (u x : List ℕ) → cards.first_bad (card_image r c) ≡ None → now.unit.may_leave u →
-        (card_of now c).may_leave x → Agree cards r c u x
+    pub unit : UnitSafe (recorded r.unit) (history_of r) (lost_of r) marks began.unit.clock now.unit
+    pub card : (c : Card) → CardSafe r c marks (card_of began c).clock (card_of now c)
+    pub both : (c : Card) (u x : List ℕ) → IsOwnValid (card_image r c) → now.unit.may_leave u →
+        (card_of now c).may_leave x → Agree r c u x
 
   -- CAUSES: each line of the log has its cause, and what happened has its line
   pub record IsCaused (marks : List Mark) (began now : Devices) : Type 0 where
     pub causes : HasCauses
         (λ c u v. IsVerdict (now.unit.left_since began.unit.clock) ((card_of now c).left_since (card_of began c).clock) c u v)
         (breakdowns_of began) (breakdowns_of now) r.trace r.log
-    pub complete : IsComplete r.rule (start_of cards r) r.log (told_of r) marks
+    pub complete : IsComplete r.rule (start_of r) r.log (told_of r) marks
 
   -- a run begins where the unit's image decodes, the trace's first second lies in a later minute than the last-kept one, and
   -- the cards that are valid have two numbers
   pub record MayBegin : Type 0 where
     pub decodes : Decodes r.unit
     pub clock : (s : TraceSecond) → first_of r.trace ≡ Some s → last_kept r.unit < s.number / 60
-    pub numbers : cards.first_bad r.card_a ≡ None → cards.first_bad r.card_b ≡ None → cards.number r.card_a ≢ cards.number r.card_b
+    pub numbers : IsOwnValid r.card_a → IsOwnValid r.card_b → own_number r.card_a ≢ own_number r.card_b
 
   -- it does not where the unit's image fails, first at this place
   abbrev pub IsBadUnit : ℕ → Type 0
@@ -87,6 +88,6 @@ module _ (cards : CardReading) (r : Recording) where
   pub record IsSameCard (number : List ℕ) : Type 0 where
     pub decodes : Decodes r.unit
     pub clock : (s : TraceSecond) → first_of r.trace ≡ Some s → last_kept r.unit < s.number / 60
-    pub valid_a : cards.first_bad r.card_a ≡ None
-    pub valid_b : cards.first_bad r.card_b ≡ None
-    pub one : (cards.number r.card_a ≡ number) × (cards.number r.card_b ≡ number)
+    pub valid_a : IsOwnValid r.card_a
+    pub valid_b : IsOwnValid r.card_b
+    pub one : (own_number r.card_a ≡ number) × (own_number r.card_b ≡ number)

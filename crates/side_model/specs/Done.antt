@@ -1,0 +1,59 @@
+-- What was done in each second of a run, beside its course: the actions that were carried out, each with the slots before and after
+-- it, and the slots behind the power-on and of the second itself, behind its actions (profile).
+use Rattle.std.specs.Prelude.{ℕ, ◌+◌, Bool, true, not, ◌&&◌, List, [], ◌∷◌, ◌++◌, is_some, nat_eq, if◌then◌else◌}
+use Rattle.std.specs.List.{list_any}
+use Rattle.trace_model.specs.declared.Action.{Action}
+use Rattle.trace_model.specs.Trace.{TraceSecond}
+use Rattle.log_model.specs.Log.{RunLog, In, cut_in}
+use Rattle.log_model.specs.Slots.{Slots, refusal}
+use Rattle.log_model.specs.Course.{Course, Told, Before, begins, acted, all_acted, both_told, unmoved, fresh, has_power, second_told, before_next, not_begun}
+use Rattle.log_model.specs.Causes.{cuts, second_of}
+
+-- an action that was carried out: how many of its second came before it, and the slots before and after it
+pub record CarriedOut : Type 0 where
+  pub before : ℕ
+  pub action : Action
+  pub slots : Slots
+  pub after : Slots
+
+-- those of these actions that had begun and were not refused, with n before them
+abbrev pub carried_from : RunLog → TraceSecond → ℕ → List Action → Course → List CarriedOut
+carried_from log s n [] c = []
+carried_from log s n (a ∷ actions) c =
+    (if begins (cut_in log s.number) n && not (is_some (refusal c.slots s.speed a)) then record { before = n; action = a; slots = c.slots; after = (acted log s n a c).slots } ∷ [] else [])
+    ++ carried_from log s (n + 1) actions (acted log s n a c)
+
+-- a second of a run
+pub record Done : Type 0 where
+  pub told : Told
+  pub powered : Slots
+  pub carried : List CarriedOut
+  pub itself : Slots
+
+-- the course of a second with power up to its actions: the power-on, if it is one
+abbrev pub course_powered : RunLog → Before → TraceSecond → Course
+course_powered log before s = both_told log s.number (In 0) (unmoved (not before.running)) (fresh (not before.running) before.slots)
+
+abbrev pub done_by : RunLog → Before → TraceSecond → Done
+done_by log before s =
+    if has_power before s
+    then record {
+      told = second_told log before s;
+      powered = (course_powered log before s).slots;
+      carried = carried_from log s 0 s.actions (course_powered log before s);
+      itself = (all_acted log s 0 s.actions (course_powered log before s)).slots;
+    }
+    else record { told = second_told log before s; powered = before.slots; carried = []; itself = before.slots }
+
+-- these seconds one after another, behind others
+abbrev pub done_from : RunLog → Before → List TraceSecond → List Done
+done_from log before [] = []
+done_from log before (s ∷ ss) = done_by log before s ∷ done_from log (before_next before (second_told log before s)) ss
+
+-- the seconds of a run
+unfoldable pub done_of : RunLog → List TraceSecond → List Done
+done_of log ss = done_from log not_begun.before ss
+
+-- a call on the unit failed in a second
+abbrev pub has_failed_in : RunLog → ℕ → Bool
+has_failed_in log u = list_any (λ b. nat_eq (second_of b) u) (cuts true log)

@@ -1,0 +1,6 @@
+pub mod Done
+pub mod Odometer
+pub mod Noted
+pub mod Rings
+pub mod Events
+pub mod Tables

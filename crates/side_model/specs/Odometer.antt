@@ -1,0 +1,73 @@
+-- The odometer of a run (profile): what was stored at a power-on, and the speeds since.
+use Rattle.std.specs.Prelude.{◌≡◌, ◌⊎◌, ℕ, ◌+◌, ◌*◌, ◌/◌, min, Bool, Option, Some, None, List, [], ◌∷◌, ◌++◌, map, filter, sum, Contains, nat_eq, nat_lt, if◌then◌else◌}
+use Rattle.std.specs.List.{list_any}
+use Rattle.minute_model.specs.declared.Rule.{Rule}
+use Rattle.minute_model.specs.declared.Minute.{Minute}
+use Rattle.minute_model.specs.Activity.{last}
+use Rattle.unit_model.specs.declared.layout.TheConstants.{HIGHEST_ODOMETER}
+use Rattle.log_model.specs.Log.{RunLog, kept_after}
+use Rattle.log_model.specs.Course.{Told}
+use Rattle.log_model.specs.Spans.{spans_of, seconds_in}
+use Rattle.history_model.specs.History.{settlings_of, decided_of, cut_second}
+use Rattle.history_model.specs.Completeness.{deciding_of}
+
+-- a power span, and the odometer that was stored when it began, in kilometres
+pub record SpanFrom : Type 0 where
+  pub base : ℕ
+  pub span : List Told
+
+-- the kilometres of a span before a second: its speeds in km/h, each for a second
+abbrev pub driven_before : ℕ → List Told → ℕ
+driven_before u span = sum (map (λ s. s.speed) (filter (λ s. nat_lt s.number u) (seconds_in span))) / 3600
+
+-- the odometer before a second; it stays at the highest value
+abbrev pub odometer_before : ℕ → SpanFrom → ℕ
+odometer_before u s = min HIGHEST_ODOMETER (s.base + driven_before u s.span)
+
+-- the odometer at the end of a minute
+abbrev pub odometer_after : (minute : ℕ) → SpanFrom → ℕ
+odometer_after m s = odometer_before (60 * (m + 1)) s
+
+-- a second lies in the span
+abbrev pub has_second : ℕ → SpanFrom → Bool
+has_second u s = list_any (λ t. nat_eq t.second.number u) s.span
+
+-- the odometer before a second, by the span that it lies in
+abbrev pub odometer_at : ℕ → List SpanFrom → ℕ
+odometer_at u [] = 0
+odometer_at u (s ∷ spans) = if has_second u s then odometer_before u s else odometer_at u spans
+
+-- the minute was being kept in the second of the cut that ended the span
+abbrev pub IsBeingKept : Rule → List Told → ℕ → Type 0
+IsBeingKept rule span m = cut_second (last span) ≡ Some (deciding_of rule (settlings_of span) m)
+
+-- What a unit stores whose last-kept minute is this, after these spans: the start's odometer where it kept no minute since; that of
+-- its last-kept minute; or that of a minute that a cut's second was keeping.
+pub data MayStore (rule : Rule) (start start_kept : ℕ) (spans : List SpanFrom) (kept : ℕ) : ℕ → Type 0 where
+  OfStart : kept ≡ start_kept → MayStore rule start start_kept spans kept start
+  OfKept : (s : SpanFrom) (d : Minute) → Contains spans s → Contains (decided_of rule s.span) d → d.minute ≡ kept →
+      MayStore rule start start_kept spans kept (odometer_after d.minute s)
+  OfCut : (s : SpanFrom) (d : Minute) → Contains spans s → Contains (decided_of rule s.span) d → IsBeingKept rule s.span d.minute →
+      MayStore rule start start_kept spans kept (odometer_after d.minute s)
+
+-- what was found kept after the last of these spans; at first what was kept at the start
+abbrev pub found_kept : RunLog → (start_kept : ℕ) → Option Told → ℕ
+found_kept log start_kept None = start_kept
+found_kept log start_kept (Some t) = kept_after log t.second.number
+
+abbrev pub last_second : List SpanFrom → Option Told
+last_second [] = None
+last_second (s ∷ []) = last s.span
+last_second (s ∷ next ∷ spans) = last_second (next ∷ spans)
+
+-- each of these spans, behind the others, begins with what the unit may store then; the first with the start's odometer
+abbrev pub HaveBases : Rule → RunLog → (start start_kept : ℕ) → (earlier spans : List SpanFrom) → Type 0
+HaveBases rule log start start_kept earlier [] = Unit {0}
+HaveBases rule log start start_kept earlier (s ∷ spans) =
+    MayStore rule start start_kept earlier (found_kept log start_kept (last_second earlier)) s.base
+    × HaveBases rule log start start_kept (earlier ++ s ∷ []) spans
+
+-- the power spans of a run, each with the odometer that it began with
+pub record AreSpansFrom (rule : Rule) (log : RunLog) (told : List Told) (start start_kept : ℕ) (spans : List SpanFrom) : Type 0 where
+  pub spans_are : map (λ s. s.span) spans ≡ spans_of told
+  pub bases : HaveBases rule log start start_kept [] spans
