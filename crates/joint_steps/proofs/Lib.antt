@@ -1,0 +1,4 @@
+pub mod Keeping
+pub mod Beginning
+pub mod Cells
+pub mod Putting

@@ -1,0 +1,57 @@
+ghost use Rattle.std.specs.Prelude.{◌≡◌, ◌≢◌, ◌<◌, ◌≤◌, ℕ, List, Some, All};
+ghost use Rattle.activity_codec.specs.declared.entries.Entry.{Entry};
+ghost use Rattle.trace_model.specs.declared.Card.TheVariants.{A, B};
+ghost use Rattle.unit_model.specs.Image.{day_ring};
+ghost use Rattle.gated_ring.specs.Ring.{PointsInside};
+ghost use Rattle.history_model.specs.Minutes.{HistoryMinute};
+ghost use Rattle.owed_model.specs.Owed.{row_view};
+ghost use Rattle.owed_model.specs.Rows.{IsPutting as IsPuttingRow, IsPut as IsPutRow, IsRowBeginning, IsRowBegun, HasRow};
+ghost use Rattle.unit_journal.specs.Image.{IsKeeping as IsKeepingImage};
+ghost use Rattle.joint_rule.specs.Views.{unit_view};
+ghost use Rattle.joint_rule.specs.Steps.{IsKeeping, IsPutting, IsPut, IsBeginning, IsBegun, cleared};
+ghost use Rattle.joint_rule.specs.Filling.{seen_by_unit, KeepsMinute, GivesUpDay};
+
+/// A moment of the keeping of a minute of the history is one of the rule's keeping: the minute kept, or not yet, with the oldest
+/// day given up for it or not.
+pub fn a_keeping_is_seen()
+    ensures { (a b : List ℕ) (i : HistoryMinute) (odometer : ℕ) (x c : List ℕ) →
+        IsKeepingImage (seen_by_unit i) odometer x c →
+        IsKeeping KeepsMinute GivesUpDay i (unit_view a b x) (unit_view a b c) }
+{}
+
+/// A moment of the beginning of a card's row, which spares the other card's, is one of the rule's beginning.
+pub fn a_row_beginning_is_seen()
+    ensures first { (a b : List ℕ) (session : ℕ) (x c : List ℕ) → a ≢ b → PointsInside day_ring x →
+        IsRowBeginning a session (Some b) x c → IsBeginning A (unit_view a b x) (unit_view a b c) }
+    ensures second { (a b : List ℕ) (session : ℕ) (x c : List ℕ) → a ≢ b → PointsInside day_ring x →
+        IsRowBeginning b session (Some a) x c → IsBeginning B (unit_view a b x) (unit_view a b c) }
+{}
+
+/// At its end the row has this session, and no cell.
+pub fn a_row_is_begun()
+    ensures first { (a b : List ℕ) (session : ℕ) (x c : List ℕ) → a ≢ b → PointsInside day_ring x →
+        IsRowBegun a session (Some b) x c → IsBegun A session (unit_view a b x) (unit_view a b c) }
+    ensures second { (a b : List ℕ) (session : ℕ) (x c : List ℕ) → a ≢ b → PointsInside day_ring x →
+        IsRowBegun b session (Some a) x c → IsBegun B session (unit_view a b x) (unit_view a b c) }
+{}
+
+/// A moment of the putting of an entry that is later than the row's others is one of the rule's putting: as it was, without the
+/// cell of its place, or with the entry behind the others.
+pub fn a_putting_is_seen()
+    ensures first { (a b : List ℕ) (e : Entry) (x c : List ℕ) → a ≢ b → PointsInside day_ring x → 1440 ≤ e.minute →
+        All (λ d. d.minute < e.minute) (cleared e (row_view a x)).cells →
+        IsPuttingRow a e x c → IsPutting A e (unit_view a b x) (unit_view a b c) }
+    ensures second { (a b : List ℕ) (e : Entry) (x c : List ℕ) → a ≢ b → PointsInside day_ring x → 1440 ≤ e.minute →
+        All (λ d. d.minute < e.minute) (cleared e (row_view b x)).cells →
+        IsPuttingRow b e x c → IsPutting B e (unit_view a b x) (unit_view a b c) }
+{}
+
+/// At its end, where the card's number has a row, the entry stands in it behind the others.
+pub fn an_entry_is_put()
+    ensures first { (a b : List ℕ) (e : Entry) (x c : List ℕ) → a ≢ b → PointsInside day_ring x → 1440 ≤ e.minute →
+        All (λ d. d.minute < e.minute) (cleared e (row_view a x)).cells →
+        HasRow a x → IsPutRow a e x c → IsPut A e (unit_view a b x) (unit_view a b c) }
+    ensures second { (a b : List ℕ) (e : Entry) (x c : List ℕ) → a ≢ b → PointsInside day_ring x → 1440 ≤ e.minute →
+        All (λ d. d.minute < e.minute) (cleared e (row_view b x)).cells →
+        HasRow b x → IsPutRow b e x c → IsPut B e (unit_view a b x) (unit_view a b c) }
+{}
