@@ -1,3 +1,4 @@
 pub mod Showing
 pub mod Answering
+pub mod Reading
 pub mod Rows

@@ -89,7 +89,7 @@ event_bytes m =
     ∷ counted 1 m.overs ∷ counted 1 m.adjustments ∷ m.signature ∷ [])
 
 abbrev pub speed_bytes : SpeedMessage → List ℕ
-speed_bytes m = counted 2 m.blocks ++ m.signature
+speed_bytes m = joined (counted 2 m.blocks ∷ m.signature ∷ [])
 
 abbrev pub technical_bytes : TechnicalMessage → List ℕ
 technical_bytes m = joined (m.identification ∷ m.sensor ∷ counted 1 m.calibrations ∷ m.signature ∷ [])

@@ -1,8 +1,8 @@
-ghost use Rattle.std.specs.Prelude.{◌≡◌, ℕ, ◌+◌, Bool, false, Option, option_to_list, List, ◌∷◌, flat_map};
+ghost use Rattle.std.specs.Prelude.{◌≡◌, ℕ, ◌+◌, false, option_to_list, List, ◌∷◌, ◌++◌, flat_map};
 ghost use Rattle.std.specs.List.{concat};
 ghost use Rattle.link_model.specs.Answers.{cuts, has_piece};
 ghost use Rattle.unit_model.specs.Image.{unit_minutes};
-ghost use Rattle.message_model.specs.Messages.{Message, number_of, content_of, message_bytes};
+ghost use Rattle.message_model.specs.Messages.{Message, IsMessage, number_of, content_of, message_bytes};
 ghost use Rattle.message_model.specs.Sending.{sent_days, Follow, requests_of, message_of, messages_of};
 ghost use Rattle.message_model.specs.Showing.{minutes_in};
 
@@ -21,4 +21,10 @@ pub fn a_file_answers_the_requests()
 pub fn pieces_are_the_message()
     ensures { (m : Message) (last : ℕ) → has_piece (content_of m) (last + 1) ≡ false →
         0x76 ∷ number_of m ∷ concat (cuts (content_of m) last) ≡ message_bytes m }
+{}
+
+/// The bytes of a message of the grammar, with whatever follows them, tell it in one way.
+pub fn a_message_is_read_in_one_way()
+    ensures { (m n : Message) (rest more : List ℕ) → IsMessage m → IsMessage n →
+        message_bytes m ++ rest ≡ message_bytes n ++ more → (m ≡ n) × (rest ≡ more) }
 {}
