@@ -1,5 +1,5 @@
 -- The newest minute of a card, by its end mark and its last entry; and the entries of the days that count.
-use Rattle.std.proofs.Common.{◌≡◌, ◌⊎◌, ⊎_elim, ℕ, suc, ◌+◌, ◌*◌, ◌/◌, ◌%◌, ◌<◌, ◌≤◌, max, Bool, true, false, cond, Option, List, [], ◌∷◌, refl, sym, ◌∙◌, ap, subst, arith}
+use Rattle.std.proofs.Common.{◌≡◌, ℕ, ◌+◌, ◌/◌, ◌%◌, ◌<◌, ◌≤◌, max, Bool, true, false, cond, List, [], ◌∷◌, refl, ◌∙◌, ap, arith}
 use Rattle.std.specs.Prelude.{nat_eq}
 use Rattle.std.proofs.lemmas.Bool.Decides.{nat_tests}
 use Rattle.std.proofs.Math.Nat.{max-eq_left}
@@ -15,7 +15,7 @@ use Rattle.card_retention.proofs.Checked.{early_last}
 use Rattle.card_retention.proofs.Newest.{newest_law}
 use Rattle.card_retention.proofs.ListTrims.{words_ascend, last_below, entries_trimmed, ends_flat}
 use Rattle.card_image.specs.Fields.{card_days}
-use Rattle.card_image.specs.View.{CardView, counting, card_view}
+use Rattle.card_image.specs.View.{counting, card_view}
 
 words_below : (ws : List ℕ) → AreWords ws → word_minute (last_word ws) < 1440
 words_below [] are = absurd are

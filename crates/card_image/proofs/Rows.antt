@@ -1,6 +1,5 @@
 -- Worked rows of a card: what it shows, and where it is not valid.
 use Rattle.std.proofs.Common.{◌≡◌, ◌+◌, ◌*◌, ℕ, List, [], ◌∷◌, Some, None, length, map, refl, replicate}
-use Rattle.card_layout.specs.declared.files.Application.{Application}
 use Rattle.card_model.specs.Days.{Day}
 use Rattle.card_model.specs.Checks.{first_failing}
 use Rattle.card_retention.specs.Entries.{day_entries}

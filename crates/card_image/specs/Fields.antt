@@ -1,5 +1,5 @@
 -- Where a card of given sizes keeps its days, vehicles, places and session, and what these fields say.
-use Rattle.std.specs.Prelude.{ℕ, ◌+◌, ◌*◌, ◌/◌, Option, Some, None, List, [], ◌∷◌, ◌++◌, take}
+use Rattle.std.specs.Prelude.{ℕ, ◌/◌, Option, Some, None, List, [], ◌∷◌, ◌++◌, take}
 use Rattle.byte_fields.specs.Fields.{total_width}
 use Rattle.card_layout.specs.declared.files.Application.{Application}
 use Rattle.card_layout.specs.declared.files.Fid.{Fid}

@@ -1,11 +1,9 @@
 -- Whether a card is valid: the checks of an insertion in their order, each with its file and its place in the file.
-use Rattle.std.specs.Prelude.{◌≡◌, ℕ, suc, ◌+◌, ◌*◌, ◌/◌, Bool, true, false, not, ◌&&◌, Option, Some, None, option_map, List, [], ◌∷◌, ◌++◌, map, filter, nat_eq, nat_lt, nat_le, if◌then◌else◌}
+use Rattle.std.specs.Prelude.{◌≡◌, ℕ, suc, ◌+◌, ◌/◌, Bool, false, not, ◌&&◌, Option, Some, None, option_map, List, [], ◌∷◌, ◌++◌, map, filter, nat_eq, nat_lt, nat_le, if◌then◌else◌}
 use Rattle.activity_codec.specs.Words.{word_absent, word_minute}
 use Rattle.card_layout.specs.declared.files.Application.{Application}
 use Rattle.card_layout.specs.declared.files.Fid.{Fid}
 use Rattle.card_layout.specs.Application.{first_bad_field, place_of_field}
-use Rattle.card_layout.specs.Files.{place_of, size_of}
-use Rattle.tach_media.specs.Medium.{bytes_at}
 use Rattle.card_model.specs.Days.{Day, len_of}
 use Rattle.card_model.specs.Changes.{date_of, trimmed}
 use Rattle.card_model.specs.Image.{oldest_pointer}

@@ -7,7 +7,6 @@ use Rattle.card_layout.specs.Application.{application_in, application_of}
 use Rattle.card_retention.specs.Expected.{WordDay, Counted, counted, expected_days}
 use Rattle.card_retention.specs.Entries.{last_entry, newest_word}
 use Rattle.card_retention.specs.Retains.{CardRetains}
-use Rattle.card_model.specs.Changes.{trimmed}
 use Rattle.card_image.specs.Fields.{card_days, card_number, end_mark, session_time}
 use Rattle.card_image.specs.View.{Held, CardView, card_view, counting}
 use Rattle.card_image.specs.Judging.{first_bad_file}

@@ -7,6 +7,6 @@
 mod laws;
 
 pub use laws::{
-    a_session_is_alone, a_write_beside_is_not_seen, newest_is_behind_the_entries, the_last_entry_is_the_mark,
-    vehicles_move_the_mark,
+    a_session_is_alone, a_write_beside_is_not_seen, newest_is_behind_the_entries,
+    the_last_entry_is_the_mark, vehicles_move_the_mark,
 };

@@ -1,15 +1,15 @@
 -- What a card's image brings: its newest minute is that of its end mark and its last entry, and no entry is later than the mark.
-use Rattle.std.proofs.Common.{◌≡◌, ℕ, zero, suc, ◌<◌, ◌≤◌, max, Option, Some, None, List, [], ◌∷◌, All, refl, sym, ◌∙◌, ap, subst, arith}
+use Rattle.std.proofs.Common.{◌≡◌, ℕ, zero, suc, ◌≤◌, max, Option, Some, None, List, [], ◌∷◌, All, refl, sym, ◌∙◌, ap, arith}
 use Rattle.std.proofs.Math.Nat.{le-max_left}
 use Rattle.activity_codec.specs.declared.entries.Entry.{Entry}
 use Rattle.minute_model.specs.Activity.{last}
 use Rattle.card_layout.specs.declared.files.Application.{Application}
-use Rattle.card_model.specs.Days.{Day, AreDays}
+use Rattle.card_model.specs.Days.{AreDays}
 use Rattle.card_retention.specs.Shown.{AllUpTo}
 use Rattle.card_retention.specs.Entries.{last_entry, entries_up_to, closed_at as closed_on_card}
 use Rattle.card_retention.proofs.Starting.{entries_by}
 use Rattle.card_image.specs.Fields.{card_days}
-use Rattle.card_image.specs.View.{CardView, card_view}
+use Rattle.card_image.specs.View.{card_view}
 use Rattle.card_image.proofs.Newest.{newest_of_entries}
 use Rattle.history_model.specs.Presence.{CardStart, closed_at, trimmed_by, newest_by}
 use Rattle.joint_rule.specs.Views.{beyond}

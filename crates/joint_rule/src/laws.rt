@@ -41,6 +41,6 @@ pub fn a_card_brings_its_newest_minute()
         ((card_view app x).newest ≡ trimmed_by start (card_view app x).held.entries)
         × ((card_view app x).mark ≤ (card_view app x).newest)
         × (start.word ≡ beyond (card_view app x) →
-            max (beyond (card_view app x)) (card_view app x).newest ≡ newest_by start (card_view app x).held.entries)
+        max (beyond (card_view app x)) (card_view app x).newest ≡ newest_by start (card_view app x).held.entries)
         × All (λ e. e.minute ≤ (card_view app x).mark) (card_view app x).held.entries }
 {}
