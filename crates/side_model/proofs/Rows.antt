@@ -1,8 +1,8 @@
 -- Worked rows of the auxiliary records: a short drive with a card, and a run with a cut.
-use Rattle.std.proofs.Common.{◌≡◌, ℕ, ◌+◌, Bool, true, false, Option, None, Some, List, [], ◌∷◌, map, refl}
-use Rattle.activity_codec.specs.declared.values.Slot.TheVariants.{Driver, CoDriver}
+use Rattle.std.proofs.Common.{◌≡◌, ℕ, true, false, Option, None, Some, List, [], ◌∷◌, map, refl}
+use Rattle.activity_codec.specs.declared.values.Slot.TheVariants.{Driver}
 use Rattle.trace_model.specs.declared.Card.{Card}
-use Rattle.trace_model.specs.declared.Card.TheVariants.{A, B}
+use Rattle.trace_model.specs.declared.Card.TheVariants.{A}
 use Rattle.trace_model.specs.declared.Action.{Action}
 use Rattle.trace_model.specs.declared.Action.TheVariants.{Insert, Withdraw, Place}
 use Rattle.trace_model.specs.Trace.{TraceSecond}
@@ -14,7 +14,7 @@ use Rattle.log_model.specs.Log.{RunLog, cut_in, is_torn_in, found_in, kept_after
 use Rattle.log_model.specs.Spans.{spans_of}
 use Rattle.event_model.specs.Spans.{overs_of, bares_of}
 use Rattle.side_model.specs.Done.{done_of, has_failed_in}
-use Rattle.side_model.specs.Noted.{Note, Accepts, Withdraws, Enters, notes_of, insertions_of, places_of}
+use Rattle.side_model.specs.Noted.{Accepts, Withdraws, Enters, notes_of, insertions_of}
 use Rattle.side_model.specs.Events.{Event, events_of}
 
 -- a second with power

@@ -35,15 +35,12 @@ abbrev pub course_powered : RunLog → Before → TraceSecond → Course
 course_powered log before s = both_told log s.number (In 0) (unmoved (not before.running)) (fresh (not before.running) before.slots)
 
 abbrev pub done_by : RunLog → Before → TraceSecond → Done
-done_by log before s =
-    if has_power before s
-    then record {
-      told = second_told log before s;
-      powered = (course_powered log before s).slots;
-      carried = carried_from log s 0 s.actions (course_powered log before s);
-      itself = (all_acted log s 0 s.actions (course_powered log before s)).slots;
-    }
-    else record { told = second_told log before s; powered = before.slots; carried = []; itself = before.slots }
+done_by log before s = record {
+  told = second_told log before s;
+  powered = if has_power before s then (course_powered log before s).slots else before.slots;
+  carried = if has_power before s then carried_from log s 0 s.actions (course_powered log before s) else [];
+  itself = if has_power before s then (all_acted log s 0 s.actions (course_powered log before s)).slots else before.slots;
+}
 
 -- these seconds one after another, behind others
 abbrev pub done_from : RunLog → Before → List TraceSecond → List Done

@@ -9,7 +9,7 @@ use Rattle.trace_model.specs.declared.Card.{Card}
 use Rattle.log_model.specs.declared.lines.Verdict.{Verdict}
 use Rattle.log_model.specs.declared.lines.Verdict.TheVariants.{Accepted, NotValid, TimeOverlap}
 use Rattle.log_model.specs.Log.{RunLog, Phase, In, Keeping, same_phase, kept_after}
-use Rattle.log_model.specs.Slots.{Sitting, Slots, in_slot, other_slot, is_accepted}
+use Rattle.log_model.specs.Slots.{Sitting, Slots, in_slot, other_slot}
 use Rattle.log_model.specs.Course.{Told, Visit}
 use Rattle.log_model.specs.Spans.{spans_of}
 use Rattle.event_model.specs.declared.kinds.TheConstants.{CARD_NOT_VALID, TIME_OVERLAP, DRIVING_WITHOUT_CARD, INSERTION_WHILE_DRIVING, OVER_SPEEDING, POWER_INTERRUPTION, CARD_FAULT}

@@ -1,16 +1,13 @@
 -- The insertions, withdrawals and places that a run notes on the unit (profile).
-use Rattle.std.specs.Prelude.{ℕ, suc, ◌+◌, Bool, true, false, not, ◌&&◌, Option, Some, None, List, [], ◌∷◌, ◌++◌, map, filter, flat_map, fold, is_some, if◌then◌else◌}
+use Rattle.std.specs.Prelude.{ℕ, ◌+◌, Bool, not, ◌&&◌, Option, Some, None, List, [], ◌∷◌, ◌++◌, map, filter, flat_map, fold, is_some, if◌then◌else◌}
 use Rattle.std.specs.List.{list_any}
 use Rattle.activity_codec.specs.declared.values.Slot.{Slot}
-use Rattle.activity_codec.specs.Activity.{same_slot}
 use Rattle.trace_model.specs.declared.Card.{Card}
 use Rattle.trace_model.specs.declared.Action.{Action}
 use Rattle.trace_model.specs.declared.Action.TheVariants.{Select, Insert, Withdraw, Tear, Place}
-use Rattle.log_model.specs.declared.lines.Verdict.{Verdict}
 use Rattle.log_model.specs.Log.{RunLog, Phase, In, same_phase, is_torn_in, is_accepting}
-use Rattle.log_model.specs.Slots.{Sitting, Slots, in_slot, same_card}
-use Rattle.log_model.specs.Course.{Visit}
-use Rattle.side_model.specs.Done.{CarriedOut, Done, done_of}
+use Rattle.log_model.specs.Slots.{Sitting, in_slot, same_card}
+use Rattle.side_model.specs.Done.{CarriedOut, Done}
 
 -- a card that was accepted
 pub record Acceptance : Type 0 where

@@ -1,5 +1,5 @@
 -- The odometer of a run (profile): what was stored at a power-on, and the speeds since.
-use Rattle.std.specs.Prelude.{◌≡◌, ◌⊎◌, ℕ, ◌+◌, ◌*◌, ◌/◌, min, Bool, Option, Some, None, List, [], ◌∷◌, ◌++◌, map, filter, sum, Contains, nat_eq, nat_lt, if◌then◌else◌}
+use Rattle.std.specs.Prelude.{◌≡◌, ℕ, ◌+◌, ◌*◌, ◌/◌, min, Bool, Option, Some, None, List, [], ◌∷◌, ◌++◌, map, filter, sum, Contains, nat_eq, nat_lt, if◌then◌else◌}
 use Rattle.std.specs.List.{list_any}
 use Rattle.minute_model.specs.declared.Rule.{Rule}
 use Rattle.minute_model.specs.declared.Minute.{Minute}

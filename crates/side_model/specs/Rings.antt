@@ -3,9 +3,9 @@ use Rattle.std.specs.Prelude.{◌≡◌, ◌⊎◌, ℕ, ◌+◌, ◌≤◌, Boo
 use Rattle.byte_fields.specs.Fields.{field_at, number_in}
 use Rattle.activity_codec.specs.Words.{slot_number}
 use Rattle.trace_model.specs.declared.Card.{Card}
-use Rattle.gated_ring.specs.Ring.{Shape, IsDense, ring_list}
+use Rattle.gated_ring.specs.Ring.{Shape, ring_list}
 use Rattle.log_model.specs.Log.{RunLog}
-use Rattle.message_model.specs.Records.{insertion_widths, place_widths, insertion_ring, unit_place_ring}
+use Rattle.message_model.specs.Records.{insertion_widths, place_widths}
 use Rattle.side_model.specs.Done.{has_failed_in}
 use Rattle.side_model.specs.Odometer.{SpanFrom, odometer_at}
 use Rattle.side_model.specs.Noted.{InsertionNote, PlaceNote}

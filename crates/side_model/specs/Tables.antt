@@ -6,11 +6,11 @@ use Rattle.byte_fields.specs.Fields.{field_at, number_in, total_width}
 use Rattle.trace_model.specs.declared.Card.{Card}
 use Rattle.gated_ring.specs.Ring.{Shape, entry_at}
 use Rattle.unit_model.specs.declared.layout.TheConstants.{EVENTS, OVERS, FAULTS}
-use Rattle.event_model.specs.declared.kinds.TheConstants.{CARD_NOT_VALID, TIME_OVERLAP, DRIVING_WITHOUT_CARD, INSERTION_WHILE_DRIVING, SESSION_NOT_CLOSED, OVER_SPEEDING, POWER_INTERRUPTION, CARD_FAULT, EVENT_PLACES}
+use Rattle.event_model.specs.declared.kinds.TheConstants.{CARD_NOT_VALID, TIME_OVERLAP, DRIVING_WITHOUT_CARD, INSERTION_WHILE_DRIVING, SESSION_NOT_CLOSED, OVER_SPEEDING, CARD_FAULT, EVENT_PLACES}
 use Rattle.event_model.specs.declared.entries.Held.{Held}
-use Rattle.event_model.specs.Kinds.{purpose_of, purpose_number, is_by_day, places_of}
+use Rattle.event_model.specs.Kinds.{purpose_of, purpose_number, places_of}
 use Rattle.event_model.specs.Places.{day_place, place_of, similar_after}
-use Rattle.side_model.specs.Events.{Drivers, Event}
+use Rattle.side_model.specs.Events.{Event}
 
 -- type, purpose, begin, end, card numbers of driver and co-driver at begin and at end, similar events; a fault has all but the last
 abbrev pub event_widths : List ℕ
