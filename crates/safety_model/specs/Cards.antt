@@ -1,5 +1,5 @@
 -- What a run promises of its cards, and of a unit and a card together (profile).
-use Rattle.std.specs.Prelude.{◌≡◌, ◌⊎◌, ℕ, ◌/◌, ◌≤◌, Bool, true, false, ◌&&◌, None, List, ◌++◌, All, Contains, length, filter, map, flat_map, nat_lt, nat_le, not}
+use Rattle.std.specs.Prelude.{◌≡◌, ◌⊎◌, ℕ, ◌/◌, ◌≤◌, Bool, true, false, ◌&&◌, List, ◌++◌, All, Contains, length, filter, map, flat_map, nat_lt, nat_le, not}
 use Rattle.std.specs.List.{list_any}
 use Rattle.activity_codec.specs.declared.entries.Entry.{Entry}
 use Rattle.activity_codec.specs.declared.values.Slot.{Slot}
