@@ -1,18 +1,17 @@
 -- A moment of the beginning of a row, as the image says it, is one of the rule's beginning.
-use Rattle.std.proofs.Common.{◌≡◌, ◌≢◌, ◌⊎◌, inl, inr, ℕ, ◌+◌, ◌≤◌, List, Option, Some, None, map, refl, sym, ◌∙◌, ap, arith}
+use Rattle.std.proofs.Common.{◌≡◌, ◌≢◌, inl, ℕ, List, Some, map, refl, sym, ◌∙◌, ap, arith}
 use Rattle.tach_media.specs.Medium.{SameOutside}
 use Rattle.gated_ring.specs.Ring.{IsShape, PointsInside}
 use Rattle.gated_ring.proofs.Elsewhere.{ring_outside, list_elsewhere}
 use Rattle.byte_fields.proofs.Spelled.{number_before}
-use Rattle.unit_model.specs.Days.{StoredDay, Day, days_shown}
+use Rattle.unit_model.specs.Days.{days_shown}
 use Rattle.unit_model.specs.Image.{day_ring, last_kept, unit_day, unit_days, recorded}
-use Rattle.owed_model.specs.Owed.{row_view, row_of}
-use Rattle.owed_model.specs.Rows.{begun_index, IsRowBeginning, IsRowBegun}
+use Rattle.owed_model.specs.Rows.{IsRowBeginning, IsRowBegun}
 use Rattle.owed_model.proofs.Laws.{view_by_row, begun_view}
 use Rattle.owed_model.proofs.Taking.{begun_is}
 use Rattle.owed_model.specs.Owed.{rows_in}
 use Rattle.trace_model.specs.declared.Card.TheVariants.{A, B}
-use Rattle.joint_rule.specs.Views.{UnitView, unit_view}
+use Rattle.joint_rule.specs.Views.{unit_view}
 use Rattle.joint_rule.specs.Steps.{IsBeginning, IsBegun}
 
 day_shape : IsShape day_ring

@@ -1,10 +1,10 @@
 -- The cells of a row as an entry is put into it: those of other places stay, and the entry comes behind earlier ones.
-use Rattle.std.proofs.Common.{◌≡◌, inl, inr, ⊎_elim, ℕ, zero, suc, ◌+◌, ◌%◌, ◌<◌, ◌≤◌, Bool, true, false, cond, not, ◌&&◌, List, [], ◌∷◌, ◌++◌, length, filter, fold, All, refl, ap, sym, subst, ◌∙◌, arith}
+use Rattle.std.proofs.Common.{◌≡◌, ⊎_elim, ℕ, zero, suc, ◌+◌, ◌%◌, ◌<◌, ◌≤◌, Bool, true, false, cond, not, ◌&&◌, List, [], ◌∷◌, ◌++◌, length, filter, fold, All, refl, ap, sym, subst, ◌∙◌, arith}
 use Rattle.std.specs.Prelude.{◌==◌, nat_eq, nat_le, slice_set}
 use Rattle.std.proofs.lemmas.Bool.{cases_lt}
 use Rattle.std.proofs.lemmas.Bool.Decides.{nat_tests}
 use Rattle.activity_codec.specs.declared.entries.Entry.{Entry}
-use Rattle.owed_model.specs.Owed.{Cell, entry_of, holds, cell_entries, placed, in_order}
+use Rattle.owed_model.specs.Owed.{Cell, entry_of, holds, cell_entries, placed}
 use Rattle.joint_rule.proofs.OwedView.{placed-more, placed-here, placed-front}
 
 -- an entry is not of this place

@@ -1,18 +1,18 @@
 -- A moment of a keep, as the image says it, is one of the rule's keeping.
-use Rattle.std.proofs.Common.{◌≡◌, ◌⊎◌, inl, inr, ℕ, ◌+◌, ◌/◌, ◌<◌, ◌≤◌, Bool, true, false, ◌&&◌, ◌||◌, List, [], ◌∷◌, refl, sym, ◌∙◌, ap, arith, IsTrue}
+use Rattle.std.proofs.Common.{◌≡◌, ◌⊎◌, inl, inr, ℕ, ◌/◌, ◌<◌, Bool, true, false, ◌||◌, List, [], ◌∷◌, refl, sym, ◌∙◌, ap, arith, IsTrue}
 use Rattle.std.specs.Prelude.{nat_lt}
 use Rattle.std.proofs.lemmas.Bool.Decides.{nat_tests}
 use Rattle.byte_fields.proofs.Images.{part_in}
 use Rattle.tach_media.specs.Medium.{bytes_at}
 use Rattle.unit_model.specs.Days.{UnitMinute, Day}
 use Rattle.unit_model.specs.Retention.{last_day, begins_day}
-use Rattle.unit_model.specs.Image.{last_kept, recorded}
-use Rattle.owed_model.specs.Owed.{rows_in, row_view}
+use Rattle.unit_model.specs.Image.{recorded}
+use Rattle.owed_model.specs.Owed.{rows_in}
 use Rattle.owed_model.proofs.Laws.{view_by_rows}
 use Rattle.unit_journal.specs.Image.{SameBesides, IsGivenUp, IsBeforeMark, IsBehindMark, IsKeeping as IsKeepingImage}
 use Rattle.history_model.specs.Minutes.{HistoryMinute}
-use Rattle.joint_rule.specs.Views.{UnitView, unit_view}
-use Rattle.joint_rule.specs.Steps.{SameRows, IsKept, IsUnkept, IsKeeping}
+use Rattle.joint_rule.specs.Views.{unit_view}
+use Rattle.joint_rule.specs.Steps.{SameRows, IsKeeping}
 use Rattle.joint_rule.specs.Filling.{seen_by_unit, KeepsMinute, GivesUpDay}
 
 -- the owed rows lie between the odometer and the days

@@ -2,3 +2,4 @@ pub mod Keeping
 pub mod Beginning
 pub mod Cells
 pub mod Putting
+pub mod Mending

@@ -1,5 +1,5 @@
 -- A moment of the putting of an entry, as the image says it, is one of the rule's putting.
-use Rattle.std.proofs.Common.{◌≡◌, ◌≢◌, ◌⊎◌, inl, inr, ℕ, ◌+◌, ◌%◌, ◌<◌, ◌≤◌, Bool, false, cond, List, [], ◌∷◌, ◌++◌, Option, Some, None, option_map, filter, fold, All, refl, ap, sym, subst, ◌∙◌, arith}
+use Rattle.std.proofs.Common.{◌≡◌, ◌≢◌, ◌⊎◌, inl, inr, ℕ, ◌%◌, ◌<◌, ◌≤◌, false, List, [], ◌∷◌, ◌++◌, Option, Some, None, option_map, filter, fold, All, refl, ap, sym, subst, ◌∙◌, arith}
 use Rattle.std.specs.Prelude.{slice_set}
 use Rattle.activity_codec.specs.declared.entries.Entry.{Entry}
 use Rattle.activity_codec.specs.declared.words.Change.{Change}
@@ -7,12 +7,11 @@ use Rattle.activity_codec.proofs.WordLemmas.{change_of-word_of}
 use Rattle.trace_model.specs.declared.Card.TheVariants.{A, B}
 use Rattle.tach_media.specs.Medium.{SameOutside}
 use Rattle.gated_ring.specs.Ring.{PointsInside}
-use Rattle.unit_model.specs.Days.{Day}
-use Rattle.unit_model.specs.Image.{day_ring, last_kept, recorded}
-use Rattle.owed_model.specs.Owed.{Cell, OwedRow, Row, rows_in, row_in, row_index, row_of, entry_of, cell_entries, placed, in_order, seen_row, row_view}
+use Rattle.unit_model.specs.Image.{day_ring}
+use Rattle.owed_model.specs.Owed.{Cell, OwedRow, Row, rows_in, row_in, row_index, entry_of, cell_entries, placed, in_order, seen_row, row_view}
 use Rattle.owed_model.specs.Rows.{entry_word, with_cell, IsPuttingCell, IsPutting as IsPuttingRow, IsPut as IsPutRow, HasRow}
 use Rattle.owed_model.proofs.Laws.{view_by_row}
-use Rattle.joint_rule.specs.Views.{UnitView, unit_view}
+use Rattle.joint_rule.specs.Views.{unit_view}
 use Rattle.joint_rule.specs.Steps.{IsPutting, IsPut, cleared, owing}
 use Rattle.joint_rule.proofs.OwedView.{filter-fold}
 use Rattle.joint_steps.proofs.Cells.{elsewhere, cleared_cells, put_cells, before_all, ordered_back, ordered_last}
@@ -49,7 +48,7 @@ module _ (e : Entry) (rows : List ℕ) (r : ℕ) where
       ∙ ordered_last e [] between.before between.after tt earlier ∙ ap (λ (es : List Entry). es ++ e ∷ []) ordered)
 
 -- the number's row, as the card sees it
-seen_at : (number x : List ℕ) (o : Option ℕ) → row_index number (rows_in x) ≡ o → row_view number x ≡ seen_row (option_map (row_in (rows_in x)) o)
+pub seen_at : (number x : List ℕ) (o : Option ℕ) → row_index number (rows_in x) ≡ o → row_view number x ≡ seen_row (option_map (row_in (rows_in x)) o)
 unfolding row_view
 seen_at number x o is = ap (λ (q : Option ℕ). seen_row (option_map (row_in (rows_in x)) q)) is
 

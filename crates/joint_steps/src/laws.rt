@@ -6,9 +6,10 @@ ghost use Rattle.gated_ring.specs.Ring.{PointsInside};
 ghost use Rattle.history_model.specs.Minutes.{HistoryMinute};
 ghost use Rattle.owed_model.specs.Owed.{row_view};
 ghost use Rattle.owed_model.specs.Rows.{IsPutting as IsPuttingRow, IsPut as IsPutRow, IsRowBeginning, IsRowBegun, HasRow};
-ghost use Rattle.unit_journal.specs.Image.{IsKeeping as IsKeepingImage};
+ghost use Rattle.unit_journal.specs.Image.{Notes, IsKeeping as IsKeepingImage};
+ghost use Rattle.unit_journal.specs.Mends.{IsMending as IsMendingImage, IsMended as IsMendedImage};
 ghost use Rattle.joint_rule.specs.Views.{unit_view};
-ghost use Rattle.joint_rule.specs.Steps.{IsKeeping, IsPutting, IsPut, IsBeginning, IsBegun, cleared};
+ghost use Rattle.joint_rule.specs.Steps.{IsKeeping, IsPutting, IsPut, IsBeginning, IsBegun, IsMending, IsMended, cleared};
 ghost use Rattle.joint_rule.specs.Filling.{seen_by_unit, KeepsMinute, GivesUpDay};
 
 /// A moment of the keeping of a minute of the history is one of the rule's keeping: the minute kept, or not yet, with the oldest
@@ -54,4 +55,11 @@ pub fn an_entry_is_put()
     ensures second { (a b : List ℕ) (e : Entry) (x c : List ℕ) → a ≢ b → PointsInside day_ring x → 1440 ≤ e.minute →
         All (λ d. d.minute < e.minute) (cleared e (row_view b x)).cells →
         HasRow b x → IsPutRow b e x c → IsPut B e (unit_view a b x) (unit_view a b c) }
+{}
+
+/// A moment of a mend is one of the rule's mending; at its end no cell is later than the last-kept minute.
+pub fn a_mending_is_seen()
+    ensures moments { (a b : List ℕ) (j : Notes) (x c : List ℕ) →
+        IsMendingImage j x c → IsMending (unit_view a b x) (unit_view a b c) }
+    ensures mended { (a b x c : List ℕ) → IsMendedImage x c → IsMended (unit_view a b x) (unit_view a b c) }
 {}
