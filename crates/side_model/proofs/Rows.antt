@@ -11,10 +11,13 @@ use Rattle.log_model.specs.declared.lines.Find.{Find}
 use Rattle.log_model.specs.declared.lines.Verdict.{Verdict}
 use Rattle.log_model.specs.declared.lines.Verdict.TheVariants.{Accepted, TimeOverlap}
 use Rattle.log_model.specs.Log.{RunLog, cut_in, is_torn_in, found_in, kept_after}
+use Rattle.log_model.specs.Course.{went}
 use Rattle.log_model.specs.Spans.{spans_of}
 use Rattle.event_model.specs.Spans.{overs_of, bares_of}
 use Rattle.side_model.specs.Done.{done_of, has_failed_in}
 use Rattle.side_model.specs.Noted.{Accepts, Withdraws, Enters, notes_of, insertions_of}
+use Rattle.side_model.specs.Odometer.{driven_before, odometer_before}
+use Rattle.side_model.specs.Tables.{table_of}
 use Rattle.side_model.specs.Events.{Event, events_of}
 
 -- a second with power
@@ -84,3 +87,25 @@ cut_insertions = refl
 
 cut_fails : map (has_failed_in cut) (1267401600 ∷ 1267401601 ∷ []) ≡ false ∷ true ∷ []
 cut_fails = refl
+
+-- two seconds at 1800 km/h are a kilometre, which stands behind the second one
+abbrev fast : List TraceSecond
+fast = second 1267401600 1800 [] ∷ second 1267401601 1800 [] ∷ second 1267401602 0 [] ∷ []
+
+abbrev quiet : RunLog
+quiet = record { breaks = []; refused = []; finds = [] }
+
+kilometres : map (λ (u : ℕ). map (driven_before u) (spans_of (went quiet fast).told)) (1267401601 ∷ 1267401602 ∷ []) ≡ (0 ∷ []) ∷ (1 ∷ []) ∷ []
+unfolding went cut_in is_torn_in found_in spans_of
+kilometres = refl
+
+-- the odometer stays at its highest value
+highest : odometer_before 1267401602 (record { base = 9999999; span = [] }) ≡ 9999999
+highest = refl
+
+-- where the places of power interruptions, over speedings and faults begin, and how wide they are
+places_begin : map (λ (kind : ℕ). (table_of kind).base) (0x01 ∷ 0x08 ∷ 0x07 ∷ 0x40 ∷ []) ≡ 2386384 ∷ 2390534 ∷ 2391364 ∷ 2391674 ∷ []
+places_begin = refl
+
+entry_sizes : map (λ (kind : ℕ). (table_of kind).width) (0x01 ∷ 0x07 ∷ 0x40 ∷ []) ≡ 83 ∷ 31 ∷ 82 ∷ []
+entry_sizes = refl
