@@ -1,5 +1,5 @@
 -- The bytes of messages tell them in one way.
-use Rattle.std.proofs.Common.{◌≡◌, ℕ, zero, suc, ◌+◌, ◌<◌, ◌^◌, List, [], ◌∷◌, ◌++◌, length, drop, map, refl, sym, ◌∙◌, ap, append_assoc, length-append, All, arith}
+use Rattle.std.proofs.Common.{◌≡◌, ℕ, suc, ◌<◌, ◌^◌, List, [], ◌∷◌, ◌++◌, length, drop, refl, sym, ◌∙◌, ap, append_assoc, length-append, All, arith}
 use Rattle.byteorder.specs.Endian.{big_number, big_bytes}
 use Rattle.byteorder.specs.Numbers.{length-bytes_high_first}
 use Rattle.byte_fields.specs.Fields.{joined}
@@ -61,7 +61,7 @@ entries_same size (e ∷ es) (f ∷ fs) se sf len is =
 sized_first : (w size : ℕ) (es fs after later : List (List ℕ)) (r s : List ℕ) → length es < 256 ^ w → length fs < 256 ^ w → Sized size es → Sized size fs → joined (counted w es ∷ after) ++ r ≡ joined (counted w fs ∷ later) ++ s → (es ≡ fs) × (joined after ++ r ≡ joined later ++ s)
 sized_first w size es fs after later r s few_es few_fs se sf is =
     let apart = number_first w (length es) (length fs) (joined es ∷ after) (joined fs ∷ later) r s few_es few_fs
-        (ap (λ (l : List ℕ). l ++ r) (sym (append_assoc (big_bytes w (length es)) (joined es) (joined after))) ∙ is ∙ ap (λ (l : List ℕ). l ++ s) (append_assoc (big_bytes w (length fs)) (joined fs) (joined later))) in
+    (ap (λ (l : List ℕ). l ++ r) (sym (append_assoc (big_bytes w (length es)) (joined es) (joined after))) ∙ is ∙ ap (λ (l : List ℕ). l ++ s) (append_assoc (big_bytes w (length fs)) (joined fs) (joined later))) in
     let both = bytes_first (length (joined es)) (joined es) (joined fs) after later r s refl (sym (same_length size es fs se sf apart.0)) apart.1 in
     (entries_same size es fs se sf apart.0 both.0, both.1)
 

@@ -1,9 +1,9 @@
 -- Worked rows of a download: a day's message of a small day, and the minutes that a small file shows.
-use Rattle.std.proofs.Common.{◌≡◌, ℕ, ◌*◌, List, [], ◌∷◌, ◌++◌, Some, length, refl, replicate, map}
+use Rattle.std.proofs.Common.{◌≡◌, ℕ, ◌*◌, List, [], ◌∷◌, ◌++◌, length, refl, replicate, map}
 use Rattle.link_model.specs.Answers.{cuts}
-use Rattle.unit_model.specs.Days.{StoredDay, UnitMinute}
-use Rattle.message_model.specs.Messages.{Overview, DayMessage, TechnicalMessage, Message, AnOverview, ADay, ATechnical, content_of, message_bytes}
-use Rattle.message_model.specs.Sending.{zeros, day_message, period_of, touches_day}
+use Rattle.unit_model.specs.Days.{StoredDay}
+use Rattle.message_model.specs.Messages.{Overview, AnOverview, ADay, ATechnical, message_bytes}
+use Rattle.message_model.specs.Sending.{zeros, day_message, period_of}
 use Rattle.message_model.specs.Records.{insertion_ring, unit_place_ring}
 use Rattle.message_model.specs.Showing.{minutes_in}
 

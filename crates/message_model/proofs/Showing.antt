@@ -1,13 +1,13 @@
 -- The unit file of an image shows the image's minutes.
-use Rattle.std.proofs.Common.{◌≡◌, ℕ, zero, suc, ◌+◌, ◌*◌, ◌/◌, ◌%◌, ◌<◌, ◌≤◌, Bool, true, false, cond, ◌&&◌, Option, Some, None, List, [], ◌∷◌, ◌++◌, map, filter, refl, sym, ◌∙◌, ap, arith}
+use Rattle.std.proofs.Common.{◌≡◌, ℕ, zero, suc, ◌+◌, ◌*◌, ◌/◌, ◌%◌, ◌<◌, ◌≤◌, Bool, true, false, cond, ◌&&◌, Some, List, [], ◌∷◌, ◌++◌, map, filter, refl, sym, ◌∙◌, ap, arith}
 use Rattle.std.specs.Prelude.{nat_le, flat_map, ◌==◌}
 use Rattle.std.specs.List.{range_with_len}
 use Rattle.std.proofs.lemmas.Bool.Decides.{nat_tests}
-use Rattle.unit_model.specs.Days.{StoredDay, Day, UnitMinute, word_slot, word_state, word_minute, bare, state_by, state_after, state_at, day_of, minute_by, minute_at, shown, minutes_shown, day_shown, days_shown, minutes_of, day_kept, days_kept}
+use Rattle.unit_model.specs.Days.{StoredDay, Day, UnitMinute, word_slot, word_state, word_minute, bare, state_by, state_after, state_at, day_of, minute_by, minute_at, minutes_shown, day_shown, minutes_of, day_kept}
 use Rattle.unit_model.specs.Image.{last_kept, unit_days, recorded, unit_minutes}
-use Rattle.message_model.specs.Messages.{DayMessage, Message, AnOverview, ADay, AnEventList, ATechnical, EventMessage, TechnicalMessage}
+use Rattle.message_model.specs.Messages.{ADay, AnEventList, ATechnical, EventMessage, TechnicalMessage}
 use Rattle.message_model.specs.Sending.{sent_days, overview_of, day_message_of, event_message_of, technical_message_of, messages_of}
-use Rattle.message_model.specs.Showing.{told_day, minutes_told, minutes_in}
+use Rattle.message_model.specs.Showing.{minutes_told, minutes_in}
 
 -- words behind a minute say nothing of the minutes up to it
 state_kept : (slot t k c : ℕ) (ws : List ℕ) → t ≤ k → state_after slot t c (filter (λ w. nat_le (word_minute w) k) ws) ≡ state_after slot t c ws

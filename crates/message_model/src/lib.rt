@@ -5,5 +5,6 @@
 mod laws;
 
 pub use laws::{
-    a_file_answers_the_requests, a_file_shows_the_minutes, a_message_is_read_in_one_way, pieces_are_the_message,
+    a_file_answers_the_requests, a_file_shows_the_minutes, a_message_is_read_in_one_way,
+    pieces_are_the_message,
 };
