@@ -1,5 +1,5 @@
 -- What is answered over a text follows from what the text is judged to be.
-use Rattle.std.proofs.Common.{◌≡◌, ℕ, ◌≤◌, List, length, refl, sym, ap, subst, arith, inl, inr, Ok, Err, Some, Option}
+use Rattle.std.proofs.Common.{◌≡◌, ℕ, ◌<◌, ◌≤◌, ◌^◌, List, length, refl, sym, ap, subst, arith, inl, inr, Ok, Err, Some, Option}
 use Rattle.std.specs.Prelude.{Result, MatchResult, IfOk, IsErrAnd, ◌⊎◌, IfSome}
 use Rattle.std.specs.Io.KnownBytes.{Consumes, IsAtEnd}
 use Rattle.std.proofs.KnownBytes.{Consumes-whole}
@@ -15,6 +15,7 @@ use Rattle.trace_text.specs.Reading.{IsFaultOf}
 use Rattle.std.specs.List.{AllByRecursion}
 use Rattle.trace_text.specs.Line.{IsKnown}
 use Rattle.trace_text.proofs.PutIn.{ended-runs, ended-known, known-ranges}
+use Rattle.trace_text.proofs.Few.{trace-items-few}
 use Rattle.trace_text.proofs.Once.{no_bad_line, no_too_long, bad-one, long-one, bad-not_long, trace-one}
 
 -- what an answer says of lines
@@ -86,3 +87,8 @@ trace-well_formed form lines (Ok t) judged =
       runs = let P : List Item → Type 0 = λ is. HasRuns is in subst P (sym judged.items_are) (ended-runs judged.written);
     }
 trace-well_formed form lines (Err fault) judged = tt
+
+-- it has few items
+pub trace-few : (form : Form) (text : List ℕ) (result : Result Trace TraceFault) → length text ≤ 16777216 → Judges form (lines_of text) result → IfOk result (λ t. length t.items < 2 ^ 26)
+trace-few form text (Ok t) few judged = trace-items-few form text t.start t.items few judged
+trace-few form text (Err fault) few judged = tt

@@ -3,6 +3,7 @@ pub mod Numbering
 pub mod Inverse
 pub mod Grammar
 pub mod PutIn
+pub mod Few
 pub mod Passed
 pub mod Once
 pub mod LinesRead

@@ -1,10 +1,10 @@
 -- The seconds that are put in.
-use Rattle.std.proofs.Common.{◌≡◌, ◌∙◌, ℕ, Option, None, Some, List, [], ◌∷◌, ◌++◌, refl, ap, sym, arith, append_assoc, append-nil}
+use Rattle.std.proofs.Common.{◌≡◌, ◌∙◌, ℕ, ◌+◌, ◌*◌, ◌≤◌, Option, None, Some, List, [], ◌∷◌, ◌++◌, length, refl, ap, sym, arith, append_assoc, append-nil}
 use Rattle.std.specs.List.{AllByRecursion}
 use Rattle.trace_model.specs.declared.Item.{Item}
 use Rattle.trace_model.specs.declared.Item.TheVariants.{Run, Off, Act}
 use Rattle.trace_text.specs.declared.trace.Form.{Form}
-use Rattle.trace_text.specs.declared.trace.Form.TheVariants.{Minutes, Whole}
+use Rattle.trace_text.specs.declared.trace.Form.TheVariants.{Minutes, UnitAlone, Whole}
 use Rattle.trace_text.specs.Line.{IsKnown, InRange}
 use Rattle.trace_text.specs.Trace.{put_in, waits, added, open_from, waiting_from, opened, ended, items_of, RunComes, HasRuns}
 use Rattle.trace_text.specs.Judged.{items_before}
@@ -56,8 +56,21 @@ has_runs waiting ((n, Act action) ∷ written) = (comes n written, has_runs (Som
 pub ended-runs : (written : List (ℕ × Item)) → HasRuns (items_of (ended written))
 ended-runs written = has_runs None written
 
+all-few : (waiting : Option ℕ) (written : List (ℕ × Item)) → length (items_of (all_of waiting written)) ≤ 2 * length written + 1
+all-few None [] = omega arith
+all-few (Some line) [] = omega arith
+all-few waiting ((n, Run seconds speed) ∷ written) = omega (arith, all-few None written)
+all-few None ((n, Off seconds) ∷ written) = omega (arith, all-few None written)
+all-few (Some line) ((n, Off seconds) ∷ written) = omega (arith, all-few None written)
+all-few waiting ((n, Act action) ∷ written) = omega (arith, all-few (Some n) written)
+
+-- at most one second is put in for each line, and one at the end
+pub ended-few : (written : List (ℕ × Item)) → length (items_of (ended written)) ≤ 2 * length written + 1
+ended-few written = all-few None written
+
 put_in-known : (form : Form) → IsKnown form (Run 1 0)
 put_in-known Minutes = (refl, (omega arith, omega arith, omega arith))
+put_in-known UnitAlone = (refl, (omega arith, omega arith, omega arith))
 put_in-known Whole = (refl, (omega arith, omega arith, omega arith))
 
 all_known : (form : Form) (waiting : Option ℕ) (written : List (ℕ × Item)) → AllKnown form written → AllByRecursion (IsKnown form) (items_of (all_of waiting written))

@@ -6,7 +6,7 @@ use Rattle.trace_model.specs.declared.Action.TheVariants.{Select, Insert, Withdr
 use Rattle.trace_model.specs.declared.Item.{Item}
 use Rattle.trace_model.specs.declared.Item.TheVariants.{Run, Off, Act}
 use Rattle.trace_text.specs.declared.trace.Form.{Form}
-use Rattle.trace_text.specs.declared.trace.Form.TheVariants.{Minutes, Whole}
+use Rattle.trace_text.specs.declared.trace.Form.TheVariants.{Minutes, UnitAlone, Whole}
 
 -- whether a place is where the day begins or where it ends
 abbrev pub ending_word : Bool → List ℕ
@@ -28,7 +28,8 @@ item_fields (Act (Tear slot)) = codes "tear" ∷ slot_name slot ∷ []
 item_fields (Act (Place slot ending country region)) =
     codes "place" ∷ slot_name slot ∷ ending_word ending ∷ decimal country ∷ decimal region ∷ []
 
--- the lines that a form knows behind `start`: the form of minutes `run` and `select`, and the whole form all
+-- the lines that a form knows behind `start`: the form of minutes `run` and `select`, that of the unit alone `off` too, and the
+-- whole form all
 abbrev pub knows : Form → Item → Bool
 knows Minutes (Run seconds speed) = true
 knows Minutes (Off seconds) = false
@@ -37,6 +38,13 @@ knows Minutes (Act (Insert slot card)) = false
 knows Minutes (Act (Withdraw slot)) = false
 knows Minutes (Act (Tear slot)) = false
 knows Minutes (Act (Place slot ending country region)) = false
+knows UnitAlone (Run seconds speed) = true
+knows UnitAlone (Off seconds) = true
+knows UnitAlone (Act (Select slot pick)) = true
+knows UnitAlone (Act (Insert slot card)) = false
+knows UnitAlone (Act (Withdraw slot)) = false
+knows UnitAlone (Act (Tear slot)) = false
+knows UnitAlone (Act (Place slot ending country region)) = false
 knows Whole item = true
 
 -- the seconds that a trace may begin with

@@ -1,5 +1,5 @@
 //! Reading a trace from a source.
-ghost use Rattle.std.specs.Prelude.{◌≡◌, ℕ, ◌<◌, ◌≤◌, ◌∷◌, List, length, IfOk, OnOk, IsErrOf, IsErrAnd, ◌⊎◌, Some, Err, MatchResult};
+ghost use Rattle.std.specs.Prelude.{◌≡◌, ℕ, ◌<◌, ◌≤◌, ◌^◌, ◌∷◌, List, length, IfOk, OnOk, IsErrOf, IsErrAnd, ◌⊎◌, Some, Err, MatchResult};
 ghost use Rattle.std.specs.Io.KnownBytes.{IsAtEnd};
 ghost use Rattle.tach_media.specs.Medium.{Rose};
 ghost use Rattle.std.specs.List.{AllByRecursion};
@@ -28,6 +28,7 @@ pub fn read_trace<S: Source>(alloc: Global, source: &mut S, form: Form) -> Resul
     // It is well formed and each of its items is one of the form's, whether or not the source tells its content.
     ensures well_formed { IfOk result (λ t. IsWellFormed t.start t.items) }
     ensures known { IfOk result (λ t. AllByRecursion (IsKnown form) t.items) }
+    ensures few { IfOk result (λ t. length t.items < 2 ^ 26) }
 
     // Each refusal has its cause.
     ensures bad_line { (text : List ℕ) (n : ℕ) → S.left source.old ≡ Some text

@@ -10,12 +10,17 @@ fn read(rt: &HostRuntime, text: &[u8], form: Form) -> Result<Result<Trace, Trace
     Ok(read_trace(alloc, &mut source, form))
 }
 
-/// How a text of the whole form is wrong.
-fn fault(rt: &HostRuntime, text: &[u8]) -> Result<Option<TraceFault>, Fail> {
-    match read(rt, text, Form::Whole)? {
+/// How a text of this form is wrong.
+fn fault_in(rt: &HostRuntime, text: &[u8], form: Form) -> Result<Option<TraceFault>, Fail> {
+    match read(rt, text, form)? {
         Ok(_) => Ok(None),
         Err(fault) => Ok(Some(fault)),
     }
+}
+
+/// How a text of the whole form is wrong.
+fn fault(rt: &HostRuntime, text: &[u8]) -> Result<Option<TraceFault>, Fail> {
+    fault_in(rt, text, Form::Whole)
 }
 
 const DAYS: Item = Item::Run {
@@ -121,22 +126,37 @@ fn lines_that_are_none(rt: HostRuntime) -> Result<(), Fail> {
 }
 
 #[test]
-fn the_form_of_minutes_has_runs_and_selections(rt: HostRuntime) -> Result<(), Fail> {
-    let others: [&[u8]; 5] = [
-        b"start 86400\noff 1",
-        b"start 86400\ninsert driver a",
-        b"start 86400\nwithdraw driver",
-        b"start 86400\ntear driver",
-        b"start 86400\nplace driver begin 1 1",
+fn each_form_has_its_lines(rt: HostRuntime) -> Result<(), Fail> {
+    // each line behind `start`, whether it is one of the form of minutes, and of that of the unit alone
+    let lines: [(&[u8], bool, bool); 7] = [
+        (b"start 86400\nrun 1 0", true, true),
+        (b"start 86400\nselect codriver work", true, true),
+        (b"start 86400\noff 1", false, true),
+        (b"start 86400\ninsert driver a", false, false),
+        (b"start 86400\nwithdraw driver", false, false),
+        (b"start 86400\ntear driver", false, false),
+        (b"start 86400\nplace driver begin 1 1", false, false),
     ];
-    for text in others {
-        let read_as_minutes = match read(&rt, text, Form::Minutes)? {
-            Ok(_) => None,
-            Err(fault) => Some(fault),
-        };
-        assert_eq!(rt; read_as_minutes, Some(TraceFault::BadLine(2)));
-        assert_eq!(rt; fault(&rt, text)?, None);
+    for (text, of_minutes, of_unit) in lines {
+        let minutes = fault_in(&rt, text, Form::Minutes)?;
+        let unit_alone = fault_in(&rt, text, Form::UnitAlone)?;
+        let bad = Some(TraceFault::BadLine(2));
+        assert_eq!(rt; minutes, if of_minutes { None } else { bad });
+        assert_eq!(rt; unit_alone, if of_unit { None } else { bad });
+        assert_eq!(rt; fault_in(&rt, text, Form::Whole)?, None);
     }
+    Ok(())
+}
+
+#[test]
+fn a_line_of_cards_is_told_by_its_number(rt: HostRuntime) -> Result<(), Fail> {
+    let text = b"# no cards\nstart 86400\nrun 60 0\noff 60\n\nselect driver work\ninsert driver a\nrun 60 0\n";
+    assert_eq!(rt; fault_in(&rt, text, Form::UnitAlone)?, Some(TraceFault::BadLine(7)));
+    // a limit that is passed before it comes first, one behind it does not
+    let long = b"start 86400\nrun 34560000 0\noff 1\ntear driver\n";
+    assert_eq!(rt; fault_in(&rt, long, Form::UnitAlone)?, Some(TraceFault::TooLong(3)));
+    let bad = b"start 86400\nrun 34560000 0\ntear driver\noff 1\n";
+    assert_eq!(rt; fault_in(&rt, bad, Form::UnitAlone)?, Some(TraceFault::BadLine(3)));
     Ok(())
 }
 

@@ -12,6 +12,8 @@ use trace_model::{Action, Item};
 pub enum Form {
     /// `run` and `select`.
     Minutes,
+    /// What a run without cards can have: `run`, `off` and `select`.
+    UnitAlone,
     /// All that a run can have: `run`, `off` and all actions.
     Whole,
 }
@@ -25,6 +27,9 @@ impl Form {
             (Form::Whole, _) => true,
             (Form::Minutes, Item::Run { .. } | Item::Act(Action::Select { .. })) => true,
             (Form::Minutes, Item::Off { .. } | Item::Act(_)) => false,
+            (Form::UnitAlone, Item::Run { .. } | Item::Off { .. }) => true,
+            (Form::UnitAlone, Item::Act(Action::Select { .. })) => true,
+            (Form::UnitAlone, Item::Act(_)) => false,
         }
     }
 }

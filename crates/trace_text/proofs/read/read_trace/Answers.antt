@@ -1,6 +1,6 @@
 use Rattle.std.proofs.Common.{ℕ, List, ◌≡◌, ◌∙◌, ◌≤◌, length, sym, subst, arith, Some}
 use Rattle.trace_text.specs.Text.{lines_of}
-use Rattle.trace_text.proofs.Answered.{Judges, told-text, judges-trace, judges-bad, judges-long, reads-trace, finds-bad, finds-long, trace-well_formed, trace-known}
+use Rattle.trace_text.proofs.Answered.{Judges, told-text, judges-trace, judges-bad, judges-long, reads-trace, finds-bad, finds-long, trace-well_formed, trace-known, trace-few}
 use Rattle.trace_text.proofs.read.read_trace.Given.{Over}
 use Rattle.trace_text.proofs.read.read_trace.Goals as goal
 
@@ -20,6 +20,9 @@ returns-clause-well_formed g c = trace-well_formed c.args.form (lines_of c.as_sl
 
 pub returns-clause-known : goal.returns-clause-known
 returns-clause-known g c = trace-known c.args.form (lines_of c.as_slice.result.now) c.trace_of.result c.trace_of.ensures
+
+pub returns-clause-few : goal.returns-clause-few
+returns-clause-few g c = trace-few c.args.form c.as_slice.result.now c.trace_of.result (omega (arith, c.as_slice.ensures.len, c.in-Ok.ensures.few)) c.trace_of.ensures
 
 pub returns-clause-bad_line : goal.returns-clause-bad_line
 returns-clause-bad_line g c = λ text n told is.
