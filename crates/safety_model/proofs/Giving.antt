@@ -15,7 +15,7 @@ use Rattle.joint_rule.specs.Rules.{UnitHolds, Showed, Meets, EntriesGoOn, Acknow
 use Rattle.joint_rule.specs.Filling.{FillsDays}
 use Rattle.joint_rule.proofs.Holding.{agree, unit-holds}
 use Rattle.safety_model.specs.Recording.{Recording, card_image, brought, history_of, unit_seen, IsPassed, MayCome}
-use Rattle.safety_model.specs.Unit.{UnitShows, HasMinute}
+use Rattle.safety_model.specs.Unit.{UnitShows}
 
 -- what a book reached was passed in the history that it follows
 pub passed-reached : (past : List HistoryMinute) (lost : List (List HistoryMinute)) (b : Book) (some : List HistoryMinute) → Follows past lost b → IsReached b some → IsPassed past lost some
@@ -49,11 +49,11 @@ module _ (start : List Day) (past : List HistoryMinute) (lost : List (List Histo
 
   -- and one that it might have left since a minute was acknowledged shows that minute
   pub unit-marked : (first began due : ℕ) (unit : State) (i : HistoryMinute) (clock : ℕ) → CoherentViews (seen (unit_view number_a number_b) unit) → UnitHolds (FillsDays start) first began due b (seen (unit_view number_a number_b) unit) → began ≤ clock →
-      Acknowledges (λ u. u.last) i.minute clock (seen (unit_view number_a number_b) unit) → Contains b.sure i → (x : List ℕ) → unit.left_since clock x → (s : UnitShows start past lost x) × HasMinute i.minute s.some
+      Acknowledges (λ u. u.last) i.minute clock (seen (unit_view number_a number_b) unit) → Contains b.sure i → (x : List ℕ) → unit.left_since clock x → (s : UnitShows start past lost x) × Contains s.some i
   unit-marked first began due unit i clock whole holds later marks sure x left =
       let held = unit-holds (FillsDays start) first began due b (seen (unit_view number_a number_b) unit) i clock whole holds later marks sure (unit_view number_a number_b x) (x, left, refl) in
       let k = shows x first held.0 in
-      (k.0, (i, subst (λ (is : List HistoryMinute). Contains is i) (sym k.1) held.1, refl))
+      (k.0, subst (λ (is : List HistoryMinute). Contains is i) (sym k.1) held.1)
 
 -- at the end a card's entries followed by those owed to it are the expected ones up to the unit's mark, where what is carried of a
 -- card gives the stated rule

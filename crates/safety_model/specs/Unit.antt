@@ -42,16 +42,14 @@ Increase [] = Unit {0}
 Increase (m ∷ []) = Unit {0}
 Increase (m ∷ n ∷ marks) = (m.minute < n.minute) × Increase (n ∷ marks)
 
--- a minute is one of these
-abbrev pub HasMinute : ℕ → List HistoryMinute → Type 0
-HasMinute minute past = (i : HistoryMinute) × Contains past i × (i.minute ≡ minute)
-
--- an acknowledged minute stands in the history, and every image since shows it, unless its day was given up as the oldest
+-- an acknowledged minute stands in the history, and every image since shows that very one, unless its day was given up as the oldest
 pub record UnitMarkHolds
     (start : List Day) (past : List HistoryMinute) (lost : List (List HistoryMinute)) (unit : State) (m : Mark) : Type 0 where
-  pub stands : HasMinute m.minute past
+  pub i : HistoryMinute
+  pub minute : i.minute ≡ m.minute
+  pub stands : Contains past i
   pub clock : m.clock ≤ unit.clock
-  pub shown : (x : List ℕ) → unit.left_since m.clock x → (s : UnitShows start past lost x) × HasMinute m.minute s.some
+  pub shown : (x : List ℕ) → unit.left_since m.clock x → (s : UnitShows start past lost x) × Contains s.some i
 
 -- THE UNIT: every image that a stop might have left since a clock shows the start and a part of the history from its front, and
 -- decodes; the acknowledged minutes increase, and hold

@@ -10,7 +10,7 @@ use Rattle.history_model.specs.Book.{Book, all, Follows}
 use Rattle.joint_rule.specs.Views.{UnitView, unit_view}
 use Rattle.joint_rule.specs.Rules.{Acknowledges}
 use Rattle.joint_rule.proofs.Viewed.{seen-coherent}
-use Rattle.safety_model.specs.Unit.{marks_of, UnitMarkHolds, UnitSafe, HasMinute}
+use Rattle.safety_model.specs.Unit.{marks_of, UnitMarkHolds, UnitSafe}
 use Rattle.safety_model.proofs.Giving.{unit-minutes, unit-marked}
 use Rattle.unit_rule.specs.Rule.{Started, seen_unit}
 use Rattle.unit_rule.specs.Marks.{IsHeld, Holds}
@@ -18,14 +18,12 @@ use Rattle.unit_rule.specs.Marks.{IsHeld, Holds}
 module _ (s : Started) (past : List HistoryMinute) (lost : List (List HistoryMinute)) (due : ℕ) (b : Book) (marks : List Mark) (unit : State) (whole : IsCoherent unit) (follows : Follows past lost b) (h : Holds s due b marks unit) where
   mark-holds : (m : Mark) → IsHeld s b unit m → UnitMarkHolds s.days past lost unit m
   mark-holds m held = record {
-    stands =
-        let i = held.sure.0 in
-        (i, subst (λ (zs : List HistoryMinute). Contains zs i) (sym follows.front.1) (Contains-append_left (all b) follows.front.0 i (Contains-append_left b.sure (option_to_list b.maybe) i held.sure.1)), held.sure.2);
+    i = held.sure.0;
+    minute = held.sure.2;
+    stands = subst (λ (zs : List HistoryMinute). Contains zs held.sure.0) (sym follows.front.1) (Contains-append_left (all b) follows.front.0 held.sure.0 (Contains-append_left b.sure (option_to_list b.maybe) held.sure.0 held.sure.1));
     clock = (held.holds [] []).0;
-    shown = λ x left.
-        let k = unit-marked s.days past lost [] [] b follows s.first s.began due unit held.sure.0 m.clock (seen-coherent (unit_view [] []) unit whole) (h.unit_holds [] []) held.began
-        (subst (λ (n : ℕ). Acknowledges (λ (u : UnitView). u.last) n m.clock (seen_unit [] [] unit)) (sym held.sure.2) (held.holds [] [])) held.sure.1 x left in
-        (k.0, subst (λ (n : ℕ). HasMinute n k.0.some) held.sure.2 k.1);
+    shown = unit-marked s.days past lost [] [] b follows s.first s.began due unit held.sure.0 m.clock (seen-coherent (unit_view [] []) unit whole) (h.unit_holds [] []) held.began
+        (subst (λ (n : ℕ). Acknowledges (λ (u : UnitView). u.last) n m.clock (seen_unit [] [] unit)) (sym held.sure.2) (held.holds [] [])) held.sure.1;
   }
 
   -- the unit's part of the theorem

@@ -1,19 +1,20 @@
 -- The unit and the minutes that it has acknowledged, between two calls (profile).
-use Rattle.std.specs.Prelude.{ℕ, ◌<◌, ◌≤◌, List, All}
+use Rattle.std.specs.Prelude.{◌≡◌, ℕ, ◌<◌, ◌≤◌, List, All, Contains}
 use Rattle.run_model.specs.declared.Device.TheVariants.{Unit as Recorder}
 use Rattle.tach_media.specs.Medium.{State}
 use Rattle.unit_model.specs.Decoding.{Decodes}
 use Rattle.log_model.specs.declared.lines.Mark.{Mark}
+use Rattle.history_model.specs.Minutes.{HistoryMinute}
 use Rattle.history_model.specs.Book.{Book}
 use Rattle.joint_rule.specs.Rules.{Acknowledges}
-use Rattle.safety_model.specs.Unit.{marks_of, Increase, HasMinute}
+use Rattle.safety_model.specs.Unit.{marks_of, Increase}
 use Rattle.unit_rule.specs.Rule.{Started, seen_unit, IsRuled}
 
 -- a mark's minute is a sure one, and every image since its clock is not behind it
 pub record IsHeld (s : Started) (b : Book) (unit : State) (m : Mark) : Type 0 where
   pub began : s.began ≤ m.clock
   pub holds : (number_a number_b : List ℕ) → Acknowledges (λ u. u.last) m.minute m.clock (seen_unit number_a number_b unit)
-  pub sure : HasMinute m.minute b.sure
+  pub sure : (i : HistoryMinute) × Contains b.sure i × (i.minute ≡ m.minute)
 
 -- Between two calls: the unit's rule, whatever numbers the cards have; every image that a stop might have left since the start
 -- decodes; and of the marks those of the unit are held, increase, and are earlier than what is decided next.
