@@ -150,13 +150,23 @@ fn each_form_has_its_lines(rt: HostRuntime) -> Result<(), Fail> {
 
 #[test]
 fn a_line_of_cards_is_told_by_its_number(rt: HostRuntime) -> Result<(), Fail> {
-    let text = b"# no cards\nstart 86400\nrun 60 0\noff 60\n\nselect driver work\ninsert driver a\nrun 60 0\n";
-    assert_eq!(rt; fault_in(&rt, text, Form::UnitAlone)?, Some(TraceFault::BadLine(7)));
+    let text =
+        b"# no cards\nstart 86400\nrun 60 0\noff 60\n\nselect driver work\ninsert driver a\nrun 60 0\n";
+    assert_eq!(rt;
+        fault_in(&rt, text, Form::UnitAlone)?,
+        Some(TraceFault::BadLine(7))
+    );
     // a limit that is passed before it comes first, one behind it does not
     let long = b"start 86400\nrun 34560000 0\noff 1\ntear driver\n";
-    assert_eq!(rt; fault_in(&rt, long, Form::UnitAlone)?, Some(TraceFault::TooLong(3)));
+    assert_eq!(rt;
+        fault_in(&rt, long, Form::UnitAlone)?,
+        Some(TraceFault::TooLong(3))
+    );
     let bad = b"start 86400\nrun 34560000 0\ntear driver\noff 1\n";
-    assert_eq!(rt; fault_in(&rt, bad, Form::UnitAlone)?, Some(TraceFault::BadLine(3)));
+    assert_eq!(rt;
+        fault_in(&rt, bad, Form::UnitAlone)?,
+        Some(TraceFault::BadLine(3))
+    );
     Ok(())
 }
 
