@@ -1,0 +1,13 @@
+pub mod Acting
+pub mod Actions
+pub mod Beginning
+pub mod Due
+pub mod Items
+pub mod Keep
+pub mod Opened
+pub mod Recording
+pub mod Seams
+pub mod Stepping
+pub mod Courses
+pub mod Turning
+pub mod Waiting

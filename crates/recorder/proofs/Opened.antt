@@ -1,0 +1,43 @@
+-- A run begins: what holds behind its opening.
+use Rattle.std.proofs.Common.{◌≡◌, inl, ⊎_elim, ℕ, ◌+◌, ◌-◌, ◌/◌, ◌<◌, ◌≤◌, true, Option, Some, None, List, [], length, drop, is_some, refl, ap, sym, subst, ◌∙◌, arith}
+use Rattle.tach_media.specs.Medium.{State, IsCoherent, LeavesOnly, Unchanged}
+use Rattle.tach_media.proofs.Runs.{at_image}
+use Rattle.unit_model.specs.Days.{Day, newest_of}
+use Rattle.unit_model.specs.Decoding.{Decodes}
+use Rattle.unit_model.specs.Image.{last_kept, recorded}
+use Rattle.unit_journal.specs.Image.{Notes, IsFoundBy}
+use Rattle.unit_journal.proofs.Besides.{few_days}
+use Rattle.history_model.specs.Book.{Book, not_begun}
+use Rattle.unit_rule.specs.Marks.{Holds}
+use Rattle.unit_rule.proofs.Marking.{holds-opened}
+use Rattle.recorder.specs.Booked.{StartsAs, started}
+use Rattle.recorder.specs.Opening.{IsLoaded}
+
+-- all days of an image that has no more than 366 are retained
+whole : (days : List Day) → length days ≤ 366 → days ≡ newest_of 366 days
+whole days few = ap (λ (n : ℕ). drop n days) (let e : 0 ≡ length days - 366 = omega (arith, few) in e)
+
+told-one : (o p : Option (List ℕ)) → is_some p ≡ is_some o → is_some o ≡ true → (x : List ℕ) × (p ≡ Some x)
+told-one o (Some x) same told = (x, refl)
+told-one o None same told = absurd (let no = same ∙ told in cc)
+
+module _ (x : List ℕ) (U V : State) (starts : StartsAs x U) (before : IsCoherent U) (after : IsCoherent V) (run : LeavesOnly U V Unchanged) (journal : Notes) (loaded : IsLoaded V journal) where
+  image : (y : List ℕ) × (V.image ≡ Some y)
+  image = told-one U.image V.image run.tells starts.tells
+
+  now-one : (c : List ℕ) → V.may_leave c → c ≡ x
+  now-one c left = ⊎_elim (λ was. starts.only c (before.counts_now U.clock c (omega arith) was)) (λ never. absurd never.2) (run.now c left)
+
+  since-one : (c : List ℕ) → V.left_since U.clock c → c ≡ x
+  since-one c left = ⊎_elim (λ was. starts.only c was) (λ never. absurd never.2) (run.since U.clock c (omega arith) left)
+
+  pub image-is : V.image ≡ Some x
+  image-is = image.1 ∙ ap Some (now-one image.0 (after.is_left image.0 image.1))
+
+  pub kept-is : last_kept x ≡ journal.kept
+  kept-is = (at_image (IsFoundBy journal) image-is loaded.found).kept
+
+  pub opened-holds : (due : ℕ) → journal.kept < due → Holds (started x U.clock) due not_begun [] V
+  opened-holds due late = holds-opened (started x U.clock) V x due refl refl run.later now-one since-one
+      (inl (whole (recorded x) (few_days x (at_image (IsFoundBy journal) image-is loaded.found).pointer)))
+      (at_image Decodes image-is loaded.decodes) (let k = kept-is in omega (arith, k, late))

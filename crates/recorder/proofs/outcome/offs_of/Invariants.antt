@@ -1,0 +1,9 @@
+use Rattle.std.proofs.Common.{◌≡◌, ◌+◌, ◌≤◌, drop}
+use Rattle.recorder.specs.Room.{offs}
+use Rattle.recorder.proofs.outcome.offs_of.Given as goal
+
+abbrev pub invariant-loop-i : goal.invariant-loop-i
+invariant-loop-i l = record {
+  most : l.count ≤ l.i;
+  rest : l.count + offs (drop l.i l.items) ≡ offs l.items;
+}

@@ -1,0 +1,193 @@
+use Rattle.std.proofs.Common.{◌≡◌, ℕ, ◌+◌, ◌-◌, ◌/◌, ◌<◌, ◌≤◌, true, List, [], length, take, drop, is_some, refl, ap, sym, subst, ◌∙◌, arith}
+use Rattle.std.specs.Prelude.{IfErr, Result, Ok, Err}
+use Rattle.tach_media.specs.Medium.{LiesInside}
+use Rattle.std.proofs.lemmas.List.{take_all}
+use Rattle.trace_model.specs.declared.Item.{Item}
+use Rattle.trace_model.specs.Trace.{TraceSecond, item_seconds, total_seconds, seconds_of}
+use Rattle.minute_model.specs.declared.Rule.TheVariants.{Original}
+use Rattle.log_model.specs.declared.lines.Find.{Find}
+use Rattle.unit_course.specs.Followed.{Due as Awaited, Followed}
+use Rattle.recorder.specs.Followed.{run_log, history_of, lost_of}
+use Rattle.recorder.specs.Recorded.{progress, Recorded}
+use Rattle.recorder.proofs.Waiting.{Waits, waits-none, waits-more, seconds-none, seconds-more}
+use Rattle.recorder.proofs.Recording.{followed-as}
+use Rattle.recorder.proofs.Courses.{begins, is_followed}
+use Rattle.log_model.specs.declared.lines.Mark.{Mark}
+use Rattle.log_model.specs.declared.lines.Break.{Break}
+use Rattle.log_model.specs.declared.lines.Refused.{Refused}
+use Rattle.history_model.specs.Book.{Book, not_begun}
+use Rattle.unit_rule.specs.Marks.{Holds}
+use Rattle.unit_rule.proofs.Safety.{unit-safe}
+use Rattle.recorder.specs.declared.run.Power.{Power}
+use Rattle.recorder.specs.declared.run.Power.TheVariants.{Lit, Due}
+use Rattle.recorder.specs.Lines.{Listed}
+use Rattle.recorder.specs.Going.{waiting, cuts_from}
+use Rattle.recorder.specs.Booked.{StartsAs, started, due_of}
+use Rattle.recorder.proofs.Opened.{opened-holds, kept-is}
+use Rattle.recorder.specs.Room.{offs, off_count}
+use Rattle.recorder.specs.Turn.{HasRoom}
+use Rattle.recorder.proofs.Items.{each-at, seconds-here, offs-here, room-less, room-behind, waiting-most, total-parts}
+use Rattle.recorder.proofs.Turning.{booked-at, goes-then}
+use Rattle.recorder.proofs.run.run_trace.Goals as goal
+
+-- what holds of each error
+if_err : {A E : Type 0} {P : E → Type 0} (r : Result A E) → ((e : E) → P e) → IfErr r P
+if_err (Ok a) all = tt
+if_err (Err e) all = all e
+
+pub loop-i-init : goal.loop-i-init
+loop-i-init g c =
+    let q = c.requires in
+    let e = c.in_ok-journal.ensures in
+    let next = c.new-run.ensures.next in
+    let run = c.judge.ensures.leaves in
+    let m = ap (λ (l : Listed Mark). length l.items) q.reserved.marks in
+    let mr = ap (λ (l : Listed Mark). l.room) q.reserved.marks in
+    let b = ap (λ (l : Listed Break). length l.items) q.reserved.breaks in
+    let br = ap (λ (l : Listed Break). l.room) q.reserved.breaks in
+    let f = ap (λ (l : Listed Refused). length l.items) q.reserved.refused in
+    let fr = ap (λ (l : Listed Refused). l.room) q.reserved.refused in
+    let w = ap (λ (p : Power). waiting p c.new-run.result.minutes.owing) c.new-run.ensures.power in
+    let k = ap (λ (p : Power). cuts_from p c.new-run.result.next) c.new-run.ensures.power in
+    record {
+      first = omega arith;
+      going = record {
+        is_unit = record { sized = run.size ∙ q.unit.sized; behind = run.behind ∙ q.unit.behind; writable = subst (λ (ws : List (ℕ × ℕ)). LiesInside ws 0 2485808) (sym run.writable) q.unit.writable };
+        low = let low = q.well.first.0 in omega (arith, low, next);
+        small = let last = q.well.within.1 in omega (arith, last, next);
+        odometer = c.new-run.ensures.odometer;
+        lit = λ p. absurd (let no : Due ≡ Lit = sym c.new-run.ensures.power ∙ p in cc);
+      };
+      next = ap (λ (n : ℕ). n + total_seconds c.args.trace.now.items) next;
+      room = record {
+        marks = record { room = omega (arith, m, mr, w, next) };
+        breaks = omega (arith, b, br, k, next);
+        refused = omega (arith, f, fr);
+      };
+      unfound = let u = c.new-run.ensures.unfound in omega (arith, u);
+      goes_on = record { clock = let k = c.judge.ensures.clock in omega (arith, k); tells = run.tells; faults = c.judge.ensures.faults; breakdowns = c.judge.ensures.breakdowns };
+      waits = waits-none c.args.trace.now.items;
+      finds = refl;
+      recorded = λ start x starts below few.
+          let U = g.U.Medium.state c.args.unit.now in
+          let V = g.U.Medium.state c.judge.new.unit in
+          let due : ℕ = c.args.trace.now.start / 60 in
+          let kept = kept-is x U V starts (g.met.U.Medium.coherent c.args.unit.now) (g.met.U.Medium.coherent c.judge.new.unit) run c.in_ok-journal.journal e.loaded in
+          let late = e.later in
+          let h = opened-holds x U V starts (g.met.U.Medium.coherent c.args.unit.now) (g.met.U.Medium.coherent c.judge.new.unit) run c.in_ok-journal.journal e.loaded due e.later in
+          let none = ap (λ (l : Listed Break). l.items) q.reserved.breaks in
+          record {
+            book = not_begun;
+            booked = booked-at (started x U.clock) c.new-run.result not_begun c.args.outcome.now.marks.items V due (omega (arith, w, next)) (λ p. refl)
+                (subst (λ (ms : List Mark). Holds (started x U.clock) due not_begun ms V) (sym (ap (λ (l : Listed Mark). l.items) q.reserved.marks)) h);
+            supply = Awaited;
+            power = sym c.new-run.ensures.power;
+            second = tt;
+            followed = subst (λ (ss : List TraceSecond). Followed Original start c.args.trace.now.start (started x U.clock).first ss (progress c.args.outcome.now.breaks.items c.new-run.result.unfound c.new-run.result.next c.new-run.result.begun Awaited not_begun)) (sym (seconds-none c.args.trace.now.start))
+                (followed-as start c.args.trace.now.start (started x U.clock).first [] Awaited not_begun (sym none) (sym c.new-run.ensures.unfound) (sym next) (sym c.new-run.ensures.begun)
+                (begins Original start c.args.trace.now.start (started x U.clock).first (omega (arith, kept, late))));
+            minutes = λ p. absurd (let no : Due ≡ Lit = sym c.new-run.ensures.power ∙ p in cc);
+          };
+      booked = λ x starts below.
+          let U = g.U.Medium.state c.args.unit.now in
+          let V = g.U.Medium.state c.judge.new.unit in
+          let due : ℕ = c.args.trace.now.start / 60 in
+          let h = opened-holds x U V starts (g.met.U.Medium.coherent c.args.unit.now) (g.met.U.Medium.coherent c.judge.new.unit) run c.in_ok-journal.journal e.loaded due e.later in (
+            not_begun,
+            booked-at (started x U.clock) c.new-run.result not_begun c.args.outcome.now.marks.items V due (omega (arith, w, next)) (λ p. refl)
+                (subst (λ (ms : List Mark). Holds (started x U.clock) due not_begun ms V) (sym (ap (λ (l : Listed Mark). l.items) q.reserved.marks)) h),
+          );
+    }
+
+pub returns-in_err-item-clause-refused : goal.returns-in_err-item-clause-refused
+returns-in_err-item-clause-refused g c = if_err c.from_residual-in_err-item.result (λ fault x starts below.
+    let v = c.loop-i.invariant in
+    let e = c.in_err-item.ensures in
+    let clock = e.goes_on.clock in
+    let was = v.booked x starts (omega (arith, clock, below)) in
+    absurd (let no = (e.booked (started x (g.U.Medium.state c.args.unit.now).clock) was.0 was.1 (v.goes_on.tells ∙ starts.tells) below).0 in cc))
+
+pub item-requires-clause-item : goal.item-requires-clause-item
+item-requires-clause-item g c = each-at c.args.trace.now.items c.loop-i.i c.get-item.result.now c.get-item.ensures c.requires.well.each
+
+pub item-requires-clause-small : goal.item-requires-clause-small
+item-requires-clause-small g c =
+    let v = c.loop-i.invariant in
+    let s = seconds-here c.args.trace.now.items c.loop-i.i c.get-item.result.now c.get-item.ensures in
+    let next = v.next in
+    let last = c.requires.well.within.1 in
+    omega (arith, s, next, last)
+
+pub item-requires-clause-room : goal.item-requires-clause-room
+item-requires-clause-room g c =
+    let v = c.loop-i.invariant in
+    let items = c.args.trace.now.items in
+    let i = c.loop-i.i in
+    let s = seconds-here items i c.get-item.result.now c.get-item.ensures in
+    let o = offs-here items i c.get-item.result.now c.get-item.ensures in
+    room-less c.loop-i.run c.loop-i.outcome (total_seconds (drop i items)) (item_seconds c.get-item.result.now) (offs (drop i items)) (off_count c.get-item.result.now) (length items - c.loop-i.first) (i - c.loop-i.first)
+    (omega (arith, s)) (omega (arith, o)) (omega (arith, c.loop-i-test.true, c.len-i-end.ensures)) v.room
+
+pub loop-i-preserved : goal.loop-i-preserved
+loop-i-preserved g c =
+    let v = c.loop-i.invariant in
+    let e = c.in_ok-item.ensures in
+    let items = c.args.trace.now.items in
+    let i = c.loop-i.i in
+    let item = c.get-item.result.now in
+    let s = seconds-here items i item c.get-item.ensures in
+    let o = offs-here items i item c.get-item.ensures in
+    let waits = c.first_waiting-first.ensures in
+    let low : i < length items = omega (arith, c.loop-i-test.true, c.len-i-end.ensures) in
+    record {
+      first = let most = waiting-most item c.loop-i.first i v.first in omega (arith, most, waits);
+      going = e.going;
+      next = let was = v.next in let next = e.next in omega (arith, was, next, s);
+      room = subst (λ (n : ℕ). HasRoom c.item.new.self c.item.new.outcome (total_seconds (drop (i + 1) items)) (offs (drop (i + 1) items)) (length items - n)) (sym waits)
+          (room-behind item c.loop-i.run c.item.new.self c.loop-i.outcome c.item.new.outcome (total_seconds (drop (i + 1) items)) (offs (drop (i + 1) items)) (length items) c.loop-i.first i v.first low
+          (subst (λ (n : ℕ). HasRoom c.loop-i.run c.loop-i.outcome n (off_count item + offs (drop (i + 1) items)) (length items - c.loop-i.first)) s
+          (subst (λ (n : ℕ). HasRoom c.loop-i.run c.loop-i.outcome (total_seconds (drop i items)) n (length items - c.loop-i.first)) o v.room))
+          e.idle e.room);
+      unfound = e.unfound;
+      goes_on = goes-then v.goes_on e.goes_on;
+      waits = subst (λ (n : ℕ). Waits items n (i + 1)) (sym waits) (waits-more items i c.loop-i.first item c.get-item.ensures v.first c.requires.well.runs c.requires.for_unit v.waits);
+      finds = e.finds ∙ v.finds;
+      recorded = λ start x starts below few.
+          let clock = e.goes_on.clock in
+          let r = v.recorded start x starts (omega (arith, clock, below)) few in
+          let at = r.followed.next in
+          let first = v.first in
+          subst (λ (ss : List TraceSecond). Recorded start (started x (g.U.Medium.state c.args.unit.now).clock) c.args.trace.now.start ss c.item.new.self c.item.new.outcome.breaks.items c.item.new.outcome.marks.items (g.U.Medium.state c.item.new.unit))
+          (sym (seconds-more c.args.trace.now.start items i c.loop-i.first item c.loop-i.run.next c.get-item.ensures (let parts = total-parts items i in let was = v.next in omega (arith, parts, was)) v.waits))
+          (e.recorded start (started x (g.U.Medium.state c.args.unit.now).clock) c.args.trace.now.start (seconds_of c.args.trace.now.start (take i items)) r (v.goes_on.tells ∙ starts.tells) below
+          (record { each = v.waits.each; count = v.waits.count; few = omega (arith, few, low, first) })).1;
+      booked = λ x starts below.
+          let clock = e.goes_on.clock in
+          let was = v.booked x starts (omega (arith, clock, below)) in
+          (e.booked (started x (g.U.Medium.state c.args.unit.now).clock) was.0 was.1 (v.goes_on.tells ∙ starts.tells) below).1;
+    }
+
+pub returns-clause-holds : goal.returns-clause-holds
+returns-clause-holds g c = λ x starts below. let b = c.loop-i.invariant.booked x starts below in (due_of c.loop-i.run, b.0, b.1.holds)
+
+pub returns-clause-followed : goal.returns-clause-followed
+returns-clause-followed g c = λ start x starts below few.
+    let v = c.loop-i.invariant in
+    let items = c.args.trace.now.items in
+    let r = v.recorded start x starts below few in
+    let whole = take_all c.loop-i.i items (omega (arith, c.loop-i-test.false, c.len-i-end.ensures)) in
+    let finds = ap (λ (l : Listed Find). l.items) (v.finds ∙ c.requires.reserved.finds) in
+    let f = subst (λ (is : List Item). Followed Original start c.args.trace.now.start (started x (g.U.Medium.state c.args.unit.now).clock).first (seconds_of c.args.trace.now.start is) (progress c.loop-i.outcome.breaks.items c.loop-i.run.unfound c.loop-i.run.next c.loop-i.run.begun r.supply r.book)) whole r.followed in
+    let follows = is_followed Original start c.args.trace.now.start (started x (g.U.Medium.state c.args.unit.now).clock).first (seconds_of c.args.trace.now.start items) c.loop-i.outcome.breaks.items c.loop-i.run.unfound c.loop-i.run.next c.loop-i.run.begun r.supply r.book f (run_log c.loop-i.outcome) refl finds in
+    record {
+      safe = unit-safe (started x (g.U.Medium.state c.args.unit.now).clock) (history_of start c.loop-i.outcome c.args.trace.now.start items) (lost_of start c.loop-i.outcome c.args.trace.now.start items) (due_of c.loop-i.run) r.book c.loop-i.outcome.marks.items (g.U.Medium.state c.loop-i.unit) (g.met.U.Medium.coherent c.loop-i.unit) follows r.booked.holds;
+      due = due_of c.loop-i.run;
+      book = r.book;
+      holds = r.booked.holds;
+      follows = follows;
+      supply = r.supply;
+      unfound = c.loop-i.run.unfound;
+      next = c.loop-i.run.next;
+      begun = c.loop-i.run.begun;
+      course = f;
+    }

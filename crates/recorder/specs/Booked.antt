@@ -1,0 +1,32 @@
+-- The unit of a run and its marks, by what the book of the run says (profile).
+use Rattle.std.specs.Prelude.{◌≡◌, ℕ, ◌-◌, ◌/◌, ◌≤◌, true, None, List, is_some}
+use Rattle.tach_media.specs.Medium.{State}
+use Rattle.log_model.specs.declared.lines.Mark.{Mark}
+use Rattle.history_model.specs.Book.{Book}
+pub use Rattle.unit_rule.specs.Rule.{Started, started}
+use Rattle.unit_rule.specs.Marks.{Holds}
+use Rattle.recorder.specs.declared.run.Run.{Run}
+use Rattle.recorder.specs.declared.run.Power.{Power}
+use Rattle.recorder.specs.declared.run.Power.TheVariants.{Lit}
+use Rattle.recorder.specs.Going.{waiting}
+
+-- the first minute that may still be marked
+abbrev pub due_of : Run → ℕ
+due_of run = run.next / 60 - waiting run.power run.minutes.owing
+
+-- between two calls; while there is power, no minute is begun that may not be there
+pub record Booked (s : Started) (run : Run) (b : Book) (marks : List Mark) (unit : State) : Type 0 where
+  pub holds : Holds s (due_of run) b marks unit
+  pub none : run.power ≡ Lit → b.maybe ≡ None
+
+-- a unit went on: its clock has not gone back, and it tells as much as before
+pub record GoesOn (old new : State) : Type 0 where
+  pub clock : old.clock ≤ new.clock
+  pub tells : is_some new.image ≡ is_some old.image
+  pub faults : old.faults ≤ new.faults
+  pub breakdowns : old.breakdowns ≤ new.breakdowns
+
+-- a run starts with this image alone: a read gives it, and since then a stop leaves no other
+pub record StartsAs (x : List ℕ) (unit : State) : Type 0 where
+  pub tells : is_some unit.image ≡ true
+  pub only : (c : List ℕ) → unit.left_since unit.clock c → c ≡ x

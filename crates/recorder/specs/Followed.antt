@@ -1,0 +1,47 @@
+-- What a run has recorded, by the history of its trace (profile).
+use Rattle.std.specs.Prelude.{ℕ, List}
+use Rattle.tach_media.specs.Medium.{State}
+use Rattle.trace_model.specs.declared.Item.{Item}
+use Rattle.trace_model.specs.Trace.{seconds_of}
+use Rattle.minute_model.specs.declared.Rule.TheVariants.{Original}
+use Rattle.log_model.specs.Log.{RunLog}
+use Rattle.log_model.specs.Course.{Told, went}
+use Rattle.history_model.specs.Book.{Book, Follows}
+use Rattle.history_model.specs.Minutes.{HistoryMinute}
+use Rattle.history_model.specs.Presence.{Start}
+use Rattle.history_model.specs.History.{unit_history, with_lost}
+use Rattle.safety_model.specs.Unit.{UnitSafe}
+use Rattle.unit_course.specs.Followed.{Supply, Followed}
+use Rattle.unit_rule.specs.Rule.{started}
+use Rattle.unit_rule.specs.Marks.{Holds}
+use Rattle.recorder.specs.declared.outcome.Outcome.{Outcome}
+use Rattle.recorder.specs.Recorded.{progress}
+
+-- the run log of an outcome
+abbrev pub run_log : Outcome → RunLog
+run_log o = record { breaks = o.breaks.items; refused = o.refused.items; finds = o.finds.items }
+
+-- the seconds of a trace that begins at a second, as the run went
+abbrev pub told_of : Outcome → (origin : ℕ) → List Item → List Told
+told_of o origin items = (went (run_log o) (seconds_of origin items)).told
+
+-- the unit history of such a run, and its fronts up to a cut's limit, each with its lost minute
+abbrev pub history_of : Start → Outcome → (origin : ℕ) → List Item → List HistoryMinute
+history_of start o origin items = unit_history Original start (run_log o) (told_of o origin items)
+
+abbrev pub lost_of : Start → Outcome → (origin : ℕ) → List Item → List (List HistoryMinute)
+lost_of start o origin items = with_lost Original start (run_log o) (told_of o origin items)
+
+-- What a run that began with this image, at this clock, has recorded of a trace: the unit is safe. It holds what a book says; the
+-- book follows the history, and has of it what the course of the seconds says.
+pub record IsFollowed (start : Start) (x : List ℕ) (origin : ℕ) (items : List Item) (clock : ℕ) (o : Outcome) (unit : State) : Type 0 where
+  pub safe : UnitSafe (started x clock).days (history_of start o origin items) (lost_of start o origin items) o.marks.items clock unit
+  pub due : ℕ
+  pub book : Book
+  pub holds : Holds (started x clock) due book o.marks.items unit
+  pub follows : Follows (history_of start o origin items) (lost_of start o origin items) book
+  pub supply : Supply
+  pub unfound : ℕ
+  pub next : ℕ
+  pub begun : ℕ
+  pub course : Followed Original start origin (started x clock).first (seconds_of origin items) (progress o.breaks.items unfound next begun supply book)

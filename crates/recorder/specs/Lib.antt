@@ -1,0 +1,13 @@
+pub mod Acting
+pub mod Booked
+pub mod Followed
+pub mod Going
+pub mod Keeping
+pub mod Lines
+pub mod Opening
+pub mod Power
+pub mod Recorded
+pub mod Room
+pub mod Steps
+pub mod Trace
+pub mod Turn

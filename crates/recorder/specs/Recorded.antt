@@ -1,0 +1,48 @@
+-- A run of the recorder so far, by the seconds of its trace (profile).
+use Rattle.std.specs.Prelude.{◌≡◌, ℕ, List, [], ◌∷◌}
+use Rattle.tach_media.specs.Medium.{State}
+use Rattle.trace_model.specs.Trace.{TraceSecond}
+use Rattle.minute_model.specs.declared.Rule.TheVariants.{Original}
+use Rattle.minute_rules.specs.Kept.{StandsFor}
+use Rattle.log_model.specs.Course.{Told}
+use Rattle.log_model.specs.declared.lines.Break.{Break}
+use Rattle.log_model.specs.declared.lines.Mark.{Mark}
+use Rattle.history_model.specs.Book.{Book}
+use Rattle.history_model.specs.Presence.{Start}
+use Rattle.unit_course.specs.Followed.{Supply, Lit as On, Due as Awaited, Lost as Gone, Progress, Followed, going_on}
+use Rattle.unit_course.specs.Turn.{span_at}
+use Rattle.unit_rule.specs.Rule.{Started}
+use Rattle.recorder.specs.declared.run.Run.{Run}
+use Rattle.recorder.specs.declared.run.Power.{Power}
+use Rattle.recorder.specs.declared.run.Power.TheVariants.{Lit, Due, Lost}
+use Rattle.recorder.specs.Booked.{Booked}
+
+-- the power of a run, without the seconds of its span
+abbrev pub power_of : Supply → Power
+power_of (On span) = Lit
+power_of Awaited = Due
+power_of Gone = Lost
+
+-- a span that goes on has a second
+abbrev pub HasSecond : Supply → Type 0
+HasSecond (On []) = ⊥
+HasSecond (On (t ∷ span)) = Unit {0}
+HasSecond Awaited = Unit {0}
+HasSecond Gone = Unit {0}
+
+-- how far a run has gone
+abbrev pub progress : List Break → (unfound next begun : ℕ) → Supply → Book → Progress
+progress breaks unfound next begun supply book =
+    record { breaks = breaks; unfound = unfound; next = next; begun = begun; supply = supply; book = book; waiting = [] }
+
+-- Between two seconds, behind these seconds of the trace: the unit and its marks are as the book says, and the book follows the
+-- history of the seconds by the breaks. While there is power, the minutes stand for the seconds of the span.
+pub record Recorded (start : Start) (s : Started) (from : ℕ) (done : List TraceSecond)
+    (run : Run) (breaks : List Break) (marks : List Mark) (unit : State) : Type 0 where
+  pub book : Book
+  pub booked : Booked s run book marks unit
+  pub supply : Supply
+  pub power : power_of supply ≡ run.power
+  pub second : HasSecond supply
+  pub followed : Followed Original start from s.first done (progress breaks run.unfound run.next run.begun supply book)
+  pub minutes : run.power ≡ Lit → StandsFor run.minutes (span_at Original run.next (going_on supply))

@@ -1,0 +1,19 @@
+//! Recording a trace on the devices (profile): the unit keeps each decided minute, whatever call on it fails, and an
+//! outcome tells which minutes were acknowledged, where the power was lost, and which actions were refused.
+#![tactic(auto)]
+
+mod keeping;
+mod lines;
+mod opening;
+mod outcome;
+mod power;
+mod run;
+#[cfg(test)]
+mod tests;
+mod turn;
+
+pub use lines::Lines;
+pub use log_model::{Break, Find, Mark, Refused, SlotFault, Verdict};
+pub use opening::RunFault;
+pub use outcome::Outcome;
+pub use run::{is_for_unit, run_trace};

@@ -1,0 +1,105 @@
+//! What a run tells of itself.
+ghost use Rattle.std.specs.Prelude.{◌≡◌, ◌≤◌, [], IfOk};
+ghost use Rattle.trace_model.specs.Trace.{item_seconds, total_seconds};
+ghost use Rattle.trace_text.specs.Trace.{IsWellFormed};
+ghost use Rattle.recorder.specs.Room.{offs, is_off};
+ghost use Rattle.recorder.specs.Trace.{IsReserved};
+
+use crate::lines::Lines;
+use log_model::{Break, Find, Mark, Refused};
+use std::alloc::Global;
+use tach_media::Memory;
+use trace_text::{Item, Items, Trace};
+
+/// The lines of a run, each list in order of time: what the devices have acknowledged, where power was lost or a card torn
+/// out, which actions were refused, and what insertions found.
+#[derive(Drop)]
+pub struct Outcome {
+    pub marks: Lines<Mark>,
+    pub breaks: Lines<Break>,
+    pub refused: Lines<Refused>,
+    pub finds: Lines<Find>,
+}
+
+impl Outcome {
+    /// No line, and room for none; it takes no memory.
+    pub fn empty(alloc: Global) -> Outcome
+        ensures marks { result.marks ≡ record { items = []; room = 0 } }
+        ensures breaks { result.breaks ≡ record { items = []; room = 0 } }
+        ensures refused { result.refused ≡ record { items = []; room = 0 } }
+        ensures finds { result.finds ≡ record { items = []; room = 0 } }
+    {
+        Outcome {
+            marks: Lines::new(alloc),
+            breaks: Lines::new(alloc),
+            refused: Lines::new(alloc),
+            finds: Lines::new(alloc),
+        }
+    }
+
+    /// No line, and room for all that a run of this trace can have.
+    ///
+    /// # Errors
+    ///
+    /// `Memory` where there is none.
+    pub fn reserve(alloc: Global, trace: &Trace) -> Result<Outcome, Memory>
+        requires well { IsWellFormed trace.now.start trace.now.items }
+        ensures { IfOk result (IsReserved trace.now.items) }
+    {
+        let minutes = seconds_of(&trace.items) / 60 + 2;
+        let marks = Lines::with_room(alloc, minutes)?;
+        let breaks = Lines::with_room(alloc, minutes + offs_of(&trace.items))?;
+        let refused = Lines::with_room(alloc, trace.items.len())?;
+        Ok(Outcome {
+            marks,
+            breaks,
+            refused,
+            finds: Lines::new(alloc),
+        })
+    }
+}
+
+// How many seconds these items have.
+fn seconds_of(items: &Items) -> usize
+    requires few { total_seconds items.now ≤ 34560000 }
+    ensures { result ≡ total_seconds items.now }
+{
+    let mut total = 0;
+    for i in 0..items.len() {
+        total += item_seconds(*items.get(i));
+    }
+    total
+}
+
+// How many seconds an item has.
+fn item_seconds(item: Item) -> usize
+    ensures { result ≡ item_seconds item }
+{
+    match item {
+        Item::Run { seconds, .. } | Item::Off { seconds } => seconds as usize,
+        Item::Act(_) => 0,
+    }
+}
+
+// How many of these items are seconds without power.
+fn offs_of(items: &Items) -> usize
+    ensures { result ≡ offs items.now }
+{
+    let mut count = 0;
+    for i in 0..items.len() {
+        if is_off(*items.get(i)) {
+            count += 1;
+        }
+    }
+    count
+}
+
+// Whether an item is seconds without power.
+fn is_off(item: Item) -> bool
+    ensures { result ≡ is_off item }
+{
+    match item {
+        Item::Off { .. } => true,
+        Item::Run { .. } | Item::Act(_) => false,
+    }
+}

@@ -1,0 +1,328 @@
+//! Turns: seconds of one minute at one speed.
+ghost use Rattle.std.specs.Prelude.{◌≡◌, ◌+◌, ◌-◌, ◌/◌, ◌%◌, ◌<◌, ◌≤◌, ◌++◌, ◌∷◌, [], ◌&&◌, ℕ, List, true, false, length, min, is_some, OnOk, IsOk};
+ghost use Rattle.minute_model.specs.Span.{Span, decided_in, fed_many};
+ghost use Rattle.minute_rules.specs.Kept.{StandsFor};
+
+use crate::keeping::keep_all;
+use crate::lines::Lines;
+use crate::opening::RunFault;
+use crate::outcome::Outcome;
+use crate::run::Run;
+use activity_codec::Steps;
+use log_model::{Refused, SlotFault};
+use minute_rules::{Decided, Minutes};
+use std::marker::Brand;
+use std::sync::ledger::{Blank, Ledger};
+use tach_media::Medium;
+use trace_text::{Action, Item, Items};
+
+/// How many seconds a turn takes: the first of a minute alone, and then up to the minute's end.
+fn turn_length(next: u32, left: u32) -> u32
+    requires { 0 < left }
+    ensures some { 0 < result }
+    ensures most { result ≤ left }
+    ensures minute { next % 60 + result ≤ 60 }
+{
+    if next % 60 == 0 {
+        return 1;
+    }
+    left.min(60 - next % 60)
+}
+
+/// How many actions a second had, as its breaks tell it.
+fn number_of(actions: usize) -> u32
+    ensures { result ≡ min actions 4294967295 }
+{
+    actions.min(u32::MAX as usize) as u32
+}
+
+/// So many seconds of one minute, in steps that nobody counts.
+fn feed(minutes: &mut Minutes, n: u32, speed: u8) -> Decided
+    requires fits { minutes.old.next + n ≤ 4294967295 }
+    requires minute { minutes.old.next % 60 + n ≤ 60 }
+    ensures fed { (span : Span) → StandsFor minutes.old span → StandsFor minutes.new (fed_many span speed n) }
+    ensures given { (span : Span) → StandsFor minutes.old span → decided_in (fed_many span speed n) ≡ decided_in span ++ result.items }
+    ensures next { minutes.new.next ≡ minutes.old.next + n }
+{
+    feed_by::<Brand>(minutes, n, speed, Blank::new(1))
+}
+
+fn feed_by<L: Ledger>(minutes: &mut Minutes, n: u32, speed: u8, blank: Blank) -> Decided
+    requires name { blank.name ≡ L.name }
+    requires parts { blank.parts ≡ L.parts }
+    requires one { blank.parts ≡ 1 }
+    requires fits { minutes.old.next + n ≤ 4294967295 }
+    requires minute { minutes.old.next % 60 + n ≤ 60 }
+    ensures fed { (span : Span) → StandsFor minutes.old span → StandsFor minutes.new (fed_many span speed n) }
+    ensures given { (span : Span) → StandsFor minutes.old span → decided_in (fed_many span speed n) ≡ decided_in span ++ result.items }
+    ensures next { minutes.new.next ≡ minutes.old.next + n }
+{
+    let mut steps = Steps::<L>::new(blank);
+    minutes.feed_run(n, speed, &mut steps)
+}
+
+impl Run {
+    ghost use Rattle.unit_model.specs.Image.{IsUnit};
+    ghost use Rattle.recorder.specs.Going.{IsGoing, HasMarkRoom, HasBreakRoom, cuts_from, cuts_within};
+    ghost use Rattle.recorder.specs.Turn.{HasRoom, HasRoomWithin, OnlyMinutes};
+    ghost use Rattle.recorder.specs.Acting.{between, action_of, actions_in, picks_in, refused_in, with_picks, AreSelections};
+    ghost use Rattle.recorder.specs.Power.{is_lit};
+    ghost use Rattle.recorder.specs.Booked.{Booked, GoesOn};
+    ghost use Rattle.recorder.specs.Steps.{IsTurn, IsLitTurn};
+    ghost use Rattle.recorder.specs.Recorded.{Recorded};
+    ghost use Rattle.trace_model.specs.Trace.{TraceSecond, driven};
+    ghost use Rattle.history_model.specs.Presence.{Start};
+    ghost use Rattle.recorder.specs.declared.run.Power.TheVariants.{Lit};
+    ghost use Rattle.history_model.specs.Book.{Book};
+    ghost use Rattle.unit_rule.specs.Rule.{Started};
+    ghost use Rattle.tach_media.specs.Medium.{last_count};
+
+    /// So many seconds at one speed, from 1 on, with the actions among the items from one index to another at their beginning.
+    pub fn drive<M: Medium>(
+        &mut self,
+        items: &Items,
+        from: usize,
+        to: usize,
+        seconds: u32,
+        speed: u8,
+        unit: &mut M,
+        outcome: &mut Outcome,
+    ) -> Result<(), RunFault>
+        requires going { IsGoing self.old (M.state unit.old) }
+        requires some { 0 < seconds }
+        requires small { self.old.next + seconds ≤ 4294880896 }
+        requires first { from ≤ to }
+        requires last { to ≤ length items.now }
+        requires room { HasRoom self.old outcome.old seconds 0 (to - from) }
+        requires unfound { self.old.unfound ≤ length outcome.old.breaks.items }
+        ensures going { OnOk result (IsGoing self.new (M.state unit.new)) }
+        ensures next { OnOk result (self.new.next ≡ self.old.next + seconds) }
+        ensures room { (left offs acts : ℕ) → HasRoom self.old outcome.old (seconds + left) offs (to - from + acts) → OnOk result (HasRoom self.new outcome.new left offs acts) }
+        ensures unfound { OnOk result (self.new.unfound ≤ length outcome.new.breaks.items) }
+        ensures unit { IsUnit (M.state unit.new) }
+        ensures finds { outcome.new.finds ≡ outcome.old.finds }
+        ensures goes_on { GoesOn (M.state unit.old) (M.state unit.new) }
+        ensures booked { (s : Started) (b : Book) → Booked s self.old b outcome.old.marks.items (M.state unit.old) → is_some (M.state unit.old).image ≡ true → (M.state unit.new).clock < last_count
+            → IsOk result × ((c : Book) × Booked s self.new c outcome.new.marks.items (M.state unit.new)) }
+        ensures recorded { (start : Start) (s : Started) (origin : ℕ) (done : List TraceSecond) → Recorded start s origin done self.old outcome.old.breaks.items outcome.old.marks.items (M.state unit.old)
+            → is_some (M.state unit.old).image ≡ true → (M.state unit.new).clock < last_count → AreSelections from to items.now
+            → IsOk result × Recorded start s origin (done ++ driven seconds self.old.next speed (actions_in (between from to items.now))) self.new outcome.new.breaks.items outcome.new.marks.items (M.state unit.new) }
+    {
+        let has_power = self.begin_second(unit, &mut outcome.breaks)?;
+        self.act_all(items, from, to, has_power, &mut outcome.refused);
+        self.turn(1, speed, number_of(to - from), unit, outcome);
+        self.drive_on(seconds - 1, speed, unit, outcome)
+    }
+
+    /// So many more seconds at one speed, at most a minute at a time.
+    fn drive_on<M: Medium>(
+        &mut self,
+        seconds: u32,
+        speed: u8,
+        unit: &mut M,
+        outcome: &mut Outcome,
+    ) -> Result<(), RunFault>
+        requires going { IsGoing self.old (M.state unit.old) }
+        requires small { self.old.next + seconds ≤ 4294880896 }
+        requires room { HasRoom self.old outcome.old seconds 0 0 }
+        requires unfound { self.old.unfound ≤ length outcome.old.breaks.items }
+        ensures going { OnOk result (IsGoing self.new (M.state unit.new)) }
+        ensures next { OnOk result (self.new.next ≡ self.old.next + seconds) }
+        ensures room { (left offs acts : ℕ) → HasRoom self.old outcome.old (seconds + left) offs acts → OnOk result (HasRoom self.new outcome.new left offs acts) }
+        ensures unfound { OnOk result (self.new.unfound ≤ length outcome.new.breaks.items) }
+        ensures unit { IsUnit (M.state unit.new) }
+        ensures finds { outcome.new.finds ≡ outcome.old.finds }
+        ensures goes_on { GoesOn (M.state unit.old) (M.state unit.new) }
+        ensures booked { (s : Started) (b : Book) → Booked s self.old b outcome.old.marks.items (M.state unit.old) → is_some (M.state unit.old).image ≡ true → (M.state unit.new).clock < last_count
+            → IsOk result × ((c : Book) × Booked s self.new c outcome.new.marks.items (M.state unit.new)) }
+        ensures recorded { (start : Start) (s : Started) (origin : ℕ) (done : List TraceSecond) → Recorded start s origin done self.old outcome.old.breaks.items outcome.old.marks.items (M.state unit.old)
+            → is_some (M.state unit.old).image ≡ true → (M.state unit.new).clock < last_count
+            → IsOk result × Recorded start s origin (done ++ driven seconds self.old.next speed []) self.new outcome.new.breaks.items outcome.new.marks.items (M.state unit.new) }
+    {
+        let mut left = seconds;
+        while left > 0 {
+            let n = turn_length(self.next, left);
+            self.step(n, speed, unit, outcome)?;
+            left -= n;
+        }
+        Ok(())
+    }
+
+    /// So many seconds of one minute without actions.
+    fn step<M: Medium>(
+        &mut self,
+        n: u32,
+        speed: u8,
+        unit: &mut M,
+        outcome: &mut Outcome,
+    ) -> Result<(), RunFault>
+        requires going { IsGoing self.old (M.state unit.old) }
+        requires some { 0 < n }
+        requires minute { self.old.next % 60 + n ≤ 60 }
+        requires small { self.old.next + n ≤ 4294880896 }
+        requires room { HasRoom self.old outcome.old n 0 0 }
+        requires unfound { self.old.unfound ≤ length outcome.old.breaks.items }
+        ensures going { OnOk result (IsGoing self.new (M.state unit.new)) }
+        ensures next { OnOk result (self.new.next ≡ self.old.next + n) }
+        ensures room { (left offs acts : ℕ) → HasRoom self.old outcome.old (n + left) offs acts → OnOk result (HasRoom self.new outcome.new left offs acts) }
+        ensures unfound { OnOk result (self.new.unfound ≤ length outcome.new.breaks.items) }
+        ensures unit { IsUnit (M.state unit.new) }
+        ensures finds { outcome.new.finds ≡ outcome.old.finds }
+        ensures goes_on { GoesOn (M.state unit.old) (M.state unit.new) }
+        ensures booked { (s : Started) (b : Book) → Booked s self.old b outcome.old.marks.items (M.state unit.old) → is_some (M.state unit.old).image ≡ true → (M.state unit.new).clock < last_count
+            → IsOk result × ((c : Book) × Booked s self.new c outcome.new.marks.items (M.state unit.new)) }
+        ensures recorded { (start : Start) (s : Started) (origin : ℕ) (done : List TraceSecond) → Recorded start s origin done self.old outcome.old.breaks.items outcome.old.marks.items (M.state unit.old)
+            → is_some (M.state unit.old).image ≡ true → (M.state unit.new).clock < last_count
+            → IsOk result × Recorded start s origin (done ++ driven n self.old.next speed []) self.new outcome.new.breaks.items outcome.new.marks.items (M.state unit.new) }
+    {
+        self.begin_second(unit, &mut outcome.breaks)?;
+        self.turn(n, speed, 0, unit, outcome);
+        Ok(())
+    }
+
+    /// The actions of one second in their order, which are the items from one index to another.
+    fn act_all(
+        &mut self,
+        items: &Items,
+        from: usize,
+        to: usize,
+        has_power: bool,
+        refused: &mut Lines<Refused>,
+    )
+        requires first { from ≤ to }
+        requires last { to ≤ length items.now }
+        requires room { length refused.old.items + (to - from) ≤ refused.old.room }
+        ensures room { refused.new.room ≡ refused.old.room }
+        ensures few { length refused.new.items ≤ length refused.old.items + (to - from) }
+        ensures refused { refused.new.items ≡ refused.old.items ++ refused_in has_power self.old.next (actions_in (between from to items.now)) }
+        ensures only { OnlyMinutes self.old self.new }
+        ensures picked { (span : Span) → StandsFor self.old.minutes span → StandsFor self.new.minutes (with_picks (picks_in (has_power && is_lit self.old.power) (actions_in (between from to items.now))) span) }
+    {
+        for i in from..to {
+            self.act_item(items.get(i), has_power, refused);
+        }
+    }
+
+    /// An action among the items.
+    fn act_item(&mut self, item: &Item, has_power: bool, refused: &mut Lines<Refused>)
+        requires room { length refused.old.items < refused.old.room }
+        ensures room { refused.new.room ≡ refused.old.room }
+        ensures few { length refused.new.items ≤ length refused.old.items + 1 }
+        ensures refused { refused.new.items ≡ refused.old.items ++ refused_in has_power self.old.next (action_of item.now) }
+        ensures only { OnlyMinutes self.old self.new }
+        ensures picked { (span : Span) → StandsFor self.old.minutes span → StandsFor self.new.minutes (with_picks (picks_in (has_power && is_lit self.old.power) (action_of item.now)) span) }
+    {
+        match item {
+            Item::Act(action) => self.act(action, has_power, refused),
+            Item::Run { .. } | Item::Off { .. } => {}
+        }
+    }
+
+    /// One action: in a second without power it is refused, and one that comes after a cut in its second is not carried out.
+    fn act(&mut self, action: &Action, has_power: bool, refused: &mut Lines<Refused>)
+        requires room { length refused.old.items < refused.old.room }
+        ensures room { refused.new.room ≡ refused.old.room }
+        ensures few { length refused.new.items ≤ length refused.old.items + 1 }
+        ensures refused { refused.new.items ≡ refused.old.items ++ refused_in has_power self.old.next (action.now ∷ []) }
+        ensures only { OnlyMinutes self.old self.new }
+        ensures picked { (span : Span) → StandsFor self.old.minutes span → StandsFor self.new.minutes (with_picks (picks_in (has_power && is_lit self.old.power) (action.now ∷ [])) span) }
+    {
+        if !has_power {
+            refused.add(Refused {
+                second: self.next,
+                fault: SlotFault::NoPower,
+            });
+            return;
+        }
+        if !self.is_lit() {
+            return;
+        }
+        if let Action::Select { slot, pick } = action {
+            self.minutes.select(*slot, *pick);
+        }
+    }
+
+    /// So many seconds of one minute, the last of which has so many actions, and the keeping of what they decide.
+    fn turn<M: Medium>(
+        &mut self,
+        n: u32,
+        speed: u8,
+        begun: u32,
+        unit: &mut M,
+        outcome: &mut Outcome,
+    )
+        requires going { IsGoing self.old (M.state unit.old) }
+        requires some { 0 < n }
+        requires minute { self.old.next % 60 + n ≤ 60 }
+        requires small { self.old.next + n ≤ 4294880896 }
+        requires room { HasRoomWithin self.old outcome.old n 0 0 }
+        ensures going { IsGoing self.new (M.state unit.new) }
+        ensures next { self.new.next ≡ self.old.next + n }
+        ensures room { (left offs acts : ℕ) → HasRoomWithin self.old outcome.old (n + left) offs acts → HasRoom self.new outcome.new left offs acts }
+        ensures unfound { self.new.unfound ≡ self.old.unfound }
+        ensures breaks { length outcome.old.breaks.items ≤ length outcome.new.breaks.items }
+        ensures unit { IsUnit (M.state unit.new) }
+        ensures finds { outcome.new.finds ≡ outcome.old.finds }
+        ensures goes_on { GoesOn (M.state unit.old) (M.state unit.new) }
+        ensures booked { (s : Started) (b : Book) → Booked s self.old b outcome.old.marks.items (M.state unit.old) → (M.state unit.new).clock < last_count
+            → IsTurn s self.old self.new outcome.old.breaks.items outcome.new.breaks.items n speed begun b outcome.new.marks.items (M.state unit.new) }
+    {
+        if !self.is_lit() {
+            self.pass(n, begun);
+            return;
+        }
+        self.lit_turn(n, speed, begun, unit, outcome);
+    }
+
+    /// The same with power. Where the keeping fails, the power is lost in the last of the seconds.
+    fn lit_turn<M: Medium>(
+        &mut self,
+        n: u32,
+        speed: u8,
+        begun: u32,
+        unit: &mut M,
+        outcome: &mut Outcome,
+    )
+        requires lit { self.old.power ≡ Lit }
+        requires going { IsGoing self.old (M.state unit.old) }
+        requires some { 0 < n }
+        requires minute { self.old.next % 60 + n ≤ 60 }
+        requires small { self.old.next + n ≤ 4294880896 }
+        requires room { HasRoomWithin self.old outcome.old n 0 0 }
+        ensures going { IsGoing self.new (M.state unit.new) }
+        ensures next { self.new.next ≡ self.old.next + n }
+        ensures room { (left offs acts : ℕ) → HasRoomWithin self.old outcome.old (n + left) offs acts → HasRoom self.new outcome.new left offs acts }
+        ensures unfound { self.new.unfound ≡ self.old.unfound }
+        ensures breaks { length outcome.old.breaks.items ≤ length outcome.new.breaks.items }
+        ensures unit { IsUnit (M.state unit.new) }
+        ensures finds { outcome.new.finds ≡ outcome.old.finds }
+        ensures goes_on { GoesOn (M.state unit.old) (M.state unit.new) }
+        ensures booked { (s : Started) (b : Book) → Booked s self.old b outcome.old.marks.items (M.state unit.old) → (M.state unit.new).clock < last_count
+            → IsLitTurn s self.old self.new outcome.old.breaks.items outcome.new.breaks.items n speed begun b outcome.new.marks.items (M.state unit.new) }
+    {
+        let decided = feed(&mut self.minutes, n, speed);
+        let odometer = self.odometer;
+        match keep_all(
+            &mut self.journal,
+            decided.as_slice(),
+            odometer,
+            unit,
+            &mut outcome.marks,
+        ) {
+            Ok(()) => self.pass(n, begun),
+            Err(_) => {
+                self.cut(self.next + n - 1, true, begun, &mut outcome.breaks);
+                self.pass(n, begun);
+            }
+        }
+    }
+
+    /// So many seconds are over, the last of which had so many actions.
+    fn pass(&mut self, n: u32, begun: u32)
+        requires { self.old.next + n ≤ 4294967295 }
+        ensures { self.new ≡ record self.old { next = self.old.next + n; begun = begun } }
+    {
+        self.next += n;
+        self.begun = begun;
+    }
+}
