@@ -1,11 +1,16 @@
 -- How a call ends, by what reading its trace answered.
-use Rattle.std.proofs.Common.{◌≡◌, ◌⊎◌, ℕ, refl, ap, inl, inr}
+use Rattle.std.proofs.Common.{◌≡◌, ◌⊎◌, ℕ, List, refl, ap, inl, inr}
+use Rattle.std.specs.Prelude.{Result, Ok, Err, Some, IsErrAnd}
+use Rattle.tach_media.specs.Medium.{Rose}
 use Rattle.trace_text.specs.declared.trace.TraceFault.{TraceFault}
 use Rattle.trace_text.specs.declared.trace.TraceFault.TheVariants as trace
-use Rattle.trace_text.specs.Judged.{IsFailure}
+use Rattle.trace_text.specs.declared.trace.Form.{Form}
+use Rattle.trace_text.specs.Judged.{IsBadText, IsLongText, IsFailure}
 use Rattle.tacho.specs.declared.end.Fault.{Fault}
-use Rattle.tacho.specs.declared.end.Fault.TheVariants.{Done, BadTrace, ReadFault, WriteFault, Memory}
-use Rattle.tacho.specs.End.{refusal_of, IsUnread, IsUnprinted}
+use Rattle.tacho.specs.declared.end.Fault.TheVariants.{Done, BadTrace, TooLong, ReadFault, WriteFault, Memory}
+use Rattle.tacho.specs.End.{end_of, refusal_of, IsUnread, IsUnprinted}
+use Rattle.tacho.specs.Outside.{SourceTold}
+use Rattle.tacho.specs.Reading.{JudgesTrace}
 
 pub refusal-bad : (fault : TraceFault) (n : ℕ) → refusal_of fault ≡ BadTrace n → fault ≡ trace.BadLine n
 refusal-bad (trace.BadLine m) n is = let e : m ≡ n = cc in ap trace.BadLine e
@@ -34,8 +39,52 @@ prints-end WriteFault is read write = absurd (write refl)
 prints-end _ is read write = absurd is
 
 -- where the source did not fail, it is the wanted end, or memory ran out
-pub wanted-end : (fault wanted : Fault) → (fault ≡ wanted) ⊎ IsUnread fault → (fault ≡ ReadFault → ⊥) → (fault ≡ wanted) ⊎ (fault ≡ Memory)
+wanted-end : (fault wanted : Fault) → (fault ≡ wanted) ⊎ IsUnread fault → (fault ≡ ReadFault → ⊥) → (fault ≡ wanted) ⊎ (fault ≡ Memory)
 wanted-end fault wanted (inl same) read = inl same
 wanted-end Memory wanted (inr is) read = inr refl
 wanted-end ReadFault wanted (inr is) read = absurd (read refl)
 wanted-end _ wanted (inr is) read = absurd is
+
+-- a command that reads a trace judges it, by what it answers
+pub judges-trace : {T : Type 0} {form : Form} (old new : SourceTold) (r : Result T Fault)
+    → ((text : List ℕ) (n : ℕ) → old.left ≡ Some text → r ≡ Err (BadTrace n) → IsBadText form text n)
+    → ((text : List ℕ) (n : ℕ) → old.left ≡ Some text → r ≡ Err (TooLong n) → IsLongText form text n)
+    → (r ≡ Err ReadFault → Rose old.faults new.faults)
+    → ((text : List ℕ) (n : ℕ) → old.left ≡ Some text → IsBadText form text n → IsErrAnd r (λ fault. (fault ≡ BadTrace n) ⊎ IsUnread fault))
+    → ((text : List ℕ) (n : ℕ) → old.left ≡ Some text → IsLongText form text n → IsErrAnd r (λ fault. (fault ≡ TooLong n) ⊎ IsUnread fault))
+    → JudgesTrace form old new (end_of r)
+judges-trace old new (Ok u) bad long read_fault finds_bad finds_long = record {
+  bad_trace = λ text n told is. absurd (cc);
+  too_long = λ text n told is. absurd (cc);
+  finds_bad_trace = λ text n told is no_read. absurd (finds_bad text n told is);
+  finds_too_long = λ text n told is no_read. absurd (finds_long text n told is);
+}
+judges-trace old new (Err fault) bad long read_fault finds_bad finds_long = record {
+  bad_trace = λ text n told is. bad text n told (ap Err is);
+  too_long = λ text n told is. long text n told (ap Err is);
+  finds_bad_trace = λ text n told is no_read. wanted-end fault (BadTrace n) (finds_bad text n told is) (λ e. no_read (read_fault (ap Err e)));
+  finds_too_long = λ text n told is no_read. wanted-end fault (TooLong n) (finds_long text n told is) (λ e. no_read (read_fault (ap Err e)));
+}
+
+refusal-long : (fault : TraceFault) (n : ℕ) → refusal_of fault ≡ TooLong n → fault ≡ trace.TooLong n
+refusal-long (trace.TooLong m) n is = let e : m ≡ n = cc in ap trace.TooLong e
+refusal-long _ n is = cc
+
+refusal-read : (fault : TraceFault) → refusal_of fault ≡ ReadFault → fault ≡ trace.ReadFault
+refusal-read trace.ReadFault is = refl
+refusal-read _ is = cc
+
+-- a trace that was not read is judged by the fault that tells why
+pub judges-unread : {form : Form} (old new : SourceTold) (fault : TraceFault)
+    → ((text : List ℕ) (n : ℕ) → old.left ≡ Some text → fault ≡ trace.BadLine n → IsBadText form text n)
+    → ((text : List ℕ) (n : ℕ) → old.left ≡ Some text → fault ≡ trace.TooLong n → IsLongText form text n)
+    → ((text : List ℕ) (n : ℕ) → old.left ≡ Some text → IsBadText form text n → (fault ≡ trace.BadLine n) ⊎ IsFailure fault)
+    → ((text : List ℕ) (n : ℕ) → old.left ≡ Some text → IsLongText form text n → (fault ≡ trace.TooLong n) ⊎ IsFailure fault)
+    → (fault ≡ trace.ReadFault → Rose old.faults new.faults)
+    → JudgesTrace form old new (refusal_of fault)
+judges-unread old new fault bad long finds_bad finds_long rose = record {
+  bad_trace = λ text n told is. bad text n told (refusal-bad fault n is);
+  too_long = λ text n told is. long text n told (refusal-long fault n is);
+  finds_bad_trace = λ text n told is no_read. wanted-end (refusal_of fault) (BadTrace n) (refused fault (trace.BadLine n) (finds_bad text n told is)) (λ e. no_read (rose (refusal-read fault e)));
+  finds_too_long = λ text n told is no_read. wanted-end (refusal_of fault) (TooLong n) (refused fault (trace.TooLong n) (finds_long text n told is)) (λ e. no_read (rose (refusal-read fault e)));
+}

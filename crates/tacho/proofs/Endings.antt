@@ -14,8 +14,10 @@ use Rattle.tacho.specs.declared.forms.Form.TheVariants.{Minutes}
 use Rattle.tacho.specs.End.{end_of, ended_by, IsUnread, IsUnprinted}
 use Rattle.tacho.specs.Outside.{Outside}
 use Rattle.tacho.specs.Minutes.{PrintsMinutes, EndsMinutes}
+use Rattle.recorder.specs.declared.outcome.Outcome.{Outcome}
+use Rattle.tacho.specs.Recorded.{IsEmpty}
 use Rattle.tacho.specs.Program.{Ends}
-use Rattle.tacho.proofs.EndLaws.{prints-end, wanted-end}
+use Rattle.tacho.proofs.EndLaws.{prints-end, judges-trace}
 
 -- no end of `minutes` but at a refusal of the source, the sink or memory
 abbrev pub IsOther : Fault → Type 0
@@ -37,21 +39,15 @@ pub ends-minutes : {T : Type 0} (old new : Outside) (r : Result T Fault)
 ends-minutes old new (Ok u) printed read bad long read_fault write_fault prints finds_bad finds_long front other = record {
   printed = λ text told is. printed text told;
   read = λ is. read;
-  bad_trace = λ text n told is. absurd (cc);
-  too_long = λ text n told is. absurd (cc);
+  judges = judges-trace old.source new.source (Ok u) bad long read_fault finds_bad finds_long;
   prints = λ text start items told is no_read no_write. inl refl;
-  finds_bad_trace = λ text n told is no_read. absurd (finds_bad text n told is);
-  finds_too_long = λ text n told is no_read. absurd (finds_long text n told is);
   front = λ text told is. absurd (cc);
 }
 ends-minutes old new (Err fault) printed read bad long read_fault write_fault prints finds_bad finds_long front other = record {
   printed = λ text told is. absurd (other.0 is);
   read = λ is. absurd (other.0 is);
-  bad_trace = λ text n told is. bad text n told (ap Err is);
-  too_long = λ text n told is. long text n told (ap Err is);
+  judges = judges-trace old.source new.source (Err fault) bad long read_fault finds_bad finds_long;
   prints = λ text start items told is no_read no_write. prints-end fault (prints text start items told is) (λ e. no_read (read_fault (ap Err e))) (λ e. no_write (write_fault (ap Err e)));
-  finds_bad_trace = λ text n told is no_read. wanted-end fault (BadTrace n) (finds_bad text n told is) (λ e. no_read (read_fault (ap Err e)));
-  finds_too_long = λ text n told is no_read. wanted-end fault (TooLong n) (finds_long text n told is) (λ e. no_read (read_fault (ap Err e)));
   front = λ text told is. front text told (ap Err is);
 }
 
@@ -62,11 +58,13 @@ pub minutes-ends : {T : Type 0} (old new : Outside) (r : Result T Fault)
     → (r ≡ Err ReadFault → Rose old.source.faults new.source.faults)
     → (r ≡ Err WriteFault → Rose old.sink.faults new.sink.faults)
     → (old.source.faults ≤ new.source.faults) × (old.sink.faults ≤ new.sink.faults)
-    → Ends (Some Minutes) old new (ended_by (end_of r))
-minutes-ends old new (Ok u) ends other read_fault write_fault counts = record {
+    → (outcome : Outcome) → IsEmpty outcome
+    → Ends (Some Minutes) old new (ended_by outcome (end_of r))
+minutes-ends old new (Ok u) ends other read_fault write_fault counts outcome none = record {
   status = refl;
   usage = (λ is. absurd (cc), λ none. absurd (cc));
   form = ends;
+  unrecorded = none;
   causes = record {
     read_fault = λ is. absurd (cc);
     write_fault = λ is. absurd (cc);
@@ -75,10 +73,11 @@ minutes-ends old new (Ok u) ends other read_fault write_fault counts = record {
     writes = counts.1;
   };
 }
-minutes-ends old new (Err fault) ends other read_fault write_fault counts = record {
+minutes-ends old new (Err fault) ends other read_fault write_fault counts outcome none = record {
   status = refl;
   usage = (λ is. absurd (other.1 is), λ none. absurd (cc));
   form = ends;
+  unrecorded = none;
   causes = record {
     read_fault = λ is. read_fault (ap Err is);
     write_fault = λ is. write_fault (ap Err is);

@@ -46,7 +46,7 @@ fed_many-seconds span waiting speed (suc n) is =
 fed_many-pending : (span : Span) (speed n : ℕ) → (fed_many span speed (suc n)).pending ≡ []
 fed_many-pending span speed n = refl
 
-untrue : false ≡ true → ⊥
+pub untrue : false ≡ true → ⊥
 untrue e = cc
 
 -- what the items of a trace add to a span

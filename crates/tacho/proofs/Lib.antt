@@ -6,3 +6,5 @@ pub mod EndLaws
 pub mod Endings
 pub mod Formats
 pub mod WordRows
+pub mod Lines
+pub mod Recordings

@@ -3,22 +3,25 @@ use Rattle.std.specs.Prelude.{ℕ, Bool, true, false, Result, Ok, Err}
 use Rattle.trace_text.specs.declared.trace.TraceFault.{TraceFault}
 use Rattle.trace_text.specs.declared.trace.TraceFault.TheVariants as trace
 use Rattle.tacho.specs.declared.end.Fault.{Fault}
-use Rattle.tacho.specs.declared.end.Fault.TheVariants.{Done, Usage, BadTrace, TooLong, ReadFault, WriteFault, MediumFault, Memory}
+use Rattle.tacho.specs.declared.end.Fault.TheVariants.{Done, Usage, BadTrace, TooLong, BadUnit, ClockBack, ReadFault, WriteFault, MediumFault, Memory}
 use Rattle.tacho.specs.declared.end.Ended.{Ended}
+use Rattle.recorder.specs.declared.outcome.Outcome.{Outcome}
 
 abbrev pub status_of : Fault → ℕ
 status_of Done = 0
 status_of Usage = 2
 status_of (BadTrace n) = 3
 status_of (TooLong n) = 3
+status_of (BadUnit place) = 4
+status_of (ClockBack kept second) = 5
 status_of ReadFault = 7
 status_of WriteFault = 8
 status_of (MediumFault device) = 9
 status_of Memory = 10
 
--- the end by a fault
-abbrev pub ended_by : Fault → Ended
-ended_by fault = record { status = status_of fault; fault = fault }
+-- the end by a fault, with an outcome
+abbrev pub ended_by : Outcome → Fault → Ended
+ended_by outcome fault = record { status = status_of fault; fault = fault; outcome = outcome }
 
 -- the end where no trace was read
 abbrev pub refusal_of : TraceFault → Fault
@@ -39,6 +42,15 @@ IsUnprinted ReadFault = Unit {0}
 IsUnprinted WriteFault = Unit {0}
 IsUnprinted Memory = Unit {0}
 IsUnprinted _ = ⊥
+
+-- no trace was read, or memory ran out: no device was used
+abbrev pub IsBeforeDevices : Fault → Type 0
+IsBeforeDevices Usage = Unit {0}
+IsBeforeDevices (BadTrace n) = Unit {0}
+IsBeforeDevices (TooLong n) = Unit {0}
+IsBeforeDevices ReadFault = Unit {0}
+IsBeforeDevices Memory = Unit {0}
+IsBeforeDevices _ = ⊥
 
 abbrev pub is_medium_fault : Fault → Bool
 is_medium_fault (MediumFault device) = true

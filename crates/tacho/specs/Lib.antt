@@ -3,6 +3,8 @@ pub mod Forms
 pub mod Feeding
 pub mod End
 pub mod Outside
+pub mod Reading
 pub mod Minutes
+pub mod Recorded
 pub mod Formatting
 pub mod Program

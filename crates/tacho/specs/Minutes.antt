@@ -14,10 +14,11 @@ use Rattle.view_model.specs.Text.{IsUnitView}
 use Rattle.trace_text.specs.declared.trace.Form.TheVariants.{Minutes}
 use Rattle.trace_model.specs.declared.Item.{Item}
 use Rattle.run_model.specs.Span.{trace_span}
-use Rattle.trace_text.specs.Judged.{IsTraceText, IsBadText, IsLongText}
+use Rattle.trace_text.specs.Judged.{IsTraceText}
 use Rattle.tacho.specs.declared.end.Fault.{Fault}
-use Rattle.tacho.specs.declared.end.Fault.TheVariants.{Done, BadTrace, TooLong, WriteFault, Memory}
+use Rattle.tacho.specs.declared.end.Fault.TheVariants.{Done, WriteFault, Memory}
 use Rattle.tacho.specs.Outside.{Outside}
+use Rattle.tacho.specs.Reading.{JudgesTrace}
 
 -- a minute with no card present
 abbrev pub without_card : Minute → Viewed UnitShown
@@ -51,16 +52,10 @@ pub record EndsMinutes (old new : Outside) (fault : Fault) : Type 0 where
   -- left.
   pub printed : (text : List ℕ) → old.source.left ≡ Some text → fault ≡ Done → (out : List ℕ) × PrintsMinutes text out × Appends old.sink.held new.sink.held out
   pub read : fault ≡ Done → IsAtEnd new.source.left
-  -- Each refusal has its cause.
-  pub bad_trace : (text : List ℕ) (n : ℕ) → old.source.left ≡ Some text → fault ≡ BadTrace n → IsBadText Minutes text n
-  pub too_long : (text : List ℕ) (n : ℕ) → old.source.left ≡ Some text → fault ≡ TooLong n → IsLongText Minutes text n
-  -- And each cause its end, unless memory runs out: a trace is printed where neither stream fails, a bad or a long text is
-  -- refused by its line where the source does not fail.
+  -- A bad or a long text is refused by its line.
+  pub judges : JudgesTrace Minutes old.source new.source fault
+  -- And a trace is printed where neither stream fails, unless memory runs out.
   pub prints : (text : List ℕ) (start : ℕ) (items : List Item) → old.source.left ≡ Some text → IsTraceText Minutes text start items
       → (Rose old.source.faults new.source.faults → ⊥) → (Rose old.sink.faults new.sink.faults → ⊥) → (fault ≡ Done) ⊎ (fault ≡ Memory)
-  pub finds_bad_trace : (text : List ℕ) (n : ℕ) → old.source.left ≡ Some text → IsBadText Minutes text n
-      → (Rose old.source.faults new.source.faults → ⊥) → (fault ≡ BadTrace n) ⊎ (fault ≡ Memory)
-  pub finds_too_long : (text : List ℕ) (n : ℕ) → old.source.left ≡ Some text → IsLongText Minutes text n
-      → (Rose old.source.faults new.source.faults → ⊥) → (fault ≡ TooLong n) ⊎ (fault ≡ Memory)
   -- At a write fault a front of what Done appends was appended.
   pub front : (text : List ℕ) → old.source.left ≡ Some text → fault ≡ WriteFault → (out : List ℕ) × PrintsMinutes text out × AppendsFront old.sink.held new.sink.held out

@@ -1,5 +1,5 @@
 -- THE PROGRAM: how its one call ends, and what it leaves untouched (profile). What each form promises stands in the form's own
--- file: Minutes, Formatting.
+-- file: Minutes, Recorded, Formatting.
 use Rattle.std.specs.Prelude.{◌≡◌, ◌↔◌, ◌≤◌, Option, Some, None, IfSome}
 use Rattle.tach_media.specs.Medium.{State, Rose}
 use Rattle.trace_model.specs.declared.Card.TheVariants.{A, B}
@@ -7,13 +7,15 @@ use Rattle.run_model.specs.declared.Device.{Device}
 use Rattle.run_model.specs.declared.Device.TheVariants.{CardA, CardB}
 use Rattle.unit_model.specs.Image.{IsUnit}
 use Rattle.tacho.specs.declared.end.Fault.{Fault}
-use Rattle.tacho.specs.declared.end.Fault.TheVariants.{Done, Usage, ReadFault, WriteFault, MediumFault, Memory}
+use Rattle.tacho.specs.declared.end.Fault.TheVariants.{Done, Usage, ReadFault, WriteFault, MediumFault}
 use Rattle.tacho.specs.declared.end.Ended.{Ended}
+use Rattle.recorder.specs.declared.outcome.Outcome.{Outcome}
 use Rattle.tacho.specs.declared.forms.Form.{Form}
-use Rattle.tacho.specs.declared.forms.Form.TheVariants.{Minutes, FormatCard, FormatUnit}
-use Rattle.tacho.specs.End.{status_of}
+use Rattle.tacho.specs.declared.forms.Form.TheVariants.{Minutes, Record, FormatCard, FormatUnit}
+use Rattle.tacho.specs.End.{status_of, IsBeforeDevices}
 use Rattle.tacho.specs.Outside.{Outside, memory_of}
 use Rattle.tacho.specs.Minutes.{EndsMinutes}
+use Rattle.tacho.specs.Recorded.{EndsRecord, IsEmpty}
 use Rattle.tacho.specs.Formatting.{IsCard, EndsIssue, EndsMaking}
 
 -- the devices have the sizes of a unit and of cards
@@ -23,16 +25,23 @@ pub record AreDevices (unit card_a card_b : State) : Type 0 where
   pub of_card_b : IsCard card_b
 
 -- what each form does, by its own record
-abbrev pub EndsForm : Form → (old new : Outside) → Fault → Type 0
-EndsForm Minutes old new fault = EndsMinutes old new fault
-EndsForm (FormatCard A identity) old new fault = EndsIssue CardA identity old.card_a new.card_a old.sink new.sink fault
-EndsForm (FormatCard B identity) old new fault = EndsIssue CardB identity old.card_b new.card_b old.sink new.sink fault
-EndsForm (FormatUnit identity) old new fault = EndsMaking identity old.unit new.unit old.sink new.sink fault
+abbrev pub EndsForm : Form → (old new : Outside) → Ended → Type 0
+EndsForm Minutes old new ended = EndsMinutes old new ended.fault
+EndsForm Record old new ended = EndsRecord old new ended.outcome ended.fault
+EndsForm (FormatCard A identity) old new ended = EndsIssue CardA identity old.card_a new.card_a old.sink new.sink ended.fault
+EndsForm (FormatCard B identity) old new ended = EndsIssue CardB identity old.card_b new.card_b old.sink new.sink ended.fault
+EndsForm (FormatUnit identity) old new ended = EndsMaking identity old.unit new.unit old.sink new.sink ended.fault
+
+-- but for `record` there is no outcome
+abbrev pub IsUnrecorded : Option Form → Outcome → Type 0
+IsUnrecorded (Some Record) outcome = Unit {0}
+IsUnrecorded asked outcome = IsEmpty outcome
 
 -- What a form leaves as it was: all but the sink and what it names. Each argument says that one of them is as it was.
 abbrev pub LeavesOthers : Option Form → (source unit card_a card_b : Type 0) → Type 0
 LeavesOthers None source unit card_a card_b = source × unit × card_a × card_b
 LeavesOthers (Some Minutes) source unit card_a card_b = unit × card_a × card_b
+LeavesOthers (Some Record) source unit card_a card_b = card_a × card_b
 LeavesOthers (Some (FormatCard A identity)) source unit card_a card_b = source × unit × card_b
 LeavesOthers (Some (FormatCard B identity)) source unit card_a card_b = source × unit × card_a
 LeavesOthers (Some (FormatUnit identity)) source unit card_a card_b = source × card_a × card_b
@@ -50,13 +59,14 @@ pub record Ends (asked : Option Form) (old new : Outside) (ended : Ended) : Type
   pub status : ended.status ≡ status_of ended.fault
   -- Usage comes exactly where the words are in no form.
   pub usage : (ended.fault ≡ Usage) ↔ (asked ≡ None)
-  pub form : IfSome asked (λ form. EndsForm form old new ended.fault)
+  pub form : IfSome asked (λ form. EndsForm form old new ended)
+  pub unrecorded : IsUnrecorded asked ended.outcome
   pub causes : HasCauses old new ended.fault
 
 -- WHAT IT LEAVES UNTOUCHED. Each argument says that one of what it is handed is as it was.
 pub record Spares (asked : Option Form) (fault : Fault) (source sink unit card_a card_b : Type 0) : Type 0 where
   pub others : LeavesOthers asked source unit card_a card_b
-  -- Memory runs out only before the first write to a device.
-  pub memory : fault ≡ Memory → unit × card_a × card_b
+  -- Where no trace was read the devices are as they were; and memory runs out only before the first call on them.
+  pub before : IsBeforeDevices fault → unit × card_a × card_b
   -- But at Done and at a write fault the sink is as it was.
   pub nothing : (fault ≡ Done → ⊥) → (fault ≡ WriteFault → ⊥) → sink

@@ -1,4 +1,5 @@
 //! How the top call ends.
+use recorder::Outcome;
 use run_model::Device;
 
 /// Why the call ended.
@@ -12,6 +13,10 @@ pub enum Fault {
     BadTrace(u32),
     /// At this line of the trace, from 1, a limit is passed first; 0 where the source has more than 16777216 bytes.
     TooLong(u32),
+    /// The unit's image does not decode: the place of the first field, in order of places, that fails.
+    BadUnit(u32),
+    /// The unit's last-kept minute, and the trace's first second (since 1970-01-01 00:00 GMT), whose minute is not later.
+    ClockBack(u32, u32),
     /// The source failed.
     ReadFault,
     /// The sink failed.
@@ -23,42 +28,50 @@ pub enum Fault {
 }
 
 /// How the call ended.
-#[derive(Clone, Copy, Debug, PartialEq, Eq)]
+#[derive(Drop)]
 pub struct Ended {
     /// The program's status: 0, or by the fault.
     pub status: u8,
     /// Why it ended.
     pub fault: Fault,
+    /// What `record` recorded; no line where another form was asked for.
+    pub outcome: Outcome,
 }
 
 impl Ended {
     ghost use Rattle.std.specs.Prelude.{◌≡◌};
     ghost use Rattle.tacho.specs.End.{ended_by, end_of};
 
-    /// The end by this fault.
-    pub fn of(fault: Fault) -> Self
-        ensures { result ≡ ended_by fault }
+    /// The end by this fault, with this outcome.
+    pub fn of(outcome: Outcome, fault: Fault) -> Self
+        ensures { result ≡ ended_by outcome fault }
     {
         let status = match fault {
             Fault::Done => 0,
             Fault::Usage => 2,
             Fault::BadTrace(_) => 3,
             Fault::TooLong(_) => 3,
+            Fault::BadUnit(_) => 4,
+            Fault::ClockBack(_, _) => 5,
             Fault::ReadFault => 7,
             Fault::WriteFault => 8,
             Fault::MediumFault(_) => 9,
             Fault::Memory => 10,
         };
-        Ended { status, fault }
+        Ended {
+            status,
+            fault,
+            outcome,
+        }
     }
 
     /// The end by what a command answers.
-    pub fn after(done: Result<(), Fault>) -> Self
-        ensures { result ≡ ended_by (end_of done) }
+    pub fn after(outcome: Outcome, done: Result<(), Fault>) -> Self
+        ensures { result ≡ ended_by outcome (end_of done) }
     {
         match done {
-            Ok(()) => Ended::of(Fault::Done),
-            Err(fault) => Ended::of(fault),
+            Ok(()) => Ended::of(outcome, Fault::Done),
+            Err(fault) => Ended::of(outcome, fault),
         }
     }
 }

@@ -37,6 +37,8 @@ pub const LIMIT_MOST: u8 = 254;
 pub enum Form {
     /// `minutes`: the decided minutes of a trace are printed.
     Minutes,
+    /// `record`: a trace is recorded on the unit.
+    Record,
     /// `format a N NUMBER SURNAME FIRST`, and `format b ..`: the card is issued to this identity.
     FormatCard { card: Card, identity: CardIdentity },
     /// `format unit N PLATE VIN LIMIT`: the unit is made new, of this identity.
@@ -62,6 +64,9 @@ fn form_of_one(word: &str) -> Option<Form>
 {
     if is_text(word, "minutes") {
         return Some(Form::Minutes);
+    }
+    if is_text(word, "record") {
+        return Some(Form::Record);
     }
     None
 }

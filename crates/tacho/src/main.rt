@@ -7,6 +7,8 @@ mod format_command;
 mod forms;
 mod minutes;
 mod minutes_command;
+mod outcome_text;
+mod record_command;
 mod top;
 mod words;
 
@@ -18,7 +20,7 @@ use std::io::ErrorKind;
 use std::process::ExitCode;
 use std::{env, io};
 use tach_media::{FileMedium, StdSink, StdSource};
-use top::tacho;
+use top::{nothing, tacho};
 use unit_model::layout::IMAGE_SIZE;
 use words::Words;
 
@@ -54,7 +56,7 @@ fn run(rt: &HostRuntime) -> Ended {
             &mut SimCard::new(FileMedium::new(rt, "card-a.img", LARGEST_IMAGE)),
             &mut SimCard::new(FileMedium::new(rt, "card-b.img", LARGEST_IMAGE)),
         ),
-        Err(fault) => Ended::of(fault),
+        Err(fault) => Ended::of(nothing(rt.alloc()), fault),
     }
 }
 
@@ -65,6 +67,8 @@ fn tell(rt: &HostRuntime, fault: Fault) -> io::Result<()> {
         Fault::Usage => eprintln!(rt; "usage"),
         Fault::BadTrace(n) => eprintln!(rt; "bad line {n}"),
         Fault::TooLong(n) => eprintln!(rt; "too long at line {n}"),
+        Fault::BadUnit(place) => eprintln!(rt; "bad unit at {place}"),
+        Fault::ClockBack(kept, second) => eprintln!(rt; "clock back, kept {kept}, start {second}"),
         Fault::ReadFault => eprintln!(rt; "read fault"),
         Fault::WriteFault => eprintln!(rt; "write fault"),
         Fault::MediumFault(Device::Unit) => eprintln!(rt; "medium fault unit"),
@@ -82,6 +86,8 @@ fn main(rt: HostRuntime) -> ExitCode {
 
 #[cfg(test)]
 mod format_tests;
+#[cfg(test)]
+mod record_tests;
 #[cfg(test)]
 mod tests;
 #[cfg(test)]

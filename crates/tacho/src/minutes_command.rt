@@ -60,7 +60,7 @@ pub fn print_minutes<S: Source, K: Sink>(
 }
 
 /// The end where no trace was read.
-fn refusal(fault: TraceFault) -> Fault
+pub fn refusal(fault: TraceFault) -> Fault
     ensures { result ≡ refusal_of fault }
 {
     match fault {

@@ -2,13 +2,18 @@
 ghost use Rattle.std.specs.Prelude.{◌≡◌, Some};
 ghost use Rattle.tacho.specs.Forms.{form_of};
 ghost use Rattle.tacho.specs.Outside.{outside};
+ghost use Rattle.unit_model.specs.Image.{IsUnit};
+ghost use Rattle.tacho.specs.declared.forms.Form.TheVariants.{Record as FormOfRecord};
+ghost use Rattle.tacho.specs.Recorded.{IsEmpty};
 ghost use Rattle.tacho.specs.Program.{AreDevices, Ends, Spares};
 
 use crate::end::{Ended, Fault};
 use crate::format_command::{format_card, make_unit};
 use crate::forms::{Form, form_of};
 use crate::minutes_command::print_minutes;
+use crate::record_command::record;
 use crate::words::Words;
+use recorder::Outcome;
 use run_model::{Card, Device};
 use std::alloc::Global;
 use tach_media::{Chip, Medium, Sink, Source};
@@ -16,6 +21,7 @@ use tach_media::{Chip, Medium, Sink, Source};
 /// Does what the words ask for.
 ///
 /// `minutes` reads a trace from the source, and writes the view text of its decided minutes, no card present, to the sink.
+/// `record` reads a trace that no card bears on, records it on the unit, and writes five lines of counts to the sink.
 /// `format a` and `format b` issue the card anew, of the largest sizes, `format unit` makes the unit new; they write
 /// `formatted` to the sink. No other device is used than the one that the words name.
 pub fn tacho<S: Source, K: Sink, U: Medium, C: Chip>(
@@ -40,7 +46,7 @@ pub fn tacho<S: Source, K: Sink, U: Medium, C: Chip>(
         (source.new ≡ source.old) (sink.new ≡ sink.old) (unit.new ≡ unit.old) (card_a.new ≡ card_a.old) (card_b.new ≡ card_b.old) }
 {
     match form_of(words) {
-        None => Ended::of(Fault::Usage),
+        None => Ended::of(nothing(alloc), Fault::Usage),
         Some(form) => perform(alloc, form, source, sink, unit, card_a, card_b),
     }
 }
@@ -62,16 +68,52 @@ fn perform<S: Source, K: Sink, U: Medium, C: Chip>(
     ensures spares { Spares (Some form) result.fault
         (source.new ≡ source.old) (sink.new ≡ sink.old) (unit.new ≡ unit.old) (card_a.new ≡ card_a.old) (card_b.new ≡ card_b.old) }
 {
+    let nothing = nothing(alloc);
     match form {
-        Form::Minutes => Ended::after(print_minutes(alloc, source, sink)),
+        Form::Minutes => Ended::after(nothing, print_minutes(alloc, source, sink)),
+        Form::Record => perform_record(alloc, source, sink, unit, card_a, card_b),
         Form::FormatCard {
             card: Card::A,
             identity,
-        } => Ended::after(format_card(alloc, &identity, Device::CardA, card_a, sink)),
+        } => Ended::after(
+            nothing,
+            format_card(alloc, &identity, Device::CardA, card_a, sink),
+        ),
         Form::FormatCard {
             card: Card::B,
             identity,
-        } => Ended::after(format_card(alloc, &identity, Device::CardB, card_b, sink)),
-        Form::FormatUnit { identity } => Ended::after(make_unit(&identity, unit, sink)),
+        } => Ended::after(
+            nothing,
+            format_card(alloc, &identity, Device::CardB, card_b, sink),
+        ),
+        Form::FormatUnit { identity } => Ended::after(nothing, make_unit(&identity, unit, sink)),
     }
+}
+
+/// Does what `record` asks for.
+fn perform_record<S: Source, K: Sink, U: Medium, C: Chip>(
+    alloc: Global,
+    source: &mut S,
+    sink: &mut K,
+    unit: &mut U,
+    card_a: &mut C,
+    card_b: &mut C,
+) -> Ended
+    requires { IsUnit (U.state unit.old) }
+    ensures ends { Ends (Some FormOfRecord)
+        (outside S.left S.faults K.held K.faults U.state C.state C.card source.old sink.old unit.old card_a.old card_b.old)
+        (outside S.left S.faults K.held K.faults U.state C.state C.card source.new sink.new unit.new card_a.new card_b.new) result }
+    ensures spares { Spares (Some FormOfRecord) result.fault
+        (source.new ≡ source.old) (sink.new ≡ sink.old) (unit.new ≡ unit.old) (card_a.new ≡ card_a.old) (card_b.new ≡ card_b.old) }
+{
+    let mut outcome = nothing(alloc);
+    let done = record(alloc, source, sink, unit, card_a, card_b, &mut outcome);
+    Ended::after(outcome, done)
+}
+
+/// An outcome without a line.
+pub fn nothing(alloc: Global) -> Outcome
+    ensures { IsEmpty result }
+{
+    Outcome::empty(alloc)
 }

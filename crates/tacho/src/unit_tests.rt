@@ -20,13 +20,13 @@ use unit_model::layout::IMAGE_SIZE;
 const FORMAT_UNIT: [&str; 6] = ["format", "unit", "13", "DEMO", "TACHODEMO00000001", "90"];
 
 /// The version, the identification number, the registration and the limit that they tell.
-const FRONT: [u8; 37] = *b"\x00\x00\x00\x01TACHODEMO00000001\x0D\x01DEMO         Z";
+pub const FRONT: [u8; 37] = *b"\x00\x00\x00\x01TACHODEMO00000001\x0D\x01DEMO         Z";
 
 /// How many writes make a unit new.
 const WRITES: u64 = 612;
 
 /// So many of a byte.
-fn filled(alloc: Global, byte: u8, count: usize) -> Result<Vec<u8>, AllocError>
+pub fn filled(alloc: Global, byte: u8, count: usize) -> Result<Vec<u8>, AllocError>
     ensures { IfOk result (λ bytes. vec_len bytes ≡ count) }
 {
     Ok(vec![in alloc; byte; count]?)
@@ -62,7 +62,7 @@ fn ends<U: Medium>(alloc: Global, words: &Words, unit: &mut U) -> Result<(Fault,
 }
 
 /// The image of a unit that works again.
-fn left<U: Medium>(alloc: Global, unit: &mut U) -> Result<Vec<u8>, Fail> {
+pub fn left<U: Medium>(alloc: Global, unit: &mut U) -> Result<Vec<u8>, Fail> {
     let mut image = filled(alloc, 0, IMAGE_SIZE as usize)?;
     unit.revive()?;
     if unit.size() < IMAGE_SIZE {

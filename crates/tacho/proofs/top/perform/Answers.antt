@@ -7,4 +7,4 @@ returns-in-Minutes-clause-ends g c =
     rw (c.in-Minutes.is, c.after.ensures)
     (minutes-ends _ _ c.print_minutes.result
     (ends-minutes _ _ c.print_minutes.result e.printed e.read e.bad_trace e.too_long e.read_fault e.write_fault e.prints e.finds_bad_trace e.finds_too_long e.front e.other)
-    e.other e.read_fault e.write_fault e.counts)
+    e.other e.read_fault e.write_fault e.counts c.nothing-nothing.result c.nothing-nothing.ensures)

@@ -1,0 +1,7 @@
+use Rattle.tacho.proofs.Recordings.{record-ends}
+use Rattle.tacho.proofs.top.perform_record.Goals as goal
+
+pub returns-clause-ends : goal.returns-clause-ends
+returns-clause-ends g c =
+    let e = c.record-done.ensures in
+    rw c.after.ensures (record-ends _ _ c.record-done.new.outcome c.record-done.result e.ends e.causes e.counts)
