@@ -11,7 +11,9 @@ use Rattle.history_model.specs.Book.{Book, not_begun}
 use Rattle.unit_rule.specs.Marks.{Holds}
 use Rattle.unit_rule.proofs.Marking.{holds-opened}
 use Rattle.recorder.specs.Booked.{StartsAs, started}
-use Rattle.recorder.specs.Opening.{IsLoaded}
+use Rattle.recorder.specs.declared.opening.RunFault.{RunFault}
+use Rattle.recorder.specs.declared.opening.RunFault.TheVariants.{MediumFault, BadUnit, ClockBack, SameCard}
+use Rattle.recorder.specs.Opening.{IsLoaded, IsRefused, IsFoundLater, IsUnitFault}
 
 -- all days of an image that has no more than 366 are retained
 whole : (days : List Day) → length days ≤ 366 → days ≡ newest_of 366 days
@@ -41,3 +43,19 @@ module _ (x : List ℕ) (U V : State) (starts : StartsAs x U) (before : IsCohere
   opened-holds due late = holds-opened (started x U.clock) V x due refl refl run.later now-one since-one
       (inl (whole (recorded x) (few_days x (at_image (IsFoundBy journal) image-is loaded.found).pointer)))
       (at_image Decodes image-is loaded.decodes) (let k = kept-is in omega (arith, k, late))
+
+  pub decodes-is : Decodes x
+  decodes-is = at_image Decodes image-is loaded.decodes
+
+-- what is found later is the unit's, and so is what the opening finds
+pub later-is-units : (U V : State) (fault : RunFault) → IsFoundLater fault → IsUnitFault U V fault
+later-is-units U V (MediumFault device) none = absurd none
+later-is-units U V (BadUnit place) later = tt
+later-is-units U V (ClockBack kept second) later = tt
+later-is-units U V (SameCard number) none = absurd none
+
+pub refused-is-units : (start : ℕ) (U V : State) (fault : RunFault) → IsRefused start U V fault → IsUnitFault U V fault
+refused-is-units start U V (MediumFault device) why = why
+refused-is-units start U V (BadUnit place) why = tt
+refused-is-units start U V (ClockBack kept second) why = tt
+refused-is-units start U V (SameCard number) none = absurd none

@@ -41,3 +41,17 @@ IsRefused start old new (SameCard number) = ⊥
 -- the image that the unit tells has this last-kept minute
 abbrev pub HasFound : Notes → State → Type 0
 HasFound journal unit = (x : List ℕ) × (unit.image ≡ Some x) × (last_kept x ≡ journal.kept)
+
+-- behind the opening no failed call refuses a run: that is a cut
+abbrev pub IsFoundLater : RunFault → Type 0
+IsFoundLater (MediumFault device) = ⊥
+IsFoundLater (BadUnit place) = Unit {0}
+IsFoundLater (ClockBack kept second) = Unit {0}
+IsFoundLater (SameCard number) = ⊥
+
+-- a fault of a run on the unit alone: that of a device is the unit's, which has failed
+abbrev pub IsUnitFault : (old new : State) → RunFault → Type 0
+IsUnitFault old new (MediumFault device) = (device ≡ Recorder) × Rose old.faults new.faults
+IsUnitFault old new (BadUnit place) = Unit {0}
+IsUnitFault old new (ClockBack kept second) = Unit {0}
+IsUnitFault old new (SameCard number) = ⊥

@@ -8,8 +8,6 @@ mod opening;
 mod outcome;
 mod power;
 mod run;
-#[cfg(test)]
-mod tests;
 mod turn;
 
 pub use lines::Lines;

@@ -1,9 +1,9 @@
 //! Power lost, and power back.
-ghost use Rattle.std.specs.Prelude.{◌≡◌, ◌+◌, ◌-◌, ◌/◌, ◌<◌, ◌≤◌, ◌++◌, ◌∷◌, [], ℕ, List, true, false, None, length, is_some, IfOk, OnOk, IsOk};
+ghost use Rattle.std.specs.Prelude.{◌≡◌, ◌+◌, ◌-◌, ◌/◌, ◌<◌, ◌≤◌, ◌++◌, ◌∷◌, [], ℕ, List, true, false, None, length, is_some, IfOk, IfErr, OnOk, IsOk};
 ghost use Rattle.tach_media.specs.Medium.{IsCoherent};
 ghost use Rattle.unit_model.specs.Image.{IsUnit};
 ghost use Rattle.unit_rule.specs.Marks.{Holds};
-ghost use Rattle.recorder.specs.Opening.{IsLoaded, HasFound};
+ghost use Rattle.recorder.specs.Opening.{IsLoaded, HasFound, IsFoundLater};
 ghost use Rattle.history_model.specs.Book.{Book};
 ghost use Rattle.log_model.specs.declared.lines.Mark.{Mark};
 ghost use Rattle.unit_rule.specs.Rule.{Started};
@@ -85,6 +85,7 @@ impl Run {
         requires going { IsGoing self.old (M.state unit.old) }
         requires room { HasBreakRoom cuts_from self.old breaks.old 1 0 }
         requires unfound { self.old.unfound ≤ length breaks.old.items }
+        ensures late { IfErr result IsFoundLater }
         ensures power { IfOk result (λ powered. powered ≡ has_power self.old.power self.old.next) }
         ensures dark { IfOk result (λ powered. powered ≡ false → (self.new ≡ self.old) × (breaks.new ≡ breaks.old)) }
         ensures going { OnOk result (IsGoing self.new (M.state unit.new)) }
@@ -116,6 +117,7 @@ impl Run {
         requires going { IsGoing self.old (M.state unit.old) }
         requires room { length breaks.old.items < breaks.old.room }
         requires unfound { self.old.unfound ≤ length breaks.old.items }
+        ensures late { IfErr result IsFoundLater }
         ensures going { OnOk result (IsGoing self.new (M.state unit.new)) }
         ensures next { OnOk result (self.new.next ≡ self.old.next) }
         ensures marks { OnOk result (IsFresh self.new) }
@@ -150,6 +152,7 @@ impl Run {
         requires loaded { IsLoaded (M.state unit.old) journal }
         requires room { length breaks.old.items < breaks.old.room }
         requires unfound { self.old.unfound ≤ length breaks.old.items }
+        ensures late { IfErr result IsFoundLater }
         ensures going { OnOk result (IsGoing self.new (M.state unit.new)) }
         ensures next { OnOk result (self.new.next ≡ self.old.next) }
         ensures marks { OnOk result (IsFresh self.new) }

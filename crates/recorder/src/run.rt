@@ -1,10 +1,11 @@
 //! A run: the seconds of a trace, one after another.
-ghost use Rattle.std.specs.Prelude.{◌≡◌, ◌+◌, ◌-◌, ◌<◌, ◌≤◌, ◌++◌, ℕ, List, true, false, length, is_some, IfErr, OnOk, IsOk};
+ghost use Rattle.std.specs.Prelude.{◌≡◌, ◌+◌, ◌-◌, ◌/◌, ◌<◌, ◌≤◌, ◌++◌, ℕ, List, true, false, length, is_some, IfErr, OnOk, IsOk};
 ghost use Rattle.tach_media.specs.Medium.{LeavesOnly, Unchanged, last_count};
-ghost use Rattle.unit_model.specs.Image.{IsUnit};
+ghost use Rattle.unit_model.specs.Decoding.{Decodes};
+ghost use Rattle.unit_model.specs.Image.{IsUnit, last_kept};
 ghost use Rattle.history_model.specs.Book.{Book};
 ghost use Rattle.unit_rule.specs.Marks.{Holds};
-ghost use Rattle.recorder.specs.Opening.{IsLoaded, IsRefused};
+ghost use Rattle.recorder.specs.Opening.{IsLoaded, IsRefused, IsFoundLater, IsUnitFault};
 ghost use Rattle.history_model.specs.Presence.{Start};
 ghost use Rattle.recorder.specs.Booked.{StartsAs, started};
 ghost use Rattle.recorder.specs.Followed.{IsFollowed};
@@ -73,6 +74,10 @@ pub fn run_trace<U: Medium, C: Chip>(
     ensures followed { (start : Start) (x : List ℕ) → StartsAs x (U.state unit.old) → (U.state unit.new).clock < last_count → length trace.now.items ≤ 4294967295
         → OnOk result (IsFollowed start x trace.now.start trace.now.items (U.state unit.old).clock outcome.new (U.state unit.new)) }
     ensures finds { outcome.new.finds ≡ outcome.old.finds }
+    // A run that is recorded began on a unit that decodes, in a later minute than its last-kept one; and what keeps one from being
+    // recorded is the unit.
+    ensures begun { (x : List ℕ) → StartsAs x (U.state unit.old) → OnOk result (Decodes x × (last_kept x < trace.now.start / 60)) }
+    ensures fault { IfErr result (IsUnitFault (U.state unit.old) (U.state unit.new)) }
     ensures refused { IfErr result (λ fault. (x : List ℕ) → StartsAs x (U.state unit.old) → (U.state unit.new).clock < last_count
         → IsRefused trace.now.start (U.state unit.old) (U.state unit.new) fault × LeavesOnly (U.state unit.old) (U.state unit.new) Unchanged × (outcome.new ≡ outcome.old)) }
     ensures unit { IsUnit (U.state unit.new) }
@@ -173,6 +178,7 @@ impl Run {
         requires room { HasRoom self.old outcome.old (item_seconds item) (off_count item) (to - from) }
         requires going { IsGoing self.old (M.state unit.old) }
         requires unfound { self.old.unfound ≤ length outcome.old.breaks.items }
+        ensures late { IfErr result IsFoundLater }
         ensures idle { OnOk result (has_seconds item ≡ false → (self.new ≡ self.old) × (outcome.new ≡ outcome.old)) }
         ensures going { OnOk result (IsGoing self.new (M.state unit.new)) }
         ensures next { OnOk result (self.new.next ≡ self.old.next + item_seconds item) }

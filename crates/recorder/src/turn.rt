@@ -1,5 +1,5 @@
 //! Turns: seconds of one minute at one speed.
-ghost use Rattle.std.specs.Prelude.{◌≡◌, ◌+◌, ◌-◌, ◌/◌, ◌%◌, ◌<◌, ◌≤◌, ◌++◌, ◌∷◌, [], ◌&&◌, ℕ, List, true, false, length, min, is_some, OnOk, IsOk};
+ghost use Rattle.std.specs.Prelude.{◌≡◌, ◌+◌, ◌-◌, ◌/◌, ◌%◌, ◌<◌, ◌≤◌, ◌++◌, ◌∷◌, [], ◌&&◌, ℕ, List, true, false, length, min, is_some, IfErr, OnOk, IsOk};
 ghost use Rattle.minute_model.specs.Span.{Span, decided_in, fed_many};
 ghost use Rattle.minute_rules.specs.Kept.{StandsFor};
 
@@ -68,6 +68,7 @@ impl Run {
     ghost use Rattle.recorder.specs.Acting.{between, action_of, actions_in, picks_in, refused_in, with_picks, AreSelections};
     ghost use Rattle.recorder.specs.Power.{is_lit};
     ghost use Rattle.recorder.specs.Booked.{Booked, GoesOn};
+    ghost use Rattle.recorder.specs.Opening.{IsFoundLater};
     ghost use Rattle.recorder.specs.Steps.{IsTurn, IsLitTurn};
     ghost use Rattle.recorder.specs.Recorded.{Recorded};
     ghost use Rattle.trace_model.specs.Trace.{TraceSecond, driven};
@@ -95,6 +96,7 @@ impl Run {
         requires last { to ≤ length items.now }
         requires room { HasRoom self.old outcome.old seconds 0 (to - from) }
         requires unfound { self.old.unfound ≤ length outcome.old.breaks.items }
+        ensures late { IfErr result IsFoundLater }
         ensures going { OnOk result (IsGoing self.new (M.state unit.new)) }
         ensures next { OnOk result (self.new.next ≡ self.old.next + seconds) }
         ensures room { (left offs acts : ℕ) → HasRoom self.old outcome.old (seconds + left) offs (to - from + acts) → OnOk result (HasRoom self.new outcome.new left offs acts) }
@@ -126,6 +128,7 @@ impl Run {
         requires small { self.old.next + seconds ≤ 4294880896 }
         requires room { HasRoom self.old outcome.old seconds 0 0 }
         requires unfound { self.old.unfound ≤ length outcome.old.breaks.items }
+        ensures late { IfErr result IsFoundLater }
         ensures going { OnOk result (IsGoing self.new (M.state unit.new)) }
         ensures next { OnOk result (self.new.next ≡ self.old.next + seconds) }
         ensures room { (left offs acts : ℕ) → HasRoom self.old outcome.old (seconds + left) offs acts → OnOk result (HasRoom self.new outcome.new left offs acts) }
@@ -162,6 +165,7 @@ impl Run {
         requires small { self.old.next + n ≤ 4294880896 }
         requires room { HasRoom self.old outcome.old n 0 0 }
         requires unfound { self.old.unfound ≤ length outcome.old.breaks.items }
+        ensures late { IfErr result IsFoundLater }
         ensures going { OnOk result (IsGoing self.new (M.state unit.new)) }
         ensures next { OnOk result (self.new.next ≡ self.old.next + n) }
         ensures room { (left offs acts : ℕ) → HasRoom self.old outcome.old (n + left) offs acts → OnOk result (HasRoom self.new outcome.new left offs acts) }

@@ -23,7 +23,7 @@ use Rattle.recorder.specs.declared.run.Power.TheVariants.{Lit, Due}
 use Rattle.recorder.specs.Lines.{Listed}
 use Rattle.recorder.specs.Going.{waiting, cuts_from}
 use Rattle.recorder.specs.Booked.{StartsAs, started, due_of}
-use Rattle.recorder.proofs.Opened.{opened-holds, kept-is}
+use Rattle.recorder.proofs.Opened.{opened-holds, kept-is, decodes-is, later-is-units, refused-is-units}
 use Rattle.recorder.specs.Room.{offs, off_count}
 use Rattle.recorder.specs.Turn.{HasRoom}
 use Rattle.recorder.proofs.Items.{each-at, seconds-here, offs-here, room-less, room-behind, waiting-most, total-parts}
@@ -68,6 +68,12 @@ loop-i-init g c =
       goes_on = record { clock = let k = c.judge.ensures.clock in omega (arith, k); tells = run.tells; faults = c.judge.ensures.faults; breakdowns = c.judge.ensures.breakdowns };
       waits = waits-none c.args.trace.now.items;
       finds = refl;
+      began = λ x starts.
+          let U = g.U.Medium.state c.args.unit.now in
+          let V = g.U.Medium.state c.judge.new.unit in
+          let kept = kept-is x U V starts (g.met.U.Medium.coherent c.args.unit.now) (g.met.U.Medium.coherent c.judge.new.unit) run c.in_ok-journal.journal e.loaded in
+          let late = e.later in
+          (decodes-is x U V starts (g.met.U.Medium.coherent c.args.unit.now) (g.met.U.Medium.coherent c.judge.new.unit) run c.in_ok-journal.journal e.loaded, omega (arith, kept, late));
       recorded = λ start x starts below few.
           let U = g.U.Medium.state c.args.unit.now in
           let V = g.U.Medium.state c.judge.new.unit in
@@ -152,6 +158,7 @@ loop-i-preserved g c =
       goes_on = goes-then v.goes_on e.goes_on;
       waits = subst (λ (n : ℕ). Waits items n (i + 1)) (sym waits) (waits-more items i c.loop-i.first item c.get-item.ensures v.first c.requires.well.runs c.requires.for_unit v.waits);
       finds = e.finds ∙ v.finds;
+      began = v.began;
       recorded = λ start x starts below few.
           let clock = e.goes_on.clock in
           let r = v.recorded start x starts (omega (arith, clock, below)) few in
@@ -191,3 +198,6 @@ returns-clause-followed g c = λ start x starts below few.
       begun = c.loop-i.run.begun;
       course = f;
     }
+
+pub returns-clause-begun : goal.returns-clause-begun
+returns-clause-begun g c = c.loop-i.invariant.began

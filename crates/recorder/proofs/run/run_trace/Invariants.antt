@@ -1,7 +1,9 @@
-use Rattle.std.proofs.Common.{◌≡◌, ℕ, ◌+◌, ◌-◌, ◌<◌, ◌≤◌, true, List, length, take, drop, is_some}
+use Rattle.std.proofs.Common.{◌≡◌, ℕ, ◌+◌, ◌-◌, ◌/◌, ◌<◌, ◌≤◌, true, List, length, take, drop, is_some}
 use Rattle.tach_media.specs.Medium.{last_count}
 use Rattle.trace_model.specs.Trace.{total_seconds, seconds_of}
 use Rattle.history_model.specs.Presence.{Start}
+use Rattle.unit_model.specs.Decoding.{Decodes}
+use Rattle.unit_model.specs.Image.{last_kept}
 use Rattle.recorder.specs.Recorded.{Recorded}
 use Rattle.recorder.proofs.Waiting.{Waits}
 use Rattle.history_model.specs.Book.{Book}
@@ -21,6 +23,7 @@ invariant-loop-i g l = record {
   goes_on : GoesOn (g.U.Medium.state l.fn.unit) (g.U.Medium.state l.unit);
   waits : Waits l.trace.items l.first l.i;
   finds : l.outcome.finds ≡ l.fn.outcome.finds;
+  began : (x : List ℕ) → StartsAs x (g.U.Medium.state l.fn.unit) → Decodes x × (last_kept x < l.trace.start / 60);
   recorded : (start : Start) (x : List ℕ) → StartsAs x (g.U.Medium.state l.fn.unit) → (g.U.Medium.state l.unit).clock < last_count → length l.trace.items ≤ 4294967295 →
       Recorded start (started x (g.U.Medium.state l.fn.unit).clock) l.trace.start (seconds_of l.trace.start (take l.i l.trace.items)) l.run l.outcome.breaks.items l.outcome.marks.items (g.U.Medium.state l.unit);
   booked : (x : List ℕ) → StartsAs x (g.U.Medium.state l.fn.unit) → (g.U.Medium.state l.unit).clock < last_count → (b : Book) × Booked (started x (g.U.Medium.state l.fn.unit).clock) l.run b l.outcome.marks.items (g.U.Medium.state l.unit);
