@@ -105,7 +105,7 @@ const SHORT: &[u8] = b"start 1267401600\nrun 300 0\n";
 
 /// The bytes of an image from a place on.
 fn bytes_at(image: &[u8], place: usize, count: usize) -> &[u8] {
-    if place + count <= image.len() {
+    if place <= image.len() && count <= image.len() - place {
         &image[place..place + count]
     } else {
         b""
