@@ -52,7 +52,7 @@ impl Session {
         requires pointer { 0 < vehicles.old.pointer_width }
         requires gate { vehicles.old.gate + 4 ≤ length entry.now }
         requires width { length entry.now ≤ vehicles.old.width }
-        requires short { length entry.now ≤ 255 }
+        requires short { length entry.now ≤ 254 }
         requires open { gate_number vehicles.old entry.now ≢ 0 }
         ensures sizes { self.new.application ≡ self.old.application }
         ensures ring { vehicles.new ≡ vehicles.old }
@@ -80,7 +80,7 @@ impl Session {
         requires pointer { 0 < vehicles.old.pointer_width }
         requires gate { vehicles.old.gate + 4 ≤ length entry.now }
         requires width { length entry.now ≤ vehicles.old.width }
-        requires short { length entry.now ≤ 255 }
+        requires short { length entry.now ≤ 254 }
         requires open { gate_number vehicles.old entry.now ≢ 0 }
         ensures sizes { self.new.application ≡ self.old.application }
         ensures ring { vehicles.new ≡ vehicles.old }

@@ -1,6 +1,6 @@
 -- Parts of Application_Identification.
-use Rattle.std.proofs.Common.{◌≡◌, ℕ, ◌+◌, ◌-◌, ◌≤◌, List, length, take, drop, Option, Some, None, IfSome, refl, sym, ◌∙◌, ap, subst, arith}
-use Rattle.std.proofs.lemmas.List.{take-take, drop-drop, drop-take}
+use Rattle.std.proofs.Common.{◌≡◌, ℕ, ◌+◌, ◌≤◌, List, Option, Some, None, IfSome, sym, ◌∙◌, ap, subst}
+use Rattle.tach_media.proofs.Images.{part_in}
 use Rattle.tach_media.specs.Medium.{State, IsCoherent, bytes_at}
 use Rattle.tach_media.proofs.Runs.{if_told}
 use Rattle.chip_model.specs.declared.command.CardState.{CardState}
@@ -8,14 +8,7 @@ use Rattle.card_commands.specs.Performing.{IsSound}
 
 -- a part of the file is a part of the image
 pub part_of : (x bytes : List ℕ) (offset n : ℕ) → offset + n ≤ 10 → bytes ≡ bytes_at x 33 10 → bytes_at bytes offset n ≡ bytes_at x (33 + offset) n
-part_of x bytes offset n fits is =
-    let k = 10 - offset in
-    let whole : offset + k ≡ 10 = omega (arith, fits) in
-    ap (λ (l : List ℕ). bytes_at l offset n) is
-    ∙ ap (λ (m : ℕ). take n (drop offset (take m (drop 33 x)))) (sym whole)
-    ∙ ap (take n) (drop-take offset k (drop 33 x))
-    ∙ take-take n k (drop offset (drop 33 x)) (omega (arith, fits))
-    ∙ ap (take n) (drop-drop offset 33 x)
+part_of x bytes offset n fits is = ap (λ (l : List ℕ). bytes_at l offset n) is ∙ part_in x 33 10 offset n fits
 
 -- what is so of a value that is there
 pub where_some : {A : Type 0} {o : Option A} (P : A → Type 0) {x : A} → o ≡ Some x → P x → IfSome o P

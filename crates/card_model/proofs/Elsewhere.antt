@@ -1,22 +1,13 @@
 -- A write outside the file of days changes nothing of what it holds, and nothing of how it is judged.
-use Rattle.std.proofs.Common.{◌≡◌, ◌⊎◌, inl, inr, ℕ, ◌+◌, ◌-◌, ◌%◌, ◌≤◌, Bool, true, false, List, [], ◌∷◌, take, drop, sym, ◌∙◌, ap, subst, arith}
+use Rattle.std.proofs.Common.{◌≡◌, ◌⊎◌, inl, inr, ℕ, ◌+◌, ◌-◌, ◌%◌, ◌≤◌, Bool, true, false, List, [], ◌∷◌, sym, ◌∙◌, ap, subst, arith}
 use Rattle.std.specs.Prelude.{nat_eq, ◌&&◌}
-use Rattle.std.proofs.lemmas.List.{drop-drop, drop-take, take-take}
 use Rattle.tach_media.specs.Medium.{bytes_at, SameOutside}
-use Rattle.tach_media.proofs.Images.{part_before, part_after}
+use Rattle.tach_media.proofs.Images.{part_before, part_after, part_in}
 use Rattle.card_model.specs.Bytes.{number}
 use Rattle.card_model.specs.Days.{Day, far}
 use Rattle.card_model.specs.Image.{StringShape, turned, oldest_pointer, newest_pointer, string_of, circle_of, IsPointer, IsPlace, Holds}
 use Rattle.card_model.specs.Walk.{days_in, days_of}
 use Rattle.card_model.specs.Checks.{Check, check, first_failing, is_pointer, day_checks, distance_of, is_empty, checks_of, first_bad}
-
--- a part of a part
-part_of : (x : List ℕ) (b m k n : ℕ) → k + n ≤ m → bytes_at (bytes_at x b m) k n ≡ bytes_at x (b + k) n
-part_of x b m k n fits =
-    let whole : k + (m - k) ≡ m = omega (arith, fits) in
-    let t = drop b x in
-    ap (λ (j : ℕ). bytes_at (take j t) k n) (sym whole) ∙ ap (λ (l : List ℕ). take n l) (drop-take k (m - k) t)
-    ∙ take-take n (m - k) (drop k t) (omega (arith, whole, fits)) ∙ ap (λ (l : List ℕ). take n l) (drop-drop k b x)
 
 -- a write before the file or behind it
 pub file_outside : (r : StringShape) (place len : ℕ) (x c : List ℕ) → (place + len ≤ r.base) ⊎ (r.base + (4 + r.size) ≤ place) → SameOutside place len x c → bytes_at c r.base (4 + r.size) ≡ bytes_at x r.base (4 + r.size)
@@ -31,7 +22,7 @@ checks_in r empty o n circle =
 
 module _ (r : StringShape) (x c : List ℕ) (same : bytes_at c r.base (4 + r.size) ≡ bytes_at x r.base (4 + r.size)) where
   part_same : (k n : ℕ) → k + n ≤ 4 + r.size → bytes_at c (r.base + k) n ≡ bytes_at x (r.base + k) n
-  part_same k n fits = sym (part_of c r.base (4 + r.size) k n fits) ∙ ap (λ (l : List ℕ). bytes_at l k n) same ∙ part_of x r.base (4 + r.size) k n fits
+  part_same k n fits = sym (part_in c r.base (4 + r.size) k n fits) ∙ ap (λ (l : List ℕ). bytes_at l k n) same ∙ part_in x r.base (4 + r.size) k n fits
 
   pub oldest_elsewhere : oldest_pointer r c ≡ oldest_pointer r x
   oldest_elsewhere =

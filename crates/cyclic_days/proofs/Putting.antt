@@ -1,9 +1,10 @@
 -- What is looked at, if anything, and then a plan.
-use Rattle.std.proofs.Common.{◌≡◌, ⊎_elim, inl, inr, ℕ, Bool, true, List, length, Option, Some, None, IfSome, option_map, refl, sym, ◌∙◌, ap, subst, arith}
+use Rattle.std.proofs.Common.{◌≡◌, ⊎_elim, inl, inr, ℕ, Bool, true, List, length, IfSome, option_map, refl, ◌∙◌, ap, subst, arith}
 use Rattle.std.specs.Prelude.{◌≤◌}
 use Rattle.tach_media.specs.Medium.{State, Reads, Writes, HasCause, IsSettled}
-use Rattle.tach_media.proofs.Runs.{weaken, after_reads, goes_same, reads_then, reads_writes, settled_then}
-use Rattle.write_plan.specs.Plan.{Piece, put_all, IsPartway, PutsAll, PutsBy}
+use Rattle.tach_media.proofs.Runs.{after_reads, goes_same, reads_then, reads_writes, settled_then}
+use Rattle.write_plan.specs.Plan.{Piece, PutsAll, PutsBy}
+use Rattle.write_plan.proofs.Plans.{puts_as}
 use Rattle.cyclic_days.specs.Steps.{IsIdle, Looks}
 
 -- the cause of an answer, where before it no call was made
@@ -78,20 +79,4 @@ looks_failed (inr idle) next = record { same = λ fine. absurd (cc); leaves = go
 -- the plan is that of the image, where it is told
 pub puts_told : {old mid new : State} {failed : Bool} {least most : ℕ} (ps : List Piece) (plan : List ℕ → List Piece) → Looks old mid → IfSome old.image (λ x. plan x ≡ ps) → PutsAll mid new failed ps
     → least ≤ length ps → length ps ≤ most → PutsBy old new failed least most plan
-puts_told {old} {mid} {new} {failed} {least} {most} ps plan first told next low high =
-    let run = looks_writes first next in
-    record {
-      written = λ fine. run.written fine ∙ named old.image told;
-      leaves = weaken run.leaves (λ x c was here. subst (λ (qs : List Piece). IsPartway qs x c) (sym (at x was)) here);
-      settled = run.settled;
-      begun = λ fine. omega (arith, low, run.begun fine);
-      clock = omega (arith, high, run.clock);
-      cause = run.cause;
-    }
-  where
-    at : (x : List ℕ) → old.image ≡ Some x → plan x ≡ ps
-    at x was = subst (λ (o : Option (List ℕ)). IfSome o (λ x. plan x ≡ ps)) was told
-
-    named : (o : Option (List ℕ)) → IfSome o (λ x. plan x ≡ ps) → option_map (put_all ps) o ≡ option_map (λ x. put_all (plan x) x) o
-    named None is = refl
-    named (Some x) is = ap (λ (qs : List Piece). Some (put_all qs x)) (sym is)
+puts_told ps plan first told next low high = puts_as ps plan told (looks_writes first next) low high

@@ -1,5 +1,5 @@
 -- The newest day goes.
-use Rattle.std.proofs.Common.{◌≡◌, ◌≢◌, inl, inr, ⊎_elim, ℕ, ◌+◌, ◌%◌, ◌<◌, ◌≤◌, Bool, true, false, cond, List, [], ◌∷◌, ◌++◌, length, refl, sym, ◌∙◌, ap, subst, arith, lit≤, append_assoc, length-append}
+use Rattle.std.proofs.Common.{◌≡◌, ◌≢◌, inl, inr, ⊎_elim, ℕ, suc, ◌+◌, ◌%◌, ◌<◌, ◌≤◌, Bool, true, false, cond, List, [], ◌∷◌, ◌++◌, length, refl, sym, ◌∙◌, ap, subst, arith, lit≤, append_assoc, length-append}
 use Rattle.std.proofs.lemmas.Bool.Decides.{nat_tests}
 use Rattle.std.proofs.lemmas.List.{append-nil}
 use Rattle.tach_media.specs.Medium.{put, bytes_at, SameOutside, IsPartlyWritten}
@@ -236,6 +236,24 @@ trimmed r date i x y step none = record {
       let s = step.list days h in
       subst (λ (l : List Day). Holds r y l) (sym (ap (λ (l : List Day). until date l) s.1.less.is ∙ until_is date 0 s.0 s.1.less.gone (subst (λ (l : List Day). AreDays 0 l) s.1.less.is h.ordered) s.1.less.later (none days s.0 h s.1 s.2))) s.2;
 }
+
+-- of days of which the rest are later no more are left than these
+until_few : (date : ℕ) (kept gone : List Day) → AllLater date gone → length (until date (kept ++ gone)) ≤ length kept
+until_few date [] gone later = omega (arith, ap length (until_none date gone later))
+until_few date (k ∷ ks) gone later = by (nat_le k.date date) (until_few date ks gone later)
+  where
+    by : (b : Bool) → length (until date (ks ++ gone)) ≤ length ks → length (cond b (k ∷ until date (ks ++ gone)) []) ≤ suc (length ks)
+    by true rest = omega arith
+    by false rest = omega arith
+
+pub until_short : (date : ℕ) (days : List Day) → length (until date days) ≤ length days
+until_short date days = subst (λ (l : List Day). length (until date l) ≤ length days) (append-nil days) (until_few date days [] tt)
+
+-- as many days are gone at least as drops were made
+pub drops_few : (r : StringShape) (date i : ℕ) (x c : List ℕ) → IsTrimming r date i x c → (days : List Day) → Holds r x days → i + length (until date days) ≤ length days
+drops_few r date i x c step days h =
+    let s = step.list days h in
+    omega (arith, s.1.many, ap length s.1.less.is, length-append s.0 s.1.less.gone, subst (λ (l : List Day). length (until date l) ≤ length s.0) (sym s.1.less.is) (until_few date s.0 s.1.less.gone s.1.less.later))
 
 -- so many can't be gone and one be left
 pub too_many : (r : StringShape) (shape : IsStringShape r) (date i : ℕ) (x : List ℕ) → r.base + (4 + r.size) ≤ length x → 984 ≤ i → (days kept : List Day) → Holds r x days → ShorterBy date i days kept → newest_later date kept ≡ false

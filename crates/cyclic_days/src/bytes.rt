@@ -38,6 +38,7 @@ pub fn write_two<M: Medium>(medium: &mut M, place: u32, n: u32) -> Result<(), Fa
     ensures moments { LeavesOnly (M.state medium.old) (M.state medium.new) (IsPartlyWritten place (two_bytes n)) }
     ensures settled { OnOk result ((M.state medium.new).clock < last_count → IsSettled (M.state medium.new)) }
     ensures cause { HasCause (M.state medium.old) (M.state medium.new) (is_err result) }
+    ensures most { (M.state medium.new).clock ≤ (M.state medium.old).clock + 1 }
 {
     medium.write_at(place, &[(n / 256) as u8, (n % 256) as u8])
 }

@@ -308,6 +308,7 @@ impl Circle {
         ensures moments { LeavesOnly (M.state medium.old) (M.state medium.new) (IsPartlyWritten (at self.now place) (two_bytes n)) }
         ensures settled { OnOk result ((M.state medium.new).clock < last_count → IsSettled (M.state medium.new)) }
         ensures cause { HasCause (M.state medium.old) (M.state medium.new) (is_err result) }
+        ensures most { (M.state medium.new).clock ≤ (M.state medium.old).clock + 1 }
     {
         write_two(medium, self.base + 4 + place, n)
     }

@@ -1,15 +1,15 @@
 -- One event more of a type that keeps one a day: what stands in the places is what is to be kept.
-use Rattle.std.proofs.Common.{◌≡◌, ◌∙◌, ◌⊎◌, inl, inr, ℕ, zero, suc, ◌+◌, ◌/◌, ◌<◌, ◌≤◌, Bool, true, false, cond, Option, Some, None, List, [], ◌∷◌, ◌++◌, length, refl, ap, sym, subst, arith, append-nil, All}
-use Rattle.std.specs.Prelude.{nat_lt, nat_le, ◌==◌, ◌&&◌, ◌||◌, not, filter, find, slice_set, position}
+use Rattle.std.proofs.Common.{◌≡◌, ◌∙◌, ◌⊎◌, inl, inr, ℕ, ◌+◌, ◌/◌, ◌<◌, ◌≤◌, Bool, true, false, cond, Option, Some, None, List, [], ◌∷◌, ◌++◌, length, refl, ap, sym, subst, arith, append-nil, All}
+use Rattle.std.specs.Prelude.{nat_lt, nat_le, ◌==◌, ◌&&◌, ◌||◌, not, find, position}
 use Rattle.std.specs.List.{list_all, list_any, position_or_len}
-use Rattle.std.proofs.lemmas.Bool.{eqb-true, eqb-false, eq-eqb, ne_eqb, ltb-true, ltb-false, le-leb, leb-true, leb-false, lt-ltb}
+use Rattle.std.proofs.lemmas.Bool.{eqb-true, eqb-false, eq-eqb, ne_eqb, ltb-true, ltb-false, le-leb, leb-true, lt-ltb}
 use Rattle.std.proofs.lemmas.List.{length-append}
 use Rattle.std.proofs.lemmas.List.Elements.{All-nil, All-cons, All-head, All-tail, All-append, All-push, All-weaker, filter-append}
 use Rattle.std.proofs.lemmas.List.Folds.{find-append}
 use Rattle.std.proofs.lemmas.List.Quantifiers.{position-Some}
 use Rattle.event_model.specs.declared.kinds.Purpose.{Purpose}
 use Rattle.event_model.specs.declared.entries.Held.{Held}
-use Rattle.event_model.specs.Places.{earliest, held_at, where_later, recent_place, is_of_day, measure, place_beside, placed}
+use Rattle.event_model.specs.Places.{earliest, held_at, where_later, is_of_day, measure, place_beside, placed}
 use Rattle.event_model.specs.Kept.{stored, on_day, best_of, KeepsDays}
 use Rattle.event_model.proofs.Retaining.{by_test, all-front, all-back, Split, split-at, and-first, and-second, or-second, Later, all-later, any-found, none-earliest, stored-one, stored-none, stored-all, stored-most, stored-append}
 

@@ -1,7 +1,6 @@
 -- Numbers one after another, and rows of seconds.
-use Rattle.std.proofs.Common.{◌≡◌, ◌∙◌, ℕ, zero, suc, ◌+◌, ◌-◌, ◌*◌, ◌<◌, ◌≤◌, List, [], ◌∷◌, ◌++◌, length, map, refl, ap, sym, arith, fold}
-use Rattle.std.proofs.lemmas.List.{length-append, length-map}
-use Rattle.event_model.specs.Spans.{SpeedSecond, InARow, first_of, last_of, in_a_row}
+use Rattle.std.proofs.Common.{◌≡◌, ℕ, zero, suc, ◌+◌, ◌<◌, List, [], ◌∷◌, ◌++◌, length, map, refl, arith}
+use Rattle.event_model.specs.Spans.{InARow, first_of, last_of, in_a_row}
 
 -- the last of numbers one after another
 pub last_of-row : (from : ℕ) (xs : List ℕ) → InARow from xs → 0 < length xs → last_of xs + 1 ≡ from + length xs

@@ -1,5 +1,5 @@
 -- Worked places of events, computed on the definitions.
-use Rattle.std.proofs.Common.{◌≡◌, ℕ, ◌+◌, ◌*◌, Some, None, List, [], ◌∷◌, ◌++◌, refl, replicate}
+use Rattle.std.proofs.Common.{◌≡◌, ℕ, ◌+◌, Some, None, List, [], ◌∷◌, refl, replicate}
 use Rattle.event_model.specs.declared.entries.Held.{Held}
 use Rattle.event_model.specs.Places.{earliest, place_of, day_place, similar_after, noted}
 

@@ -1,8 +1,6 @@
 -- Worked over speedings, driving without a card and power interruptions, computed on the definitions.
-use Rattle.std.proofs.Common.{◌≡◌, ℕ, ◌+◌, ◌/◌, true, false, Some, None, List, [], ◌∷◌, ◌++◌, refl}
-use Rattle.event_model.specs.declared.entries.Over.{Over}
-use Rattle.event_model.specs.declared.entries.Span.{Span}
-use Rattle.event_model.specs.Spans.{SpeedSecond, DriverSecond, overs_of, bares_of, gap_of, at_speed, all_bare}
+use Rattle.std.proofs.Common.{◌≡◌, ◌+◌, ◌/◌, true, false, Some, None, [], ◌∷◌, ◌++◌, refl}
+use Rattle.event_model.specs.Spans.{overs_of, bares_of, gap_of, at_speed, all_bare}
 
 -- 61 seconds at 100 km/h with limit 90, from 2010-03-01 00:00:00 to 00:01:00, then two seconds at rest
 over_speeding_of_61_seconds : overs_of 90 (at_speed 0x4B8B0380 61 100 ++ at_speed 0x4B8B03BD 2 0)

@@ -1,5 +1,5 @@
 -- The events and faults of a run, by type, from its seconds and its run log (Annex IB, section III.12; the moments: profile).
-use Rattle.std.specs.Prelude.{ℕ, zero, suc, ◌+◌, ◌==◌, Bool, true, false, not, ◌&&◌, Option, Some, None, List, [], ◌∷◌, ◌++◌, take, map, length, nat_lt, slice_get, if◌then◌else◌, option_map, option_to_list, fold, flat_map}
+use Rattle.std.specs.Prelude.{ℕ, zero, suc, ◌==◌, Bool, not, ◌&&◌, Option, Some, None, List, [], ◌∷◌, ◌++◌, take, map, length, nat_lt, slice_get, if◌then◌else◌, option_map, option_to_list, fold, flat_map}
 use Rattle.std.specs.List.{filter_map}
 use Rattle.activity_codec.specs.declared.values.Slot.{Slot}
 use Rattle.activity_codec.specs.declared.values.Slot.TheVariants.{Driver, CoDriver}

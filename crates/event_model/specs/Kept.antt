@@ -1,5 +1,5 @@
 -- Which events of a type are kept, of those that came so far, in their order (Annex IB, section III.12).
-use Rattle.std.specs.Prelude.{◌≡◌, ◌⊎◌, ℕ, ◌+◌, ◌/◌, ◌==◌, ◌<◌, ◌≤◌, not, Bool, true, Option, Some, List, [], ◌∷◌, ◌++◌, length, filter, find, fold, nat_le, All, IsPermutation}
+use Rattle.std.specs.Prelude.{◌≡◌, ◌⊎◌, ℕ, ◌/◌, ◌==◌, ◌<◌, ◌≤◌, not, true, Option, Some, List, ◌++◌, length, filter, find, fold, nat_le, All, IsPermutation}
 use Rattle.std.specs.List.{list_any, list_all}
 use Rattle.event_model.specs.declared.kinds.Purpose.{Purpose}
 use Rattle.event_model.specs.declared.entries.Held.{Held}

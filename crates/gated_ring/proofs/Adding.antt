@@ -7,7 +7,8 @@ use Rattle.tach_media.specs.Medium.{put, bytes_at, SameOutside}
 use Rattle.tach_media.proofs.Images.{put_outside, outside_wider, outside_then}
 use Rattle.gated_ring.specs.Ring.{Shape, IsShape, size_of, place_of, gate_of, pointer, PointsInside, is_there, entry_at, next, taken, gate_bytes, gate_number, with_head, IsDense}
 use Rattle.gated_ring.specs.Change.{SameOthers, IsExtended, IsAddStep, IsAdding, IsAdded}
-use Rattle.gated_ring.specs.Steps.{freed, filled, pointed, pointer_bytes, placed, IsPlacing}
+use Rattle.gated_ring.specs.Plans.{pointer_bytes}
+use Rattle.gated_ring.proofs.Steps.{freed, filled, pointed, placed, IsPlacing}
 use Rattle.gated_ring.proofs.Others.{IsShut, IsFree, others_none, others_then, others_same, pointer_same, inside_ring, shut_zeros, shut_filling, free_shut, free_pointing, pointer_length, pointer_put, pointer_outside, gate_outside}
 use Rattle.gated_ring.proofs.Listing.{taken_below, shortened_indices, shortened_list, extended_indices, extended_list}
 use Rattle.gated_ring.proofs.Dense.{dense_shortened, dense_extended, newest_shortened, newest_extended}

@@ -3,11 +3,11 @@ use Rattle.std.proofs.Common.{◌≡◌, ◌⊎◌, inl, inr, ⊎_elim, ℕ, ◌
 use Rattle.std.specs.Prelude.{◌==◌}
 use Rattle.byte_fields.specs.Images.{big_number}
 use Rattle.tach_media.specs.Medium.{bytes_at, SameOutside}
-use Rattle.tach_media.proofs.Images.{part_before, part_after}
+use Rattle.tach_media.proofs.Images.{part_before, part_after, part_in}
 use Rattle.gated_ring.specs.Ring.{Shape, IsShape, size_of, place_of, gate_of, pointer, PointsInside, is_there, entry_at, next, order, indices, ring_list, IsNewest, taken, staying, without_first, IsDense}
 use Rattle.gated_ring.proofs.Orders.{each_weaker, order_each, next_below, filter_same, map_same}
 use Rattle.gated_ring.proofs.Listing.{indices_below}
-use Rattle.gated_ring.proofs.Places.{place_high, part_of}
+use Rattle.gated_ring.proofs.Places.{place_high}
 
 -- a write before the ring or behind it
 pub ring_outside : (r : Shape) (place len : ℕ) (x c : List ℕ) → (place + len ≤ r.base) ⊎ (r.base + size_of r ≤ place) → SameOutside place len x c → bytes_at c r.base (size_of r) ≡ bytes_at x r.base (size_of r)
@@ -16,7 +16,7 @@ ring_outside r place len x c (inr high) same = part_before place len r.base (siz
 
 module _ (r : Shape) (shape : IsShape r) (x c : List ℕ) (same : bytes_at c r.base (size_of r) ≡ bytes_at x r.base (size_of r)) where
   part_same : (k n : ℕ) → k + n ≤ size_of r → bytes_at c (r.base + k) n ≡ bytes_at x (r.base + k) n
-  part_same k n fits = sym (part_of c r.base (size_of r) k n fits) ∙ ap (λ (l : List ℕ). bytes_at l k n) same ∙ part_of x r.base (size_of r) k n fits
+  part_same k n fits = sym (part_in c r.base (size_of r) k n fits) ∙ ap (λ (l : List ℕ). bytes_at l k n) same ∙ part_in x r.base (size_of r) k n fits
 
   -- what lies at a place of the ring
   at_same : (p n : ℕ) → r.base ≤ p → p + n ≤ r.base + size_of r → bytes_at c p n ≡ bytes_at x p n

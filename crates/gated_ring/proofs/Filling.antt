@@ -3,7 +3,7 @@ use Rattle.std.proofs.Common.{◌≡◌, ℕ, ◌+◌, ◌≤◌, List, length, 
 use Rattle.tach_media.specs.Medium.{put, SameOutside, IsPartlyWritten}
 use Rattle.tach_media.proofs.Images.{put_outside, part_before, part_after, outside_wider, outside_then}
 use Rattle.gated_ring.specs.Ring.{Shape, place_of, gate_of}
-use Rattle.gated_ring.specs.Steps.{IsFilling}
+use Rattle.gated_ring.proofs.Steps.{IsFilling}
 
 module _ (r : Shape) (i p : ℕ) (front x : List ℕ) (at : p ≡ place_of r i) (front_fits : length front ≤ r.gate) (gate_fits : r.gate + 4 ≤ r.width) where
   pub filling_front : (c : List ℕ) → IsPartlyWritten p front x c → IsFilling r i x c

@@ -8,6 +8,8 @@ pub mod NewestMoments
 pub mod Orders
 pub mod Others
 pub mod Places
+pub mod Planned
 pub mod Putting
 pub mod Rows
+pub mod Steps
 pub mod Writing

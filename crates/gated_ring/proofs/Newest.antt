@@ -6,7 +6,7 @@ use Rattle.std.proofs.lemmas.Bool.Decides.{nat_tests}
 use Rattle.std.proofs.lemmas.List.{append-nil}
 use Rattle.std.proofs.lemmas.List.Elements.{filter-append}
 use Rattle.gated_ring.specs.Ring.{Shape, gate_of, number_at, is_there, pointer, next, order, indices, IsNewest}
-use Rattle.gated_ring.specs.Steps.{IsNewestOf}
+use Rattle.gated_ring.specs.Searching.{IsNewestOf}
 use Rattle.gated_ring.proofs.Orders.{range_split, filter_first, filter_skip}
 
 -- whether an entry is there, by the number in its gate

@@ -9,7 +9,8 @@ use Rattle.tach_media.specs.Medium.{put, bytes_at, SameOutside, IsPartlyWritten}
 use Rattle.tach_media.proofs.Images.{put_outside, part_before, part_after, part_put, outside_wider, outside_then, outside_same}
 use Rattle.gated_ring.specs.Ring.{Shape, IsShape, size_of, place_of, gate_of, pointer, is_there, entry_at}
 use Rattle.gated_ring.specs.Change.{SameOthers}
-use Rattle.gated_ring.specs.Steps.{pointer_bytes, IsFilling}
+use Rattle.gated_ring.specs.Plans.{pointer_bytes}
+use Rattle.gated_ring.proofs.Steps.{IsFilling}
 use Rattle.gated_ring.proofs.Places.{place_low, place_high, places_apart}
 
 pub others_then : (r : Shape) (i : ℕ) (x y c : List ℕ) → SameOthers r i x y → SameOthers r i y c → SameOthers r i x c

@@ -9,7 +9,7 @@ use Rattle.tach_media.specs.Medium.{put, bytes_at, SameOutside, IsPartlyWritten}
 use Rattle.tach_media.proofs.Images.{put_outside, part_before, part_after, part_put, part_split, outside_wider, outside_then}
 use Rattle.gated_ring.specs.Ring.{Shape, IsShape, size_of, place_of, gate_of, pointer, PointsInside, is_there, entry_at, next, order, indices, indices_with, indices_without, gate_bytes, gate_number, with_head, up_to, IsRun, IsDense}
 use Rattle.gated_ring.specs.Change.{SameOthers, IsReplaced, IsAbsent, IsReplacingEntry, IsClosed, IsSet, OrUnwritten}
-use Rattle.gated_ring.specs.Steps.{freed, filled, replaced, IsReplacing}
+use Rattle.gated_ring.proofs.Steps.{freed, filled, replaced, IsReplacing}
 use Rattle.gated_ring.proofs.Places.{place_high}
 use Rattle.gated_ring.proofs.Others.{IsShut, others_same, pointer_same, shut_zeros, shut_filling}
 use Rattle.gated_ring.proofs.Orders.{Each, each_weaker, each_filter, next_below, rest, rest_others, order_each, filter_same, map_same, without_none, without_one, without_last}

@@ -7,7 +7,7 @@ use Rattle.std.proofs.lemmas.List.{length-take-le, drop-take, drop-drop}
 use Rattle.tach_media.specs.Medium.{put, bytes_at, SameOutside, IsPartlyWritten}
 use Rattle.tach_media.proofs.Images.{put_outside, part_before, part_after, part_put, part_split, outside_same}
 use Rattle.gated_ring.specs.Ring.{Shape, IsShape, size_of, place_of, gate_of, is_there, entry_at, gate_bytes, gate_number, with_head}
-use Rattle.gated_ring.specs.Steps.{freed, filled, opened, IsFilling}
+use Rattle.gated_ring.proofs.Steps.{freed, filled, opened, IsFilling}
 use Rattle.gated_ring.proofs.Places.{place_high}
 use Rattle.gated_ring.proofs.Filling.{filling_back}
 use Rattle.gated_ring.proofs.Others.{IsShut, shut_freed, shut_filling, gate_outside}

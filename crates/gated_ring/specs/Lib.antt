@@ -1,4 +1,5 @@
 pub mod Change
 pub mod Loading
+pub mod Plans
 pub mod Ring
-pub mod Steps
+pub mod Searching

@@ -2,11 +2,12 @@
 #![tactic(auto)]
 
 mod fault;
-mod fields;
 mod ring;
+mod room;
 
 pub use fault::RingFault;
 pub use ring::Ring;
+pub use room::Room;
 
 #[cfg(test)]
 mod tests;

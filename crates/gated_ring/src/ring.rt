@@ -1,14 +1,16 @@
-ghost use Rattle.std.specs.Prelude.{◌≡◌, ◌≢◌, ◌≤◌, ◌<◌, ◌+◌, ◌^◌, length, take, drop, replicate, IfOk, OnOk, IfSome, is_err, option_map, true, IsTrue, IsFalse, IfErr, IsOk, ◌⊎◌, ◌*◌, ◌-◌};
+ghost use Rattle.std.specs.Prelude.{◌≡◌, ◌≢◌, ◌≤◌, ◌<◌, ◌+◌, ◌^◌, min, length, take, drop, IfOk, OnOk, IfSome, is_err, true, IsTrue, IsFalse, IfErr, IsOk, ◌⊎◌, ◌*◌, ◌-◌};
 ghost use Rattle.std.specs.List.{range_with_len};
-ghost use Rattle.tach_media.specs.Medium.{bytes_at, LeavesOnly, Reads, HasCause, LiesInside, IsPartlyWritten, IsSettled, Rose, last_count};
+ghost use Rattle.tach_media.specs.Medium.{bytes_at, LeavesOnly, Reads, HasCause, LiesInside, IsSettled, Rose, last_count};
+ghost use Rattle.write_plan.specs.Plan.{PutsAll, PutsBy, more};
 ghost use Rattle.gated_ring.specs.Ring.{IsShape, FitsIn, size_of, is_pointer_width, place_of, gate_of, gate_bytes, gate_number, is_there, IsNewest, pointer, PointsInside, number_at, next, taken};
-ghost use Rattle.gated_ring.specs.Change.{shut_writes, pointer_writes, adding_writes, replacing_writes, IsAdding, IsAdded, IsReplaced, IsReplacingEntry, IsClosed, IsSet, OrUnwritten};
-ghost use Rattle.gated_ring.specs.Steps.{pointer_bytes, freed, filled, pointed, replaced, placed, IsFilling, IsReplacing, IsPlacing, IsNewestOf};
+ghost use Rattle.gated_ring.specs.Change.{adding_writes, replacing_writes, IsAdding, IsAdded, IsReplaced, IsReplacingEntry, IsClosed, IsSet, OrUnwritten};
+ghost use Rattle.gated_ring.specs.Plans.{some_piece, shut_pieces, body_pieces, pointer_pieces, gate_pieces, placing_pieces, adding_pieces, exchanging_pieces, replacing_pieces};
+ghost use Rattle.gated_ring.specs.Searching.{IsNewestOf};
 
-use crate::RingFault;
-use crate::fields::write;
+use crate::{RingFault, Room};
 use std::marker::Model;
 use tach_media::{Failed, Medium, read_number};
+use write_plan::{Plan, put_pieces};
 
 /// A place and a shape inside a medium: a pointer, which may be absent, and then `count` places of `width` bytes.
 /// An entry is there where its gate, a number of four bytes, is not 0. Such are the card's files with a pointer to the
@@ -158,23 +160,23 @@ impl Ring {
         Ok((last, index))
     }
 
-    // Shuts an entry's gate where it is open.
-    fn free<M: Medium>(&self, medium: &mut M, index: u32) -> Result<(), Failed>
+    /// Reads where the next entry goes: the pointer's own index where no entry is there, else the next.
+    pub fn room<M: Medium>(&self, medium: &mut M) -> Result<Room, Failed>
         requires fits { FitsIn self.now (M.state medium.old) }
-        requires writable { LiesInside (M.state medium.old).writable (gate_of self.now index) 4 }
-        requires index { index < self.now.count }
-        ensures freed { OnOk result ((M.state medium.new).image ≡ option_map (freed self.now index) (M.state medium.old).image) }
-        ensures moments { LeavesOnly (M.state medium.old) (M.state medium.new) (IsPartlyWritten (gate_of self.now index) (replicate 4 0)) }
-        ensures most { (M.state medium.new).clock ≤ (M.state medium.old).clock + 1 }
-        ensures writes { IfSome (M.state medium.old).image (λ x. (M.state medium.new).clock ≤ (M.state medium.old).clock + shut_writes self.now x index) }
+        ensures last { IfOk result (λ room. IfSome (M.state medium.old).image (λ x. PointsInside self.now x → room.last ≡ pointer self.now x)) }
+        ensures index { IfOk result (λ room. IfSome (M.state medium.old).image (λ x. PointsInside self.now x → room.index ≡ taken self.now x)) }
+        ensures used { IfOk result (λ room. IfSome (M.state medium.old).image (λ x. room.used ≡ is_there self.now x room.index)) }
+        ensures below { IfOk result (λ room. room.index < self.now.count) }
         ensures shape { IsShape self.now }
-        ensures cause { HasCause (M.state medium.old) (M.state medium.new) (is_err result) }
+        ensures reads { Reads (M.state medium.old) (M.state medium.new) (is_err result) }
     {
-        let place = self.gate_place(index);
-        if read_number(medium, place, 4)? != 0 {
-            medium.write_at(place, &[0; 4])?;
-        }
-        Ok(())
+        let (last, index) = self.choose(medium)?;
+        let gate = self.gate(medium, index)?;
+        Ok(Room {
+            last,
+            index,
+            used: gate != 0,
+        })
     }
 
     // The bytes of an entry's beginning that stand in its gate, before it and behind it.
@@ -203,91 +205,160 @@ impl Ring {
         &head[self.gate as usize + 4..]
     }
 
-    // Writes the bytes of an entry beside its gate.
-    fn fill<M: Medium>(&self, medium: &mut M, index: u32, head: &[u8]) -> Result<(), Failed>
-        requires works { (M.state medium.old).works ≡ true }
-        requires fits { FitsIn self.now (M.state medium.old) }
-        requires writable { LiesInside (M.state medium.old).writable (place_of self.now index) (length head.now) }
+    // Adds the write that shuts an entry's gate, where the entry is there.
+    fn plan_shut<const N: usize, const B: usize>(
+        &self,
+        plan: &mut Plan<N, B>,
+        index: u32,
+        used: bool,
+    )
+        requires index { index < self.now.count }
+        requires four { 4 ≤ B }
+        requires room { length plan.old.pieces < N }
+        requires from { plan.old.from ≤ gate_of self.now index }
+        requires end { gate_of self.now index + 4 ≤ plan.old.end }
+        ensures plan { plan.new ≡ more plan.old (shut_pieces self.now index used) }
+        ensures length { length plan.new.pieces ≤ length plan.old.pieces + 1 }
+    {
+        if !used {
+            return;
+        }
+        plan.put(self.gate_place(index), &[0; 4]);
+    }
+
+    // Adds the writes of an entry's bytes beside its gate.
+    fn plan_body<const N: usize, const B: usize>(
+        &self,
+        plan: &mut Plan<N, B>,
+        index: u32,
+        head: &[u8],
+    )
         requires index { index < self.now.count }
         requires gate { self.now.gate + 4 ≤ length head.now }
         requires width { length head.now ≤ self.now.width }
-        ensures filled { OnOk result ((M.state medium.new).image ≡ option_map (filled self.now index head.now) (M.state medium.old).image) }
-        ensures moments { LeavesOnly (M.state medium.old) (M.state medium.new) (IsFilling self.now index) }
-        ensures most { length head.now ≤ 255 → (M.state medium.new).clock ≤ (M.state medium.old).clock + 2 }
-        ensures cause { HasCause (M.state medium.old) (M.state medium.new) (is_err result) }
+        requires short { length head.now ≤ B }
+        requires at_once { length head.now ≤ 255 }
+        requires room { length plan.old.pieces + 1 < N }
+        requires from { plan.old.from ≤ place_of self.now index }
+        requires end { place_of self.now index + length head.now ≤ plan.old.end }
+        ensures plan { plan.new ≡ more plan.old (body_pieces self.now index head.now) }
+        ensures length { length plan.new.pieces ≤ length plan.old.pieces + (min self.now.gate 1 + 1) }
     {
-        write(medium, self.place_of(index), self.front(head))?;
-        write(medium, self.gate_place(index) + 4, self.back(head))
+        plan_some(plan, self.place_of(index), self.front(head));
+        plan_some(plan, self.gate_place(index) + 4, self.back(head));
     }
 
-    // Moves the pointer where it differs.
-    fn point<M: Medium>(&self, medium: &mut M, last: u32, index: u32) -> Result<(), Failed>
-        requires works { (M.state medium.old).works ≡ true }
-        requires fits { FitsIn self.now (M.state medium.old) }
-        requires writable { LiesInside (M.state medium.old).writable self.now.base self.now.pointer_width }
-        ensures pointed { OnOk result ((M.state medium.new).image ≡ option_map (pointed self.now last index) (M.state medium.old).image) }
-        ensures moments { LeavesOnly (M.state medium.old) (M.state medium.new) (IsPartlyWritten self.now.base (pointer_bytes self.now index)) }
-        ensures most { (M.state medium.new).clock ≤ (M.state medium.old).clock + pointer_writes last index }
-        ensures cause { HasCause (M.state medium.old) (M.state medium.new) (is_err result) }
+    // Adds the write of the pointer, where it differs.
+    fn plan_pointer<const N: usize, const B: usize>(
+        &self,
+        plan: &mut Plan<N, B>,
+        last: u32,
+        index: u32,
+    )
+        requires pointer { 0 < self.now.pointer_width }
+        requires four { 4 ≤ B }
+        requires room { length plan.old.pieces < N }
+        requires from { plan.old.from ≤ self.now.base }
+        requires end { self.now.base + self.now.pointer_width ≤ plan.old.end }
+        ensures plan { plan.new ≡ more plan.old (pointer_pieces self.now last index) }
+        ensures length { length plan.new.pieces ≤ length plan.old.pieces + 1 }
     {
         if last == index {
-            return Ok(());
+            return;
         }
         let bytes = index.to_be_bytes();
-        write(medium, self.base, &bytes[4 - self.pointer_width as usize..])
+        plan.put(self.base, &bytes[4 - self.pointer_width as usize..]);
     }
 
-    // Writes an entry at the index that is taken and moves the pointer there.
-    fn place<M: Medium>(
+    // Adds the write of an entry's gate.
+    fn plan_gate<const N: usize, const B: usize>(
+        &self,
+        plan: &mut Plan<N, B>,
+        index: u32,
+        head: &[u8],
+    )
+        requires index { index < self.now.count }
+        requires gate { self.now.gate + 4 ≤ length head.now }
+        requires four { 4 ≤ B }
+        requires room { length plan.old.pieces < N }
+        requires from { plan.old.from ≤ gate_of self.now index }
+        requires end { gate_of self.now index + 4 ≤ plan.old.end }
+        ensures { plan.new ≡ more plan.old (gate_pieces self.now index head.now) }
+    {
+        plan.put(self.gate_place(index), self.gate_bytes(head));
+    }
+
+    /// Adds the writes of a new entry, which begins with `head`, to a plan: its gate is shut where an entry is there, its
+    /// bytes beside the gate, the pointer where it differs, its gate. They are those of [`Ring::add`] where the room is that of
+    /// the image.
+    pub fn plan_entry<const N: usize, const B: usize>(
+        &self,
+        plan: &mut Plan<N, B>,
+        room: &Room,
+        head: &[u8],
+    )
+        requires index { room.now.index < self.now.count }
+        requires pointer { 0 < self.now.pointer_width }
+        requires gate { self.now.gate + 4 ≤ length head.now }
+        requires width { length head.now ≤ self.now.width }
+        requires short { length head.now ≤ B }
+        requires at_once { length head.now ≤ 255 }
+        requires room { length plan.old.pieces + 5 ≤ N }
+        requires from { plan.old.from ≤ self.now.base }
+        requires end { place_of self.now room.now.index + length head.now ≤ plan.old.end }
+        ensures plan { plan.new ≡ more plan.old (placing_pieces self.now room.now head.now) }
+        ensures length { length plan.new.pieces ≤ length plan.old.pieces + (min self.now.gate 1 + 4) }
+    {
+        self.plan_shut(plan, room.index, room.used);
+        self.plan_body(plan, room.index, head);
+        self.plan_pointer(plan, room.last, room.index);
+        self.plan_gate(plan, room.index, head);
+    }
+
+    // Writes a new entry where there is room for it.
+    fn place<M: Medium>(&self, medium: &mut M, room: &Room, head: &[u8]) -> Result<(), Failed>
+        requires fits { FitsIn self.now (M.state medium.old) }
+        requires writable { LiesInside (M.state medium.old).writable self.now.base (size_of self.now) }
+        requires index { room.now.index < self.now.count }
+        requires pointer { 0 < self.now.pointer_width }
+        requires gate { self.now.gate + 4 ≤ length head.now }
+        requires width { length head.now ≤ self.now.width }
+        requires short { length head.now ≤ 254 }
+        ensures puts { PutsAll (M.state medium.old) (M.state medium.new) (is_err result) (placing_pieces self.now room.now head.now) }
+    {
+        let end = self.place_of(room.index) + head.len() as u32;
+        let mut plan = Plan::<5, 254>::new(self.base, end);
+        self.plan_entry(&mut plan, room, head);
+        put_pieces(medium, &plan)
+    }
+
+    // Writes an entry, there or not, and leaves the pointer.
+    fn exchange<M: Medium>(
         &self,
         medium: &mut M,
-        last: u32,
-        taken: u32,
+        index: u32,
+        used: bool,
         head: &[u8],
     ) -> Result<(), Failed>
         requires fits { FitsIn self.now (M.state medium.old) }
-        requires pointer { LiesInside (M.state medium.old).writable self.now.base self.now.pointer_width }
-        requires writable { LiesInside (M.state medium.old).writable (place_of self.now taken) (length head.now) }
-        requires taken { taken < self.now.count }
-        requires gate { self.now.gate + 4 ≤ length head.now }
-        requires width { length head.now ≤ self.now.width }
-        ensures placed { OnOk result ((M.state medium.new).image ≡ option_map (placed self.now last taken head.now) (M.state medium.old).image) }
-        ensures moments { LeavesOnly (M.state medium.old) (M.state medium.new) (IsPlacing self.now last taken head.now) }
-        ensures most { length head.now ≤ 255 → (M.state medium.new).clock ≤ (M.state medium.old).clock + 5 }
-        ensures writes { length head.now ≤ 255 → IfSome (M.state medium.old).image (λ x. (M.state medium.new).clock ≤ (M.state medium.old).clock + (shut_writes self.now x taken + (3 + pointer_writes last taken))) }
-        ensures settled { OnOk result ((M.state medium.new).clock < last_count → IsSettled (M.state medium.new)) }
-        ensures clock { OnOk result (Rose (M.state medium.old).clock (M.state medium.new).clock) }
-        ensures cause { HasCause (M.state medium.old) (M.state medium.new) (is_err result) }
-    {
-        self.free(medium, taken)?;
-        self.fill(medium, taken, head)?;
-        self.point(medium, last, taken)?;
-        medium.write_at(self.gate_place(taken), self.gate_bytes(head))
-    }
-
-    // Writes an entry and leaves the pointer.
-    fn replace<M: Medium>(&self, medium: &mut M, index: u32, head: &[u8]) -> Result<(), Failed>
-        requires fits { FitsIn self.now (M.state medium.old) }
         requires writable { LiesInside (M.state medium.old).writable (place_of self.now index) (length head.now) }
         requires index { index < self.now.count }
         requires gate { self.now.gate + 4 ≤ length head.now }
         requires width { length head.now ≤ self.now.width }
-        ensures replaced { OnOk result ((M.state medium.new).image ≡ option_map (replaced self.now index head.now) (M.state medium.old).image) }
-        ensures moments { LeavesOnly (M.state medium.old) (M.state medium.new) (IsReplacing self.now index head.now) }
-        ensures most { length head.now ≤ 255 → (M.state medium.new).clock ≤ (M.state medium.old).clock + 4 }
-        ensures writes { length head.now ≤ 255 → IfSome (M.state medium.old).image (λ x. (M.state medium.new).clock ≤ (M.state medium.old).clock + replacing_writes self.now x index) }
-        ensures settled { OnOk result ((M.state medium.new).clock < last_count → IsSettled (M.state medium.new)) }
-        ensures clock { OnOk result (Rose (M.state medium.old).clock (M.state medium.new).clock) }
+        requires short { length head.now ≤ 254 }
+        ensures puts { PutsAll (M.state medium.old) (M.state medium.new) (is_err result) (exchanging_pieces self.now index used head.now) }
         ensures shape { IsShape self.now }
-        ensures cause { HasCause (M.state medium.old) (M.state medium.new) (is_err result) }
     {
-        self.free(medium, index)?;
-        self.fill(medium, index, head)?;
-        medium.write_at(self.gate_place(index), self.gate_bytes(head))
+        let place = self.place_of(index);
+        let mut plan = Plan::<4, 254>::new(place, place + head.len() as u32);
+        self.plan_shut(&mut plan, index, used);
+        self.plan_body(&mut plan, index, head);
+        self.plan_gate(&mut plan, index, head);
+        put_pieces(medium, &plan)
     }
 
-    /// Adds the newest entry, which begins with `head`, and answers its index: the pointer's own where no entry is there,
-    /// else the next. What the place has behind a head that is shorter than the entry stays as it was.
+    /// Adds the newest entry, which begins with `head`, of at most 254 bytes, and answers its index: the pointer's own where
+    /// no entry is there, else the next. What the place has behind a head that is shorter than the entry stays as it was.
     ///
     /// The gate is shut first and opened last, so a stop at a moment of the call leaves the list before, that list
     /// without the entry whose place is taken, or the new list.
@@ -297,25 +368,27 @@ impl Ring {
         requires pointer { 0 < self.old.pointer_width }
         requires gate { self.old.gate + 4 ≤ length head.now }
         requires width { length head.now ≤ self.old.width }
+        requires short { length head.now ≤ 254 }
         requires open { gate_number self.old head.now ≢ 0 }
         ensures shape { self.new ≡ self.old }
         ensures index { IfOk result (λ index. IfSome (M.state medium.old).image (λ x. PointsInside self.old x → index ≡ taken self.old x)) }
         ensures below { IfOk result (λ index. index < self.old.count) }
+        ensures puts { IfSome (M.state medium.old).image (PointsInside self.old) → PutsBy (M.state medium.old) (M.state medium.new) (is_err result) 1 5 (adding_pieces self.old head.now) }
         ensures added { OnOk result (IfSome (M.state medium.old).image (λ x. IfSome (M.state medium.new).image (IsAdded self.old head.now x))) }
         ensures moments { LeavesOnly (M.state medium.old) (M.state medium.new) (IsAdding self.old head.now) }
         ensures settled { OnOk result ((M.state medium.new).clock < last_count → IsSettled (M.state medium.new)) }
         ensures clock { OnOk result (Rose (M.state medium.old).clock (M.state medium.new).clock) }
         ensures cause { HasCause (M.state medium.old) (M.state medium.new) (is_err result) }
-        ensures most { length head.now ≤ 255 → (M.state medium.new).clock ≤ (M.state medium.old).clock + 5 }
-        ensures writes { length head.now ≤ 255 → IfSome (M.state medium.old).image (λ x. PointsInside self.old x → (M.state medium.new).clock ≤ (M.state medium.old).clock + adding_writes self.old x) }
+        ensures most { (M.state medium.new).clock ≤ (M.state medium.old).clock + 5 }
+        ensures writes { IfSome (M.state medium.old).image (λ x. PointsInside self.old x → (M.state medium.new).clock ≤ (M.state medium.old).clock + adding_writes self.old x) }
     {
-        let (last, index) = self.choose(medium)?;
-        self.place(medium, last, index, head)?;
-        Ok(index)
+        let room = self.room(medium)?;
+        self.place(medium, &room, head)?;
+        Ok(room.index)
     }
 
-    /// Replaces an entry, there or not, by one that begins with `head`. What the place has behind a head that is shorter
-    /// than the entry stays as it was.
+    /// Replaces an entry, there or not, by one that begins with `head`, of at most 254 bytes. What the place has behind a
+    /// head that is shorter than the entry stays as it was.
     ///
     /// A stop at a moment of the call leaves the entry as it was, none, or the new one.
     pub fn put_at<M: Medium>(
@@ -329,17 +402,20 @@ impl Ring {
         requires index { index < self.old.count }
         requires gate { self.old.gate + 4 ≤ length head.now }
         requires width { length head.now ≤ self.old.width }
+        requires short { length head.now ≤ 254 }
         requires open { gate_number self.old head.now ≢ 0 }
         ensures shape { self.new ≡ self.old }
+        ensures puts { PutsBy (M.state medium.old) (M.state medium.new) (is_err result) 1 4 (replacing_pieces self.old index head.now) }
         ensures replaced { OnOk result (IfSome (M.state medium.old).image (λ x. IfSome (M.state medium.new).image (IsReplaced self.old index head.now x))) }
         ensures moments { LeavesOnly (M.state medium.old) (M.state medium.new) (IsReplacingEntry self.old index head.now) }
         ensures settled { OnOk result ((M.state medium.new).clock < last_count → IsSettled (M.state medium.new)) }
         ensures clock { OnOk result (Rose (M.state medium.old).clock (M.state medium.new).clock) }
         ensures cause { HasCause (M.state medium.old) (M.state medium.new) (is_err result) }
-        ensures most { length head.now ≤ 255 → (M.state medium.new).clock ≤ (M.state medium.old).clock + 4 }
-        ensures writes { length head.now ≤ 255 → IfSome (M.state medium.old).image (λ x. (M.state medium.new).clock ≤ (M.state medium.old).clock + replacing_writes self.old x index) }
+        ensures most { (M.state medium.new).clock ≤ (M.state medium.old).clock + 4 }
+        ensures writes { IfSome (M.state medium.old).image (λ x. (M.state medium.new).clock ≤ (M.state medium.old).clock + replacing_writes self.old x index) }
     {
-        self.replace(medium, index, head)
+        let gate = self.gate(medium, index)?;
+        self.exchange(medium, index, gate != 0, head)
     }
 
     /// Writes 0 into the gate of an entry, which then is not there. A stop leaves it as it was or shut.
@@ -445,4 +521,20 @@ impl Ring {
         medium.read_at(self.place_of(index), out)?;
         Ok(true)
     }
+}
+
+// Adds the write of bytes, of which there may be none.
+fn plan_some<const N: usize, const B: usize>(plan: &mut Plan<N, B>, place: u32, bytes: &[u8])
+    requires short { length bytes.now ≤ B }
+    requires at_once { length bytes.now ≤ 255 }
+    requires room { length plan.old.pieces < N }
+    requires from { plan.old.from ≤ place }
+    requires end { place + length bytes.now ≤ plan.old.end }
+    ensures plan { plan.new ≡ more plan.old (some_piece place bytes.now) }
+    ensures length { length plan.new.pieces ≤ length plan.old.pieces + min (length bytes.now) 1 }
+{
+    if bytes.len() == 0 {
+        return;
+    }
+    plan.put(place, bytes);
 }

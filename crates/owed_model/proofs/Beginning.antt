@@ -18,7 +18,7 @@ use Rattle.unit_model.proofs.Numbers as numbers
 use Rattle.unit_model.proofs.Checks.{still}
 use Rattle.unit_model.proofs.StillDecodes.{rows_pass}
 use Rattle.owed_model.specs.Owed.{Cell, OwedRow, rows_in, row_in, cell_in, session_in, number_in, cell_begin, is_row_of, row_index, row_of}
-use Rattle.owed_model.specs.Rows.{row_pieces, pieces_at, beginning, begun_index, empty_index, is_one, spared_index, emptied, IsTaken, IsRowBeginning, IsRowBegun}
+use Rattle.owed_model.specs.Rows.{row_pieces, pieces_at, beginning, begun_index, empty_index, is_this_row, spared_index, emptied, IsTaken, IsRowBeginning, IsRowBegun}
 use Rattle.owed_model.proofs.Putting.{find_below, found_below, found_passes, cell_passes, passes_is}
 use Rattle.owed_model.proofs.Taking.{begun_is, spared_apart}
 use Rattle.owed_model.proofs.Pieces.{IsApart, puts_apart, partway_apart, IsApartOrZero, IsHeld, puts_held, partway_held}
@@ -281,7 +281,7 @@ cell_at (c ∷ cs) (suc j) = cell_at cs j
 -- a row that is begun for a number
 module _ (number : List ℕ) (session : ℕ) (spared : Option (List ℕ)) (x : List ℕ) (sized : length x ≡ 2485808) (wide : length number ≡ 18) (some : 0 < session) (small : session < 4294967296) where
   abbrev begun : (r : ℕ) × ((begun_index number spared (rows_in x) ≡ Some r) × ((r < 8)
-      × ((row_index number (rows_in x) ≡ Some r) ⊎ ((row_index number (rows_in x) ≡ None) × ((empty_index (rows_in x) ≡ Some r) ⊎ (is_one (spared_index spared (rows_in x)) r ≡ false))))))
+      × ((row_index number (rows_in x) ≡ Some r) ⊎ ((row_index number (rows_in x) ≡ None) × ((empty_index (rows_in x) ≡ Some r) ⊎ (is_this_row (spared_index spared (rows_in x)) r ≡ false))))))
   begun = begun_is number spared (rows_in x)
 
   abbrev r : ℕ

@@ -5,7 +5,7 @@ use Rattle.std.specs.List.{range_with_len}
 use Rattle.std.specs.Cmp.Lexicographic.{pointwise}
 use Rattle.std.proofs.lemmas.Bool.Decides.{nat_tests}
 use Rattle.owed_model.specs.Owed.{session_in, number_in, is_row_of, row_index}
-use Rattle.owed_model.specs.Rows.{is_one, lesser, least, empty_index, spared_index, or_else, begun_index}
+use Rattle.owed_model.specs.Rows.{is_this_row, lesser, least, empty_index, spared_index, or_else, begun_index}
 use Rattle.owed_model.proofs.Putting.{found_passes, found_below, rows_apart, and_both}
 
 some_is : (a b : ℕ) → Some a ≡ Some b → a ≡ b
@@ -23,16 +23,16 @@ not_true false is also = absurd (cc)
 
 -- a row, which is not the spared one
 abbrev Good : Option ℕ → Option ℕ → Type 0
-Good spared o = (z : ℕ) × ((o ≡ Some z) × ((z < 8) × (is_one spared z ≡ false)))
+Good spared o = (z : ℕ) × ((o ≡ Some z) × ((z < 8) × (is_this_row spared z ≡ false)))
 
 step : (rows : List ℕ) (spared o : Option ℕ) (r : ℕ) → r < 8 → Good spared o → Good spared (lesser rows spared o r)
-step rows spared o r below good = subst (λ (p : Option ℕ). Good spared (lesser rows spared p r)) (sym good.1.0) (by (is_one spared r) refl)
+step rows spared o r below good = subst (λ (p : Option ℕ). Good spared (lesser rows spared p r)) (sym good.1.0) (by (is_this_row spared r) refl)
   where
-    inner : (d : Bool) → is_one spared r ≡ false → Good spared (cond d (Some r) (Some good.0))
+    inner : (d : Bool) → is_this_row spared r ≡ false → Good spared (cond d (Some r) (Some good.0))
     inner true free = (r, (refl, (below, free)))
     inner false free = (good.0, (refl, good.1.1))
 
-    by : (b : Bool) → is_one spared r ≡ b → Good spared (cond b (Some good.0) (cond (nat_lt (session_in rows r) (session_in rows good.0)) (Some r) (Some good.0)))
+    by : (b : Bool) → is_this_row spared r ≡ b → Good spared (cond b (Some good.0) (cond (nat_lt (session_in rows r) (session_in rows good.0)) (Some r) (Some good.0)))
     by true is = (good.0, (refl, good.1.1))
     by false free = inner (nat_lt (session_in rows r) (session_in rows good.0)) free
 
@@ -57,19 +57,19 @@ least_good rows spared =
 
 -- the row that is begun, and where it comes from
 pub begun_is : (number : List ℕ) (spared : Option (List ℕ)) (rows : List ℕ) → (r : ℕ) × ((begun_index number spared rows ≡ Some r) × ((r < 8)
-    × ((row_index number rows ≡ Some r) ⊎ ((row_index number rows ≡ None) × ((empty_index rows ≡ Some r) ⊎ (is_one (spared_index spared rows) r ≡ false))))))
+    × ((row_index number rows ≡ Some r) ⊎ ((row_index number rows ≡ None) × ((empty_index rows ≡ Some r) ⊎ (is_this_row (spared_index spared rows) r ≡ false))))))
 begun_is number spared rows = by (row_index number rows) refl
   where
     fewest : Good (spared_index spared rows) (least rows (spared_index spared rows))
     fewest = least_good rows (spared_index spared rows)
 
     inner : row_index number rows ≡ None → (o : Option ℕ) → empty_index rows ≡ o → (r : ℕ) × ((or_else o (least rows (spared_index spared rows)) ≡ Some r) × ((r < 8)
-        × ((row_index number rows ≡ Some r) ⊎ ((row_index number rows ≡ None) × ((empty_index rows ≡ Some r) ⊎ (is_one (spared_index spared rows) r ≡ false))))))
+        × ((row_index number rows ≡ Some r) ⊎ ((row_index number rows ≡ None) × ((empty_index rows ≡ Some r) ⊎ (is_this_row (spared_index spared rows) r ≡ false))))))
     inner none (Some r) is = (r, (refl, (found_below (λ s. session_in rows s == 0) 0 8 r is, inr (none, inl is))))
     inner none None full = (fewest.0, (fewest.1.0, (fewest.1.1.0, inr (none, inr fewest.1.1.1))))
 
     by : (o : Option ℕ) → row_index number rows ≡ o → (r : ℕ) × ((or_else o (or_else (empty_index rows) (least rows (spared_index spared rows))) ≡ Some r) × ((r < 8)
-        × ((row_index number rows ≡ Some r) ⊎ ((row_index number rows ≡ None) × ((empty_index rows ≡ Some r) ⊎ (is_one (spared_index spared rows) r ≡ false))))))
+        × ((row_index number rows ≡ Some r) ⊎ ((row_index number rows ≡ None) × ((empty_index rows ≡ Some r) ⊎ (is_this_row (spared_index spared rows) r ≡ false))))))
     by (Some r) is = (r, (refl, (found_below (is_row_of number rows) 0 8 r is, inl is)))
     by None none = inner none (empty_index rows) refl
 
@@ -78,7 +78,7 @@ pub spared_apart : (n number rows : List ℕ) → n ≢ number → row_index n r
 spared_apart n number rows differ same = ⊎_elim own (λ rest. ⊎_elim none least_one rest.1) begun.1.1.1
   where
     begun : (r : ℕ) × ((begun_index number (Some n) rows ≡ Some r) × ((r < 8)
-        × ((row_index number rows ≡ Some r) ⊎ ((row_index number rows ≡ None) × ((empty_index rows ≡ Some r) ⊎ (is_one (spared_index (Some n) rows) r ≡ false))))))
+        × ((row_index number rows ≡ Some r) ⊎ ((row_index number rows ≡ None) × ((empty_index rows ≡ Some r) ⊎ (is_this_row (spared_index (Some n) rows) r ≡ false))))))
     begun = begun_is number (Some n) rows
 
     his : row_index n rows ≡ Some begun.0
@@ -95,5 +95,5 @@ spared_apart n number rows differ same = ⊎_elim own (λ rest. ⊎_elim none le
     clash : (a : ℕ) → (a == a) ≡ false → ⊥
     clash a is = absurd (grind (arith, nat_tests, eq_true a a refl))
 
-    least_one : is_one (spared_index (Some n) rows) begun.0 ≡ false → ⊥
-    least_one free = clash begun.0 (subst (λ (o : Option ℕ). is_one o begun.0 ≡ false) his free)
+    least_one : is_this_row (spared_index (Some n) rows) begun.0 ≡ false → ⊥
+    least_one free = clash begun.0 (subst (λ (o : Option ℕ). is_this_row o begun.0 ≡ false) his free)

@@ -38,13 +38,13 @@ row_pieces r number session =
     ∷ piece (p + ROW_NUMBER.place) number ∷ piece p (to_be_bytes w32 session) ∷ []
 
 -- of rows other than one the first that has the least session time
-abbrev pub is_one : Option ℕ → ℕ → Bool
-is_one None r = false
-is_one (Some s) r = s == r
+abbrev pub is_this_row : Option ℕ → ℕ → Bool
+is_this_row None r = false
+is_this_row (Some s) r = s == r
 
 abbrev pub lesser : (rows : List ℕ) → (spared : Option ℕ) → Option ℕ → ℕ → Option ℕ
-lesser rows spared None r = if is_one spared r then None else Some r
-lesser rows spared (Some b) r = if is_one spared r then Some b else (if nat_lt (session_in rows r) (session_in rows b) then Some r else Some b)
+lesser rows spared None r = if is_this_row spared r then None else Some r
+lesser rows spared (Some b) r = if is_this_row spared r then Some b else (if nat_lt (session_in rows r) (session_in rows b) then Some r else Some b)
 
 abbrev pub least : (rows : List ℕ) → (spared : Option ℕ) → Option ℕ
 least rows spared = fold (lesser rows spared) None (range_with_len 0 OWED_ROWS)

@@ -7,7 +7,7 @@ ghost use Rattle.owed_model.specs.Owed.{rows_in, row_in, cell_in, entry_of, plac
 ghost use Rattle.owed_model.specs.Rows.{HasRow};
 ghost use Rattle.owed_rows.specs.Searching.{with_owed, IsSane};
 
-use crate::rows::{number_in, read_rows, row_index, session_in};
+use crate::rows::{number_at, read_rows, row_index, session_in};
 use activity_codec::{Entry, Owed, decode_change};
 use tach_media::{Failed, Medium};
 use unit_model::layout::{CELL_SIZE, CELL_WORD, CELLS, OWED_ROW_SIZE, ROW_CELLS};
@@ -90,7 +90,7 @@ fn owed_cells(rows: &[u8], row: u32, session: u32, after: u32, kept: u32) -> Owe
     let mut owed = Owed::new();
     for cell in 0..CELLS {
         let place = row * OWED_ROW_SIZE + ROW_CELLS.place + cell * CELL_SIZE;
-        let minute = number_in(rows, place, 4);
+        let minute = number_at(rows, place, 4);
         let word = word_in(rows, place + CELL_WORD.place);
         add_cell(&mut owed, cell, minute, word, session, after, kept);
     }

@@ -6,7 +6,7 @@ ghost use Rattle.gated_ring.specs.Ring.{number_at};
 ghost use Rattle.unit_model.specs.Image.{IsUnit};
 ghost use Rattle.owed_model.specs.Owed.{rows_in, session_in, is_row_of, row_index};
 ghost use Rattle.owed_rows.specs.Searching.{or_this};
-ghost use Rattle.owed_model.specs.Rows.{is_one, lesser, least, empty_index, spared_index, begun_index};
+ghost use Rattle.owed_model.specs.Rows.{is_this_row, lesser, least, empty_index, spared_index, begun_index};
 
 use tach_media::{Failed, Medium};
 use unit_model::layout::{OWED, OWED_ROW_SIZE, OWED_ROWS, ROW_NUMBER};
@@ -23,7 +23,7 @@ pub fn read_rows<M: Medium>(unit: &mut M) -> Result<[u8; 384], Failed>
 }
 
 /// The number in at most four bytes of them.
-pub fn number_in(rows: &[u8], place: u32, len: u32) -> u32
+pub fn number_at(rows: &[u8], place: u32, len: u32) -> u32
     requires short { len ≤ 4 }
     requires inside { place + len ≤ length rows.now }
     ensures value { result ≡ number_at rows.now place len }
@@ -40,7 +40,7 @@ pub fn session_in(rows: &[u8], row: u32) -> u32
     requires row { row < 8 }
     ensures session { result ≡ session_in rows.now row }
 {
-    number_in(rows, row * OWED_ROW_SIZE, 4)
+    number_at(rows, row * OWED_ROW_SIZE, 4)
 }
 
 // Whether a row is that of a number.
@@ -100,7 +100,7 @@ fn lesser(rows: &[u8], spared: Option<u32>, best: Option<u32>, row: u32) -> Opti
     ensures row { result ≡ lesser rows.now spared best row }
     ensures below { IfSome result (λ r. r < 8) }
 {
-    if is_one(spared, row) {
+    if is_this_row(spared, row) {
         return best;
     }
     match best {
@@ -115,8 +115,8 @@ fn lesser(rows: &[u8], spared: Option<u32>, best: Option<u32>, row: u32) -> Opti
     }
 }
 
-fn is_one(spared: Option<u32>, row: u32) -> bool
-    ensures { result ≡ is_one spared row }
+fn is_this_row(spared: Option<u32>, row: u32) -> bool
+    ensures { result ≡ is_this_row spared row }
 {
     match spared {
         None => false,

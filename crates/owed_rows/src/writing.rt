@@ -1,4 +1,4 @@
-ghost use Rattle.std.specs.Prelude.{◌≡◌, ◌≢◌, ◌≤◌, ◌<◌, ◌+◌, length, IfOk, OnOk, IfSome, is_err, option_map};
+ghost use Rattle.std.specs.Prelude.{◌≡◌, ◌≢◌, ◌≤◌, ◌<◌, ◌+◌, length, min, IfOk, OnOk, IfSome, is_err, option_map};
 ghost use Rattle.std.specs.Option.{ForSome};
 ghost use Rattle.tach_media.specs.Medium.{LeavesOnly, HasCause, StaysSettled, IsSettled, last_count};
 ghost use Rattle.write_plan.specs.Plan.{PutsBy, more, none};
@@ -69,6 +69,7 @@ fn beginning(row: Option<u32>, number: &[u8], session: u32) -> Plan<7, 18>
 fn write_entry<M: Medium>(unit: &mut M, number: &[u8], minute: u32, word: u16) -> Result<(), Failed>
     requires unit { IsUnit (M.state unit.old) }
     ensures puts { PutsBy (M.state unit.old) (M.state unit.new) (is_err result) 0 3 (λ x. putting number.now minute word (rows_in x)) }
+    ensures wrote { OnOk result (IfSome (M.state unit.old).image (λ x. HasRow number.now x → min ((M.state unit.old).clock + 3) last_count ≤ (M.state unit.new).clock)) }
     ensures minute { minute < 4294967296 }
     ensures word { word < 65536 }
 {
@@ -82,6 +83,7 @@ pub fn put_owed<M: Medium>(unit: &mut M, number: &[u8], entry: &Entry) -> Result
     requires unit { IsUnit (M.state unit.old) }
     requires row { IfSome (M.state unit.old).image (HasRow number.now) }
     ensures puts { PutsBy (M.state unit.old) (M.state unit.new) (is_err result) 0 3 (λ x. putting number.now entry.now.minute (entry_word entry.now) (rows_in x)) }
+    ensures wrote { OnOk result (IfSome (M.state unit.old).image (λ x. min ((M.state unit.old).clock + 3) last_count ≤ (M.state unit.new).clock)) }
     ensures put { OnOk result (IfSome (M.state unit.old).image (λ x. IfSome (M.state unit.new).image (IsPut number.now entry.now x))) }
     ensures moments { LeavesOnly (M.state unit.old) (M.state unit.new) (IsPutting number.now entry.now) }
     ensures settled { OnOk result (StaysSettled (M.state unit.old) (M.state unit.new)) }

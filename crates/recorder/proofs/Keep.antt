@@ -15,7 +15,11 @@ use Rattle.unit_rule.specs.Rule.{Started}
 use Rattle.unit_rule.specs.Marks.{Holds}
 use Rattle.unit_rule.proofs.Moves.{ended}
 use Rattle.unit_rule.proofs.Marking.{holds-kept, holds-broken}
-use Rattle.recorder.specs.Keeping.{seen_plain, plain, AreDue, kept_after, AreFrom, due_after, kept_all, IsBrokenOff}
+use Rattle.unit_rule.proofs.Travelling.{travelled-kept, travelled-broken}
+use Rattle.unit_rule.specs.Odometer.{HasTravelled}
+use Rattle.recorder.specs.Standing.{Began, Travel, travelled, stranded, odometer_after, all_travelled, Stands}
+use Rattle.recorder.proofs.Standing.{all_travelled-more}
+use Rattle.recorder.specs.Keeping.{odometer_by, seen_plain, plain, AreDue, kept_after, AreFrom, due_after, kept_all, IsBrokenOff}
 
 -- what holds of any answer holds where it is an error
 pub on_err : {A E P : Type 0} (r : Result A E) → P → OnErr r P
@@ -41,6 +45,23 @@ module _ (s : Started) (due : ℕ) (b : Book) (marks : List Mark) {U V : State} 
       (λ c left.
       let was = ended (IsKept k) before after works run said c left in
       (was.0, was.1, subst (λ (u : UnitMinute). IsKept u was.0 c) is was.2))
+
+-- the same with the odometer, which is that at the last power-on and what was travelled since
+module _ (s : Began) (due : ℕ) (b : Book) (g : Travel) (marks : List Mark) {U V : State} (d : Minute) (k : UnitMinute) (odometer : ℕ) (is : k ≡ seen_plain d) (before : IsCoherent U) (run : LeavesOnly U V (IsKeeping k odometer))
+    (h : Stands s due b g marks U) (none : b.maybe ≡ None) (late : due ≤ d.minute) (so : odometer ≡ odometer_by (odometer_after s.odometer g.before) d.travelled) where
+  pub keep-strands : Stands s (suc d.minute) (broken (plain d) b) (stranded d.travelled g) marks V
+  keep-strands = record {
+    holds = keep-broken s.opened due b marks d k odometer is before run h.holds none late;
+    travels = travelled-broken s.odometer b g h.travels before s.opened due marks h.holds (plain d) odometer d.travelled so none late (goes s.opened due b marks d k odometer is before run h.holds none late);
+  }
+
+  pub keep-stands : (m : Mark) → m.device ≡ Recorder → m.minute ≡ d.minute → m.clock ≡ V.clock → IsCoherent V → V.works ≡ true → IfSome U.image (λ x. IfSome V.image (IsKept k x)) → IsSettled V →
+      Stands s (suc d.minute) (kept (plain d) b) (travelled d.travelled g) (marks ++ m ∷ []) V
+  keep-stands m device minute clock after works said settled = record {
+    holds = keep-holds s.opened due b marks d k odometer is before run h.holds none late m device minute clock after works said settled;
+    travels = travelled-kept s.odometer b g h.travels before s.opened due marks h.holds (plain d) odometer d.travelled so none late (goes s.opened due b marks d k odometer is before run h.holds none late)
+        (λ c left. (ended (IsKept k) before after works run said c left).2.last ∙ ap (λ (u : UnitMinute). u.minute) is);
+  }
 
 -- one minute more at the end
 pub kept_all-more : (xs : List Minute) (d : Minute) (b : Book) → kept_all (xs ++ d ∷ []) b ≡ kept (plain d) (kept_all xs b)
@@ -85,11 +106,13 @@ module _ (ds : List Minute) (i : ℕ) (low : i < length ds) where
   pub late-here : (due : ℕ) → AreFrom due ds → due_after due (take i ds) ≤ this.minute
   late-here due from = (from-rest (take i ds) (this ∷ drop (i + 1) ds) due (subst (AreFrom due) whole from)).0
 
-  pub holds-here : (s : Started) (due : ℕ) (b : Book) (marks : List Mark) (unit : State) → Holds s (suc this.minute) (kept (plain this) (kept_all (take i ds) b)) marks unit → Holds s (due_after due (take (i + 1) ds)) (kept_all (take (i + 1) ds) b) marks unit
-  holds-here s due b marks unit h =
-      subst (λ (xs : List Minute). Holds s (due_after due xs) (kept_all xs b) marks unit) (sym front)
-      (subst (λ (n : ℕ). Holds s n (kept_all (take i ds ++ this ∷ []) b) marks unit) (sym (due_after-more (take i ds) this due))
-      (subst (λ (c : Book). Holds s (suc this.minute) c marks unit) (sym (kept_all-more (take i ds) this b)) h))
+  pub stands-here : (s : Began) (due : ℕ) (b : Book) (g : Travel) (marks : List Mark) (unit : State) → Stands s (suc this.minute) (kept (plain this) (kept_all (take i ds) b)) (travelled this.travelled (all_travelled (take i ds) g)) marks unit →
+      Stands s (due_after due (take (i + 1) ds)) (kept_all (take (i + 1) ds) b) (all_travelled (take (i + 1) ds) g) marks unit
+  stands-here s due b g marks unit h =
+      subst (λ (xs : List Minute). Stands s (due_after due xs) (kept_all xs b) (all_travelled xs g) marks unit) (sym front)
+      (subst (λ (n : ℕ). Stands s n (kept_all (take i ds ++ this ∷ []) b) (all_travelled (take i ds ++ this ∷ []) g) marks unit) (sym (due_after-more (take i ds) this due))
+      (subst (λ (c : Book). Stands s (suc this.minute) c (all_travelled (take i ds ++ this ∷ []) g) marks unit) (sym (kept_all-more (take i ds) this b))
+      (subst (λ (t : Travel). Stands s (suc this.minute) (kept (plain this) (kept_all (take i ds) b)) t marks unit) (sym (all_travelled-more (take i ds) this g)) h)))
 
-  pub broken-here : (s : Started) (b : Book) (marks : List Mark) (unit : State) → Holds s (suc this.minute) (broken (plain this) (kept_all (take i ds) b)) marks unit → IsBrokenOff s b ds marks unit
-  broken-here s b marks unit h = record { front = take i ds; d = this; rest = drop (i + 1) ds; are = whole; holds = h }
+  pub broken-here : (s : Began) (b : Book) (g : Travel) (marks : List Mark) (unit : State) → Stands s (suc this.minute) (broken (plain this) (kept_all (take i ds) b)) (stranded this.travelled (all_travelled (take i ds) g)) marks unit → IsBrokenOff s b g ds marks unit
+  broken-here s b g marks unit h = record { front = take i ds; d = this; rest = drop (i + 1) ds; are = whole; stands = h }

@@ -1,12 +1,15 @@
 pub mod Acting
 pub mod Actions
 pub mod Beginning
+pub mod Broken
 pub mod Due
 pub mod Items
 pub mod Keep
 pub mod Opened
 pub mod Recording
 pub mod Seams
+pub mod Standing
+pub mod Staying
 pub mod Stepping
 pub mod Courses
 pub mod Turning

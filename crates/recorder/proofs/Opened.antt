@@ -4,12 +4,14 @@ use Rattle.tach_media.specs.Medium.{State, IsCoherent, LeavesOnly, Unchanged}
 use Rattle.tach_media.proofs.Runs.{at_image}
 use Rattle.unit_model.specs.Days.{Day, newest_of}
 use Rattle.unit_model.specs.Decoding.{Decodes}
-use Rattle.unit_model.specs.Image.{last_kept, recorded}
+use Rattle.unit_model.specs.Image.{last_kept, odometer_at, recorded}
 use Rattle.unit_journal.specs.Image.{Notes, IsFoundBy}
 use Rattle.unit_journal.proofs.Besides.{few_days}
 use Rattle.history_model.specs.Book.{Book, not_begun}
 use Rattle.unit_rule.specs.Marks.{Holds}
 use Rattle.unit_rule.proofs.Marking.{holds-opened}
+use Rattle.unit_rule.proofs.Travelling.{travelled-opened}
+use Rattle.recorder.specs.Standing.{begun_with, not_travelled, Stands}
 use Rattle.recorder.specs.Booked.{StartsAs, started}
 use Rattle.recorder.specs.declared.opening.RunFault.{RunFault}
 use Rattle.recorder.specs.declared.opening.RunFault.TheVariants.{MediumFault, BadUnit, ClockBack, SameCard}
@@ -43,6 +45,12 @@ module _ (x : List ℕ) (U V : State) (starts : StartsAs x U) (before : IsCohere
   opened-holds due late = holds-opened (started x U.clock) V x due refl refl run.later now-one since-one
       (inl (whole (recorded x) (few_days x (at_image (IsFoundBy journal) image-is loaded.found).pointer)))
       (at_image Decodes image-is loaded.decodes) (let k = kept-is in omega (arith, k, late))
+
+  pub opened-stands : (due : ℕ) → journal.kept < due → journal.odometer ≤ 9999999 → Stands (begun_with x U.clock) due not_begun not_travelled [] V
+  opened-stands due late low = record {
+    holds = opened-holds due late;
+    travels = travelled-opened (odometer_at x) V x refl (let is = (at_image (IsFoundBy journal) image-is loaded.found).odometer in let le : odometer_at x ≤ 9999999 = omega (arith, is, low) in le) now-one;
+  }
 
   pub decodes-is : Decodes x
   decodes-is = at_image Decodes image-is loaded.decodes

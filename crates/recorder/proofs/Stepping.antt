@@ -4,16 +4,16 @@ use Rattle.tach_media.specs.Medium.{State}
 use Rattle.log_model.specs.declared.lines.Break.{Break}
 use Rattle.log_model.specs.declared.lines.Mark.{Mark}
 use Rattle.history_model.specs.Book.{Book, found, broken}
-use Rattle.unit_rule.specs.Rule.{Started}
+use Rattle.recorder.specs.Standing.{Began}
 use Rattle.recorder.specs.declared.run.Run.{Run}
 use Rattle.recorder.specs.Keeping.{plain, kept_all}
 use Rattle.recorder.specs.Booked.{Booked}
 use Rattle.recorder.specs.Steps.{IsSecondBegun, IsTurn}
 
-pub begun-book : (s : Started) (old new : Run) (before after : List Break) (b : Book) (marks : List Mark) (unit : State) → IsSecondBegun s old new before after b marks unit → (c : Book) × Booked s new c marks unit
+pub begun-book : (s : Began) (old new : Run) (before after : List Break) (b : Book) (marks : List Mark) (unit : State) → IsSecondBegun s old new before after b marks unit → (c : Book) × Booked s new c marks unit
 begun-book s old new before after b marks unit is =
     ⊎_elim (λ none. (b, none.booked)) (λ on. ⊎_elim (λ lost. (b, lost.booked)) (λ mended. (found mended.kept b, mended.on.booked)) on.2) is
 
-pub turn-book : (s : Started) (old new : Run) (before after : List Break) (n speed begun : ℕ) (b : Book) (marks : List Mark) (unit : State) → IsTurn s old new before after n speed begun b marks unit → (c : Book) × Booked s new c marks unit
-turn-book s old new before after n speed begun b marks unit is =
+pub turn-book : (s : Began) (old new : Run) (before after : List Break) (n speed begun : ℕ) (b : Book) (prior marks : List Mark) (unit : State) → IsTurn s old new before after n speed begun b prior marks unit → (c : Book) × Booked s new c marks unit
+turn-book s old new before after n speed begun b prior marks unit is =
     ⊎_elim (λ passed. (b, passed.booked)) (λ lit. ⊎_elim (λ all. (kept_all all.items b, all.booked)) (λ off. (broken (plain off.d) (kept_all off.front b), off.booked)) lit) is

@@ -12,7 +12,8 @@ use Rattle.unit_model.specs.Decoding.{Decodes}
 use Rattle.history_model.specs.Book.{Book, broken}
 use Rattle.unit_rule.specs.Rule.{Started}
 use Rattle.unit_rule.specs.Marks.{Holds}
-use Rattle.unit_rule.proofs.Found.{holds-later}
+use Rattle.recorder.specs.Standing.{Began, Travel, stranded, odometer_after, all_travelled, Stands}
+use Rattle.recorder.proofs.Standing.{stands-later, travelled-before}
 use Rattle.recorder.specs.declared.run.Run.{Run}
 use Rattle.recorder.specs.declared.run.Power.{Power}
 use Rattle.recorder.specs.declared.run.Power.TheVariants.{Lit, Due, Lost}
@@ -48,22 +49,23 @@ lit-is Due is = absurd (cc)
 lit-is Lost is = absurd (cc)
 
 -- by the first minute that may still be marked
-pub booked-at : (s : Started) (run : Run) (b : Book) (marks : List Mark) (unit : State) (due : ℕ) → due ≤ due_of run → (run.power ≡ Lit → b.maybe ≡ None) → Holds s due b marks unit → Booked s run b marks unit
-booked-at s run b marks unit due le none h = record { holds = holds-later s due (due_of run) b marks unit le h; none = none }
+pub booked-at : (s : Began) (run : Run) (b : Book) (g : Travel) (marks : List Mark) (unit : State) (due : ℕ) → due ≤ due_of run → (run.power ≡ Lit → b.maybe ≡ None) → (run.power ≡ Lit → run.odometer ≡ odometer_after s.odometer g.before) →
+    Stands s due b g marks unit → Booked s run b marks unit
+booked-at s run b g marks unit due le none odometer h = record { travel = g; stands = stands-later s due (due_of run) b g marks unit le h; none = none; odometer = odometer }
 
 -- without power
-pub lost-booked : (s : Started) (run : Run) (b : Book) (marks : List Mark) (unit : State) (next : ℕ) → run.power ≡ Lost → run.next ≡ next → Holds s (next / 60) b marks unit → Booked s run b marks unit
-lost-booked s run b marks unit next lost is h =
-    booked-at s run b marks unit (next / 60) (let w = waiting-lost run.power run.minutes.owing lost in omega (arith, w, is)) (λ lit. absurd (let no : Lost ≡ Lit = sym lost ∙ lit in cc)) h
+pub lost-booked : (s : Began) (run : Run) (b : Book) (g : Travel) (marks : List Mark) (unit : State) (next : ℕ) → run.power ≡ Lost → run.next ≡ next → Stands s (next / 60) b g marks unit → Booked s run b marks unit
+lost-booked s run b g marks unit next lost is h =
+    booked-at s run b g marks unit (next / 60) (let w = waiting-lost run.power run.minutes.owing lost in omega (arith, w, is)) (λ lit. absurd (let no : Lost ≡ Lit = sym lost ∙ lit in cc)) (λ lit. absurd (let no : Lost ≡ Lit = sym lost ∙ lit in cc)) h
 
 -- and so many seconds later, still without it
-pub dark-booked : (s : Started) (old new : Run) (b : Book) (marks : List Mark) (unit : State) (n begun : ℕ) → is_lit old.power ≡ false → new ≡ record old { next = old.next + n; begun = begun } → Booked s old b marks unit → Booked s new b marks unit
+pub dark-booked : (s : Began) (old new : Run) (b : Book) (marks : List Mark) (unit : State) (n begun : ℕ) → is_lit old.power ≡ false → new ≡ record old { next = old.next + n; begun = begun } → Booked s old b marks unit → Booked s new b marks unit
 dark-booked s old new b marks unit n begun dark is h =
     let power = ap (λ (r : Run). r.power) is in
     let next = ap (λ (r : Run). r.next) is in
     let w = waiting-dark old.power old.minutes.owing dark in
     let v = waiting-dark new.power new.minutes.owing (ap is_lit power ∙ dark) in
-    booked-at s new b marks unit (due_of old) (omega (arith, w, v, next)) (λ lit. h.none (sym power ∙ lit)) h.holds
+    booked-at s new b h.travel marks unit (due_of old) (omega (arith, w, v, next)) (λ lit. h.none (sym power ∙ lit)) (λ lit. ap (λ (r : Run). r.odometer) is ∙ h.odometer (sym power ∙ lit)) h.stands
 
 -- reads leave a unit one
 pub reads-unit : {U V : State} {R : List ℕ → List ℕ → Type 0} → LeavesOnly U V R → IsUnit U → IsUnit V
@@ -143,24 +145,26 @@ module _ (run : Run) (unit : State) (is : run.power ≡ Lit) (lit : IsLit run un
   pub turn-room_lost : (marks later : Listed Mark) (left : ℕ) → later.room ≡ marks.room → length later.items ≤ length marks.items + length items → HasMarkRoom run marks (n + left) → length later.items + (run.next + n + left) / 60 ≤ later.room + ((run.next + n) / 60 - 0)
   turn-room_lost marks later left same few h = let r = h.room in let d = turn-due in let m = turn-most in let k = turn-decides.count in omega (arith, r, d, m, k, same, few)
 
-  module _ (s : Started) (b : Book) (marks : List Mark) (booked : Booked s run b marks unit) where
-    pub turn-holds : Holds s (ungiven_of lit.span) b marks unit
-    turn-holds = subst (λ (m : ℕ). Holds s m b marks unit) turn-due booked.holds
+  module _ (s : Began) (b : Book) (marks : List Mark) (booked : Booked s run b marks unit) where
+    pub turn-stands : Stands s (ungiven_of lit.span) b booked.travel marks unit
+    turn-stands = subst (λ (m : ℕ). Stands s m b booked.travel marks unit) turn-due booked.stands
 
     -- all were kept
-    pub turn-kept : (new : Run) (later : List Mark) (after : State) → new.power ≡ Lit → new.next ≡ run.next + n → new.minutes.owing ≡ minutes.owing → Holds s (due_after (ungiven_of lit.span) items) (kept_all items b) later after → Booked s new (kept_all items b) later after
-    turn-kept new later after power next owing h =
-        booked-at s new (kept_all items b) later after (due_after (ungiven_of lit.span) items)
+    pub turn-kept : (new : Run) (later : List Mark) (after : State) → new.power ≡ Lit → new.next ≡ run.next + n → new.minutes.owing ≡ minutes.owing → new.odometer ≡ run.odometer →
+        Stands s (due_after (ungiven_of lit.span) items) (kept_all items b) (all_travelled items booked.travel) later after → Booked s new (kept_all items b) later after
+    turn-kept new later after power next owing odometer h =
+        booked-at s new (kept_all items b) (all_travelled items booked.travel) later after (due_after (ungiven_of lit.span) items)
         (let d = turn-decides.next in let l = turn-due_later in let w = waiting-lit new.power new.minutes.owing power in omega (arith, d, l, w, next, owing))
-        (λ p. kept_all-none items b (booked.none is)) h
+        (λ p. kept_all-none items b (booked.none is))
+        (λ p. odometer ∙ booked.odometer is ∙ ap (odometer_after s.odometer) (sym (travelled-before items booked.travel))) h
 
     -- the keeping of one was broken off
-    pub turn-broken : (new : Run) (later : List Mark) (after : State) → new.power ≡ Lost → new.next ≡ run.next + n → (h : IsBrokenOff s b items later after) → Booked s new (broken (plain h.d) (kept_all h.front b)) later after
+    pub turn-broken : (new : Run) (later : List Mark) (after : State) → new.power ≡ Lost → new.next ≡ run.next + n → (h : IsBrokenOff s b booked.travel items later after) → Booked s new (broken (plain h.d) (kept_all h.front b)) later after
     turn-broken new later after power next h =
-        booked-at s new (broken (plain h.d) (kept_all h.front b)) later after (suc h.d.minute)
+        booked-at s new (broken (plain h.d) (kept_all h.front b)) (stranded h.d.travelled (all_travelled h.front booked.travel)) later after (suc h.d.minute)
         (let among = due-among (ungiven_of lit.span) h.front h.rest h.d (subst (AreFrom (ungiven_of lit.span)) h.are turn-decides.from) in
         let d = ap (due_after (ungiven_of lit.span)) (sym h.are) ∙ turn-decides.next in
         let m = turn-most in
         let w = waiting-lost new.power new.minutes.owing power in
         omega (arith, among, d, m, w, next))
-        (λ p. absurd (let no : Lost ≡ Lit = sym power ∙ p in cc)) h.holds
+        (λ p. absurd (let no : Lost ≡ Lit = sym power ∙ p in cc)) (λ p. absurd (let no : Lost ≡ Lit = sym power ∙ p in cc)) h.stands

@@ -1,19 +1,28 @@
 -- What a run has recorded, by the history of its trace (profile).
-use Rattle.std.specs.Prelude.{ℕ, List}
+use Rattle.std.specs.Prelude.{◌≤◌, true, ℕ, List, length}
 use Rattle.tach_media.specs.Medium.{State}
+use Rattle.trace_model.specs.declared.Card.{Card}
 use Rattle.trace_model.specs.declared.Item.{Item}
 use Rattle.trace_model.specs.Trace.{seconds_of}
 use Rattle.minute_model.specs.declared.Rule.TheVariants.{Original}
+use Rattle.run_model.specs.declared.Device.{Device}
+use Rattle.run_model.specs.declared.Device.TheVariants.{Unit as Recorder}
+use Rattle.log_model.specs.declared.lines.Verdict.{Verdict}
 use Rattle.log_model.specs.Log.{RunLog}
+use Rattle.log_model.specs.Causes.{cuts, device_of, RoseBy, HasCauses}
 use Rattle.log_model.specs.Course.{Told, went}
 use Rattle.history_model.specs.Book.{Book, Follows}
 use Rattle.history_model.specs.Minutes.{HistoryMinute}
 use Rattle.history_model.specs.Presence.{Start}
 use Rattle.history_model.specs.History.{unit_history, with_lost}
 use Rattle.safety_model.specs.Unit.{UnitSafe}
+use Rattle.unit_course.specs.Lines.{log_of}
+use Rattle.unit_course.specs.Complete.{AreMarked}
 use Rattle.unit_course.specs.Followed.{Supply, Followed}
 use Rattle.unit_rule.specs.Rule.{started}
 use Rattle.unit_rule.specs.Marks.{Holds}
+use Rattle.unit_rule.specs.Odometer.{Travel, HasTravelled}
+use Rattle.unit_model.specs.Image.{odometer_at}
 use Rattle.recorder.specs.declared.outcome.Outcome.{Outcome}
 use Rattle.recorder.specs.Recorded.{progress}
 
@@ -32,6 +41,10 @@ history_of start o origin items = unit_history Original start (run_log o) (told_
 abbrev pub lost_of : Start → Outcome → (origin : ℕ) → List Item → List (List HistoryMinute)
 lost_of start o origin items = with_lost Original start (run_log o) (told_of o origin items)
 
+-- nothing may be found of a card: none enters
+abbrev pub NoVerdict : Card → ℕ → Verdict → Type 0
+NoVerdict card second verdict = ⊥
+
 -- What a run that began with this image, at this clock, has recorded of a trace: the unit is safe. It holds what a book says; the
 -- book follows the history, and has of it what the course of the seconds says.
 pub record IsFollowed (start : Start) (x : List ℕ) (origin : ℕ) (items : List Item) (clock : ℕ) (o : Outcome) (unit : State) : Type 0 where
@@ -39,9 +52,17 @@ pub record IsFollowed (start : Start) (x : List ℕ) (origin : ℕ) (items : Lis
   pub due : ℕ
   pub book : Book
   pub holds : Holds (started x clock) due book o.marks.items unit
+  -- the odometer of each image is the start's and what was travelled since
+  pub travel : Travel
+  pub travels : HasTravelled (odometer_at x) book travel unit
   pub follows : Follows (history_of start o origin items) (lost_of start o origin items) book
   pub supply : Supply
   pub unfound : ℕ
   pub next : ℕ
   pub begun : ℕ
   pub course : Followed Original start origin (started x clock).first (seconds_of origin items) (progress o.breaks.items unfound next begun supply book)
+  -- each decided minute is acknowledged, but where a cut came in the second that decided it
+  pub complete : AreMarked Original (went (log_of o.breaks.items) (seconds_of origin items)).told o.marks.items
+  -- each line of the run log has its cause, and what happened has its line, where each cut by a failed call broke the unit once more
+  pub causes : (before now : Device → ℕ) → RoseBy (length (cuts true (run_log o))) (before Recorder) (now Recorder) →
+      ((card : Card) → before (device_of card) ≤ now (device_of card)) → HasCauses NoVerdict before now (seconds_of origin items) (run_log o)

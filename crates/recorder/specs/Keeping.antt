@@ -1,17 +1,15 @@
 -- Decided minutes as the unit keeps them, without a card.
-use Rattle.std.specs.Prelude.{◌≡◌, ℕ, suc, ◌+◌, ◌/◌, ◌<◌, ◌≤◌, min, false, List, [], ◌∷◌, ◌++◌}
+use Rattle.std.specs.Prelude.{◌≡◌, ℕ, suc, ◌+◌, ◌<◌, ◌≤◌, false, List, [], ◌∷◌, ◌++◌, Contains}
 use Rattle.tach_media.specs.Medium.{State}
 use Rattle.log_model.specs.declared.lines.Mark.{Mark}
+use Rattle.run_model.specs.declared.Device.TheVariants.{Unit as Recorder}
+use Rattle.history_model.specs.Completeness.{IsMarked}
 use Rattle.history_model.specs.Book.{Book, broken}
 pub use Rattle.unit_course.specs.Keeping.{plain, kept_all}
-use Rattle.unit_rule.specs.Rule.{Started}
-use Rattle.unit_rule.specs.Marks.{Holds}
+pub use Rattle.unit_rule.specs.Odometer.{odometer_by}
+use Rattle.recorder.specs.Standing.{Began, Travel, stranded, all_travelled, Stands}
 use Rattle.minute_model.specs.declared.Minute.{Minute}
 use Rattle.unit_model.specs.Days.{UnitMinute}
-
--- the odometer in kilometres, where it stood at the first number at the last power-on, and this is the sum of the speeds of the seconds since
-abbrev pub odometer_by : (stored travelled : ℕ) → ℕ
-odometer_by stored travelled = min (stored + travelled / 3600) 9999999
 
 -- a decided minute as the unit holds it
 abbrev pub seen_plain : Minute → UnitMinute
@@ -43,9 +41,17 @@ due_after due [] = due
 due_after due (d ∷ ds) = due_after (suc d.minute) ds
 
 -- the keeping of one of these minutes was broken off
-pub record IsBrokenOff (s : Started) (b : Book) (ds : List Minute) (marks : List Mark) (unit : State) : Type 0 where
+pub record IsBrokenOff (s : Began) (b : Book) (g : Travel) (ds : List Minute) (marks : List Mark) (unit : State) : Type 0 where
   pub front : List Minute
   pub d : Minute
   pub rest : List Minute
   pub are : ds ≡ front ++ d ∷ rest
-  pub holds : Holds s (suc d.minute) (broken (plain d) (kept_all front b)) marks unit
+  pub stands : Stands s (suc d.minute) (broken (plain d) (kept_all front b)) (stranded d.travelled (all_travelled front g)) marks unit
+
+-- what was acknowledged stays so
+pub record MarksStay (marks later : List Mark) : Type 0 where
+  pub stay : (m : ℕ) → IsMarked marks Recorder m → IsMarked later Recorder m
+
+-- the unit has acknowledged each of these minutes
+pub record AreAllMarked (ds : List Minute) (marks : List Mark) : Type 0 where
+  pub each : (d : Minute) → Contains ds d → IsMarked marks Recorder d.minute

@@ -1,5 +1,6 @@
 pub mod Acting
 pub mod Booked
+pub mod Broken
 pub mod Followed
 pub mod Going
 pub mod Keeping
@@ -8,6 +9,7 @@ pub mod Opening
 pub mod Power
 pub mod Recorded
 pub mod Room
+pub mod Standing
 pub mod Steps
 pub mod Trace
 pub mod Turn

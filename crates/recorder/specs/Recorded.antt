@@ -4,14 +4,18 @@ use Rattle.tach_media.specs.Medium.{State}
 use Rattle.trace_model.specs.Trace.{TraceSecond}
 use Rattle.minute_model.specs.declared.Rule.TheVariants.{Original}
 use Rattle.minute_rules.specs.Kept.{StandsFor}
-use Rattle.log_model.specs.Course.{Told}
+use Rattle.log_model.specs.Course.{Told, went}
+use Rattle.unit_course.specs.Lines.{log_of}
+use Rattle.unit_course.specs.Complete.{AreMarked}
+use Rattle.unit_course.specs.Caused.{WellCaused}
 use Rattle.log_model.specs.declared.lines.Break.{Break}
 use Rattle.log_model.specs.declared.lines.Mark.{Mark}
+use Rattle.log_model.specs.declared.lines.Refused.{Refused}
 use Rattle.history_model.specs.Book.{Book}
 use Rattle.history_model.specs.Presence.{Start}
 use Rattle.unit_course.specs.Followed.{Supply, Lit as On, Due as Awaited, Lost as Gone, Progress, Followed, going_on}
 use Rattle.unit_course.specs.Turn.{span_at}
-use Rattle.unit_rule.specs.Rule.{Started}
+use Rattle.recorder.specs.Standing.{Began}
 use Rattle.recorder.specs.declared.run.Run.{Run}
 use Rattle.recorder.specs.declared.run.Power.{Power}
 use Rattle.recorder.specs.declared.run.Power.TheVariants.{Lit, Due, Lost}
@@ -37,12 +41,16 @@ progress breaks unfound next begun supply book =
 
 -- Between two seconds, behind these seconds of the trace: the unit and its marks are as the book says, and the book follows the
 -- history of the seconds by the breaks. While there is power, the minutes stand for the seconds of the span.
-pub record Recorded (start : Start) (s : Started) (from : ℕ) (done : List TraceSecond)
-    (run : Run) (breaks : List Break) (marks : List Mark) (unit : State) : Type 0 where
+pub record Recorded (start : Start) (s : Began) (from : ℕ) (done : List TraceSecond)
+    (run : Run) (breaks : List Break) (marks : List Mark) (refused : List Refused) (unit : State) : Type 0 where
   pub book : Book
   pub booked : Booked s run book marks unit
   pub supply : Supply
   pub power : power_of supply ≡ run.power
   pub second : HasSecond supply
-  pub followed : Followed Original start from s.first done (progress breaks run.unfound run.next run.begun supply book)
+  pub followed : Followed Original start from s.opened.first done (progress breaks run.unfound run.next run.begun supply book)
+  -- each decided minute is acknowledged, but where a cut came in the second that decided it
+  pub complete : AreMarked Original (went (log_of breaks) done).told marks
+  -- refusals, cuts and the `off` lines that are cuts are those of the seconds
+  pub caused : WellCaused done (progress breaks run.unfound run.next run.begun supply book) refused
   pub minutes : run.power ≡ Lit → StandsFor run.minutes (span_at Original run.next (going_on supply))

@@ -8,17 +8,17 @@ use Rattle.minute_rules.specs.Kept.{StandsFor}
 use Rattle.log_model.specs.declared.lines.Break.{Break}
 use Rattle.log_model.specs.declared.lines.Mark.{Mark}
 use Rattle.history_model.specs.Book.{Book, all, found, broken, IsMark}
-use Rattle.unit_rule.specs.Rule.{Started}
+use Rattle.recorder.specs.Standing.{Began}
 use Rattle.recorder.specs.declared.run.Run.{Run}
 use Rattle.recorder.specs.declared.run.Power.TheVariants.{Lit, Lost}
 use Rattle.recorder.specs.Lines.{cut_at, found_from}
-use Rattle.recorder.specs.Keeping.{plain, kept_all}
+use Rattle.recorder.specs.Keeping.{plain, kept_all, MarksStay, AreAllMarked}
 use Rattle.recorder.specs.Power.{is_lit, has_power}
 use Rattle.recorder.specs.Booked.{Booked}
 
 -- A loaded unit was mended, or a call failed in that. The cuts since the last power-on that loaded it tell the last-kept minute
 -- that was found; where the mend failed, the second is a cut's too.
-pub record IsMendedOn (s : Started) (old new : Run) (before after : List Break) (kept : ℕ) (b : Book) (marks : List Mark) (unit : State) : Type 0 where
+pub record IsMendedOn (s : Began) (old new : Run) (before after : List Break) (kept : ℕ) (b : Book) (marks : List Mark) (unit : State) : Type 0 where
   pub late : kept < old.next / 60
   pub next : new.next ≡ old.next
   pub begun : new.begun ≡ old.begun
@@ -28,39 +28,40 @@ pub record IsMendedOn (s : Started) (old new : Run) (before after : List Break) 
   pub booked : Booked s new b marks unit
 
 -- the unit was loaded, and its last-kept minute was found: the sure minutes are no later
-pub record IsFoundOn (s : Started) (old new : Run) (before after : List Break) (b : Book) (marks : List Mark) (unit : State) : Type 0 where
+pub record IsFoundOn (s : Began) (old new : Run) (before after : List Break) (b : Book) (marks : List Mark) (unit : State) : Type 0 where
   pub kept : ℕ
-  pub mark : IsMark s.first (all b) kept
+  pub mark : IsMark s.opened.first (all b) kept
   pub sure : All (λ i. i.minute ≤ kept) b.sure
   pub on : IsMendedOn s old new before after kept (found kept b) marks unit
 
 -- a call failed before the unit was loaded: the second is a cut's
-pub record IsLostAtOnce (s : Started) (old new : Run) (before after : List Break) (b : Book) (marks : List Mark) (unit : State) : Type 0 where
+pub record IsLostAtOnce (s : Began) (old new : Run) (before after : List Break) (b : Book) (marks : List Mark) (unit : State) : Type 0 where
   pub run : new ≡ record old { power = Lost }
   pub breaks : after ≡ before ++ cut_at old.next true 0 ∷ []
   pub booked : Booked s new b marks unit
 
 -- power is back, or was lost at once
-abbrev pub IsPoweredOn : Started → (old new : Run) → (before after : List Break) → Book → List Mark → State → Type 0
+abbrev pub IsPoweredOn : Began → (old new : Run) → (before after : List Break) → Book → List Mark → State → Type 0
 IsPoweredOn s old new before after b marks unit =
     IsLostAtOnce s old new before after b marks unit ⊎ IsFoundOn s old new before after b marks unit
 
 -- no power-on: the power goes on, or it stays away
-pub record IsNotPoweredOn (s : Started) (old new : Run) (before after : List Break) (b : Book) (marks : List Mark) (unit : State) : Type 0 where
+pub record IsNotPoweredOn (s : Began) (old new : Run) (before after : List Break) (b : Book) (marks : List Mark) (unit : State) : Type 0 where
   pub why : (has_power old.power old.next ≡ false) ⊎ (is_lit old.power ≡ true)
   pub run : new ≡ old
   pub breaks : after ≡ before
   pub booked : Booked s new b marks unit
 
 -- a second has begun
-abbrev pub IsSecondBegun : Started → (old new : Run) → (before after : List Break) → Book → List Mark → State → Type 0
+abbrev pub IsSecondBegun : Began → (old new : Run) → (before after : List Break) → Book → List Mark → State → Type 0
 IsSecondBegun s old new before after b marks unit =
     IsNotPoweredOn s old new before after b marks unit
     ⊎ ((has_power old.power old.next ≡ true) × (is_lit old.power ≡ false) × IsPoweredOn s old new before after b marks unit)
 
 -- n seconds went by without power
-pub record IsPassed (s : Started) (old new : Run) (before after : List Break) (n begun : ℕ) (b : Book) (marks : List Mark) (unit : State) : Type 0 where
+pub record IsPassed (s : Began) (old new : Run) (before after : List Break) (n begun : ℕ) (b : Book) (prior marks : List Mark) (unit : State) : Type 0 where
   pub dark : is_lit old.power ≡ false
+  pub same : marks ≡ prior
   pub run : new ≡ record old { next = old.next + n; begun = begun }
   pub breaks : after ≡ before
   pub booked : Booked s new b marks unit
@@ -70,10 +71,12 @@ pub record AreDecided (old : Run) (n speed : ℕ) (items : List Minute) : Type 0
   pub given : (span : Span) → StandsFor old.minutes span → decided_in (fed_many span speed n) ≡ decided_in span ++ items
 
 -- n seconds with power: what they decide was kept
-pub record IsKeptIn (s : Started) (old new : Run) (before after : List Break) (n speed begun : ℕ) (b : Book) (marks : List Mark) (unit : State) : Type 0 where
+pub record IsKeptIn (s : Began) (old new : Run) (before after : List Break) (n speed begun : ℕ) (b : Book) (prior marks : List Mark) (unit : State) : Type 0 where
   pub lit : is_lit old.power ≡ true
   pub items : List Minute
   pub decided : AreDecided old n speed items
+  pub stay : MarksStay prior marks
+  pub each : AreAllMarked items marks
   pub fed : (span : Span) → StandsFor old.minutes span → StandsFor new.minutes (fed_many span speed n)
   pub power : new.power ≡ Lit
   pub next : new.next ≡ old.next + n
@@ -83,7 +86,7 @@ pub record IsKeptIn (s : Started) (old new : Run) (before after : List Break) (n
   pub booked : Booked s new (kept_all items b) marks unit
 
 -- n seconds with power: in the last of them the keeping of a minute was broken off
-pub record IsBrokenIn (s : Started) (old new : Run) (before after : List Break) (n speed begun : ℕ) (b : Book) (marks : List Mark) (unit : State) : Type 0 where
+pub record IsBrokenIn (s : Began) (old new : Run) (before after : List Break) (n speed begun : ℕ) (b : Book) (prior marks : List Mark) (unit : State) : Type 0 where
   pub lit : is_lit old.power ≡ true
   pub items : List Minute
   pub decided : AreDecided old n speed items
@@ -91,6 +94,7 @@ pub record IsBrokenIn (s : Started) (old new : Run) (before after : List Break) 
   pub d : Minute
   pub rest : List Minute
   pub are : items ≡ front ++ d ∷ rest
+  pub stay : MarksStay prior marks
   pub power : new.power ≡ Lost
   pub next : new.next ≡ old.next + n
   pub unfound : new.unfound ≡ old.unfound
@@ -99,11 +103,11 @@ pub record IsBrokenIn (s : Started) (old new : Run) (before after : List Break) 
   pub booked : Booked s new (broken (plain d) (kept_all front b)) marks unit
 
 -- n seconds with power
-abbrev pub IsLitTurn : Started → (old new : Run) → (before after : List Break) → (n speed begun : ℕ) → Book → List Mark → State → Type 0
-IsLitTurn s old new before after n speed begun b marks unit =
-    IsKeptIn s old new before after n speed begun b marks unit ⊎ IsBrokenIn s old new before after n speed begun b marks unit
+abbrev pub IsLitTurn : Began → (old new : Run) → (before after : List Break) → (n speed begun : ℕ) → Book → (prior marks : List Mark) → State → Type 0
+IsLitTurn s old new before after n speed begun b prior marks unit =
+    IsKeptIn s old new before after n speed begun b prior marks unit ⊎ IsBrokenIn s old new before after n speed begun b prior marks unit
 
 -- n seconds of one minute
-abbrev pub IsTurn : Started → (old new : Run) → (before after : List Break) → (n speed begun : ℕ) → Book → List Mark → State → Type 0
-IsTurn s old new before after n speed begun b marks unit =
-    IsPassed s old new before after n begun b marks unit ⊎ IsLitTurn s old new before after n speed begun b marks unit
+abbrev pub IsTurn : Began → (old new : Run) → (before after : List Break) → (n speed begun : ℕ) → Book → (prior marks : List Mark) → State → Type 0
+IsTurn s old new before after n speed begun b prior marks unit =
+    IsPassed s old new before after n begun b prior marks unit ⊎ IsLitTurn s old new before after n speed begun b prior marks unit

@@ -1,13 +1,13 @@
 //! The keeping of decided minutes on the unit.
-ghost use Rattle.std.specs.Prelude.{◌≡◌, ◌+◌, ◌<◌, ◌≤◌, ℕ, suc, None, false, true, length, is_some, IfSome, OnOk, OnErr, is_err};
+ghost use Rattle.std.specs.Prelude.{◌≡◌, ◌++◌, ◌∷◌, [], ◌+◌, ◌<◌, ◌≤◌, ℕ, suc, None, false, true, length, is_some, IfSome, OnOk, OnErr, is_err};
 ghost use Rattle.tach_media.specs.Medium.{HasCause, last_count};
 ghost use Rattle.unit_model.specs.Image.{IsUnit};
 ghost use Rattle.unit_journal.specs.Image.{Agrees};
 ghost use Rattle.unit_journal.specs.Kept.{kept_minute};
-ghost use Rattle.recorder.specs.Keeping.{odometer_by, seen_plain, AreDue, kept_after, plain, AreFrom, due_after, kept_all, IsBrokenOff};
+ghost use Rattle.recorder.specs.Keeping.{odometer_by, seen_plain, AreDue, kept_after, plain, AreFrom, due_after, kept_all, IsBrokenOff, MarksStay, AreAllMarked};
 ghost use Rattle.history_model.specs.Book.{Book, kept as with_kept, broken};
-ghost use Rattle.unit_rule.specs.Rule.{Started};
-ghost use Rattle.unit_rule.specs.Marks.{Holds};
+ghost use Rattle.recorder.specs.Standing.{Began, Travel, travelled, stranded, odometer_after, all_travelled, Stands};
+ghost use Rattle.run_model.specs.declared.Device.TheVariants.{Unit as Recorder};
 
 use crate::lines::Lines;
 use activity_codec::Activity;
@@ -77,10 +77,11 @@ fn keep<M: Medium>(
     ensures room { marks.new.room ≡ marks.old.room }
     ensures one { OnOk result (length marks.new.items ≡ length marks.old.items + 1) }
     ensures none { OnErr result (marks.new ≡ marks.old) }
-    ensures marked { (s : Started) (due : ℕ) (b : Book) → Holds s due b marks.old.items (M.state unit.old) → b.maybe ≡ None → due ≤ minute.now.minute → (M.state unit.new).clock < last_count
-        → OnOk result (Holds s (suc minute.now.minute) (with_kept (plain minute.now) b) marks.new.items (M.state unit.new)) }
-    ensures broken { (s : Started) (due : ℕ) (b : Book) → Holds s due b marks.old.items (M.state unit.old) → b.maybe ≡ None → due ≤ minute.now.minute
-        → OnErr result (Holds s (suc minute.now.minute) (broken (plain minute.now) b) marks.new.items (M.state unit.new)) }
+    ensures added { OnOk result (marks.new.items ≡ marks.old.items ++ record { device = Recorder; minute = minute.now.minute; clock = (M.state unit.new).clock } ∷ []) }
+    ensures marked { (s : Began) (due : ℕ) (b : Book) (g : Travel) → Stands s due b g marks.old.items (M.state unit.old) → b.maybe ≡ None → stored ≡ odometer_after s.odometer g.before → due ≤ minute.now.minute → (M.state unit.new).clock < last_count
+        → OnOk result (Stands s (suc minute.now.minute) (with_kept (plain minute.now) b) (travelled minute.now.travelled g) marks.new.items (M.state unit.new)) }
+    ensures broken { (s : Began) (due : ℕ) (b : Book) (g : Travel) → Stands s due b g marks.old.items (M.state unit.old) → b.maybe ≡ None → stored ≡ odometer_after s.odometer g.before → due ≤ minute.now.minute
+        → OnErr result (Stands s (suc minute.now.minute) (broken (plain minute.now) b) (stranded minute.now.travelled g) marks.new.items (M.state unit.new)) }
     ensures clock { (M.state unit.old).clock ≤ (M.state unit.new).clock }
     ensures tells { is_some (M.state unit.new).image ≡ is_some (M.state unit.old).image }
     ensures cause { HasCause (M.state unit.old) (M.state unit.new) (is_err result) }
@@ -118,10 +119,12 @@ pub fn keep_all<M: Medium>(
     ensures kept { OnOk result (journal.new.kept ≡ kept_after journal.old.kept decided.now) }
     ensures room { marks.new.room ≡ marks.old.room }
     ensures few { length marks.new.items ≤ length marks.old.items + length decided.now }
-    ensures marked { (s : Started) (due : ℕ) (b : Book) → Holds s due b marks.old.items (M.state unit.old) → b.maybe ≡ None → AreFrom due decided.now → (M.state unit.new).clock < last_count
-        → OnOk result (Holds s (due_after due decided.now) (kept_all decided.now b) marks.new.items (M.state unit.new)) }
-    ensures broken { (s : Started) (due : ℕ) (b : Book) → Holds s due b marks.old.items (M.state unit.old) → b.maybe ≡ None → AreFrom due decided.now → (M.state unit.new).clock < last_count
-        → OnErr result (IsBrokenOff s b decided.now marks.new.items (M.state unit.new)) }
+    ensures stay { MarksStay marks.old.items marks.new.items }
+    ensures each { OnOk result (AreAllMarked decided.now marks.new.items) }
+    ensures marked { (s : Began) (due : ℕ) (b : Book) (g : Travel) → Stands s due b g marks.old.items (M.state unit.old) → b.maybe ≡ None → stored ≡ odometer_after s.odometer g.before → AreFrom due decided.now → (M.state unit.new).clock < last_count
+        → OnOk result (Stands s (due_after due decided.now) (kept_all decided.now b) (all_travelled decided.now g) marks.new.items (M.state unit.new)) }
+    ensures broken { (s : Began) (due : ℕ) (b : Book) (g : Travel) → Stands s due b g marks.old.items (M.state unit.old) → b.maybe ≡ None → stored ≡ odometer_after s.odometer g.before → AreFrom due decided.now → (M.state unit.new).clock < last_count
+        → OnErr result (IsBrokenOff s b g decided.now marks.new.items (M.state unit.new)) }
     ensures clock { (M.state unit.old).clock ≤ (M.state unit.new).clock }
     ensures tells { is_some (M.state unit.new).image ≡ is_some (M.state unit.old).image }
     ensures cause { HasCause (M.state unit.old) (M.state unit.new) (is_err result) }

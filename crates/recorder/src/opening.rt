@@ -6,6 +6,7 @@ ghost use Rattle.unit_model.specs.Image.{IsUnit};
 ghost use Rattle.unit_memory.specs.Fault.{IfBadUnit};
 ghost use Rattle.unit_journal.specs.Image.{IsFoundBy};
 ghost use Rattle.recorder.specs.Opening.{IsLoaded, IsNotLoaded, IsRefused, IsClockBack, opening_fault};
+ghost use Rattle.recorder.specs.Broken.{HasBrokenDown};
 
 use run_model::Device;
 use tach_media::Medium;
@@ -30,6 +31,7 @@ pub fn load<M: Medium>(unit: &mut M) -> Result<Journal, UnitFault>
     requires unit { (M.state unit.old).size ≡ 2485808 }
     ensures loaded { IfOk result (IsLoaded (M.state unit.new)) }
     ensures bad { IfErr result (IsNotLoaded (M.state unit.old) (M.state unit.new)) }
+    ensures broke { IfErr result (HasBrokenDown (M.state unit.old) (M.state unit.new)) }
     ensures unit { IsUnit (M.state unit.old) → IsUnit (M.state unit.new) }
     ensures leaves { LeavesOnly (M.state unit.old) (M.state unit.new) Unchanged }
     ensures clock { (M.state unit.new).clock ≡ (M.state unit.old).clock }

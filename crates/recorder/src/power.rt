@@ -2,12 +2,12 @@
 ghost use Rattle.std.specs.Prelude.{◌≡◌, ◌+◌, ◌-◌, ◌/◌, ◌<◌, ◌≤◌, ◌++◌, ◌∷◌, [], ℕ, List, true, false, None, length, is_some, IfOk, IfErr, OnOk, IsOk};
 ghost use Rattle.tach_media.specs.Medium.{IsCoherent};
 ghost use Rattle.unit_model.specs.Image.{IsUnit};
-ghost use Rattle.unit_rule.specs.Marks.{Holds};
 ghost use Rattle.recorder.specs.Opening.{IsLoaded, HasFound, IsFoundLater};
 ghost use Rattle.history_model.specs.Book.{Book};
 ghost use Rattle.log_model.specs.declared.lines.Mark.{Mark};
-ghost use Rattle.unit_rule.specs.Rule.{Started};
+ghost use Rattle.recorder.specs.Standing.{Began, Travel, odometer_after, Stands};
 ghost use Rattle.recorder.specs.Booked.{Booked, GoesOn};
+ghost use Rattle.recorder.specs.Broken.{BreaksDown};
 ghost use Rattle.recorder.specs.Steps.{IsPoweredOn, IsMendedOn, IsSecondBegun};
 ghost use Rattle.recorder.specs.Going.{IsGoing, HasMarkRoom, HasBreakRoom, cuts_from, cuts_within};
 ghost use Rattle.recorder.specs.declared.run.Power.TheVariants.{Lit, Due, Lost};
@@ -95,7 +95,8 @@ impl Run {
         ensures unfound { OnOk result (self.new.unfound ≤ length breaks.new.items) }
         ensures unit { IsUnit (M.state unit.new) }
         ensures goes_on { GoesOn (M.state unit.old) (M.state unit.new) }
-        ensures booked { (s : Started) (b : Book) (marks : List Mark) → Booked s self.old b marks (M.state unit.old) → is_some (M.state unit.old).image ≡ true
+        ensures broke { BreaksDown breaks.old.items breaks.new.items (M.state unit.old) (M.state unit.new) }
+        ensures booked { (s : Began) (b : Book) (marks : List Mark) → Booked s self.old b marks (M.state unit.old) → is_some (M.state unit.old).image ≡ true
             → IsOk result × IsSecondBegun s self.old self.new breaks.old.items breaks.new.items b marks (M.state unit.new) }
     {
         if !self.has_power() {
@@ -125,7 +126,8 @@ impl Run {
         ensures unfound { OnOk result (self.new.unfound ≤ length breaks.new.items) }
         ensures unit { IsUnit (M.state unit.new) }
         ensures goes_on { GoesOn (M.state unit.old) (M.state unit.new) }
-        ensures booked { (s : Started) (b : Book) (marks : List Mark) → Booked s self.old b marks (M.state unit.old) → is_some (M.state unit.old).image ≡ true
+        ensures broke { BreaksDown breaks.old.items breaks.new.items (M.state unit.old) (M.state unit.new) }
+        ensures booked { (s : Began) (b : Book) (marks : List Mark) → Booked s self.old b marks (M.state unit.old) → is_some (M.state unit.old).image ≡ true
             → IsOk result × IsPoweredOn s self.old self.new breaks.old.items breaks.new.items b marks (M.state unit.new) }
     {
         match load(unit) {
@@ -160,7 +162,8 @@ impl Run {
         ensures unfound { OnOk result (self.new.unfound ≤ length breaks.new.items) }
         ensures unit { IsUnit (M.state unit.new) }
         ensures goes_on { GoesOn (M.state unit.old) (M.state unit.new) }
-        ensures booked { (s : Started) (b : Book) (marks : List Mark) → Holds s (self.old.next / 60) b marks (M.state unit.old) → b.maybe ≡ None → HasFound journal (M.state unit.old)
+        ensures broke { BreaksDown breaks.old.items breaks.new.items (M.state unit.old) (M.state unit.new) }
+        ensures booked { (s : Began) (b : Book) (g : Travel) (marks : List Mark) → Stands s (self.old.next / 60) b g marks (M.state unit.old) → b.maybe ≡ None → journal.odometer ≡ odometer_after s.odometer g.before → HasFound journal (M.state unit.old)
             → IsOk result × IsMendedOn s self.old self.new breaks.old.items breaks.new.items journal.kept b marks (M.state unit.new) }
     {
         let kept = journal.last_kept();

@@ -1,6 +1,7 @@
 //! A run: the seconds of a trace, one after another.
 ghost use Rattle.std.specs.Prelude.{◌≡◌, ◌+◌, ◌-◌, ◌/◌, ◌<◌, ◌≤◌, ◌++◌, ℕ, List, true, false, length, is_some, IfErr, OnOk, IsOk};
-ghost use Rattle.tach_media.specs.Medium.{LeavesOnly, Unchanged, last_count};
+ghost use Rattle.tach_media.specs.Medium.{LeavesOnly, Unchanged, HasBroken, last_count};
+ghost use Rattle.log_model.specs.Causes.{cuts};
 ghost use Rattle.unit_model.specs.Decoding.{Decodes};
 ghost use Rattle.unit_model.specs.Image.{IsUnit, last_kept};
 ghost use Rattle.history_model.specs.Book.{Book};
@@ -8,7 +9,7 @@ ghost use Rattle.unit_rule.specs.Marks.{Holds};
 ghost use Rattle.recorder.specs.Opening.{IsLoaded, IsRefused, IsFoundLater, IsUnitFault};
 ghost use Rattle.history_model.specs.Presence.{Start};
 ghost use Rattle.recorder.specs.Booked.{StartsAs, started};
-ghost use Rattle.recorder.specs.Followed.{IsFollowed};
+ghost use Rattle.recorder.specs.Followed.{IsFollowed, run_log};
 ghost use Rattle.trace_text.specs.Trace.{IsWellFormed};
 ghost use Rattle.recorder.specs.Trace.{IsForUnit, IsReserved, needs_no_card};
 ghost use Rattle.recorder.specs.Room.{first_waiting};
@@ -74,6 +75,8 @@ pub fn run_trace<U: Medium, C: Chip>(
     ensures followed { (start : Start) (x : List ℕ) → StartsAs x (U.state unit.old) → (U.state unit.new).clock < last_count → length trace.now.items ≤ 4294967295
         → OnOk result (IsFollowed start x trace.now.start trace.now.items (U.state unit.old).clock outcome.new (U.state unit.new)) }
     ensures finds { outcome.new.finds ≡ outcome.old.finds }
+    // Each cut that a failed call made is a breakdown of the unit more.
+    ensures broke { HasBroken (U.state unit.old) (U.state unit.new) (length (cuts true (run_log outcome.new))) }
     // A run that is recorded began on a unit that decodes, in a later minute than its last-kept one; and what keeps one from being
     // recorded is the unit.
     ensures begun { (x : List ℕ) → StartsAs x (U.state unit.old) → OnOk result (Decodes x × (last_kept x < trace.now.start / 60)) }
@@ -138,8 +141,9 @@ impl Run {
     ghost use Rattle.recorder.specs.Going.{IsGoing};
     ghost use Rattle.recorder.specs.Turn.{HasRoom};
     ghost use Rattle.recorder.specs.Room.{off_count, has_seconds};
-    ghost use Rattle.unit_rule.specs.Rule.{Started};
+    ghost use Rattle.recorder.specs.Standing.{Began};
     ghost use Rattle.recorder.specs.Booked.{Booked, GoesOn};
+    ghost use Rattle.recorder.specs.Broken.{BreaksDown};
     ghost use Rattle.recorder.specs.declared.run.Power.TheVariants.{Due};
 
     /// A run that begins at this second, of a unit with this journal.
@@ -149,6 +153,7 @@ impl Run {
         ensures begun { result.begun ≡ 0 }
         ensures unfound { result.unfound ≡ 0 }
         ensures odometer { result.odometer ≤ 9999999 }
+        ensures stored { result.odometer ≡ journal.odometer }
     {
         Run {
             power: Power::Due,
@@ -187,11 +192,12 @@ impl Run {
         ensures unit { IsUnit (M.state unit.new) }
         ensures finds { outcome.new.finds ≡ outcome.old.finds }
         ensures goes_on { GoesOn (M.state unit.old) (M.state unit.new) }
-        ensures booked { (s : Started) (b : Book) → Booked s self.old b outcome.old.marks.items (M.state unit.old) → is_some (M.state unit.old).image ≡ true → (M.state unit.new).clock < last_count
+        ensures broke { BreaksDown outcome.old.breaks.items outcome.new.breaks.items (M.state unit.old) (M.state unit.new) }
+        ensures booked { (s : Began) (b : Book) → Booked s self.old b outcome.old.marks.items (M.state unit.old) → is_some (M.state unit.old).image ≡ true → (M.state unit.new).clock < last_count
             → IsOk result × ((c : Book) × Booked s self.new c outcome.new.marks.items (M.state unit.new)) }
-        ensures recorded { (start : Start) (s : Started) (origin : ℕ) (done : List TraceSecond) → Recorded start s origin done self.old outcome.old.breaks.items outcome.old.marks.items (M.state unit.old)
+        ensures recorded { (start : Start) (s : Began) (origin : ℕ) (done : List TraceSecond) → Recorded start s origin done self.old outcome.old.breaks.items outcome.old.marks.items outcome.old.refused.items (M.state unit.old)
             → is_some (M.state unit.old).image ≡ true → (M.state unit.new).clock < last_count → AreSelections from to items.now
-            → IsOk result × Recorded start s origin (done ++ seconds_at self.old.next (actions_in (between from to items.now)) item) self.new outcome.new.breaks.items outcome.new.marks.items (M.state unit.new) }
+            → IsOk result × Recorded start s origin (done ++ seconds_at self.old.next (actions_in (between from to items.now)) item) self.new outcome.new.breaks.items outcome.new.marks.items outcome.new.refused.items (M.state unit.new) }
     {
         match item {
             Item::Act(_) => Ok(()),

@@ -68,6 +68,7 @@ impl Run {
     ghost use Rattle.recorder.specs.Acting.{between, action_of, actions_in, picks_in, refused_in, with_picks, AreSelections};
     ghost use Rattle.recorder.specs.Power.{is_lit};
     ghost use Rattle.recorder.specs.Booked.{Booked, GoesOn};
+    ghost use Rattle.recorder.specs.Broken.{BreaksDown};
     ghost use Rattle.recorder.specs.Opening.{IsFoundLater};
     ghost use Rattle.recorder.specs.Steps.{IsTurn, IsLitTurn};
     ghost use Rattle.recorder.specs.Recorded.{Recorded};
@@ -75,7 +76,7 @@ impl Run {
     ghost use Rattle.history_model.specs.Presence.{Start};
     ghost use Rattle.recorder.specs.declared.run.Power.TheVariants.{Lit};
     ghost use Rattle.history_model.specs.Book.{Book};
-    ghost use Rattle.unit_rule.specs.Rule.{Started};
+    ghost use Rattle.recorder.specs.Standing.{Began};
     ghost use Rattle.tach_media.specs.Medium.{last_count};
 
     /// So many seconds at one speed, from 1 on, with the actions among the items from one index to another at their beginning.
@@ -104,11 +105,12 @@ impl Run {
         ensures unit { IsUnit (M.state unit.new) }
         ensures finds { outcome.new.finds ≡ outcome.old.finds }
         ensures goes_on { GoesOn (M.state unit.old) (M.state unit.new) }
-        ensures booked { (s : Started) (b : Book) → Booked s self.old b outcome.old.marks.items (M.state unit.old) → is_some (M.state unit.old).image ≡ true → (M.state unit.new).clock < last_count
+        ensures broke { BreaksDown outcome.old.breaks.items outcome.new.breaks.items (M.state unit.old) (M.state unit.new) }
+        ensures booked { (s : Began) (b : Book) → Booked s self.old b outcome.old.marks.items (M.state unit.old) → is_some (M.state unit.old).image ≡ true → (M.state unit.new).clock < last_count
             → IsOk result × ((c : Book) × Booked s self.new c outcome.new.marks.items (M.state unit.new)) }
-        ensures recorded { (start : Start) (s : Started) (origin : ℕ) (done : List TraceSecond) → Recorded start s origin done self.old outcome.old.breaks.items outcome.old.marks.items (M.state unit.old)
+        ensures recorded { (start : Start) (s : Began) (origin : ℕ) (done : List TraceSecond) → Recorded start s origin done self.old outcome.old.breaks.items outcome.old.marks.items outcome.old.refused.items (M.state unit.old)
             → is_some (M.state unit.old).image ≡ true → (M.state unit.new).clock < last_count → AreSelections from to items.now
-            → IsOk result × Recorded start s origin (done ++ driven seconds self.old.next speed (actions_in (between from to items.now))) self.new outcome.new.breaks.items outcome.new.marks.items (M.state unit.new) }
+            → IsOk result × Recorded start s origin (done ++ driven seconds self.old.next speed (actions_in (between from to items.now))) self.new outcome.new.breaks.items outcome.new.marks.items outcome.new.refused.items (M.state unit.new) }
     {
         let has_power = self.begin_second(unit, &mut outcome.breaks)?;
         self.act_all(items, from, to, has_power, &mut outcome.refused);
@@ -136,11 +138,12 @@ impl Run {
         ensures unit { IsUnit (M.state unit.new) }
         ensures finds { outcome.new.finds ≡ outcome.old.finds }
         ensures goes_on { GoesOn (M.state unit.old) (M.state unit.new) }
-        ensures booked { (s : Started) (b : Book) → Booked s self.old b outcome.old.marks.items (M.state unit.old) → is_some (M.state unit.old).image ≡ true → (M.state unit.new).clock < last_count
+        ensures broke { BreaksDown outcome.old.breaks.items outcome.new.breaks.items (M.state unit.old) (M.state unit.new) }
+        ensures booked { (s : Began) (b : Book) → Booked s self.old b outcome.old.marks.items (M.state unit.old) → is_some (M.state unit.old).image ≡ true → (M.state unit.new).clock < last_count
             → IsOk result × ((c : Book) × Booked s self.new c outcome.new.marks.items (M.state unit.new)) }
-        ensures recorded { (start : Start) (s : Started) (origin : ℕ) (done : List TraceSecond) → Recorded start s origin done self.old outcome.old.breaks.items outcome.old.marks.items (M.state unit.old)
+        ensures recorded { (start : Start) (s : Began) (origin : ℕ) (done : List TraceSecond) → Recorded start s origin done self.old outcome.old.breaks.items outcome.old.marks.items outcome.old.refused.items (M.state unit.old)
             → is_some (M.state unit.old).image ≡ true → (M.state unit.new).clock < last_count
-            → IsOk result × Recorded start s origin (done ++ driven seconds self.old.next speed []) self.new outcome.new.breaks.items outcome.new.marks.items (M.state unit.new) }
+            → IsOk result × Recorded start s origin (done ++ driven seconds self.old.next speed []) self.new outcome.new.breaks.items outcome.new.marks.items outcome.new.refused.items (M.state unit.new) }
     {
         let mut left = seconds;
         while left > 0 {
@@ -173,11 +176,12 @@ impl Run {
         ensures unit { IsUnit (M.state unit.new) }
         ensures finds { outcome.new.finds ≡ outcome.old.finds }
         ensures goes_on { GoesOn (M.state unit.old) (M.state unit.new) }
-        ensures booked { (s : Started) (b : Book) → Booked s self.old b outcome.old.marks.items (M.state unit.old) → is_some (M.state unit.old).image ≡ true → (M.state unit.new).clock < last_count
+        ensures broke { BreaksDown outcome.old.breaks.items outcome.new.breaks.items (M.state unit.old) (M.state unit.new) }
+        ensures booked { (s : Began) (b : Book) → Booked s self.old b outcome.old.marks.items (M.state unit.old) → is_some (M.state unit.old).image ≡ true → (M.state unit.new).clock < last_count
             → IsOk result × ((c : Book) × Booked s self.new c outcome.new.marks.items (M.state unit.new)) }
-        ensures recorded { (start : Start) (s : Started) (origin : ℕ) (done : List TraceSecond) → Recorded start s origin done self.old outcome.old.breaks.items outcome.old.marks.items (M.state unit.old)
+        ensures recorded { (start : Start) (s : Began) (origin : ℕ) (done : List TraceSecond) → Recorded start s origin done self.old outcome.old.breaks.items outcome.old.marks.items outcome.old.refused.items (M.state unit.old)
             → is_some (M.state unit.old).image ≡ true → (M.state unit.new).clock < last_count
-            → IsOk result × Recorded start s origin (done ++ driven n self.old.next speed []) self.new outcome.new.breaks.items outcome.new.marks.items (M.state unit.new) }
+            → IsOk result × Recorded start s origin (done ++ driven n self.old.next speed []) self.new outcome.new.breaks.items outcome.new.marks.items outcome.new.refused.items (M.state unit.new) }
     {
         self.begin_second(unit, &mut outcome.breaks)?;
         self.turn(n, speed, 0, unit, outcome);
@@ -266,10 +270,12 @@ impl Run {
         ensures unfound { self.new.unfound ≡ self.old.unfound }
         ensures breaks { length outcome.old.breaks.items ≤ length outcome.new.breaks.items }
         ensures unit { IsUnit (M.state unit.new) }
+        ensures refused { outcome.new.refused ≡ outcome.old.refused }
         ensures finds { outcome.new.finds ≡ outcome.old.finds }
         ensures goes_on { GoesOn (M.state unit.old) (M.state unit.new) }
-        ensures booked { (s : Started) (b : Book) → Booked s self.old b outcome.old.marks.items (M.state unit.old) → (M.state unit.new).clock < last_count
-            → IsTurn s self.old self.new outcome.old.breaks.items outcome.new.breaks.items n speed begun b outcome.new.marks.items (M.state unit.new) }
+        ensures broke { BreaksDown outcome.old.breaks.items outcome.new.breaks.items (M.state unit.old) (M.state unit.new) }
+        ensures booked { (s : Began) (b : Book) → Booked s self.old b outcome.old.marks.items (M.state unit.old) → (M.state unit.new).clock < last_count
+            → IsTurn s self.old self.new outcome.old.breaks.items outcome.new.breaks.items n speed begun b outcome.old.marks.items outcome.new.marks.items (M.state unit.new) }
     {
         if !self.is_lit() {
             self.pass(n, begun);
@@ -299,10 +305,12 @@ impl Run {
         ensures unfound { self.new.unfound ≡ self.old.unfound }
         ensures breaks { length outcome.old.breaks.items ≤ length outcome.new.breaks.items }
         ensures unit { IsUnit (M.state unit.new) }
+        ensures refused { outcome.new.refused ≡ outcome.old.refused }
         ensures finds { outcome.new.finds ≡ outcome.old.finds }
         ensures goes_on { GoesOn (M.state unit.old) (M.state unit.new) }
-        ensures booked { (s : Started) (b : Book) → Booked s self.old b outcome.old.marks.items (M.state unit.old) → (M.state unit.new).clock < last_count
-            → IsLitTurn s self.old self.new outcome.old.breaks.items outcome.new.breaks.items n speed begun b outcome.new.marks.items (M.state unit.new) }
+        ensures broke { BreaksDown outcome.old.breaks.items outcome.new.breaks.items (M.state unit.old) (M.state unit.new) }
+        ensures booked { (s : Began) (b : Book) → Booked s self.old b outcome.old.marks.items (M.state unit.old) → (M.state unit.new).clock < last_count
+            → IsLitTurn s self.old self.new outcome.old.breaks.items outcome.new.breaks.items n speed begun b outcome.old.marks.items outcome.new.marks.items (M.state unit.new) }
     {
         let decided = feed(&mut self.minutes, n, speed);
         let odometer = self.odometer;

@@ -1,5 +1,5 @@
 -- What is kept stands for the calls so far, call by call.
-use Rattle.std.proofs.Common.{◌≡◌, ◌∙◌, ℕ, zero, suc, ◌+◌, ◌/◌, ◌<◌, ◌≤◌, Bool, true, false, cond, Option, Some, None, List, [], ◌∷◌, ◌++◌, refl, ap, sym, arith, take, fold, is_some}
+use Rattle.std.proofs.Common.{◌≡◌, ◌∙◌, ℕ, zero, suc, ◌+◌, ◌/◌, ◌≤◌, Bool, true, false, cond, Option, Some, None, List, [], ◌∷◌, ◌++◌, refl, ap, sym, arith, take, is_some}
 use Rattle.std.specs.Prelude.{nat_eq, find, option_map, not, ◌&&◌}
 use Rattle.std.proofs.lemmas.List.{take-take}
 use Rattle.std.proofs.lemmas.List.Sums.{fold-append}
@@ -7,11 +7,9 @@ use Rattle.activity_codec.specs.declared.values.Slot.{Slot}
 use Rattle.trace_model.specs.declared.Card.{Card}
 use Rattle.trace_model.specs.declared.Card.TheVariants.{A, B}
 use Rattle.slot_machine.specs.declared.seats.Seat.{Seat}
-use Rattle.slot_machine.specs.declared.seats.Present.{Present}
 use Rattle.slot_machine.specs.declared.seats.Ended.{Ended}
-use Rattle.slot_machine.specs.declared.seats.Lefts.{Lefts}
 use Rattle.slot_machine.specs.Calls.{SlotCall, Put, Take, CutAt, EndMinute, Seats, Table, seat_in, with_seat, powerless, leaving, has_left, is_earlier, present_of, ending, after_call, no_call, table_of, ended_in, present_in, present_by}
-use Rattle.slot_machine.specs.Kept.{Kept, left_in, with_left, nothing_yet, put_in, taken, cut_off, minute_ended, TellsLeft, Holds, StandsFor}
+use Rattle.slot_machine.specs.Kept.{Kept, left_in, with_left, nothing_yet, put_in, taken, cut_off, minute_ended, Holds, StandsFor}
 use Rattle.slot_machine.proofs.Leaving.{leaves, later}
 
 -- one call more is one step more

@@ -1,12 +1,11 @@
 -- Slots with the same cards, accepted alike, refuse the same actions.
-use Rattle.std.proofs.Common.{◌≡◌, ◌∙◌, ℕ, Bool, true, false, cond, Option, Some, None, refl, ap, sym, is_some}
-use Rattle.std.specs.Prelude.{nat_lt, not, option_map}
+use Rattle.std.proofs.Common.{◌≡◌, ◌∙◌, ℕ, Bool, cond, Option, Some, None, refl, ap, sym, is_some}
+use Rattle.std.specs.Prelude.{nat_lt, not}
 use Rattle.activity_codec.specs.declared.values.Slot.{Slot}
 use Rattle.activity_codec.specs.declared.values.Slot.TheVariants.{Driver, CoDriver}
 use Rattle.trace_model.specs.declared.Card.{Card}
 use Rattle.trace_model.specs.declared.Action.{Action}
 use Rattle.trace_model.specs.declared.Action.TheVariants.{Select, Insert, Withdraw, Tear, Place}
-use Rattle.log_model.specs.declared.lines.SlotFault.{SlotFault}
 use Rattle.log_model.specs.declared.lines.SlotFault.TheVariants.{Moving, Empty, Occupied, NoCard, Elsewhere}
 use Rattle.log_model.specs.Slots.{Sitting, same_card, in_slot, other_slot, holds, is_accepted, refusal}
 use Rattle.log_model.specs.Slots as log

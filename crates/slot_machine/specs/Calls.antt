@@ -1,5 +1,5 @@
 -- What the calls on the two slots so far say of the cards: where each sits, when it left, and in which minutes it was present (profile).
-use Rattle.std.specs.Prelude.{◌≡◌, ℕ, ◌+◌, ◌/◌, Bool, true, false, not, ◌&&◌, Option, Some, None, List, [], ◌∷◌, ◌++◌, map, find, fold, nat_eq, nat_lt, is_some, option_map, if◌then◌else◌}
+use Rattle.std.specs.Prelude.{◌≡◌, ℕ, ◌+◌, ◌/◌, Bool, false, not, ◌&&◌, Option, Some, None, List, [], ◌∷◌, ◌++◌, find, fold, nat_eq, nat_lt, is_some, option_map, if◌then◌else◌}
 use Rattle.std.specs.List.{list_any}
 use Rattle.activity_codec.specs.declared.values.Slot.{Slot}
 use Rattle.activity_codec.specs.declared.values.Slot.TheVariants.{Driver, CoDriver}

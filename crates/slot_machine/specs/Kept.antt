@@ -1,14 +1,13 @@
 -- What is kept of the calls on the two slots.
 use Rattle.std.specs.Prelude.{◌≡◌, ◌⊎◌, ℕ, ◌+◌, ◌/◌, ◌≤◌, Bool, true, false, Option, Some, None, List, [], ◌∷◌, nat_eq, take}
 use Rattle.activity_codec.specs.declared.values.Slot.{Slot}
-use Rattle.activity_codec.specs.declared.values.Slot.TheVariants.{Driver, CoDriver}
 use Rattle.trace_model.specs.declared.Card.{Card}
 use Rattle.trace_model.specs.declared.Card.TheVariants.{A, B}
 use Rattle.log_model.specs.Slots.{other_slot}
 use Rattle.slot_machine.specs.declared.seats.Seat.{Seat}
 use Rattle.slot_machine.specs.declared.seats.Ended.{Ended}
 use Rattle.slot_machine.specs.declared.seats.Lefts.{Lefts}
-use Rattle.slot_machine.specs.Calls.{SlotCall, Seats, Table, seat_in, with_seat, is_card, has_accepted, powerless, has_left, ending, table_of}
+use Rattle.slot_machine.specs.Calls.{SlotCall, Seats, Table, seat_in, with_seat, is_card, powerless, has_left, ending, table_of}
 
 -- the minute before which no call speaks any more, the slots, the minute of each card's last leaving, and the last four minutes
 -- that ended, the newest first

@@ -23,7 +23,7 @@ use tach_media::{Chip, Medium, Sink, Source};
 /// `minutes` reads a trace from the source, and writes the view text of its decided minutes, no card present, to the sink.
 /// `record` reads a trace that no card bears on, records it on the unit, and writes five lines of counts to the sink.
 /// `format a` and `format b` issue the card anew, of the largest sizes, `format unit` makes the unit new; they write
-/// `formatted` to the sink. No other device is used than the one that the words name.
+/// `formatted` to the sink. No other device is used than the form's.
 pub fn tacho<S: Source, K: Sink, U: Medium, C: Chip>(
     alloc: Global,
     words: &Words,

@@ -9,11 +9,13 @@ use Rattle.byte_fields.proofs.Numbers.{big_number-big_bytes}
 use Rattle.std.proofs.lemmas.List.{length-map, map-append}
 use Rattle.tach_media.specs.Medium.{SameOutside, IsPartlyWritten, bytes_at}
 use Rattle.tach_media.proofs.Images.{put_outside}
-use Rattle.gated_ring.specs.Ring.{number_at, pointer, is_there, entry_at, taken, newest_of}
-use Rattle.gated_ring.specs.Change.{IsAdding, IsAdded}
+use Rattle.gated_ring.specs.declared.room.Room.{Room}
+use Rattle.gated_ring.specs.Ring.{number_at, pointer, is_there, entry_at, taken, with_head, newest_of}
+use Rattle.gated_ring.specs.Change.{SameOthers, IsAdding, IsAdded}
+use Rattle.gated_ring.specs.Plans.{room_in}
 use Rattle.unit_model.specs.Days.{word_slot, word_minute, word_of, bare, state_at, UnitMinute, Day, StoredDay, day_of, day_shown, days_shown, filled, Each, minute_by}
 use Rattle.unit_model.specs.Changes.{change, changes, first_state, first_states, further_words}
-use Rattle.unit_model.specs.Image.{day_ring, slot_place, last_kept, odometer_at, unit_day, unit_days, day_head, unit_heads, spare_bytes, recorded, indices, slot_date, slot_odometer, slot_count, slot_words}
+use Rattle.unit_model.specs.Image.{day_ring, slot_place, last_kept, odometer_at, unit_day, unit_days, spare_bytes, recorded, indices, slot_date, slot_odometer, slot_count, slot_words}
 use Rattle.std.specs.List.{list_all}
 use Rattle.unit_model.specs.Decoding.{Decodes, has_day, word_checks}
 use Rattle.unit_model.proofs.Checks.{passes, and_join, IsGood, still}
@@ -21,13 +23,13 @@ use Rattle.unit_model.proofs.StillDecodes.{counted_good}
 use Rattle.unit_model.proofs.WordsGood.{changes_good, good_low}
 use Rattle.unit_model.proofs.KeptDecodes.{behind_good, index_there, mark_good}
 use Rattle.unit_model.proofs.AddedDecodes.{HasToday, any_at, or_right, eq_true, shut_good, open_good}
-use Rattle.unit_journal.specs.Image.{Notes, IsNotes, Agrees, SameBesides, IsGivenUp, AreHeads, IsKeeping, head_of, new_head, further}
+use Rattle.unit_journal.specs.Image.{Notes, Agrees, SameBesides, IsGivenUp, IsKeeping, head_of, new_head, further}
 use Rattle.unit_model.specs.Writing.{written, free_place, DiffersBehind, with_kept, with_words}
 use Rattle.unit_model.specs.Retention.{retained, last_day}
 use Rattle.unit_model.proofs.Retention.{begins_of}
-use Rattle.unit_journal.specs.DaysWith.{begun_day, days_with, HasDays}
+use Rattle.unit_journal.specs.DaysWith.{closed_days, begun_day, opened_day, days_with, HasDays, AreTurning, AreBetween}
 use Rattle.unit_journal.proofs.DaysWith.{drop_push, spare_front, spare_behind, spare_count}
-use Rattle.unit_journal.specs.Plans.{counted, mark, beginning, IsBeginning}
+use Rattle.unit_journal.specs.Plans.{counted, mark, beginning}
 use Rattle.unit_journal.proofs.Planned.{counted_put, counted_moment}
 use Rattle.write_plan.specs.Plan.{IsPartway}
 use Rattle.write_plan.proofs.Plans.{partway_either}
@@ -56,7 +58,7 @@ each_drop P zero days all = all
 each_drop P (suc n) [] all = tt
 each_drop P (suc n) (d ∷ days) all = each_drop P n days all.1
 
-each_push : (P : StoredDay → Type 0) (days : List StoredDay) (d : StoredDay) → Each P days → P d → Each P (days ++ d ∷ [])
+pub each_push : (P : StoredDay → Type 0) (days : List StoredDay) (d : StoredDay) → Each P days → P d → Each P (days ++ d ∷ [])
 each_push P [] d all one = (one, tt)
 each_push P (x ∷ days) d all one = (all.0, each_push P days d all.1 one)
 
@@ -133,6 +135,13 @@ new_spelled t d c = by (t == 0)
     by true = (λ i. word_of 0 d 0 ∷ word_of 1 c 0 ∷ (change_same 0 t d i ++ change 1 t c c)) ∙ (λ i. word_of 0 d 0 ∷ word_of 1 c 0 ∷ change_same 1 t c i)
     by false = refl
 
+firsts_spelled : (t d c : ℕ) → word_of 0 (first_state t d) 0 ∷ word_of 1 (first_state t c) 0 ∷ [] ≡ first_states t d c
+firsts_spelled t d c = by (t == 0)
+  where
+    by : (b : Bool) → word_of 0 (cond b d bare) 0 ∷ word_of 1 (cond b c bare) 0 ∷ [] ≡ cond b (word_of 0 d 0 ∷ word_of 1 c 0 ∷ []) (word_of 0 bare 0 ∷ word_of 1 bare 0 ∷ [])
+    by true = refl
+    by false = refl
+
 first_short : (t d : ℕ) → d < 16 → first_state t d < 16
 first_short t d s = by (t == 0)
   where
@@ -159,7 +168,8 @@ pub record IsClosed (n k m dn cn odometer : ℕ) (x x2 : List ℕ) (known : poin
   pub all_now : Each (λ d. day_of d ≤ k / 1440) (unit_days x2)
   pub commit : days_shown m (unit_days x2 ++ begun_day m dn cn odometer ∷ []) ≡ filled (recorded x) (minute_by m dn cn)
   pub written : days_with (last_kept x) m dn cn odometer (unit_days x) ≡ unit_days x2 ++ begun_day m dn cn odometer ∷ []
-  pub heads : unit_heads x2 ≡ unit_heads x
+  pub closed_are : unit_days x2 ≡ closed_days (last_kept x) (unit_days x)
+  pub room : room_in day_ring x2 ≡ room_in day_ring x
   pub spare : (i : ℕ) → spare_bytes x2 i ≡ spare_bytes x i
   pub ready : IsReady x2 known
   pub days : length (unit_days x2) ≡ n
@@ -229,35 +239,47 @@ module _ (n k m dn cn odometer : ℕ) (small : m ≤ 71582788) (short : dn < 16)
   with_later : (c : List ℕ) (d : StoredDay) → last_kept c ≡ k → day_of d ≡ m / 1440 → unit_days c ≡ drop n0 D ++ d ∷ [] → Minutes c
   with_later c d kept day is = given c (recorded_is c k kept ∙ ap (days_shown k) is ∙ day_later k (drop n0 D) d (omega (arith, day, later)) ∙ shown_given)
 
-  -- the dates and odometers
-  abbrev H : List (ℕ × ℕ)
-  H = unit_heads x
-
   later_day : last_kept x / 1440 < m / 1440
   later_day = omega (arith, closed.kept_was, later)
 
-  heads_length : length H ≡ length D
-  unfolding unit_heads
-  heads_length = ap length (sym closed.heads) ∙ length-map D day_head
+  -- the days at a moment: without the oldest, and then with the new one, whose first words are there or all
+  less_days : (c : List ℕ) → unit_days c ≡ drop n0 D → AreTurning (last_kept x) m dn cn odometer (unit_days x) (unit_days c)
+  less_days c is = inr (inl (is ∙ ap (newest_of 365) closed.closed_are))
 
-  heads_drop : (c : List ℕ) → unit_days c ≡ drop n0 D → unit_heads c ≡ drop n0 H
-  unfolding unit_heads
-  heads_drop c is = ap (map day_head) is ∙ map_drop day_head n0 D ∙ ap (drop n0) closed.heads
+  newest_push : (d : StoredDay) → drop n0 D ++ d ∷ [] ≡ newest_of 366 (D ++ d ∷ [])
+  newest_push d = sym (drop_push n0 D d (omega arith)) ∙ ap (λ (n : ℕ). drop n (D ++ d ∷ [])) (omega (arith, length-append D (d ∷ [])))
 
-  heads_less : (c : List ℕ) → unit_days c ≡ drop n0 D → AreHeads m odometer x c
-  heads_less c is = inr (later_day, inl (heads_drop c is ∙ ap (λ (n : ℕ). drop (n - 365) H) (sym heads_length)))
+  more_days : (c : List ℕ) → unit_days c ≡ drop n0 D ++ record { date = date; odometer = odometer; words = firsts } ∷ [] → AreTurning (last_kept x) m dn cn odometer (unit_days x) (unit_days c)
+  more_days c is = inr (inr (is ∙ newest_push (record { date = date; odometer = odometer; words = firsts })
+      ∙ (λ t. newest_of 366 (closed.closed_are t ++ record { date = date; odometer = odometer; words = firsts_spelled (m % 1440) dn cn t } ∷ []))))
 
-  heads_push : (c : List ℕ) (words : List ℕ) → unit_days c ≡ drop n0 D ++ record { date = date; odometer = odometer; words = words } ∷ [] → unit_heads c ≡ drop n0 H ++ (date, odometer) ∷ []
-  unfolding unit_heads
-  heads_push c words is = ap (map day_head) is ∙ map-append day_head (drop n0 D) (record { date = date; odometer = odometer; words = words } ∷ [])
-      ∙ ap (λ (l : List (ℕ × ℕ)). l ++ (date, odometer) ∷ []) (map_drop day_head n0 D ∙ ap (drop n0) closed.heads)
+  all_days : (c : List ℕ) → unit_days c ≡ drop n0 D ++ record { date = date; odometer = odometer; words = firsts ++ ws } ∷ [] → unit_days c ≡ newest_of 366 (days_with (last_kept x) m dn cn odometer (unit_days x))
+  all_days c is =
+      is ∙ ap (λ (l : List ℕ). drop n0 D ++ record { date = date; odometer = odometer; words = l } ∷ []) (new_spelled (m % 1440) dn cn)
+      ∙ newest_push begun ∙ sym (ap (newest_of 366) closed.written)
 
-  heads_more : (c : List ℕ) (words : List ℕ) → unit_days c ≡ drop n0 D ++ record { date = date; odometer = odometer; words = words } ∷ [] → AreHeads m odometer x c
-  heads_more c words is = inr (
-    later_day,
-    inr (heads_push c words is ∙ sym (drop_push n0 H (date, odometer) (omega (arith, heads_length)))
-        ∙ ap (λ (n : ℕ). drop n (H ++ (date, odometer) ∷ [])) (omega (arith, heads_length, length-append H ((date, odometer) ∷ [])))),
-  )
+  -- the spare bytes of the other slots, and of the one that is taken
+  abbrev Spare : List ℕ → Type 0
+  Spare c = (i : ℕ) → i < 366 → (spare_bytes c i ≡ spare_bytes x i)
+      ⊎ ((last_kept x / 1440 < m / 1440) × (i ≡ taken day_ring x) × ((is_there day_ring c i ≡ false) ⊎ (spare_bytes c i ≡ replicate 6 0)))
+
+  taken_is : t ≡ taken day_ring x
+  taken_is = ap (λ (room : Room). room.index) closed.room
+
+  spare_other : (c : List ℕ) → SameOthers day_ring t x2 c → (i : ℕ) → i < 366 → i ≢ t → spare_bytes c i ≡ spare_bytes x2 i
+  spare_other c others i low other = sym (part_in c (slot_place i) 5776 10 6 (omega arith)) ∙ ap (λ (e : List ℕ). bytes_at e 10 6) (others i low other).0 ∙ part_in x2 (slot_place i) 5776 10 6 (omega arith)
+
+  spare_new : (c : List ℕ) → entry_at day_ring c t ≡ with_head day_ring x2 t (new_head m dn cn odometer) → spare_bytes c t ≡ replicate 6 0
+  spare_new c entry = sym (part_in c (slot_place t) 5776 10 6 (omega arith)) ∙ ap (λ (e : List ℕ). bytes_at e 10 6) entry
+
+  spare_by : (c : List ℕ) → SameOthers day_ring t x2 c → (is_there day_ring c t ≡ false) ⊎ (spare_bytes c t ≡ replicate 6 0) → Spare c
+  spare_by c others own i low = ⊎_elim
+      (λ here. inr (later_day, here ∙ taken_is, subst (λ (j : ℕ). (is_there day_ring c j ≡ false) ⊎ (spare_bytes c j ≡ replicate 6 0)) (sym here) own))
+      (λ other. inl (spare_other c others i low other ∙ closed.spare i))
+      (cases_eq i t)
+
+  abbrev Moment : List ℕ → Type 0
+  Moment c = IsKeeping it odometer x c × AreBetween m dn cn odometer x c
 
   head_is : (rest : List ℕ) → unit_day (new_head m dn cn odometer ++ rest) ≡ record { date = date; odometer = odometer; words = firsts }
   head_is rest = head_day date odometer (first_state (m % 1440) dn) (first_state (m % 1440) cn) rest (omega arith) (omega (arith, far)) (first_short (m % 1440) dn short) (first_short (m % 1440) cn short')
@@ -301,31 +323,43 @@ module _ (n k m dn cn odometer : ℕ) (small : m ≤ 71582788) (short : dn < 16)
       more)
       step.list
 
-  heads_as : (c : List ℕ) → unit_days c ≡ D → unit_heads c ≡ unit_heads x2
-  unfolding unit_heads
-  heads_as c is = ap (map day_head) is
+  whole_days : (c : List ℕ) → unit_days c ≡ map (day_at x2) F ++ unit_day (new_head m dn cn odometer ++ drop 20 (entry_at day_ring x2 t)) ∷ [] → unit_days c ≡ drop n0 D ++ record { date = date; odometer = odometer; words = firsts } ∷ []
+  whole_days c whole = whole ∙ ap (λ (d : StoredDay). map (day_at x2) F ++ d ∷ []) (head_is (drop 20 (entry_at day_ring x2 t)))
+      ∙ ap (λ (l : List StoredDay). l ++ record { date = date; odometer = odometer; words = firsts } ∷ []) closed.ready.days
 
-  adding_moment : (c : List ℕ) → IsAdding day_ring (new_head m dn cn odometer) x2 c → IsKeeping it odometer x c
-  adding_moment c adding = record {
+  adding_keeping : (c : List ℕ) → IsAdding day_ring (new_head m dn cn odometer) x2 c → IsKeeping it odometer x c
+  adding_keeping c adding = record {
     side = before_mark it odometer x c (front_then odometer 1024 2114020 x x2 c has_0 (omega arith) adding.outside) (⊎_elim
         (λ same. inl (recorded_is c k (adding_kept c adding.outside) ∙ ap (days_shown k) same ∙ closed.recorded_are))
         (λ more. ⊎_elim
         (λ less. given c (recorded_is c k (adding_kept c adding.outside) ∙ ap (days_shown k) (less ∙ closed.ready.days) ∙ shown_given))
-        (λ whole. with_later c (record { date = date; odometer = odometer; words = firsts }) (adding_kept c adding.outside) date_day
-        (whole ∙ ap (λ (d : StoredDay). map (day_at x2) F ++ d ∷ []) (head_is (drop 20 (entry_at day_ring x2 t))) ∙ ap (λ (l : List StoredDay). l ++ record { date = date; odometer = odometer; words = firsts } ∷ []) closed.ready.days))
+        (λ whole. with_later c (record { date = date; odometer = odometer; words = firsts }) (adding_kept c adding.outside) date_day (whole_days c whole))
         more)
         (adding_days x2 known (new_head m dn cn odometer) c adding));
-    heads = ⊎_elim
-        (λ same. inl (heads_as c same ∙ closed.heads))
-        (λ more. ⊎_elim
-        (λ less. heads_less c (less ∙ closed.ready.days))
-        (λ whole. heads_more c firsts
-        (whole ∙ ap (λ (d : StoredDay). map (day_at x2) F ++ d ∷ []) (head_is (drop 20 (entry_at day_ring x2 t))) ∙ ap (λ (l : List StoredDay). l ++ record { date = date; odometer = odometer; words = firsts } ∷ []) closed.ready.days))
-        more)
-        (adding_days x2 known (new_head m dn cn odometer) c adding);
     outside = besides_then x x2 c closed.besides (besides_days 1024 2114020 x2 c (omega arith) (omega arith) adding.outside);
     decodes = still x c (λ good. adding_good c adding (closed.good good));
   }
+
+  adding_between : (c : List ℕ) → IsAdding day_ring (new_head m dn cn odometer) x2 c → AreBetween m dn cn odometer x c
+  adding_between c adding =
+      let step = adding.step known in
+      record {
+        days = inr (inr (
+          later_day,
+          ⊎_elim
+              (λ same. inl (same ∙ closed.closed_are))
+              (λ more. ⊎_elim (λ less. less_days c (less ∙ closed.ready.days)) (λ whole. more_days c (whole_days c whole)) more)
+              (adding_days x2 known (new_head m dn cn odometer) c adding),
+        ));
+        spare = ⊎_elim
+            (λ same. λ i low. inl (ap (λ (l : List ℕ). spare_bytes l i) same ∙ closed.spare i))
+            (λ more. ⊎_elim (λ less. spare_by c step.others (inl less.shut)) (λ whole. spare_by c step.others (inr (spare_new c whole.entry))) more)
+            step.list;
+      }
+
+  -- a moment of the writes of the new slot
+  pub adding_moment : (c : List ℕ) → IsAdding day_ring (new_head m dn cn odometer) x2 c → Moment c
+  adding_moment c adding = (adding_keeping c adding, adding_between c adding)
 
   ws_short : AreShort ws
   ws_short = changes_short (m % 1440) (first_state (m % 1440) dn) (first_state (m % 1440) cn) dn cn (omega arith) short short'
@@ -397,9 +431,6 @@ module _ (n k m dn cn odometer : ℕ) (small : m ≤ 71582788) (short : dn < 16)
     slot_written : (q n : ℕ) (words c : List ℕ) → n ≤ 2880 → IsSlot t F older t q date odometer n words c → unit_days c ≡ drop n0 D ++ record { date = date; odometer = odometer; words = words } ∷ []
     slot_written q n words c few slot = slot_days t below F others older t q date odometer n few words c slot ∙ ap (λ (l : List StoredDay). l ++ record { date = date; odometer = odometer; words = words } ∷ []) closed.ready.days
 
-    heads_slot : (n : ℕ) (words c : List ℕ) (q : ℕ) → n ≤ 2880 → IsSlot t F older t q date odometer n words c → AreHeads m odometer x c
-    heads_slot n words c q few slot = heads_more c words (slot_written q n words c few slot)
-
     z_days : unit_days z ≡ drop n0 (D ++ begun ∷ [])
     z_days =
         slot_written m (2 + length ws) (firsts ++ ws) z (omega (arith, ws_few)) slot_z
@@ -413,19 +444,30 @@ module _ (n k m dn cn odometer : ℕ) (small : m ≤ 71582788) (short : dn < 16)
 
     spare_added : (i : ℕ) → i < 366 → (spare_bytes y i ≡ spare_bytes x2 i) ⊎ ((i ≡ t) × (spare_bytes y i ≡ replicate 6 0))
     spare_added i low = ⊎_elim
-        (λ here. inr (here, ap (spare_bytes y) here ∙ sym (part_in y (slot_place t) 5776 10 6 (omega arith)) ∙ ap (λ (e : List ℕ). bytes_at e 10 6) (added_entry x2 known (new_head m dn cn odometer) y added)))
-        (λ other. inl (sym (part_in y (slot_place i) 5776 10 6 (omega arith)) ∙ ap (λ (e : List ℕ). bytes_at e 10 6) (added.others known i low other).0 ∙ part_in x2 (slot_place i) 5776 10 6 (omega arith)))
+        (λ here. inr (here, ap (spare_bytes y) here ∙ spare_new y (added_entry x2 known (new_head m dn cn odometer) y added)))
+        (λ other. inl (spare_other y (added.others known) i low other))
         (cases_eq i t)
 
+    -- behind the slot's beginning
+    between : (c : List ℕ) → (unit_days c ≡ newest_of 366 (days_with (last_kept x) m dn cn odometer (unit_days x))) ⊎ AreTurning (last_kept x) m dn cn odometer (unit_days x) (unit_days c)
+        → ((i : ℕ) → spare_bytes c i ≡ spare_bytes y i) → AreBetween m dn cn odometer x c
+    between c days same = record {
+      days = inr (⊎_elim inl (λ turning. inr (later_day, turning)) days);
+      spare = λ i low. ⊎_elim (λ was. inl (same i ∙ was ∙ closed.spare i)) (λ new. inr (later_day, new.0 ∙ taken_is, inr (same i ∙ new.1))) (spare_added i low);
+    }
+
+    spare_2 : (i : ℕ) → spare_bytes y2 i ≡ spare_bytes y i
+    spare_2 = spare_behind t 2 y y2 (lit≤ tt) behind
+
+    spare_3 : (i : ℕ) → spare_bytes y3 i ≡ spare_bytes y i
+    spare_3 i = spare_count t y2 y3 (put_outside (slot_place t + 8) (to_be_bytes w16 (2 + length ws)) y2 (omega (arith, below, slot_2.sized))) i ∙ spare_2 i
+
     z_spare : (i : ℕ) → spare_bytes z i ≡ spare_bytes y i
-    z_spare i =
-        spare_front 564 4 y3 z (omega arith) z_same i
-        ∙ spare_count t y2 y3 (put_outside (slot_place t + 8) (to_be_bytes w16 (2 + length ws)) y2 (omega (arith, below, slot_2.sized))) i
-        ∙ spare_behind t 2 y y2 (lit≤ tt) behind i
+    z_spare i = spare_front 564 4 y3 z (omega arith) z_same i ∙ spare_3 i
 
     pub kept_days : HasDays m dn cn odometer x z
     kept_days = record {
-      days = z_days ∙ ap (λ (n : ℕ). drop n (D ++ begun ∷ [])) (omega (arith, length-append D (begun ∷ []))) ∙ sym (ap (newest_of 366) closed.written);
+      days = all_days z (slot_written m (2 + length ws) (firsts ++ ws) z (omega (arith, ws_few)) slot_z);
       spare = λ i low. ⊎_elim
           (λ same. inl (z_spare i ∙ same ∙ closed.spare i))
           (λ new. inr (later_day, new.0 ∙ sym slot_z.pointer_is, z_spare i ∙ new.1))
@@ -462,16 +504,6 @@ module _ (n k m dn cn odometer : ℕ) (small : m ≤ 71582788) (short : dn < 16)
 
     abbrev j' : Notes
     j' = record { kept = m; odometer = odometer; index = t; count = 2 + length ws; driver = dn; codriver = cn; stray = None; stored = 2 + length ws; day_count = min (n + 1) 366 }
-
-    pub new_notes : IsNotes j'
-    new_notes = record { kept = small; odometer = far; index = below; count = count_few; driver = short; codriver = short'; stray = λ s is. absurd (cc); day_count = omega arith; no_day = λ none. absurd (omega (arith, later, none)) }
-      where
-        count_few : 2 + length ws ≤ 2 * (m % 1440 + 1)
-        count_few = by (m % 1440 == 0) refl
-          where
-            by : (b : Bool) → (m % 1440 == 0) ≡ b → 2 + length (changes (m % 1440) (cond b dn bare) (cond b cn bare) dn cn) ≤ 2 * (m % 1440 + 1)
-            by true is = omega (arith, ap length (λ i. change_same 0 (m % 1440) dn i ++ change 1 (m % 1440) cn cn), ap length (change_same 1 (m % 1440) cn))
-            by false is = let isnt : m % 1440 ≢ 0 = grind (arith, nat_tests, is) in omega (arith, changes_few (m % 1440) bare bare dn cn, isnt)
 
     low : Each (λ w. word_minute w ≤ m % 1440) (firsts ++ ws)
     low = (
@@ -557,37 +589,43 @@ module _ (n k m dn cn odometer : ℕ) (small : m ≤ 71582788) (short : dn < 16)
     pub kept_decodes : Decodes x → Decodes z
     kept_decodes = still x z z_good
 
-    abbrev Moment : List ℕ → Type 0
-    Moment c = IsKeeping it odometer x c
-
     at_2 : Moment y2
-    at_2 = record { side = before_mark it odometer x y2 has_2 (of_slot 2 firsts y2 (lit≤ tt) slot_2); heads = heads_slot 2 firsts y2 k (lit≤ tt) slot_2; outside = besides_2; decodes = still x y2 y2_good }
+    at_2 = (
+      record { side = before_mark it odometer x y2 has_2 (of_slot 2 firsts y2 (lit≤ tt) slot_2); outside = besides_2; decodes = still x y2 y2_good },
+      between y2 (inr (more_days y2 (slot_written k 2 firsts y2 (lit≤ tt) slot_2))) spare_2,
+    )
 
     at_3 : Moment y3
-    at_3 = record { side = before_mark it odometer x y3 has_3 (of_slot (2 + length ws) (firsts ++ ws) y3 (omega (arith, ws_few)) slot_3); heads = heads_slot (2 + length ws) (firsts ++ ws) y3 k (omega (arith, ws_few)) slot_3; outside = besides_3; decodes = still x y3 y3_good }
+    at_3 = (
+      record { side = before_mark it odometer x y3 has_3 (of_slot (2 + length ws) (firsts ++ ws) y3 (omega (arith, ws_few)) slot_3); outside = besides_3; decodes = still x y3 y3_good },
+      between y3 (inl (all_days y3 (slot_written k (2 + length ws) (firsts ++ ws) y3 (omega (arith, ws_few)) slot_3))) spare_3,
+    )
 
     at_z : Moment z
-    at_z = record { side = behind_mark it odometer x z slot_z.kept odometer_z kept_minutes; heads = heads_slot (2 + length ws) (firsts ++ ws) z m (omega (arith, ws_few)) slot_z; outside = besides_z; decodes = kept_decodes }
+    at_z = (
+      record { side = behind_mark it odometer x z slot_z.kept odometer_z kept_minutes; outside = besides_z; decodes = kept_decodes },
+      between z (inl kept_days.days) z_spare,
+    )
 
     counting_moment : (c : List ℕ) → DiffersBehind t 2 y c ⊎ IsPartlyWritten (slot_place t + 8) (to_be_bytes w16 (2 + length ws)) y2 c → Moment c
-    counting_moment c (inl writing) = record {
-      side = before_mark it odometer x c (front_then odometer (free_place t 2) 5756 x y c has_y (omega arith) writing) (of_slot 2 firsts c (lit≤ tt) (slot_behind t below F others older t k date odometer 2 (lit≤ tt) firsts y slot_y c writing));
-      heads = heads_slot 2 firsts c k (lit≤ tt) (slot_behind t below F others older t k date odometer 2 (lit≤ tt) firsts y slot_y c writing);
-      outside = besides_then x y c besides_y (besides_days (free_place t 2) 5756 y c (omega arith) (omega (arith, below)) writing);
-      decodes = still x c (λ good. behind_good y c t 2 below (lit≤ tt) writing count_y (y_good good));
-    }
+    counting_moment c (inl writing) =
+        let at : IsSlot t F older t k date odometer 2 firsts c = slot_behind t below F others older t k date odometer 2 (lit≤ tt) firsts y slot_y c writing in (
+          record {
+            side = before_mark it odometer x c (front_then odometer (free_place t 2) 5756 x y c has_y (omega arith) writing) (of_slot 2 firsts c (lit≤ tt) at);
+            outside = besides_then x y c besides_y (besides_days (free_place t 2) 5756 y c (omega arith) (omega (arith, below)) writing);
+            decodes = still x c (λ good. behind_good y c t 2 below (lit≤ tt) writing count_y (y_good good));
+          },
+          between c (inr (more_days c (slot_written k 2 firsts c (lit≤ tt) at))) (spare_behind t 2 y c (lit≤ tt) writing),
+        )
     counting_moment c (inr counting) = ⊎_elim (λ absent. subst Moment (sym absent) at_2) (λ whole. subst Moment (sym whole) at_3) (counting.whole (lit≤ tt))
 
     mark_moment : (c : List ℕ) → IsPartway (mark m) y3 c → Moment c
     mark_moment c (inl keeping) = ⊎_elim (λ absent. subst Moment (sym absent) at_3) (λ whole. subst Moment (sym whole) at_z) (keeping.whole (lit≤ tt))
     mark_moment c (inr none) = absurd none
 
-    further_moment : (c : List ℕ) → IsPartway (beginning t m ws) y c → Moment c
+    -- and of those behind it
+    pub further_moment : (c : List ℕ) → IsPartway (beginning t m ws) y c → Moment c
     further_moment c here = ⊎_elim
         (λ part. counting_moment c (counted_moment t 2 ws y c below (omega (arith, ws_few)) slot_y.sized part))
         (λ part. mark_moment c (subst (λ (z : List ℕ). IsPartway (mark m) z c) (counted_put t 2 ws y) part))
         (partway_either (counted t 2 ws) (mark m) y c here)
-
-  pub begin_moment : (c : List ℕ) → IsBeginning m dn cn odometer x2 c → IsKeeping it odometer x c
-  begin_moment c (inl adding) = adding_moment c adding
-  begin_moment c (inr here) = further_moment here.0 here.1 c here.2

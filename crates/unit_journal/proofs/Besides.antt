@@ -16,9 +16,6 @@ use Rattle.unit_journal.specs.Mends.{SameButRowsAndSlots}
 use Rattle.unit_model.proofs.Slots.{day_at, all_days}
 use Rattle.unit_model.proofs.Front.{HasOdometer}
 
-pub besides_none : (x : List ℕ) → SameBesides x x
-besides_none x = record { before = refl; between = refl; after = refl; same_length = refl }
-
 pub besides_then : (x y c : List ℕ) → SameBesides x y → SameBesides y c → SameBesides x c
 besides_then x y c first next = record { before = next.before ∙ first.before; between = next.between ∙ first.between; after = next.after ∙ first.after; same_length = next.same_length ∙ first.same_length }
 

@@ -6,10 +6,11 @@ use Rattle.std.proofs.lemmas.Bool.Decides.{nat_tests}
 use Rattle.std.proofs.lemmas.List.{append-nil, length-map}
 use Rattle.tach_media.specs.Medium.{SameOutside, IsPartlyWritten}
 use Rattle.tach_media.proofs.Images.{put_outside, part_after}
-use Rattle.gated_ring.specs.Ring.{number_at, pointer, entry_at, next}
+use Rattle.gated_ring.specs.Ring.{number_at, pointer, is_there, entry_at, next, taken}
+use Rattle.gated_ring.specs.Plans.{room_in}
 use Rattle.unit_model.specs.Days.{word_minute, bare, UnitMinute, Day, StoredDay, day_of, days_shown, filled, Each, minute_by}
 use Rattle.unit_model.specs.Changes.{changes, closing_words}
-use Rattle.unit_model.specs.Image.{day_ring, slot_place, last_kept, odometer_at, unit_day, unit_days, day_head, unit_heads, spare_bytes, recorded, indices, slot_odometer, slot_words}
+use Rattle.unit_model.specs.Image.{day_ring, slot_place, last_kept, odometer_at, unit_day, unit_days, spare_bytes, recorded, indices, slot_odometer, slot_words}
 use Rattle.std.specs.List.{list_all}
 use Rattle.std.proofs.lemmas.List.FromFn.{length-map-range_with_len}
 use Rattle.unit_model.specs.Decoding.{word_checks}
@@ -19,26 +20,22 @@ use Rattle.unit_model.proofs.WordsGood.{changes_good, good_low}
 use Rattle.unit_model.proofs.KeptDecodes.{behind_good, index_there, last_day as last_checks, put_odometer_good, odometer_decodes}
 use Rattle.unit_journal.specs.Image.{Notes, IsNotes, IsNewestDay, Agrees, SameBesides, IsKeeping}
 use Rattle.unit_model.specs.Writing.{written, free_place, DiffersBehind, with_odometer, with_words}
-use Rattle.unit_journal.specs.DaysWith.{begun_day, days_with}
-use Rattle.unit_journal.proofs.DaysWith.{with_last, with_next, spare_front, spare_behind, spare_count}
+use Rattle.unit_journal.specs.DaysWith.{closed_days, begun_day, days_with, AreBetween}
+use Rattle.unit_journal.proofs.DaysWith.{with_last, with_next, closed_last, spare_front, spare_behind, spare_count}
 use Rattle.unit_journal.specs.Plans.{counted, closing, turning}
 use Rattle.unit_journal.proofs.Planned.{counted_put, counted_moment}
 use Rattle.write_plan.specs.Plan.{put_all, IsPartway}
 use Rattle.unit_model.proofs.Growth.{words_later, day_now}
 use Rattle.unit_model.proofs.Commits.{next_day, closing_later, begun_is, begun_before, begun_at}
 use Rattle.unit_model.proofs.Numbers.{number_before, number_put4}
-use Rattle.unit_model.proofs.Slots.{day_at, all_days, IsSlot, slot_days, slot_heads, slot_behind, slot_front, slot_counted, in_front, same_indices}
+use Rattle.unit_model.proofs.Slots.{day_at, all_days, SameButOne, same_taken, IsSlot, slot_days, slot_behind, slot_front, slot_counted, in_front, in_slot, same_indices}
 use Rattle.unit_journal.proofs.Besides.{before_first, before_mark, besides_then, besides_front, besides_days}
 use Rattle.unit_model.proofs.Front.{HasOdometer, front_odometer, front_then}
 use Rattle.unit_journal.proofs.Behind.{behind_written}
 use Rattle.unit_journal.proofs.Keeping.{changes_few, changes_short}
 use Rattle.unit_model.proofs.Recorded.{recorded_is}
 use Rattle.unit_model.proofs.Turning.{ready_behind, ready_empty}
-use Rattle.unit_journal.proofs.Beginning.{IsClosed}
-
-each_push : (P : StoredDay → Type 0) (days : List StoredDay) (d : StoredDay) → Each P days → P d → Each P (days ++ d ∷ [])
-each_push P [] d all one = (one, tt)
-each_push P (x ∷ days) d all one = (all.0, each_push P days d all.1 one)
+use Rattle.unit_journal.proofs.Beginning.{IsClosed, each_push}
 
 each_not_later : (a : ℕ) (days : List StoredDay) → Each (λ d. day_of d < a) days → Each (λ d. day_of d ≤ a) days
 each_not_later a [] all = tt
@@ -54,24 +51,27 @@ front_kept : (x c : List ℕ) → SameOutside 568 4 x c → last_kept c ≡ last
 unfolding last_kept
 front_kept x c same = number_before 568 4 564 4 x c same (omega arith)
 
-pub front_recorded : (x c : List ℕ) → SameOutside 568 4 x c → recorded c ≡ recorded x
+front_recorded : (x c : List ℕ) → SameOutside 568 4 x c → recorded c ≡ recorded x
 front_recorded x c same =
     recorded_is c (last_kept x) (front_kept x c same) ∙ ap (days_shown (last_kept x)) (front_days x c same) ∙ sym (recorded_is x (last_kept x) refl)
 
-front_heads : (x c : List ℕ) → SameOutside 568 4 x c → unit_heads c ≡ unit_heads x
-unfolding unit_heads
-front_heads x c same = ap (map day_head) (front_days x c same)
-
 -- the odometer, which is written first
-pub odometer_kept : (it : UnitMinute) (odometer : ℕ) (x c : List ℕ) → length x ≡ 2485808 → odometer ≤ 9999999 → IsPartlyWritten 568 (to_be_bytes w32 odometer) x c → IsKeeping it odometer x c
+odometer_kept : (it : UnitMinute) (odometer : ℕ) (x c : List ℕ) → length x ≡ 2485808 → odometer ≤ 9999999 → IsPartlyWritten 568 (to_be_bytes w32 odometer) x c → IsKeeping it odometer x c
 odometer_kept it odometer x c sized far part = record {
   side = ⊎_elim
       (λ absent. before_first it odometer x c (ap last_kept absent, ap odometer_at absent) (front_recorded x c part.outside))
       (λ whole. before_mark it odometer x c (subst (HasOdometer odometer x) (sym whole) (front_odometer odometer x sized far)) (inl (front_recorded x c part.outside)))
       (part.whole (lit≤ tt));
-  heads = inl (front_heads x c part.outside);
   outside = besides_front 568 4 x c (omega arith) (omega arith) part.outside;
   decodes = odometer_decodes odometer x c sized far part;
+}
+
+-- the room for a further day is the same
+room_same : (i : ℕ) (x c : List ℕ) → SameButOne i x c → room_in day_ring c ≡ room_in day_ring x
+room_same i x c same = λ t. record {
+  last = same.pointer_is t;
+  index = same_taken i x c same t;
+  used = (same.there (taken day_ring c) ∙ ap (is_there day_ring x) (same_taken i x c same)) t;
 }
 
 other_next : (i : ℕ) → i < 366 → i ≢ next day_ring i
@@ -117,6 +117,9 @@ module _ (j : Notes) (ok : IsNotes j) (x : List ℕ) (sized : length x ≡ 24858
   good_1 : IsGood x → IsGood x1
   good_1 = put_odometer_good odometer x sized far
 
+  abbrev Moment : List ℕ → Type 0
+  Moment c = IsKeeping it odometer x c × AreBetween m dn cn odometer x c
+
   abbrev Result : List ℕ → Type 0
   Result x2 = (known : pointer day_ring x2 < 366) × IsClosed j.day_count k m dn cn odometer x x2 known
 
@@ -158,7 +161,8 @@ module _ (j : Notes) (ok : IsNotes j) (x : List ℕ) (sized : length x ≡ 24858
             (begun_at 0 m bare bare dn cn [] 0 0 [] tt refl tt refl refl short short' (86400 * (m / 1440)) odometer its_day (omega (arith, later))))
             ∙ sym (ap (λ (l : List Day). filled l it) x_recorded);
         written = ap (days_with (last_kept x) m dn cn odometer) (all_days x ∙ ap (map (day_at x)) (agrees.none none)) ∙ sym (ap (λ (l : List StoredDay). l ++ begun ∷ []) no_days);
-        heads = front_heads x x1 x1_same;
+        closed_are = no_days ∙ sym (ap (closed_days (last_kept x)) (all_days x ∙ ap (map (day_at x)) (agrees.none none)));
+        room = room_same 0 x x1 (in_front 0 568 4 x x1 (omega arith) x1_same);
         spare = spare_front 568 4 x x1 (omega arith) x1_same;
         ready = ready_empty x1 x1_known x_indices;
         days = ap length no_days ∙ sym (ok.no_day none);
@@ -220,12 +224,20 @@ module _ (j : Notes) (ok : IsNotes j) (x : List ℕ) (sized : length x ≡ 24858
     x_days : recorded x ≡ days_shown k (older ++ record { date = date; odometer = o; words = words } ∷ [])
     x_days = recorded_is x k agrees.kept ∙ ap (days_shown k) (slot_days i ok.index js day.others older p k date o n few words x slot)
 
-    x_heads : unit_heads x ≡ map day_head older ++ (date, o) ∷ []
-    x_heads = slot_heads i ok.index js day.others older p k date o n few words x slot
+    -- the days of the image, and those before a further one
+    abbrev now : StoredDay
+    now = record { date = date; odometer = o; words = words }
+
+    are_closed : closed_days (last_kept x) (unit_days x) ≡ older ++ last_day ∷ []
+    are_closed = (λ t. closed_days (agrees.kept t) (slot_days i ok.index js day.others older p k date o n few words x slot t)) ∙ closed_last k older now
+        ∙ (λ t. older ++ record { date = date; odometer = o; words = words ++ closing_words (k % 1440 + 1) (day.driver t) (day.codriver t) } ∷ [])
+
+    room_1 : room_in day_ring x1 ≡ room_in day_ring x
+    room_1 = room_same i x x1 (in_front i 568 4 x x1 (omega arith) x1_same)
 
     -- from what stands in its slot
-    of_slot : (n' : ℕ) (x2 : List ℕ) → n' ≤ 2880 → IsSlot i js older p k date o n' (words ++ cs) x2 → SameBesides x x2 → odometer_at x2 ≡ odometer → ((q : ℕ) → spare_bytes x2 q ≡ spare_bytes x q) → (IsGood x → IsGood x2) → Result x2
-    of_slot n' x2 few' slot_2 besides_2 odometer_is spare good =
+    of_slot : (n' : ℕ) (x2 : List ℕ) → n' ≤ 2880 → IsSlot i js older p k date o n' (words ++ cs) x2 → SameBesides x x2 → odometer_at x2 ≡ odometer → ((q : ℕ) → spare_bytes x2 q ≡ spare_bytes x q) → room_in day_ring x2 ≡ room_in day_ring x → (IsGood x → IsGood x2) → Result x2
+    of_slot n' x2 few' slot_2 besides_2 odometer_is spare room good =
         let known : pointer day_ring x2 < 366 = omega (arith, slot_2.pointer_is, agrees.pointer) in
         let days : unit_days x2 ≡ older ++ last_day ∷ [] = slot_days i ok.index js day.others older p k date o n' few' (words ++ cs) x2 slot_2 in (
           known,
@@ -247,7 +259,8 @@ module _ (j : Notes) (ok : IsNotes j) (x : List ℕ) (sized : length x ≡ 24858
                 ∙ ap (λ (l : List StoredDay). older ++ l) (with_next k m dn cn odometer (record { date = date; odometer = o; words = words }) (omega (arith, date_day, later))
                 ∙ (λ t. record { date = date; odometer = o; words = words ++ closing_words (k % 1440 + 1) (day.driver t) (day.codriver t) } ∷ begun ∷ []))
                 ∙ sym (append_assoc older (last_day ∷ []) (begun ∷ [])) ∙ sym (ap (λ (l : List StoredDay). l ++ begun ∷ []) days);
-            heads = slot_heads i ok.index js day.others older p k date o n' few' (words ++ cs) x2 slot_2 ∙ sym x_heads;
+            closed_are = days ∙ sym are_closed;
+            room = room;
             spare = spare;
             ready = ready_behind x2 known i day.dense.0 ok.index day.dense.1 (slot_2.order_is ∙ ap (λ (l : List ℕ). l ++ i ∷ []) day.dense.2) slot_2.next_is;
             days = omega (arith, ap length days, length-append older (last_day ∷ []), length-map js (day_at x), day.days);
@@ -261,7 +274,7 @@ module _ (j : Notes) (ok : IsNotes j) (x : List ℕ) (sized : length x ≡ 24858
     at_end is =
         let test : (k % 1440 + 1 == 1440) ≡ true = grind (arith, nat_tests, is) in
         let no_words : words ++ cs ≡ words = ap (λ (b : Bool). words ++ cond b [] (changes (k % 1440 + 1) j.driver j.codriver bare bare)) test ∙ append-nil words in
-        of_slot n x1 few (subst (λ (l : List ℕ). IsSlot i js older p k date o n l x1) (sym no_words) slot_1) besides_1 x1_odometer (spare_front 568 4 x x1 (omega arith) x1_same) good_1
+        of_slot n x1 few (subst (λ (l : List ℕ). IsSlot i js older p k date o n l x1) (sym no_words) slot_1) besides_1 x1_odometer (spare_front 568 4 x x1 (omega arith) x1_same) room_1 good_1
 
     module _ (open_one : k % 1440 < 1439) where
       abbrev ws : List ℕ
@@ -315,14 +328,21 @@ module _ (j : Notes) (ok : IsNotes j) (x : List ℕ) (sized : length x ≡ 24858
           (ap (λ (l : List ℕ). list_all passes (word_checks place [] l)) slot_2.words_are
           ∙ (changes_good place (k % 1440 + 1) j.driver j.codriver bare bare words (omega (arith, open_one)) (omega arith) (omega arith) (good_low place (k % 1440) (k % 1440 + 1) words checks (omega (arith, two, length_is)) day.low (omega arith))).checks) (good_y good)
 
+      room_2 : room_in day_ring x2 ≡ room_in day_ring x
+      room_2 = room_same i y x2 (in_slot i (slot_place i + 8) 2 y x2 (omega arith) (omega arith) count_same) ∙ room_same i x1 y (in_slot i (free_place i n) (5760 - 2 * n) x1 y (omega arith) (omega (arith, few)) behind) ∙ room_1
+
       pub in_day : Result x2
-      in_day = of_slot (n + length ws) x2 fits (subst (λ (b : Bool). IsSlot i js older p k date o (n + length ws) (words ++ cond b [] ws) x2) (sym is_open) slot_2) besides_2 odometer_2 (λ q. spare_count i y x2 count_same q ∙ spare_behind i n x1 y few behind q ∙ spare_front 568 4 x x1 (omega arith) x1_same q) good_2
+      in_day = of_slot (n + length ws) x2 fits (subst (λ (b : Bool). IsSlot i js older p k date o (n + length ws) (words ++ cond b [] ws) x2) (sym is_open) slot_2) besides_2 odometer_2 (λ q. spare_count i y x2 count_same q ∙ spare_behind i n x1 y few behind q ∙ spare_front 568 4 x x1 (omega arith) x1_same q) room_2 good_2
 
       same_recorded : (c : List ℕ) → IsSlot i js older p k date o n words c → recorded c ≡ recorded x
       same_recorded c at = recorded_is c k at.kept ∙ ap (days_shown k) (slot_days i ok.index js day.others older p k date o n few words c at) ∙ sym x_days
 
-      same_heads : (c : List ℕ) → IsSlot i js older p k date o n words c → unit_heads c ≡ unit_heads x
-      same_heads c at = slot_heads i ok.index js day.others older p k date o n few words c at ∙ sym x_heads
+      -- a moment before the count is written
+      unmoved : (c : List ℕ) → DiffersBehind i n x1 c → AreBetween m dn cn odometer x c
+      unmoved c writing = record {
+        days = inl (slot_days i ok.index js day.others older p k date o n few words c (slot_behind i ok.index js day.others older p k date o n few words x1 slot_1 c writing) ∙ sym (slot_days i ok.index js day.others older p k date o n few words x slot));
+        spare = λ q low. inl (spare_behind i n x1 c few writing q ∙ spare_front 568 4 x x1 (omega arith) x1_same q);
+      }
 
       has_1 : HasOdometer odometer x x1
       has_1 = front_odometer odometer x sized far
@@ -333,22 +353,30 @@ module _ (j : Notes) (ok : IsNotes j) (x : List ℕ) (sized : length x ≡ 24858
       has_2 : HasOdometer odometer x x2
       has_2 = front_then odometer (slot_place i + 8) 2 x y x2 has_y (omega arith) count_same
 
-      pub closing_there : (c : List ℕ) → DiffersBehind i n x1 c ⊎ IsPartlyWritten (slot_place i + 8) (to_be_bytes w16 (n + length ws)) y c → IsKeeping it odometer x c
-      closing_there c (inl writing) = record {
-        side = before_mark it odometer x c (front_then odometer (free_place i n) (5760 - 2 * n) x x1 c has_1 (omega arith) writing) (inl (same_recorded c (slot_behind i ok.index js day.others older p k date o n few words x1 slot_1 c writing)));
-        heads = inl (same_heads c (slot_behind i ok.index js day.others older p k date o n few words x1 slot_1 c writing));
-        outside = besides_then x x1 c besides_1 (besides_days (free_place i n) (5760 - 2 * n) x1 c (omega arith) (omega (arith, ok.index, few)) writing);
-        decodes = still x c (λ good. behind_good x1 c i n ok.index few writing slot_1.count_is (good_1 good));
-      }
+      closing_there : (c : List ℕ) → DiffersBehind i n x1 c ⊎ IsPartlyWritten (slot_place i + 8) (to_be_bytes w16 (n + length ws)) y c → Moment c
+      closing_there c (inl writing) = (
+        record {
+          side = before_mark it odometer x c (front_then odometer (free_place i n) (5760 - 2 * n) x x1 c has_1 (omega arith) writing) (inl (same_recorded c (slot_behind i ok.index js day.others older p k date o n few words x1 slot_1 c writing)));
+          outside = besides_then x x1 c besides_1 (besides_days (free_place i n) (5760 - 2 * n) x1 c (omega arith) (omega (arith, ok.index, few)) writing);
+          decodes = still x c (λ good. behind_good x1 c i n ok.index few writing slot_1.count_is (good_1 good));
+        },
+        unmoved c writing,
+      )
       closing_there c (inr counting) = ⊎_elim
-          (λ absent. subst (IsKeeping it odometer x) (sym absent) (record { side = before_mark it odometer x y has_y (inl (same_recorded y (slot_behind i ok.index js day.others older p k date o n few words x1 slot_1 y behind))); heads = inl (same_heads y (slot_behind i ok.index js day.others older p k date o n few words x1 slot_1 y behind)); outside = besides_y; decodes = still x y good_y }))
-          (λ whole. subst (IsKeeping it odometer x) (sym whole) (record { side = before_mark it odometer x x2 has_2 (inl (recorded_is x2 k slot_2.kept ∙ in_day.1.recorded_are)); heads = inl in_day.1.heads; outside = besides_2; decodes = still x x2 good_2 }))
+          (λ absent. subst Moment (sym absent) (
+            record { side = before_mark it odometer x y has_y (inl (same_recorded y (slot_behind i ok.index js day.others older p k date o n few words x1 slot_1 y behind))); outside = besides_y; decodes = still x y good_y },
+            unmoved y behind,
+          ))
+          (λ whole. subst Moment (sym whole) (
+            record { side = before_mark it odometer x x2 has_2 (inl (recorded_is x2 k slot_2.kept ∙ in_day.1.recorded_are)); outside = besides_2; decodes = still x x2 good_2 },
+            record { days = inr (inr (omega (arith, agrees.kept, later), inl in_day.1.closed_are)); spare = λ q low. inl (in_day.1.spare q) },
+          ))
           (counting.whole (lit≤ tt))
 
-  closing_moment : (c : List ℕ) → IsPartway (closing j) x1 c → IsKeeping it odometer x c
+  closing_moment : (c : List ℕ) → IsPartway (closing j) x1 c → Moment c
   closing_moment c = by (k == 0) refl (k % 1440 + 1 == 1440) refl
     where
-      by : (a : Bool) → (k == 0) ≡ a → (b : Bool) → (k % 1440 + 1 == 1440) ≡ b → IsPartway (cond a [] (cond b [] (counted j.index j.count (changes (k % 1440 + 1) j.driver j.codriver bare bare)))) x1 c → IsKeeping it odometer x c
+      by : (a : Bool) → (k == 0) ≡ a → (b : Bool) → (k % 1440 + 1 == 1440) ≡ b → IsPartway (cond a [] (cond b [] (counted j.index j.count (changes (k % 1440 + 1) j.driver j.codriver bare bare)))) x1 c → Moment c
       by true none b is here = absurd here
       by false some true is here = absurd here
       by false some false is here =
@@ -357,8 +385,8 @@ module _ (j : Notes) (ok : IsNotes j) (x : List ℕ) (sized : length x ≡ 24858
           closing_there (omega (arith, more)) (omega (arith, isnt)) c (counted_moment j.index j.count (changes (k % 1440 + 1) j.driver j.codriver bare bare) x1 c ok.index (fits (omega (arith, more)) (omega (arith, isnt))) x1_sized here)
 
   -- a moment of the writes before the new day
-  pub turning_moment : (c : List ℕ) → IsPartway (turning j odometer) x c → IsKeeping it odometer x c
-  turning_moment c (inl first) = odometer_kept it odometer x c sized far first
+  pub turning_moment : (c : List ℕ) → IsPartway (turning j odometer) x c → Moment c
+  turning_moment c (inl first) = (odometer_kept it odometer x c sized far first, record { days = inl (front_days x c first.outside); spare = λ q low. inl (spare_front 568 4 x c (omega arith) first.outside q) })
   turning_moment c (inr rest) = closing_moment c rest
 
   -- and what they leave

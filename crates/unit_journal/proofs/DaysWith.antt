@@ -8,7 +8,7 @@ use Rattle.tach_media.proofs.Images.{part_before, part_after}
 use Rattle.gated_ring.specs.Ring.{newest_of}
 use Rattle.unit_model.specs.Days.{StoredDay, day_of}
 use Rattle.unit_model.specs.Image.{slot_place, spare_bytes}
-use Rattle.unit_journal.specs.DaysWith.{day_with, closed_day, begun_day, days_with}
+use Rattle.unit_journal.specs.DaysWith.{day_with, closed_day, closed_days, begun_day, days_with}
 use Rattle.unit_model.specs.Writing.{free_place, DiffersBehind}
 
 module _ (k m dn cn o : ℕ) where
@@ -27,6 +27,12 @@ module _ (k m dn cn o : ℕ) where
   with_next d earlier =
       let there : (day_of d == m / 1440) ≡ false = grind (arith, nat_tests) in
       ap (λ (b : Bool). cond b (day_with k m dn cn d ∷ []) (closed_day k d ∷ begun_day m dn cn o ∷ [])) there
+
+-- and so where it is closed
+pub closed_last : (k : ℕ) (days : List StoredDay) (d : StoredDay) → closed_days k (days ++ d ∷ []) ≡ days ++ closed_day k d ∷ []
+closed_last k [] d = refl
+closed_last k (e ∷ []) d = refl
+closed_last k (e ∷ f ∷ days) d = ap (λ (l : List StoredDay). e ∷ l) (closed_last k (f ∷ days) d)
 
 pub newest_all : {X : Type 0} (n : ℕ) (xs : List X) → length xs ≤ n → newest_of n xs ≡ xs
 newest_all n xs few = let none : length xs - n ≡ 0 = omega arith in ap (λ (k : ℕ). drop k xs) none

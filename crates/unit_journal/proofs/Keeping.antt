@@ -9,9 +9,9 @@ use Rattle.gated_ring.specs.Ring.{number_at, pointer, newest_of}
 use Rattle.unit_model.specs.Days.{word_minute, word_of, bare, state_at, UnitMinute, Day, StoredDay, day_of, days_shown, filled, Each, minute_by}
 use Rattle.unit_model.specs.Changes.{change, changes, new_words}
 use Rattle.unit_model.specs.Retention.{retained}
-use Rattle.unit_journal.specs.DaysWith.{days_with, HasDays}
+use Rattle.unit_journal.specs.DaysWith.{days_with, HasDays, AreBetween}
 use Rattle.unit_journal.proofs.DaysWith.{with_last, with_same, newest_all, spare_front, spare_behind, spare_count}
-use Rattle.unit_model.specs.Image.{day_ring, slot_place, last_kept, odometer_at, recorded, unit_days, day_head, unit_heads, slot_odometer, slot_words}
+use Rattle.unit_model.specs.Image.{day_ring, slot_place, last_kept, odometer_at, recorded, unit_days, spare_bytes, slot_odometer, slot_words}
 use Rattle.unit_model.proofs.Checks.{passes, IsGood, still}
 use Rattle.unit_model.proofs.StillDecodes.{counted_good}
 use Rattle.unit_model.proofs.WordsGood.{new_good}
@@ -29,7 +29,7 @@ use Rattle.unit_model.proofs.States.{each_append, new_minutes, new_driver, new_c
 use Rattle.unit_model.proofs.Growth.{words_later}
 use Rattle.unit_model.proofs.Commits.{state_on, same_day}
 use Rattle.unit_model.proofs.Numbers.{number_before, number_after, number_put4, AreShort, written_outside}
-use Rattle.unit_model.proofs.Slots.{day_at, IsSlot, slot_days, slot_heads, slot_behind, slot_front, slot_counted}
+use Rattle.unit_model.proofs.Slots.{day_at, IsSlot, slot_days, slot_behind, slot_front, slot_counted}
 use Rattle.unit_journal.proofs.Besides.{before_first, before_mark, behind_mark, besides_then, besides_front, besides_days, few_slots, few_days, all_newest}
 use Rattle.unit_model.proofs.Front.{HasOdometer, front_odometer, front_then}
 use Rattle.unit_model.proofs.Recorded.{recorded_is}
@@ -183,17 +183,11 @@ module _ (j : Notes) (ok : IsNotes j) (x : List ℕ) (sized : length x ≡ 24858
   same_recorded : (c : List ℕ) → Slot k n words c → recorded c ≡ recorded x
   same_recorded c at = recorded_is c k at.kept ∙ ap (days_shown k) (slot_days i ok.index js day.others older p k date o n few words c at) ∙ sym x_recorded
 
-  x_heads : unit_heads x ≡ map day_head older ++ (date, o) ∷ []
-  x_heads = slot_heads i ok.index js day.others older p k date o n few words x slot
+  x_days : unit_days x ≡ older ++ record { date = date; odometer = o; words = words } ∷ []
+  x_days = slot_days i ok.index js day.others older p k date o n few words x slot
 
-  same_heads : (c : List ℕ) → Slot k n words c → unit_heads c ≡ unit_heads x
-  same_heads c at = slot_heads i ok.index js day.others older p k date o n few words c at ∙ sym x_heads
-
-  heads_3 : unit_heads x3 ≡ unit_heads x
-  heads_3 = slot_heads i ok.index js day.others older p k date o (n + length ws) fits' (words ++ ws) x3 slot_3 ∙ sym x_heads
-
-  heads_y : unit_heads y ≡ unit_heads x
-  heads_y = slot_heads i ok.index js day.others older p m date o (n + length ws) fits' (words ++ ws) y slot_y ∙ sym x_heads
+  same_days : (c : List ℕ) → Slot k n words c → unit_days c ≡ unit_days x
+  same_days c at = slot_days i ok.index js day.others older p k date o n few words c at ∙ sym x_days
 
   recorded_3 : recorded x3 ≡ recorded x
   recorded_3 =
@@ -242,11 +236,30 @@ module _ (j : Notes) (ok : IsNotes j) (x : List ℕ) (sized : length x ≡ 24858
       ∙ (λ t. record { date = date; odometer = o; words = words ++ new_words (k % 1440 + 1) (m % 1440) (day.driver t) (day.codriver t) dn cn } ∷ []))
       ∙ sym (slot_days i ok.index js day.others older p m date o (n + length ws) fits' (words ++ ws) y slot_y)
 
+  spare_1 : (j : ℕ) → spare_bytes x1 j ≡ spare_bytes x j
+  spare_1 = spare_front 568 4 x x1 (omega arith) x1_same
+
+  spare_at : (c : List ℕ) → DiffersBehind i n x1 c → (j : ℕ) → spare_bytes c j ≡ spare_bytes x j
+  spare_at c writing j = spare_behind i n x1 c few writing j ∙ spare_1 j
+
+  spare_3 : (j : ℕ) → spare_bytes x3 j ≡ spare_bytes x j
+  spare_3 j = spare_count i x2 x3 count_same j ∙ spare_at x2 behind j
+
+  spare_y : (j : ℕ) → spare_bytes y j ≡ spare_bytes x j
+  spare_y j = spare_front 564 4 x3 y (omega arith) y_same j ∙ spare_3 j
+
+  y_days : unit_days y ≡ newest_of 366 (days_with (last_kept x) m dn cn odometer (unit_days x))
+  y_days = sym (ap (newest_of 366) days_are ∙ newest_all 366 (unit_days y) (few_slots y (omega (arith, slot_y.pointer_is, agrees.pointer))))
+
   pub kept_days : HasDays m dn cn odometer x y
-  kept_days = record {
-    days = sym (ap (newest_of 366) days_are ∙ newest_all 366 (unit_days y) (few_slots y (omega (arith, slot_y.pointer_is, agrees.pointer))));
-    spare = λ j low. inl (spare_front 564 4 x3 y (omega arith) y_same j ∙ spare_count i x2 x3 count_same j ∙ spare_behind i n x1 x2 few behind j ∙ spare_front 568 4 x x1 (omega arith) x1_same j);
-  }
+  kept_days = record { days = y_days; spare = λ j low. inl (spare_y j) }
+
+  -- the days before the count is written, and behind it
+  unmoved : (c : List ℕ) → Slot k n words c → ((j : ℕ) → spare_bytes c j ≡ spare_bytes x j) → AreBetween m dn cn odometer x c
+  unmoved c at spare = record { days = inl (same_days c at); spare = λ j low. inl (spare j) }
+
+  moved : (c : List ℕ) → unit_days c ≡ unit_days y → ((j : ℕ) → spare_bytes c j ≡ spare_bytes x j) → AreBetween m dn cn odometer x c
+  moved c is spare = record { days = inr (inl (is ∙ y_days)); spare = λ j low. inl (spare j) }
 
   slot_2 : Slot k n words x2
   slot_2 = slot_behind i ok.index js day.others older p k date o n few words x1 slot_1 x2 behind
@@ -288,24 +301,30 @@ module _ (j : Notes) (ok : IsNotes j) (x : List ℕ) (sized : length x ≡ 24858
   kept_decodes = still x y good_y
 
   abbrev Moment : List ℕ → Type 0
-  Moment c = IsKeeping it odometer x c
+  Moment c = IsKeeping it odometer x c × AreBetween m dn cn odometer x c
 
   at_2 : Moment x2
-  at_2 = record { side = before_mark it odometer x x2 has_2 (inl (same_recorded x2 slot_2)); heads = inl (same_heads x2 slot_2); outside = besides_2; decodes = still x x2 good_2 }
+  at_2 = (record { side = before_mark it odometer x x2 has_2 (inl (same_recorded x2 slot_2)); outside = besides_2; decodes = still x x2 good_2 }, unmoved x2 slot_2 (spare_at x2 behind))
 
   at_3 : Moment x3
-  at_3 = record { side = before_mark it odometer x x3 has_3 (inl recorded_3); heads = inl heads_3; outside = besides_3; decodes = still x x3 good_3 }
+  at_3 = (
+    record { side = before_mark it odometer x x3 has_3 (inl recorded_3); outside = besides_3; decodes = still x x3 good_3 },
+    moved x3 (slot_days i ok.index js day.others older p k date o (n + length ws) fits' (words ++ ws) x3 slot_3 ∙ sym (slot_days i ok.index js day.others older p m date o (n + length ws) fits' (words ++ ws) y slot_y)) spare_3,
+  )
 
   at_y : Moment y
-  at_y = record { side = behind_mark it odometer x y slot_y.kept odometer_y recorded_y; heads = inl heads_y; outside = besides_y; decodes = kept_decodes }
+  at_y = (record { side = behind_mark it odometer x y slot_y.kept odometer_y recorded_y; outside = besides_y; decodes = kept_decodes }, moved y refl spare_y)
 
   counting_moment : (c : List ℕ) → DiffersBehind i n x1 c ⊎ IsPartlyWritten (slot_place i + 8) (to_be_bytes w16 (n + length ws)) x2 c → Moment c
-  counting_moment c (inl writing) = record {
-    side = before_mark it odometer x c (front_then odometer (free_place i n) (5760 - 2 * n) x x1 c has_1 (omega arith) writing) (inl (same_recorded c (slot_behind i ok.index js day.others older p k date o n few words x1 slot_1 c writing)));
-    heads = inl (same_heads c (slot_behind i ok.index js day.others older p k date o n few words x1 slot_1 c writing));
-    outside = besides_then x x1 c besides_1 (besides_days (free_place i n) (5760 - 2 * n) x1 c (omega arith) (omega (arith, ok.index, few)) writing);
-    decodes = still x c (λ good. behind_good x1 c i n ok.index few writing slot_1.count_is (good_1 good));
-  }
+  counting_moment c (inl writing) =
+      let at : Slot k n words c = slot_behind i ok.index js day.others older p k date o n few words x1 slot_1 c writing in (
+        record {
+          side = before_mark it odometer x c (front_then odometer (free_place i n) (5760 - 2 * n) x x1 c has_1 (omega arith) writing) (inl (same_recorded c at));
+          outside = besides_then x x1 c besides_1 (besides_days (free_place i n) (5760 - 2 * n) x1 c (omega arith) (omega (arith, ok.index, few)) writing);
+          decodes = still x c (λ good. behind_good x1 c i n ok.index few writing slot_1.count_is (good_1 good));
+        },
+        unmoved c at (spare_at c writing),
+      )
   counting_moment c (inr counting) = ⊎_elim (λ absent. subst Moment (sym absent) at_2) (λ whole. subst Moment (sym whole) at_3) (counting.whole (lit≤ tt))
 
   mark_moment : (c : List ℕ) → IsPartway (mark m) x3 c → Moment c
@@ -316,15 +335,17 @@ module _ (j : Notes) (ok : IsNotes j) (x : List ℕ) (sized : length x ≡ 24858
   gone_is = put_all-append (counted i n ws) (mark m) x1 ∙ ap (with_kept m) (counted_put i n ws x1)
 
   pub moments : (c : List ℕ) → IsPartway (going j m dn cn odometer) x c → Moment c
-  moments c (inl first) = record {
-    side = ⊎_elim
-        (λ absent. before_first it odometer x c (ap last_kept absent, ap odometer_at absent) (same_recorded c (front_slot c first.outside)))
-        (λ whole. before_mark it odometer x c (subst (HasOdometer odometer x) (sym whole) has_1) (inl (same_recorded c (front_slot c first.outside))))
-        (first.whole (lit≤ tt));
-    heads = inl (same_heads c (front_slot c first.outside));
-    outside = besides_front 568 4 x c (omega arith) (omega arith) first.outside;
-    decodes = odometer_decodes odometer x c sized far first;
-  }
+  moments c (inl first) = (
+    record {
+      side = ⊎_elim
+          (λ absent. before_first it odometer x c (ap last_kept absent, ap odometer_at absent) (same_recorded c (front_slot c first.outside)))
+          (λ whole. before_mark it odometer x c (subst (HasOdometer odometer x) (sym whole) has_1) (inl (same_recorded c (front_slot c first.outside))))
+          (first.whole (lit≤ tt));
+      outside = besides_front 568 4 x c (omega arith) (omega arith) first.outside;
+      decodes = odometer_decodes odometer x c sized far first;
+    },
+    unmoved c (front_slot c first.outside) (spare_front 568 4 x c (omega arith) first.outside),
+  )
   moments c (inr rest) = ⊎_elim
       (λ part. counting_moment c (counted_moment i n ws x1 c ok.index fits' slot_1.sized part))
       (λ part. mark_moment c (subst (λ (z : List ℕ). IsPartway (mark m) z c) (counted_put i n ws x1) part))
@@ -332,9 +353,6 @@ module _ (j : Notes) (ok : IsNotes j) (x : List ℕ) (sized : length x ≡ 24858
 
   abbrev j' : Notes
   j' = record { kept = m; odometer = odometer; index = i; count = n + length ws; driver = dn; codriver = cn; stray = None; stored = n + length ws; day_count = j.day_count }
-
-  pub new_notes : IsNotes j'
-  new_notes = record { kept = small; odometer = far; index = ok.index; count = fits; driver = short; codriver = short'; stray = λ s is. absurd (cc); day_count = ok.day_count; no_day = λ none. absurd (omega (arith, none, later)) }
 
   pub new_agrees : Agrees j' y
   unfolding odometer_at

@@ -17,6 +17,8 @@ pub mod Shown
 pub mod Minutes
 pub mod ByChanges
 pub mod Planned
+pub mod Renewing
+pub mod KeepPlan
 pub mod DaysWith
 pub mod Retaining
 pub mod MendedOwed

@@ -1,6 +1,6 @@
 -- The days as they are written, with one minute more.
-use Rattle.std.specs.Prelude.{◌≡◌, ◌⊎◌, ℕ, ◌+◌, ◌*◌, ◌/◌, ◌%◌, ◌<◌, List, [], ◌∷◌, ◌++◌, ◌==◌, if◌then◌else◌, replicate}
-use Rattle.gated_ring.specs.Ring.{pointer, newest_of}
+use Rattle.std.specs.Prelude.{◌≡◌, ◌⊎◌, ℕ, ◌+◌, ◌*◌, ◌/◌, ◌%◌, ◌<◌, List, [], ◌∷◌, ◌++◌, ◌==◌, if◌then◌else◌, replicate, false}
+use Rattle.gated_ring.specs.Ring.{pointer, taken, is_there, newest_of}
 use Rattle.unit_model.specs.Days.{StoredDay, day_of, state_at}
 use Rattle.unit_model.specs.Image.{day_ring, last_kept, unit_days, spare_bytes}
 use Rattle.unit_model.specs.Changes.{new_words, closing_words, first_states, further_words}
@@ -27,6 +27,31 @@ days_with kept minute driver codriver odometer [] = begun_day minute driver codr
 days_with kept minute driver codriver odometer (d ∷ []) =
     if day_of d == minute / 1440 then day_with kept minute driver codriver d ∷ [] else closed_day kept d ∷ begun_day minute driver codriver odometer ∷ []
 days_with kept minute driver codriver odometer (d ∷ e ∷ days) = d ∷ days_with kept minute driver codriver odometer (e ∷ days)
+
+-- the days before a further one, the last of them closed
+abbrev pub closed_days : (kept : ℕ) → List StoredDay → List StoredDay
+closed_days kept [] = []
+closed_days kept (d ∷ []) = closed_day kept d ∷ []
+closed_days kept (d ∷ e ∷ days) = d ∷ closed_days kept (e ∷ days)
+
+-- the day that a minute begins, while it has its first words alone
+abbrev pub opened_day : (minute driver codriver odometer : ℕ) → StoredDay
+opened_day minute driver codriver odometer = record { date = 86400 * (minute / 1440); odometer = odometer; words = first_states (minute % 1440) driver codriver }
+
+-- where a further day begins: the days before it are closed, their oldest of 366 is gone, or the new one has its first words
+abbrev pub AreTurning : (kept minute driver codriver odometer : ℕ) → (days now : List StoredDay) → Type 0
+AreTurning kept minute driver codriver odometer days now =
+    (now ≡ closed_days kept days)
+    ⊎ ((now ≡ newest_of 365 (closed_days kept days)) ⊎ (now ≡ newest_of 366 (closed_days kept days ++ opened_day minute driver codriver odometer ∷ [])))
+
+-- The day slots at a moment of a `keep`. The days are as they were, or those with the minute, or between them where a further
+-- day begins. Spare bytes stay, but of the slot that this day takes: until it is there, and then they are zeros.
+pub record AreBetween (minute driver codriver odometer : ℕ) (x c : List ℕ) : Type 0 where
+  pub days : (unit_days c ≡ unit_days x)
+      ⊎ ((unit_days c ≡ newest_of 366 (days_with (last_kept x) minute driver codriver odometer (unit_days x)))
+      ⊎ ((last_kept x / 1440 < minute / 1440) × AreTurning (last_kept x) minute driver codriver odometer (unit_days x) (unit_days c)))
+  pub spare : (i : ℕ) → i < 366 → (spare_bytes c i ≡ spare_bytes x i)
+      ⊎ ((last_kept x / 1440 < minute / 1440) × (i ≡ taken day_ring x) × ((is_there day_ring c i ≡ false) ⊎ (spare_bytes c i ≡ replicate 6 0)))
 
 -- What a `keep` leaves in the day slots: the newest 366 of the days with the minute, and the spare bytes of each slot as
 -- they were, or zeros in the slot of a day that is begun.

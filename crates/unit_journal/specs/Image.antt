@@ -1,31 +1,17 @@
 -- What a journal keeps of the image of its unit, and what its calls leave there.
 use Rattle.std.specs.Option.{ForSome}
-use Rattle.std.specs.Prelude.{IsTrue, Option, None, MatchOption, replicate, ◌≡◌, ◌≢◌, ◌⊎◌, ℕ, suc, ◌+◌, ◌-◌, ◌*◌, ◌/◌, ◌%◌, ◌<◌, ◌≤◌, List, [], ◌∷◌, ◌++◌, length, take, drop, map}
+use Rattle.std.specs.Prelude.{IsTrue, Option, None, MatchOption, replicate, ◌≡◌, ◌≢◌, ◌⊎◌, ℕ, suc, ◌+◌, ◌-◌, ◌*◌, ◌/◌, ◌%◌, ◌<◌, ◌≤◌, ◌==◌, if◌then◌else◌, min, List, [], ◌∷◌, ◌++◌, length, take, drop, map}
 use Rattle.std.specs.Int.{to_be_bytes, w16, w32}
+pub use Rattle.unit_journal.specs.declared.notes.Notes.{Notes}
 use Rattle.tach_media.specs.Medium.{bytes_at}
 use Rattle.gated_ring.specs.Ring.{Shape, pointer, entry_at, next, taken, newest_of}
-use Rattle.gated_ring.specs.Change.{IsAdded}
 use Rattle.unit_model.specs.Days.{word_minute, state_at, UnitMinute, day_of, word_of, Each}
 use Rattle.unit_model.specs.Retention.{retained, begins_day}
 use Rattle.unit_model.specs.Decoding.{Decodes}
-use Rattle.unit_model.specs.Image.{day_ring, last_kept, odometer_at, words_at, unit_day, unit_heads, indices, recorded, slot_date, slot_count, slot_words}
-use Rattle.unit_model.specs.Writing.{behind_index, free_place, with_kept, with_words}
+use Rattle.unit_model.specs.Image.{day_ring, last_kept, odometer_at, words_at, unit_day, indices, recorded, slot_date, slot_count, slot_words}
+use Rattle.unit_model.specs.Writing.{behind_index, free_place}
 use Rattle.unit_model.specs.Changes.{new_words, changes, first_state}
 use Rattle.unit_model.specs.Image.{stray_list}
-
--- What a journal keeps of the image: the last-kept minute, the odometer, and of the last-kept minute's day its slot's index,
--- how many words it has, and the bits of the states after them. As it was found: the index of a later day, and the stored count.
--- And how many days are recorded, that day with them.
-pub record Notes : Type 0 where
-  pub kept : ℕ
-  pub odometer : ℕ
-  pub index : ℕ
-  pub count : ℕ
-  pub driver : ℕ
-  pub codriver : ℕ
-  pub stray : Option ℕ
-  pub stored : ℕ
-  pub day_count : ℕ
 
 -- the later day's index is one, and of the last-kept minute's day there is a word for each slot and minute at most;
 -- before the first minute no day is recorded
@@ -90,18 +76,9 @@ pub record IsBehindMark (k : UnitMinute) (odometer : ℕ) (x c : List ℕ) : Typ
   pub odometer_is : odometer_at c ≡ odometer
   pub minutes : recorded c ≡ retained (recorded x) k
 
--- The dates and odometers of the days that are there: as they were, or where a further day is begun those of the newest 365,
--- or with its own.
-abbrev pub AreHeads : (minute odometer : ℕ) → List ℕ → List ℕ → Type 0
-AreHeads minute odometer x c =
-    (unit_heads c ≡ unit_heads x)
-    ⊎ ((last_kept x / 1440 < minute / 1440)
-    × ((unit_heads c ≡ newest_of 365 (unit_heads x)) ⊎ (unit_heads c ≡ newest_of 366 (unit_heads x ++ (86400 * (minute / 1440), odometer) ∷ []))))
-
 -- a moment of a `keep`: the mark tells which days are recorded
 pub record IsKeeping (k : UnitMinute) (odometer : ℕ) (x c : List ℕ) : Type 0 where
   pub side : IsBeforeMark k odometer x c ⊎ IsBehindMark k odometer x c
-  pub heads : AreHeads k.minute odometer x c
   pub outside : SameBesides x c
   -- and it still decodes
   pub decodes : Decodes x → Decodes c
@@ -117,10 +94,14 @@ pub record IsKept (k : UnitMinute) (x y : List ℕ) : Type 0 where
 abbrev pub words_on : Notes → (minute driver codriver : ℕ) → List ℕ
 words_on j minute driver codriver = new_words (j.kept % 1440 + 1) (minute % 1440) j.driver j.codriver driver codriver
 
--- the notes after a minute on the same day
+-- the notes after a minute, on a day in the slot of this index, which has so many words then
+abbrev pub notes_by : (index days minute driver codriver odometer count : ℕ) → Notes
+notes_by index days minute driver codriver odometer count =
+    record { kept = minute; odometer = odometer; index = index; count = count; driver = driver; codriver = codriver; stray = None; stored = count; day_count = days }
+
+-- on the same day
 abbrev pub notes_on : Notes → (minute driver codriver odometer : ℕ) → Notes
-notes_on j minute driver codriver odometer =
-    record { kept = minute; odometer = odometer; index = j.index; count = j.count + length (words_on j minute driver codriver); driver = driver; codriver = codriver; stray = None; stored = j.count + length (words_on j minute driver codriver); day_count = j.day_count }
+notes_on j minute driver codriver odometer = notes_by j.index j.day_count minute driver codriver odometer (j.count + length (words_on j minute driver codriver))
 
 -- the beginning of a new day's slot: date, odometer, the count of two words, and these
 abbrev pub head_of : (date odometer driver codriver : ℕ) → List ℕ
@@ -136,21 +117,20 @@ new_head minute driver codriver odometer =
 abbrev pub further : (minute driver codriver : ℕ) → List ℕ
 further minute driver codriver = changes (minute % 1440) (first_state (minute % 1440) driver) (first_state (minute % 1440) codriver) driver codriver
 
--- what the writes of a new day leave
-pub record IsBegun (minute driver codriver odometer : ℕ) (x z : List ℕ) : Type 0 where
-  pub added : List ℕ
-  pub is_added : IsAdded day_ring (new_head minute driver codriver odometer) x added
-  pub is : z ≡ with_kept minute (with_words (taken day_ring x) 2 (further minute driver codriver) added)
-
 -- a journal's ring is that of the days, and its notes have their ranges
 pub record IsJournal (days : Shape) (j : Notes) : Type 0 where
   pub days_are : days ≡ day_ring
   pub notes : IsNotes j
 
--- the notes after a minute on a new day, with so many days
+-- on a new one, with so many days
 abbrev pub notes_begun : (index days minute driver codriver odometer : ℕ) → Notes
-notes_begun index days minute driver codriver odometer =
-    record { kept = minute; odometer = odometer; index = index; count = 2 + length (further minute driver codriver); driver = driver; codriver = codriver; stray = None; stored = 2 + length (further minute driver codriver); day_count = days }
+notes_begun index days minute driver codriver odometer = notes_by index days minute driver codriver odometer (2 + length (further minute driver codriver))
+
+-- and after either
+abbrev pub notes_after : Notes → (minute driver codriver odometer : ℕ) → (x : List ℕ) → Notes
+notes_after j minute driver codriver odometer x =
+    if minute / 1440 == j.kept / 1440 then notes_on j minute driver codriver odometer
+    else notes_begun (taken day_ring x) (min (j.day_count + 1) 366) minute driver codriver odometer
 
 -- that day stands at the pointer, where the next day would
 pub record IsStray (j : Notes) (x : List ℕ) (s : ℕ) : Type 0 where

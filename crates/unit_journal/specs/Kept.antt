@@ -5,7 +5,10 @@ use Rattle.activity_codec.specs.Words.{bit, activity_number}
 use Rattle.view_model.specs.declared.State.{State}
 use Rattle.unit_model.specs.Days.{UnitMinute}
 use Rattle.unit_journal.specs.declared.kept.KeptMinute.{KeptMinute}
-use Rattle.unit_journal.specs.DaysWith.{HasDays}
+use Rattle.write_plan.specs.Plan.{Piece}
+use Rattle.unit_journal.specs.DaysWith.{HasDays, AreBetween}
+use Rattle.unit_journal.specs.Image.{Notes}
+use Rattle.unit_journal.specs.Plans.{keeping}
 
 abbrev pub is_crew : KeptMinute → Bool
 is_crew k = k.driver.present && k.codriver.present
@@ -23,3 +26,11 @@ bits_of s crew = bits_by s.act s.present crew
 -- what a `keep` of this minute leaves in the day slots
 abbrev pub HasDaysWith : KeptMinute → List ℕ → List ℕ → Type 0
 HasDaysWith k x y = HasDays k.minute (bits_of k.driver (is_crew k)) (bits_of k.codriver (is_crew k)) k.odometer.0 x y
+
+-- and at each moment
+abbrev pub HasDaysBetween : KeptMinute → List ℕ → List ℕ → Type 0
+HasDaysBetween k x c = AreBetween k.minute (bits_of k.driver (is_crew k)) (bits_of k.codriver (is_crew k)) k.odometer.0 x c
+
+-- its writes
+abbrev pub keeping_of : Notes → KeptMinute → (x : List ℕ) → List Piece
+keeping_of j k x = keeping j k.minute (bits_of k.driver (is_crew k)) (bits_of k.codriver (is_crew k)) k.odometer.0 x

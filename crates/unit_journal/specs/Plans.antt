@@ -1,9 +1,9 @@
 -- The writes of a minute, in their order.
-use Rattle.std.specs.Prelude.{if◌then◌else◌, ◌==◌, ℕ, ◌⊎◌, ◌+◌, ◌%◌, List, [], ◌∷◌, ◌++◌, length}
+use Rattle.std.specs.Prelude.{if◌then◌else◌, ◌==◌, ℕ, ◌+◌, ◌/◌, ◌%◌, List, [], ◌∷◌, ◌++◌, length}
 use Rattle.std.specs.Int.{to_be_bytes, w16, w32}
-use Rattle.write_plan.specs.Plan.{Piece, piece, IsPartway}
-use Rattle.gated_ring.specs.Ring.{taken}
-use Rattle.gated_ring.specs.Change.{IsAdding, IsAdded}
+use Rattle.write_plan.specs.Plan.{Piece, piece}
+use Rattle.gated_ring.specs.declared.room.Room.{Room}
+use Rattle.gated_ring.specs.Plans.{placing_pieces, room_in}
 use Rattle.unit_model.specs.Days.{bare}
 use Rattle.unit_model.specs.Image.{day_ring, slot_place}
 use Rattle.unit_model.specs.Changes.{changes}
@@ -40,8 +40,19 @@ turning j odometer = piece 568 (to_be_bytes w32 odometer) ∷ closing j
 abbrev pub beginning : (index minute : ℕ) → (ws : List ℕ) → List Piece
 beginning i minute ws = counted i 2 ws ++ mark minute
 
--- a moment of the writes of a new day
-abbrev pub IsBeginning : (minute driver codriver odometer : ℕ) → (x c : List ℕ) → Type 0
-IsBeginning minute driver codriver odometer x c =
-    IsAdding day_ring (new_head minute driver codriver odometer) x c
-    ⊎ ((y : List ℕ) × IsAdded day_ring (new_head minute driver codriver odometer) x y × IsPartway (beginning (taken day_ring x) minute (further minute driver codriver)) y c)
+-- A minute on a further day: the end of the day before, the new day's slot, its further words and their count, and the mark.
+abbrev pub renewing_at : Notes → Room → (minute driver codriver odometer : ℕ) → List Piece
+renewing_at j room minute driver codriver odometer =
+    turning j odometer ++ (placing_pieces day_ring room (new_head minute driver codriver odometer) ++ beginning room.index minute (further minute driver codriver))
+
+abbrev pub renewing : Notes → (minute driver codriver odometer : ℕ) → (x : List ℕ) → List Piece
+renewing j minute driver codriver odometer x = renewing_at j (room_in day_ring x) minute driver codriver odometer
+
+-- the writes of a `keep`
+abbrev pub keeping : Notes → (minute driver codriver odometer : ℕ) → (x : List ℕ) → List Piece
+keeping j minute driver codriver odometer x =
+    if minute / 1440 == j.kept / 1440 then going j minute driver codriver odometer else renewing j minute driver codriver odometer x
+
+-- and how many they are at most
+abbrev pub most_kept : (kept minute : ℕ) → ℕ
+most_kept kept minute = if minute / 1440 == kept / 1440 then 7 else 12

@@ -7,14 +7,25 @@ use activity_codec::Activity;
 use unit_model::State;
 
 // Whether both slots have a present card.
-pub fn is_crew(kept: &KeptMinute) -> bool
+fn is_crew(kept: &KeptMinute) -> bool
     ensures { result ≡ is_crew kept.now }
 {
     kept.driver.present && kept.codriver.present
 }
 
+/// The bits of the states of both slots.
+pub fn slot_bits(kept: &KeptMinute) -> (u32, u32)
+    ensures driver { result.0 ≡ bits_of kept.now.driver (is_crew kept.now) }
+    ensures codriver { result.1 ≡ bits_of kept.now.codriver (is_crew kept.now) }
+    ensures driver_short { result.0 < 16 }
+    ensures codriver_short { result.1 < 16 }
+{
+    let crew = is_crew(kept);
+    (bits_of(kept.driver, crew), bits_of(kept.codriver, crew))
+}
+
 // The bits of a state in a word: CREW, no card, activity.
-pub fn bits_of(state: State, crew: bool) -> u32
+fn bits_of(state: State, crew: bool) -> u32
     ensures bits { result ≡ bits_of state crew }
     ensures short { result < 16 }
 {

@@ -1,4 +1,4 @@
-ghost use Rattle.std.specs.Prelude.{◌≡◌, ℕ, ◌≤◌, ◌<◌, OnOk, IfSome, is_err, option_map};
+ghost use Rattle.std.specs.Prelude.{◌≡◌, ℕ, ◌≤◌, ◌<◌, ◌+◌, OnOk, IfSome, is_err, option_map};
 ghost use Rattle.tach_media.specs.Medium.{LeavesOnly, HasCause, StaysSettled};
 ghost use Rattle.unit_model.specs.Decoding.{cell_minute};
 ghost use Rattle.unit_model.specs.Image.{IsUnit};
@@ -16,6 +16,7 @@ fn empty_cell<M: Medium>(unit: &mut M, kept: u32, nth: u32) -> Result<(), Failed
     ensures idle { OnOk result (IfSome (M.state unit.old).image (λ x. cell_minute x nth ≤ kept → (M.state unit.new).clock ≡ (M.state unit.old).clock)) }
     ensures settled { OnOk result (StaysSettled (M.state unit.old) (M.state unit.new)) }
     ensures cause { HasCause (M.state unit.old) (M.state unit.new) (is_err result) }
+    ensures most { (M.state unit.new).clock ≤ (M.state unit.old).clock + 1 }
 {
     let place = cell_place(nth);
     let minute = read_number(unit, place, 4)?;
@@ -33,6 +34,7 @@ pub fn empty_cells<M: Medium>(unit: &mut M, kept: u32) -> Result<(), Failed>
     ensures idle { OnOk result (IfSome (M.state unit.old).image (λ x. ((n : ℕ) → n < 32 → cell_minute x n ≤ kept) → (M.state unit.new).clock ≡ (M.state unit.old).clock)) }
     ensures settled { OnOk result (StaysSettled (M.state unit.old) (M.state unit.new)) }
     ensures cause { HasCause (M.state unit.old) (M.state unit.new) (is_err result) }
+    ensures most { (M.state unit.new).clock ≤ (M.state unit.old).clock + 32 }
 {
     for nth in 0..OWED_ROWS * CELLS {
         empty_cell(unit, kept, nth)?;

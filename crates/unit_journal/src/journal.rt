@@ -1,23 +1,22 @@
 ghost use Rattle.std.specs.Prelude.{IfErr, Some, None, ◌≡◌, ◌≤◌, ◌<◌, ◌+◌, ◌*◌, ◌-◌, ◌/◌, ◌%◌, min, length, IfOk, OnOk, OnErr, IfSome, is_err, option_map, true};
 ghost use Rattle.tach_media.specs.Medium.{LeavesOnly, Reads, HasCause, IsSettled, last_count, StaysSettled};
-ghost use Rattle.unit_model.specs.Days.{UnitMinute, minute_by};
 ghost use Rattle.unit_model.specs.Image.{day_ring};
-ghost use Rattle.unit_journal.specs.Image.{Notes, IsNotes, Agrees, notes_on, IsKeeping, IsKept, IsBegun, notes_begun};
-ghost use Rattle.write_plan.specs.Plan.{PutsAll, more, none};
-ghost use Rattle.unit_journal.specs.Plans.{going, turning, IsBeginning};
+ghost use Rattle.unit_journal.specs.Image.{IsNotes, Agrees, notes_on, notes_begun, notes_after, IsKeeping, IsKept};
+ghost use Rattle.write_plan.specs.Plan.{PutsAll, PutsBy, more, none};
+ghost use Rattle.unit_journal.specs.Plans.{going, turning, renewing, keeping, most_kept};
 ghost use Rattle.unit_journal.specs.Mends.{IsMendable, IsMending, IsMended, HasNothingLater, notes_mended, mended, IsMendStep};
 ghost use Rattle.unit_model.specs.Image.{IsUnit};
-ghost use Rattle.unit_journal.specs.Kept.{kept_minute, HasDaysWith};
-ghost use Rattle.unit_journal.specs.DaysWith.{HasDays};
+ghost use Rattle.unit_journal.specs.Kept.{kept_minute, keeping_of, HasDaysWith, HasDaysBetween};
 ghost use Rattle.gated_ring.specs.Ring.{pointer, taken};
 
 mod owing;
 mod reading;
 
-use crate::bits::{bits_of, is_crew};
+use crate::bits::slot_bits;
 use crate::cells::empty_cells;
 use crate::kept::KeptMinute;
 use crate::mend::{cut_count, shut_day};
+use crate::notes::Notes;
 use crate::plan::{Writing, add_changes, add_count, add_further, add_new};
 use crate::today::{day_ring, index_of, later_day, read_today, recorded_days};
 use crate::words::{BARE, new_head};
@@ -36,15 +35,7 @@ use write_plan::put_pieces;
 #[derive(Drop)]
 pub struct Journal {
     days: Ring,
-    kept: u32,
-    odometer: u32,
-    index: u32,
-    count: u32,
-    driver: u32,
-    codriver: u32,
-    stray: Option<u32>,
-    stored: u32,
-    day_count: u32,
+    notes: Notes,
 }
 
 impl Model for Journal {
@@ -52,9 +43,9 @@ impl Model for Journal {
 
     ghost Value = { Notes };
 
-    ghost view = { λ j. record { kept = j.kept; odometer = j.odometer; index = j.index; count = j.count; driver = j.driver; codriver = j.codriver; stray = j.stray; stored = j.stored; day_count = j.day_count } };
+    ghost view = { λ j. j.notes };
 
-    ghost invariant = { λ j. IsJournal j.days (record { kept = j.kept; odometer = j.odometer; index = j.index; count = j.count; driver = j.driver; codriver = j.codriver; stray = j.stray; stored = j.stored; day_count = j.day_count }) };
+    ghost invariant = { λ j. IsJournal j.days j.notes };
 }
 
 impl Journal {
@@ -104,8 +95,7 @@ impl Journal {
         let stray = later_day(kept, pointer, judged.walk.last_date);
         let today = read_today(unit, kept, index)?;
         let day_count = recorded_days(kept, judged.walk.there, stray);
-        Ok(Journal {
-            days,
+        let notes = Notes {
             kept,
             odometer,
             index,
@@ -115,7 +105,8 @@ impl Journal {
             stray,
             stored: today.stored,
             day_count,
-        })
+        };
+        Ok(Journal { days, notes })
     }
 
     /// The last-kept minute, 0 for none.
@@ -124,7 +115,7 @@ impl Journal {
         ensures few { result ≤ 71582788 }
         ensures shape { IsNotes self.now }
     {
-        self.kept
+        self.notes.kept
     }
 
     /// The stored odometer, in kilometres.
@@ -132,7 +123,7 @@ impl Journal {
         ensures odometer { result.0 ≡ self.now.odometer }
         ensures few { result.0 ≤ 9999999 }
     {
-        Odometer(self.odometer)
+        Odometer(self.notes.odometer)
     }
 
     // The writes of a minute on the day of the last-kept one.
@@ -156,95 +147,60 @@ impl Journal {
         ensures shape { IsNotes self.old }
         ensures puts { PutsAll (M.state unit.old) (M.state unit.new) (is_err result) (going self.old minute driver codriver odometer) }
     {
-        let next = self.kept % 1440 + 1;
+        let next = self.notes.kept % 1440 + 1;
         let mut plan = Writing::new(0, IMAGE_SIZE);
         plan.put(ODOMETER.place, &odometer.to_be_bytes());
         let count = add_new(
             &mut plan,
-            self.index,
-            self.count,
+            self.notes.index,
+            self.notes.count,
             next,
             minute % 1440,
-            self.driver,
-            self.codriver,
+            self.notes.driver,
+            self.notes.codriver,
             driver,
             codriver,
         );
-        add_count(&mut plan, self.index, count);
+        add_count(&mut plan, self.notes.index, count);
         plan.put(LAST_KEPT.place, &minute.to_be_bytes());
         put_pieces(unit, &plan)?;
-        self.kept = minute;
-        self.odometer = odometer;
-        self.count = count;
-        self.driver = driver;
-        self.codriver = codriver;
-        self.stray = None;
-        self.stored = count;
+        self.notes = self.notes.on_day(minute, driver, codriver, odometer, count);
         Ok(())
-    }
-
-    // Keeps a minute on the day of the last-kept one.
-    fn keep_on_day<M: Medium>(
-        &mut self,
-        unit: &mut M,
-        minute: u32,
-        driver: u32,
-        codriver: u32,
-        odometer: u32,
-    ) -> Result<(), Failed>
-        requires unit { IsUnit (M.state unit.old) }
-        requires agrees { IfSome (M.state unit.old).image (Agrees self.old) }
-        requires some { 0 < self.old.kept }
-        requires same { minute / 1440 ≡ self.old.kept / 1440 }
-        requires later { self.old.kept < minute }
-        requires small { minute ≤ 71582788 }
-        requires driver { driver < 16 }
-        requires codriver { codriver < 16 }
-        requires odometer { odometer ≤ 9999999 }
-        ensures notes { OnOk result ((self.new.kept ≡ minute) × (self.new.odometer ≡ odometer)) }
-        ensures same { OnErr result (self.new ≡ self.old) }
-        ensures agrees { OnOk result (IfSome (M.state unit.new).image (Agrees self.new)) }
-        ensures kept { OnOk result (IfSome (M.state unit.old).image (λ x. IfSome (M.state unit.new).image (IsKept (minute_by minute driver codriver) x))) }
-        ensures days { OnOk result (IfSome (M.state unit.old).image (λ x. IfSome (M.state unit.new).image (HasDays minute driver codriver odometer x))) }
-        ensures moments { LeavesOnly (M.state unit.old) (M.state unit.new) (IsKeeping (minute_by minute driver codriver) odometer) }
-        ensures settled { OnOk result ((M.state unit.new).clock < last_count → IsSettled (M.state unit.new)) }
-        ensures cause { HasCause (M.state unit.old) (M.state unit.new) (is_err result) }
-    {
-        self.go_on(unit, minute, driver, codriver, odometer)
     }
 
     // The writes before a new day: the odometer, and what closes the day of the last-kept minute where it isn't at its end.
     fn turning(&self, odometer: u32) -> Writing
         requires { odometer ≤ 9999999 }
         ensures plan { result ≡ more (none 0 2485808) (turning self.now odometer) }
+        ensures length { length result.pieces ≤ 4 }
         ensures shape { IsNotes self.now }
     {
         let _days = &self.days;
         let mut plan = Writing::new(0, IMAGE_SIZE);
         plan.put(ODOMETER.place, &odometer.to_be_bytes());
-        if self.kept == 0 {
+        if self.notes.kept == 0 {
             return plan;
         }
-        let next = self.kept % 1440 + 1;
+        let next = self.notes.kept % 1440 + 1;
         if next == 1440 {
             return plan;
         }
         let count = add_changes(
             &mut plan,
-            self.index,
-            self.count,
+            self.notes.index,
+            self.notes.count,
             next,
-            self.driver,
-            self.codriver,
+            self.notes.driver,
+            self.notes.codriver,
             BARE,
             BARE,
         );
-        add_count(&mut plan, self.index, count);
+        add_count(&mut plan, self.notes.index, count);
         plan
     }
 
-    // The writes of a new day, with its first minute.
-    fn begin<M: Medium>(
+    // Makes the writes of a minute on a later day.
+    fn renew<M: Medium>(
         &mut self,
         unit: &mut M,
         minute: u32,
@@ -262,31 +218,24 @@ impl Journal {
         ensures notes { OnOk result (IfSome (M.state unit.old).image (λ x. self.new ≡ notes_begun (taken day_ring x) (min (self.old.day_count + 1) 366) minute driver codriver odometer)) }
         ensures kept { OnOk result ((self.new.kept ≡ minute) × (self.new.odometer ≡ odometer)) }
         ensures same { OnErr result (self.new ≡ self.old) }
-        ensures begun { OnOk result (IfSome (M.state unit.old).image (λ x. IfSome (M.state unit.new).image (IsBegun minute driver codriver odometer x))) }
-        ensures moments { LeavesOnly (M.state unit.old) (M.state unit.new) (IsBeginning minute driver codriver odometer) }
-        ensures settled { OnOk result ((M.state unit.new).clock < last_count → IsSettled (M.state unit.new)) }
-        ensures cause { HasCause (M.state unit.old) (M.state unit.new) (is_err result) }
+        ensures shape { IsNotes self.old }
+        ensures puts { PutsBy (M.state unit.old) (M.state unit.new) (is_err result) 5 12 (renewing self.old minute driver codriver odometer) }
     {
-        let day_count = (self.day_count + 1).min(DAY_SLOTS);
         let head = new_head(minute, driver, codriver, odometer);
-        let index = self.days.add(unit, &head)?;
-        let mut plan = Writing::new(0, IMAGE_SIZE);
-        let count = add_further(&mut plan, index, minute, driver, codriver);
+        let room = self.days.room(unit)?;
+        let mut plan = self.turning(odometer);
+        self.days.plan_entry(&mut plan, &room, &head);
+        let count = add_further(&mut plan, room.index, minute, driver, codriver);
         put_pieces(unit, &plan)?;
-        self.kept = minute;
-        self.odometer = odometer;
-        self.index = index;
-        self.count = count;
-        self.driver = driver;
-        self.codriver = codriver;
-        self.stray = None;
-        self.stored = count;
-        self.day_count = day_count;
+        let index = room.index;
+        self.notes = self
+            .notes
+            .on_new_day(index, minute, driver, codriver, odometer, count);
         Ok(())
     }
 
-    // Keeps a minute on a later day.
-    fn keep_on_new_day<M: Medium>(
+    // Makes the writes of a minute.
+    fn write_minute<M: Medium>(
         &mut self,
         unit: &mut M,
         minute: u32,
@@ -295,56 +244,23 @@ impl Journal {
         odometer: u32,
     ) -> Result<(), Failed>
         requires unit { IsUnit (M.state unit.old) }
-        requires agrees { IfSome (M.state unit.old).image (Agrees self.old) }
-        requires later { self.old.kept / 1440 < minute / 1440 }
-        requires small { minute ≤ 71582788 }
-        requires driver { driver < 16 }
-        requires codriver { codriver < 16 }
-        requires odometer { odometer ≤ 9999999 }
-        ensures notes { OnOk result ((self.new.kept ≡ minute) × (self.new.odometer ≡ odometer)) }
-        ensures same { OnErr result (self.new ≡ self.old) }
-        ensures agrees { OnOk result (IfSome (M.state unit.new).image (Agrees self.new)) }
-        ensures kept { OnOk result (IfSome (M.state unit.old).image (λ x. IfSome (M.state unit.new).image (IsKept (minute_by minute driver codriver) x))) }
-        ensures days { OnOk result (IfSome (M.state unit.old).image (λ x. IfSome (M.state unit.new).image (HasDays minute driver codriver odometer x))) }
-        ensures moments { LeavesOnly (M.state unit.old) (M.state unit.new) (IsKeeping (minute_by minute driver codriver) odometer) }
-        ensures settled { OnOk result ((M.state unit.new).clock < last_count → IsSettled (M.state unit.new)) }
-        ensures cause { HasCause (M.state unit.old) (M.state unit.new) (is_err result) }
-    {
-        let plan = self.turning(odometer);
-        put_pieces(unit, &plan)?;
-        self.begin(unit, minute, driver, codriver, odometer)
-    }
-
-    // Keeps a minute by the bits of its states.
-    fn keep_bits<M: Medium>(
-        &mut self,
-        unit: &mut M,
-        minute: u32,
-        driver: u32,
-        codriver: u32,
-        odometer: u32,
-    ) -> Result<(), Failed>
-        requires unit { IsUnit (M.state unit.old) }
-        requires agrees { IfSome (M.state unit.old).image (Agrees self.old) }
+        requires known { IfSome (M.state unit.old).image (λ x. pointer day_ring x < 366) }
         requires low { 1440 ≤ minute }
         requires later { self.old.kept < minute }
         requires small { minute ≤ 71582788 }
         requires driver { driver < 16 }
         requires codriver { codriver < 16 }
         requires odometer { odometer ≤ 9999999 }
-        ensures notes { OnOk result ((self.new.kept ≡ minute) × (self.new.odometer ≡ odometer)) }
+        ensures notes { OnOk result (IfSome (M.state unit.old).image (λ x. self.new ≡ notes_after self.old minute driver codriver odometer x)) }
+        ensures kept { OnOk result ((self.new.kept ≡ minute) × (self.new.odometer ≡ odometer)) }
         ensures same { OnErr result (self.new ≡ self.old) }
-        ensures agrees { OnOk result (IfSome (M.state unit.new).image (Agrees self.new)) }
-        ensures kept { OnOk result (IfSome (M.state unit.old).image (λ x. IfSome (M.state unit.new).image (IsKept (minute_by minute driver codriver) x))) }
-        ensures days { OnOk result (IfSome (M.state unit.old).image (λ x. IfSome (M.state unit.new).image (HasDays minute driver codriver odometer x))) }
-        ensures moments { LeavesOnly (M.state unit.old) (M.state unit.new) (IsKeeping (minute_by minute driver codriver) odometer) }
-        ensures settled { OnOk result ((M.state unit.new).clock < last_count → IsSettled (M.state unit.new)) }
-        ensures cause { HasCause (M.state unit.old) (M.state unit.new) (is_err result) }
+        ensures shape { IsNotes self.old }
+        ensures puts { PutsBy (M.state unit.old) (M.state unit.new) (is_err result) 3 (most_kept self.old.kept minute) (keeping self.old minute driver codriver odometer) }
     {
-        if minute / 1440 == self.kept / 1440 {
-            return self.keep_on_day(unit, minute, driver, codriver, odometer);
+        if minute / 1440 == self.notes.kept / 1440 {
+            return self.go_on(unit, minute, driver, codriver, odometer);
         }
-        self.keep_on_new_day(unit, minute, driver, codriver, odometer)
+        self.renew(unit, minute, driver, codriver, odometer)
     }
 
     /// Keeps a minute: of the recorded days with it the newest 366 are retained, and a minute of its day that was not kept
@@ -352,7 +268,8 @@ impl Journal {
     /// A slot of which nothing has changed gets no word; a day that is begun has the odometer of its first minute.
     ///
     /// A stop at a moment of the call leaves the days before, their oldest gone where a further day begins, or the days
-    /// with the minute: the last-kept minute tells which. After an error the journal is as it was.
+    /// with the minute: the last-kept minute tells which. After an error the journal is as it was. It begins at most seven
+    /// writes, or twelve where it begins a day.
     pub fn keep<M: Medium>(&mut self, unit: &mut M, kept: &KeptMinute) -> Result<(), Failed>
         requires unit { IsUnit (M.state unit.old) }
         requires agrees { IfSome (M.state unit.old).image (Agrees self.old) }
@@ -365,15 +282,14 @@ impl Journal {
         ensures agrees { OnOk result (IfSome (M.state unit.new).image (Agrees self.new)) }
         ensures kept { OnOk result (IfSome (M.state unit.old).image (λ x. IfSome (M.state unit.new).image (IsKept (kept_minute kept.now) x))) }
         ensures days { OnOk result (IfSome (M.state unit.old).image (λ x. IfSome (M.state unit.new).image (HasDaysWith kept.now x))) }
+        ensures puts { PutsBy (M.state unit.old) (M.state unit.new) (is_err result) 3 (most_kept self.old.kept kept.now.minute) (keeping_of self.old kept.now) }
         ensures moments { LeavesOnly (M.state unit.old) (M.state unit.new) (IsKeeping (kept_minute kept.now) kept.now.odometer.0) }
+        ensures words { LeavesOnly (M.state unit.old) (M.state unit.new) (HasDaysBetween kept.now) }
         ensures settled { OnOk result ((M.state unit.new).clock < last_count → IsSettled (M.state unit.new)) }
         ensures cause { HasCause (M.state unit.old) (M.state unit.new) (is_err result) }
     {
-        let crew = is_crew(kept);
-        let driver = bits_of(kept.driver, crew);
-        let codriver = bits_of(kept.codriver, crew);
-        self.keep_bits(unit, kept.minute, driver, codriver, kept.odometer.0)?;
-        Ok(())
+        let (driver, codriver) = slot_bits(kept);
+        self.write_minute(unit, kept.minute, driver, codriver, kept.odometer.0)
     }
 
     /// Mends the unit at a power-on: empties each cell of the owed rows that is later than the last-kept minute, shuts the
@@ -396,10 +312,11 @@ impl Journal {
         ensures idle { OnOk result (IfSome (M.state unit.old).image (λ x. HasNothingLater self.old x → (M.state unit.new).clock ≡ (M.state unit.old).clock)) }
         ensures settled { OnOk result (StaysSettled (M.state unit.old) (M.state unit.new)) }
         ensures cause { HasCause (M.state unit.old) (M.state unit.new) (is_err result) }
+        ensures most { (M.state unit.new).clock ≤ (M.state unit.old).clock + 34 }
     {
         self.write_mends(unit)?;
-        self.stray = None;
-        self.stored = self.count;
+        self.notes.stray = None;
+        self.notes.stored = self.notes.count;
         Ok(())
     }
 
@@ -412,14 +329,15 @@ impl Journal {
         ensures shape { IsNotes self.now }
         ensures settled { OnOk result (StaysSettled (M.state unit.old) (M.state unit.new)) }
         ensures cause { HasCause (M.state unit.old) (M.state unit.new) (is_err result) }
+        ensures most { (M.state unit.new).clock ≤ (M.state unit.old).clock + 34 }
     {
-        let kept = self.kept;
+        let kept = self.notes.kept;
         empty_cells(unit, kept)?;
-        shut_day(unit, self.stray)?;
+        shut_day(unit, self.notes.stray)?;
         if kept == 0 {
             return Ok(());
         }
-        cut_count(unit, self.index, self.stored, self.count)?;
+        cut_count(unit, self.notes.index, self.notes.stored, self.notes.count)?;
         Ok(())
     }
 }

@@ -7,6 +7,7 @@ mod cells;
 mod journal;
 mod kept;
 mod mend;
+mod notes;
 mod plan;
 mod today;
 mod words;

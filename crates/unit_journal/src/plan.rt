@@ -8,11 +8,13 @@ ghost use Rattle.unit_journal.specs.Image.{further};
 ghost use Rattle.unit_journal.specs.Plans.{word_pieces, beginning};
 
 use crate::words::{BARE, first};
-use unit_model::layout::{DAY_COUNT, DAY_SLOT_SIZE, DAY_WORDS, DAYS, LAST_KEPT};
+use unit_model::layout::{DAY_COUNT, DAY_WORDS, LAST_KEPT, slot_place};
 use write_plan::Plan;
 
-/// The writes of a minute: the odometer, at most two words for each slot, their count, and the mark.
-pub type Writing = Plan<8, 4>;
+/// The writes of a minute. On the last-kept minute's day the odometer, at most four words, their count, and the mark; on a
+/// further day the odometer, three that close the day before, four of the new slot, two words, their count, and the mark.
+/// A slot's beginning has 20 bytes.
+pub type Writing = Plan<12, 20>;
 
 /// Adds the word of a slot's state where it differs, behind so many words of a day, and answers how many there are then.
 pub fn add_change(
@@ -24,7 +26,7 @@ pub fn add_change(
     old: u32,
     new: u32,
 ) -> u32
-    requires room { length plan.old.pieces < 7 }
+    requires room { length plan.old.pieces < 12 }
     requires front { plan.old.from ≡ 0 }
     requires end { plan.old.end ≡ 2485808 }
     requires index { index < 366 }
@@ -41,7 +43,7 @@ pub fn add_change(
     }
     let word = (32768 * slot + 2048 * new + minute) as u16;
     plan.put(
-        DAYS.place + 4 + index * DAY_SLOT_SIZE + DAY_WORDS.place + 2 * count,
+        slot_place(index) + DAY_WORDS.place + 2 * count,
         &word.to_be_bytes(),
     );
     count + 1
@@ -58,7 +60,7 @@ pub fn add_changes(
     new_driver: u32,
     new_codriver: u32,
 ) -> u32
-    requires room { length plan.old.pieces < 6 }
+    requires room { length plan.old.pieces < 11 }
     requires front { plan.old.from ≡ 0 }
     requires end { plan.old.end ≡ 2485808 }
     requires index { index < 366 }
@@ -86,7 +88,7 @@ pub fn add_new(
     new_driver: u32,
     new_codriver: u32,
 ) -> u32
-    requires room { length plan.old.pieces < 4 }
+    requires room { length plan.old.pieces < 9 }
     requires front { plan.old.from ≡ 0 }
     requires end { plan.old.end ≡ 2485808 }
     requires index { index < 366 }
@@ -126,7 +128,7 @@ pub fn add_new(
 
 /// Adds the count of a day's words.
 pub fn add_count(plan: &mut Writing, index: u32, count: u32)
-    requires room { length plan.old.pieces < 7 }
+    requires room { length plan.old.pieces < 12 }
     requires front { plan.old.from ≡ 0 }
     requires end { plan.old.end ≡ 2485808 }
     requires index { index < 366 }
@@ -134,14 +136,14 @@ pub fn add_count(plan: &mut Writing, index: u32, count: u32)
     ensures { plan.new ≡ more plan.old (piece (slot_place index + 8) (to_be_bytes w16 count) ∷ []) }
 {
     plan.put(
-        DAYS.place + 4 + index * DAY_SLOT_SIZE + DAY_COUNT.place,
+        slot_place(index) + DAY_COUNT.place,
         &(count as u16).to_be_bytes(),
     );
 }
 
 /// Adds the writes of a new day behind its `add`, and answers how many words it has then.
 pub fn add_further(plan: &mut Writing, index: u32, minute: u32, driver: u32, codriver: u32) -> u32
-    requires room { length plan.old.pieces < 4 }
+    requires room { length plan.old.pieces < 9 }
     requires front { plan.old.from ≡ 0 }
     requires end { plan.old.end ≡ 2485808 }
     requires index { index < 366 }
@@ -149,6 +151,7 @@ pub fn add_further(plan: &mut Writing, index: u32, minute: u32, driver: u32, cod
     requires codriver { codriver < 16 }
     ensures count { result ≡ 2 + length (further minute driver codriver) }
     ensures plan { plan.new ≡ more plan.old (beginning index minute (further minute driver codriver)) }
+    ensures length { length plan.new.pieces ≤ length plan.old.pieces + 4 }
 {
     let now = minute % 1440;
     let count = add_changes(

@@ -13,7 +13,9 @@ use crate::words::BARE;
 use gated_ring::{Ring, RingFault};
 use tach_media::{Failed, Medium, read_number};
 use unit_memory::{Scan, UnitFault, scan_day};
-use unit_model::layout::{DAY_COUNT, DAY_DATE, DAY_SLOT_SIZE, DAY_SLOTS, DAY_WORD_LIMIT, DAYS};
+use unit_model::layout::{
+    DAY_COUNT, DAY_DATE, DAY_SLOT_SIZE, DAY_SLOTS, DAY_WORD_LIMIT, DAYS, slot_place,
+};
 
 /// What is read of the last-kept minute's day: its stored count, how many of its words are not later, and the bits of the
 /// states after them.
@@ -110,7 +112,7 @@ pub fn read_today<M: Medium>(unit: &mut M, kept: u32, index: u32) -> Result<Toda
             codriver: BARE,
         });
     }
-    let place = DAYS.place + 4 + index * DAY_SLOT_SIZE + DAY_COUNT.place;
+    let place = slot_place(index) + DAY_COUNT.place;
     let stored = read_number(unit, place, DAY_COUNT.size)?.min(DAY_WORD_LIMIT);
     let scan = scan_day(unit, index, stored, kept % 1440)?;
     Ok(today_of(kept % 1440, stored, scan))

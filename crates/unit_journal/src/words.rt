@@ -14,7 +14,7 @@ pub fn first(minute: u32, state: u32) -> u32
     if minute == 0 { state } else { BARE }
 }
 
-// The beginning of a new day's slot: its date, the odometer, and two words.
+// The beginning of a new day's slot: its date, the odometer, the count of two words, six spare bytes, and these words.
 fn head(date: u32, odometer: u32, driver: u32, codriver: u32) -> [u8; 20]
     requires driver { driver < 16 }
     requires codriver { codriver < 16 }
@@ -24,6 +24,7 @@ fn head(date: u32, odometer: u32, driver: u32, codriver: u32) -> [u8; 20]
     let odometer = odometer.to_be_bytes();
     let driver = ((2048 * driver) as u16).to_be_bytes();
     let codriver = ((32768 + 2048 * codriver) as u16).to_be_bytes();
+    let spare = [0; 6];
     [
         date[0],
         date[1],
@@ -35,12 +36,12 @@ fn head(date: u32, odometer: u32, driver: u32, codriver: u32) -> [u8; 20]
         odometer[3],
         0,
         2,
-        0,
-        0,
-        0,
-        0,
-        0,
-        0,
+        spare[0],
+        spare[1],
+        spare[2],
+        spare[3],
+        spare[4],
+        spare[5],
         driver[0],
         driver[1],
         codriver[0],

@@ -9,7 +9,7 @@ use Rattle.tach_media.specs.Medium.{bytes_at, SameOutside}
 use Rattle.tach_media.proofs.Images.{put_outside, part_before, part_after}
 use Rattle.gated_ring.specs.Ring.{indices as ring_indices, number_at, pointer, is_there, entry_at, next, order, taken}
 use Rattle.unit_model.specs.Days.{StoredDay, Each}
-use Rattle.unit_model.specs.Image.{day_ring, slot_place, last_kept, words_at, unit_day, indices, unit_days, day_head, unit_heads, slot_date, slot_odometer, slot_count, slot_words}
+use Rattle.unit_model.specs.Image.{day_ring, slot_place, last_kept, words_at, unit_day, indices, unit_days, slot_date, slot_odometer, slot_count, slot_words}
 use Rattle.unit_model.specs.Writing.{written, free_place, DiffersBehind, with_words}
 use Rattle.unit_model.proofs.Words.{words_split}
 use Rattle.unit_model.proofs.Numbers.{number_before, number_after, number_put2, number_in, words_before, words_after, words_in, written_outside, written_words, AreShort}
@@ -99,11 +99,6 @@ module _ (i : ℕ) (below : i < 366) (js : List ℕ) (others : Each (λ j. (j < 
   slot_days =
       all_days x ∙ ap (map (day_at x)) slot.order_is ∙ map-append (day_at x) js (i ∷ []) ∙ ap (λ (l : List StoredDay). l ++ day_at x i ∷ []) slot.older_are
       ∙ ap (λ (d : StoredDay). older ++ d ∷ []) (day_is x i n slot.count_is few ∙ (λ t. record { date = slot.date_is t; odometer = slot.odometer_is t; words = slot.words_are t }))
-
-  -- and their dates and odometers
-  pub slot_heads : unit_heads x ≡ map day_head older ++ (date, o) ∷ []
-  unfolding unit_heads
-  slot_heads = ap (map day_head) slot_days ∙ map-append day_head older (record { date = date; odometer = o; words = words } ∷ [])
 
   -- a write behind the words changes nothing of it
   pub slot_behind : (c : List ℕ) → DiffersBehind i n x c → IsSlot i js older p k date o n words c

@@ -177,9 +177,6 @@ module _ (x : List ℕ) (known : pointer day_ring x < 366) where
     pub added_pointer : pointer day_ring y ≡ t
     added_pointer = (added.list known).pointer_is
 
-    pub added_there : is_there day_ring y t ≡ true
-    added_there = (added.list known).there
-
     pub added_entry : entry_at day_ring y t ≡ head ++ drop (length head) (entry_at day_ring x t)
     added_entry = (added.list known).entry
 

@@ -49,13 +49,6 @@ indices image = ring_indices day_ring image
 unfoldable pub unit_days : List ℕ → List StoredDay
 unit_days image = map unit_day (ring_list day_ring image)
 
--- the date and the odometer of each of them
-abbrev pub day_head : StoredDay → ℕ × ℕ
-day_head d = (d.date, d.odometer)
-
-unfoldable pub unit_heads : List ℕ → List (ℕ × ℕ)
-unit_heads image = map day_head (unit_days image)
-
 -- the recorded days of a unit image, with their minutes up to the last-kept one
 unfoldable pub recorded : List ℕ → List Day
 recorded image = days_shown (last_kept image) (unit_days image)

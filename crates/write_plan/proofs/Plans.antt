@@ -58,19 +58,17 @@ puts_then {old} {mid} {new} {failed} ps qs first next =
     let sum : length (ps ++ qs) ≡ length ps + length qs = length-append ps qs in
     writes_as both (omega (arith, sum)) (omega (arith, sum)) (λ x. sym (put_all-append ps qs x)) (λ x c was here. here)
 
--- reads, the plan that they tell, and its writes
-pub puts_by : {old mid new : State} {failed : Bool} {least most : ℕ} (ps : List Piece) (plan : List ℕ → List Piece) → Reads old mid false → IfSome old.image (λ x. plan x ≡ ps) → PutsAll mid new failed ps
+-- the plan is that of the image, where it is told
+pub puts_as : {old new : State} {failed : Bool} {least most : ℕ} (ps : List Piece) (plan : List ℕ → List Piece) → IfSome old.image (λ x. plan x ≡ ps) → PutsAll old new failed ps
     → least ≤ length ps → length ps ≤ most → PutsBy old new failed least most plan
-puts_by {old} {mid} {new} {failed} {least} {most} ps plan first told next low high =
-    let run = reads_writes first next in
-    record {
-      written = λ fine. run.written fine ∙ named old.image told;
-      leaves = weaken run.leaves (λ x c was here. subst (λ (qs : List Piece). IsPartway qs x c) (sym (at x was)) here);
-      settled = run.settled;
-      begun = λ fine. omega (arith, low, run.begun fine);
-      clock = omega (arith, high, run.clock);
-      cause = run.cause;
-    }
+puts_as {old} {new} {failed} {least} {most} ps plan told run low high = record {
+  written = λ fine. run.written fine ∙ named old.image told;
+  leaves = weaken run.leaves (λ x c was here. subst (λ (qs : List Piece). IsPartway qs x c) (sym (at x was)) here);
+  settled = run.settled;
+  begun = λ fine. omega (arith, low, run.begun fine);
+  clock = omega (arith, high, run.clock);
+  cause = run.cause;
+}
   where
     at : (x : List ℕ) → old.image ≡ Some x → plan x ≡ ps
     at x was = subst (λ (o : Option (List ℕ)). IfSome o (λ x. plan x ≡ ps)) was told
@@ -78,6 +76,11 @@ puts_by {old} {mid} {new} {failed} {least} {most} ps plan first told next low hi
     named : (o : Option (List ℕ)) → IfSome o (λ x. plan x ≡ ps) → option_map (put_all ps) o ≡ option_map (λ x. put_all (plan x) x) o
     named None is = refl
     named (Some x) is = ap (λ (qs : List Piece). Some (put_all qs x)) (sym is)
+
+-- reads, the plan that they tell, and its writes
+pub puts_by : {old mid new : State} {failed : Bool} {least most : ℕ} (ps : List Piece) (plan : List ℕ → List Piece) → Reads old mid false → IfSome old.image (λ x. plan x ≡ ps) → PutsAll mid new failed ps
+    → least ≤ length ps → length ps ≤ most → PutsBy old new failed least most plan
+puts_by ps plan first told next low high = puts_as ps plan told (reads_writes first next) low high
 
 -- one such call and then another: the second plan is that of the image that the first leaves
 pub puts_by_then : {old mid new : State} {failed : Bool} {l m l' m' : ℕ} (first next : List ℕ → List Piece) → PutsBy old mid false l m first → PutsBy mid new failed l' m' next

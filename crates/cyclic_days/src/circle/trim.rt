@@ -2,7 +2,7 @@ ghost use Rattle.std.specs.Prelude.{◌≡◌, ◌≤◌, ◌<◌, ◌+◌, ◌*
 ghost use Rattle.tach_media.specs.Medium.{LeavesOnly, Reads, HasCause, LiesInside, IsPartlyWritten, IsSettled, last_count, put, bytes_at};
 ghost use Rattle.card_model.specs.Days.{Day};
 ghost use Rattle.card_model.specs.Bytes.{number, two_bytes};
-ghost use Rattle.card_model.specs.Changes.{early, date_of, cut};
+ghost use Rattle.card_model.specs.Changes.{early, until, date_of, cut};
 ghost use Rattle.card_model.specs.Image.{Holds, IsAt, IsPointer, IsStringShape, at, spot};
 ghost use Rattle.cyclic_days.specs.Moments.{FileFitsIn};
 ghost use Rattle.cyclic_days.specs.Steps.{SettlesIfSettled};
@@ -22,6 +22,7 @@ impl Circle {
         ensures moments { LeavesOnly (M.state medium.old) (M.state medium.new) (IsPartlyWritten (self.now.base + 2) (two_bytes n)) }
         ensures settled { OnOk result ((M.state medium.new).clock < last_count → IsSettled (M.state medium.new)) }
         ensures cause { HasCause (M.state medium.old) (M.state medium.new) (is_err result) }
+        ensures most { (M.state medium.new).clock ≤ (M.state medium.old).clock + 1 }
     {
         write_two(medium, self.base + 2, n)
     }
@@ -35,6 +36,7 @@ impl Circle {
         ensures moments { LeavesOnly (M.state medium.old) (M.state medium.new) (IsLosingLast self.now) }
         ensures settled { OnOk result ((M.state medium.new).clock < last_count → IsSettled (M.state medium.new)) }
         ensures cause { HasCause (M.state medium.old) (M.state medium.new) (is_err result) }
+        ensures most { (M.state medium.new).clock ≤ (M.state medium.old).clock + 1 }
     {
         let newest = self.newest(medium)?;
         let oldest = self.oldest(medium)?;
@@ -85,6 +87,9 @@ impl Circle {
         ensures settled { OnOk result (WritesOrReads (M.state medium.old) (M.state medium.new)) }
         ensures empty { IfSome (M.state medium.old).image (λ x. Holds self.now x [] → Reads (M.state medium.old) (M.state medium.new) (is_err result)) }
         ensures cause { HasCause (M.state medium.old) (M.state medium.new) (is_err result) }
+        ensures most { (M.state medium.new).clock ≤ (M.state medium.old).clock + 984 }
+        ensures writes { IfSome (M.state medium.old).image (λ x. (days : List Day) → Holds self.now x days → (M.state medium.new).clock + length (until date days) ≤ (M.state medium.old).clock + (length days + 1)) }
+        ensures drops { OnOk result (IfSome (M.state medium.old).image (λ x. (days : List Day) → Holds self.now x days → (M.state medium.new).clock + length (until date days) ≤ (M.state medium.old).clock + length days)) }
     {
         let mut later = self.is_later(medium, date)?;
         let mut count: u32 = 0;
@@ -156,6 +161,7 @@ impl Circle {
         ensures settled { OnOk result (WritesWhereDays self.now (M.state medium.old) (M.state medium.new)) }
         ensures empty { IfSome (M.state medium.old).image (λ x. Holds self.now x [] → Reads (M.state medium.old) (M.state medium.new) (is_err result)) }
         ensures cause { HasCause (M.state medium.old) (M.state medium.new) (is_err result) }
+        ensures most { (M.state medium.new).clock ≤ (M.state medium.old).clock + 1 }
     {
         let newest = self.newest(medium)?;
         let head = self.head_at(medium, newest)?;
@@ -180,6 +186,8 @@ impl Circle {
         ensures still { OnOk result (SettlesIfSettled (M.state medium.old) (M.state medium.new)) }
         ensures empty { IfSome (M.state medium.old).image (λ x. Holds self.now x [] → Reads (M.state medium.old) (M.state medium.new) (is_err result)) }
         ensures cause { HasCause (M.state medium.old) (M.state medium.new) (is_err result) }
+        ensures most { (M.state medium.new).clock ≤ (M.state medium.old).clock + 985 }
+        ensures writes { IfSome (M.state medium.old).image (λ x. (days : List Day) → Holds self.now x days → (M.state medium.new).clock + length (until (date_of minute) days) ≤ (M.state medium.old).clock + (length days + 1)) }
     {
         self.drop_later(medium, first_second(minute))?;
         self.cut(medium, minute)

@@ -2,7 +2,7 @@ ghost use Rattle.std.specs.Prelude.{◌≡◌, ◌≢◌, [], ◌≤◌, ◌<◌
 ghost use Rattle.tach_media.specs.Medium.{LeavesOnly, Reads, HasCause, LiesInside, IsSettled, last_count};
 ghost use Rattle.write_plan.specs.Plan.{PutsAll, PutsBy};
 ghost use Rattle.card_model.specs.Days.{Day};
-ghost use Rattle.card_model.specs.Changes.{fitting, trimmed};
+ghost use Rattle.card_model.specs.Changes.{fitting, until, date_of, trimmed};
 ghost use Rattle.card_model.specs.Image.{Holds, IsPointer};
 ghost use Rattle.cyclic_days.specs.Held.{IsHeld, Knows};
 ghost use Rattle.cyclic_days.specs.Moments.{FileFitsIn, IfKnown, IsChanging, IsChanged, KnowsChanged, IsDayBeginning, IsDayBegun, KnowsBegun, ClearsChanged, ClearsBegun, BeginsAgain};
@@ -93,6 +93,7 @@ impl Days {
         requires some { 1 ≤ length words.now }
         requires few { length words.now ≤ 2 }
         ensures shape { self.new.shape ≡ self.old.shape }
+        ensures puts { PutsBy (M.state medium.old) (M.state medium.new) (is_err result) 3 (5 + 2 * most_drops self.old.shape.size self.old.tail.used (12 + 2 * length words.now)) (beginning_pieces self.old date.0 words.now) }
         ensures begun { OnOk result (IfSome (M.state medium.old).image (λ x. IfSome (M.state medium.new).image (IfKnown self.old (IsDayBegun self.old.shape date.0 words.now) x))) }
         ensures knows { OnOk result (IfSome (M.state medium.old).image (λ x. IfSome (M.state medium.new).image (KnowsBegun self.old self.new date.0 words.now x))) }
         ensures cleared { OnOk result (IfSome (M.state medium.old).image (λ x. IfSome (M.state medium.new).image (ClearsBegun self.old date.0 words.now x))) }
@@ -116,6 +117,7 @@ impl Days {
         requires writable { LiesInside (M.state medium.old).writable self.old.shape.base (4 + self.old.shape.size) }
         ensures held { IsHeld self.old }
         ensures shape { self.new.shape ≡ self.old.shape }
+        ensures puts { PutsBy (M.state medium.old) (M.state medium.new) (is_err result) 2 (2 + 2 * most_drops self.old.shape.size self.old.tail.used 2) (change_pieces self.old word) }
         ensures changed { OnOk result (IfSome (M.state medium.old).image (λ x. IfSome (M.state medium.new).image (IfKnown self.old (IsChanged self.old.shape word) x))) }
         ensures knows { OnOk result (IfSome (M.state medium.old).image (λ x. IfSome (M.state medium.new).image (KnowsChanged self.old self.new word x))) }
         ensures cleared { OnOk result (IfSome (M.state medium.old).image (λ x. IfSome (M.state medium.new).image (ClearsChanged self.old word x))) }
@@ -149,6 +151,7 @@ impl Days {
         requires fits { FileFitsIn self.old.shape (M.state medium.old) }
         requires writable { LiesInside (M.state medium.old).writable self.old.shape.base (4 + self.old.shape.size) }
         ensures kept { self.new ≡ self.old }
+        ensures puts { PutsAll (M.state medium.old) (M.state medium.new) (is_err result) (mend_pieces self.old) }
         ensures same { OnOk result (IfSome (M.state medium.old).image (λ x. IfSome (M.state medium.new).image (IfKnown self.old (SameDays self.old.shape) x))) }
         ensures mended { OnOk result (IfSome (M.state medium.old).image (λ x. IfSome (M.state medium.new).image (IfKnown self.old (IsDropMended self.old.shape) x))) }
         ensures knows { OnOk result (IfSome (M.state medium.old).image (λ x. IfSome (M.state medium.new).image (λ y. (days : List Day) → Knows self.old x days → Knows self.old y days))) }
@@ -177,6 +180,7 @@ impl Days {
         requires fits { FileFitsIn self.old.shape (M.state medium.old) }
         requires writable { LiesInside (M.state medium.old).writable self.old.shape.base (4 + self.old.shape.size) }
         ensures shape { self.new.shape ≡ self.old.shape }
+        ensures puts { PutsAll (M.state medium.old) (M.state medium.new) (is_err result) (km_pieces self.old km.0) }
         ensures measured { OnOk result (IfSome (M.state medium.old).image (λ x. IfSome (M.state medium.new).image (IfKnown self.old (IsMeasured self.old.shape km.0) x))) }
         ensures knows { OnOk result (IfSome (M.state medium.old).image (λ x. IfSome (M.state medium.new).image (KnowsMeasured self.old self.new km.0 x))) }
         ensures moments { LeavesOnly (M.state medium.old) (M.state medium.new) (IfKnown self.old (IsMeasuring self.old.shape km.0)) }
@@ -203,6 +207,8 @@ impl Days {
         ensures still { OnOk result (SettlesIfSettled (M.state medium.old) (M.state medium.new)) }
         ensures empty { IfSome (M.state medium.old).image (λ x. Holds self.old.shape x [] → Reads (M.state medium.old) (M.state medium.new) (is_err result)) }
         ensures cause { HasCause (M.state medium.old) (M.state medium.new) (is_err result) }
+        ensures most { (M.state medium.new).clock ≤ (M.state medium.old).clock + 985 }
+        ensures writes { IfSome (M.state medium.old).image (λ x. (days : List Day) → Holds self.old.shape x days → (M.state medium.new).clock + length (until (date_of minute) days) ≤ (M.state medium.old).clock + (length days + 1)) }
     {
         self.circle.trim(medium, minute)?;
         self.tail = self.circle.tail(medium)?;

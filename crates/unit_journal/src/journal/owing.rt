@@ -1,10 +1,11 @@
-ghost use Rattle.std.specs.Prelude.{◌≡◌, ◌↔◌, ◌<◌, true, IfOk, OnOk, IfSome, is_err, option_map};
+ghost use Rattle.std.specs.Prelude.{◌≡◌, ◌↔◌, ◌<◌, ◌≤◌, ◌+◌, min, true, IfOk, OnOk, IfSome, is_err, option_map};
 ghost use Rattle.tach_media.specs.Medium.{Reads, LeavesOnly, HasCause, StaysSettled, IsSettled, last_count};
 ghost use Rattle.tacho_types.specs.CardNumber.{card_number_bytes};
 ghost use Rattle.unit_model.specs.Image.{IsUnit};
 ghost use Rattle.unit_journal.specs.Image.{Agrees};
-ghost use Rattle.owed_model.specs.Owed.{owed_to};
-ghost use Rattle.owed_model.specs.Rows.{HasRow, IsPut, IsPutting, IsRowBegun, IsRowBeginning};
+ghost use Rattle.write_plan.specs.Plan.{PutsBy};
+ghost use Rattle.owed_model.specs.Owed.{rows_in, owed_to};
+ghost use Rattle.owed_model.specs.Rows.{entry_word, putting, beginning, HasRow, IsPut, IsPutting, IsRowBegun, IsRowBeginning};
 ghost use Rattle.owed_rows.specs.Searching.{IsSane};
 
 use super::Journal;
@@ -29,7 +30,7 @@ impl Journal {
     {
         let mut bytes = [0; 18];
         write_card_number(number, &mut bytes);
-        owed(unit, self.kept, &bytes, session, after)
+        owed(unit, self.notes.kept, &bytes, session, after)
     }
 
     /// Whether the card of a number has a row.
@@ -56,6 +57,8 @@ impl Journal {
         ensures same { self.new ≡ self.old }
         ensures agrees { OnOk result (IfSome (M.state unit.new).image (Agrees self.old)) }
         ensures row { OnOk result (IfSome (M.state unit.new).image (HasRow (card_number_bytes number.now))) }
+        ensures puts { PutsBy (M.state unit.old) (M.state unit.new) (is_err result) 0 3 (λ x. putting (card_number_bytes number.now) entry.now.minute (entry_word entry.now) (rows_in x)) }
+        ensures wrote { OnOk result (IfSome (M.state unit.old).image (λ x. min ((M.state unit.old).clock + 3) last_count ≤ (M.state unit.new).clock)) }
         ensures put { OnOk result (IfSome (M.state unit.old).image (λ x. IfSome (M.state unit.new).image (IsPut (card_number_bytes number.now) entry.now x))) }
         ensures moments { LeavesOnly (M.state unit.old) (M.state unit.new) (IsPutting (card_number_bytes number.now) entry.now) }
         ensures settled { OnOk result (StaysSettled (M.state unit.old) (M.state unit.new)) }
@@ -85,6 +88,7 @@ impl Journal {
         ensures same { self.new ≡ self.old }
         ensures agrees { OnOk result (IfSome (M.state unit.new).image (Agrees self.old)) }
         ensures row { OnOk result (IfSome (M.state unit.new).image (HasRow (card_number_bytes number.now))) }
+        ensures puts { PutsBy (M.state unit.old) (M.state unit.new) (is_err result) 7 7 (λ x. beginning (card_number_bytes number.now) session (option_map (λ s. card_number_bytes s.now) spared.entry) (rows_in x)) }
         ensures begun { OnOk result (IfSome (M.state unit.old).image (λ x. IfSome (M.state unit.new).image (IsRowBegun (card_number_bytes number.now) session (option_map (λ s. card_number_bytes s.now) spared.entry) x))) }
         ensures moments { LeavesOnly (M.state unit.old) (M.state unit.new) (IsRowBeginning (card_number_bytes number.now) session (option_map (λ s. card_number_bytes s.now) spared.entry)) }
         ensures settled { OnOk result ((M.state unit.new).clock < last_count → IsSettled (M.state unit.new)) }

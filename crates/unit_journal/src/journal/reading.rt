@@ -53,7 +53,7 @@ impl Journal {
         ensures recorded { (x : List ℕ) → AreRight self.now x → result ≡ length (recorded x) }
         ensures few { result ≤ 366 }
     {
-        self.day_count as u16
+        self.notes.day_count as u16
     }
 
     // The index of the slot of a recorded day, counted from the oldest.
@@ -63,7 +63,7 @@ impl Journal {
         ensures below { result < 366 }
         ensures shape { IsNotes self.now }
     {
-        (self.index + (DAY_SLOTS + 1) - self.day_count + nth) % DAY_SLOTS
+        (self.notes.index + (DAY_SLOTS + 1) - self.notes.day_count + nth) % DAY_SLOTS
     }
 
     // The date of the last-kept minute's day.
@@ -71,7 +71,7 @@ impl Journal {
         ensures date { result ≡ 86400 * (self.now.kept / 1440) }
         ensures shape { IsNotes self.now }
     {
-        86400 * (self.kept / 1440)
+        86400 * (self.notes.kept / 1440)
     }
 
     // The last-kept minute's day.
@@ -85,14 +85,14 @@ impl Journal {
         ensures odometer { IfOk result (λ day. day.odometer.0 ≤ 9999999) }
         ensures reads { Reads (M.state unit.old) (M.state unit.new) (is_err result) }
     {
-        let place = slot_place(self.index);
+        let place = slot_place(self.notes.index);
         let date = self.last_date();
         let odometer = read_number(unit, place + DAY_ODOMETER.place, DAY_ODOMETER.size)?;
         Ok(UnitDay {
             place,
             date: TimeReal(date),
             odometer: Odometer(odometer.min(HIGHEST_ODOMETER)),
-            words: self.count as u16,
+            words: self.notes.count as u16,
         })
     }
 
@@ -127,7 +127,7 @@ impl Journal {
         ensures reads { Reads (M.state unit.old) (M.state unit.new) (is_err result) }
     {
         let nth = nth as u32;
-        if nth + 1 == self.day_count {
+        if nth + 1 == self.notes.day_count {
             return self.last_day(unit);
         }
         let date = read_number(unit, slot_place(self.index_at(nth)), 4)?;
@@ -146,7 +146,7 @@ impl Journal {
         ensures odometer { IfOk result (λ found. IfSome found (λ day. day.odometer.0 ≤ 9999999)) }
         ensures reads { ReadsIfAny (M.state unit.old) (M.state unit.new) (is_err result) }
     {
-        for nth in 0..self.day_count - 1 {
+        for nth in 0..self.notes.day_count - 1 {
             let place = slot_place(self.index_at(nth));
             if read_number(unit, place, 4)? == date {
                 let day = self.older_day(unit, nth, date)?;
@@ -172,7 +172,7 @@ impl Journal {
         ensures reads { ReadsIfAny (M.state unit.old) (M.state unit.new) (is_err result) }
     {
         let last_date = self.last_date();
-        if self.day_count == 0 {
+        if self.notes.day_count == 0 {
             return Ok(None);
         }
         if date.0 > last_date {

@@ -1,5 +1,5 @@
 use Rattle.std.proofs.Common.{◌≡◌, ◌<◌, ◌∙◌, ℕ, subst, sym, is_err}
-use Rattle.tach_media.proofs.Runs.{weaken, at_image, where_told, turned_into, on_ok}
+use Rattle.tach_media.proofs.Runs.{weaken, at_image, both_told, where_told, turned_into, on_ok, ok_gives}
 use Rattle.write_plan.specs.Plan.{PutsBy, put_all, IsPartway}
 use Rattle.unit_model.specs.Days.{word_minute}
 use Rattle.unit_model.proofs.Sized.{unit_sized}
@@ -39,3 +39,7 @@ returns-clause-put g c =
 
 pub returns-clause-settled : goal.returns-clause-settled
 returns-clause-settled g c = on_ok c.write_entry.result (λ fine. c.write_entry.ensures.puts.settled fine)
+
+pub returns-clause-wrote : goal.returns-clause-wrote
+returns-clause-wrote g c =
+    on_ok c.write_entry.result (λ fine. both_told (g.M.Medium.state c.args.unit.now).image _ (ok_gives c.write_entry.result c.write_entry.ensures.wrote fine) c.requires.row (λ x was wrote has. wrote has))

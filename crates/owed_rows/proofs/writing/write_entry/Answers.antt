@@ -1,4 +1,5 @@
-use Rattle.std.proofs.Common.{◌≡◌, ◌∙◌, ℕ, List, sym, ap, subst, arith, is_err}
+use Rattle.std.proofs.Common.{◌≡◌, ◌∙◌, ℕ, List, Option, length, sym, ap, subst, arith, is_err}
+use Rattle.tach_media.proofs.Runs.{on_ok}
 use Rattle.write_plan.specs.Plan.{Pieces, Piece, PutsAll}
 use Rattle.write_plan.proofs.Plans.{puts_by}
 use Rattle.owed_model.specs.Owed.{rows_in, row_index}
@@ -19,3 +20,13 @@ returns-clause-puts g c =
     (of_told (g.M.Medium.state c.args.unit.now).image (λ x. c.in_ok-rows.rows ≡ rows_in x) (λ x. putting number m w (rows_in x) ≡ ps) c.in_ok-rows.ensures.rows
     (λ x is. ap (λ (rows : List ℕ). pieces_into m w (row_index number rows)) (sym is) ∙ ap (pieces_into m w) (sym c.row_index.ensures.row)))
     puts (omega arith) (few_into m w c.row_index.result)
+
+-- a number that has a row has its three writes
+pub returns-clause-wrote : goal.returns-clause-wrote
+returns-clause-wrote g c =
+    let m = c.args.minute in
+    let w = c.args.word in
+    let number = c.args.number.now in
+    on_ok c.put_pieces.result (λ fine. of_told (g.M.Medium.state c.args.unit.now).image (λ x. c.in_ok-rows.rows ≡ rows_in x) _ c.in_ok-rows.ensures.rows (λ x is has.
+    let three : length (pieces_into m w c.row_index.result) ≡ 3 = ap (λ (o : Option ℕ). length (pieces_into m w o)) (c.row_index.ensures.row ∙ ap (row_index number) is ∙ has.1) in
+    omega (arith, c.put_pieces.ensures.puts.begun fine, ap (λ (p : Pieces). length p.pieces) c.putting-plan.ensures.plan, c.in_ok-rows.ensures.reads.clock, three)))

@@ -3,9 +3,8 @@ use Rattle.tach_media.specs.Medium.{HasCause, last_count}
 use Rattle.unit_model.specs.Image.{IsUnit}
 use Rattle.unit_journal.specs.Image.{Agrees}
 use Rattle.history_model.specs.Book.{Book}
-use Rattle.unit_rule.specs.Rule.{Started}
-use Rattle.unit_rule.specs.Marks.{Holds}
-use Rattle.recorder.specs.Keeping.{AreDue, kept_after, AreFrom, due_after, kept_all}
+use Rattle.recorder.specs.Standing.{Began, Travel, odometer_after, all_travelled, Stands}
+use Rattle.recorder.specs.Keeping.{AreDue, kept_after, AreFrom, due_after, kept_all, MarksStay, AreAllMarked}
 use Rattle.recorder.proofs.keeping.keep_all.Given as goal
 
 abbrev pub invariant-loop-minute : goal.invariant-loop-minute
@@ -18,7 +17,10 @@ invariant-loop-minute g l = record {
   few : length l.marks.items ≤ length l.fn.marks.items + l.minute-index;
   clock : (g.M.Medium.state l.fn.unit).clock ≤ (g.M.Medium.state l.unit).clock;
   tells : is_some (g.M.Medium.state l.unit).image ≡ is_some (g.M.Medium.state l.fn.unit).image;
+  stay : MarksStay l.fn.marks.items l.marks.items;
+  each : AreAllMarked (take l.minute-index l.decided) l.marks.items;
   cause : HasCause (g.M.Medium.state l.fn.unit) (g.M.Medium.state l.unit) false;
-  marked : (s : Started) (due : ℕ) (b : Book) → Holds s due b l.fn.marks.items (g.M.Medium.state l.fn.unit) → b.maybe ≡ None → AreFrom due l.decided → (g.M.Medium.state l.unit).clock < last_count →
-      Holds s (due_after due (take l.minute-index l.decided)) (kept_all (take l.minute-index l.decided) b) l.marks.items (g.M.Medium.state l.unit);
+  marked : (s : Began) (due : ℕ) (b : Book) (t : Travel) → Stands s due b t l.fn.marks.items (g.M.Medium.state l.fn.unit) → b.maybe ≡ None → l.stored ≡ odometer_after s.odometer t.before → AreFrom due l.decided →
+      (g.M.Medium.state l.unit).clock < last_count →
+      Stands s (due_after due (take l.minute-index l.decided)) (kept_all (take l.minute-index l.decided) b) (all_travelled (take l.minute-index l.decided) t) l.marks.items (g.M.Medium.state l.unit);
 }

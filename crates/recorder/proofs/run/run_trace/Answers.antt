@@ -6,28 +6,33 @@ use Rattle.trace_model.specs.declared.Item.{Item}
 use Rattle.trace_model.specs.Trace.{TraceSecond, item_seconds, total_seconds, seconds_of}
 use Rattle.minute_model.specs.declared.Rule.TheVariants.{Original}
 use Rattle.log_model.specs.declared.lines.Find.{Find}
+use Rattle.log_model.specs.Course.{went}
+use Rattle.unit_course.specs.Lines.{log_of}
+use Rattle.unit_course.specs.Complete.{AreMarked}
+use Rattle.unit_course.specs.Caused.{WellCaused}
 use Rattle.unit_course.specs.Followed.{Due as Awaited, Followed}
-use Rattle.recorder.specs.Followed.{run_log, history_of, lost_of}
+use Rattle.recorder.specs.Followed.{NoVerdict, run_log, history_of, lost_of}
 use Rattle.recorder.specs.Recorded.{progress, Recorded}
 use Rattle.recorder.proofs.Waiting.{Waits, waits-none, waits-more, seconds-none, seconds-more}
 use Rattle.recorder.proofs.Recording.{followed-as}
-use Rattle.recorder.proofs.Courses.{begins, is_followed}
+use Rattle.recorder.proofs.Courses.{begins, begins_done, is_followed, begins_why, why-by, has_causes}
 use Rattle.log_model.specs.declared.lines.Mark.{Mark}
 use Rattle.log_model.specs.declared.lines.Break.{Break}
 use Rattle.log_model.specs.declared.lines.Refused.{Refused}
 use Rattle.history_model.specs.Book.{Book, not_begun}
-use Rattle.unit_rule.specs.Marks.{Holds}
+use Rattle.recorder.specs.Standing.{begun_with, not_travelled, Stands}
 use Rattle.unit_rule.proofs.Safety.{unit-safe}
 use Rattle.recorder.specs.declared.run.Power.{Power}
 use Rattle.recorder.specs.declared.run.Power.TheVariants.{Lit, Due}
 use Rattle.recorder.specs.Lines.{Listed}
 use Rattle.recorder.specs.Going.{waiting, cuts_from}
 use Rattle.recorder.specs.Booked.{StartsAs, started, due_of}
-use Rattle.recorder.proofs.Opened.{opened-holds, kept-is, decodes-is, later-is-units, refused-is-units}
+use Rattle.recorder.proofs.Opened.{opened-stands, kept-is, decodes-is, later-is-units, refused-is-units}
 use Rattle.recorder.specs.Room.{offs, off_count}
 use Rattle.recorder.specs.Turn.{HasRoom}
 use Rattle.recorder.proofs.Items.{each-at, seconds-here, offs-here, room-less, room-behind, waiting-most, total-parts}
 use Rattle.recorder.proofs.Turning.{booked-at, goes-then}
+use Rattle.recorder.proofs.Broken.{broke-none, broke-then, broke-all}
 use Rattle.recorder.proofs.run.run_trace.Goals as goal
 
 -- what holds of each error
@@ -66,6 +71,7 @@ loop-i-init g c =
       };
       unfound = let u = c.new-run.ensures.unfound in omega (arith, u);
       goes_on = record { clock = let k = c.judge.ensures.clock in omega (arith, k); tells = run.tells; faults = c.judge.ensures.faults; breakdowns = c.judge.ensures.breakdowns };
+      broke = broke-none c.args.outcome.now.breaks.items c.judge.ensures.breakdowns;
       waits = waits-none c.args.trace.now.items;
       finds = refl;
       began = λ x starts.
@@ -74,34 +80,43 @@ loop-i-init g c =
           let kept = kept-is x U V starts (g.met.U.Medium.coherent c.args.unit.now) (g.met.U.Medium.coherent c.judge.new.unit) run c.in_ok-journal.journal e.loaded in
           let late = e.later in
           (decodes-is x U V starts (g.met.U.Medium.coherent c.args.unit.now) (g.met.U.Medium.coherent c.judge.new.unit) run c.in_ok-journal.journal e.loaded, omega (arith, kept, late));
-      recorded = λ start x starts below few.
+      recorded = λ start x starts below long.
           let U = g.U.Medium.state c.args.unit.now in
           let V = g.U.Medium.state c.judge.new.unit in
           let due : ℕ = c.args.trace.now.start / 60 in
           let kept = kept-is x U V starts (g.met.U.Medium.coherent c.args.unit.now) (g.met.U.Medium.coherent c.judge.new.unit) run c.in_ok-journal.journal e.loaded in
           let late = e.later in
-          let h = opened-holds x U V starts (g.met.U.Medium.coherent c.args.unit.now) (g.met.U.Medium.coherent c.judge.new.unit) run c.in_ok-journal.journal e.loaded due e.later in
+          let few = c.new-run.ensures.odometer in
+          let so = c.new-run.ensures.stored in
+          let h = opened-stands x U V starts (g.met.U.Medium.coherent c.args.unit.now) (g.met.U.Medium.coherent c.judge.new.unit) run c.in_ok-journal.journal e.loaded due e.later (omega (arith, few, so)) in
           let none = ap (λ (l : Listed Break). l.items) q.reserved.breaks in
           record {
             book = not_begun;
-            booked = booked-at (started x U.clock) c.new-run.result not_begun c.args.outcome.now.marks.items V due (omega (arith, w, next)) (λ p. refl)
-                (subst (λ (ms : List Mark). Holds (started x U.clock) due not_begun ms V) (sym (ap (λ (l : Listed Mark). l.items) q.reserved.marks)) h);
+            booked = booked-at (begun_with x U.clock) c.new-run.result not_begun not_travelled c.args.outcome.now.marks.items V due (omega (arith, w, next)) (λ p. refl) (λ p. absurd (let no : Due ≡ Lit = sym c.new-run.ensures.power ∙ p in cc))
+                (subst (λ (ms : List Mark). Stands (begun_with x U.clock) due not_begun not_travelled ms V) (sym (ap (λ (l : Listed Mark). l.items) q.reserved.marks)) h);
             supply = Awaited;
             power = sym c.new-run.ensures.power;
             second = tt;
             followed = subst (λ (ss : List TraceSecond). Followed Original start c.args.trace.now.start (started x U.clock).first ss (progress c.args.outcome.now.breaks.items c.new-run.result.unfound c.new-run.result.next c.new-run.result.begun Awaited not_begun)) (sym (seconds-none c.args.trace.now.start))
                 (followed-as start c.args.trace.now.start (started x U.clock).first [] Awaited not_begun (sym none) (sym c.new-run.ensures.unfound) (sym next) (sym c.new-run.ensures.begun)
                 (begins Original start c.args.trace.now.start (started x U.clock).first (omega (arith, kept, late))));
+            complete = subst (λ (ss : List TraceSecond). AreMarked Original (went (log_of c.args.outcome.now.breaks.items) ss).told c.args.outcome.now.marks.items) (sym (seconds-none c.args.trace.now.start))
+                (subst (λ (bs : List Break). AreMarked Original (went (log_of bs) []).told c.args.outcome.now.marks.items) (sym none) (begins_done Original c.args.outcome.now.marks.items));
+            caused = subst (λ (ss : List TraceSecond). WellCaused ss (progress c.args.outcome.now.breaks.items c.new-run.result.unfound c.new-run.result.next c.new-run.result.begun Awaited not_begun) c.args.outcome.now.refused.items) (sym (seconds-none c.args.trace.now.start))
+                (subst (WellCaused [] (progress c.args.outcome.now.breaks.items c.new-run.result.unfound c.new-run.result.next c.new-run.result.begun Awaited not_begun)) (sym (ap (λ (l : Listed Refused). l.items) q.reserved.refused))
+                (why-by [] (progress [] 0 c.args.trace.now.start 0 Awaited not_begun) (progress c.args.outcome.now.breaks.items c.new-run.result.unfound c.new-run.result.next c.new-run.result.begun Awaited not_begun) [] none refl (begins_why c.args.trace.now.start)));
             minutes = λ p. absurd (let no : Due ≡ Lit = sym c.new-run.ensures.power ∙ p in cc);
           };
       booked = λ x starts below.
           let U = g.U.Medium.state c.args.unit.now in
           let V = g.U.Medium.state c.judge.new.unit in
           let due : ℕ = c.args.trace.now.start / 60 in
-          let h = opened-holds x U V starts (g.met.U.Medium.coherent c.args.unit.now) (g.met.U.Medium.coherent c.judge.new.unit) run c.in_ok-journal.journal e.loaded due e.later in (
+          let few = c.new-run.ensures.odometer in
+          let so = c.new-run.ensures.stored in
+          let h = opened-stands x U V starts (g.met.U.Medium.coherent c.args.unit.now) (g.met.U.Medium.coherent c.judge.new.unit) run c.in_ok-journal.journal e.loaded due e.later (omega (arith, few, so)) in (
             not_begun,
-            booked-at (started x U.clock) c.new-run.result not_begun c.args.outcome.now.marks.items V due (omega (arith, w, next)) (λ p. refl)
-                (subst (λ (ms : List Mark). Holds (started x U.clock) due not_begun ms V) (sym (ap (λ (l : Listed Mark). l.items) q.reserved.marks)) h),
+            booked-at (begun_with x U.clock) c.new-run.result not_begun not_travelled c.args.outcome.now.marks.items V due (omega (arith, w, next)) (λ p. refl) (λ p. absurd (let no : Due ≡ Lit = sym c.new-run.ensures.power ∙ p in cc))
+                (subst (λ (ms : List Mark). Stands (begun_with x U.clock) due not_begun not_travelled ms V) (sym (ap (λ (l : Listed Mark). l.items) q.reserved.marks)) h),
           );
     }
 
@@ -111,7 +126,7 @@ returns-in_err-item-clause-refused g c = if_err c.from_residual-in_err-item.resu
     let e = c.in_err-item.ensures in
     let clock = e.goes_on.clock in
     let was = v.booked x starts (omega (arith, clock, below)) in
-    absurd (let no = (e.booked (started x (g.U.Medium.state c.args.unit.now).clock) was.0 was.1 (v.goes_on.tells ∙ starts.tells) below).0 in cc))
+    absurd (let no = (e.booked (begun_with x (g.U.Medium.state c.args.unit.now).clock) was.0 was.1 (v.goes_on.tells ∙ starts.tells) below).0 in cc))
 
 pub item-requires-clause-item : goal.item-requires-clause-item
 item-requires-clause-item g c = each-at c.args.trace.now.items c.loop-i.i c.get-item.result.now c.get-item.ensures c.requires.well.each
@@ -156,6 +171,7 @@ loop-i-preserved g c =
           e.idle e.room);
       unfound = e.unfound;
       goes_on = goes-then v.goes_on e.goes_on;
+      broke = broke-then v.broke e.broke;
       waits = subst (λ (n : ℕ). Waits items n (i + 1)) (sym waits) (waits-more items i c.loop-i.first item c.get-item.ensures v.first c.requires.well.runs c.requires.for_unit v.waits);
       finds = e.finds ∙ v.finds;
       began = v.began;
@@ -164,18 +180,18 @@ loop-i-preserved g c =
           let r = v.recorded start x starts (omega (arith, clock, below)) few in
           let at = r.followed.next in
           let first = v.first in
-          subst (λ (ss : List TraceSecond). Recorded start (started x (g.U.Medium.state c.args.unit.now).clock) c.args.trace.now.start ss c.item.new.self c.item.new.outcome.breaks.items c.item.new.outcome.marks.items (g.U.Medium.state c.item.new.unit))
+          subst (λ (ss : List TraceSecond). Recorded start (begun_with x (g.U.Medium.state c.args.unit.now).clock) c.args.trace.now.start ss c.item.new.self c.item.new.outcome.breaks.items c.item.new.outcome.marks.items c.item.new.outcome.refused.items (g.U.Medium.state c.item.new.unit))
           (sym (seconds-more c.args.trace.now.start items i c.loop-i.first item c.loop-i.run.next c.get-item.ensures (let parts = total-parts items i in let was = v.next in omega (arith, parts, was)) v.waits))
-          (e.recorded start (started x (g.U.Medium.state c.args.unit.now).clock) c.args.trace.now.start (seconds_of c.args.trace.now.start (take i items)) r (v.goes_on.tells ∙ starts.tells) below
+          (e.recorded start (begun_with x (g.U.Medium.state c.args.unit.now).clock) c.args.trace.now.start (seconds_of c.args.trace.now.start (take i items)) r (v.goes_on.tells ∙ starts.tells) below
           (record { each = v.waits.each; count = v.waits.count; few = omega (arith, few, low, first) })).1;
       booked = λ x starts below.
           let clock = e.goes_on.clock in
           let was = v.booked x starts (omega (arith, clock, below)) in
-          (e.booked (started x (g.U.Medium.state c.args.unit.now).clock) was.0 was.1 (v.goes_on.tells ∙ starts.tells) below).1;
+          (e.booked (begun_with x (g.U.Medium.state c.args.unit.now).clock) was.0 was.1 (v.goes_on.tells ∙ starts.tells) below).1;
     }
 
 pub returns-clause-holds : goal.returns-clause-holds
-returns-clause-holds g c = λ x starts below. let b = c.loop-i.invariant.booked x starts below in (due_of c.loop-i.run, b.0, b.1.holds)
+returns-clause-holds g c = λ x starts below. let b = c.loop-i.invariant.booked x starts below in (due_of c.loop-i.run, b.0, b.1.stands.holds)
 
 pub returns-clause-followed : goal.returns-clause-followed
 returns-clause-followed g c = λ start x starts below few.
@@ -187,17 +203,36 @@ returns-clause-followed g c = λ start x starts below few.
     let f = subst (λ (is : List Item). Followed Original start c.args.trace.now.start (started x (g.U.Medium.state c.args.unit.now).clock).first (seconds_of c.args.trace.now.start is) (progress c.loop-i.outcome.breaks.items c.loop-i.run.unfound c.loop-i.run.next c.loop-i.run.begun r.supply r.book)) whole r.followed in
     let follows = is_followed Original start c.args.trace.now.start (started x (g.U.Medium.state c.args.unit.now).clock).first (seconds_of c.args.trace.now.start items) c.loop-i.outcome.breaks.items c.loop-i.run.unfound c.loop-i.run.next c.loop-i.run.begun r.supply r.book f (run_log c.loop-i.outcome) refl finds in
     record {
-      safe = unit-safe (started x (g.U.Medium.state c.args.unit.now).clock) (history_of start c.loop-i.outcome c.args.trace.now.start items) (lost_of start c.loop-i.outcome c.args.trace.now.start items) (due_of c.loop-i.run) r.book c.loop-i.outcome.marks.items (g.U.Medium.state c.loop-i.unit) (g.met.U.Medium.coherent c.loop-i.unit) follows r.booked.holds;
+      safe = unit-safe (started x (g.U.Medium.state c.args.unit.now).clock) (history_of start c.loop-i.outcome c.args.trace.now.start items) (lost_of start c.loop-i.outcome c.args.trace.now.start items) (due_of c.loop-i.run) r.book c.loop-i.outcome.marks.items (g.U.Medium.state c.loop-i.unit) (g.met.U.Medium.coherent c.loop-i.unit) follows r.booked.stands.holds;
       due = due_of c.loop-i.run;
       book = r.book;
-      holds = r.booked.holds;
+      holds = r.booked.stands.holds;
+      travel = r.booked.travel;
+      travels = r.booked.stands.travels;
       follows = follows;
       supply = r.supply;
       unfound = c.loop-i.run.unfound;
       next = c.loop-i.run.next;
       begun = c.loop-i.run.begun;
       course = f;
+      complete = subst (λ (is : List Item). AreMarked Original (went (log_of c.loop-i.outcome.breaks.items) (seconds_of c.args.trace.now.start is)).told c.loop-i.outcome.marks.items) whole r.complete;
+      causes = has_causes Original start c.args.trace.now.start (started x (g.U.Medium.state c.args.unit.now).clock).first (seconds_of c.args.trace.now.start items) c.loop-i.outcome.breaks.items c.loop-i.run.unfound c.loop-i.run.next c.loop-i.run.begun r.supply r.book f c.loop-i.outcome.refused.items
+          (subst (λ (is : List Item). WellCaused (seconds_of c.args.trace.now.start is) (progress c.loop-i.outcome.breaks.items c.loop-i.run.unfound c.loop-i.run.next c.loop-i.run.begun r.supply r.book) c.loop-i.outcome.refused.items) whole r.caused)
+          (run_log c.loop-i.outcome) refl refl finds NoVerdict;
     }
 
 pub returns-clause-begun : goal.returns-clause-begun
 returns-clause-begun g c = c.loop-i.invariant.began
+
+pub returns-clause-broke : goal.returns-clause-broke
+returns-clause-broke g c =
+    broke-all (run_log c.loop-i.outcome) (ap (λ (l : Listed Break). l.items) c.requires.reserved.breaks) c.loop-i.invariant.goes_on.faults c.loop-i.invariant.broke
+
+pub returns-in_err-item-clause-broke : goal.returns-in_err-item-clause-broke
+returns-in_err-item-clause-broke g c =
+    let more = goes-then c.loop-i.invariant.goes_on c.in_err-item.ensures.goes_on in
+    broke-all (run_log c.item.new.outcome) (ap (λ (l : Listed Break). l.items) c.requires.reserved.breaks) more.faults (broke-then c.loop-i.invariant.broke c.in_err-item.ensures.broke)
+
+pub returns-in_err-journal-clause-broke : goal.returns-in_err-journal-clause-broke
+returns-in_err-journal-clause-broke g c =
+    broke-all (run_log c.args.outcome.now) (ap (λ (l : Listed Break). l.items) c.requires.reserved.breaks) c.judge.ensures.faults (broke-none c.args.outcome.now.breaks.items c.judge.ensures.breakdowns)

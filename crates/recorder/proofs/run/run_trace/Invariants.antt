@@ -10,7 +10,8 @@ use Rattle.history_model.specs.Book.{Book}
 use Rattle.recorder.specs.Going.{IsGoing}
 use Rattle.recorder.specs.Turn.{HasRoom}
 use Rattle.recorder.specs.Room.{offs}
-use Rattle.recorder.specs.Booked.{Booked, GoesOn, StartsAs, started}
+use Rattle.recorder.specs.Broken.{BreaksDown}
+use Rattle.recorder.specs.Booked.{Booked, GoesOn, StartsAs, begun_with}
 use Rattle.recorder.proofs.run.run_trace.Given as goal
 
 abbrev pub invariant-loop-i : goal.invariant-loop-i
@@ -21,10 +22,11 @@ invariant-loop-i g l = record {
   room : HasRoom l.run l.outcome (total_seconds (drop l.i l.trace.items)) (offs (drop l.i l.trace.items)) (length l.trace.items - l.first);
   unfound : l.run.unfound ≤ length l.outcome.breaks.items;
   goes_on : GoesOn (g.U.Medium.state l.fn.unit) (g.U.Medium.state l.unit);
+  broke : BreaksDown l.fn.outcome.breaks.items l.outcome.breaks.items (g.U.Medium.state l.fn.unit) (g.U.Medium.state l.unit);
   waits : Waits l.trace.items l.first l.i;
   finds : l.outcome.finds ≡ l.fn.outcome.finds;
   began : (x : List ℕ) → StartsAs x (g.U.Medium.state l.fn.unit) → Decodes x × (last_kept x < l.trace.start / 60);
   recorded : (start : Start) (x : List ℕ) → StartsAs x (g.U.Medium.state l.fn.unit) → (g.U.Medium.state l.unit).clock < last_count → length l.trace.items ≤ 4294967295 →
-      Recorded start (started x (g.U.Medium.state l.fn.unit).clock) l.trace.start (seconds_of l.trace.start (take l.i l.trace.items)) l.run l.outcome.breaks.items l.outcome.marks.items (g.U.Medium.state l.unit);
-  booked : (x : List ℕ) → StartsAs x (g.U.Medium.state l.fn.unit) → (g.U.Medium.state l.unit).clock < last_count → (b : Book) × Booked (started x (g.U.Medium.state l.fn.unit).clock) l.run b l.outcome.marks.items (g.U.Medium.state l.unit);
+      Recorded start (begun_with x (g.U.Medium.state l.fn.unit).clock) l.trace.start (seconds_of l.trace.start (take l.i l.trace.items)) l.run l.outcome.breaks.items l.outcome.marks.items l.outcome.refused.items (g.U.Medium.state l.unit);
+  booked : (x : List ℕ) → StartsAs x (g.U.Medium.state l.fn.unit) → (g.U.Medium.state l.unit).clock < last_count → (b : Book) × Booked (begun_with x (g.U.Medium.state l.fn.unit).clock) l.run b l.outcome.marks.items (g.U.Medium.state l.unit);
 }

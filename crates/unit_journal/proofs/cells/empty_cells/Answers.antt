@@ -12,7 +12,7 @@ use Rattle.unit_journal.proofs.cells.empty_cells.Goals as goal
 pub loop-nth-init : goal.loop-nth-init
 loop-nth-init g c =
     let old = g.M.Medium.state c.args.unit.now in
-    record { emptied = none_emptied c.args.kept old.image; moments = starts old (IsEmptyingAll c.args.kept); idle = told_all old.image _ (λ x is low. refl); settled = settled_none old; first = λ start. refl; cause = λ some. absurd (omega (arith, some)) }
+    record { emptied = none_emptied c.args.kept old.image; moments = starts old (IsEmptyingAll c.args.kept); idle = told_all old.image _ (λ x is low. refl); settled = settled_none old; most = omega arith; first = λ start. refl; cause = λ some. absurd (omega (arith, some)) }
 
 pub returns-in_err-empty_cell-clause-moments : goal.returns-in_err-empty_cell-clause-moments
 returns-in_err-empty_cell-clause-moments g c =
@@ -39,6 +39,7 @@ loop-nth-preserved g c =
           at_image (λ y. cell_minute y n ≤ k → new.clock ≡ mid.clock) here e.idle (next_not_later k n x sized (omega arith) (low n (omega arith)))
           ∙ at_image (λ x. ((m : ℕ) → m < 32 → cell_minute x m ≤ k) → mid.clock ≡ old.clock) is was.idle low);
       settled = settled_then old mid new c.empty_cell.ensures.moments.later was.settled e.settled;
+      most = omega (arith, was.most, c.empty_cell.ensures.most);
       first = λ none. absurd (omega (arith, none));
       cause = λ some. ⊎_elim
           (λ more. cause_after {failed = false} (was.cause more) e.cause)

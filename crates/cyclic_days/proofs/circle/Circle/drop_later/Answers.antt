@@ -1,12 +1,12 @@
 use Rattle.std.proofs.Common.{◌≡◌, ◌+◌, List, [], ℕ, inl, false, Option, IfSome, arith, refl, sym, ◌∙◌, subst}
 use Rattle.tach_media.specs.Medium.{Reads}
-use Rattle.tach_media.proofs.Runs.{goes_on, goes_same, at_image, where_told, cause_after}
+use Rattle.tach_media.proofs.Runs.{goes_on, goes_same, at_image, where_told, told_too, cause_after}
 use Rattle.card_model.specs.Days.{Day}
 use Rattle.card_model.specs.Image.{Holds}
 use Rattle.cyclic_days.specs.Trim.{IsTrimming, IsTrimmed, IsWithoutLast, newest_later}
 use Rattle.cyclic_days.proofs.Settling.{none_later, then_reads}
-use Rattle.cyclic_days.proofs.Told.{if_told, through_both}
-use Rattle.cyclic_days.proofs.Trimming.{trimming_then, trimming_one, trimming_part, trimming_fewer, trimmed, too_many}
+use Rattle.cyclic_days.proofs.Told.{if_told, from_told, through_both}
+use Rattle.cyclic_days.proofs.Trimming.{trimming_then, trimming_one, trimming_part, trimming_fewer, trimmed, too_many, until_short, drops_few}
 use Rattle.cyclic_days.proofs.circle.Circle.drop_later.Goals as goal
 
 pub returns-in_err-drop_newest-clause-moments : goal.returns-in_err-drop_newest-clause-moments
@@ -40,6 +40,7 @@ loop-later-preserved g c =
     let again = c.in_ok-later-2.ensures in
     record {
       few = omega (arith, c.if-count-lt984.true);
+      most = omega (arith, inv.most, c.drop_newest.ensures.most, again.reads.clock);
       shape = inv.shape;
       cause = cause_after (cause_after inv.cause c.in_ok-drop_newest.ensures.cause) again.reads.cause;
       made = subst (λ (o : Option (List ℕ)). IfSome (g.M.Medium.state c.args.medium.now).image (λ x. IfSome o (IsTrimming r date (i + 1) x))) (sym (again.reads.same refl))
@@ -91,3 +92,63 @@ returns-in_err-later-2-clause-empty g c =
     let inv = c.loop-later.invariant in
     if_told (g.M.Medium.state c.args.medium.now).image _ (λ x was h. absurd (none_later r date c.loop-later.later c.loop-later-test.true x was h
     (at_image (λ x. Holds r x [] → Reads (g.M.Medium.state c.args.medium.now) (g.M.Medium.state c.loop-later.medium) false) was inv.empty h) inv.later))
+
+pub returns-in_err-later-clause-writes : goal.returns-in_err-later-clause-writes
+returns-in_err-later-clause-writes g c = if_told (g.M.Medium.state c.args.medium.now).image _ (λ x was days h. omega (arith, c.in_err-later.ensures.reads.clock, until_short c.args.date days))
+
+pub returns-in_err-drop_newest-clause-writes : goal.returns-in_err-drop_newest-clause-writes
+returns-in_err-drop_newest-clause-writes g c =
+    let inv = c.loop-later.invariant in
+    if_told (g.M.Medium.state c.args.medium.now).image _ (λ x was days h.
+    let now = told_too (g.M.Medium.state c.args.medium.now).image (g.M.Medium.state c.loop-later.medium).image x (sym inv.moments.tells) was in
+    omega (
+      arith,
+      inv.most,
+      c.drop_newest.ensures.most,
+      drops_few c.args.self.now c.args.date c.loop-later.count x now.0
+          (at_image (IsTrimming c.args.self.now c.args.date c.loop-later.count x) now.1 (at_image (λ x. IfSome (g.M.Medium.state c.loop-later.medium).image (IsTrimming c.args.self.now c.args.date c.loop-later.count x)) was inv.made)) days h,
+    ))
+
+pub returns-in_err-later-2-clause-writes : goal.returns-in_err-later-2-clause-writes
+returns-in_err-later-2-clause-writes g c =
+    let inv = c.loop-later.invariant in
+    if_told (g.M.Medium.state c.args.medium.now).image _ (λ x was days h.
+    let now = told_too (g.M.Medium.state c.args.medium.now).image (g.M.Medium.state c.loop-later.medium).image x (sym inv.moments.tells) was in
+    omega (
+      arith,
+      inv.most,
+      c.drop_newest.ensures.most,
+      c.in_err-later-2.ensures.reads.clock,
+      drops_few c.args.self.now c.args.date c.loop-later.count x now.0
+          (at_image (IsTrimming c.args.self.now c.args.date c.loop-later.count x) now.1 (at_image (λ x. IfSome (g.M.Medium.state c.loop-later.medium).image (IsTrimming c.args.self.now c.args.date c.loop-later.count x)) was inv.made)) days h,
+    ))
+
+pub returns-else-count-lt984-clause-drops : goal.returns-else-count-lt984-clause-drops
+returns-else-count-lt984-clause-drops g c =
+    let inv = c.loop-later.invariant in
+    if_told (g.M.Medium.state c.args.medium.now).image _ (λ x was days h.
+    let now = told_too (g.M.Medium.state c.args.medium.now).image (g.M.Medium.state c.loop-later.medium).image x (sym inv.moments.tells) was in
+    omega (
+      arith,
+      inv.most,
+      drops_few c.args.self.now c.args.date c.loop-later.count x now.0
+          (at_image (IsTrimming c.args.self.now c.args.date c.loop-later.count x) now.1 (at_image (λ x. IfSome (g.M.Medium.state c.loop-later.medium).image (IsTrimming c.args.self.now c.args.date c.loop-later.count x)) was inv.made)) days h,
+    ))
+
+pub returns-else-count-lt984-clause-writes : goal.returns-else-count-lt984-clause-writes
+returns-else-count-lt984-clause-writes g c = from_told (g.M.Medium.state c.args.medium.now).image _ _ (returns-else-count-lt984-clause-drops g c) (λ x was few days h. omega (arith, few days h))
+
+pub returns-after-loop-later-clause-drops : goal.returns-after-loop-later-clause-drops
+returns-after-loop-later-clause-drops g c =
+    let inv = c.loop-later.invariant in
+    if_told (g.M.Medium.state c.args.medium.now).image _ (λ x was days h.
+    let now = told_too (g.M.Medium.state c.args.medium.now).image (g.M.Medium.state c.loop-later.medium).image x (sym inv.moments.tells) was in
+    omega (
+      arith,
+      inv.most,
+      drops_few c.args.self.now c.args.date c.loop-later.count x now.0
+          (at_image (IsTrimming c.args.self.now c.args.date c.loop-later.count x) now.1 (at_image (λ x. IfSome (g.M.Medium.state c.loop-later.medium).image (IsTrimming c.args.self.now c.args.date c.loop-later.count x)) was inv.made)) days h,
+    ))
+
+pub returns-after-loop-later-clause-writes : goal.returns-after-loop-later-clause-writes
+returns-after-loop-later-clause-writes g c = from_told (g.M.Medium.state c.args.medium.now).image _ _ (returns-after-loop-later-clause-drops g c) (λ x was few days h. omega (arith, few days h))

@@ -1,4 +1,4 @@
-use Rattle.std.proofs.Common.{◌≡◌, ◌≤◌, ◌-◌, List, [], false}
+use Rattle.std.proofs.Common.{◌≡◌, ◌≤◌, ◌+◌, ◌-◌, List, [], false}
 use Rattle.std.specs.Prelude.{IfSome}
 use Rattle.tach_media.specs.Medium.{LeavesOnly, Reads, HasCause}
 use Rattle.card_model.specs.Days.{Day}
@@ -12,6 +12,7 @@ invariant-loop-later g l =
     let now = g.M.Medium.state l.medium in
     record {
       few : l.count ≤ 984;
+      most : now.clock ≤ before.clock + l.count;
       shape : IsStringShape l.self;
       cause : HasCause before now false;
       made : IfSome before.image (λ x. IfSome now.image (IsTrimming l.self l.date l.count x));

@@ -1,12 +1,13 @@
-use Rattle.std.proofs.Common.{ℕ, [], false, IfSome, subst}
+use Rattle.std.proofs.Common.{ℕ, [], false, length, IfSome, ap, subst, arith}
 use Rattle.std.proofs.lemmas.Result.{on_ok_weaker}
 use Rattle.tach_media.specs.Medium.{Reads}
 use Rattle.tach_media.proofs.Runs.{weaken, goes_on, at_image}
+use Rattle.card_model.specs.Changes.{until}
 use Rattle.card_model.specs.Image.{Holds}
 use Rattle.cyclic_days.specs.Trim.{IsTrimming, IsTrimmed, IsCutLast, IsTrim}
 use Rattle.cyclic_days.proofs.CutLast.{while_dropping, while_cutting, trim_made}
 use Rattle.cyclic_days.proofs.Settling.{reads_after, settled_after, still_after}
-use Rattle.cyclic_days.proofs.Told.{if_told, through}
+use Rattle.cyclic_days.proofs.Told.{if_told, from_told, through}
 use Rattle.cyclic_days.proofs.circle.Circle.trim.Goals as goal
 
 pub returns-in_err-drop_later-clause-moments : goal.returns-in_err-drop_later-clause-moments
@@ -44,3 +45,11 @@ returns-clause-empty g c =
     let r = c.args.self.now in
     if_told (g.M.Medium.state c.args.medium.now).image _ (λ x was h. reads_after r x was h
     (at_image (λ x. Holds r x [] → Reads (g.M.Medium.state c.args.medium.now) (g.M.Medium.state c.drop_later.new.medium) false) was c.in_ok-drop_later.ensures.empty h) c.cut.ensures.empty)
+
+pub returns-in_err-drop_later-clause-writes : goal.returns-in_err-drop_later-clause-writes
+returns-in_err-drop_later-clause-writes g c = from_told (g.M.Medium.state c.args.medium.now).image _ _ c.drop_later.ensures.writes (λ x was few days h.
+    omega (arith, few days h, ap (λ (k : ℕ). length (until k days)) c.first_second.ensures))
+
+pub returns-clause-writes : goal.returns-clause-writes
+returns-clause-writes g c = from_told (g.M.Medium.state c.args.medium.now).image _ _ c.in_ok-drop_later.ensures.drops (λ x was few days h.
+    omega (arith, few days h, c.cut.ensures.most, ap (λ (k : ℕ). length (until k days)) c.first_second.ensures))

@@ -1,4 +1,4 @@
-use Rattle.std.proofs.Common.{rules, ◌≡◌, Bool, true, List, [], Some, IfSome, refl, sym, ◌∙◌, subst, ap}
+use Rattle.std.proofs.Common.{rules, ◌≡◌, Bool, true, List, [], Some, IfSome, refl, sym, ◌∙◌, subst, ap, arith}
 use Rattle.std.specs.Prelude.{is_err}
 use Rattle.tach_media.specs.Medium.{Reads}
 use Rattle.tach_media.proofs.Runs.{at_image, where_told, reads_then}
@@ -54,3 +54,20 @@ returns-clause-knows g c =
     let step = at_image (IsTrim c.self.inside.circle m x) there (at_image (λ x. IfSome mid.image (IsTrim c.self.inside.circle m x)) was c.in_ok-trim.ensures.trimmed) in
     at_image (λ y. (days : List Day) → Holds c.self.inside.circle y days → Knows (hold c.self.inside.circle c.in_ok-self-inside.field-0) y days) there c.in_ok-self-inside.ensures.knows (trimmed m days)
     (step.list days (subst (λ (s : StringShape). Holds s x days) (sym same) h)))
+
+pub returns-in_err-trim-clause-writes : goal.returns-in_err-trim-clause-writes
+returns-in_err-trim-clause-writes g c =
+    let same : c.self.inside.circle ≡ c.args.self.now.shape = ap (λ (h : Held). h.shape) c.self.view_is in
+    from_told (g.M.Medium.state c.args.medium.now).image _ _ c.trim.ensures.writes (λ x was few days h. few days (subst (λ (s : StringShape). Holds s x days) (sym same) h))
+
+pub returns-in_err-self-inside-clause-writes : goal.returns-in_err-self-inside-clause-writes
+returns-in_err-self-inside-clause-writes g c =
+    let same : c.self.inside.circle ≡ c.args.self.now.shape = ap (λ (h : Held). h.shape) c.self.view_is in
+    from_told (g.M.Medium.state c.args.medium.now).image _ _ c.trim.ensures.writes (λ x was few days h.
+    omega (arith, few days (subst (λ (s : StringShape). Holds s x days) (sym same) h), c.in_err-self-inside.ensures.reads.clock))
+
+pub returns-clause-writes : goal.returns-clause-writes
+returns-clause-writes g c =
+    let same : c.self.inside.circle ≡ c.args.self.now.shape = ap (λ (h : Held). h.shape) c.self.view_is in
+    from_told (g.M.Medium.state c.args.medium.now).image _ _ c.trim.ensures.writes (λ x was few days h.
+    omega (arith, few days (subst (λ (s : StringShape). Holds s x days) (sym same) h), c.in_ok-self-inside.ensures.reads.clock))

@@ -1,53 +1,79 @@
-use Rattle.std.proofs.Common.{ℕ, List, length, subst, ◌≡◌, Some, arith, sym, ◌∙◌, refl}
-use Rattle.tach_media.proofs.Runs.{weaken, after_reads, at_image, where_told, turned_into}
-use Rattle.gated_ring.specs.Ring.{place_of, pointer, PointsInside, taken}
+use Rattle.std.proofs.Common.{rules, ◌≡◌, ℕ, List, Some, Bool, true, false, refl, sym, ◌∙◌, subst, arith}
+use Rattle.std.specs.Prelude.{is_err}
+use Rattle.tach_media.proofs.Runs.{if_told, where_told, turned_into, settled_now}
+use Rattle.write_plan.specs.Plan.{PutsBy, put_all}
+use Rattle.write_plan.proofs.Plans.{puts_by_unread}
 use Rattle.gated_ring.specs.Change.{IsAdded}
-use Rattle.gated_ring.specs.Steps.{placed}
-use Rattle.tach_media.specs.Medium.{LiesInside}
-use Rattle.gated_ring.proofs.Places.{place_writable, pointer_writable}
-use Rattle.gated_ring.proofs.Adding.{adding, added}
+use Rattle.gated_ring.specs.Plans.{placing_pieces, adding_pieces}
+use Rattle.gated_ring.proofs.Planned.{placing_some, add_puts, add_writes, add_moments, add_end}
 use Rattle.gated_ring.proofs.ring.Ring.add.Goals as goal
 
-pub place-requires-clause-pointer : goal.place-requires-clause-pointer
-place-requires-clause-pointer g c = subst (λ (l : List (ℕ × ℕ)). LiesInside l c.args.self.now.base c.args.self.now.pointer_width) (sym c.choose.ensures.reads.leaves.writable) (pointer_writable (g.M.Medium.state c.args.medium.now).writable c.args.self.now c.requires.writable)
+pub returns-in_err-room-clause-puts : goal.returns-in_err-room-clause-puts
+returns-in_err-room-clause-puts g c =
+    let failed : is_err c.from_residual.result ≡ true = search rules in
+    λ known. subst (λ (b : Bool). PutsBy (g.M.Medium.state c.args.medium.now) (g.M.Medium.state c.room.new.medium) b 1 5 (adding_pieces c.args.self.now c.args.head.now)) (sym failed)
+    (puts_by_unread 1 5 (adding_pieces c.args.self.now c.args.head.now) c.in_err-room.ensures.reads)
 
-pub place-requires-clause-writable : goal.place-requires-clause-writable
-place-requires-clause-writable g c =
-    subst (λ (l : List (ℕ × ℕ)). LiesInside l (place_of c.args.self.now c.in_ok-last.index) (length c.args.head.now)) (sym c.choose.ensures.reads.leaves.writable)
-    (place_writable (g.M.Medium.state c.args.medium.now).writable c.args.self.now c.in_ok-last.index (length c.args.head.now) c.in_ok-last.ensures.below c.requires.width c.requires.writable)
+pub returns-in_err-place-clause-puts : goal.returns-in_err-place-clause-puts
+returns-in_err-place-clause-puts g c =
+    let e = c.in_ok-room.ensures in
+    let old = g.M.Medium.state c.args.medium.now in
+    let mid = g.M.Medium.state c.room.new.medium in
+    let new = g.M.Medium.state c.place.new.medium in
+    let failed : is_err c.from_residual-in_err-place.result ≡ true = search rules in
+    λ known. subst (λ (b : Bool). PutsBy old new b 1 5 (adding_pieces c.args.self.now c.args.head.now)) (sym failed)
+    (add_puts c.args.self.now c.args.head.now c.in_ok-room.room old mid new e.reads e.last e.index e.used true c.in_err-place.ensures.puts known)
 
 pub returns-in_err-place-clause-moments : goal.returns-in_err-place-clause-moments
 returns-in_err-place-clause-moments g c =
-    let r = c.args.self.now in
+    let e = c.in_ok-room.ensures in
     let q = c.requires in
-    let found = c.in_ok-last in
-    after_reads c.choose.ensures.reads.leaves (found.ensures.reads.same refl) (weaken c.place.ensures.moments (λ x d is placing.
-    let was : (g.M.Medium.state c.args.medium.now).image ≡ Some x = sym (found.ensures.reads.same refl) ∙ is in
-    adding r c.choose.ensures.shape q.pointer x (omega (arith, q.fits, (g.met.M.Medium.coherent c.args.medium.now).sized x was)) found.last found.index found.ensures.below
-    (at_image (λ x. PointsInside r x → found.last ≡ pointer r x) was found.ensures.last)
-    (at_image (λ x. PointsInside r x → found.index ≡ taken r x) was found.ensures.index)
-    c.args.head.now q.gate q.width q.open d placing))
+    add_moments c.args.self.now c.args.head.now c.in_ok-room.room _ _ _ e.reads e.last e.index e.used true c.in_err-place.ensures.puts
+    e.shape q.pointer (λ x was. omega (arith, q.fits, (g.met.M.Medium.coherent c.args.medium.now).sized x was)) e.below q.gate q.width q.open
+
+pub returns-in_err-place-clause-most : goal.returns-in_err-place-clause-most
+returns-in_err-place-clause-most g c = omega (arith, c.in_err-place.ensures.puts.clock, c.in_ok-room.ensures.reads.clock, (placing_some c.args.self.now c.in_ok-room.room c.args.head.now).1)
+
+pub returns-in_err-place-clause-writes : goal.returns-in_err-place-clause-writes
+returns-in_err-place-clause-writes g c =
+    let e = c.in_ok-room.ensures in
+    if_told (g.M.Medium.state c.args.medium.now).image _ (λ x was known. add_writes c.args.self.now c.args.head.now c.in_ok-room.room _ _ _ e.reads e.last e.index e.used true c.in_err-place.ensures.puts x was known)
+
+pub returns-clause-puts : goal.returns-clause-puts
+returns-clause-puts g c =
+    let e = c.in_ok-room.ensures in
+    λ known. add_puts c.args.self.now c.args.head.now c.in_ok-room.room _ _ _ e.reads e.last e.index e.used false c.in_ok-place.ensures.puts known
 
 pub returns-clause-moments : goal.returns-clause-moments
 returns-clause-moments g c =
-    let r = c.args.self.now in
+    let e = c.in_ok-room.ensures in
     let q = c.requires in
-    let found = c.in_ok-last in
-    after_reads c.choose.ensures.reads.leaves (found.ensures.reads.same refl) (weaken c.place.ensures.moments (λ x d is placing.
-    let was : (g.M.Medium.state c.args.medium.now).image ≡ Some x = sym (found.ensures.reads.same refl) ∙ is in
-    adding r c.choose.ensures.shape q.pointer x (omega (arith, q.fits, (g.met.M.Medium.coherent c.args.medium.now).sized x was)) found.last found.index found.ensures.below
-    (at_image (λ x. PointsInside r x → found.last ≡ pointer r x) was found.ensures.last)
-    (at_image (λ x. PointsInside r x → found.index ≡ taken r x) was found.ensures.index)
-    c.args.head.now q.gate q.width q.open d placing))
+    add_moments c.args.self.now c.args.head.now c.in_ok-room.room _ _ _ e.reads e.last e.index e.used false c.in_ok-place.ensures.puts
+    e.shape q.pointer (λ x was. omega (arith, q.fits, (g.met.M.Medium.coherent c.args.medium.now).sized x was)) e.below q.gate q.width q.open
 
 pub returns-clause-added : goal.returns-clause-added
 returns-clause-added g c =
-    let r = c.args.self.now in
+    let e = c.in_ok-room.ensures in
     let q = c.requires in
-    let found = c.in_ok-last in
-    where_told (g.M.Medium.state c.args.medium.now).image _ (IsAdded r c.args.head.now) (λ x y was is.
-    added r c.choose.ensures.shape q.pointer x (omega (arith, q.fits, (g.met.M.Medium.coherent c.args.medium.now).sized x was)) found.last found.index found.ensures.below
-    (at_image (λ x. PointsInside r x → found.last ≡ pointer r x) was found.ensures.last)
-    (at_image (λ x. PointsInside r x → found.index ≡ taken r x) was found.ensures.index)
-    c.args.head.now q.gate q.width q.open y
-    (turned_into (placed r found.last found.index c.args.head.now) c.in_ok-place.ensures.placed ((found.ensures.reads.same refl) ∙ was) is))
+    let r = c.args.self.now in
+    let head = c.args.head.now in
+    let old = g.M.Medium.state c.args.medium.now in
+    let new = g.M.Medium.state c.place.new.medium in
+    where_told old.image new.image (IsAdded r head) (λ x y was is.
+    add_end r head c.in_ok-room.room old (g.M.Medium.state c.room.new.medium) new e.reads e.last e.index e.used false c.in_ok-place.ensures.puts
+    e.shape q.pointer (λ x was. omega (arith, q.fits, (g.met.M.Medium.coherent c.args.medium.now).sized x was)) e.below q.gate q.width q.open x y was
+    (turned_into (put_all (placing_pieces r c.in_ok-room.room head)) (c.in_ok-place.ensures.puts.written refl) (e.reads.same refl ∙ was) is))
+
+pub returns-clause-settled : goal.returns-clause-settled
+returns-clause-settled g c = settled_now c.in_ok-place.ensures.puts refl (placing_some c.args.self.now c.in_ok-room.room c.args.head.now).0
+
+pub returns-clause-clock : goal.returns-clause-clock
+returns-clause-clock g c = omega (arith, c.in_ok-place.ensures.puts.begun refl, c.in_ok-room.ensures.reads.clock, (placing_some c.args.self.now c.in_ok-room.room c.args.head.now).0)
+
+pub returns-clause-most : goal.returns-clause-most
+returns-clause-most g c = omega (arith, c.in_ok-place.ensures.puts.clock, c.in_ok-room.ensures.reads.clock, (placing_some c.args.self.now c.in_ok-room.room c.args.head.now).1)
+
+pub returns-clause-writes : goal.returns-clause-writes
+returns-clause-writes g c =
+    let e = c.in_ok-room.ensures in
+    if_told (g.M.Medium.state c.args.medium.now).image _ (λ x was known. add_writes c.args.self.now c.args.head.now c.in_ok-room.room _ _ _ e.reads e.last e.index e.used false c.in_ok-place.ensures.puts x was known)

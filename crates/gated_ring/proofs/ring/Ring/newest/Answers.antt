@@ -4,7 +4,7 @@ use Rattle.std.specs.List.{range_with_len}
 use Rattle.std.proofs.lemmas.Result.{IfOk-weaker}
 use Rattle.tach_media.proofs.Runs.{both_told}
 use Rattle.gated_ring.specs.Ring.{Shape, pointer, PointsInside, order, next, IsNewest}
-use Rattle.gated_ring.specs.Steps.{IsNewestOf}
+use Rattle.gated_ring.specs.Searching.{IsNewestOf}
 use Rattle.gated_ring.proofs.Orders.{order_two}
 use Rattle.gated_ring.proofs.Newest.{newest_back, newest_front, newest_of_ring}
 use Rattle.gated_ring.proofs.ring.Ring.newest.Goals as goal

@@ -1,26 +1,35 @@
-use Rattle.std.proofs.Common.{arith}
-use Rattle.std.proofs.lemmas.Result.{on_ok_weaker}
-use Rattle.tach_media.proofs.Runs.{weaken, where_told, turned_into}
+use Rattle.std.proofs.Common.{◌∙◌, not, refl, arith}
+use Rattle.std.specs.Prelude.{◌==◌}
+use Rattle.std.specs.Prelude.{is_err}
+use Rattle.tach_media.proofs.Runs.{if_told, where_told, turned_into, settled_now, on_ok}
+use Rattle.write_plan.specs.Plan.{put_all}
 use Rattle.gated_ring.specs.Change.{IsReplaced}
-use Rattle.gated_ring.specs.Steps.{replaced}
-use Rattle.gated_ring.proofs.Putting.{is_replaced, replacing}
+use Rattle.gated_ring.specs.Plans.{exchanging_pieces}
+use Rattle.gated_ring.proofs.Planned.{exchanging_some, put_puts, put_moments, put_end}
 use Rattle.gated_ring.proofs.ring.Ring.put_at.Goals as goal
 
-pub returns-clause-replaced : goal.returns-clause-replaced
-returns-clause-replaced g c =
-    let r = c.args.self.now in
-    let i = c.args.index in
-    let head = c.args.head.now in
-    let q = c.requires in
-    on_ok_weaker c.replace.result (λ so. where_told (g.M.Medium.state c.args.medium.now).image _ (IsReplaced r i head) (λ x y was is.
-    is_replaced r c.replace.ensures.shape x (omega (arith, q.fits, (g.met.M.Medium.coherent c.args.medium.now).sized x was)) i q.index head q.gate q.width q.open y
-    (turned_into (replaced r i head) so was is))) c.replace.ensures.replaced
+pub returns-clause-puts : goal.returns-clause-puts
+returns-clause-puts g c = put_puts c.args.self.now c.args.index c.args.head.now c.in_ok-gate.gate _ _ _ c.in_ok-gate.ensures.reads c.in_ok-gate.ensures.value (is_err c.exchange.result) c.exchange.ensures.puts
 
 pub returns-clause-moments : goal.returns-clause-moments
 returns-clause-moments g c =
+    let q = c.requires in
+    put_moments c.args.self.now c.args.index c.args.head.now c.in_ok-gate.gate _ _ _ c.in_ok-gate.ensures.reads c.in_ok-gate.ensures.value (is_err c.exchange.result) c.exchange.ensures.puts
+    c.exchange.ensures.shape (λ x was. omega (arith, q.fits, (g.met.M.Medium.coherent c.args.medium.now).sized x was)) q.index q.gate q.width q.open
+
+pub returns-clause-replaced : goal.returns-clause-replaced
+returns-clause-replaced g c =
+    let q = c.requires in
     let r = c.args.self.now in
     let i = c.args.index in
     let head = c.args.head.now in
-    let q = c.requires in
-    weaken c.replace.ensures.moments (λ x d was part.
-    replacing r c.replace.ensures.shape x (omega (arith, q.fits, (g.met.M.Medium.coherent c.args.medium.now).sized x was)) i q.index head q.gate q.width q.open d part)
+    let old = g.M.Medium.state c.args.medium.now in
+    let new = g.M.Medium.state c.exchange.new.medium in
+    let e = c.in_ok-gate.ensures in
+    on_ok c.exchange.result (λ fine. where_told old.image new.image (IsReplaced r i head) (λ x y was is.
+    put_end r i head c.in_ok-gate.gate old (g.M.Medium.state c.gate.new.medium) new e.reads e.value (is_err c.exchange.result) c.exchange.ensures.puts
+    c.exchange.ensures.shape (λ x was. omega (arith, q.fits, (g.met.M.Medium.coherent c.args.medium.now).sized x was)) q.index q.gate q.width q.open x y was
+    (turned_into (put_all (exchanging_pieces r i (not (c.in_ok-gate.gate == 0)) head)) (c.exchange.ensures.puts.written fine) (e.reads.same refl ∙ was) is)))
+
+pub returns-clause-settled : goal.returns-clause-settled
+returns-clause-settled g c = on_ok c.exchange.result (λ fine. settled_now c.exchange.ensures.puts fine (exchanging_some c.args.self.now c.args.index _ c.args.head.now).0)

@@ -6,12 +6,15 @@ use Rattle.recorder.specs.declared.run.Run.{Run}
 use Rattle.recorder.specs.Recorded.{Recorded}
 use Rattle.recorder.proofs.Recording.{stepped, driven-first}
 use Rattle.std.specs.Prelude.{◌&&◌}
-use Rattle.recorder.specs.Power.{is_lit}
-use Rattle.recorder.specs.Acting.{between, actions_in, picks_in, with_picks}
+use Rattle.log_model.specs.declared.lines.Refused.{Refused}
+use Rattle.recorder.specs.Lines.{Listed}
+use Rattle.recorder.specs.Power.{is_lit, has_power}
+use Rattle.recorder.specs.Acting.{between, actions_in, picks_in, refused_in, with_picks}
 use Rattle.recorder.proofs.Acting.{going-picked, late-picked, booked-picked, acted-room}
 use Rattle.recorder.proofs.Beginning.{begun-room}
 use Rattle.recorder.proofs.Items.{room-less}
 use Rattle.recorder.proofs.Stepping.{begun-book, turn-book}
+use Rattle.recorder.proofs.Broken.{broke-then}
 use Rattle.recorder.proofs.run.Run.drive.Goals as goal
 
 pub turn-requires-clause-going : goal.turn-requires-clause-going
@@ -32,7 +35,7 @@ returns-clause-booked g c = λ s b h told below.
     let begun = (c.in_ok-has_power.ensures.booked s b c.args.outcome.now.marks.items h told).1 in
     let on = begun-book s c.args.self.now c.begin_second.new.self c.args.outcome.now.breaks.items c.begin_second.new.breaks.items b c.args.outcome.now.marks.items (g.M.Medium.state c.begin_second.new.unit) begun in
     let acted = booked-picked c.begin_second.new.self c.act_all.new.self (g.M.Medium.state c.begin_second.new.unit) (picks_in (c.in_ok-has_power.has_power && is_lit c.begin_second.new.self.power) (actions_in (between c.args.from c.args.to c.args.items.now))) c.act_all.ensures.only c.act_all.ensures.picked c.in_ok-has_power.ensures.going s on.0 c.args.outcome.now.marks.items on.1 in
-    let turned = turn-book s c.act_all.new.self c.turn.new.self c.begin_second.new.breaks.items c.turn.new.outcome.breaks.items 1 c.args.speed _ on.0 c.turn.new.outcome.marks.items (g.M.Medium.state c.turn.new.unit) (c.turn.ensures.booked s on.0 acted (omega (arith, clock, below))) in
+    let turned = turn-book s c.act_all.new.self c.turn.new.self c.begin_second.new.breaks.items c.turn.new.outcome.breaks.items 1 c.args.speed _ on.0 c.args.outcome.now.marks.items c.turn.new.outcome.marks.items (g.M.Medium.state c.turn.new.unit) (c.turn.ensures.booked s on.0 acted (omega (arith, clock, below))) in
     c.drive_on.ensures.booked s turned.0 turned.1 (c.turn.ensures.goes_on.tells ∙ (c.in_ok-has_power.ensures.goes_on.tells ∙ told)) below
 
 pub returns-clause-recorded : goal.returns-clause-recorded
@@ -42,15 +45,19 @@ returns-clause-recorded g c = λ start s origin done r told below are.
     let actions : List Action = actions_in (between c.args.from c.args.to c.args.items.now) in
     let begins = (c.in_ok-has_power.ensures.booked s r.book c.args.outcome.now.marks.items r.booked told).1 in
     let number : length actions ≡ c.number_of.result = are.count ∙ sym (let e = c.number_of.ensures in let few = are.few in omega (arith, e, few)) in
-    let first = stepped start s origin done 1 c.args.speed actions c.number_of.result (omega arith) are.each c.args.self.now c.begin_second.new.self c.act_all.new.self c.turn.new.self c.args.outcome.now.breaks.items c.begin_second.new.breaks.items c.turn.new.outcome.breaks.items c.args.outcome.now.marks.items c.turn.new.outcome.marks.items
+    let first = stepped start s origin done 1 c.args.speed actions c.number_of.result (omega arith) are.each c.args.self.now c.begin_second.new.self c.act_all.new.self c.turn.new.self c.args.outcome.now.breaks.items c.begin_second.new.breaks.items c.turn.new.outcome.breaks.items c.args.outcome.now.marks.items c.turn.new.outcome.marks.items c.args.outcome.now.refused.items c.turn.new.outcome.refused.items
     (g.M.Medium.state c.args.unit.now) (g.M.Medium.state c.begin_second.new.unit) (g.M.Medium.state c.turn.new.unit) r
-    number (omega arith) begins c.act_all.ensures.only
+    number (omega arith)
+    (ap (λ (l : Listed Refused). l.items) c.turn.ensures.refused ∙ c.act_all.ensures.refused
+    ∙ ap (λ (t : Bool). c.args.outcome.now.refused.items ++ refused_in t c.begin_second.new.self.next actions) c.in_ok-has_power.ensures.power
+    ∙ ap (λ (m : ℕ). c.args.outcome.now.refused.items ++ refused_in (has_power c.args.self.now.power next) m actions) c.in_ok-has_power.ensures.next)
+    begins c.act_all.ensures.only
     (λ span stands. subst (λ (t : Bool). StandsFor c.act_all.new.self.minutes (with_picks (picks_in (t && is_lit c.begin_second.new.self.power) actions) span)) c.in_ok-has_power.ensures.power (c.act_all.ensures.picked span stands))
     (λ b k. c.turn.ensures.booked s b (booked-picked c.begin_second.new.self c.act_all.new.self (g.M.Medium.state c.begin_second.new.unit) (picks_in (c.in_ok-has_power.has_power && is_lit c.begin_second.new.self.power) actions) c.act_all.ensures.only c.act_all.ensures.picked c.in_ok-has_power.ensures.going s b c.args.outcome.now.marks.items k) (omega (arith, clock, below))) in
     let rest = c.drive_on.ensures.recorded start s origin (done ++ driven 1 next c.args.speed actions) first (c.turn.ensures.goes_on.tells ∙ (c.in_ok-has_power.ensures.goes_on.tells ∙ told)) below in
     let later : c.turn.new.self.next ≡ next + 1 = let t = c.turn.ensures.next in let a = ap (λ (m : Run). m.next) c.act_all.ensures.only in let b = c.in_ok-has_power.ensures.next in omega (arith, t, a, b) in (
       rest.0,
-      subst (λ (ss : List TraceSecond). Recorded start s origin ss c.drive_on.new.self c.drive_on.new.outcome.breaks.items c.drive_on.new.outcome.marks.items (g.M.Medium.state c.drive_on.new.unit))
+      subst (λ (ss : List TraceSecond). Recorded start s origin ss c.drive_on.new.self c.drive_on.new.outcome.breaks.items c.drive_on.new.outcome.marks.items c.drive_on.new.outcome.refused.items (g.M.Medium.state c.drive_on.new.unit))
           (append_assoc done (driven 1 next c.args.speed actions) (driven (c.args.seconds - 1) c.turn.new.self.next c.args.speed [])
           ∙ ap (λ (m : ℕ). done ++ (driven 1 next c.args.speed actions ++ driven (c.args.seconds - 1) m c.args.speed [])) later
           ∙ ap (λ (ss : List TraceSecond). done ++ ss) (sym (driven-first c.args.seconds next c.args.speed actions c.requires.some))) rest.1,
@@ -61,3 +68,6 @@ returns-in_err-has_power-clause-booked g c = λ s b h told below. absurd (let no
 
 pub returns-in_err-has_power-clause-recorded : goal.returns-in_err-has_power-clause-recorded
 returns-in_err-has_power-clause-recorded g c = λ start s origin done r told below are. absurd (let no = (c.in_err-has_power.ensures.booked s r.book c.args.outcome.now.marks.items r.booked told).0 in cc)
+
+pub returns-clause-broke : goal.returns-clause-broke
+returns-clause-broke g c = broke-then (broke-then c.in_ok-has_power.ensures.broke c.turn.ensures.broke) c.drive_on.ensures.broke

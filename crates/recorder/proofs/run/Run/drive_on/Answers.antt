@@ -5,6 +5,7 @@ use Rattle.recorder.specs.Recorded.{Recorded}
 use Rattle.recorder.proofs.Recording.{plain-parts}
 use Rattle.recorder.specs.Turn.{HasRoom}
 use Rattle.recorder.proofs.Turning.{goes-then, goes-none}
+use Rattle.recorder.proofs.Broken.{broke-none, broke-then}
 use Rattle.recorder.proofs.run.Run.drive_on.Goals as goal
 
 pub loop-left-preserved : goal.loop-left-preserved
@@ -22,6 +23,7 @@ loop-left-preserved g c =
       room = λ more offs acts h. e.room (left - n + more) offs acts (subst (λ (m : ℕ). HasRoom c.loop-left.self c.loop-left.outcome m offs acts) (let is : left + more ≡ n + (left - n + more) = omega (arith, most) in is) (v.room more offs acts h));
       unfound = e.unfound;
       goes_on = goes-then v.goes_on e.goes_on;
+      broke = broke-then v.broke e.broke;
       finds = e.finds ∙ v.finds;
       few = omega (arith, v.few);
       recorded = λ start s origin done r told below.
@@ -29,7 +31,7 @@ loop-left-preserved g c =
           let was = v.recorded start s origin done r told (omega (arith, clock, below)) in
           let gone : ℕ = c.args.seconds - left in
           let here : c.loop-left.self.next ≡ c.args.self.now.next + gone = let at = v.next in let few = v.few in omega (arith, at, few) in
-          subst (λ (ss : List TraceSecond). Recorded start s origin ss c.step.new.self c.step.new.outcome.breaks.items c.step.new.outcome.marks.items (g.M.Medium.state c.step.new.unit))
+          subst (λ (ss : List TraceSecond). Recorded start s origin ss c.step.new.self c.step.new.outcome.breaks.items c.step.new.outcome.marks.items c.step.new.outcome.refused.items (g.M.Medium.state c.step.new.unit))
           (append_assoc done (driven gone c.args.self.now.next c.args.speed []) (driven n c.loop-left.self.next c.args.speed [])
           ∙ ap (λ (m : ℕ). done ++ (driven gone c.args.self.now.next c.args.speed [] ++ driven n m c.args.speed [])) here
           ∙ ap (λ (ss : List TraceSecond). done ++ ss) (sym (plain-parts gone n c.args.self.now.next c.args.speed))
@@ -48,7 +50,7 @@ returns-clause-room g c = λ more offs acts h.
 pub returns-clause-recorded : goal.returns-clause-recorded
 returns-clause-recorded g c = λ start s origin done r told below. (
   refl,
-  subst (λ (m : ℕ). Recorded start s origin (done ++ driven m c.args.self.now.next c.args.speed []) c.loop-left.self c.loop-left.outcome.breaks.items c.loop-left.outcome.marks.items (g.M.Medium.state c.loop-left.unit))
+  subst (λ (m : ℕ). Recorded start s origin (done ++ driven m c.args.self.now.next c.args.speed []) c.loop-left.self c.loop-left.outcome.breaks.items c.loop-left.outcome.marks.items c.loop-left.outcome.refused.items (g.M.Medium.state c.loop-left.unit))
       (let is : c.args.seconds - c.loop-left.left ≡ c.args.seconds = omega (arith, c.loop-left-test.false) in is)
       (c.loop-left.invariant.recorded start s origin done r told below),
 )
@@ -61,11 +63,12 @@ loop-left-init g c = record {
   room = λ left offs acts h. h;
   unfound = c.requires.unfound;
   goes_on = goes-none (g.M.Medium.state c.args.unit.now);
+  broke = broke-none c.args.outcome.now.breaks.items (omega arith);
   booked = λ s b h told below. (b, h);
   finds = refl;
   few = omega arith;
   recorded = λ start s origin done r told below.
-      subst (λ (ss : List TraceSecond). Recorded start s origin ss c.args.self.now c.args.outcome.now.breaks.items c.args.outcome.now.marks.items (g.M.Medium.state c.args.unit.now))
+      subst (λ (ss : List TraceSecond). Recorded start s origin ss c.args.self.now c.args.outcome.now.breaks.items c.args.outcome.now.marks.items c.args.outcome.now.refused.items (g.M.Medium.state c.args.unit.now))
       (sym (ap (λ (m : ℕ). done ++ driven m c.args.self.now.next c.args.speed []) (let none : c.args.seconds - c.args.seconds ≡ 0 = omega arith in none) ∙ append-nil done)) r;
 }
 
@@ -87,3 +90,6 @@ returns-in_err-step-clause-recorded g c = λ start s origin done r told below.
     let clock = e.goes_on.clock in
     let was = v.booked s r.book r.booked told (omega (arith, clock, below)) in
     absurd (let no = (e.booked s was.0 was.1 (v.goes_on.tells ∙ told) below).0 in cc)
+
+pub returns-in_err-step-clause-broke : goal.returns-in_err-step-clause-broke
+returns-in_err-step-clause-broke g c = broke-then c.loop-left.invariant.broke c.in_err-step.ensures.broke

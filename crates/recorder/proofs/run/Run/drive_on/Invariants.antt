@@ -3,9 +3,10 @@ use Rattle.trace_model.specs.Trace.{TraceSecond, driven}
 use Rattle.history_model.specs.Presence.{Start}
 use Rattle.tach_media.specs.Medium.{last_count}
 use Rattle.history_model.specs.Book.{Book}
-use Rattle.unit_rule.specs.Rule.{Started}
+use Rattle.recorder.specs.Standing.{Began}
 use Rattle.recorder.specs.Going.{IsGoing}
 use Rattle.recorder.specs.Turn.{HasRoom}
+use Rattle.recorder.specs.Broken.{BreaksDown}
 use Rattle.recorder.specs.Booked.{Booked, GoesOn}
 use Rattle.recorder.specs.Recorded.{Recorded}
 use Rattle.recorder.proofs.run.Run.drive_on.Given as goal
@@ -18,13 +19,14 @@ invariant-loop-left g l = record {
   room : (left offs acts : ℕ) → HasRoom l.fn.self l.fn.outcome (l.seconds + left) offs acts → HasRoom l.self l.outcome (l.left + left) offs acts;
   unfound : l.self.unfound ≤ length l.outcome.breaks.items;
   goes_on : GoesOn (g.M.Medium.state l.fn.unit) (g.M.Medium.state l.unit);
-  booked : (s : Started) (b : Book) → Booked s l.fn.self b l.fn.outcome.marks.items (g.M.Medium.state l.fn.unit) → is_some (g.M.Medium.state l.fn.unit).image ≡ true → (g.M.Medium.state l.unit).clock < last_count →
+  broke : BreaksDown l.fn.outcome.breaks.items l.outcome.breaks.items (g.M.Medium.state l.fn.unit) (g.M.Medium.state l.unit);
+  booked : (s : Began) (b : Book) → Booked s l.fn.self b l.fn.outcome.marks.items (g.M.Medium.state l.fn.unit) → is_some (g.M.Medium.state l.fn.unit).image ≡ true → (g.M.Medium.state l.unit).clock < last_count →
       (c : Book) × Booked s l.self c l.outcome.marks.items (g.M.Medium.state l.unit);
   finds : l.outcome.finds ≡ l.fn.outcome.finds;
   few : l.left ≤ l.seconds;
-  recorded : (start : Start) (s : Started) (origin : ℕ) (done : List TraceSecond) → Recorded start s origin done l.fn.self l.fn.outcome.breaks.items l.fn.outcome.marks.items (g.M.Medium.state l.fn.unit) →
+  recorded : (start : Start) (s : Began) (origin : ℕ) (done : List TraceSecond) → Recorded start s origin done l.fn.self l.fn.outcome.breaks.items l.fn.outcome.marks.items l.fn.outcome.refused.items (g.M.Medium.state l.fn.unit) →
       is_some (g.M.Medium.state l.fn.unit).image ≡ true → (g.M.Medium.state l.unit).clock < last_count →
-      Recorded start s origin (done ++ driven (l.seconds - l.left) l.fn.self.next l.speed []) l.self l.outcome.breaks.items l.outcome.marks.items (g.M.Medium.state l.unit);
+      Recorded start s origin (done ++ driven (l.seconds - l.left) l.fn.self.next l.speed []) l.self l.outcome.breaks.items l.outcome.marks.items l.outcome.refused.items (g.M.Medium.state l.unit);
 }
 
 abbrev pub decreases-loop-left : goal.decreases-loop-left

@@ -1,7 +1,7 @@
 use Rattle.std.proofs.Common.{rules, inl, inr, ◌≡◌, ℕ, ◌+◌, ◌-◌, ◌/◌, ◌<◌, ◌≤◌, true, List, [], ◌∷◌, ◌++◌, length, refl, ap, sym, subst, ◌∙◌, arith, length-append}
 use Rattle.minute_model.specs.declared.Minute.{Minute}
 use Rattle.minute_model.specs.Span.{ungiven_of, fed_many}
-use Rattle.unit_rule.specs.Marks.{Holds}
+use Rattle.recorder.specs.Standing.{all_travelled, Stands}
 use Rattle.recorder.specs.declared.run.Run.{Run}
 use Rattle.recorder.specs.declared.run.Power.{Power}
 use Rattle.recorder.specs.Going.{waiting}
@@ -9,8 +9,9 @@ use Rattle.recorder.specs.Power.{is_lit}
 use Rattle.minute_rules.specs.Kept.{StandsFor}
 use Rattle.log_model.specs.declared.lines.Break.{Break}
 use Rattle.recorder.specs.Lines.{Listed, cut_at}
-use Rattle.recorder.specs.Keeping.{AreDue, kept_after, AreFrom, due_after, kept_all, IsBrokenOff}
-use Rattle.recorder.proofs.Turning.{turn-decides, turn-end, turn-low, turn-room, turn-room_lit, turn-room_lost, turn-holds, turn-kept, turn-broken, break-lit, break-lost}
+use Rattle.recorder.specs.Keeping.{AreDue, kept_after, AreFrom, due_after, kept_all, IsBrokenOff, AreAllMarked}
+use Rattle.recorder.proofs.Turning.{turn-decides, turn-end, turn-low, turn-room, turn-room_lit, turn-room_lost, turn-stands, turn-kept, turn-broken, break-lit, break-lost}
+use Rattle.recorder.proofs.Broken.{broke-none, broke-once}
 use Rattle.recorder.proofs.run.Run.lit_turn.Goals as goal
 
 pub keep_all-requires-clause-due : goal.keep_all-requires-clause-due
@@ -60,15 +61,17 @@ returns-in-Ok-clause-booked g c = λ s b h below.
     let u = ungiven_of lit.span in
     let d = turn-decides c.args.self.now (g.M.Medium.state c.args.unit.now) c.requires.lit (c.requires.going.lit c.requires.lit) c.args.n c.args.speed c.feed-decided.result.items (c.feed-decided.ensures.given (c.requires.going.lit c.requires.lit).span (c.requires.going.lit c.requires.lit).stands) c.feed-decided.new.minutes (c.feed-decided.ensures.fed (c.requires.going.lit c.requires.lit).span (c.requires.going.lit c.requires.lit).stands) c.requires.small in
     let v = c.as_slice.ensures.value in
-    let said = c.in-Ok.ensures.marked s u b (turn-holds c.args.self.now (g.M.Medium.state c.args.unit.now) c.requires.lit (c.requires.going.lit c.requires.lit) c.args.n c.args.speed c.feed-decided.result.items (c.feed-decided.ensures.given (c.requires.going.lit c.requires.lit).span (c.requires.going.lit c.requires.lit).stands) c.feed-decided.new.minutes (c.feed-decided.ensures.fed (c.requires.going.lit c.requires.lit).span (c.requires.going.lit c.requires.lit).stands) c.requires.small s b c.args.outcome.now.marks.items h) (h.none c.requires.lit) (subst (AreFrom u) (sym v) d.from) below in
-    let booked = turn-kept c.args.self.now (g.M.Medium.state c.args.unit.now) c.requires.lit (c.requires.going.lit c.requires.lit) c.args.n c.args.speed c.feed-decided.result.items (c.feed-decided.ensures.given (c.requires.going.lit c.requires.lit).span (c.requires.going.lit c.requires.lit).stands) c.feed-decided.new.minutes (c.feed-decided.ensures.fed (c.requires.going.lit c.requires.lit).span (c.requires.going.lit c.requires.lit).stands) c.requires.small s b c.args.outcome.now.marks.items h c.pass.new.self c.keep_all.new.marks.items (g.M.Medium.state c.keep_all.new.unit) (ap (λ (r : Run). r.power) c.pass.ensures ∙ c.requires.lit) (ap (λ (r : Run). r.next) c.pass.ensures) (ap (λ (r : Run). r.minutes.owing) c.pass.ensures)
-    (subst (λ (ds : List Minute). Holds s (due_after u ds) (kept_all ds b) c.keep_all.new.marks.items (g.M.Medium.state c.keep_all.new.unit)) v said) in
+    let said = c.in-Ok.ensures.marked s u b h.travel (turn-stands c.args.self.now (g.M.Medium.state c.args.unit.now) c.requires.lit (c.requires.going.lit c.requires.lit) c.args.n c.args.speed c.feed-decided.result.items (c.feed-decided.ensures.given (c.requires.going.lit c.requires.lit).span (c.requires.going.lit c.requires.lit).stands) c.feed-decided.new.minutes (c.feed-decided.ensures.fed (c.requires.going.lit c.requires.lit).span (c.requires.going.lit c.requires.lit).stands) c.requires.small s b c.args.outcome.now.marks.items h) (h.none c.requires.lit) (h.odometer c.requires.lit) (subst (AreFrom u) (sym v) d.from) below in
+    let booked = turn-kept c.args.self.now (g.M.Medium.state c.args.unit.now) c.requires.lit (c.requires.going.lit c.requires.lit) c.args.n c.args.speed c.feed-decided.result.items (c.feed-decided.ensures.given (c.requires.going.lit c.requires.lit).span (c.requires.going.lit c.requires.lit).stands) c.feed-decided.new.minutes (c.feed-decided.ensures.fed (c.requires.going.lit c.requires.lit).span (c.requires.going.lit c.requires.lit).stands) c.requires.small s b c.args.outcome.now.marks.items h c.pass.new.self c.keep_all.new.marks.items (g.M.Medium.state c.keep_all.new.unit) (ap (λ (r : Run). r.power) c.pass.ensures ∙ c.requires.lit) (ap (λ (r : Run). r.next) c.pass.ensures) (ap (λ (r : Run). r.minutes.owing) c.pass.ensures) (ap (λ (r : Run). r.odometer) c.pass.ensures)
+    (subst (λ (ds : List Minute). Stands s (due_after u ds) (kept_all ds b) (all_travelled ds h.travel) c.keep_all.new.marks.items (g.M.Medium.state c.keep_all.new.unit)) v said) in
     inl (record {
       lit = ap is_lit c.requires.lit;
       next = ap (λ (r : Run). r.next) c.pass.ensures;
       unfound = ap (λ (r : Run). r.unfound) c.pass.ensures;
       items = c.feed-decided.result.items;
       decided = record { given = c.feed-decided.ensures.given };
+      stay = c.in-Ok.ensures.stay;
+      each = subst (λ (ds : List Minute). AreAllMarked ds c.keep_all.new.marks.items) v c.in-Ok.ensures.each;
       fed = λ span stands. subst (λ (r : Run). StandsFor r.minutes (fed_many span c.args.speed c.args.n)) (sym c.pass.ensures) (c.feed-decided.ensures.fed span stands);
       power = ap (λ (r : Run). r.power) c.pass.ensures ∙ c.requires.lit;
       begun_is = ap (λ (r : Run). r.begun) c.pass.ensures;
@@ -98,8 +101,8 @@ returns-in-Err-clause-booked g c = λ s b h below.
     let u = ungiven_of lit.span in
     let d = turn-decides c.args.self.now (g.M.Medium.state c.args.unit.now) c.requires.lit (c.requires.going.lit c.requires.lit) c.args.n c.args.speed c.feed-decided.result.items (c.feed-decided.ensures.given (c.requires.going.lit c.requires.lit).span (c.requires.going.lit c.requires.lit).stands) c.feed-decided.new.minutes (c.feed-decided.ensures.fed (c.requires.going.lit c.requires.lit).span (c.requires.going.lit c.requires.lit).stands) c.requires.small in
     let v = c.as_slice.ensures.value in
-    let said = c.in-Err.ensures.broken s u b (turn-holds c.args.self.now (g.M.Medium.state c.args.unit.now) c.requires.lit (c.requires.going.lit c.requires.lit) c.args.n c.args.speed c.feed-decided.result.items (c.feed-decided.ensures.given (c.requires.going.lit c.requires.lit).span (c.requires.going.lit c.requires.lit).stands) c.feed-decided.new.minutes (c.feed-decided.ensures.fed (c.requires.going.lit c.requires.lit).span (c.requires.going.lit c.requires.lit).stands) c.requires.small s b c.args.outcome.now.marks.items h) (h.none c.requires.lit) (subst (AreFrom u) (sym v) d.from) below in
-    let off = subst (λ (ds : List Minute). IsBrokenOff s b ds c.keep_all.new.marks.items (g.M.Medium.state c.keep_all.new.unit)) v said in
+    let said = c.in-Err.ensures.broken s u b h.travel (turn-stands c.args.self.now (g.M.Medium.state c.args.unit.now) c.requires.lit (c.requires.going.lit c.requires.lit) c.args.n c.args.speed c.feed-decided.result.items (c.feed-decided.ensures.given (c.requires.going.lit c.requires.lit).span (c.requires.going.lit c.requires.lit).stands) c.feed-decided.new.minutes (c.feed-decided.ensures.fed (c.requires.going.lit c.requires.lit).span (c.requires.going.lit c.requires.lit).stands) c.requires.small s b c.args.outcome.now.marks.items h) (h.none c.requires.lit) (h.odometer c.requires.lit) (subst (AreFrom u) (sym v) d.from) below in
+    let off = subst (λ (ds : List Minute). IsBrokenOff s b h.travel ds c.keep_all.new.marks.items (g.M.Medium.state c.keep_all.new.unit)) v said in
     let booked = turn-broken c.args.self.now (g.M.Medium.state c.args.unit.now) c.requires.lit (c.requires.going.lit c.requires.lit) c.args.n c.args.speed c.feed-decided.result.items (c.feed-decided.ensures.given (c.requires.going.lit c.requires.lit).span (c.requires.going.lit c.requires.lit).stands) c.feed-decided.new.minutes (c.feed-decided.ensures.fed (c.requires.going.lit c.requires.lit).span (c.requires.going.lit c.requires.lit).stands) c.requires.small s b c.args.outcome.now.marks.items h c.pass-in-Err.new.self c.keep_all.new.marks.items (g.M.Medium.state c.keep_all.new.unit)
     (ap (λ (r : Run). r.power) c.pass-in-Err.ensures ∙ ap (λ (r : Run). r.power) c.cut.ensures.power)
     (ap (λ (r : Run). r.next) c.pass-in-Err.ensures ∙ ap (λ (r : Run). r.next + c.args.n) c.cut.ensures.power)
@@ -115,7 +118,15 @@ returns-in-Err-clause-booked g c = λ s b h below.
       d = off.d;
       rest = off.rest;
       are = off.are;
+      stay = c.in-Err.ensures.stay;
       power = ap (λ (r : Run). r.power) c.pass-in-Err.ensures ∙ ap (λ (r : Run). r.power) c.cut.ensures.power;
       breaks = ap (λ (l : Listed Break). l.items) c.cut.ensures.breaks;
       booked = booked;
     })
+
+pub returns-in-Ok-clause-broke : goal.returns-in-Ok-clause-broke
+returns-in-Ok-clause-broke g c = broke-none c.args.outcome.now.breaks.items c.in-Ok.ensures.cause.breakdowns
+
+pub returns-in-Err-clause-broke : goal.returns-in-Err-clause-broke
+returns-in-Err-clause-broke g c =
+    broke-once _ _ (ap (λ (l : Listed Break). l.items) c.cut.ensures.breaks) (c.in-Err.ensures.cause.breaks (c.requires.going.lit c.requires.lit).works refl)

@@ -7,17 +7,16 @@ use Rattle.unit_journal.proofs.Loading.{not_decoded}
 use Rattle.log_model.specs.declared.lines.Mark.{Mark}
 use Rattle.history_model.specs.Book.{Book, all, found, IsMark}
 use Rattle.history_model.specs.Minutes.{HistoryMinute}
-use Rattle.unit_rule.specs.Rule.{Started}
-use Rattle.unit_rule.specs.Marks.{Holds}
+use Rattle.recorder.specs.Standing.{Began, Stands, resumed}
 use Rattle.joint_rule.specs.Views.{unit_view}
 use Rattle.unit_rule.proofs.Moves.{shown-last}
-use Rattle.unit_rule.proofs.Marking.{holds-read}
-use Rattle.unit_rule.proofs.Found.{found-holds, holds-later}
+use Rattle.recorder.proofs.Standing.{stands-read, stands-found, stands-later}
 use Rattle.recorder.specs.declared.run.Run.{Run}
 use Rattle.log_model.specs.declared.lines.Break.{Break}
 use Rattle.recorder.specs.Lines.{Listed}
 use Rattle.recorder.specs.Booked.{Booked, due_of}
 use Rattle.recorder.proofs.Turning.{lost-booked, left-decodes}
+use Rattle.recorder.proofs.Broken.{broke-none, broke-once, broke-then}
 use Rattle.recorder.proofs.run.Run.power_on.Goals as goal
 
 -- an image that is told
@@ -26,8 +25,8 @@ told-one o (Some x) same told = (x, refl)
 told-one o None same told = absurd (let no = same ∙ told in cc)
 
 -- up to the minute of the next second
-at-next : (s : Started) (run : Run) (b : Book) (marks : List Mark) (unit : State) → Booked s run b marks unit → Holds s (run.next / 60) b marks unit
-at-next s run b marks unit h = holds-later s (due_of run) (run.next / 60) b marks unit (omega arith) h.holds
+at-next : (s : Began) (run : Run) (b : Book) (marks : List Mark) (unit : State) → (h : Booked s run b marks unit) → Stands s (run.next / 60) b h.travel marks unit
+at-next s run b marks unit h = stands-later s (due_of run) (run.next / 60) b h.travel marks unit (omega arith) h.stands
 
 pub returns-in-Ok-clause-booked : goal.returns-in-Ok-clause-booked
 returns-in-Ok-clause-booked g c = λ s b marks h told.
@@ -36,17 +35,17 @@ returns-in-Ok-clause-booked g c = λ s b marks h told.
     let run = c.load.ensures.leaves in
     let image = told-one (g.M.Medium.state c.args.unit.now).image (g.M.Medium.state c.load.new.unit).image run.tells told in
     let loaded = c.in-Ok.ensures.loaded in
-    let last = (at_image (IsFoundBy c.in-Ok.journal) image.1 loaded.found).kept in
+    let seen = at_image (IsFoundBy c.in-Ok.journal) image.1 loaded.found in
+    let last = seen.kept in
     let h0 = at-next s c.args.self.now b marks (g.M.Medium.state c.args.unit.now) h in
-    let on = c.found.ensures.booked s (found c.in-Ok.journal.kept b) marks
-    (found-holds s (c.args.self.now.next / 60) b marks h0 before after run loaded.works image.0 image.1 c.in-Ok.journal.kept last)
-    refl (image.0, image.1, last) in
-    let shows = (h0.unit_holds [] []).now (unit_view [] [] image.0) (image.0, revived after run image.0 image.1, refl) in
+    let back = stands-found s (c.args.self.now.next / 60) b h.travel marks h0 before c.in-Ok.journal.kept image.0 after run loaded.works image.1 last in
+    let on = c.found.ensures.booked s (found c.in-Ok.journal.kept b) (resumed back.0 h.travel) marks back.2 refl (sym seen.odometer ∙ back.1) (image.0, image.1, last) in
+    let shows = (h0.holds.unit_holds [] []).now (unit_view [] [] image.0) (image.0, revived after run image.0 image.1, refl) in
     let is : (unit_view [] [] image.0).last ≡ c.in-Ok.journal.kept = shown-last [] [] image.0 ∙ last in (
       on.0,
       inr (record {
         kept = c.in-Ok.journal.kept;
-        mark = subst (IsMark s.first (all b)) is shows.mark;
+        mark = subst (IsMark s.opened.first (all b)) is shows.mark;
         sure = subst (λ (k : ℕ). All (λ (i : HistoryMinute). i.minute ≤ k) b.sure) is shows.sure;
         on = on.1;
       }),
@@ -57,7 +56,7 @@ returns-in-Err-BadUnit-clause-booked g c = λ s b marks h told.
     let run = c.load.ensures.leaves in
     let image = told-one (g.M.Medium.state c.args.unit.now).image (g.M.Medium.state c.load.new.unit).image run.tells told in
     let bad = rw c.in-Err-BadUnit.field-0-is at c.in-Err-BadUnit.ensures.bad in
-    absurd (not_decoded image.0 c.in-Err-BadUnit.place (at_image (λ x. first_bad_place x ≡ Some c.in-Err-BadUnit.place) image.1 bad) (left-decodes s (c.args.self.now.next / 60) b marks (at-next s c.args.self.now b marks (g.M.Medium.state c.args.unit.now) h) (g.met.M.Medium.coherent c.args.unit.now) (g.met.M.Medium.coherent c.load.new.unit) run image.0 image.1))
+    absurd (not_decoded image.0 c.in-Err-BadUnit.place (at_image (λ x. first_bad_place x ≡ Some c.in-Err-BadUnit.place) image.1 bad) (left-decodes s.opened (c.args.self.now.next / 60) b marks (at-next s c.args.self.now b marks (g.M.Medium.state c.args.unit.now) h).holds (g.met.M.Medium.coherent c.args.unit.now) (g.met.M.Medium.coherent c.load.new.unit) run image.0 image.1))
 
 pub returns-in-Err-Failed-clause-booked : goal.returns-in-Err-Failed-clause-booked
 returns-in-Err-Failed-clause-booked g c = λ s b marks h told.
@@ -66,7 +65,18 @@ returns-in-Err-Failed-clause-booked g c = λ s b marks h told.
       inl (record {
         run = c.cut.ensures.power;
         breaks = ap (λ (l : Listed Break). l.items) c.cut.ensures.breaks;
-        booked = lost-booked s c.cut.new.self b marks (g.M.Medium.state c.load.new.unit) c.args.self.now.next (ap (λ (r : Run). r.power) c.cut.ensures.power) (ap (λ (r : Run). r.next) c.cut.ensures.power)
-            (holds-read s (c.args.self.now.next / 60) b marks (at-next s c.args.self.now b marks (g.M.Medium.state c.args.unit.now) h) before c.load.ensures.leaves);
+        booked = lost-booked s c.cut.new.self b h.travel marks (g.M.Medium.state c.load.new.unit) c.args.self.now.next (ap (λ (r : Run). r.power) c.cut.ensures.power) (ap (λ (r : Run). r.next) c.cut.ensures.power)
+            (stands-read s (c.args.self.now.next / 60) b h.travel marks (at-next s c.args.self.now b marks (g.M.Medium.state c.args.unit.now) h) before c.load.ensures.leaves);
       }),
     )
+
+pub returns-in-Ok-clause-broke : goal.returns-in-Ok-clause-broke
+returns-in-Ok-clause-broke g c = broke-then (broke-none c.args.breaks.now.items c.load.ensures.breakdowns) c.found.ensures.broke
+
+pub returns-in-Err-BadUnit-clause-broke : goal.returns-in-Err-BadUnit-clause-broke
+returns-in-Err-BadUnit-clause-broke g c = broke-none c.args.breaks.now.items c.load.ensures.breakdowns
+
+pub returns-in-Err-Failed-clause-broke : goal.returns-in-Err-Failed-clause-broke
+returns-in-Err-Failed-clause-broke g c =
+    let rose = rw c.in-Err-Failed.field-0-is at c.in-Err-Failed.ensures.broke in
+    broke-once _ _ (ap (λ (l : Listed Break). l.items) c.cut.ensures.breaks) rose

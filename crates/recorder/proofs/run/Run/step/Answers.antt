@@ -1,15 +1,19 @@
-use Rattle.std.proofs.Common.{◌≡◌, ◌+◌, ◌<◌, List, [], refl, ap, sym, subst, ◌∙◌, arith}
+use Rattle.std.proofs.Common.{◌≡◌, ◌+◌, ◌<◌, List, [], ◌++◌, refl, ap, sym, subst, ◌∙◌, arith}
 use Rattle.std.specs.Prelude.{◌&&◌}
+use Rattle.std.proofs.lemmas.List.{append-nil}
 use Rattle.activity_codec.specs.declared.values.Slot.{Slot}
 use Rattle.activity_codec.specs.declared.values.Pick.{Pick}
 use Rattle.minute_rules.specs.Kept.{StandsFor}
 use Rattle.recorder.specs.Power.{is_lit, has_power}
 use Rattle.recorder.specs.Acting.{with_picks}
-use Rattle.recorder.proofs.Actions.{picks-none, with-none}
+use Rattle.log_model.specs.declared.lines.Refused.{Refused}
+use Rattle.recorder.specs.Lines.{Listed}
+use Rattle.recorder.proofs.Actions.{picks-none, with-none, refused-none}
 use Rattle.recorder.proofs.Recording.{stepped}
 use Rattle.recorder.proofs.Courses.{none-last}
 use Rattle.recorder.proofs.Beginning.{begun-room}
 use Rattle.recorder.proofs.Stepping.{begun-book, turn-book}
+use Rattle.recorder.proofs.Broken.{broke-then}
 use Rattle.recorder.proofs.run.Run.step.Goals as goal
 
 pub turn-requires-clause-room : goal.turn-requires-clause-room
@@ -25,15 +29,18 @@ returns-clause-booked g c = λ s b h told below.
     let begun = (c.in_ok-begin_second.ensures.booked s b c.args.outcome.now.marks.items h told).1 in
     let on = begun-book s c.args.self.now c.begin_second.new.self c.args.outcome.now.breaks.items c.begin_second.new.breaks.items b c.args.outcome.now.marks.items (g.M.Medium.state c.begin_second.new.unit) begun in (
       refl,
-      turn-book s c.begin_second.new.self c.turn.new.self c.begin_second.new.breaks.items c.turn.new.outcome.breaks.items c.args.n c.args.speed 0 on.0 c.turn.new.outcome.marks.items (g.M.Medium.state c.turn.new.unit) (c.turn.ensures.booked s on.0 on.1 below),
+      turn-book s c.begin_second.new.self c.turn.new.self c.begin_second.new.breaks.items c.turn.new.outcome.breaks.items c.args.n c.args.speed 0 on.0 c.args.outcome.now.marks.items c.turn.new.outcome.marks.items (g.M.Medium.state c.turn.new.unit) (c.turn.ensures.booked s on.0 on.1 below),
     )
 
 pub returns-clause-recorded : goal.returns-clause-recorded
 returns-clause-recorded g c = λ start s origin done r told below.
     let begins = (c.in_ok-begin_second.ensures.booked s r.book c.args.outcome.now.marks.items r.booked told).1 in (
       refl,
-      stepped start s origin done c.args.n c.args.speed [] 0 c.requires.some tt c.args.self.now c.begin_second.new.self c.begin_second.new.self c.turn.new.self c.args.outcome.now.breaks.items c.begin_second.new.breaks.items c.turn.new.outcome.breaks.items c.args.outcome.now.marks.items c.turn.new.outcome.marks.items
-          (g.M.Medium.state c.args.unit.now) (g.M.Medium.state c.begin_second.new.unit) (g.M.Medium.state c.turn.new.unit) r (none-last c.args.n) c.requires.minute begins refl
+      stepped start s origin done c.args.n c.args.speed [] 0 c.requires.some tt c.args.self.now c.begin_second.new.self c.begin_second.new.self c.turn.new.self c.args.outcome.now.breaks.items c.begin_second.new.breaks.items c.turn.new.outcome.breaks.items c.args.outcome.now.marks.items c.turn.new.outcome.marks.items c.args.outcome.now.refused.items c.turn.new.outcome.refused.items
+          (g.M.Medium.state c.args.unit.now) (g.M.Medium.state c.begin_second.new.unit) (g.M.Medium.state c.turn.new.unit) r (none-last c.args.n) c.requires.minute
+          (ap (λ (l : Listed Refused). l.items) c.turn.ensures.refused
+          ∙ sym (ap (λ (l : List Refused). c.args.outcome.now.refused.items ++ l) (refused-none (has_power c.args.self.now.power c.args.self.now.next) c.args.self.now.next) ∙ append-nil c.args.outcome.now.refused.items))
+          begins refl
           (λ span stands. subst (StandsFor c.begin_second.new.self.minutes) (sym (ap (λ (ps : List (Slot × Pick)). with_picks ps span) (picks-none (has_power c.args.self.now.power c.args.self.now.next && is_lit c.begin_second.new.self.power)) ∙ with-none span)) stands)
           (λ b k. c.turn.ensures.booked s b k below),
     )
@@ -43,3 +50,6 @@ returns-in_err-begin_second-clause-booked g c = λ s b h told below. absurd (let
 
 pub returns-in_err-begin_second-clause-recorded : goal.returns-in_err-begin_second-clause-recorded
 returns-in_err-begin_second-clause-recorded g c = λ start s origin done r told below. absurd (let no = (c.in_err-begin_second.ensures.booked s r.book c.args.outcome.now.marks.items r.booked told).0 in cc)
+
+pub returns-clause-broke : goal.returns-clause-broke
+returns-clause-broke g c = broke-then c.in_ok-begin_second.ensures.broke c.turn.ensures.broke

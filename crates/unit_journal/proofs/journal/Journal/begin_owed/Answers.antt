@@ -2,7 +2,10 @@ use Rattle.std.proofs.Common.{◌≡◌, Some, None, IfSome, OnOk, option_map, s
 use Rattle.tacho_types.specs.CardNumber.{card_number_bytes}
 use Rattle.tach_media.specs.Medium.{LeavesOnly}
 use Rattle.tach_media.proofs.Runs.{on_ok, ok_gives}
-use Rattle.owed_model.specs.Rows.{HasRow, IsRowBegun, IsRowBeginning}
+use Rattle.std.specs.Prelude.{is_err}
+use Rattle.write_plan.specs.Plan.{PutsBy}
+use Rattle.owed_model.specs.Owed.{rows_in}
+use Rattle.owed_model.specs.Rows.{beginning, HasRow, IsRowBegun, IsRowBeginning}
 use Rattle.unit_journal.specs.Image.{Agrees}
 use Rattle.unit_journal.proofs.OwedBeside.{still_agrees, told_after, begun_there, as_both}
 use Rattle.unit_journal.proofs.journal.Journal.begin_owed.Goals as goal
@@ -66,3 +69,17 @@ returns-clause-row g c =
     as_both (λ n s. OnOk c.begin_owed-2.result (IfSome old (λ x. IfSome new (IsRowBegun n c.args.session s x)))) c.write_card_number.ensures.bytes other c.begin_owed-2.ensures.begun in
     on_ok c.begin_owed-2.result (λ fine. told_after old new (Agrees c.args.self.now) (IsRowBegun number c.args.session spared) (HasRow number) c.begin_owed-2.ensures.moments.tells c.requires.agrees (ok_gives c.begin_owed-2.result begun fine)
     (λ x y agrees is. begun_there number c.args.session spared x y is))
+
+pub returns-in-None-clause-puts : goal.returns-in-None-clause-puts
+returns-in-None-clause-puts g c =
+    let old = g.M.Medium.state c.args.unit.now in
+    let new = g.M.Medium.state c.begin_owed.new.unit in
+    let other : None ≡ option_map (λ s. card_number_bytes s.now) c.args.spared = sym (λ i. option_map (λ s. card_number_bytes s.now) (c.in-None.is i)) in
+    as_both (λ n s. PutsBy old new (is_err c.begin_owed.result) 7 7 (λ x. beginning n c.args.session s (rows_in x))) c.write_card_number.ensures.bytes other c.begin_owed.ensures.puts
+
+pub returns-clause-puts : goal.returns-clause-puts
+returns-clause-puts g c =
+    let old = g.M.Medium.state c.args.unit.now in
+    let new = g.M.Medium.state c.begin_owed-2.new.unit in
+    let other : Some c.write_card_number-2.new.out ≡ option_map (λ s. card_number_bytes s.now) c.args.spared = (λ i. Some (c.write_card_number-2.ensures.bytes i)) ∙ sym (λ i. option_map (λ s. card_number_bytes s.now) (c.in-Some.is i)) in
+    as_both (λ n s. PutsBy old new (is_err c.begin_owed-2.result) 7 7 (λ x. beginning n c.args.session s (rows_in x))) c.write_card_number.ensures.bytes other c.begin_owed-2.ensures.puts

@@ -14,7 +14,7 @@ returns-then-nth-self-clause-day g c =
     let j = c.args.self.now in
     let n = c.args.nth in
     let image = (g.M.Medium.state c.args.unit.now).image in
-    let count_is : c.self.inside.day_count ≡ j.day_count = ap (λ (s : Notes). s.day_count) c.self.view_is in
+    let count_is : c.self.inside.notes.day_count ≡ j.day_count = ap (λ (s : Notes). s.day_count) c.self.view_is in
     let last : j.day_count - 1 ≡ n = omega (arith, c.if-nth-self.true, count_is) in
     IfOk-weaker c.last_day.result
     (λ day. IfSome image (λ x. AreRight j x → IsRecordedDay x (j.day_count - 1) j.index day))

@@ -7,7 +7,7 @@ use Rattle.unit_journal.proofs.journal.Journal.find.Goals as goal
 pub returns-then-self-eq0-clause-found : goal.returns-then-self-eq0-clause-found
 returns-then-self-eq0-clause-found g c =
     let j = c.args.self.now in
-    let count_is : c.self.inside.day_count ≡ j.day_count = ap (λ (n : Notes). n.day_count) c.self.view_is in
+    let count_is : c.self.inside.notes.day_count ≡ j.day_count = ap (λ (n : Notes). n.day_count) c.self.view_is in
     told_all (g.M.Medium.state c.args.unit.now).image _ (λ x is right.
     no_such_date j x c.args.date.0 (shown j c.last_date-last_date.ensures.shape x right) (λ n less. absurd (omega (arith, less, count_is, c.if-self-eq0.true))))
 

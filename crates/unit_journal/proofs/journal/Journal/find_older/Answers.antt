@@ -13,7 +13,7 @@ pub returns-clause-found : goal.returns-clause-found
 returns-clause-found g c =
     let j = c.args.self.now in
     let notes : IsNotes j = subst IsNotes c.self.view_is c.self.invariant.notes in
-    let count_is : c.self.inside.day_count ≡ j.day_count = ap (λ (n : Notes). n.day_count) c.self.view_is in
+    let count_is : c.self.inside.notes.day_count ≡ j.day_count = ap (λ (n : Notes). n.day_count) c.self.view_is in
     one_told (g.M.Medium.state c.args.unit.now).image _ c.loop-nth.invariant.none (λ x none right.
     no_older_date j x c.args.date (shown j notes x right) c.requires.other (λ n less. none n (omega (arith, less, count_is))))
 

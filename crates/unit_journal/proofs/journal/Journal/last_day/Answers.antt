@@ -11,7 +11,7 @@ pub returns-clause-day : goal.returns-clause-day
 returns-clause-day g c =
     let j = c.args.self.now in
     let some = c.requires.some in
-    let count_is : c.self.inside.count ≡ j.count = ap (λ (n : Notes). n.count) c.self.view_is in
+    let count_is : c.self.inside.notes.count ≡ j.count = ap (λ (n : Notes). n.count) c.self.view_is in
     let place_is : c.slot_place-place.result ≡ slot_place j.index = c.slot_place-place.ensures ∙ ap (λ (n : Notes). slot_place n.index) c.self.view_is in
     one_told (g.M.Medium.state c.args.unit.now).image _ c.in_ok-odometer.ensures.value (λ x odometer right.
     let s = shown j c.last_date-date.ensures.shape x right in

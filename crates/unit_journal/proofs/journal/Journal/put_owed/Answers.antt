@@ -1,7 +1,10 @@
 use Rattle.std.proofs.Common.{ℕ, List, IfSome, OnOk, ◌∙◌, subst}
 use Rattle.tacho_types.specs.CardNumber.{card_number_bytes}
 use Rattle.tach_media.proofs.Runs.{on_ok, ok_gives}
-use Rattle.owed_model.specs.Rows.{HasRow, IsPut}
+use Rattle.std.specs.Prelude.{is_err}
+use Rattle.write_plan.specs.Plan.{PutsBy}
+use Rattle.owed_model.specs.Owed.{rows_in}
+use Rattle.owed_model.specs.Rows.{entry_word, putting, HasRow, IsPut}
 use Rattle.unit_journal.proofs.OwedBeside.{still_agrees, told_after}
 use Rattle.unit_journal.proofs.journal.Journal.put_owed.Goals as goal
 
@@ -21,3 +24,8 @@ returns-clause-row g c =
     told_after old new (HasRow number) (IsPut number c.args.entry.now) (HasRow number) c.put_owed.ensures.moments.tells c.requires.row
     (ok_gives c.put_owed.result (subst (λ (n : List ℕ). OnOk c.put_owed.result (IfSome old (λ x. IfSome new (IsPut n c.args.entry.now x)))) c.write_card_number.ensures.bytes c.put_owed.ensures.put) fine)
     (λ x y has is. (has.0, is.putting.indices number ∙ has.1)))
+
+pub returns-clause-puts : goal.returns-clause-puts
+returns-clause-puts g c =
+    let e = c.args.entry.now in
+    subst (λ (n : List ℕ). PutsBy (g.M.Medium.state c.args.unit.now) (g.M.Medium.state c.put_owed.new.unit) (is_err c.put_owed.result) 0 3 (λ x. putting n e.minute (entry_word e) (rows_in x))) c.write_card_number.ensures.bytes c.put_owed.ensures.puts

@@ -8,14 +8,14 @@ use Rattle.unit_journal.proofs.journal.Journal.write_mends.Goals as goal
 
 pub returns-in_err-shut_day-clause-moments : goal.returns-in_err-shut_day-clause-moments
 returns-in_err-shut_day-clause-moments g c =
-    let k = c.self.inside.kept in
+    let k = c.self.inside.notes.kept in
     subst (λ (r : Notes). LeavesOnly (g.M.Medium.state c.args.unit.now) (g.M.Medium.state c.shut_day.new.unit) (IsMendStep r)) c.self.view_is
     (goes_by (cells_emptied k 32) (weaken c.empty_cells.ensures.moments (λ x d was s. inl s)) c.in_ok-empty_cells.ensures.emptied c.shut_day.ensures.moments (λ x d was s. inr (inl s)))
 
 pub returns-clause-moments : goal.returns-clause-moments
 returns-clause-moments g c =
-    let k = c.self.inside.kept in
-    let stray = c.self.inside.stray in
+    let k = c.self.inside.notes.kept in
+    let stray = c.self.inside.notes.stray in
     let some : 0 < k = omega (arith, c.if-kept-eq0.false) in
     let old = g.M.Medium.state c.args.unit.now in
     subst (λ (r : Notes). LeavesOnly old (g.M.Medium.state c.cut_count.new.unit) (IsMendStep r)) c.self.view_is
@@ -35,14 +35,14 @@ returns-clause-settled g c =
 
 pub returns-then-kept-eq0-clause-moments : goal.returns-then-kept-eq0-clause-moments
 returns-then-kept-eq0-clause-moments g c =
-    let k = c.self.inside.kept in
+    let k = c.self.inside.notes.kept in
     subst (λ (r : Notes). LeavesOnly (g.M.Medium.state c.args.unit.now) (g.M.Medium.state c.shut_day.new.unit) (IsMendStep r)) c.self.view_is
     (goes_by (cells_emptied k 32) (weaken c.empty_cells.ensures.moments (λ x d was s. inl s)) c.in_ok-empty_cells.ensures.emptied c.shut_day.ensures.moments (λ x d was s. inr (inl s)))
 
 pub returns-in_err-cut_count-clause-moments : goal.returns-in_err-cut_count-clause-moments
 returns-in_err-cut_count-clause-moments g c =
-    let k = c.self.inside.kept in
-    let stray = c.self.inside.stray in
+    let k = c.self.inside.notes.kept in
+    let stray = c.self.inside.notes.stray in
     let some : 0 < k = omega (arith, c.if-kept-eq0.false) in
     let old = g.M.Medium.state c.args.unit.now in
     subst (λ (r : Notes). LeavesOnly old (g.M.Medium.state c.cut_count.new.unit) (IsMendStep r)) c.self.view_is

@@ -1,0 +1,30 @@
+use Rattle.std.proofs.Common.{rules, ◌≡◌, ◌≤◌, length, List, ℕ, sym, ◌∙◌, ap, subst, refl, arith}
+use Rattle.tach_media.specs.Medium.{LeavesOnly}
+use Rattle.gated_ring.specs.Ring.{Shape}
+use Rattle.byte_fields.specs.Fields.{total_width}
+use Rattle.side_model.specs.Tables.{table_of, widths_of}
+use Rattle.unit_notes.specs.Tables.{with_similar}
+use Rattle.unit_notes.proofs.Types.{entry_wide, ring_fits, ring_index, ring_gate, ring_width, entry_place_writable, ring_opens}
+use Rattle.unit_notes.proofs.noting.put_entry.Goals as goal
+
+pub put_at-requires-clause-fits : goal.put_at-requires-clause-fits
+put_at-requires-clause-fits g c = ring_fits c.args.kind c.table_of.result c.table_of.ensures _ c.requires.unit.sized
+
+pub put_at-requires-clause-index : goal.put_at-requires-clause-index
+put_at-requires-clause-index g c = ring_index c.args.kind c.table_of.result c.table_of.ensures c.args.place c.requires.place
+
+pub put_at-requires-clause-writable : goal.put_at-requires-clause-writable
+put_at-requires-clause-writable g c =
+    let wide : length c.deref.result.now ≡ total_width (widths_of c.args.kind) = ap length (c.deref.ensures.0 ∙ c.entry_of-entry.ensures) ∙ entry_wide c.args.kind c.args.similar c.args.front.now c.requires.front in
+    entry_place_writable c.args.kind c.table_of.result c.table_of.ensures _ c.args.place _ c.requires.place (omega (arith, wide)) c.requires.unit.writable
+
+pub put_at-requires-clause-gate : goal.put_at-requires-clause-gate
+put_at-requires-clause-gate g c = ring_gate c.args.kind c.table_of.result c.table_of.ensures _ (ap length (c.deref.ensures.0 ∙ c.entry_of-entry.ensures) ∙ entry_wide c.args.kind c.args.similar c.args.front.now c.requires.front)
+
+pub put_at-requires-clause-width : goal.put_at-requires-clause-width
+put_at-requires-clause-width g c =
+    let wide : length c.deref.result.now ≡ total_width (widths_of c.args.kind) = ap length (c.deref.ensures.0 ∙ c.entry_of-entry.ensures) ∙ entry_wide c.args.kind c.args.similar c.args.front.now c.requires.front in
+    ring_width c.args.kind c.table_of.result c.table_of.ensures _ (omega (arith, wide))
+
+pub put_at-requires-clause-open : goal.put_at-requires-clause-open
+put_at-requires-clause-open g c = ring_opens c.args.kind c.table_of.result c.table_of.ensures c.args.similar c.args.front.now c.deref.result.now c.requires.front (c.deref.ensures.0 ∙ c.entry_of-entry.ensures) c.requires.begin
