@@ -87,7 +87,7 @@ off_cuts failed (t ∷ next ∷ told) =
 
 -- a count of breakdowns rose by so many, or stands at its last value
 abbrev pub RoseBy : ℕ → ℕ → ℕ → Type 0
-RoseBy n before now = (before + n ≤ now) ⊎ (now ≡ 2 ^ 64 - 1)
+RoseBy n before now = (before + n ≤ now) ⊎ (2 ^ 64 - 1 ≤ now)
 
 -- a break begins no more actions than its second has; all of them in the keeping, and at an `off` line
 abbrev pub IsBegun : List TraceSecond → Break → Type 0
