@@ -1,4 +1,5 @@
 ghost use Rattle.std.specs.Prelude.{◌≡◌, ◌≤◌, ◌<◌, ◌+◌, ◌%◌, ◌==◌, ◌&&◌, ◌↔◌, [], fold, is_some, length, nat_lt, nat_le, true, IfOk, IfSome, is_err, option_map};
+ghost use Rattle.unit_model.specs.declared.layout.TheConstants.{OWED};
 ghost use Rattle.std.specs.List.{prefix_len, range_with_len};
 ghost use Rattle.gated_ring.specs.Ring.{number_at};
 ghost use Rattle.tach_media.specs.Medium.{Reads};
@@ -82,7 +83,7 @@ fn word_in(rows: &[u8], place: u32) -> u32
 
 // What is owed of the cells of a row.
 fn owed_cells(rows: &[u8], row: u32, session: u32, after: u32, kept: u32) -> Owed
-    requires sized { length rows.now ≡ 384 }
+    requires sized { length rows.now ≡ OWED.size }
     requires row { row < 8 }
     ensures items { result.items ≡ fold (λ es i. with_owed session after kept es i (cell_in rows.now row i)) [] (range_with_len 0 4) }
     ensures sane { IsSane after kept result.items }
@@ -99,7 +100,7 @@ fn owed_cells(rows: &[u8], row: u32, session: u32, after: u32, kept: u32) -> Owe
 
 // What is owed of a row.
 fn owed_in(rows: &[u8], row: Option<u32>, session: u32, after: u32, kept: u32) -> Owed
-    requires sized { length rows.now ≡ 384 }
+    requires sized { length rows.now ≡ OWED.size }
     requires row { IfSome row (λ r. r < 8) }
     ensures items { result.items ≡ owed_of session after kept (option_map (row_in rows.now) row) }
     ensures sane { IsSane after kept result.items }

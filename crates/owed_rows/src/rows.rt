@@ -1,5 +1,6 @@
 //! The bytes of all rows, read in one read, and what stands in them.
 ghost use Rattle.std.specs.Prelude.{◌≡◌, ◌≤◌, ◌<◌, ◌+◌, ◌*◌, ◌==◌, length, IfOk, IfSome, is_err, not, ◌&&◌, nat_eq, option_map};
+ghost use Rattle.unit_model.specs.declared.layout.TheConstants.{OWED};
 ghost use Rattle.std.specs.Cmp.Lexicographic.{pointwise};
 ghost use Rattle.tach_media.specs.Medium.{Reads};
 ghost use Rattle.gated_ring.specs.Ring.{number_at};
@@ -36,7 +37,7 @@ pub fn number_at(rows: &[u8], place: u32, len: u32) -> u32
 
 /// The session time of a row.
 pub fn session_in(rows: &[u8], row: u32) -> u32
-    requires sized { length rows.now ≡ 384 }
+    requires sized { length rows.now ≡ OWED.size }
     requires row { row < 8 }
     ensures session { result ≡ session_in rows.now row }
 {
@@ -45,7 +46,7 @@ pub fn session_in(rows: &[u8], row: u32) -> u32
 
 // Whether a row is that of a number.
 fn is_row_of(rows: &[u8], row: u32, number: &[u8]) -> bool
-    requires sized { length rows.now ≡ 384 }
+    requires sized { length rows.now ≡ OWED.size }
     requires row { row < 8 }
     ensures { result ≡ is_row_of number.now rows.now row }
 {
@@ -68,7 +69,7 @@ fn or_this(found: Option<u32>, row: u32, is: bool) -> Option<u32>
 
 /// The lowest row of a number.
 pub fn row_index(rows: &[u8], number: &[u8]) -> Option<u32>
-    requires sized { length rows.now ≡ 384 }
+    requires sized { length rows.now ≡ OWED.size }
     ensures row { result ≡ row_index number.now rows.now }
     ensures below { IfSome result (λ r. r < 8) }
 {
@@ -81,7 +82,7 @@ pub fn row_index(rows: &[u8], number: &[u8]) -> Option<u32>
 
 // The lowest empty row.
 fn empty_index(rows: &[u8]) -> Option<u32>
-    requires sized { length rows.now ≡ 384 }
+    requires sized { length rows.now ≡ OWED.size }
     ensures row { result ≡ empty_index rows.now }
     ensures below { IfSome result (λ r. r < 8) }
 {
@@ -94,7 +95,7 @@ fn empty_index(rows: &[u8]) -> Option<u32>
 
 // Of a row and the best one before it the one with the lesser session time; the spared one doesn't count.
 fn lesser(rows: &[u8], spared: Option<u32>, best: Option<u32>, row: u32) -> Option<u32>
-    requires sized { length rows.now ≡ 384 }
+    requires sized { length rows.now ≡ OWED.size }
     requires row { row < 8 }
     requires best { IfSome best (λ r. r < 8) }
     ensures row { result ≡ lesser rows.now spared best row }
@@ -126,7 +127,7 @@ fn is_this_row(spared: Option<u32>, row: u32) -> bool
 
 // Of the rows but the spared one the first that has the least session time.
 fn least(rows: &[u8], spared: Option<u32>) -> Option<u32>
-    requires sized { length rows.now ≡ 384 }
+    requires sized { length rows.now ≡ OWED.size }
     ensures row { result ≡ least rows.now spared }
     ensures below { IfSome result (λ r. r < 8) }
 {
@@ -139,7 +140,7 @@ fn least(rows: &[u8], spared: Option<u32>) -> Option<u32>
 
 // The row of a number that is spared.
 fn spared_index(rows: &[u8], spared: Option<&[u8]>) -> Option<u32>
-    requires sized { length rows.now ≡ 384 }
+    requires sized { length rows.now ≡ OWED.size }
     ensures row { result ≡ spared_index (option_map (λ s. s.now) spared.entry) rows.now }
 {
     match spared {
@@ -151,7 +152,7 @@ fn spared_index(rows: &[u8], spared: Option<&[u8]>) -> Option<u32>
 /// The row that is begun for a number: its own, else the lowest empty one, else the one with the least session time, but not
 /// the row of the number that is spared.
 pub fn begun_index(rows: &[u8], number: &[u8], spared: Option<&[u8]>) -> Option<u32>
-    requires sized { length rows.now ≡ 384 }
+    requires sized { length rows.now ≡ OWED.size }
     ensures row { result ≡ begun_index number.now (option_map (λ s. s.now) spared.entry) rows.now }
     ensures below { IfSome result (λ r. r < 8) }
 {

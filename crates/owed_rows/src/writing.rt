@@ -1,4 +1,5 @@
 ghost use Rattle.std.specs.Prelude.{◌≡◌, ◌≢◌, ◌≤◌, ◌<◌, ◌+◌, length, min, IfOk, OnOk, IfSome, is_err, option_map};
+ghost use Rattle.unit_model.specs.declared.layout.TheConstants.{IMAGE_SIZE};
 ghost use Rattle.std.specs.Option.{ForSome};
 ghost use Rattle.tach_media.specs.Medium.{LeavesOnly, HasCause, StaysSettled, IsSettled, last_count};
 ghost use Rattle.write_plan.specs.Plan.{PutsBy, more, none};
@@ -32,7 +33,7 @@ fn entry_word(entry: &Entry) -> u16
 // The writes that put an entry into a row: the minute of its cell to 0, the word, the minute.
 fn putting(row: Option<u32>, minute: u32, word: u16) -> Plan<3, 4>
     requires row { IfSome row (λ r. r < 8) }
-    ensures plan { result ≡ more (none 0 2485808) (pieces_into minute word row) }
+    ensures plan { result ≡ more (none 0 IMAGE_SIZE) (pieces_into minute word row) }
 {
     let mut plan = Plan::new(0, IMAGE_SIZE);
     if let Some(row) = row {
@@ -48,7 +49,7 @@ fn putting(row: Option<u32>, minute: u32, word: u16) -> Plan<3, 4>
 fn beginning(row: Option<u32>, number: &[u8], session: u32) -> Plan<7, 18>
     requires row { IfSome row (λ r. r < 8) }
     requires number { length number.now ≡ 18 }
-    ensures plan { result ≡ more (none 0 2485808) (pieces_at number.now session row) }
+    ensures plan { result ≡ more (none 0 IMAGE_SIZE) (pieces_at number.now session row) }
 {
     let mut plan = Plan::new(0, IMAGE_SIZE);
     if let Some(row) = row {

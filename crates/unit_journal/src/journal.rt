@@ -1,4 +1,5 @@
 ghost use Rattle.std.specs.Prelude.{IfErr, Some, None, ◌≡◌, ◌≤◌, ◌<◌, ◌+◌, ◌*◌, ◌-◌, ◌/◌, ◌%◌, min, length, IfOk, OnOk, OnErr, IfSome, is_err, option_map, true};
+ghost use Rattle.unit_model.specs.declared.layout.TheConstants.{DAY_SLOTS, HIGHEST_ODOMETER, IMAGE_SIZE, LAST_MINUTE};
 ghost use Rattle.tach_media.specs.Medium.{LeavesOnly, Reads, HasCause, IsSettled, last_count, StaysSettled};
 ghost use Rattle.unit_model.specs.Image.{day_ring};
 ghost use Rattle.unit_journal.specs.Image.{IsNotes, Agrees, notes_on, notes_begun, notes_after, IsKeeping, IsKept};
@@ -60,7 +61,7 @@ impl Journal {
     ///
     /// `Failed` where the medium failed, and `BadUnit` with the place of the first field, in order of places, that fails.
     pub fn load<M: Medium>(unit: &mut M) -> Result<Journal, UnitFault>
-        requires unit { (M.state unit.old).size ≡ 2485808 }
+        requires unit { (M.state unit.old).size ≡ IMAGE_SIZE }
         ensures found { IfOk result (λ journal. IfSome (M.state unit.old).image (IsFoundBy journal)) }
         ensures decodes { OnOk result (IfSome (M.state unit.old).image Decodes) }
         ensures bad { IfErr result (λ fault. IfBadUnit fault (λ p. IfSome (M.state unit.old).image (λ x. first_bad_place x ≡ Some p))) }
@@ -79,9 +80,9 @@ impl Journal {
     // Reads the journal of a unit that was judged.
     fn read<M: Medium>(unit: &mut M, judged: Judged) -> Result<Journal, UnitFault>
         requires works { (M.state unit.old).works ≡ true }
-        requires unit { (M.state unit.old).size ≡ 2485808 }
+        requires unit { (M.state unit.old).size ≡ IMAGE_SIZE }
         requires good { judged.bad ≡ None }
-        requires few { judged.walk.there ≤ 366 }
+        requires few { judged.walk.there ≤ DAY_SLOTS }
         requires judged { IfSome (M.state unit.old).image (IsJudged judged) }
         ensures found { IfOk result (λ journal. IfSome (M.state unit.old).image (IsFoundBy journal)) }
         ensures bad { IfErr result (λ fault. IfBadUnit fault (λ p. IfSome (M.state unit.old).image (λ x. ⊥))) }
@@ -112,7 +113,7 @@ impl Journal {
     /// The last-kept minute, 0 for none.
     pub fn last_kept(&self) -> u32
         ensures kept { result ≡ self.now.kept }
-        ensures few { result ≤ 71582788 }
+        ensures few { result ≤ LAST_MINUTE }
         ensures shape { IsNotes self.now }
     {
         self.notes.kept
@@ -121,7 +122,7 @@ impl Journal {
     /// The stored odometer, in kilometres.
     pub fn odometer(&self) -> Odometer
         ensures odometer { result.0 ≡ self.now.odometer }
-        ensures few { result.0 ≤ 9999999 }
+        ensures few { result.0 ≤ HIGHEST_ODOMETER }
     {
         Odometer(self.notes.odometer)
     }
@@ -138,10 +139,10 @@ impl Journal {
         requires unit { IsUnit (M.state unit.old) }
         requires same { minute / 1440 ≡ self.old.kept / 1440 }
         requires later { self.old.kept < minute }
-        requires small { minute ≤ 71582788 }
+        requires small { minute ≤ LAST_MINUTE }
         requires driver { driver < 16 }
         requires codriver { codriver < 16 }
-        requires odometer { odometer ≤ 9999999 }
+        requires odometer { odometer ≤ HIGHEST_ODOMETER }
         ensures notes { OnOk result (self.new ≡ notes_on self.old minute driver codriver odometer) }
         ensures same { OnErr result (self.new ≡ self.old) }
         ensures shape { IsNotes self.old }
@@ -170,8 +171,8 @@ impl Journal {
 
     // The writes before a new day: the odometer, and what closes the day of the last-kept minute where it isn't at its end.
     fn turning(&self, odometer: u32) -> Writing
-        requires { odometer ≤ 9999999 }
-        ensures plan { result ≡ more (none 0 2485808) (turning self.now odometer) }
+        requires { odometer ≤ HIGHEST_ODOMETER }
+        ensures plan { result ≡ more (none 0 IMAGE_SIZE) (turning self.now odometer) }
         ensures length { length result.pieces ≤ 4 }
         ensures shape { IsNotes self.now }
     {
@@ -209,13 +210,13 @@ impl Journal {
         odometer: u32,
     ) -> Result<(), Failed>
         requires unit { IsUnit (M.state unit.old) }
-        requires known { IfSome (M.state unit.old).image (λ x. pointer day_ring x < 366) }
+        requires known { IfSome (M.state unit.old).image (λ x. pointer day_ring x < DAY_SLOTS) }
         requires low { 1440 ≤ minute }
-        requires small { minute ≤ 71582788 }
+        requires small { minute ≤ LAST_MINUTE }
         requires driver { driver < 16 }
         requires codriver { codriver < 16 }
-        requires odometer { odometer ≤ 9999999 }
-        ensures notes { OnOk result (IfSome (M.state unit.old).image (λ x. self.new ≡ notes_begun (taken day_ring x) (min (self.old.day_count + 1) 366) minute driver codriver odometer)) }
+        requires odometer { odometer ≤ HIGHEST_ODOMETER }
+        ensures notes { OnOk result (IfSome (M.state unit.old).image (λ x. self.new ≡ notes_begun (taken day_ring x) (min (self.old.day_count + 1) DAY_SLOTS) minute driver codriver odometer)) }
         ensures kept { OnOk result ((self.new.kept ≡ minute) × (self.new.odometer ≡ odometer)) }
         ensures same { OnErr result (self.new ≡ self.old) }
         ensures shape { IsNotes self.old }
@@ -244,13 +245,13 @@ impl Journal {
         odometer: u32,
     ) -> Result<(), Failed>
         requires unit { IsUnit (M.state unit.old) }
-        requires known { IfSome (M.state unit.old).image (λ x. pointer day_ring x < 366) }
+        requires known { IfSome (M.state unit.old).image (λ x. pointer day_ring x < DAY_SLOTS) }
         requires low { 1440 ≤ minute }
         requires later { self.old.kept < minute }
-        requires small { minute ≤ 71582788 }
+        requires small { minute ≤ LAST_MINUTE }
         requires driver { driver < 16 }
         requires codriver { codriver < 16 }
-        requires odometer { odometer ≤ 9999999 }
+        requires odometer { odometer ≤ HIGHEST_ODOMETER }
         ensures notes { OnOk result (IfSome (M.state unit.old).image (λ x. self.new ≡ notes_after self.old minute driver codriver odometer x)) }
         ensures kept { OnOk result ((self.new.kept ≡ minute) × (self.new.odometer ≡ odometer)) }
         ensures same { OnErr result (self.new ≡ self.old) }
@@ -275,8 +276,8 @@ impl Journal {
         requires agrees { IfSome (M.state unit.old).image (Agrees self.old) }
         requires low { 1440 ≤ kept.now.minute }
         requires later { self.old.kept < kept.now.minute }
-        requires small { kept.now.minute ≤ 71582788 }
-        requires odometer { kept.now.odometer.0 ≤ 9999999 }
+        requires small { kept.now.minute ≤ LAST_MINUTE }
+        requires odometer { kept.now.odometer.0 ≤ HIGHEST_ODOMETER }
         ensures notes { OnOk result ((self.new.kept ≡ kept.now.minute) × (self.new.odometer ≡ kept.now.odometer.0)) }
         ensures same { OnErr result (self.new ≡ self.old) }
         ensures agrees { OnOk result (IfSome (M.state unit.new).image (Agrees self.new)) }

@@ -1,4 +1,5 @@
 ghost use Rattle.std.specs.Prelude.{◌≡◌, ◌≤◌, ◌+◌, min, None};
+ghost use Rattle.unit_model.specs.declared.layout.TheConstants.{DAY_SLOTS};
 ghost use Rattle.unit_journal.specs.Image.{notes_by};
 
 use unit_model::layout::DAY_SLOTS;
@@ -54,8 +55,8 @@ impl Notes {
         odometer: u32,
         count: u32,
     ) -> Notes
-        requires { self.now.day_count ≤ 366 }
-        ensures { result ≡ notes_by index (min (self.now.day_count + 1) 366) minute driver codriver odometer count }
+        requires { self.now.day_count ≤ DAY_SLOTS }
+        ensures { result ≡ notes_by index (min (self.now.day_count + 1) DAY_SLOTS) minute driver codriver odometer count }
     {
         let day_count = (self.day_count + 1).min(DAY_SLOTS);
         Notes {

@@ -1,4 +1,5 @@
 ghost use Rattle.std.specs.Prelude.{◌≡◌, ◌≤◌, ◌<◌, ◌+◌, ◌*◌, ◌/◌, ◌∷◌, [], length};
+ghost use Rattle.unit_model.specs.declared.layout.TheConstants.{DAY_SLOTS, DAY_WORD_LIMIT, IMAGE_SIZE};
 ghost use Rattle.std.specs.Int.{to_be_bytes, w16};
 ghost use Rattle.write_plan.specs.Plan.{more, piece};
 ghost use Rattle.unit_model.specs.Image.{slot_place};
@@ -28,9 +29,9 @@ pub fn add_change(
 ) -> u32
     requires room { length plan.old.pieces < 12 }
     requires front { plan.old.from ≡ 0 }
-    requires end { plan.old.end ≡ 2485808 }
-    requires index { index < 366 }
-    requires few { count < 2880 }
+    requires end { plan.old.end ≡ IMAGE_SIZE }
+    requires index { index < DAY_SLOTS }
+    requires few { count < DAY_WORD_LIMIT }
     requires slot { slot < 2 }
     requires minute { minute < 1440 }
     requires state { new < 16 }
@@ -62,9 +63,9 @@ pub fn add_changes(
 ) -> u32
     requires room { length plan.old.pieces < 11 }
     requires front { plan.old.from ≡ 0 }
-    requires end { plan.old.end ≡ 2485808 }
-    requires index { index < 366 }
-    requires few { count + 2 ≤ 2880 }
+    requires end { plan.old.end ≡ IMAGE_SIZE }
+    requires index { index < DAY_SLOTS }
+    requires few { count + 2 ≤ DAY_WORD_LIMIT }
     requires minute { minute < 1440 }
     requires driver { new_driver < 16 }
     requires codriver { new_codriver < 16 }
@@ -90,8 +91,8 @@ pub fn add_new(
 ) -> u32
     requires room { length plan.old.pieces < 9 }
     requires front { plan.old.from ≡ 0 }
-    requires end { plan.old.end ≡ 2485808 }
-    requires index { index < 366 }
+    requires end { plan.old.end ≡ IMAGE_SIZE }
+    requires index { index < DAY_SLOTS }
     requires few { count ≤ 2 * next }
     requires order { next ≤ minute }
     requires minute { minute < 1440 }
@@ -130,9 +131,9 @@ pub fn add_new(
 pub fn add_count(plan: &mut Writing, index: u32, count: u32)
     requires room { length plan.old.pieces < 12 }
     requires front { plan.old.from ≡ 0 }
-    requires end { plan.old.end ≡ 2485808 }
-    requires index { index < 366 }
-    requires few { count ≤ 2880 }
+    requires end { plan.old.end ≡ IMAGE_SIZE }
+    requires index { index < DAY_SLOTS }
+    requires few { count ≤ DAY_WORD_LIMIT }
     ensures { plan.new ≡ more plan.old (piece (slot_place index + 8) (to_be_bytes w16 count) ∷ []) }
 {
     plan.put(
@@ -145,8 +146,8 @@ pub fn add_count(plan: &mut Writing, index: u32, count: u32)
 pub fn add_further(plan: &mut Writing, index: u32, minute: u32, driver: u32, codriver: u32) -> u32
     requires room { length plan.old.pieces < 9 }
     requires front { plan.old.from ≡ 0 }
-    requires end { plan.old.end ≡ 2485808 }
-    requires index { index < 366 }
+    requires end { plan.old.end ≡ IMAGE_SIZE }
+    requires index { index < DAY_SLOTS }
     requires driver { driver < 16 }
     requires codriver { codriver < 16 }
     ensures count { result ≡ 2 + length (further minute driver codriver) }

@@ -1,4 +1,5 @@
 ghost use Rattle.std.specs.Prelude.{◌≡◌, ◌≤◌, ◌<◌, ◌+◌, ◌*◌, ◌%◌, IfOk, IfErr, IfSome, is_err, true, None, [], min, unwrap_or};
+ghost use Rattle.unit_model.specs.declared.layout.TheConstants.{DAY_SLOTS, DAY_WORD_LIMIT, IMAGE_SIZE};
 ghost use Rattle.std.specs.Option.{ForSome};
 ghost use Rattle.tach_media.specs.Medium.{Reads};
 ghost use Rattle.unit_model.specs.Decoding.{first_failing, word_checks};
@@ -29,8 +30,8 @@ pub struct Today {
 
 /// The ring of the day slots, whose pointer is known to be an index.
 pub fn day_ring<M: Medium>(unit: &mut M) -> Result<Ring, UnitFault>
-    requires unit { (M.state unit.old).size ≡ 2485808 }
-    requires known { IfSome (M.state unit.old).image (λ x. pointer day_ring x < 366) }
+    requires unit { (M.state unit.old).size ≡ IMAGE_SIZE }
+    requires known { IfSome (M.state unit.old).image (λ x. pointer day_ring x < DAY_SLOTS) }
     ensures ring { IfOk result (λ ring. ring ≡ day_ring) }
     ensures bad { IfErr result (λ fault. IfBadUnit fault (λ p. IfSome (M.state unit.old).image (λ x. ⊥))) }
     ensures reads { Reads (M.state unit.old) (M.state unit.new) (has_failed result) }
@@ -52,9 +53,9 @@ pub fn day_ring<M: Medium>(unit: &mut M) -> Result<Ring, UnitFault>
 
 /// How many of the days that are there are recorded: a later one is not, and before the first minute none is.
 pub fn recorded_days(kept: u32, there: u32, stray: Option<u32>) -> u32
-    requires { there ≤ 366 }
+    requires { there ≤ DAY_SLOTS }
     ensures count { result ≡ recorded_days kept there stray }
-    ensures few { result ≤ 366 }
+    ensures few { result ≤ DAY_SLOTS }
     ensures none { kept ≡ 0 → result ≡ 0 }
 {
     if kept == 0 {
@@ -69,7 +70,7 @@ pub fn recorded_days(kept: u32, there: u32, stray: Option<u32>) -> u32
 /// The index of the last-kept minute's day, where it was found; 0 where it was not.
 pub fn index_of(today: Option<u32>) -> u32
     ensures index { result ≡ min (unwrap_or today 0) 365 }
-    ensures below { result < 366 }
+    ensures below { result < DAY_SLOTS }
 {
     match today {
         Some(index) => index.min(DAY_SLOTS - 1),
@@ -80,9 +81,9 @@ pub fn index_of(today: Option<u32>) -> u32
 /// The index of the pointer, where the last day that is there, of this date, is later than the last-kept minute's: then it
 /// stands at the pointer.
 pub fn later_day(kept: u32, pointer: u32, date: u32) -> Option<u32>
-    requires index { pointer < 366 }
+    requires index { pointer < DAY_SLOTS }
     ensures stray { result ≡ stray_of kept pointer date }
-    ensures below { ForSome result (λ s. s < 366) }
+    ensures below { ForSome result (λ s. s < DAY_SLOTS) }
 {
     if date == 0 {
         return None;
@@ -96,9 +97,9 @@ pub fn later_day(kept: u32, pointer: u32, date: u32) -> Option<u32>
 /// Reads the last-kept minute's day; there is none where that minute is 0.
 pub fn read_today<M: Medium>(unit: &mut M, kept: u32, index: u32) -> Result<Today, Failed>
     requires works { (M.state unit.old).works ≡ true }
-    requires unit { (M.state unit.old).size ≡ 2485808 }
-    requires index { index < 366 }
-    ensures found { IfOk result (λ today. IfSome (M.state unit.old).image (λ x. 0 < kept → slot_count x index ≤ 2880 → first_failing (word_checks (slot_place index + 16) [] (slot_words x index (slot_count x index))) ≡ None → IsToday kept index today.stored today.count today.driver today.codriver x)) }
+    requires unit { (M.state unit.old).size ≡ IMAGE_SIZE }
+    requires index { index < DAY_SLOTS }
+    ensures found { IfOk result (λ today. IfSome (M.state unit.old).image (λ x. 0 < kept → slot_count x index ≤ DAY_WORD_LIMIT → first_failing (word_checks (slot_place index + 16) [] (slot_words x index (slot_count x index))) ≡ None → IsToday kept index today.stored today.count today.driver today.codriver x)) }
     ensures count { IfOk result (λ today. today.count ≤ 2 * (kept % 1440 + 1)) }
     ensures driver { IfOk result (λ today. today.driver < 16) }
     ensures codriver { IfOk result (λ today. today.codriver < 16) }

@@ -1,4 +1,5 @@
 ghost use Rattle.std.specs.Prelude.{◌≡◌, ◌≤◌, ◌<◌, ◌+◌, ◌*◌, ◌-◌, length, IfOk, OnOk, IfSome, is_err, option_map, true};
+ghost use Rattle.unit_model.specs.declared.layout.TheConstants.{LAST_MINUTE};
 ghost use Rattle.unit_model.specs.Changes.{first_state};
 ghost use Rattle.unit_journal.specs.Image.{head_of, new_head};
 
@@ -51,7 +52,7 @@ fn head(date: u32, odometer: u32, driver: u32, codriver: u32) -> [u8; 20]
 
 // The beginning of the slot of a minute's day.
 pub fn new_head(minute: u32, driver: u32, codriver: u32, odometer: u32) -> [u8; 20]
-    requires small { minute ≤ 71582788 }
+    requires small { minute ≤ LAST_MINUTE }
     requires driver { driver < 16 }
     requires codriver { codriver < 16 }
     ensures { result ≡ new_head minute driver codriver odometer }

@@ -1,4 +1,5 @@
 ghost use Rattle.std.specs.Prelude.{◌≡◌, ◌≤◌, ◌<◌, ◌+◌, ◌-◌, length, IfOk, OnOk, IfSome, is_err, option_map, true};
+ghost use Rattle.unit_model.specs.declared.layout.TheConstants.{IMAGE_SIZE};
 ghost use Rattle.tach_media.specs.Medium.{LeavesOnly, HasCause, IsSettled, IsPartlyWritten, SameOutside, last_count, put};
 ghost use Rattle.unit_model.specs.Image.{IsUnit};
 ghost use Rattle.unit_model.specs.NewImage.{zeros, new_image};
@@ -62,7 +63,7 @@ fn clear<M: Medium>(unit: &mut M, from: u32, to: u32) -> Result<(), Failed>
     requires works { (M.state unit.old).works ≡ true }
     requires unit { IsUnit (M.state unit.old) }
     requires order { from + 4 < to }
-    requires inside { to ≤ 2485808 }
+    requires inside { to ≤ IMAGE_SIZE }
     ensures cleared { OnOk result ((M.state unit.new).image ≡ option_map (put from (zeros (to - from))) (M.state unit.old).image) }
     ensures moments { LeavesOnly (M.state unit.old) (M.state unit.new) (IsPartlyWritten from (zeros (to - from))) }
     ensures cause { HasCause (M.state unit.old) (M.state unit.new) (is_err result) }

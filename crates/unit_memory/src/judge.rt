@@ -1,4 +1,5 @@
 ghost use Rattle.std.specs.Prelude.{◌≡◌, ◌≤◌, ◌<◌, ◌+◌, ◌==◌, ◌||◌, nat_lt, IfOk, IfSome, is_err, is_some, true};
+ghost use Rattle.unit_model.specs.declared.layout.TheConstants.{DAY_SLOTS, IMAGE_SIZE};
 ghost use Rattle.tach_media.specs.Medium.{Reads};
 ghost use Rattle.unit_model.specs.Decoding.{first_failing, cell_checks, ring_checks};
 ghost use Rattle.unit_model.specs.Days.{word_minute};
@@ -35,7 +36,7 @@ fn or_failing(found: Option<u32>, place: u32, passes: bool) -> Option<u32>
 
 // The version, the last-kept minute, the odometer, the number of over speedings.
 fn bad_front<M: Medium>(unit: &mut M, kept: u32, has_today: bool) -> Result<Option<u32>, Failed>
-    requires unit { (M.state unit.old).size ≡ 2485808 }
+    requires unit { (M.state unit.old).size ≡ IMAGE_SIZE }
     ensures found { IfOk result (λ found. IfSome (M.state unit.old).image (λ x. found ≡ first_failing (front_by kept has_today x))) }
     ensures reads { Reads (M.state unit.old) (M.state unit.new) (is_err result) }
 {
@@ -66,7 +67,7 @@ fn front_place(version: u32, kept: u32, has_today: bool, odometer: u32, overs: u
 // The cells of the owed rows.
 fn bad_cell<M: Medium>(unit: &mut M) -> Result<Option<u32>, Failed>
     requires works { (M.state unit.old).works ≡ true }
-    requires unit { (M.state unit.old).size ≡ 2485808 }
+    requires unit { (M.state unit.old).size ≡ IMAGE_SIZE }
     ensures found { IfOk result (λ found. IfSome (M.state unit.old).image (λ x. found ≡ first_failing (cell_checks x))) }
     ensures reads { Reads (M.state unit.old) (M.state unit.new) (is_err result) }
 {
@@ -88,7 +89,7 @@ fn cell_passes(minute: u32, word: u32) -> bool
 
 // The pointers of insertions and places.
 fn bad_ring<M: Medium>(unit: &mut M) -> Result<Option<u32>, Failed>
-    requires unit { (M.state unit.old).size ≡ 2485808 }
+    requires unit { (M.state unit.old).size ≡ IMAGE_SIZE }
     ensures found { IfOk result (λ found. IfSome (M.state unit.old).image (λ x. found ≡ first_failing (ring_checks x))) }
     ensures reads { Reads (M.state unit.old) (M.state unit.new) (is_err result) }
 {
@@ -131,7 +132,7 @@ fn has_today(today: Option<u32>) -> bool
 // The index behind the pointer, where the oldest place is; the end where the pointer is no index.
 fn turn_at(pointer: u32) -> u32
     ensures turn { result ≡ turn_at pointer }
-    ensures below { result ≤ 366 }
+    ensures below { result ≤ DAY_SLOTS }
 {
     if pointer < DAY_SLOTS {
         pointer + 1
@@ -142,9 +143,9 @@ fn turn_at(pointer: u32) -> u32
 
 /// Judges an image: each field is read once, and the first in order of places that fails is told. It writes nothing.
 pub fn judge_image<M: Medium>(unit: &mut M) -> Result<Judged, Failed>
-    requires unit { (M.state unit.old).size ≡ 2485808 }
+    requires unit { (M.state unit.old).size ≡ IMAGE_SIZE }
     ensures judged { IfOk result (λ judged. IfSome (M.state unit.old).image (IsJudged judged)) }
-    ensures few { IfOk result (λ judged. judged.walk.there ≤ 366) }
+    ensures few { IfOk result (λ judged. judged.walk.there ≤ DAY_SLOTS) }
     ensures reads { Reads (M.state unit.old) (M.state unit.new) (is_err result) }
 {
     let kept = read_number(unit, LAST_KEPT.place, LAST_KEPT.size)?;

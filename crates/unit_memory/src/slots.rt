@@ -1,5 +1,6 @@
 //! The day slots of an image, judged one after the other: of each its head is read once, and then its words.
 ghost use Rattle.std.specs.Prelude.{◌≡◌, ◌≤◌, ◌<◌, ◌+◌, ◌*◌, ◌-◌, ◌/◌, ◌^◌, IfNone, IfOk, IfSome, is_err, length, true};
+ghost use Rattle.unit_model.specs.declared.layout.TheConstants.{DAY_SLOTS, DAY_WORD_LIMIT, IMAGE_SIZE};
 ghost use Rattle.std.specs.List.{range_with_len};
 ghost use Rattle.tach_media.specs.Medium.{Reads};
 ghost use Rattle.gated_ring.specs.Ring.{number_at};
@@ -52,8 +53,8 @@ fn head_in(bytes: &[u8]) -> Head
 
 // Reads what stands in front of a slot's words.
 fn read_head<M: Medium>(unit: &mut M, index: u32) -> Result<Head, Failed>
-    requires unit { (M.state unit.old).size ≡ 2485808 }
-    requires index { index < 366 }
+    requires unit { (M.state unit.old).size ≡ IMAGE_SIZE }
+    requires index { index < DAY_SLOTS }
     ensures head { IfOk result (λ head. IfSome (M.state unit.old).image (λ x. head ≡ head_at x index)) }
     ensures reads { Reads (M.state unit.old) (M.state unit.new) (is_err result) }
 {
@@ -80,8 +81,8 @@ fn bad_day<M: Medium>(
     latest: u32,
 ) -> Result<Option<u32>, Failed>
     requires works { (M.state unit.old).works ≡ true }
-    requires unit { (M.state unit.old).size ≡ 2485808 }
-    requires index { index < 366 }
+    requires unit { (M.state unit.old).size ≡ IMAGE_SIZE }
+    requires index { index < DAY_SLOTS }
     ensures found { IfOk result (λ found. IfSome (M.state unit.old).image (λ x. found ≡ first_failing (day_checks_by kept latest head x index))) }
     ensures reads { Reads (M.state unit.old) (M.state unit.new) (is_err result) }
 {
@@ -99,7 +100,7 @@ fn bad_day<M: Medium>(
 fn day_place(place: u32, passes: bool, odometer: u32, count: u32) -> Option<u32>
     requires { place + 8 < 2 ^ 32 }
     ensures found { result ≡ first_failing (day_front place passes odometer count) }
-    ensures few { IfNone result (count ≤ 2880) }
+    ensures few { IfNone result (count ≤ DAY_WORD_LIMIT) }
 {
     if !passes {
         return Some(place);
@@ -140,9 +141,9 @@ fn judge_slot<M: Medium>(
     walk: Walk,
 ) -> Result<(Walk, Option<u32>), Failed>
     requires works { (M.state unit.old).works ≡ true }
-    requires unit { (M.state unit.old).size ≡ 2485808 }
-    requires index { index < 366 }
-    requires few { walk.there < 366 }
+    requires unit { (M.state unit.old).size ≡ IMAGE_SIZE }
+    requires index { index < DAY_SLOTS }
+    requires few { walk.there < DAY_SLOTS }
     ensures walk { IfOk result (λ found. IfSome (M.state unit.old).image (λ x. found.0 ≡ next_walk (kept / 1440) walk index (slot_date x index))) }
     ensures bad { IfOk result (λ found. IfSome (M.state unit.old).image (λ x. found.1 ≡ first_failing (slot_checks_by kept walk.latest x index))) }
     ensures few { IfOk result (λ found. found.0.there ≤ walk.there + 1) }
@@ -166,10 +167,10 @@ pub fn judge_slots<M: Medium>(
     start: Walk,
 ) -> Result<(Walk, Option<u32>), Failed>
     requires works { (M.state unit.old).works ≡ true }
-    requires unit { (M.state unit.old).size ≡ 2485808 }
+    requires unit { (M.state unit.old).size ≡ IMAGE_SIZE }
     requires order { from ≤ to }
-    requires below { to ≤ 366 }
-    requires few { start.there + (to - from) ≤ 366 }
+    requires below { to ≤ DAY_SLOTS }
+    requires few { start.there + (to - from) ≤ DAY_SLOTS }
     ensures walk { IfOk result (λ found. IfSome (M.state unit.old).image (λ x. found.0 ≡ walk_from (kept / 1440) x start (range_with_len from (to - from)))) }
     ensures bad { IfOk result (λ found. IfSome (M.state unit.old).image (λ x. found.1 ≡ first_failing (slots_by kept x start.latest (range_with_len from (to - from))))) }
     ensures few { IfOk result (λ found. found.0.there ≤ start.there + (to - from)) }

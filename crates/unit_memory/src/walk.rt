@@ -1,4 +1,5 @@
 ghost use Rattle.std.specs.Prelude.{◌≡◌, ◌≤◌, ◌<◌, ◌+◌};
+ghost use Rattle.unit_model.specs.declared.layout.TheConstants.{DAY_SLOTS};
 ghost use Rattle.unit_memory.specs.Walks.{after_day, after_gap, next_walk};
 
 /// How the day slots that are there stand so far, from the oldest place on.
@@ -66,7 +67,7 @@ impl Density {
 
 /// With the slot of one index more, whose date this is.
 pub fn next_walk(day: u32, walk: Walk, index: u32, date: u32) -> Walk
-    requires { walk.there < 366 }
+    requires { walk.there < DAY_SLOTS }
     ensures next { result ≡ next_walk day walk index date }
     ensures few { result.there ≤ walk.there + 1 }
 {

@@ -1,4 +1,5 @@
 ghost use Rattle.std.specs.Prelude.{◌≡◌, ◌≤◌, ◌<◌, ◌+◌, ◌*◌, ◌^◌, IfOk, IfSome, is_err, length, true};
+ghost use Rattle.unit_model.specs.declared.layout.TheConstants.{DAY_SLOTS, DAY_WORD_LIMIT, IMAGE_SIZE};
 ghost use Rattle.tach_media.specs.Medium.{Reads};
 ghost use Rattle.gated_ring.specs.Ring.{number_at};
 ghost use Rattle.unit_model.specs.Image.{slot_place, slot_words, words_at};
@@ -24,7 +25,7 @@ pub struct Scan {
 
 // After one word more, where it may stand at this place of the day; words later than a minute count for nothing.
 fn next_scan(kept: u32, scan: Scan, place: u32, word: u32) -> Option<Scan>
-    requires few { scan.count < 2880 }
+    requires few { scan.count < DAY_WORD_LIMIT }
     ensures next { result ≡ next_scan kept scan place word }
     ensures more { IfSome result (λ next. next.count ≤ scan.count + 1) }
 {
@@ -46,7 +47,7 @@ fn is_first_good(place: u32, word: u32) -> bool
 }
 
 fn driver_next(kept: u32, scan: Scan, word: u32) -> Option<Scan>
-    requires few { scan.count < 2880 }
+    requires few { scan.count < DAY_WORD_LIMIT }
     ensures next { result ≡ driver_next kept scan word }
     ensures more { IfSome result (λ next. next.count ≤ scan.count + 1) }
 {
@@ -75,7 +76,7 @@ fn driver_next(kept: u32, scan: Scan, word: u32) -> Option<Scan>
 }
 
 fn codriver_next(kept: u32, scan: Scan, word: u32) -> Option<Scan>
-    requires few { scan.count < 2880 }
+    requires few { scan.count < DAY_WORD_LIMIT }
     ensures next { result ≡ codriver_next kept scan word }
     ensures more { IfSome result (λ next. next.count ≤ scan.count + 1) }
 {
@@ -122,9 +123,9 @@ fn scan_words(
     bytes: &[u8],
 ) -> Result<Scan, u32>
     requires few { start.count ≤ nth }
-    requires room { nth + count ≤ 2880 }
+    requires room { nth + count ≤ DAY_WORD_LIMIT }
     requires inside { 2 * count ≤ length bytes.now }
-    requires base { base + 5760 < 2 ^ 32 }
+    requires base { base + 2 * DAY_WORD_LIMIT < 2 ^ 32 }
     ensures scan { result ≡ scan_from kept base nth start (words_at bytes.now 0 count) }
     ensures few { IfOk result (λ scan. scan.count ≤ nth + count) }
 {
@@ -150,9 +151,9 @@ fn scan_block<M: Medium>(
 ) -> Result<Result<Scan, u32>, Failed>
     requires few { start.count ≤ nth }
     requires block { count ≤ 240 }
-    requires room { nth + 240 ≤ 2880 }
-    requires base { base + 5760 < 2 ^ 32 }
-    requires inside { base + 5760 ≤ (M.state unit.old).size }
+    requires room { nth + 240 ≤ DAY_WORD_LIMIT }
+    requires base { base + 2 * DAY_WORD_LIMIT < 2 ^ 32 }
+    requires inside { base + 2 * DAY_WORD_LIMIT ≤ (M.state unit.old).size }
     ensures scan { IfOk result (λ found. IfSome (M.state unit.old).image (λ x. found ≡ scan_from kept base nth start (words_at x (base + 2 * nth) count))) }
     ensures few { IfOk result (λ found. IfOk found (λ scan. scan.count ≤ nth + count)) }
     ensures reads { Reads (M.state unit.old) (M.state unit.new) (is_err result) }
@@ -171,9 +172,9 @@ pub fn scan_day<M: Medium>(
     kept: u32,
 ) -> Result<Result<Scan, u32>, Failed>
     requires works { (M.state unit.old).works ≡ true }
-    requires unit { (M.state unit.old).size ≡ 2485808 }
-    requires index { index < 366 }
-    requires count { count ≤ 2880 }
+    requires unit { (M.state unit.old).size ≡ IMAGE_SIZE }
+    requires index { index < DAY_SLOTS }
+    requires count { count ≤ DAY_WORD_LIMIT }
     ensures scan { IfOk result (λ found. IfSome (M.state unit.old).image (λ x. found ≡ scan_from kept (slot_place index + 16) 0 start (slot_words x index count))) }
     ensures reads { Reads (M.state unit.old) (M.state unit.new) (is_err result) }
 {

@@ -1,5 +1,6 @@
 //! The rings of insertions and places, and what is noted in them.
 ghost use Rattle.std.specs.Prelude.{◌≡◌, ◌≢◌, ◌≤◌, ◌<◌, ◌+◌, ◌^◌, ◌++◌, length, IfOk, IfErr, IfSome, OnOk, is_err};
+ghost use Rattle.unit_model.specs.declared.layout.TheConstants.{IMAGE_SIZE};
 ghost use Rattle.byte_fields.specs.Images.{number_at};
 ghost use Rattle.tach_media.specs.Medium.{Reads, LeavesOnly, HasCause, IsSettled, Rose, last_count};
 ghost use Rattle.gated_ring.specs.Ring.{pointer, PointsInside, taken};
@@ -44,7 +45,7 @@ const PLACE_SIZE: usize = FullCardNumber::SIZE + PlaceEntry::SIZE;
 /// 1. `Failed` where the medium failed.
 /// 2. `BadPointer` exactly where the pointer is not below 2048.
 pub fn insertions<M: Medium>(unit: &mut M) -> Result<Ring, RingFault>
-    requires unit { (M.state unit.old).size ≡ 2485808 }
+    requires unit { (M.state unit.old).size ≡ IMAGE_SIZE }
     ensures ring { IfOk result (λ ring. ring ≡ insertion_ring) }
     ensures known { IfOk result (λ ring. IfSome (M.state unit.old).image (PointsInside ring)) }
     ensures bad { IfErr result (λ fault. IfBadPointer fault (λ v. (2048 ≤ v) × IfSome (M.state unit.old).image (λ x. pointer insertion_ring x ≡ v))) }
@@ -68,7 +69,7 @@ pub fn insertions<M: Medium>(unit: &mut M) -> Result<Ring, RingFault>
 /// 1. `Failed` where the medium failed.
 /// 2. `BadPointer` exactly where the pointer is not below 255.
 pub fn places<M: Medium>(unit: &mut M) -> Result<Ring, RingFault>
-    requires unit { (M.state unit.old).size ≡ 2485808 }
+    requires unit { (M.state unit.old).size ≡ IMAGE_SIZE }
     ensures ring { IfOk result (λ ring. ring ≡ unit_place_ring) }
     ensures known { IfOk result (λ ring. IfSome (M.state unit.old).image (PointsInside ring)) }
     ensures bad { IfErr result (λ fault. IfBadPointer fault (λ v. (255 ≤ v) × IfSome (M.state unit.old).image (λ x. pointer unit_place_ring x ≡ v))) }

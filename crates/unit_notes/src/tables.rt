@@ -1,5 +1,6 @@
 //! The places of the events and faults of a type.
 ghost use Rattle.std.specs.Prelude.{◌≡◌, ◌≤◌, ◌<◌, ◌+◌, ◌*◌, length, map, IfSome};
+ghost use Rattle.unit_model.specs.declared.layout.TheConstants.{IMAGE_SIZE};
 ghost use Rattle.byte_fields.specs.Fields.{total_width};
 ghost use Rattle.event_model.specs.Kinds.{places_of};
 ghost use Rattle.side_model.specs.Tables as side;
@@ -95,7 +96,7 @@ fn places_at(base: u32, width: usize, count: usize) -> Ring
     requires some { 0 < count }
     requires small { width ≤ 83 }
     requires few { count ≤ 60 }
-    requires inside { base + count * width ≤ 2485808 }
+    requires inside { base + count * width ≤ IMAGE_SIZE }
     ensures { result ≡ record { base = base; width = width; count = count; pointer_width = 0; gate = 2 } }
 {
     let mut none = AbsentMedium::new(IMAGE_SIZE);

@@ -1,4 +1,5 @@
 ghost use Rattle.std.specs.Prelude.{◌≡◌, ◌≢◌, ℕ, List, length, ◌+◌, ◌-◌, ◌*◌, ◌/◌, ◌<◌, ◌≤◌, min, IfOk, IfSome, is_err};
+ghost use Rattle.unit_model.specs.declared.layout.TheConstants.{DAY_SLOTS, DAY_WORD_LIMIT, HIGHEST_ODOMETER, IMAGE_SIZE};
 ghost use Rattle.tach_media.specs.Medium.{Reads};
 ghost use Rattle.gated_ring.specs.Ring.{number_at};
 ghost use Rattle.unit_model.specs.Image.{recorded, slot_place, slot_date, slot_odometer, slot_count};
@@ -25,11 +26,11 @@ pub struct UnitDay {
 
 // The day in a slot, whose date is known and whose words all count.
 fn whole_day<M: Medium>(unit: &mut M, index: u32, date: u32) -> Result<UnitDay, Failed>
-    requires unit { (M.state unit.old).size ≡ 2485808 }
-    requires index { index < 366 }
-    ensures known { IfOk result (λ day. (day.place ≡ slot_place index) × (day.date.0 ≡ date) × (day.words ≤ 2880)) }
-    ensures odometer { IfOk result (λ day. day.odometer.0 ≤ 9999999) }
-    ensures read { IfOk result (λ day. IfSome (M.state unit.old).image (λ x. (day.odometer.0 ≡ min (slot_odometer x index) 9999999) × (day.words ≡ min (slot_count x index) 2880))) }
+    requires unit { (M.state unit.old).size ≡ IMAGE_SIZE }
+    requires index { index < DAY_SLOTS }
+    ensures known { IfOk result (λ day. (day.place ≡ slot_place index) × (day.date.0 ≡ date) × (day.words ≤ DAY_WORD_LIMIT)) }
+    ensures odometer { IfOk result (λ day. day.odometer.0 ≤ HIGHEST_ODOMETER) }
+    ensures read { IfOk result (λ day. IfSome (M.state unit.old).image (λ x. (day.odometer.0 ≡ min (slot_odometer x index) HIGHEST_ODOMETER) × (day.words ≡ min (slot_count x index) DAY_WORD_LIMIT))) }
     ensures reads { Reads (M.state unit.old) (M.state unit.new) (is_err result) }
 {
     let place = slot_place(index);
@@ -51,7 +52,7 @@ impl Journal {
     pub fn days(&self) -> u16
         ensures days { result ≡ self.now.day_count }
         ensures recorded { (x : List ℕ) → AreRight self.now x → result ≡ length (recorded x) }
-        ensures few { result ≤ 366 }
+        ensures few { result ≤ DAY_SLOTS }
     {
         self.notes.day_count as u16
     }
@@ -60,7 +61,7 @@ impl Journal {
     fn index_at(&self, nth: u32) -> u32
         requires { nth < self.now.day_count }
         ensures index { result ≡ nth_index self.now nth }
-        ensures below { result < 366 }
+        ensures below { result < DAY_SLOTS }
         ensures shape { IsNotes self.now }
     {
         (self.notes.index + (DAY_SLOTS + 1) - self.notes.day_count + nth) % DAY_SLOTS
@@ -76,13 +77,13 @@ impl Journal {
 
     // The last-kept minute's day.
     fn last_day<M: Medium>(&self, unit: &mut M) -> Result<UnitDay, Failed>
-        requires unit { (M.state unit.old).size ≡ 2485808 }
+        requires unit { (M.state unit.old).size ≡ IMAGE_SIZE }
         requires some { 0 < self.now.day_count }
         ensures day { IfOk result (λ day. IfSome (M.state unit.old).image (λ x. AreRight self.now x → IsRecordedDay x (self.now.day_count - 1) self.now.index day)) }
         ensures date { IfOk result (λ day. day.date.0 ≡ 86400 * (self.now.kept / 1440)) }
         ensures place { IfOk result (λ day. IsSlotPlace day.place) }
-        ensures words { IfOk result (λ day. day.words ≤ 2880) }
-        ensures odometer { IfOk result (λ day. day.odometer.0 ≤ 9999999) }
+        ensures words { IfOk result (λ day. day.words ≤ DAY_WORD_LIMIT) }
+        ensures odometer { IfOk result (λ day. day.odometer.0 ≤ HIGHEST_ODOMETER) }
         ensures reads { Reads (M.state unit.old) (M.state unit.new) (is_err result) }
     {
         let place = slot_place(self.notes.index);
@@ -98,13 +99,13 @@ impl Journal {
 
     // An earlier day, whose date is known.
     fn older_day<M: Medium>(&self, unit: &mut M, nth: u32, date: u32) -> Result<UnitDay, Failed>
-        requires unit { (M.state unit.old).size ≡ 2485808 }
+        requires unit { (M.state unit.old).size ≡ IMAGE_SIZE }
         requires nth { nth + 1 < self.now.day_count }
         ensures day { IfOk result (λ day. IfSome (M.state unit.old).image (λ x. AreRight self.now x → date ≡ slot_date x (nth_index self.now nth) → IsRecordedDay x nth (nth_index self.now nth) day)) }
         ensures date { IfOk result (λ day. day.date.0 ≡ date) }
         ensures place { IfOk result (λ day. IsSlotPlace day.place) }
-        ensures words { IfOk result (λ day. day.words ≤ 2880) }
-        ensures odometer { IfOk result (λ day. day.odometer.0 ≤ 9999999) }
+        ensures words { IfOk result (λ day. day.words ≤ DAY_WORD_LIMIT) }
+        ensures odometer { IfOk result (λ day. day.odometer.0 ≤ HIGHEST_ODOMETER) }
         ensures reads { Reads (M.state unit.old) (M.state unit.new) (is_err result) }
     {
         let index = self.index_at(nth);
@@ -118,12 +119,12 @@ impl Journal {
     ///
     /// `Failed` where the medium failed.
     pub fn day_at<M: Medium>(&self, unit: &mut M, nth: u16) -> Result<UnitDay, Failed>
-        requires unit { (M.state unit.old).size ≡ 2485808 }
+        requires unit { (M.state unit.old).size ≡ IMAGE_SIZE }
         requires nth { nth < self.now.day_count }
         ensures day { IfOk result (λ day. IfSome (M.state unit.old).image (λ x. AreRight self.now x → (i : ℕ) × IsRecordedDay x nth i day)) }
         ensures place { IfOk result (λ day. IsSlotPlace day.place) }
-        ensures words { IfOk result (λ day. day.words ≤ 2880) }
-        ensures odometer { IfOk result (λ day. day.odometer.0 ≤ 9999999) }
+        ensures words { IfOk result (λ day. day.words ≤ DAY_WORD_LIMIT) }
+        ensures odometer { IfOk result (λ day. day.odometer.0 ≤ HIGHEST_ODOMETER) }
         ensures reads { Reads (M.state unit.old) (M.state unit.new) (is_err result) }
     {
         let nth = nth as u32;
@@ -136,14 +137,14 @@ impl Journal {
 
     // The earlier day of a date.
     fn find_older<M: Medium>(&self, unit: &mut M, date: u32) -> Result<Option<UnitDay>, Failed>
-        requires unit { (M.state unit.old).size ≡ 2485808 }
+        requires unit { (M.state unit.old).size ≡ IMAGE_SIZE }
         requires some { 0 < self.now.day_count }
         requires other { date ≢ 86400 * (self.now.kept / 1440) }
         ensures found { IfOk result (λ found. IfSome (M.state unit.old).image (λ x. AreRight self.now x → IsOfDate x date found)) }
         ensures place { IfOk result (λ found. IfSome found (λ day. IsSlotPlace day.place)) }
         ensures date { IfOk result (λ found. IfSome found (λ day. day.date.0 ≡ date)) }
-        ensures words { IfOk result (λ found. IfSome found (λ day. day.words ≤ 2880)) }
-        ensures odometer { IfOk result (λ found. IfSome found (λ day. day.odometer.0 ≤ 9999999)) }
+        ensures words { IfOk result (λ found. IfSome found (λ day. day.words ≤ DAY_WORD_LIMIT)) }
+        ensures odometer { IfOk result (λ found. IfSome found (λ day. day.odometer.0 ≤ HIGHEST_ODOMETER)) }
         ensures reads { ReadsIfAny (M.state unit.old) (M.state unit.new) (is_err result) }
     {
         for nth in 0..self.notes.day_count - 1 {
@@ -163,12 +164,12 @@ impl Journal {
     ///
     /// `Failed` where the medium failed.
     pub fn find<M: Medium>(&self, unit: &mut M, date: TimeReal) -> Result<Option<UnitDay>, Failed>
-        requires unit { (M.state unit.old).size ≡ 2485808 }
+        requires unit { (M.state unit.old).size ≡ IMAGE_SIZE }
         ensures found { IfOk result (λ found. IfSome (M.state unit.old).image (λ x. AreRight self.now x → IsOfDate x date.0 found)) }
         ensures place { IfOk result (λ found. IfSome found (λ day. IsSlotPlace day.place)) }
         ensures date { IfOk result (λ found. IfSome found (λ day. day.date.0 ≡ date.0)) }
-        ensures words { IfOk result (λ found. IfSome found (λ day. day.words ≤ 2880)) }
-        ensures odometer { IfOk result (λ found. IfSome found (λ day. day.odometer.0 ≤ 9999999)) }
+        ensures words { IfOk result (λ found. IfSome found (λ day. day.words ≤ DAY_WORD_LIMIT)) }
+        ensures odometer { IfOk result (λ found. IfSome found (λ day. day.odometer.0 ≤ HIGHEST_ODOMETER)) }
         ensures reads { ReadsIfAny (M.state unit.old) (M.state unit.new) (is_err result) }
     {
         let last_date = self.last_date();
@@ -192,9 +193,9 @@ impl Journal {
     ///
     /// `Failed` where the medium failed.
     pub fn word<M: Medium>(&self, unit: &mut M, head: &UnitDay, index: u16) -> Result<u16, Failed>
-        requires unit { (M.state unit.old).size ≡ 2485808 }
+        requires unit { (M.state unit.old).size ≡ IMAGE_SIZE }
         requires place { IsSlotPlace head.now.place }
-        requires few { head.now.words ≤ 2880 }
+        requires few { head.now.words ≤ DAY_WORD_LIMIT }
         requires index { index < head.now.words }
         ensures word { IfOk result (λ word. IfSome (M.state unit.old).image (λ x. word ≡ number_at x (head.now.place + 16 + 2 * index) 2)) }
         ensures recorded { IfOk result (λ word. IfSome (M.state unit.old).image (λ x. AreRight self.now x → IsWordOf x head.now index word)) }
