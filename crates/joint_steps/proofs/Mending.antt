@@ -16,7 +16,7 @@ use Rattle.unit_model.proofs.Numbers as numbers
 use Rattle.owed_model.specs.Owed.{Cell, Row, rows_in, row_in, cell_in, cell_begin, session_in, is_row_of, row_index, entry_of, holds, cell_entries, in_order, seen_row, row_view}
 use Rattle.owed_model.proofs.Putting.{find_below, found_below}
 use Rattle.owed_model.proofs.Mending.{IsKept}
-use Rattle.unit_journal.specs.Image.{Notes}
+use Rattle.unit_journal.specs.declared.notes.Notes.{Notes}
 use Rattle.unit_journal.specs.Mends.{SameButRowsAndSlots, IsMending as IsMendingImage, IsMended as IsMendedImage}
 use Rattle.joint_rule.specs.Views.{row, unit_view}
 use Rattle.joint_rule.specs.Steps.{IsMending, IsMended, settled_cells}

@@ -5,7 +5,8 @@ use Rattle.tach_media.proofs.Runs.{at_image}
 use Rattle.unit_model.specs.Days.{Day, newest_of}
 use Rattle.unit_model.specs.Decoding.{Decodes}
 use Rattle.unit_model.specs.Image.{last_kept, odometer_at, recorded}
-use Rattle.unit_journal.specs.Image.{Notes, IsFoundBy}
+use Rattle.unit_journal.specs.declared.notes.Notes.{Notes}
+use Rattle.unit_journal.specs.Image.{IsFoundBy}
 use Rattle.unit_journal.proofs.Besides.{few_days}
 use Rattle.history_model.specs.Book.{Book, not_begun}
 use Rattle.unit_rule.specs.Marks.{Holds}

@@ -2,7 +2,7 @@
 use Rattle.std.proofs.Common.{◌≡◌, ℕ, suc, ◌≤◌, true, None, Some, List, [], ◌∷◌, ◌++◌, refl}
 use Rattle.tach_media.specs.Medium.{State, IsCoherent, LeavesOnly, Unchanged}
 use Rattle.unit_model.specs.Image.{last_kept, odometer_at}
-use Rattle.unit_journal.specs.Image.{Notes}
+use Rattle.unit_journal.specs.declared.notes.Notes.{Notes}
 use Rattle.unit_journal.specs.Mends.{IsMending}
 use Rattle.minute_model.specs.declared.Minute.{Minute}
 use Rattle.log_model.specs.declared.lines.Mark.{Mark}

@@ -5,7 +5,7 @@ use Rattle.gated_ring.specs.Ring.{number_at}
 use Rattle.unit_model.specs.Image.{last_kept, odometer_at, recorded}
 use Rattle.unit_model.specs.Decoding.{Decodes}
 use Rattle.unit_model.proofs.Numbers.{number_same}
-use Rattle.unit_journal.specs.Image.{Notes}
+use Rattle.unit_journal.specs.declared.notes.Notes.{Notes}
 use Rattle.unit_journal.specs.Mends.{IsMending}
 
 -- a number among the first 624 bytes, as the last-kept minute and the odometer are

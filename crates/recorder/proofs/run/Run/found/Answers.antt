@@ -4,7 +4,7 @@ use Rattle.minute_rules.specs.Kept.{Kept}
 use Rattle.unit_journal.specs.Mends.{IsMending}
 use Rattle.unit_rule.proofs.Found.{left-earlier}
 use Rattle.std.specs.Prelude.{Result, Ok, Err, OnOk, is_err, false}
-use Rattle.unit_journal.specs.Image.{Notes}
+use Rattle.unit_journal.specs.declared.notes.Notes.{Notes}
 use Rattle.recorder.proofs.Standing.{stands-mended}
 use Rattle.log_model.specs.declared.lines.Break.{Break}
 use Rattle.recorder.specs.Lines.{Listed, cut_at, found_from}
