@@ -3,7 +3,7 @@ ghost use Rattle.card_layout.specs.Application.{IsApplication};
 ghost use Rattle.card_layout.specs.Files.{image_size_of};
 ghost use Rattle.tach_media.specs.Medium.{LiesInside, LeavesOnly, HasCause};
 ghost use Rattle.card_commands.specs.Ports.{IsPort, application_file, writable_of};
-ghost use Rattle.cyclic_days.specs.Moments.{IsChanging, IsChanged};
+ghost use Rattle.cyclic_days.specs.Moments.{FileFitsIn, IsChanging, IsChanged};
 ghost use Rattle.card_calls.specs.Strings.{days_at};
 ghost use Rattle.card_calls.specs.Lending.{sizes_in, IsAddingWord, has_failed};
 
@@ -85,6 +85,19 @@ pub(crate) fn days_range(app: &Application) -> Range
     }
 }
 
+// Adds a word to the newest day of a medium that is a card of these sizes.
+fn add_word_in<M: Medium>(medium: &mut M, app: &Application, word: u16) -> Result<(), Stop>
+    requires good { IsApplication app.now }
+    requires fits { FileFitsIn (days_at app.now) (M.state medium.old) }
+    requires writable { LiesInside (M.state medium.old).writable (days_at app.now).base (4 + app.now.activity) }
+    ensures moments { LeavesOnly (M.state medium.old) (M.state medium.new) (IsChanging (days_at app.now) word) }
+    ensures changed { OnOk result (IfSome (M.state medium.old).image (λ x. IfSome (M.state medium.new).image (IsChanged (days_at app.now) word x))) }
+    ensures cause { HasCause (M.state medium.old) (M.state medium.new) (has_failed result) }
+{
+    let mut days = Days::load(&mut *medium, days_range(app))?;
+    Ok(days.add_change(medium, word)?)
+}
+
 /// Adds a word to the card's newest day, where these sizes were just read.
 pub fn add_word_by<C: Chip>(card: &mut C, app: Application, word: u16) -> Result<(), Stop>
     requires { IsPort app (Some application_file) (C.card card.old) (C.state card.old) }
@@ -93,8 +106,7 @@ pub fn add_word_by<C: Chip>(card: &mut C, app: Application, word: u16) -> Result
     ensures cause { HasCause (C.state card.old) (C.state card.new) (has_failed result) }
 {
     let mut port = Port::new(&mut *card, app);
-    let mut days = Days::load(&mut port, days_range(&app))?;
-    Ok(days.add_change(&mut port, word)?)
+    add_word_in(&mut port, &app, word)
 }
 
 /// Adds a word to the card's newest day.
