@@ -133,7 +133,7 @@ covers_before k (w ∷ ws) (d ∷ ds) b c = ⊎_elim
     (λ m. (omega (arith, b.0, m.0.day), covers_before k ws ds b.1 m.1))
     (λ m. covers_before k ws (d ∷ ds) b.1 m) c
 
-before_back : (k : ℕ) (gone there : List WordDay) → AllBefore k (gone ++ there) → AllBefore k there
+pub before_back : (k : ℕ) (gone there : List WordDay) → AllBefore k (gone ++ there) → AllBefore k there
 before_back k [] there b = b
 before_back k (g ∷ gone) there b = before_back k gone there b.1
 
@@ -153,7 +153,7 @@ rising_append [] v r b = tt
 rising_append (w ∷ []) v r b = (b.0, tt)
 rising_append (w ∷ x ∷ ws) v r b = (r.0, rising_append (x ∷ ws) v r.1 b.1)
 
-before_append : (k : ℕ) (ws : List WordDay) (v : WordDay) → AllBefore k ws → v.day < k → AllBefore k (ws ++ v ∷ [])
+pub before_append : (k : ℕ) (ws : List WordDay) (v : WordDay) → AllBefore k ws → v.day < k → AllBefore k (ws ++ v ∷ [])
 before_append k [] v b lt = (lt, tt)
 before_append k (w ∷ ws) v b lt = (b.0, before_append k ws v b.1 lt)
 

@@ -71,7 +71,7 @@ there_is : (there : List WordDay) (d : WordDay) (ds : List WordDay) → Covers t
 there_is [] d ds c = absurd c
 there_is (t ∷ ts) d ds c = (t, ts, refl)
 
-more_some : (d : WordDay) (ds : List WordDay) → more (d ∷ ds) ≡ [] → ⊥
+pub more_some : (d : WordDay) (ds : List WordDay) → more (d ∷ ds) ≡ [] → ⊥
 more_some d [] e = not_empty (one_more d) [] e
 more_some d (f ∷ ds) e = not_empty d (more (f ∷ ds)) e
 
@@ -90,7 +90,7 @@ from_more k [] f = tt
 from_more k (w ∷ []) f = f
 from_more k (w ∷ x ∷ ws) f = (f.0, from_more k (x ∷ ws) f.1)
 
-from_append : (k : ℕ) (ws : List WordDay) (v : WordDay) → AllFrom k ws → k ≤ v.day → AllFrom k (ws ++ v ∷ [])
+pub from_append : (k : ℕ) (ws : List WordDay) (v : WordDay) → AllFrom k ws → k ≤ v.day → AllFrom k (ws ++ v ∷ [])
 from_append k [] v f le = (le, tt)
 from_append k (w ∷ ws) v f le = (f.0, from_append k ws v f.1 le)
 
@@ -166,7 +166,7 @@ covers_day (w ∷ ws) [] v d t c = inr (covers_day ws [] v d t (covers_none ws))
     covers_none (w ∷ ws) = tt
 covers_day (w ∷ ws) (e ∷ ds) v d t c = ⊎_elim (λ m. inl (m.0, covers_day ws ds v d t m.1)) (λ m. inr (covers_day ws (e ∷ ds) v d t m)) c
 
-append_some : (ds : List WordDay) (d : WordDay) → ds ++ d ∷ [] ≡ [] → ⊥
+pub append_some : (ds : List WordDay) (d : WordDay) → ds ++ d ∷ [] ≡ [] → ⊥
 append_some [] d e = not_empty d [] e
 append_some (f ∷ ds) d e = not_empty f (ds ++ d ∷ []) e
 

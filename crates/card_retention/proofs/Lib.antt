@@ -14,3 +14,4 @@ pub mod Stub
 pub mod Listing
 pub mod Committing
 pub mod ListTrims
+pub mod Due

@@ -1,12 +1,13 @@
 -- The rule that is carried gives the rule that is stated.
-use Rattle.std.proofs.Common.{◌≡◌, ◌⊎◌, inl, inr, ⊎_elim, ℕ, suc, ◌+◌, ◌/◌, ◌<◌, ◌≤◌, Bool, true, false, cond, ◌||◌, ◌&&◌, Some, List, [], ◌∷◌, ◌++◌, refl, sym, ◌∙◌, ap, subst, arith}
+use Rattle.std.proofs.Common.{◌≡◌, ◌⊎◌, inl, inr, ⊎_elim, ℕ, suc, ◌/◌, ◌<◌, ◌≤◌, Bool, true, false, cond, ◌||◌, ◌&&◌, List, [], ◌∷◌, refl, sym, ◌∙◌, ap, arith}
 use Rattle.std.specs.Prelude.{nat_eq, nat_le, nat_lt}
 use Rattle.std.proofs.lemmas.Bool.Decides.{nat_tests}
 use Rattle.activity_codec.specs.declared.entries.Entry.{Entry}
 use Rattle.card_model.specs.Days.{Day}
-use Rattle.card_retention.specs.Expected.{WordDay, size_of, size_all, more, Counted, expected_days}
-use Rattle.card_retention.specs.Shown.{Covers, IsFull, Bound, InDays, AllFrom, AllBefore, AllIn, sizes, is_open, owing, Rests}
-use Rattle.card_retention.specs.Retains.{days_before, days_from, last_day, entries_from, is_day, entries_in, CardRetains}
+use Rattle.card_retention.specs.Expected.{WordDay, more, Counted, expected_days}
+use Rattle.card_retention.specs.Shown.{Covers, Bound, InDays, AllFrom, AllIn, Grows, sizes, is_open, owing, Rests}
+use Rattle.card_retention.specs.Retains.{entries_from, is_day, entries_in, CardRetains}
+use Rattle.card_retention.proofs.Growing.{covers_fewer}
 
 le_is : (m n : ℕ) → m ≤ n → nat_le m n ≡ true
 le_is m n le = grind (arith, nat_tests)
@@ -16,33 +17,6 @@ not_le m n lt = grind (arith, nat_tests)
 
 le_of : (m n : ℕ) → nat_le m n ≡ true → m ≤ n
 le_of m n is = grind (arith, nat_tests)
-
-lt_is : (m n : ℕ) → m < n → nat_lt m n ≡ true
-lt_is m n lt = grind (arith, nat_tests)
-
-not_lt : (m n : ℕ) → n ≤ m → nat_lt m n ≡ false
-not_lt m n le = grind (arith, nat_tests)
-
-split_before : (o : ℕ) (gone there : List WordDay) → AllBefore o gone → AllFrom o there → (days_before o (gone ++ there) ≡ gone) × (days_from o (gone ++ there) ≡ there)
-split_before o [] [] low high = (refl, refl)
-split_before o [] (t ∷ there) low high =
-    let rest = split_before o [] there low high.1 in (
-      ap (λ (b : Bool). cond b (t ∷ days_before o there) (days_before o there)) (not_lt t.day o high.0) ∙ rest.0,
-      ap (λ (b : Bool). cond b (days_from o there) (t ∷ days_from o there)) (not_lt t.day o high.0) ∙ ap (λ (l : List WordDay). t ∷ l) rest.1,
-    )
-split_before o (g ∷ gone) there low high =
-    let rest = split_before o gone there low.1 high in (
-      ap (λ (b : Bool). cond b (g ∷ days_before o (gone ++ there)) (days_before o (gone ++ there))) (lt_is g.day o low.0) ∙ ap (λ (l : List WordDay). g ∷ l) rest.0,
-      ap (λ (b : Bool). cond b (days_from o (gone ++ there)) (g ∷ days_from o (gone ++ there))) (lt_is g.day o low.0) ∙ rest.1,
-    )
-
-full_is : (length bytes : ℕ) (gone there : List WordDay) (d : WordDay) → IsFull length bytes gone there → last_day gone ≡ Some d → length < size_of d + size_all there + bytes
-full_is length bytes [] there d full is = absurd (cc)
-full_is length bytes (g ∷ []) there d full is = subst (λ (x : WordDay). length < size_of x + size_all there + bytes) (same is) full
-  where
-    same : Some g ≡ Some d → g ≡ d
-    same e = cc
-full_is length bytes (g ∷ h ∷ gone) there d full is = full_is length bytes (h ∷ gone) there d full is
 
 covers_from : (o : ℕ) (ws ds : List WordDay) → AllFrom o ws → Covers ws ds → AllFrom o ds
 covers_from o ws [] f c = tt
@@ -100,16 +74,22 @@ same_entries o (e ∷ all) shown days w f s = by (nat_le o (e.minute / 1440)) re
         no : false ≡ true → ⊥
         no x = cc
 
--- THE RULE AS STATED: the string shows those entries of all whose day it has, so it keeps the rule.
+-- THE RULE AS STATED: the string has no more than its days and the word that is owed to them, and shows those entries of all whose
+-- day it has; so it keeps the rule.
 pub retains : (size : ℕ) (slack : Bound) (covered from mark : ℕ) (c : Counted) (days : List Day) → Rests size slack covered from mark c days → (n : ℕ) → from ≤ n
-    → (shown : List Entry) → shown ≡ entries_in (sizes days) slack.all → CardRetains size slack.bytes (expected_days covered n c) slack.all shown
-retains size slack covered from mark c days r n le shown is =
+    → (held : List WordDay) → Grows held (owing n mark days) → (shown : List Entry) → shown ≡ entries_in (sizes days) slack.all → CardRetains size slack.bytes (expected_days covered n c) slack.all held shown
+retains size slack covered from mark c days r n le held grows shown is =
     let s = r.shows n le in
-    let parts = split_before s.oldest s.gone s.there s.low s.high in
-    let before : days_before s.oldest (expected_days covered n c) ≡ s.gone = ap (λ (l : List WordDay). days_before s.oldest l) s.split ∙ parts.0 in
-    let after : days_from s.oldest (expected_days covered n c) ≡ s.there = ap (λ (l : List WordDay). days_from s.oldest l) s.split ∙ parts.1 in
     record {
+      gone = s.gone;
+      there = s.there;
+      split = s.split;
+      covers = covers_fewer s.there held (owing n mark days) grows s.covers;
+      full = s.full;
+      some = s.some;
       oldest = s.oldest;
+      low = s.low;
+      high = s.high;
+      none = s.none;
       entries = is ∙ same_entries s.oldest slack.all (owing n mark days) (sizes days) s.whole (covers_from s.oldest s.there (owing n mark days) s.high s.covers) (λ k. is_day_owing n mark k days);
-      full = λ d last. subst (λ (l : List WordDay). size < size_of d + size_all l + slack.bytes) (sym after) (full_is size slack.bytes s.gone s.there d s.full (sym (ap last_day before) ∙ last));
     }

@@ -26,3 +26,17 @@ open_row = refl
 midnight_row : expected_days 0 21124801 (counted 0 blank (at 21124799 Rest ∷ at 21124800 Rest ∷ [])) ≡ record { day = 14669; words = 2 } ∷ record { day = 14670; words = 1 } ∷ []
 unfolding counted
 midnight_row = refl
+
+-- 23:58: a closing word counts behind it where the next entry is late, and none where it may come at once
+late_row : expected_days 0 99999999 (counted 0 blank (at 21124798 Rest ∷ [])) ≡ record { day = 14669; words = 3 } ∷ []
+unfolding counted
+late_row = refl
+
+next_row : expected_days 0 21124799 (counted 0 blank (at 21124798 Rest ∷ [])) ≡ record { day = 14669; words = 2 } ∷ []
+unfolding counted
+next_row = refl
+
+-- so an entry may bring a word less: at 23:59 the state goes on, and nothing closes it
+last_row : expected_days 0 99999999 (counted 0 blank (at 21124798 Rest ∷ at 21124799 Rest ∷ [])) ≡ record { day = 14669; words = 2 } ∷ []
+unfolding counted
+last_row = refl

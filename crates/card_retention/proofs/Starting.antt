@@ -30,7 +30,7 @@ filled_sizes : (date : ℕ) (ds : List Day) → AreDays date ds → Filled (size
 filled_sizes date [] are = tt
 filled_sizes date (d ∷ ds) are = (some_words d.words are.1.ordered, filled_sizes d.date ds are.2)
 
-sizes_low : (date : ℕ) (ds : List Day) → AreDays date ds → AllBefore (suc (newest_word ds / 1440)) (sizes ds)
+pub sizes_low : (date : ℕ) (ds : List Day) → AreDays date ds → AllBefore (suc (newest_word ds / 1440)) (sizes ds)
 sizes_low date [] are = tt
 sizes_low date (d ∷ []) are = (omega (arith, are.1.midnight), tt)
 sizes_low date (d ∷ e ∷ ds) are = (omega (arith, word_late d.date e ds are.2, are.2.0), sizes_low d.date (e ∷ ds) are.2)

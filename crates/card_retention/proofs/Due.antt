@@ -1,0 +1,182 @@
+-- Entries that come next, and are not on the card yet, count as there.
+use Rattle.std.proofs.Common.{◌≡◌, inl, inr, ⊎_elim, ℕ, suc, ◌/◌, ◌<◌, ◌≤◌, Bool, true, false, cond, Option, Some, None, List, [], ◌∷◌, ◌++◌, All, refl, sym, ◌∙◌, ap, subst, arith, append_assoc}
+use Rattle.std.specs.Prelude.{nat_eq, nat_le}
+use Rattle.std.proofs.lemmas.Bool.Decides.{nat_tests}
+use Rattle.std.proofs.lemmas.List.Elements.{All-head, All-tail}
+use Rattle.activity_codec.specs.declared.entries.Entry.{Entry}
+use Rattle.card_retention.specs.Expected.{WordDay, more, is_newest, goes_on, is_closed, closes, first_words, adds, Counted, with_entry, counted, expected_days}
+use Rattle.card_retention.specs.Shown.{Covers, IsFull, AllBefore, AllFrom, Grows}
+use Rattle.card_retention.specs.Retains.{Rise, entries_from, CardRetains}
+use Rattle.card_retention.proofs.Core.{covers_more, full_more, grows_total}
+use Rattle.card_retention.proofs.Growing.{more_some, append_some, more_back, more_total, more_grows, grows_longer, from_more, from_append}
+use Rattle.card_retention.proofs.Entering.{before_more, before_later, before_back, before_append}
+
+-- a string of so many bytes has these of the expected days, from this one on
+record Has (length bytes oldest : ℕ) (expected days : List WordDay) : Type 0 where
+  gone : List WordDay
+  there : List WordDay
+  split : expected ≡ gone ++ there
+  covers : Covers there days
+  full : IsFull length bytes gone there
+  some : there ≡ [] → gone ≡ []
+  low : AllBefore oldest gone
+  high : AllFrom oldest there
+  none : there ≡ [] → oldest ≡ 0
+
+module _ (length bytes oldest : ℕ) (days : List WordDay) where
+  -- where the expected days are not later than this one, it is one from the oldest on
+  from_oldest : (k : ℕ) (expected : List WordDay) → AllBefore (suc k) expected → Has length bytes oldest expected days → oldest ≤ k
+  from_oldest k expected before h = by h.there h.none h.high (before_back (suc k) h.gone h.there (subst (λ (l : List WordDay). AllBefore (suc k) l) h.split before))
+    where
+      by : (there : List WordDay) → (there ≡ [] → oldest ≡ 0) → AllFrom oldest there → AllBefore (suc k) there → oldest ≤ k
+      by [] none high before = omega (arith, none refl)
+      by (t ∷ ts) none high before = omega (arith, high.0, before.0)
+
+  has_more : (expected : List WordDay) → Has length bytes oldest expected days → Has length bytes oldest (more expected) days
+  has_more expected h = by h.there refl
+    where
+      by : (there : List WordDay) → h.there ≡ there → Has length bytes oldest (more expected) days
+      by [] is =
+          let empty : expected ≡ [] = h.split ∙ ap (λ (l : List WordDay). l ++ h.there) (h.some is) ∙ is in
+          subst (λ (l : List WordDay). Has length bytes oldest (more l) days) (sym empty) (subst (λ (l : List WordDay). Has length bytes oldest l days) empty h)
+      by (t ∷ ts) is =
+          let whole : expected ≡ h.gone ++ t ∷ ts = h.split ∙ ap (λ (l : List WordDay). h.gone ++ l) is in
+          record {
+            gone = h.gone;
+            there = more (t ∷ ts);
+            split = ap more whole ∙ more_back h.gone t ts;
+            covers = covers_more (t ∷ ts) (more (t ∷ ts)) days (more_grows (t ∷ ts)) (subst (λ (l : List WordDay). Covers l days) is h.covers);
+            full = full_more length bytes h.gone (t ∷ ts) (more (t ∷ ts)) (omega (arith, more_total t ts)) (subst (λ (l : List WordDay). IsFull length bytes h.gone l) is h.full);
+            some = λ none. absurd (more_some t ts none);
+            low = h.low;
+            high = from_more oldest (t ∷ ts) (subst (λ (l : List WordDay). AllFrom oldest l) is h.high);
+            none = λ none. absurd (more_some t ts none);
+          }
+
+  has_day : (expected : List WordDay) (v : WordDay) → AllBefore (suc v.day) expected → Has length bytes oldest expected days → Has length bytes oldest (expected ++ v ∷ []) days
+  has_day expected v before h = record {
+    gone = h.gone;
+    there = h.there ++ v ∷ [];
+    split = ap (λ (l : List WordDay). l ++ v ∷ []) h.split ∙ append_assoc h.gone h.there (v ∷ []);
+    covers = covers_more h.there (h.there ++ v ∷ []) days (grows_longer h.there (v ∷ [])) h.covers;
+    full = full_more length bytes h.gone h.there (h.there ++ v ∷ []) (grows_total h.there (h.there ++ v ∷ []) (grows_longer h.there (v ∷ []))) h.full;
+    some = λ none. absurd (append_some h.there v none);
+    low = h.low;
+    high = from_append oldest h.there v h.high (from_oldest v.day expected before h);
+    none = λ none. absurd (append_some h.there v none);
+  }
+
+  -- a closing word, and the words of an entry
+  has_closed : (covered : ℕ) (o : Option Entry) (next : ℕ) (ws : List WordDay) → Has length bytes oldest ws days → Has length bytes oldest (closes covered o next ws) days
+  has_closed covered None next ws h = h
+  has_closed covered (Some p) next ws h = by (is_closed covered p next)
+    where
+      by : (b : Bool) → Has length bytes oldest (cond b (more ws) ws) days
+      by true = has_more ws h
+      by false = h
+
+  has_entry : (before : Option Entry) (e : Entry) (ws : List WordDay) → AllBefore (suc (e.minute / 1440)) ws → Has length bytes oldest ws days → Has length bytes oldest (adds before e ws) days
+  has_entry before e ws low h = by (is_newest (e.minute / 1440) ws) (goes_on before e)
+    where
+      by : (a b : Bool) → Has length bytes oldest (cond a (cond b ws (more ws)) (ws ++ record { day = e.minute / 1440; words = first_words e.minute } ∷ [])) days
+      by true true = h
+      by true false = has_more ws h
+      by false b = has_day ws (record { day = e.minute / 1440; words = first_words e.minute }) low h
+
+-- no day is later than that of the entry that came last
+before_closed : (k covered : ℕ) (o : Option Entry) (next : ℕ) (ws : List WordDay) → AllBefore k ws → AllBefore k (closes covered o next ws)
+before_closed k covered None next ws b = b
+before_closed k covered (Some p) next ws b = by (is_closed covered p next)
+  where
+    by : (c : Bool) → AllBefore k (cond c (more ws) ws)
+    by true = before_more k ws b
+    by false = b
+
+before_entry : (k : ℕ) (before : Option Entry) (e : Entry) (ws : List WordDay) → e.minute / 1440 < k → AllBefore k ws → AllBefore k (adds before e ws)
+before_entry k before e ws lt b = by (is_newest (e.minute / 1440) ws) (goes_on before e)
+  where
+    by : (a g : Bool) → AllBefore k (cond a (cond g ws (more ws)) (ws ++ record { day = e.minute / 1440; words = first_words e.minute } ∷ []))
+    by true true = b
+    by true false = before_more k ws b
+    by false g = before_append k ws (record { day = e.minute / 1440; words = first_words e.minute }) b lt
+
+before_with : (k covered : ℕ) (c : Counted) (e : Entry) → e.minute / 1440 < k → AllBefore k c.days → AllBefore k (with_entry covered c e).days
+before_with k covered c e lt b = before_entry k c.before e (closes covered c.before e.minute c.days) lt (before_closed k covered c.before e.minute c.days b)
+
+counted_none : (covered : ℕ) (c : Counted) → counted covered c [] ≡ c
+unfolding counted
+counted_none covered c = refl
+
+counted_next : (covered : ℕ) (c : Counted) (e : Entry) (es : List Entry) → counted covered c (e ∷ es) ≡ counted covered (with_entry covered c e) es
+unfolding counted
+counted_next covered c e es = refl
+
+pub before_counted : (k covered : ℕ) (c : Counted) (es : List Entry) → AllBefore k c.days → All (λ e. e.minute / 1440 < k) es → AllBefore k (counted covered c es).days
+before_counted k covered c [] b each = subst (λ (d : Counted). AllBefore k d.days) (sym (counted_none covered c)) b
+before_counted k covered c (e ∷ es) b each =
+    subst (λ (d : Counted). AllBefore k d.days) (sym (counted_next covered c e es))
+    (before_counted k covered (with_entry covered c e) es (before_with k covered c e (All-head (λ (d : Entry). d.minute / 1440 < k) e es each) b) (All-tail (λ (d : Entry). d.minute / 1440 < k) e es each))
+
+pub counted_then : (covered : ℕ) (c : Counted) (es fs : List Entry) → counted covered c (es ++ fs) ≡ counted covered (counted covered c es) fs
+counted_then covered c [] fs = ap (λ (d : Counted). counted covered d fs) (sym (counted_none covered c))
+counted_then covered c (e ∷ es) fs =
+    counted_next covered c e (es ++ fs) ∙ counted_then covered (with_entry covered c e) es fs ∙ ap (λ (d : Counted). counted covered d fs) (sym (counted_next covered c e es))
+
+-- a later day
+same_or_later : (m n : ℕ) → m < n → suc (m / 1440) ≤ suc (n / 1440)
+same_or_later m n lt = omega (arith, lt)
+
+module _ (length bytes oldest covered n : ℕ) (days : List WordDay) where
+  has_with : (c : Counted) (e : Entry) → AllBefore (suc (e.minute / 1440)) c.days → Has length bytes oldest (closes covered c.before e.minute c.days) days → Has length bytes oldest (with_entry covered c e).days days
+  has_with c e low h = has_entry length bytes oldest days c.before e (closes covered c.before e.minute c.days) (before_closed (suc (e.minute / 1440)) covered c.before e.minute c.days low) h
+
+  has_due : (c : Counted) (e : Entry) (es : List Entry) → Rise (e ∷ es) → AllBefore (suc (e.minute / 1440)) c.days → Has length bytes oldest (closes covered c.before e.minute c.days) days →
+      Has length bytes oldest (expected_days covered n (counted covered c (e ∷ es))) days
+  has_due c e [] rise low h =
+      subst (λ (d : Counted). Has length bytes oldest (expected_days covered n d) days) (sym (counted_next covered c e [] ∙ counted_none covered (with_entry covered c e)))
+      (has_closed length bytes oldest days covered (Some e) n (with_entry covered c e).days (has_with c e low h))
+  has_due c e (f ∷ fs) rise low h =
+      subst (λ (d : Counted). Has length bytes oldest (expected_days covered n d) days) (sym (counted_next covered c e (f ∷ fs)))
+      (has_due (with_entry covered c e) f fs rise.1
+      (before_later (suc (e.minute / 1440)) (suc (f.minute / 1440)) (with_entry covered c e).days (same_or_later e.minute f.minute rise.0) (before_with (suc (e.minute / 1440)) covered c e (omega arith) low))
+      (has_closed length bytes oldest days covered (Some e) f.minute (with_entry covered c e).days (has_with c e low h)))
+
+-- the entries from the oldest day on
+le_is : (m n : ℕ) → m ≤ n → nat_le m n ≡ true
+le_is m n le = grind (arith, nat_tests)
+
+from_all : (o : ℕ) (e : Entry) (es : List Entry) → Rise (e ∷ es) → o ≤ e.minute / 1440 → entries_from o (e ∷ es) ≡ e ∷ es
+from_all o e [] later le = ap (λ (b : Bool). cond b (e ∷ []) []) (le_is o (e.minute / 1440) le)
+from_all o e (f ∷ es) later le =
+    ap (λ (b : Bool). cond b (e ∷ entries_from o (f ∷ es)) (entries_from o (f ∷ es))) (le_is o (e.minute / 1440) le)
+    ∙ ap (λ (l : List Entry). e ∷ l) (from_all o f es later.1 (omega (arith, le, same_or_later e.minute f.minute later.0)))
+
+from_both : (o : ℕ) (all due : List Entry) → entries_from o (all ++ due) ≡ entries_from o all ++ entries_from o due
+from_both o [] due = refl
+from_both o (e ∷ all) due = by (nat_le o (e.minute / 1440)) (from_both o all due)
+  where
+    by : (b : Bool) → entries_from o (all ++ due) ≡ entries_from o all ++ entries_from o due → cond b (e ∷ entries_from o (all ++ due)) (entries_from o (all ++ due)) ≡ cond b (e ∷ entries_from o all) (entries_from o all) ++ entries_from o due
+    by true rest = ap (λ (l : List Entry). e ∷ l) rest
+    by false rest = rest
+
+-- WHAT COMES NEXT COUNTS: where a string keeps the rule of these entries with the next one not earlier than the first of the others,
+-- which are later and of no earlier day, it keeps that of all with these counted as there.
+pub retains_due : (size bytes covered n : ℕ) (c : Counted) (all : List Entry) (e : Entry) (es : List Entry) (days : List WordDay) (shown : List Entry) → Rise (e ∷ es) → AllBefore (suc (e.minute / 1440)) c.days →
+    CardRetains size bytes (expected_days covered e.minute c) all days shown → CardRetains size bytes (expected_days covered n (counted covered c (e ∷ es))) (all ++ e ∷ es) days (shown ++ e ∷ es)
+retains_due size bytes covered n c all e es days shown later low r =
+    let had : Has size bytes r.oldest (closes covered c.before e.minute c.days) days = record { gone = r.gone; there = r.there; split = r.split; covers = r.covers; full = r.full; some = r.some; low = r.low; high = r.high; none = r.none } in
+    let has = has_due size bytes r.oldest covered n days c e es later low had in
+    let from : r.oldest ≤ e.minute / 1440 = from_oldest size bytes r.oldest days (e.minute / 1440) (closes covered c.before e.minute c.days) (before_closed (suc (e.minute / 1440)) covered c.before e.minute c.days low) had in
+    record {
+      gone = has.gone;
+      there = has.there;
+      split = has.split;
+      covers = has.covers;
+      full = has.full;
+      some = has.some;
+      oldest = r.oldest;
+      low = has.low;
+      high = has.high;
+      none = has.none;
+      entries = ap (λ (l : List Entry). l ++ e ∷ es) r.entries ∙ ap (λ (l : List Entry). entries_from r.oldest all ++ l) (sym (from_all r.oldest e es later from)) ∙ sym (from_both r.oldest all (e ∷ es));
+    }
