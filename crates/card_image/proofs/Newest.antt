@@ -1,5 +1,5 @@
 -- The newest minute of a card, by its end mark and its last entry; and the entries of the days that count.
-use Rattle.std.proofs.Common.{◌≡◌, ℕ, ◌+◌, ◌/◌, ◌%◌, ◌<◌, ◌≤◌, max, Bool, true, false, cond, List, [], ◌∷◌, refl, ◌∙◌, ap, arith}
+use Rattle.std.proofs.Common.{◌≡◌, ℕ, suc, ◌+◌, ◌/◌, ◌%◌, ◌<◌, ◌≤◌, max, Bool, true, false, cond, List, [], ◌∷◌, refl, ◌∙◌, ap, arith}
 use Rattle.std.specs.Prelude.{nat_eq}
 use Rattle.std.proofs.lemmas.Bool.Decides.{nat_tests}
 use Rattle.std.proofs.Math.Nat.{max-eq_left}
@@ -10,6 +10,9 @@ use Rattle.card_model.specs.Days.{Day, AreDays, AreWords, last_word}
 use Rattle.card_model.specs.Changes.{OnNewest, date_of, trimmed}
 use Rattle.card_model.proofs.Trims.{are_trimmed, trimmed_twice}
 use Rattle.card_retention.specs.Entries.{entries_up_to, last_entry, newest_word, closed_at, newest_minute}
+use Rattle.card_retention.specs.Shown.{AllBefore, sizes}
+use Rattle.card_retention.proofs.Starting.{sizes_low}
+use Rattle.card_retention.proofs.Entering.{before_later}
 use Rattle.card_retention.proofs.Flat.{UpTo, newest_flat}
 use Rattle.card_retention.proofs.Checked.{early_last}
 use Rattle.card_retention.proofs.Newest.{newest_law}
@@ -17,7 +20,7 @@ use Rattle.card_retention.proofs.ListTrims.{words_ascend, last_below, entries_tr
 use Rattle.card_image.specs.Fields.{card_days}
 use Rattle.card_image.specs.View.{counting, card_view}
 
-words_below : (ws : List ℕ) → AreWords ws → word_minute (last_word ws) < 1440
+pub words_below : (ws : List ℕ) → AreWords ws → word_minute (last_word ws) < 1440
 words_below [] are = absurd are
 words_below (w ∷ ws) are = last_below 0 w ws (words_ascend (w ∷ ws) are)
 
@@ -36,7 +39,7 @@ newest_low mark date d [] are on = by (nat_eq d.date (date_of mark)) refl
     by false here = omega (arith, apart d.date (date_of mark) on.day here, words_below d.words are.1.ordered, are.1.midnight)
 newest_low mark date d (e ∷ ds) are on = newest_low mark d.date e ds are.2 on
 
-newest_flat_low : (mark : ℕ) (ds : List Day) → AreDays 0 ds → trimmed mark ds ≡ ds → newest_word ds ≤ mark
+pub newest_flat_low : (mark : ℕ) (ds : List Day) → AreDays 0 ds → trimmed mark ds ≡ ds → newest_word ds ≤ mark
 newest_flat_low mark [] are is = omega arith
 newest_flat_low mark (d ∷ ds) are is = newest_low mark 0 d ds are (newest_flat mark d ds is)
 
@@ -59,3 +62,16 @@ counted_entries session mark ds are = by (nat_eq session 0)
     by : (b : Bool) → entries_up_to mark (cond b ds (trimmed mark ds)) ≡ entries_up_to mark ds
     by true = refl
     by false = entries_trimmed mark 0 ds are
+
+-- THE DAYS THAT COUNT are not later than the end mark and, where no session is open, the newest word
+pub counting_before : (session mark k : ℕ) (ds : List Day) → AreDays 0 ds → mark ≤ k → (session ≡ 0 → newest_word ds ≤ k) → AllBefore (suc (k / 1440)) (sizes (counting session mark ds))
+counting_before session mark k ds are low closed = by (nat_eq session 0) refl
+  where
+    none : (m : ℕ) → nat_eq m 0 ≡ true → m ≡ 0
+    none m is = grind (arith, nat_tests)
+
+    by : (b : Bool) → nat_eq session 0 ≡ b → AllBefore (suc (k / 1440)) (sizes (cond b ds (trimmed mark ds)))
+    by true is = before_later (suc (newest_word ds / 1440)) (suc (k / 1440)) (sizes ds) (omega (arith, closed (none session is))) (sizes_low 0 ds are)
+    by false is =
+        let less = are_trimmed mark 0 ds are in
+        before_later (suc (newest_word (trimmed mark ds) / 1440)) (suc (k / 1440)) (sizes (trimmed mark ds)) (omega (arith, low, newest_flat_low mark (trimmed mark ds) less (trimmed_twice mark ds))) (sizes_low 0 (trimmed mark ds) less)

@@ -1,23 +1,17 @@
 -- Where a card of given sizes keeps its days, vehicles, places and session, and what these fields say.
-use Rattle.std.specs.Prelude.{ℕ, ◌/◌, Option, Some, None, List, [], ◌∷◌, ◌++◌, take}
-use Rattle.byte_fields.specs.Fields.{total_width}
+use Rattle.std.specs.Prelude.{ℕ, ◌/◌, Option, Some, None, List, [], ◌∷◌, ◌++◌}
 use Rattle.card_layout.specs.declared.files.Application.{Application}
-use Rattle.card_layout.specs.declared.files.Fid.{Fid}
 use Rattle.card_layout.specs.Files.{place_of, size_of}
 use Rattle.tach_media.specs.Medium.{bytes_at}
-use Rattle.tacho_types.specs.Places.{place_widths}
 use Rattle.card_records.specs.declared.vehicle.Vehicle.{Vehicle}
-use Rattle.card_records.specs.Vehicles.{vehicle_widths, vehicle_of}
+use Rattle.card_records.specs.Vehicles.{vehicle_of}
 use Rattle.card_records.specs.declared.current_use.CurrentUse.{CurrentUse}
 use Rattle.card_records.specs.CurrentUses.{current_use_of}
+pub use Rattle.card_records.specs.Rings.{file, vehicle_ring, place_ring}
 use Rattle.card_model.specs.Days.{Day}
 use Rattle.card_model.specs.Image.{StringShape}
 use Rattle.card_model.specs.Walk.{days_of}
-use Rattle.gated_ring.specs.Ring.{Shape as RingShape, indices, entry_at}
-
--- a file of the card by its identifier
-abbrev pub file : ℕ → Fid
-file n = record { 0 = n }
+use Rattle.gated_ring.specs.Ring.{indices, entry_at}
 
 -- a file's bytes in the image
 abbrev pub file_bytes : Application → ℕ → List ℕ → List ℕ
@@ -26,21 +20,6 @@ file_bytes app n x = bytes_at x (place_of app (file n)) (size_of app (file n))
 -- the string of days, in Driver_Activity_Data
 abbrev pub day_string : Application → StringShape
 day_string app = record { base = place_of app (file 0x0504); size = app.activity }
-
--- the vehicle entries, in Vehicles_Used: an entry's gate is its first use
-abbrev pub vehicle_ring : Application → RingShape
-vehicle_ring app =
-    record {
-      base = place_of app (file 0x0505);
-      width = total_width vehicle_widths;
-      count = app.vehicles;
-      pointer_width = 2;
-      gate = total_width (take 2 vehicle_widths);
-    }
-
--- the place entries, in Places: an entry's gate is its time, its first field
-abbrev pub place_ring : Application → RingShape
-place_ring app = record { base = place_of app (file 0x0506); width = total_width place_widths; count = app.places; pointer_width = 1; gate = 0 }
 
 -- the last of a list, if there is one
 abbrev pub last_of : {X : Type 0} → List X → Option X

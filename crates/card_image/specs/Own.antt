@@ -1,5 +1,5 @@
 -- A card's image read by the sizes that it tells itself, and what the stated overwriting leaves of a card's entries.
-use Rattle.std.specs.Prelude.{◌≡◌, ℕ, ◌^◌, Option, None, List, drop, length}
+use Rattle.std.specs.Prelude.{◌≡◌, ℕ, ◌≤◌, Option, None, List, ◌++◌}
 use Rattle.activity_codec.specs.declared.entries.Entry.{Entry}
 use Rattle.card_layout.specs.declared.files.Application.{Application}
 use Rattle.card_layout.specs.declared.files.Fid.{Fid}
@@ -40,14 +40,21 @@ own_covered x =
 abbrev pub counted_view : CardView → Counted
 counted_view v = record { days = v.held.days; before = last_entry v.held.entries }
 
--- The days that these entries have, of which the first are those of a card's image at the start: the days that count there, and
--- those that the further entries bring. Behind the last entry its closing word counts, however late the next one is.
-unfoldable pub days_with : (start : List ℕ) → List Entry → List WordDay
-days_with start all =
-    expected_days (own_covered start) (2 ^ 32)
-    (counted (own_covered start) (counted_view (own_view start)) (drop (length (own_view start).held.entries) all))
+-- The days that the entries of a card have, whose image was this at the start: the days that count there, and those that further
+-- entries bring, where the next one is not earlier than a minute.
+unfoldable pub days_with : (start : List ℕ) → (next : ℕ) → List Entry → List WordDay
+days_with start next more =
+    expected_days (own_covered start) next (counted (own_covered start) (counted_view (own_view start)) more)
 
--- Of these entries a card, whose image was this at the start, keeps all but those of whole days at the old end; and the newest of
--- these days, those that are there and 16 bytes together exceed its string.
+-- Of these entries, which begin with its own, a card whose image was this at the start keeps all but those of whole days at the old
+-- end, where the next one is not earlier than a minute; the newest of these days, those that are there and 16 bytes together exceed
+-- its string.
+pub record KeepsFrom (start : List ℕ) (from : ℕ) (all : List Entry) (held : Held) : Type 0 where
+  pub more : List Entry
+  pub begins : all ≡ (own_view start).held.entries ++ more
+  pub keeps : (next : ℕ) → from ≤ next →
+      CardRetains (own_sizes start).activity 16 (days_with start next more) all held.days held.entries
+
+-- And where it is late enough, so that behind the last entry its closing word counts.
 abbrev pub KeepsOf : (start : List ℕ) → List Entry → Held → Type 0
-KeepsOf start all held = CardRetains (own_sizes start).activity 16 (days_with start all) all held.entries
+KeepsOf start all held = (from : ℕ) × KeepsFrom start from all held
