@@ -29,13 +29,14 @@ trimmed-more start front (e ∷ es) k each le =
 pub opened-still : (c : Card) (s newest floor : ℕ) (u v : UnitView) (x : CardView) → (row c v).session ≡ (row c u).session → owed c v x ≡ owed c u x → IsOpen c s newest floor u x → IsOpen c s newest floor v x
 opened-still c s newest floor u v x session same o = record { opened = o.opened; same = o.same; taken = session ∙ o.taken; mark = o.mark; recent = subst (λ (zs : List Entry). All (λ e. floor ≤ e.minute) zs) (sym same) o.recent }
 
-module _ (c : Card) (start : CardStart) (Keeps : List Entry → Held → Type 0) where
+module _ (c : Card) (start : CardStart) (Keeps : ℕ → List Entry → Held → Type 0) where
   -- AN IMAGE SINCE THE START
   -- as the unit begins to keep a minute
   pub had-broken : (b : Book) (i : HistoryMinute) (x : CardView) → b.maybe ≡ None → (on_card c i ≡ []) ⊎ (x.mark < i.minute) → Had c start Keeps b x → Had c start Keeps (broken i b) x
   had-broken b i x none fits h = record {
     more = h.more;
     rest = h.rest;
+    next = h.next;
     left = h.left;
     whole = h.whole;
     lacks = All-append (λ (e : Entry). x.mark < e.minute) h.rest (card_history c (i ∷ []))
@@ -53,6 +54,7 @@ module _ (c : Card) (start : CardStart) (Keeps : List Entry → Held → Type 0)
   had-settled b d x none (inl same) h = record {
     more = h.more;
     rest = h.rest;
+    next = h.next;
     left = h.left;
     whole = ap (λ (zs : List HistoryMinute). start.owed ++ card_history c zs) same ∙ h.whole;
     lacks = nothing-more d x h.rest none (all-front (λ (e : Entry). x.mark < e.minute) h.rest (card_history c (option_to_list b.maybe)) h.lacks);
@@ -61,6 +63,7 @@ module _ (c : Card) (start : CardStart) (Keeps : List Entry → Held → Type 0)
   had-settled b d x none (inr joined) h = record {
     more = h.more;
     rest = h.rest ++ last_one;
+    next = h.next;
     left = h.left;
     whole = whole ∙ ap (λ (zs : List Entry). zs ++ last_one) h.whole ∙ append_assoc h.more h.rest last_one;
     lacks = nothing-more d x (h.rest ++ last_one) none h.lacks;
@@ -75,9 +78,9 @@ module _ (c : Card) (start : CardStart) (Keeps : List Entry → Held → Type 0)
       whole = ap (λ (zs : List HistoryMinute). start.owed ++ card_history c zs) joined ∙ ap (λ (zs : List Entry). start.owed ++ zs) (history-append c b.sure (option_to_list b.maybe)) ∙ sym (append_assoc start.owed (card_history c b.sure) last_one)
 
   -- THE UNIT GOES ON
-  pub dark-unit : {U V : Seen UnitView} {X : Seen CardView} (R : UnitView → UnitView → Type 0) (began : ℕ) (b : Book) → CardDark c start Keeps began b U X → LeavesViews U V R →
-      ((u v : UnitView) (x : CardView) → U.may_leave u → R u v → X.may_leave x → Meets c start Keeps (all b) u x → Meets c start Keeps (all b) v x) → CardDark c start Keeps began b V X
-  dark-unit {U} {V} {X} R began b dark run step = record {
+  pub dark-unit : {U V : Seen UnitView} {X : Seen CardView} (R : UnitView → UnitView → Type 0) (began : ℕ) (b : Book) (s : Standing) → CardDark c start Keeps began b s U X → LeavesViews U V R →
+      ((u v : UnitView) (x : CardView) → U.may_leave u → R u v → X.may_leave x → Meets c start Keeps (all b) s u x → Meets c start Keeps (all b) s v x) → CardDark c start Keeps began b s V X
+  dark-unit {U} {V} {X} R began b s dark run step = record {
     meets = λ v x on there. ⊎_elim (λ was. dark.meets v x was there) (λ here. step here.0 v x here.1 here.2 there (dark.meets here.0 x here.1 there)) (run.now v on);
     later = dark.later;
     since = dark.since;
@@ -102,15 +105,15 @@ module _ (c : Card) (start : CardStart) (Keeps : List Entry → Held → Type 0)
   )
 
   -- a step that leaves the row and the last-kept minute as they are
-  pub dark-beside : {U V : Seen UnitView} {X : Seen CardView} (R : UnitView → UnitView → Type 0) (began : ℕ) (b : Book) → LeavesViews U V R → ((u v : UnitView) → R u v → (v.last ≡ u.last) × (row c v ≡ row c u)) →
-      CardDark c start Keeps began b U X → CardDark c start Keeps began b V X
-  dark-beside {U} {V} {X} R began b run beside dark = dark-unit R began b dark run (λ u v x on here there m.
-      meets-owed c start Keeps (all b) (all b) u v x (owed-beside c u v x (beside u v here).0 (beside u v here).1) (ap (λ (k : ℕ). up_to k (all b)) (beside u v here).0) m)
+  pub dark-beside : {U V : Seen UnitView} {X : Seen CardView} (R : UnitView → UnitView → Type 0) (began : ℕ) (b : Book) (s : Standing) → LeavesViews U V R → ((u v : UnitView) → R u v → (v.last ≡ u.last) × (row c v ≡ row c u)) →
+      CardDark c start Keeps began b s U X → CardDark c start Keeps began b s V X
+  dark-beside {U} {V} {X} R began b s run beside dark = dark-unit R began b s dark run (λ u v x on here there m.
+      meets-owed c start Keeps (all b) (all b) s u v x (owed-beside c u v x (beside u v here).0 (beside u v here).1) (ap (λ (k : ℕ). up_to k (all b)) (beside u v here).0) m)
 
   pub rule-beside : {U V : Seen UnitView} {X : Seen CardView} (R : UnitView → UnitView → Type 0) (began : ℕ) (b : Book) (s : Standing) (mine due : List Entry) → LeavesViews U V R → ((u v : UnitView) → R u v → (v.last ≡ u.last) × (row c v ≡ row c u)) →
       CardRule c start Keeps began b s mine due U X → CardRule c start Keeps began b s mine due V X
   rule-beside {U} {V} {X} R began b s mine due run beside rule = record {
-    dark = dark-beside R began b run beside rule.dark;
+    dark = dark-beside R began b s run beside rule.dark;
     cells = λ v on. let was = from v on in let k = rule.cells was.0 was.1 in
         record { olds = k.olds; cells = ap (λ (r : Row). r.cells) was.3 ∙ k.cells; kept = subst (λ (n : ℕ). All (λ (e : Entry). e.minute ≤ n) k.olds) (sym was.2) k.kept };
     stands = stands-unit U V X began s due (λ v on. let was = from v on in (was.0, was.1, ap (λ (r : Row). r.session) was.3, λ x there. owed-beside c was.0 v x was.2 was.3)) rule.stands;
@@ -124,22 +127,22 @@ module _ (c : Card) (start : CardStart) (Keeps : List Entry → Held → Type 0)
   read-card {U} {V} {X} began b s mine due run rule = rule-beside Nothing began b s mine due run (λ u v never. absurd never) rule
 
   -- THE CARD GOES ON, over a unit that tells its image
-  pub dark-card : {U : Seen UnitView} {X Y : Seen CardView} (R : CardView → CardView → Type 0) (began : ℕ) (b : Book) (u : UnitView) → U.may_leave u → b.maybe ≡ None → All (λ i. i.minute ≤ u.last) b.sure →
-      CardDark c start Keeps began b U X → LeavesViews X Y R →
-      ((u : UnitView) (x y : CardView) → U.may_leave u → X.may_leave x → R x y → Meets c start Keeps (all b) u x → Meets c start Keeps (all b) u y) → CardDark c start Keeps began b U Y
-  dark-card {U} {X} {Y} R began b u left none sure dark run step = record {
-    meets = λ v y on there. ⊎_elim (λ was. dark.meets v y on was) (λ here. step v here.0 y on here.1 here.2 (dark.meets v here.0 on here.1)) (run.now y there);
+  pub dark-card : {U : Seen UnitView} {X Y : Seen CardView} (R : CardView → CardView → Type 0) (began : ℕ) (b : Book) (s t : Standing) (u : UnitView) → U.may_leave u → b.maybe ≡ None → All (λ i. i.minute ≤ u.last) b.sure →
+      CardDark c start Keeps began b s U X → LeavesViews X Y R → ((u : UnitView) (x : CardView) → U.may_leave u → X.may_leave x → Meets c start Keeps (all b) s u x → Meets c start Keeps (all b) t u x) →
+      ((u : UnitView) (x y : CardView) → U.may_leave u → X.may_leave x → R x y → Meets c start Keeps (all b) s u x → Meets c start Keeps (all b) t u y) → CardDark c start Keeps began b t U Y
+  dark-card {U} {X} {Y} R began b s t u left none sure dark run still step = record {
+    meets = λ v y on there. ⊎_elim (λ was. still v y on was (dark.meets v y on was)) (λ here. step v here.0 y on here.1 here.2 (dark.meets v here.0 on here.1)) (run.now y there);
     later = omega (arith, dark.later, run.later);
-    since = λ y there. ⊎_elim (dark.since y) (λ here. had-meets c start Keeps b u y none sure (step u here.0 y left here.1 here.2 (dark.meets u here.0 left here.1))) (run.since began y dark.later there);
+    since = λ y there. ⊎_elim (dark.since y) (λ here. had-meets c start Keeps b t u y none sure (step u here.0 y left here.1 here.2 (dark.meets u here.0 left here.1))) (run.since began y dark.later there);
   }
 
   -- a card that only reads, or is revived, while it is out
-  pub look-dark : {U : Seen UnitView} {X Y : Seen CardView} (began : ℕ) (b : Book) → LeavesViews X Y Nothing → CardDark c start Keeps began b U X → CardDark c start Keeps began b U Y
-  look-dark {U} {X} {Y} began b run dark = record {
+  pub look-dark : {U : Seen UnitView} {X Y : Seen CardView} (began : ℕ) (b : Book) (s : Standing) → LeavesViews X Y Nothing → CardDark c start Keeps began b s U X → CardDark c start Keeps began b s U Y
+  look-dark {U} {X} {Y} began b s run dark = record {
     meets = λ u y on there. dark.meets u y on (⊎_elim (λ was. was) (λ never. absurd never.2) (run.now y there));
     later = omega (arith, dark.later, run.later);
     since = λ y there. dark.since y (⊎_elim (λ was. was) (λ never. absurd never.2) (run.since began y dark.later there));
   }
 
   pub look-card : {U : Seen UnitView} {X Y : Seen CardView} (began : ℕ) (b : Book) (mine : List Entry) → LeavesViews X Y Nothing → CardRule c start Keeps began b Out mine [] U X → CardRule c start Keeps began b Out mine [] U Y
-  look-card {U} {X} {Y} began b mine run rule = record { dark = look-dark {U = U} {X = X} {Y = Y} began b run rule.dark; cells = rule.cells; stands = tt }
+  look-card {U} {X} {Y} began b mine run rule = record { dark = look-dark {U = U} {X = X} {Y = Y} began b Out run rule.dark; cells = rule.cells; stands = tt }

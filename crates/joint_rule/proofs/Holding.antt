@@ -1,17 +1,18 @@
 -- What the rules say of a run's end: acknowledged minutes, the agreement of unit and card, presence.
-use Rattle.std.proofs.Common.{◌≡◌, ⊎_elim, ℕ, ◌<◌, ◌≤◌, ◌↔◌, max, Option, List, ◌++◌, Contains, ap, subst, ◌∙◌, arith, append_assoc}
+use Rattle.std.proofs.Common.{◌≡◌, ⊎_elim, ℕ, suc, ◌<◌, ◌≤◌, ◌↔◌, max, All, Option, List, [], ◌∷◌, ◌++◌, Contains, ap, subst, sym, ◌∙◌, arith}
 use Rattle.std.proofs.lemmas.List.Elements.{All-contains, Contains-append_left, Contains-append_cases}
 use Rattle.std.specs.Prelude.{option_to_list}
 use Rattle.activity_codec.specs.declared.entries.Entry.{Entry}
 use Rattle.trace_model.specs.declared.Card.{Card}
 use Rattle.history_model.specs.Minutes.{up_to, HistoryMinute, card_history}
 use Rattle.history_model.specs.Presence.{CardStart, trimmed_by, newest_by}
+use Rattle.card_retention.specs.Retains.{Rise}
 use Rattle.card_image.specs.View.{CardView, Held}
-use Rattle.joint_rule.specs.Views.{UnitView, owed}
+use Rattle.joint_rule.specs.Views.{UnitView, owed, newest_with}
 use Rattle.joint_rule.specs.Device.{Seen, CoherentViews, LeavesViews, SettledViews}
 use Rattle.history_model.specs.Book.{Book}
-use Rattle.joint_rule.specs.Rules.{Acknowledges, UnitHolds, Showed, Meets, Had, CardDark, EntriesGoOn}
-use Rattle.history_model.proofs.Filters.{all-front}
+use Rattle.joint_rule.specs.Rules.{Acknowledges, UnitHolds, Showed, Meets, Standing, since, Had, CardDark, OwedCounts}
+use Rattle.history_model.proofs.Filters.{all-front, all-back}
 use Rattle.history_model.proofs.Books.{reached-has}
 use Rattle.joint_rule.proofs.Pairs.{owed-above}
 use Rattle.unit_model.specs.Days.{Day}
@@ -36,9 +37,9 @@ unit-holds Fills first began due b U i clock whole holds later a sure u on =
     let s = holds.since u (whole.earlier began clock u later a.0 on) in
     (s, reached-has first due b s.past u.last i holds.order s.reached s.mark (Contains-append_left b.sure (option_to_list b.maybe) i sure) (a.1 u on))
 
-pub card-holds : (c : Card) (start : CardStart) (Keeps : List Entry → Held → Type 0) (began : ℕ) (b : Book) (U : Seen UnitView) (X : Seen CardView) (e : Entry) (clock : ℕ) → CoherentViews X → CardDark c start Keeps began b U X → began ≤ clock →
+pub card-holds : (c : Card) (start : CardStart) (Keeps : ℕ → List Entry → Held → Type 0) (began : ℕ) (b : Book) (s : Standing) (U : Seen UnitView) (X : Seen CardView) (e : Entry) (clock : ℕ) → CoherentViews X → CardDark c start Keeps began b s U X → began ≤ clock →
     Acknowledges (λ x. x.mark) e.minute clock X → Contains (start.owed ++ card_history c b.sure) e → (x : CardView) → X.left_since clock x → (h : Had c start Keeps b x) × Contains h.more e
-card-holds c start Keeps began b U X e clock whole dark later a at x on =
+card-holds c start Keeps began b s U X e clock whole dark later a at x on =
     let h = dark.since x (whole.earlier began clock x later a.0 on) in (
       h,
       ⊎_elim (λ in_. in_)
@@ -47,11 +48,21 @@ card-holds c start Keeps began b U X e clock whole dark later a at x on =
     )
 
 -- AGREEMENT: the entries of a card followed by those owed to it are the expected ones up to the unit's mark, but for days given up
-pub agree : (c : Card) (start : CardStart) (Keeps : List Entry → Held → Type 0) (Adds : Held → List Entry → Held → Type 0) → EntriesGoOn Keeps Adds → (past : List HistoryMinute) (u : UnitView) (x : CardView) → Meets c start Keeps past u x →
-    Keeps (start.entries ++ (start.owed ++ card_history c (up_to u.last past))) (record x.held { entries = x.held.entries ++ owed c u x })
-agree c start Keeps Adds law past u x m =
-    subst (λ (zs : List Entry). Keeps zs (record x.held { entries = x.held.entries ++ owed c u x })) (append_assoc start.entries m.more (owed c u x) ∙ ap (λ (zs : List Entry). start.entries ++ zs) m.whole)
-    (law.owed (start.entries ++ m.more) (owed c u x) x.mark x.held m.had (owed-above c u x) m.left)
+-- what stands behind others that rise rises
+pub rise-back : (xs ys : List Entry) → Rise (xs ++ ys) → Rise ys
+rise-back [] ys rise = rise
+rise-back (x ∷ []) [] rise = tt
+rise-back (x ∷ []) (y ∷ ys) rise = rise.1
+rise-back (x ∷ z ∷ xs) ys rise = rise-back (z ∷ xs) ys rise.1
+
+pub agree : (c : Card) (start : CardStart) (Keeps : ℕ → List Entry → Held → Type 0) (Retains : List Entry → Held → Type 0) → OwedCounts start Keeps Retains → (past : List HistoryMinute) (s : Standing) (u : UnitView) (x : CardView) →
+    Rise (start.owed ++ card_history c (up_to u.last past)) → All (λ e. start.word < e.minute) (start.owed ++ card_history c (up_to u.last past)) → Meets c start Keeps past s u x →
+    Retains (start.entries ++ (start.owed ++ card_history c (up_to u.last past))) (record x.held { entries = x.held.entries ++ owed c u x })
+agree c start Keeps Retains counts past s u x rise late m =
+    subst (λ (zs : List Entry). Retains (start.entries ++ zs) (record x.held { entries = x.held.entries ++ owed c u x })) m.whole
+    (counts (suc (max start.word (since s (newest_with x (owed c u x))))) x.mark m.more (owed c u x) x.held m.mark m.had (owed-above c u x)
+    (all-back (λ (e : Entry). start.word < e.minute) m.more (owed c u x) (subst (All (λ (e : Entry). start.word < e.minute)) (sym m.whole) late))
+    (rise-back m.more (owed c u x) (subst Rise (sym m.whole) rise)) m.left)
 
 -- PRESENCE: for a minute later than the words at the start, the newest minute that an insertion answers is earlier exactly where that of the history is
 pub presence-tied : (start : CardStart) (entries : List Entry) (newest words m : ℕ) → newest ≡ max words (trimmed_by start entries) → words ≤ max start.word (trimmed_by start entries) → start.word < m → (newest < m) ↔ (newest_by start entries < m)

@@ -12,45 +12,45 @@ use Rattle.joint_rule.specs.Views.{UnitView, row, other, owed, owed_in, is_sessi
 use Rattle.joint_rule.specs.Device.{Seen, LeavesViews, EndsWith}
 use Rattle.joint_rule.specs.Steps.{IsKept, IsUnkept, IsKeeping, IsPutting, IsPut, cleared, owing, IsOnCard, IsNowOnCard}
 use Rattle.history_model.specs.Book.{Book, all, kept, broken}
-use Rattle.joint_rule.specs.Rules.{Meets, IsOpen, NoLater, Standing, Out, In, Torn, Stands, CardDark, CardRule, IsPresent, Fits, EntriesGoOn}
+use Rattle.joint_rule.specs.Rules.{Meets, IsOpen, NoLater, Standing, Out, In, Torn, since, Stands, CardDark, CardRule, IsPresent, Fits, EntriesGoOn}
 use Rattle.history_model.proofs.Filters.{all-one}
 use Rattle.joint_rule.proofs.Owing.{owed-put, owed-kept, owed-beside, row-with, row-other, row-same, last-with}
 use Rattle.history_model.proofs.Books.{all-none, all-kept, up_to-whole, up_to-before, on_card-minute}
-use Rattle.joint_rule.proofs.Pairs.{meets-owed, meets-keep, meets-on_card, owed-on_card, owed-unmoved}
+use Rattle.joint_rule.proofs.Pairs.{meets-owed, meets-keep, meets-moved, meets-on_card, owed-on_card, owed-unmoved}
 use Rattle.joint_rule.proofs.CardLaws.{had-broken, had-settled, dark-unit, dark-card, dark-beside, rule-beside, stands-unit}
 use Rattle.unit_model.specs.Days.{Day}
 use Rattle.owed_model.specs.Owed.{Row}
 
 -- a minute is later than every end mark of its card since the start
-fits-since : (c : Card) (start : CardStart) (began : ℕ) (s : Standing) (due : List Entry) (i : HistoryMinute) (U : Seen UnitView) (X : Seen CardView) → Stands c start began s due U X → Fits c s i →
+fits-since : (c : Card) (start : CardStart) (began : ℕ) (s : Standing) (due : List Entry) (i : HistoryMinute) (U : Seen UnitView) (X : Seen CardView) → Stands c start began s due U X → Fits c start s i →
     (x : CardView) → X.left_since began x → (on_card c i ≡ []) ⊎ (x.mark < i.minute)
 fits-since c start began s due i U X stands (inl none) x there = inl none
 fits-since c start began Out due i U X stands (inr present) x there = absurd present
-fits-since c start began (In s newest) due i U X stands (inr present) x there = inr (omega (arith, stands.1 x there, present.0))
-fits-since c start began (Torn s newest floor) due i U X stands (inr present) x there = inr (omega (arith, stands.0 x there, present.0))
+fits-since c start began (In s newest) due i U X stands (inr present) x there = inr (omega (arith, stands.1 x there, present.1))
+fits-since c start began (Torn s newest floor) due i U X stands (inr present) x there = inr (omega (arith, stands.0 x there, present.1))
 
 opened-session : (s t r : ℕ) → 0 < s → r ≡ s → t ≡ s → is_session r t ≡ true
 opened-session s t r h is same = let pos : 0 < r = omega (arith, h, is) in let eq : r ≡ t = omega (arith, is, same) in grind (arith, nat_tests, pos, eq)
 
 -- where a card is present, its row is that of its session
-fits-row : (c : Card) (start : CardStart) (began : ℕ) (s : Standing) (due : List Entry) (i : HistoryMinute) (U : Seen UnitView) (X : Seen CardView) → Stands c start began s due U X → Fits c s i →
+fits-row : (c : Card) (start : CardStart) (began : ℕ) (s : Standing) (due : List Entry) (i : HistoryMinute) (U : Seen UnitView) (X : Seen CardView) → Stands c start began s due U X → Fits c start s i →
     (u : UnitView) (x : CardView) → U.may_leave u → X.may_leave x → (on_card c i ≡ []) ⊎ ((is_session (row c u).session x.session ≡ true) × (x.session / 60 ≤ i.minute) × (x.mark < i.minute))
 fits-row c start began s due i U X stands (inl none) u x on there = inl none
 fits-row c start began Out due i U X stands (inr present) u x on there = absurd present
 fits-row c start began (In s newest) due i U X stands (inr present) u x on there =
     let o = (stands.2 u x on there).open_ in
-    inr (opened-session s x.session (row c u).session o.opened o.taken o.same, subst (λ (n : ℕ). n / 60 ≤ i.minute) (sym o.same) present.1, omega (arith, o.mark, present.0))
+    inr (opened-session s x.session (row c u).session o.opened o.taken o.same, subst (λ (n : ℕ). n / 60 ≤ i.minute) (sym o.same) present.2, omega (arith, o.mark, present.1))
 fits-row c start began (Torn s newest floor) due i U X stands (inr present) u x on there =
     let o = stands.1 u x on there in
-    inr (opened-session s x.session (row c u).session o.opened o.taken o.same, subst (λ (n : ℕ). n / 60 ≤ i.minute) (sym o.same) present.1, omega (arith, o.mark, present.0))
+    inr (opened-session s x.session (row c u).session o.opened o.taken o.same, subst (λ (n : ℕ). n / 60 ≤ i.minute) (sym o.same) present.2, omega (arith, o.mark, present.1))
 
 -- no entry that is owed stands in the cell of a minute that is to come
-near : (c : Card) (start : CardStart) (began : ℕ) (s : Standing) (m : ℕ) (U : Seen UnitView) (X : Seen CardView) → Stands c start began s [] U X → IsPresent s m →
+near : (c : Card) (start : CardStart) (began : ℕ) (s : Standing) (m : ℕ) (U : Seen UnitView) (X : Seen CardView) → Stands c start began s [] U X → IsPresent start s m →
     (u : UnitView) (x : CardView) → U.may_leave u → X.may_leave x → All (λ d. m < d.minute + 4) (owed c u x)
 near c start began Out m U X stands present u x on there = absurd present
 near c start began (In s newest) m U X stands present u x on there = subst (All (λ (d : Entry). m < d.minute + 4)) (sym (stands.2 u x on there).due_) (All-nil (λ (d : Entry). m < d.minute + 4))
 near c start began (Torn s newest floor) m U X stands present u x on there =
-    All-weaker (λ (d : Entry). floor ≤ d.minute) (λ d. m < d.minute + 4) (λ d h. omega (arith, h, present.3)) (owed c u x) (stands.1 u x on there).recent
+    All-weaker (λ (d : Entry). floor ≤ d.minute) (λ d. m < d.minute + 4) (λ d h. omega (arith, h, present.4)) (owed c u x) (stands.1 u x on there).recent
 
 -- PUT_OWED beside another card
 pub putting-beside : (c : Card) (e : Entry) (u v : UnitView) → IsPutting c e u v → (v.last ≡ u.last) × (row (other c) v ≡ row (other c) u)
@@ -61,21 +61,21 @@ putting-beside c e u v (inr (inr is)) = (ap (λ (w : UnitView). w.last) is ∙ l
 putting-last : (c : Card) (e : Entry) (u v : UnitView) → IsPutting c e u v → v.last ≡ u.last
 putting-last c e u v p = (putting-beside c e u v p).0
 
-module _ (c : Card) (start : CardStart) (Keeps : List Entry → Held → Type 0) (began : ℕ) (b : Book) where
+module _ (c : Card) (start : CardStart) (Keeps : ℕ → List Entry → Held → Type 0) (began : ℕ) (b : Book) where
   pub owe-other : {U V : Seen UnitView} {Z : Seen CardView} (e : Entry) (z : Standing) (m d : List Entry) → LeavesViews U V (IsPutting c e) → CardRule (other c) start Keeps began b z m d U Z → CardRule (other c) start Keeps began b z m d V Z
   owe-other {U} {V} {Z} e z m d run rule = rule-beside (other c) start Keeps (IsPutting c e) began b z m d run (putting-beside c e) rule
 
-  pub owe-other_dark : {U V : Seen UnitView} {Z : Seen CardView} (e : Entry) → LeavesViews U V (IsPutting c e) → CardDark (other c) start Keeps began b U Z → CardDark (other c) start Keeps began b V Z
-  owe-other_dark {U} {V} {Z} e run dark = dark-beside (other c) start Keeps (IsPutting c e) began b run (putting-beside c e) dark
+  pub owe-other_dark : {U V : Seen UnitView} {Z : Seen CardView} (e : Entry) (z : Standing) → LeavesViews U V (IsPutting c e) → CardDark (other c) start Keeps began b z U Z → CardDark (other c) start Keeps began b z V Z
+  owe-other_dark {U} {V} {Z} e z run dark = dark-beside (other c) start Keeps (IsPutting c e) began b z run (putting-beside c e) dark
 
   -- PUT_OWED, at each moment
-  pub owe-dark : {U V : Seen UnitView} {X : Seen CardView} (s : Standing) (e : Entry) → CardRule c start Keeps began b s [] [] U X → LeavesViews U V (IsPutting c e) → ((u : UnitView) → U.may_leave u → u.last < e.minute) → IsPresent s e.minute →
-      CardDark c start Keeps began b V X
-  owe-dark {U} {V} {X} s e rule run late present = dark-unit c start Keeps (IsPutting c e) began b rule.dark run (λ u v x on here there m.
-      meets-owed c start Keeps (all b) (all b) u v x (owed-put c e u v x here (late u on) (near c start began s e.minute U X rule.stands present u x on there)) (ap (λ (k : ℕ). up_to k (all b)) (putting-last c e u v here)) m)
+  pub owe-dark : {U V : Seen UnitView} {X : Seen CardView} (s : Standing) (e : Entry) → CardRule c start Keeps began b s [] [] U X → LeavesViews U V (IsPutting c e) → ((u : UnitView) → U.may_leave u → u.last < e.minute) → IsPresent start s e.minute →
+      CardDark c start Keeps began b s V X
+  owe-dark {U} {V} {X} s e rule run late present = dark-unit c start Keeps (IsPutting c e) began b s rule.dark run (λ u v x on here there m.
+      meets-owed c start Keeps (all b) (all b) s u v x (owed-put c e u v x here (late u on) (near c start began s e.minute U X rule.stands present u x on there)) (ap (λ (k : ℕ). up_to k (all b)) (putting-last c e u v here)) m)
 
   -- and at its end
-  pub owe-card : {U V : Seen UnitView} {X : Seen CardView} (s : Standing) (e : Entry) → CardRule c start Keeps began b s [] [] U X → LeavesViews U V (IsPutting c e) → EndsWith U V (IsPut c e) → ((u : UnitView) → U.may_leave u → u.last < e.minute) → IsPresent s e.minute →
+  pub owe-card : {U V : Seen UnitView} {X : Seen CardView} (s : Standing) (e : Entry) → CardRule c start Keeps began b s [] [] U X → LeavesViews U V (IsPutting c e) → EndsWith U V (IsPut c e) → ((u : UnitView) → U.may_leave u → u.last < e.minute) → IsPresent start s e.minute →
       CardRule c start Keeps began b s (e ∷ []) [] V X
   owe-card {U} {V} {X} s e rule run ends late present = record {
     dark = owe-dark s e rule run late present;
@@ -97,7 +97,7 @@ module _ (c : Card) (start : CardStart) (Keeps : List Entry → Held → Type 0)
   -- KEEP of the unit
   module _ (Adds Gives : HistoryMinute → List Day → List Day → Type 0) where
     -- the entry of the minute is owed to its card from its keeping on
-    grown : (s : Standing) (i : HistoryMinute) (U : Seen UnitView) (X : Seen CardView) → CardRule c start Keeps began b s (on_card c i) [] U X → Fits c s i → 1440 ≤ i.minute →
+    grown : (s : Standing) (i : HistoryMinute) (U : Seen UnitView) (X : Seen CardView) → CardRule c start Keeps began b s (on_card c i) [] U X → Fits c start s i → 1440 ≤ i.minute →
         (u v : UnitView) (x : CardView) → U.may_leave u → X.may_leave x → u.last < i.minute → IsKept Adds i u v → owed c v x ≡ owed c u x ++ on_card c i
     grown s i U X rule fits day u v x on there late k =
         let cells = rule.cells u on in
@@ -105,7 +105,7 @@ module _ (c : Card) (start : CardStart) (Keeps : List Entry → Held → Type 0)
         ∙ owed-kept (row c u) u.last i.minute x.session x.mark cells.olds (on_card c i) cells.cells cells.kept late (on_card-minute c i)
         (⊎_elim inl (λ f. inr (f.0, day, f.1, f.2)) (fits-row c start began s [] i U X rule.stands fits u x on there))
 
-    mark-of : (s : Standing) (i : HistoryMinute) (U : Seen UnitView) (X : Seen CardView) → CardRule c start Keeps began b s (on_card c i) [] U X → Fits c s i →
+    mark-of : (s : Standing) (i : HistoryMinute) (U : Seen UnitView) (X : Seen CardView) → CardRule c start Keeps began b s (on_card c i) [] U X → Fits c start s i →
         (u : UnitView) (x : CardView) → U.may_leave u → X.may_leave x → (on_card c i ≡ []) ⊎ (x.mark < i.minute)
     mark-of s i U X rule fits u x on there = ⊎_elim inl (λ f. inr f.2) (fits-row c start began s [] i U X rule.stands fits u x on there)
 
@@ -119,18 +119,25 @@ module _ (c : Card) (start : CardStart) (Keeps : List Entry → Held → Type 0)
     without-new : (i : HistoryMinute) (k : ℕ) → b.maybe ≡ None → k < i.minute → up_to k (b.sure ++ i ∷ []) ≡ up_to k (all b)
     without-new i k none late = up_to-before k b.sure i late ∙ ap (up_to k) (sym (all-none b none))
 
-    module _ {U : Seen UnitView} {X : Seen CardView} (s : Standing) (i : HistoryMinute) (none : b.maybe ≡ None) (sure : (u : UnitView) → U.may_leave u → All (λ j. j.minute ≤ u.last) b.sure) (late : (u : UnitView) → U.may_leave u → u.last < i.minute)
-        (day : 1440 ≤ i.minute) (rule : CardRule c start Keeps began b s (on_card c i) [] U X) (fits : Fits c s i) where
-      meets-new : (u v : UnitView) (x : CardView) → U.may_leave u → X.may_leave x → IsKept Adds i u v → Meets c start Keeps (b.sure ++ i ∷ []) v x
-      meets-new u v x on there k = meets-keep c start Keeps (all b) (b.sure ++ i ∷ []) i u v x (grown s i U X rule fits day u v x on there (late u on) k) (with-new i u v none (sure u on) (late u on) k.last)
-          (mark-of s i U X rule fits u x on there) (rule.dark.meets u x on there)
+    -- and its entry comes where one may come
+    comes-when : (s : Standing) (i : HistoryMinute) → Fits c start s i → (on_card c i ≡ []) ⊎ ((start.word < i.minute) × ((n : ℕ) → since s n < i.minute))
+    comes-when s i (inl none) = inl none
+    comes-when Out i (inr present) = absurd present
+    comes-when (In session newest) i (inr present) = inr (present.0, λ n. present.1)
+    comes-when (Torn session newest floor) i (inr present) = inr (present.0, λ n. present.1)
 
-      meets-still : (u v : UnitView) (x : CardView) → U.may_leave u → X.may_leave x → IsUnkept Gives i u v → Meets c start Keeps (b.sure ++ i ∷ []) v x
-      meets-still u v x on there k = meets-owed c start Keeps (all b) (b.sure ++ i ∷ []) u v x (owed-beside c u v x k.last (row-same c u v k.rows))
+    module _ {U : Seen UnitView} {X : Seen CardView} (comes : (next n : ℕ) (full : List Entry) (h : Held) → next ≤ n → Keeps next full h → Keeps n full h) (s : Standing) (i : HistoryMinute) (none : b.maybe ≡ None) (sure : (u : UnitView) → U.may_leave u → All (λ j. j.minute ≤ u.last) b.sure) (late : (u : UnitView) → U.may_leave u → u.last < i.minute)
+        (day : 1440 ≤ i.minute) (rule : CardRule c start Keeps began b s (on_card c i) [] U X) (fits : Fits c start s i) where
+      meets-new : (u v : UnitView) (x : CardView) → U.may_leave u → X.may_leave x → IsKept Adds i u v → Meets c start Keeps (b.sure ++ i ∷ []) s v x
+      meets-new u v x on there k = meets-keep c start Keeps (all b) (b.sure ++ i ∷ []) s i u v x (λ full next n. comes next n full x.held) (grown s i U X rule fits day u v x on there (late u on) k) (with-new i u v none (sure u on) (late u on) k.last)
+          (mark-of s i U X rule fits u x on there) (comes-when s i fits) (rule.dark.meets u x on there)
+
+      meets-still : (u v : UnitView) (x : CardView) → U.may_leave u → X.may_leave x → IsUnkept Gives i u v → Meets c start Keeps (b.sure ++ i ∷ []) s v x
+      meets-still u v x on there k = meets-owed c start Keeps (all b) (b.sure ++ i ∷ []) s u v x (owed-beside c u v x k.last (row-same c u v k.rows))
           (without-new i v.last none (omega (arith, k.last, late u on)) ∙ ap (λ (n : ℕ). up_to n (all b)) k.last) (rule.dark.meets u x on there)
 
       -- at each moment
-      pub keep-dark : {V : Seen UnitView} → LeavesViews U V (IsKeeping Adds Gives i) → CardDark c start Keeps began (broken i b) V X
+      pub keep-dark : {V : Seen UnitView} → LeavesViews U V (IsKeeping Adds Gives i) → CardDark c start Keeps began (broken i b) s V X
       keep-dark {V} run = record {
         meets = λ v x on there. ⊎_elim
             (λ was. meets-still v v x was there (record { rows = record { row_a = refl; row_b = refl }; last = refl; days = inl refl }))
@@ -143,7 +150,7 @@ module _ (c : Card) (start : CardStart) (Keeps : List Entry → Held → Type 0)
       pub keep-card : {V : Seen UnitView} → LeavesViews U V (IsKeeping Adds Gives i) → EndsWith U V (IsKept Adds i) → CardRule c start Keeps began (kept i b) s [] (on_card c i) V X
       keep-card {V} run ends = record {
         dark = record {
-          meets = λ v x on there. let was = ends.now v on in subst (λ (zs : List HistoryMinute). Meets c start Keeps zs v x) (sym (all-kept i b)) (meets-new was.0 v x was.1 there was.2);
+          meets = λ v x on there. let was = ends.now v on in subst (λ (zs : List HistoryMinute). Meets c start Keeps zs s v x) (sym (all-kept i b)) (meets-new was.0 v x was.1 there was.2);
           later = rule.dark.later;
           since = λ x there. had-settled c start Keeps (broken i b) (kept i b) x refl (inr refl) ((keep-dark run).since x there);
         };
@@ -158,7 +165,7 @@ module _ (c : Card) (start : CardStart) (Keeps : List Entry → Held → Type 0)
         stands = stand s rule.stands fits (λ u v x on there k. grown s i U X rule fits day u v x on there (late u on) k);
       }
         where
-          stand : (s : Standing) → Stands c start began s [] U X → Fits c s i → ((u v : UnitView) (x : CardView) → U.may_leave u → X.may_leave x → IsKept Adds i u v → owed c v x ≡ owed c u x ++ on_card c i) → Stands c start began s (on_card c i) V X
+          stand : (s : Standing) → Stands c start began s [] U X → Fits c start s i → ((u v : UnitView) (x : CardView) → U.may_leave u → X.may_leave x → IsKept Adds i u v → owed c v x ≡ owed c u x ++ on_card c i) → Stands c start began s (on_card c i) V X
           stand Out stands fits more = tt
           stand (In s newest) stands fits more = (
             stands.0,
@@ -183,20 +190,25 @@ module _ (c : Card) (start : CardStart) (Keeps : List Entry → Held → Type 0)
                   recent = subst (All (λ (e : Entry). floor ≤ e.minute)) (sym (more was.0 v x was.1 there was.2))
                       (All-append (λ (e : Entry). floor ≤ e.minute) (owed c was.0 x) (on_card c i) o.recent
                       (⊎_elim (λ none. subst (All (λ (e : Entry). floor ≤ e.minute)) (sym none) (All-nil (λ (e : Entry). floor ≤ e.minute)))
-                      (λ present. All-weaker (λ (e : Entry). e.minute ≡ i.minute) (λ e. floor ≤ e.minute) (λ e h. omega (arith, h, present.2)) (on_card c i) (on_card-minute c i)) fits));
+                      (λ present. All-weaker (λ (e : Entry). e.minute ≡ i.minute) (λ e. floor ≤ e.minute) (λ e h. omega (arith, h, present.3)) (on_card c i) (on_card-minute c i)) fits));
                 },
           )
 
   -- KEEP of a card
-  module _ (Adds : Held → List Entry → Held → Type 0) (law : EntriesGoOn Keeps Adds) {U : Seen UnitView} {X Y : Seen CardView} (s newest : ℕ) (e : Entry) (none : b.maybe ≡ None)
-      (sure : (u : UnitView) → U.may_leave u → All (λ j. j.minute ≤ u.last) b.sure) (rule : CardRule c start Keeps began b (In s newest) [] (e ∷ []) U X) (late : newest < e.minute) (run : LeavesViews X Y (IsOnCard Adds e)) where
-    step : (u : UnitView) (x y : CardView) → U.may_leave u → X.may_leave x → IsOnCard Adds e x y → Meets c start Keeps (all b) u x → Meets c start Keeps (all b) u y
-    step u x y on there k m =
+  module _ (Adds : ℕ → Held → List Entry → Held → Type 0) (law : EntriesGoOn Keeps Adds) {U : Seen UnitView} {X Y : Seen CardView} (s newest : ℕ) (e : Entry) (none : b.maybe ≡ None)
+      (sure : (u : UnitView) → U.may_leave u → All (λ j. j.minute ≤ u.last) b.sure) (rule : CardRule c start Keeps began b (In s newest) [] (e ∷ []) U X) (late : newest < e.minute) (fresh : start.word < e.minute) (run : LeavesViews X Y (IsOnCard Adds e)) where
+    step : (t : Standing) → ((n : ℕ) → since t n ≡ e.minute) → (u : UnitView) (x y : CardView) → U.may_leave u → X.may_leave x → IsOnCard Adds e x y → Meets c start Keeps (all b) (In s newest) u x → Meets c start Keeps (all b) t u y
+    step t at u x y on there k m =
         let i = rule.stands.2 u x on there in
-        meets-on_card c start Keeps Adds law (all b) e u x y k (omega (arith, i.open_.opened, i.open_.same)) (omega (arith, i.open_.mark, late)) i.due_ m
+        let le : newest ≤ e.minute = omega (arith, late) in
+        meets-on_card c start Keeps Adds law (all b) (In s newest) t e u x y (λ n. le) at fresh k (omega (arith, i.open_.opened, i.open_.same)) (omega (arith, i.open_.mark, late)) i.due_ m
 
-    pub on_card-dark : (u : UnitView) → U.may_leave u → CardDark c start Keeps began b U Y
-    on_card-dark u on = dark-card c start Keeps (IsOnCard Adds e) began b u on none (sure u on) rule.dark run step
+    -- as it stands still
+    still : (t : Standing) → ((n : ℕ) → since t n ≡ e.minute) → (u : UnitView) (x : CardView) → U.may_leave u → X.may_leave x → Meets c start Keeps (all b) (In s newest) u x → Meets c start Keeps (all b) t u x
+    still t at u x on there m = meets-moved c start Keeps (all b) (In s newest) t e u x at (rule.stands.2 u x on there).due_ m
+
+    pub on_card-dark : (t : Standing) → ((n : ℕ) → since t n ≡ e.minute) → (u : UnitView) → U.may_leave u → CardDark c start Keeps began b t U Y
+    on_card-dark t at u on = dark-card c start Keeps (IsOnCard Adds e) began b (In s newest) t u on none (sure u on) rule.dark run (still t at) (step t at)
 
     -- no image has a later end mark than the minute
     no-later : (u : UnitView) → U.may_leave u → NoLater began e.minute Y
@@ -208,7 +220,7 @@ module _ (c : Card) (start : CardStart) (Keeps : List Entry → Held → Type 0)
     -- at its end nothing is owed
     pub on_card-card : (u : UnitView) → U.may_leave u → EndsWith X Y (IsNowOnCard Adds e) → CardRule c start Keeps began b (In s e.minute) [] [] U Y
     on_card-card u on ends = record {
-      dark = on_card-dark u on;
+      dark = on_card-dark (In s e.minute) (λ n. refl) u on;
       cells = rule.cells;
       stands = (
         ends.works,
@@ -227,7 +239,7 @@ module _ (c : Card) (start : CardStart) (Keeps : List Entry → Held → Type 0)
     -- where it was torn out
     pub on_card-torn : (u : UnitView) → U.may_leave u → CardRule c start Keeps began b (Torn s e.minute e.minute) [] [] U Y
     on_card-torn u on = record {
-      dark = on_card-dark u on;
+      dark = on_card-dark (Torn s e.minute e.minute) (λ n. refl) u on;
       cells = rule.cells;
       stands = (no-later u on, λ v y left there. ⊎_elim (λ was. old v y left was) (λ here. new v here.0 y left here.1 here.2) (run.now y there));
     }

@@ -11,3 +11,5 @@ pub mod Repairing
 pub mod Simple
 pub mod OwedView
 pub mod Brought
+pub mod Overwriting
+pub mod Rows

@@ -2,15 +2,16 @@
 use Rattle.std.proofs.Common.{All, ◌≡◌, inl, ⊎_elim, ℕ, ◌<◌, ◌≤◌, cond, true, None, Option, List, [], ◌++◌, refl, ap, subst, ◌∙◌, sym, arith, nat_lt}
 use Rattle.std.proofs.lemmas.List.Elements.{All-weaker, All-nil}
 use Rattle.std.proofs.lemmas.List.{append-nil}
+use Rattle.std.proofs.Math.Nat.{le-max_right}
 use Rattle.activity_codec.specs.declared.entries.Entry.{Entry}
 use Rattle.trace_model.specs.declared.Card.{Card}
 use Rattle.history_model.specs.Minutes.{HistoryMinute}
 use Rattle.history_model.specs.Presence.{CardStart, trimmed_by}
 use Rattle.card_image.specs.View.{CardView, Held}
-use Rattle.joint_rule.specs.Views.{UnitView, owed}
+use Rattle.joint_rule.specs.Views.{UnitView, owed, newest_with}
 use Rattle.joint_rule.specs.Device.{Seen, SettledViews, LeavesViews, Nothing, IsFresh}
 use Rattle.history_model.specs.Book.{not_begun, Between, IsFork}
-use Rattle.joint_rule.specs.Rules.{Shows, UnitHolds, UnitRule, Brings, Meets, CardDark}
+use Rattle.joint_rule.specs.Rules.{Shows, UnitHolds, UnitRule, Brings, Meets, Out, comes_from, CardDark}
 use Rattle.history_model.proofs.Books.{history-none}
 use Rattle.joint_rule.proofs.Pairs.{newest-more, owed-above, had-meets}
 use Rattle.joint_rule.proofs.UnitLaws.{showed-shown}
@@ -37,15 +38,17 @@ opened-unit Fills U u due now since days late = record {
 pub opened-rule : (Fills : Option HistoryMinute → List HistoryMinute → List Day → Type 0) (U : Seen UnitView) (first began due : ℕ) → U.works ≡ true → UnitHolds Fills first began due not_begun U → UnitRule Fills first began due not_begun U
 opened-rule Fills U first began due works holds = record { works = works; none = refl; holds = holds }
 
-module _ (c : Card) (start : CardStart) (Keeps : List Entry → Held → Type 0) where
-  pub opened-pair : (u : UnitView) (x : CardView) → Brings Keeps c start u x → Meets c start Keeps [] u x
+module _ (c : Card) (start : CardStart) (Keeps : ℕ → List Entry → Held → Type 0) where
+  pub opened-pair : (u : UnitView) (x : CardView) → Brings Keeps c start u x → Meets c start Keeps [] Out u x
   opened-pair u x b = record {
     more = [];
-    left = subst (λ (zs : List Entry). Keeps zs x.held) (sym b.entries ∙ sym (append-nil start.entries)) b.kept;
+    left = subst (λ (zs : List Entry). Keeps (comes_from start Out zs x) (start.entries ++ []) x.held) b.owed
+        (subst (λ (zs : List Entry). Keeps (comes_from start Out start.owed x) zs x.held) (sym b.entries ∙ sym (append-nil start.entries)) b.kept);
     had = subst (All (λ (e : Entry). e.minute ≤ x.mark)) (sym b.entries ∙ sym (append-nil start.entries)) b.marked;
     whole = sym b.owed ∙ sym (append-nil start.owed) ∙ ap (λ (zs : List Entry). start.owed ++ zs) (sym (history-none c));
     newest = newest-more x start start.entries [] (owed c u x) (All-weaker (λ (e : Entry). x.mark < e.minute) (λ e. start.mark ≤ e.minute) (λ e lt. omega (arith, lt, b.mark)) (owed c u x) (owed-above c u x))
         (b.newest ∙ ap (trimmed_by start) (sym b.entries ∙ sym (append-nil start.entries)));
+    accepted = le-max_right start.word (newest_with x (owed c u x));
     mark = omega (arith, b.mark);
     bound = b.bound;
     words = λ closed. omega (arith, b.word ∙ ap (λ (s : ℕ). cond (nat_lt 0 s) 0 x.word) closed);
@@ -53,11 +56,11 @@ module _ (c : Card) (start : CardStart) (Keeps : List Entry → Held → Type 0)
 
   -- a card that leaves one view only, and a unit that does
   pub opened-card : (U : Seen UnitView) (X : Seen CardView) (u : UnitView) (x : CardView) → ((v : UnitView) → U.may_leave v → v ≡ u) → ((y : CardView) → X.may_leave y → y ≡ x) → ((y : CardView) → X.left_since X.clock y → y ≡ x) →
-      Brings Keeps c start u x → CardDark c start Keeps X.clock not_begun U X
+      Brings Keeps c start u x → CardDark c start Keeps X.clock not_begun Out U X
   opened-card U X u x now there since b = record {
-    meets = λ v y on left. subst (λ (w : UnitView). Meets c start Keeps [] w y) (sym (now v on)) (subst (Meets c start Keeps [] u) (sym (there y left)) (opened-pair u x b));
+    meets = λ v y on left. subst (λ (w : UnitView). Meets c start Keeps [] Out w y) (sym (now v on)) (subst (Meets c start Keeps [] Out u) (sym (there y left)) (opened-pair u x b));
     later = omega arith;
-    since = λ y left. had-meets c start Keeps not_begun u y refl (All-nil (λ (i : HistoryMinute). i.minute ≤ u.last)) (subst (Meets c start Keeps [] u) (sym (since y left)) (opened-pair u x b));
+    since = λ y left. had-meets c start Keeps not_begun Out u y refl (All-nil (λ (i : HistoryMinute). i.minute ≤ u.last)) (subst (Meets c start Keeps [] Out u) (sym (since y left)) (opened-pair u x b));
   }
 
 -- A DEVICE THAT WAS NOT WRITTEN leaves what it left at the opening, also after calls that only read

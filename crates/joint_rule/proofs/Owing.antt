@@ -206,7 +206,7 @@ replayed-owed c u x = go x.session
     go zero = sym (owed-closed (row c u) u.last x.mark)
     go (suc s) = ap (λ b. cond b (filter (λ e. nat_lt x.mark e.minute) (owed_in (row c u) u.last (suc s) x.mark)) []) (positive s) ∙ owed-later (row c u) u.last (suc s) x.mark
 
-module _ (Adds : Held → List Entry → Held → Type 0) where
+module _ (Adds : ℕ → Held → List Entry → Held → Type 0) where
   pub owed-insert : (c : Card) (now : ℕ) (u : UnitView) (x y : CardView) (i : IsInserting Adds (owed c u x) now x y) → u.last < now / 60 → owed c u y ≡ drop i.count (owed c u x)
   owed-insert c now u x y i late = ⊎_elim same other i.session
     where

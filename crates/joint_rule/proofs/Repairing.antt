@@ -9,7 +9,7 @@ use Rattle.card_image.specs.View.{CardView, Held}
 use Rattle.joint_rule.specs.Views.{UnitView, owed}
 use Rattle.joint_rule.specs.Device.{Seen, LeavesViews}
 use Rattle.joint_rule.specs.Steps.{IsKeeping, IsPutting, IsBeginning, IsMending, IsInserting, IsOnCard, IsClosing}
-use Rattle.joint_rule.specs.Rules.{Meets, Stands, In, IsRepaired}
+use Rattle.joint_rule.specs.Rules.{Meets, Standing, Stands, In, IsRepaired}
 use Rattle.history_model.proofs.Books.{on_card-minute}
 use Rattle.joint_rule.proofs.KeepLaws.{putting-beside}
 use Rattle.unit_model.specs.Days.{Day}
@@ -36,9 +36,9 @@ repaired-card c k U X Y R run step r u y on there = ⊎_elim (λ was. r u y on w
     subst (All (λ (e : Entry). k < e.minute)) (sym left.1) (All-drop (λ (e : Entry). k < e.minute) left.0 (owed c u here.0) (r u here.0 on here.1))) (run.now y there)
 
 -- at the end, the expected entries up to that minute have been on the card
-pub repaired-holds : (c : Card) (start : CardStart) (Keeps : List Entry → Held → Type 0) (k : ℕ) (past : List HistoryMinute) (U : Seen UnitView) (X : Seen CardView) (e : Entry) → IsRepaired c k U X → (u : UnitView) (x : CardView) → U.may_leave u → X.may_leave x →
-    (m : Meets c start Keeps past u x) → Contains (start.owed ++ card_history c (up_to u.last past)) e → e.minute ≤ k → Contains m.more e
-repaired-holds c start Keeps k past U X e r u x on there m at le = ⊎_elim (λ in_. in_)
+pub repaired-holds : (c : Card) (start : CardStart) (Keeps : ℕ → List Entry → Held → Type 0) (k : ℕ) (past : List HistoryMinute) (s : Standing) (U : Seen UnitView) (X : Seen CardView) (e : Entry) → IsRepaired c k U X → (u : UnitView) (x : CardView) → U.may_leave u → X.may_leave x →
+    (m : Meets c start Keeps past s u x) → Contains (start.owed ++ card_history c (up_to u.last past)) e → e.minute ≤ k → Contains m.more e
+repaired-holds c start Keeps k past s U X e r u x on there m at le = ⊎_elim (λ in_. in_)
     (λ lacked. absurd (omega (arith, le, All-contains (λ (d : Entry). k < d.minute) (owed c u x) e (r u x on there) lacked)))
     (Contains-append_cases m.more (owed c u x) e (subst (λ (zs : List Entry). Contains zs e) (sym m.whole) at))
 
@@ -56,11 +56,11 @@ pub keeping-rises : (Adds Gives : HistoryMinute → List Day → List Day → Ty
 keeping-rises Adds Gives i u v late (inl k) = omega (arith, k.last)
 keeping-rises Adds Gives i u v late (inr k) = omega (arith, k.last, late)
 
-pub inserting-rises : (Adds : Held → List Entry → Held → Type 0) (given : List Entry) (now : ℕ) (x y : CardView) → IsInserting Adds given now x y → x.mark ≤ y.mark
+pub inserting-rises : (Adds : ℕ → Held → List Entry → Held → Type 0) (given : List Entry) (now : ℕ) (x y : CardView) → IsInserting Adds given now x y → x.mark ≤ y.mark
 inserting-rises Adds given now x y i = i.mark
 
-pub on_card-rises : (Adds : Held → List Entry → Held → Type 0) (e : Entry) (x y : CardView) → x.mark ≤ e.minute → IsOnCard Adds e x y → x.mark ≤ y.mark
+pub on_card-rises : (Adds : ℕ → Held → List Entry → Held → Type 0) (e : Entry) (x y : CardView) → x.mark ≤ e.minute → IsOnCard Adds e x y → x.mark ≤ y.mark
 on_card-rises Adds e x y late k = ⊎_elim (λ old. omega (arith, old.0)) (λ new. omega (arith, new.0, late)) k.side
 
-pub closing-rises : (Adds : Held → List Entry → Held → Type 0) (x y : CardView) → IsClosing Adds x y → x.mark ≤ y.mark
+pub closing-rises : (Adds : ℕ → Held → List Entry → Held → Type 0) (x y : CardView) → IsClosing Adds x y → x.mark ≤ y.mark
 closing-rises Adds x y k = k.mark

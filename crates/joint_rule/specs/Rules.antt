@@ -1,12 +1,13 @@
 -- The rules between two calls: of the unit, of each card, and of the pair.
-use Rattle.std.specs.Prelude.{◌≡◌, ◌⊎◌, ℕ, ◌+◌, ◌/◌, max, ◌<◌, ◌≤◌, true, Option, Some, None, List, [], ◌∷◌, ◌++◌, All, option_to_list}
+use Rattle.std.specs.Prelude.{◌≡◌, ◌⊎◌, ℕ, suc, ◌+◌, ◌/◌, max, ◌<◌, ◌≤◌, true, Option, Some, None, List, [], ◌∷◌, ◌++◌, All, option_to_list}
 use Rattle.activity_codec.specs.declared.entries.Entry.{Entry}
 use Rattle.trace_model.specs.declared.Card.{Card}
 use Rattle.history_model.specs.Minutes.{HistoryMinute, card_history, on_card, up_to}
 use Rattle.unit_model.specs.Days.{Day}
 use Rattle.history_model.specs.Presence.{CardStart, trimmed_by}
+use Rattle.card_retention.specs.Retains.{Rise}
 use Rattle.card_image.specs.View.{CardView, Held}
-use Rattle.joint_rule.specs.Views.{UnitView, row, owed, newest_with, beyond}
+use Rattle.joint_rule.specs.Views.{UnitView, row, owed, newest_with, beyond, next_of}
 use Rattle.joint_rule.specs.Device.{Seen}
 use Rattle.history_model.specs.Book.{Book, all, IsReached, IsNext, IsMark, Ordered}
 
@@ -56,43 +57,65 @@ pub record DaysGoOn (Fills : Option HistoryMinute → List HistoryMinute → Lis
 abbrev pub Acknowledges : {V : Type 0} → (V → ℕ) → (minute clock : ℕ) → Seen V → Type 0
 Acknowledges {V} level minute clock s = (clock ≤ s.clock) × ((v : V) → s.left_since clock v → minute ≤ level v)
 
--- what a card's string does: entries more, and later ones, that are owed, count as there
-pub record EntriesGoOn (Keeps : List Entry → Held → Type 0) (Adds : Held → List Entry → Held → Type 0) : Type 0 where
-  pub added : (full taken : List Entry) (x y : Held) → Keeps full x → Adds x taken y → Keeps (full ++ taken) y
-  pub owed : (full later : List Entry) (mark : ℕ) (x : Held) → All (λ e. e.minute ≤ mark) full →
-      All (λ e. mark < e.minute) later → Keeps full x → Keeps (full ++ later) (record x { entries = x.entries ++ later })
-
--- what a card brings, of the views at the opening
-pub record Brings (Keeps : List Entry → Held → Type 0) (c : Card) (start : CardStart) (u : UnitView) (x : CardView) : Type 0 where
-  pub entries : start.entries ≡ x.held.entries
-  pub owed : start.owed ≡ owed c u x
-  pub mark : start.mark ≡ x.mark
-  pub word : start.word ≡ beyond x
-  pub kept : Keeps x.held.entries x.held
-  pub marked : All (λ e. e.minute ≤ x.mark) x.held.entries
-  pub bound : x.mark ≤ x.newest
-  pub newest : x.newest ≡ trimmed_by start x.held.entries
-
--- PAIR. Between two calls, for each view that a stop may leave of the unit, and of the card.
-pub record Meets (c : Card) (start : CardStart) (Keeps : List Entry → Held → Type 0)
-    (past : List HistoryMinute) (u : UnitView) (x : CardView) : Type 0 where
-  -- what the card has had beside its entries at the start; of all of these its entries are left
-  pub more : List Entry
-  pub left : Keeps (start.entries ++ more) x.held
-  pub had : All (λ e. e.minute ≤ x.mark) (start.entries ++ more)
-  pub whole : more ++ owed c u x ≡ start.owed ++ card_history c (up_to u.last past)
-  -- an insertion that brings what is owed ends with the newest minute of the expected entries
-  pub newest : newest_with x (owed c u x) ≡ trimmed_by start (start.entries ++ (more ++ owed c u x))
-  pub mark : start.mark ≤ x.mark
-  pub bound : x.mark ≤ x.newest
-  -- where no session is open, words beyond the end mark are the start's, or no later than the newest minute
-  pub words : x.session ≡ 0 → x.word ≤ max start.word x.newest
-
 -- how a card stands: not accepted, accepted, or torn out since
 pub data Standing : Type 0 where
   Out : Standing
   In : (session newest : ℕ) → Standing
   Torn : (session newest floor : ℕ) → Standing
+
+-- the newest minute of a card at its acceptance; of one that is not accepted this one
+abbrev pub since : Standing → (newest : ℕ) → ℕ
+since Out newest = newest
+since (In session at) newest = at
+since (Torn session at floor) newest = at
+
+-- from which minute on an entry may come on a card to which these are owed
+abbrev pub comes_from : CardStart → Standing → List Entry → CardView → ℕ
+comes_from start s due x = next_of (suc (max start.word (since s (newest_with x due)))) due
+
+-- What is asked of `Keeps`, which says that a string keeps these entries where the next one is not earlier than a minute. It keeps
+-- them where the next one is later too, and the string goes on with entries that are added.
+pub record EntriesGoOn (Keeps : ℕ → List Entry → Held → Type 0)
+    (Adds : ℕ → Held → List Entry → Held → Type 0) : Type 0 where
+  pub later : (next n : ℕ) (full : List Entry) (x : Held) → next ≤ n → Keeps next full x → Keeps n full x
+  pub added : (next : ℕ) (full taken : List Entry) (x y : Held) → Keeps (next_of next taken) full x →
+      Adds next x taken y → Keeps next (full ++ taken) y
+
+-- What is asked of what is stated of a card, `Retains`, beside `Keeps`: entries that are owed, and come next, count as there. They
+-- rise, and are later than the words at the start and than the end mark, which none of the others is behind.
+abbrev pub OwedCounts : CardStart → (Keeps : ℕ → List Entry → Held → Type 0) → (Retains : List Entry → Held → Type 0) → Type 0
+OwedCounts start Keeps Retains = (next mark : ℕ) (more due : List Entry) (x : Held) → start.mark ≤ mark →
+    All (λ e. e.minute ≤ mark) (start.entries ++ more) → All (λ e. mark < e.minute) due →
+    All (λ e. start.word < e.minute) due → Rise due → Keeps (next_of next due) (start.entries ++ more) x →
+    Retains (start.entries ++ (more ++ due)) (record x { entries = x.entries ++ due })
+
+-- what a card brings, of the views at the opening
+pub record Brings (Keeps : ℕ → List Entry → Held → Type 0) (c : Card) (start : CardStart) (u : UnitView) (x : CardView) : Type 0 where
+  pub entries : start.entries ≡ x.held.entries
+  pub owed : start.owed ≡ owed c u x
+  pub mark : start.mark ≡ x.mark
+  pub word : start.word ≡ beyond x
+  pub kept : Keeps (comes_from start Out start.owed x) x.held.entries x.held
+  pub marked : All (λ e. e.minute ≤ x.mark) x.held.entries
+  pub bound : x.mark ≤ x.newest
+  pub newest : x.newest ≡ trimmed_by start x.held.entries
+
+-- PAIR. Between two calls, for each view that a stop may leave of the unit, and of the card.
+pub record Meets (c : Card) (start : CardStart) (Keeps : ℕ → List Entry → Held → Type 0)
+    (past : List HistoryMinute) (s : Standing) (u : UnitView) (x : CardView) : Type 0 where
+  -- what the card has had beside its entries at the start; of all of these its entries are left
+  pub more : List Entry
+  pub left : Keeps (comes_from start s (owed c u x) x) (start.entries ++ more) x.held
+  pub had : All (λ e. e.minute ≤ x.mark) (start.entries ++ more)
+  pub whole : more ++ owed c u x ≡ start.owed ++ card_history c (up_to u.last past)
+  -- an insertion that brings what is owed ends with the newest minute of the expected entries
+  pub newest : newest_with x (owed c u x) ≡ trimmed_by start (start.entries ++ (more ++ owed c u x))
+  -- not later than which is that of its acceptance, or the newest word at the start
+  pub accepted : since s (newest_with x (owed c u x)) ≤ max start.word (newest_with x (owed c u x))
+  pub mark : start.mark ≤ x.mark
+  pub bound : x.mark ≤ x.newest
+  -- where no session is open, words beyond the end mark are the start's, or no later than the newest minute
+  pub words : x.session ≡ 0 → x.word ≤ max start.word x.newest
 
 -- the session of the card is open, and is that of its row; what is owed is not earlier than a minute
 pub record IsOpen (c : Card) (session newest floor : ℕ) (u : UnitView) (x : CardView) : Type 0 where
@@ -133,38 +156,40 @@ pub record IsEntered (start : CardStart) (began now newest : ℕ) (card : Seen C
   pub session : (x : CardView) → card.may_leave x → x.session ≡ now
   pub mark : (x : CardView) → card.may_leave x → x.mark ≤ newest
   pub words : (x : CardView) → card.may_leave x → x.word ≤ max start.word x.newest
+  pub answered : (x : CardView) → card.may_leave x → (x.newest ≤ newest) × (newest ≤ max start.word x.newest)
 
--- a minute in which a card is present
-abbrev pub IsPresent : Standing → ℕ → Type 0
-IsPresent Out m = ⊥
-IsPresent (In session newest) m = (newest < m) × (session / 60 ≤ m)
-IsPresent (Torn session newest floor) m = (newest < m) × (session / 60 ≤ m) × (floor ≤ m) × (m < floor + 4)
+-- a minute in which a card is present: it is later than the words at the start, too
+abbrev pub IsPresent : CardStart → Standing → ℕ → Type 0
+IsPresent start Out m = ⊥
+IsPresent start (In session newest) m = (start.word < m) × (newest < m) × (session / 60 ≤ m)
+IsPresent start (Torn session newest floor) m = (start.word < m) × (newest < m) × (session / 60 ≤ m) × (floor ≤ m) × (m < floor + 4)
 
 -- a minute says something on a card only where it is present
-abbrev pub Fits : Card → Standing → HistoryMinute → Type 0
-Fits c s i = (on_card c i ≡ []) ⊎ IsPresent s i.minute
+abbrev pub Fits : Card → CardStart → Standing → HistoryMinute → Type 0
+Fits c start s i = (on_card c i ≡ []) ⊎ IsPresent start s i.minute
 
 -- an image of a card since the start: what it has is a front of what is expected, and what it lacks is later than its end mark
-pub record Had (c : Card) (start : CardStart) (Keeps : List Entry → Held → Type 0) (b : Book) (x : CardView) : Type 0 where
+pub record Had (c : Card) (start : CardStart) (Keeps : ℕ → List Entry → Held → Type 0) (b : Book) (x : CardView) : Type 0 where
   pub more : List Entry
   pub rest : List Entry
-  pub left : Keeps (start.entries ++ more) x.held
+  pub next : ℕ
+  pub left : Keeps next (start.entries ++ more) x.held
   pub whole : start.owed ++ card_history c b.sure ≡ more ++ rest
   pub lacks : All (λ e. x.mark < e.minute) (rest ++ card_history c (option_to_list b.maybe))
   pub bound : x.mark ≤ trimmed_by start (start.entries ++ (start.owed ++ card_history c b.sure))
 
 -- a card while the unit is without power, or may be
-pub record CardDark (c : Card) (start : CardStart) (Keeps : List Entry → Held → Type 0)
-    (began : ℕ) (b : Book) (unit : Seen UnitView) (card : Seen CardView) : Type 0 where
-  pub meets : (u : UnitView) (x : CardView) → unit.may_leave u → card.may_leave x → Meets c start Keeps (all b) u x
+pub record CardDark (c : Card) (start : CardStart) (Keeps : ℕ → List Entry → Held → Type 0)
+    (began : ℕ) (b : Book) (s : Standing) (unit : Seen UnitView) (card : Seen CardView) : Type 0 where
+  pub meets : (u : UnitView) (x : CardView) → unit.may_leave u → card.may_leave x → Meets c start Keeps (all b) s u x
   pub later : began ≤ card.clock
   pub since : (x : CardView) → card.left_since began x → Had c start Keeps b x
 
 -- and while the unit has power
-pub record CardRule (c : Card) (start : CardStart) (Keeps : List Entry → Held → Type 0)
+pub record CardRule (c : Card) (start : CardStart) (Keeps : ℕ → List Entry → Held → Type 0)
     (began : ℕ) (b : Book) (s : Standing)
     (mine due : List Entry) (unit : Seen UnitView) (card : Seen CardView) : Type 0 where
-  pub dark : CardDark c start Keeps began b unit card
+  pub dark : CardDark c start Keeps began b s unit card
   pub cells : (u : UnitView) → unit.may_leave u → Cells c mine u
   pub stands : Stands c start began s due unit card
 

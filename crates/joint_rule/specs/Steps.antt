@@ -1,12 +1,12 @@
 -- What each kind of step leaves, at its end and at each moment: R old new.
-use Rattle.std.specs.Prelude.{◌≡◌, ◌⊎◌, ℕ, ◌%◌, max, ◌<◌, ◌≤◌, not, List, [], ◌∷◌, ◌++◌, filter, nat_eq, nat_le, nat_lt, if◌then◌else◌, take, drop, All}
+use Rattle.std.specs.Prelude.{◌≡◌, ◌⊎◌, ℕ, suc, ◌%◌, max, ◌<◌, ◌≤◌, not, List, [], ◌∷◌, ◌++◌, filter, nat_eq, nat_le, nat_lt, if◌then◌else◌, take, drop, All}
 use Rattle.activity_codec.specs.declared.entries.Entry.{Entry}
 use Rattle.trace_model.specs.declared.Card.{Card}
 use Rattle.history_model.specs.Minutes.{HistoryMinute}
 use Rattle.unit_model.specs.Days.{Day}
 use Rattle.owed_model.specs.Owed.{Row}
 use Rattle.card_image.specs.View.{CardView, Held}
-use Rattle.joint_rule.specs.Views.{UnitView, row, with_row, other, newest_with, beyond}
+use Rattle.joint_rule.specs.Views.{UnitView, row, with_row, other, newest_with, beyond, next_of}
 
 -- what a call on the unit leaves alone, but for the minutes
 pub record SameRows (u v : UnitView) : Type 0 where
@@ -81,10 +81,12 @@ replayed given x = if nat_lt 0 x.session then filter (λ e. nat_lt x.mark e.minu
 abbrev pub IsTrimming : CardView → CardView → Type 0
 IsTrimming x y = (y.word ≤ y.newest) ⊎ ((x.session ≡ 0) × (y.word ≤ x.word) × (y.newest ≡ x.newest))
 
--- INSERT: of what it brings the first n are on the card; those, and no other, are not later than the end mark
-pub record IsInserting (Adds : Held → List Entry → Held → Type 0) (given : List Entry) (now : ℕ) (x y : CardView) : Type 0 where
+-- INSERT: of what it brings the first n are on the card; those, and no other, are not later than the end mark. Behind all of them
+-- an entry may come that is later than the newest minute that it answers.
+pub record IsInserting (Adds : ℕ → Held → List Entry → Held → Type 0) (given : List Entry) (now : ℕ) (x y : CardView) : Type 0 where
   pub count : ℕ
-  pub held : Adds x.held (take count (replayed given x)) y.held
+  pub held : (next : ℕ) → max (beyond x) (newest_with x (replayed given x)) < next →
+      Adds (next_of next (drop count (replayed given x))) x.held (take count (replayed given x)) y.held
   pub mark : x.mark ≤ y.mark
   pub bound : y.mark ≤ y.newest
   pub reached : All (λ e. e.minute ≤ y.mark) (take count (replayed given x))
@@ -94,31 +96,32 @@ pub record IsInserting (Adds : Held → List Entry → Held → Type 0) (given :
   pub words : y.session ≡ 0 → IsTrimming x y
 
 -- at its end the session is open, and `newest` is the newest minute that it answers
-pub record IsInserted (Adds : Held → List Entry → Held → Type 0)
+pub record IsInserted (Adds : ℕ → Held → List Entry → Held → Type 0)
     (given : List Entry) (now newest : ℕ) (x y : CardView) : Type 0 where
   pub inserting : IsInserting Adds given now x y
   pub session : y.session ≡ now
   pub words : IsTrimming x y
   pub answered : newest ≡ max (beyond x) (newest_with x (replayed given x))
 
--- KEEP of a card: the end mark tells which side of the commit it is
-pub record IsOnCard (Adds : Held → List Entry → Held → Type 0) (e : Entry) (x y : CardView) : Type 0 where
+-- KEEP of a card: the end mark tells which side of the commit it is. Before it the oldest days may have gone for the entry, so that
+-- words later than the end mark are those that count for the newest minute.
+pub record IsOnCard (Adds : ℕ → Held → List Entry → Held → Type 0) (e : Entry) (x y : CardView) : Type 0 where
   pub session : y.session ≡ x.session
-  pub side : ((y.mark ≡ x.mark) × Adds x.held [] y.held × (y.newest ≡ x.newest))
-      ⊎ ((y.mark ≡ e.minute) × Adds x.held (e ∷ []) y.held × (y.newest ≡ newest_with x (e ∷ [])))
+  pub side : ((y.mark ≡ x.mark) × Adds e.minute x.held [] y.held × (max x.word y.newest ≡ max x.word x.newest))
+      ⊎ ((y.mark ≡ e.minute) × Adds (suc e.minute) x.held (e ∷ []) y.held × (y.newest ≡ newest_with x (e ∷ [])))
   pub bound : y.mark ≤ y.newest
 
 -- at its end it is on the card, and no word stands beyond
-pub record IsNowOnCard (Adds : Held → List Entry → Held → Type 0) (e : Entry) (x y : CardView) : Type 0 where
+pub record IsNowOnCard (Adds : ℕ → Held → List Entry → Held → Type 0) (e : Entry) (x y : CardView) : Type 0 where
   pub session : y.session ≡ x.session
   pub mark : y.mark ≡ e.minute
-  pub held : Adds x.held (e ∷ []) y.held
+  pub held : Adds (suc e.minute) x.held (e ∷ []) y.held
   pub newest : y.newest ≡ newest_with x (e ∷ [])
   pub words : y.word ≤ y.newest
 
--- CLOSE: no entry is lost, and the session ends last
-pub record IsClosing (Adds : Held → List Entry → Held → Type 0) (x y : CardView) : Type 0 where
-  pub held : Adds x.held [] y.held
+-- CLOSE: no entry is lost, and the session ends last; an entry may come that is later than the newest minute
+pub record IsClosing (Adds : ℕ → Held → List Entry → Held → Type 0) (x y : CardView) : Type 0 where
+  pub held : (next : ℕ) → y.newest < next → Adds next x.held [] y.held
   pub mark : x.mark ≤ y.mark
   pub bound : y.mark ≤ y.newest
   pub session : (y.session ≡ x.session) ⊎ (y.session ≡ 0)

@@ -60,6 +60,11 @@ owed_in r last session mark =
 abbrev pub owed : Card → UnitView → CardView → List Entry
 owed c u x = owed_in (row c u) u.last x.session x.mark
 
+-- the minute from which on the next entry may come: that of the first that is owed, or else this one
+abbrev pub next_of : ℕ → List Entry → ℕ
+next_of minute [] = minute
+next_of minute (e ∷ es) = e.minute
+
 -- the newest minute of the card, as its end mark trims it, once what is owed is on it
 abbrev pub newest_with : CardView → List Entry → ℕ
 newest_with x [] = x.newest

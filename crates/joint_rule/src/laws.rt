@@ -5,13 +5,14 @@ ghost use Rattle.card_layout.specs.declared.files.Application.{Application};
 ghost use Rattle.card_model.specs.Days.{AreDays};
 ghost use Rattle.card_image.specs.Fields.{card_days};
 ghost use Rattle.card_image.specs.View.{card_view};
+ghost use Rattle.card_image.specs.Own.{own_sizes, own_view, KeepsFrom, KeepsOf};
 ghost use Rattle.unit_model.specs.Days.{Day};
 ghost use Rattle.unit_model.specs.Image.{last_kept};
 ghost use Rattle.owed_model.specs.Owed.{owed_to, row_view};
 ghost use Rattle.history_model.specs.Minutes.{HistoryMinute, card_history, up_to};
 ghost use Rattle.history_model.specs.Presence.{CardStart, trimmed_by, newest_by};
 ghost use Rattle.joint_rule.specs.Views.{UnitView, beyond, owed, owed_in};
-ghost use Rattle.joint_rule.specs.Rules.{DaysGoOn, Meets};
+ghost use Rattle.joint_rule.specs.Rules.{DaysGoOn, OwedCounts};
 ghost use Rattle.joint_rule.specs.Filling.{FillsDays, KeepsMinute, GivesUpDay};
 
 /// What a unit's image owes to a card is what its view owes.
@@ -43,4 +44,12 @@ pub fn a_card_brings_its_newest_minute()
         × (start.word ≡ beyond (card_view app x) →
         max (beyond (card_view app x)) (card_view app x).newest ≡ newest_by start (card_view app x).held.entries)
         × All (λ e. e.minute ≤ (card_view app x).mark) (card_view app x).held.entries }
+{}
+
+/// What is stated of a card's overwriting goes on with what is owed to it: its entries followed by the owed ones are all of them, but
+/// for whole days that were overwritten.
+pub fn owed_entries_count()
+    ensures { (image : List ℕ) (start : CardStart) → AreDays 0 (card_days (own_sizes image) image) →
+        start.entries ≡ (own_view image).held.entries → start.mark ≡ (own_view image).mark →
+        start.word ≡ beyond (own_view image) → OwedCounts start (KeepsFrom image) (KeepsOf image) }
 {}

@@ -7,18 +7,20 @@ ghost use Rattle.history_model.specs.Minutes.{HistoryMinute};
 ghost use Rattle.owed_model.specs.Owed.{row_view};
 ghost use Rattle.owed_model.specs.Rows.{IsPutting as IsPuttingRow, IsPut as IsPutRow, IsRowBeginning, IsRowBegun, HasRow};
 ghost use Rattle.unit_journal.specs.declared.notes.Notes.{Notes};
-ghost use Rattle.unit_journal.specs.Image.{IsKeeping as IsKeepingImage};
+ghost use Rattle.unit_journal.specs.Image.{IsKeeping as IsKeepingImage, IsKept as IsKeptImage};
 ghost use Rattle.unit_journal.specs.Mends.{IsMending as IsMendingImage, IsMended as IsMendedImage};
 ghost use Rattle.joint_rule.specs.Views.{unit_view};
-ghost use Rattle.joint_rule.specs.Steps.{IsKeeping, IsPutting, IsPut, IsBeginning, IsBegun, IsMending, IsMended, cleared};
+ghost use Rattle.joint_rule.specs.Steps.{IsKeeping, IsKept, IsPutting, IsPut, IsBeginning, IsBegun, IsMending, IsMended, cleared};
 ghost use Rattle.joint_rule.specs.Filling.{seen_by_unit, KeepsMinute, GivesUpDay};
 
 /// A moment of the keeping of a minute of the history is one of the rule's keeping: the minute kept, or not yet, with the oldest
-/// day given up for it or not.
+/// day given up for it or not. At its end it is kept.
 pub fn a_keeping_is_seen()
-    ensures { (a b : List ℕ) (i : HistoryMinute) (odometer : ℕ) (x c : List ℕ) →
+    ensures moments { (a b : List ℕ) (i : HistoryMinute) (odometer : ℕ) (x c : List ℕ) →
         IsKeepingImage (seen_by_unit i) odometer x c →
         IsKeeping KeepsMinute GivesUpDay i (unit_view a b x) (unit_view a b c) }
+    ensures kept { (a b : List ℕ) (i : HistoryMinute) (x c : List ℕ) →
+        IsKeptImage (seen_by_unit i) x c → IsKept KeepsMinute i (unit_view a b x) (unit_view a b c) }
 {}
 
 /// A moment of the beginning of a card's row, which spares the other card's, is one of the rule's beginning.

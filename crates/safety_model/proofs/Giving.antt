@@ -1,20 +1,30 @@
 -- The rules between two calls give what is promised at a run's end.
-use Rattle.std.proofs.Common.{◌≡◌, inl, inr, ℕ, ◌≤◌, Option, Some, None, List, [], ◌∷◌, ◌++◌, Contains, refl, ap, subst, ◌∙◌, sym, append_assoc}
+use Rattle.std.proofs.Common.{◌≡◌, inl, inr, ℕ, ◌<◌, ◌≤◌, All, Option, Some, None, List, [], ◌∷◌, ◌++◌, Contains, refl, ap, subst, ◌∙◌, sym, append_assoc}
+use Rattle.std.specs.Prelude.{option_to_list}
+use Rattle.std.proofs.lemmas.List.Elements.{Contains-append_right}
 use Rattle.activity_codec.specs.declared.entries.Entry.{Entry}
 use Rattle.trace_model.specs.declared.Card.{Card}
+use Rattle.trace_model.specs.declared.Card.TheVariants.{A, B}
 use Rattle.tach_media.specs.Medium.{State}
 use Rattle.unit_model.specs.Days.{Day}
 use Rattle.unit_model.specs.Image.{recorded}
 use Rattle.history_model.specs.Minutes.{HistoryMinute, card_history, up_to}
+use Rattle.history_model.specs.Presence.{CardStart, card_start}
 use Rattle.history_model.specs.Book.{Book, IsReached, IsNext, Follows}
 use Rattle.card_image.specs.View.{Held}
-use Rattle.card_image.specs.Own.{own_view, KeepsOf}
-use Rattle.joint_rule.specs.Views.{owed, unit_view}
-use Rattle.joint_rule.specs.Device.{seen, CoherentViews, IsFresh}
-use Rattle.joint_rule.specs.Rules.{UnitHolds, Showed, Meets, EntriesGoOn, Acknowledges}
+use Rattle.card_image.specs.Own.{own_sizes, own_view, KeepsFrom, KeepsOf}
+use Rattle.card_image.specs.Fields.{card_days}
+use Rattle.card_model.specs.Days.{AreDays}
+use Rattle.card_retention.specs.Retains.{Rise}
+use Rattle.joint_rule.specs.Views.{UnitView, owed, unit_view, next_of}
+use Rattle.joint_rule.specs.Device.{Seen, seen, CoherentViews, IsFresh}
+use Rattle.joint_rule.specs.Rules.{UnitHolds, Showed, Meets, Had, Standing, CardDark, Acknowledges}
 use Rattle.joint_rule.specs.Filling.{FillsDays}
-use Rattle.joint_rule.proofs.Holding.{agree, unit-holds}
-use Rattle.safety_model.specs.Recording.{Recording, card_image, brought, history_of, unit_seen, IsPassed, MayCome}
+use Rattle.history_model.proofs.Books.{history-append}
+use Rattle.joint_rule.proofs.Holding.{agree, unit-holds, card-holds}
+use Rattle.joint_rule.proofs.Overwriting.{owed-entries_count}
+use Rattle.safety_model.specs.Recording.{Recording, card_image, brought, start_of, history_of, lost_of, unit_seen, IsPassed, MayCome}
+use Rattle.safety_model.specs.Cards.{CardShows}
 use Rattle.safety_model.specs.Unit.{UnitShows}
 
 -- what a book reached was passed in the history that it follows
@@ -55,14 +65,57 @@ module _ (start : List Day) (past : List HistoryMinute) (lost : List (List Histo
       let k = shows x first held.0 in
       (k.0, subst (λ (is : List HistoryMinute). Contains is i) (sym k.1) held.1)
 
+-- what is carried of a card gives what is stated of it
+module _ (r : Recording) (c : Card) (Keeps : ℕ → List Entry → Held → Type 0) (gives : (next : ℕ) (all : List Entry) (held : Held) → Keeps next all held → KeepsFrom (card_image r c) next all held) where
+  started : (c : Card) → card_start (start_of r) c ≡ brought r c
+  started A = refl
+  started B = refl
+
+  module _ (b : Book) (follows : Follows (history_of r) (lost_of r) b) where
+    card-shows : (x : List ℕ) (h : Had c (brought r c) Keeps b (own_view x)) → (k : CardShows r c x) × (k.more ≡ h.more)
+    card-shows x h = (
+      record {
+        more = h.more;
+        rest = h.rest ++ behind;
+        whole = ap (λ (start : CardStart). start.entries ++ (start.owed ++ card_history c (history_of r))) (started c) ∙ ap (λ (es : List Entry). (brought r c).entries ++ es) (whole ∙ append_assoc h.more h.rest behind);
+        kept = (h.next, gives h.next ((brought r c).entries ++ h.more) (own_view x).held h.left);
+      },
+      refl,
+    )
+      where
+        later : List HistoryMinute
+        later = option_to_list b.maybe ++ follows.front.0
+
+        behind : List Entry
+        behind = card_history c later
+
+        whole : (brought r c).owed ++ card_history c (history_of r) ≡ (h.more ++ h.rest) ++ behind
+        whole =
+            ap (λ (is : List HistoryMinute). (brought r c).owed ++ card_history c is) (follows.front.1 ∙ append_assoc b.sure (option_to_list b.maybe) follows.front.0)
+            ∙ ap (λ (es : List Entry). (brought r c).owed ++ es) (history-append c b.sure later) ∙ sym (append_assoc (brought r c).owed (card_history c b.sure) behind) ∙ ap (λ (es : List Entry). es ++ behind) h.whole
+
+    -- every image that the card might have left shows its entries at the start and some of the further ones, from their front
+    pub card-entries : (began : ℕ) (s : Standing) (unit : Seen UnitView) (card : State) → CardDark c (brought r c) Keeps began b s unit (seen own_view card) → (x : List ℕ) → card.left_since began x → CardShows r c x
+    card-entries began s unit card dark x left = (card-shows x (dark.since (own_view x) (x, left, refl))).0
+
+    -- and one that it might have left since an entry was acknowledged shows that entry
+    pub card-marked : (began : ℕ) (s : Standing) (unit : Seen UnitView) (card : State) (e : Entry) (clock : ℕ) → CoherentViews (seen own_view card) → CardDark c (brought r c) Keeps began b s unit (seen own_view card) → began ≤ clock →
+        Acknowledges (λ x. x.mark) e.minute clock (seen own_view card) → Contains ((brought r c).owed ++ card_history c b.sure) e → (x : List ℕ) → card.left_since clock x → (k : CardShows r c x) × Contains ((brought r c).entries ++ k.more) e
+    card-marked began s unit card e clock whole dark later marks at x left =
+        let held = card-holds c (brought r c) Keeps began b s unit (seen own_view card) e clock whole dark later marks at (own_view x) (x, left, refl) in
+        let k = card-shows x held.0 in
+        (k.0, subst (λ (es : List Entry). Contains ((brought r c).entries ++ es) e) (sym k.1) (Contains-append_right (brought r c).entries held.0.more e held.1))
+
 -- at the end a card's entries followed by those owed to it are the expected ones up to the unit's mark, where what is carried of a
--- card gives the stated rule
-pub agrees : (r : Recording) (c : Card) (Keeps : List Entry → Held → Type 0) (Adds : Held → List Entry → Held → Type 0) → EntriesGoOn Keeps Adds → ((all : List Entry) (held : Held) → Keeps all held → KeepsOf (card_image r c) all held) → (u x : List ℕ) →
-    Meets c (brought r c) Keeps (history_of r) (unit_seen r u) (own_view x) →
+-- card gives the stated rule, and the further entries rise and are later than the words at the start
+pub agrees : (r : Recording) (c : Card) (Keeps : ℕ → List Entry → Held → Type 0) → ((next : ℕ) (all : List Entry) (held : Held) → Keeps next all held → KeepsFrom (card_image r c) next all held) →
+    AreDays 0 (card_days (own_sizes (card_image r c)) (card_image r c)) → (s : Standing) (u x : List ℕ) → Rise ((brought r c).owed ++ card_history c (up_to (unit_seen r u).last (history_of r))) →
+    All (λ e. (brought r c).word < e.minute) ((brought r c).owed ++ card_history c (up_to (unit_seen r u).last (history_of r))) → Meets c (brought r c) Keeps (history_of r) s (unit_seen r u) (own_view x) →
     KeepsOf (card_image r c) ((brought r c).entries ++ ((brought r c).owed ++ card_history c (up_to (unit_seen r u).last (history_of r)))) (record (own_view x).held { entries = (own_view x).held.entries ++ owed c (unit_seen r u) (own_view x) })
-agrees r c Keeps Adds law gives u x m =
-    gives ((brought r c).entries ++ ((brought r c).owed ++ card_history c (up_to (unit_seen r u).last (history_of r)))) (record (own_view x).held { entries = (own_view x).held.entries ++ owed c (unit_seen r u) (own_view x) })
-    (agree c (brought r c) Keeps Adds law (history_of r) (unit_seen r u) (own_view x) m)
+agrees r c Keeps gives are s u x rise late m =
+    agree c (brought r c) Keeps (KeepsOf (card_image r c))
+    (λ next mark more due held low had above after rises kept. owed-entries_count (card_image r c) (brought r c) are refl refl refl next mark more due held low had above after rises (gives (next_of next due) ((brought r c).entries ++ more) held kept))
+    (history_of r) s (unit_seen r u) (own_view x) rise late m
 
 -- a card that was not written stays as it was, all bytes of it
 pub untouched : (since : ℕ) (card : State) (start : List ℕ) → IsFresh since start (seen (λ (x : List ℕ). x) card) → (x : List ℕ) → card.left_since since x → x ≡ start

@@ -23,10 +23,6 @@ use Rattle.joint_rule.specs.Views.{owed}
 use Rattle.safety_model.specs.Recording.{Recording, card_image, told_of, brought, history_of, expected_of, unit_seen}
 use Rattle.safety_model.specs.Unit.{marks_of, Increase}
 
--- an entry of this minute
-abbrev pub HasEntry : ℕ → List Entry → Type 0
-HasEntry minute es = (e : Entry) × Contains es e × (e.minute ≡ minute)
-
 -- a cut before a second, after which the unit was found not to have kept this minute
 abbrev pub shows_lost : (second minute : ℕ) → Break → Bool
 shows_lost u minute (Cut second kept failed begun) = nat_lt second u && nat_lt kept minute && nat_le minute (second / 60)
@@ -59,12 +55,13 @@ module _ (r : Recording) (c : Card) where
   abbrev pub MayNotWrite : Type 0
   MayNotWrite = (IsOwnValid (card_image r c) → ⊥) ⊎ (entered ≡ overlaps)
 
-  -- an acknowledged minute is that of an expected entry, and every image since shows it, unless overwriting took its day
+  -- an acknowledged minute is that of an expected entry, and every image since shows that very one, unless overwriting took its day
   pub record CardMarkHolds (card : State) (m : Mark) : Type 0 where
-    pub stands : HasEntry m.minute (expected_of r c)
+    pub e : Entry
+    pub minute : e.minute ≡ m.minute
+    pub stands : Contains (expected_of r c) e
     pub clock : m.clock ≤ card.clock
-    pub shown : (x : List ℕ) → card.left_since m.clock x → (s : CardShows x)
-        × HasEntry m.minute ((brought r c).entries ++ s.more)
+    pub shown : (x : List ℕ) → card.left_since m.clock x → (s : CardShows x) × Contains ((brought r c).entries ++ s.more) e
 
   -- the seconds in which it was accepted
   abbrev pub acceptances : List ℕ

@@ -8,15 +8,16 @@ use Rattle.gated_ring.specs.Ring.{IsDense}
 use Rattle.unit_model.specs.declared.layout.TheConstants.{SPEED_LIMIT, FIRST_OVER, OVER_COUNT}
 use Rattle.unit_model.specs.Image.{number_of, last_kept, odometer_at as stored_odometer}
 use Rattle.card_records.specs.declared.vehicle.Vehicle.{Vehicle}
-use Rattle.card_image.specs.Fields.{file_bytes, newest_vehicle}
+use Rattle.card_image.specs.Fields.{file_bytes, newest_vehicle, session_time}
 use Rattle.card_image.specs.Own.{own_sizes, own_number}
-use Rattle.event_model.specs.declared.kinds.TheConstants.{CARD_NOT_VALID, TIME_OVERLAP, DRIVING_WITHOUT_CARD, INSERTION_WHILE_DRIVING, OVER_SPEEDING, POWER_INTERRUPTION, CARD_FAULT}
+use Rattle.event_model.specs.declared.kinds.TheConstants.{CARD_NOT_VALID, TIME_OVERLAP, DRIVING_WITHOUT_CARD, INSERTION_WHILE_DRIVING, SESSION_NOT_CLOSED, OVER_SPEEDING, POWER_INTERRUPTION, CARD_FAULT}
 use Rattle.message_model.specs.Records.{insertion_ring, unit_place_ring}
 use Rattle.side_model.specs.Done.{Done, done_of, has_failed_in}
 use Rattle.side_model.specs.Odometer.{SpanFrom, AreSpansFrom, MayStore}
 use Rattle.side_model.specs.Noted.{Note, notes_of, insertions_of, places_of}
 use Rattle.side_model.specs.Rings.{Holder, RingShows, IsInsertion, IsPlace, is_sure_insertion, is_sure_place}
-use Rattle.side_model.specs.Events.{Event, events_of, of_kind}
+use Rattle.event_model.specs.Events.{Event, events_of}
+use Rattle.side_model.specs.Events.{noting_second, AcceptedOnce, AreSessions}
 use Rattle.side_model.specs.Tables.{table_in, AreNoted}
 use Rattle.safety_model.specs.Recording.{Recording, card_image, told_of}
 use Rattle.safety_model.specs.Safe.{Devices, card_of}
@@ -26,10 +27,10 @@ use Rattle.safety_model.specs.Safe.{Devices, card_of}
 abbrev pub identification_widths : List ℕ
 identification_widths = 1 ∷ 16 ∷ 36 ∷ 4 ∷ 4 ∷ 4 ∷ 36 ∷ 36 ∷ 4 ∷ 2 ∷ []
 
--- the types of which the log and the trace tell all events
+-- the types whose events the log and the trace tell, with the session times that were found open on the cards
 abbrev pub told_kinds : List ℕ
 told_kinds =
-    CARD_NOT_VALID ∷ TIME_OVERLAP ∷ DRIVING_WITHOUT_CARD ∷ INSERTION_WHILE_DRIVING ∷ OVER_SPEEDING ∷ POWER_INTERRUPTION ∷ CARD_FAULT ∷ []
+    CARD_NOT_VALID ∷ TIME_OVERLAP ∷ DRIVING_WITHOUT_CARD ∷ INSERTION_WHILE_DRIVING ∷ SESSION_NOT_CLOSED ∷ OVER_SPEEDING ∷ POWER_INTERRUPTION ∷ CARD_FAULT ∷ []
 
 -- the begin of the first of some events, 0 without one
 abbrev pub first_begin : List Event → ℕ
@@ -56,12 +57,13 @@ module _ (r : Recording) where
   abbrev pub notes_in : List Note
   notes_in = notes_of r.log done_in
 
-  abbrev pub events_in : ℕ → List Event
-  events_in kind = of_kind kind (events_of r.log (number_of r.unit SPEED_LIMIT) done_in)
+  -- where these session times were found open on the cards that were accepted, by second and card
+  abbrev pub events_in : (sessions : ℕ → Card → ℕ) → (kind : ℕ) → List Event
+  events_in sessions kind = events_of kind (number_of r.unit SPEED_LIMIT) sessions r.log r.trace
 
   -- no event of the type was noted in a second in which a call on the unit failed
-  abbrev pub are_sure : ℕ → Bool
-  are_sure kind = list_all (λ e. not (has_failed_in r.log e.noted)) (events_in kind)
+  abbrev pub are_sure : (sessions : ℕ → Card → ℕ) → (kind : ℕ) → Bool
+  are_sure sessions kind = list_all (λ e. not (has_failed_in r.log (noting_second e))) (events_in sessions kind)
 
   -- the vehicle and the time of the newest vehicle entry; zeros without one
   abbrev pub TellsVehicle : Option Vehicle → List ℕ → ℕ → Type 0
@@ -85,13 +87,19 @@ module _ (r : Recording) where
         (IsInsertion r.log spans holder_of (λ c. IsPrevious (card_of began c).clock (card_of now c))) (insertions_of notes_in) r.unit x
     pub places : IsDense unit_place_ring r.unit →
         RingShows unit_place_ring (is_sure_place r.log spans holder_of) (IsPlace r.log spans holder_of) (places_of notes_in) r.unit x
-    -- events and faults, and the first over speeding and how many there were
-    pub events : (kind : ℕ) → Contains told_kinds kind → are_sure kind ≡ true →
-        AreNoted (λ c. own_number (card_image r c)) (table_in kind r.unit) (events_in kind) (table_in kind x)
-    pub first_over : are_sure OVER_SPEEDING ≡ true →
-        number_of x FIRST_OVER ≡ (if nat_eq (number_of r.unit FIRST_OVER) 0 then first_begin (events_in OVER_SPEEDING) else number_of r.unit FIRST_OVER)
-    pub over_count : are_sure OVER_SPEEDING ≡ true →
-        number_of x OVER_COUNT ≡ min 255 (number_of r.unit OVER_COUNT + length (events_in OVER_SPEEDING))
+    -- the session times that were found open on the cards
+    pub sessions : ℕ → Card → ℕ
+    pub are_sessions : AreSessions (λ c. (card_of now c).left_since (card_of began c).clock)
+        (λ y. session_time (own_sizes y) y) (told_of r) sessions
+    -- events and faults, those of sessions that were not closed where no card was accepted twice in a second; and the first over
+    -- speeding and how many there were
+    pub events : (kind : ℕ) → Contains told_kinds kind → (kind ≡ SESSION_NOT_CLOSED → AcceptedOnce (told_of r)) →
+        are_sure sessions kind ≡ true →
+        AreNoted (λ c. own_number (card_image r c)) (table_in kind r.unit) (events_in sessions kind) (table_in kind x)
+    pub first_over : are_sure sessions OVER_SPEEDING ≡ true → number_of x FIRST_OVER
+        ≡ (if nat_eq (number_of r.unit FIRST_OVER) 0 then first_begin (events_in sessions OVER_SPEEDING) else number_of r.unit FIRST_OVER)
+    pub over_count : are_sure sessions OVER_SPEEDING ≡ true →
+        number_of x OVER_COUNT ≡ min 255 (number_of r.unit OVER_COUNT + length (events_in sessions OVER_SPEEDING))
 
   -- THE AUXILIARY RECORDS: every image that a stop may leave of the unit at the end of the run shows them
   pub record Side (began now : Devices) : Type 0 where

@@ -25,8 +25,8 @@ abbrev pub odometer_before : ℕ → SpanFrom → ℕ
 odometer_before u s = min HIGHEST_ODOMETER (s.base + driven_before u s.span)
 
 -- the odometer at the end of a minute
-abbrev pub odometer_after : (minute : ℕ) → SpanFrom → ℕ
-odometer_after m s = odometer_before (60 * (m + 1)) s
+abbrev pub odometer_at_end : (minute : ℕ) → SpanFrom → ℕ
+odometer_at_end m s = odometer_before (60 * (m + 1)) s
 
 -- a second lies in the span
 abbrev pub has_second : ℕ → SpanFrom → Bool
@@ -46,9 +46,9 @@ IsBeingKept rule span m = cut_second (last span) ≡ Some (deciding_of rule (set
 pub data MayStore (rule : Rule) (start start_kept : ℕ) (spans : List SpanFrom) (kept : ℕ) : ℕ → Type 0 where
   OfStart : kept ≡ start_kept → MayStore rule start start_kept spans kept start
   OfKept : (s : SpanFrom) (d : Minute) → Contains spans s → Contains (decided_of rule s.span) d → d.minute ≡ kept →
-      MayStore rule start start_kept spans kept (odometer_after d.minute s)
+      MayStore rule start start_kept spans kept (odometer_at_end d.minute s)
   OfCut : (s : SpanFrom) (d : Minute) → Contains spans s → Contains (decided_of rule s.span) d → IsBeingKept rule s.span d.minute →
-      MayStore rule start start_kept spans kept (odometer_after d.minute s)
+      MayStore rule start start_kept spans kept (odometer_at_end d.minute s)
 
 -- what was found kept after the last of these spans; at first what was kept at the start
 abbrev pub found_kept : RunLog → (start_kept : ℕ) → Option Told → ℕ

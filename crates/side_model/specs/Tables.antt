@@ -10,7 +10,7 @@ use Rattle.event_model.specs.declared.kinds.TheConstants.{CARD_NOT_VALID, TIME_O
 use Rattle.event_model.specs.declared.entries.Held.{Held}
 use Rattle.event_model.specs.Kinds.{purpose_of, purpose_number, places_of}
 use Rattle.event_model.specs.Places.{day_place, place_of, similar_after}
-use Rattle.side_model.specs.Events.{Event}
+use Rattle.event_model.specs.Events.{Event}
 
 -- type, purpose, begin, end, card numbers of driver and co-driver at begin and at end, similar events; a fault has all but the last
 abbrev pub event_widths : List ℕ

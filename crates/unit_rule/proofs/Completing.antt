@@ -18,7 +18,7 @@ use Rattle.joint_rule.specs.Rules.{Shows}
 use Rattle.safety_model.specs.Unit.{marks_of}
 use Rattle.unit_rule.specs.Rule.{Started}
 use Rattle.unit_rule.specs.Marks.{Holds}
-use Rattle.unit_rule.specs.Complete.{AreMarked, AreMarkedBut}
+use Rattle.unit_rule.specs.Complete.{AreMarksOf, AreMarkedBut}
 use Rattle.unit_rule.proofs.Moves.{shown-days}
 use Rattle.unit_rule.proofs.Marking.{marks-more}
 
@@ -26,16 +26,16 @@ abbrev minutes_of : List Mark → List ℕ
 minutes_of marks = map (λ m. m.minute) marks
 
 -- at the start, and with each minute that is kept
-pub marked-opened : AreMarked not_begun []
+pub marked-opened : AreMarksOf not_begun []
 marked-opened = refl
 
-pub marked-kept : (b : Book) (marks : List Mark) (i : HistoryMinute) (m : Mark) → m.device ≡ Recorder → m.minute ≡ i.minute → AreMarked b marks → AreMarked (kept i b) (marks ++ m ∷ [])
+pub marked-kept : (b : Book) (marks : List Mark) (i : HistoryMinute) (m : Mark) → m.device ≡ Recorder → m.minute ≡ i.minute → AreMarksOf b marks → AreMarksOf (kept i b) (marks ++ m ∷ [])
 marked-kept b marks i m device is are =
     ap minutes_of (marks-more marks m device) ∙ map-append (λ (n : Mark). n.minute) (marks_of Recorder marks) (m ∷ [])
     ∙ (λ t. are t ++ is t ∷ []) ∙ sym (map-append (λ (j : HistoryMinute). j.minute) b.sure (i ∷ []))
 
 -- and where power is back after nothing was broken off
-pub marked-found : (b : Book) (marks : List Mark) (k : ℕ) → b.maybe ≡ None → All (λ i. i.minute ≤ k) b.sure → AreMarked b marks → AreMarked (found k b) marks
+pub marked-found : (b : Book) (marks : List Mark) (k : ℕ) → b.maybe ≡ None → All (λ i. i.minute ≤ k) b.sure → AreMarksOf b marks → AreMarksOf (found k b) marks
 marked-found b marks k none sure are = are ∙ ap (λ (is : List HistoryMinute). map (λ (j : HistoryMinute). j.minute) is) (sym (ap (up_to k) (all-none b none) ∙ up_to-whole k b.sure sure))
 
 -- MINUTES THAT ARE SPARED
@@ -68,7 +68,7 @@ module _ (Spared : ℕ → Type 0) (b : Book) (marks : List Mark) (are : AreMark
   spared-found k maybe j at = ⊎_elim (are j) (λ there. inr (maybe j there)) (Contains-append_cases b.sure (option_to_list b.maybe) j (among k (all b) j at))
 
 -- the marks are the minutes of a front of the history
-pub marks-front : (past : List HistoryMinute) (lost : List (List HistoryMinute)) (b : Book) (marks : List Mark) → AreMarked b marks → b.maybe ≡ None → Follows past lost b →
+pub marks-front : (past : List HistoryMinute) (lost : List (List HistoryMinute)) (b : Book) (marks : List Mark) → AreMarksOf b marks → b.maybe ≡ None → Follows past lost b →
     (rest : List HistoryMinute) × (map (λ i. i.minute) past ≡ minutes_of (marks_of Recorder marks) ++ map (λ i. i.minute) rest)
 marks-front past lost b marks are none follows = (
   follows.front.0,

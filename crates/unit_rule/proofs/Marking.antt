@@ -30,7 +30,8 @@ use Rattle.joint_rule.proofs.Viewed.{seen-coherent, seen-run}
 use Rattle.safety_model.specs.Unit.{marks_of, is_of, Increase}
 use Rattle.unit_rule.specs.Rule.{Started, started, seen_unit, IsRuled}
 use Rattle.unit_rule.specs.Marks.{IsHeld, Holds}
-use Rattle.unit_rule.proofs.Moves.{keeping-shown, kept-shown, shown-last, shown-days}
+use Rattle.joint_steps.proofs.Keeping.{keeping_view, kept_view}
+use Rattle.unit_rule.proofs.Moves.{shown-last, shown-days}
 
 -- the rule does not ask whether the unit works
 abbrev working : Seen UnitView → Seen UnitView
@@ -132,7 +133,7 @@ module _ (s : Started) {U V : State} (due : ℕ) (b : Book) (marks : List Mark) 
   -- KEEP
   module _ (i : HistoryMinute) (odometer : ℕ) (none : b.maybe ≡ None) (late : due ≤ i.minute) (run : LeavesOnly U V (journal.IsKeeping (seen_by_unit i) odometer)) where
     keeps : (number_a number_b : List ℕ) → LeavesViews (seen_unit number_a number_b U) (seen_unit number_a number_b V) (IsKeeping KeepsMinute GivesUpDay i)
-    keeps number_a number_b = seen-run (unit_view number_a number_b) (journal.IsKeeping (seen_by_unit i) odometer) (IsKeeping KeepsMinute GivesUpDay i) U V before run (keeping-shown number_a number_b i odometer)
+    keeps number_a number_b = seen-run (unit_view number_a number_b) (journal.IsKeeping (seen_by_unit i) odometer) (IsKeeping KeepsMinute GivesUpDay i) U V before run (keeping_view number_a number_b i odometer)
 
     -- the rule as joint_rule asks for it
     ruled : (number_a number_b : List ℕ) → UnitRule (FillsDays s.days) s.first s.began due b (working (seen_unit number_a number_b U))
@@ -160,7 +161,7 @@ module _ (s : Started) {U V : State} (due : ℕ) (b : Book) (marks : List Mark) 
           let rule = (keep-unit (FillsDays s.days) s.first KeepsMinute GivesUpDay (days-go-on s.days) s.began due b i (ruled number_a number_b) late (lit number_a number_b)
           (record {
             works = refl;
-            now = λ v on. let was = ends on.0 on.1 in (unit_view number_a number_b was.0, (was.0, was.1, refl), subst (IsKept KeepsMinute i (unit_view number_a number_b was.0)) on.2 (kept-shown number_a number_b i was.0 on.0 was.2));
+            now = λ v on. let was = ends on.0 on.1 in (unit_view number_a number_b was.0, (was.0, was.1, refl), subst (IsKept KeepsMinute i (unit_view number_a number_b was.0)) on.2 (kept_view number_a number_b i was.0 on.0 was.2));
           })).holds in
           record { later = rule.later; order = rule.order; now = rule.now; since = rule.since };
       decodes = decodes-on (journal.IsKeeping (seen_by_unit i) odometer) run (λ x c here. here.decodes);

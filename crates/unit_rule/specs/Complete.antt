@@ -7,9 +7,9 @@ use Rattle.history_model.specs.Book.{Book}
 use Rattle.history_model.specs.Completeness.{IsMarked}
 use Rattle.safety_model.specs.Unit.{marks_of}
 
--- the unit has marked each sure minute once, in order, and no other
-abbrev pub AreMarked : Book → List Mark → Type 0
-AreMarked b marks = map (λ m. m.minute) (marks_of Recorder marks) ≡ map (λ i. i.minute) b.sure
+-- these are the unit's marks of a book: each sure minute once, in order, and no other
+abbrev pub AreMarksOf : Book → List Mark → Type 0
+AreMarksOf b marks = map (λ m. m.minute) (marks_of Recorder marks) ≡ map (λ i. i.minute) b.sure
 
 -- each sure minute is marked, but for those of which this holds
 abbrev pub AreMarkedBut : (ℕ → Type 0) → Book → List Mark → Type 0

@@ -11,7 +11,7 @@ ghost use Rattle.joint_rule.specs.Filling.{filled_with};
 ghost use Rattle.safety_model.specs.Unit.{UnitSafe, marks_of};
 ghost use Rattle.unit_rule.specs.Rule.{Started, started};
 ghost use Rattle.unit_rule.specs.Marks.{Holds};
-ghost use Rattle.unit_rule.specs.Complete.{AreMarked};
+ghost use Rattle.unit_rule.specs.Complete.{AreMarksOf};
 ghost use Rattle.unit_rule.specs.Odometer.{Travel, HasTravelled, kilometres_of};
 
 use tach_media::Medium;
@@ -52,6 +52,6 @@ pub fn what_is_left_is_whole<M: Medium>(unit: &M)
 /// Where the unit has marked each sure minute and none is begun, its marks are the minutes of a front of the history, once each
 /// and in order.
 pub fn marks_are_the_minutes()
-    ensures { (past : List HistoryMinute) (lost : List (List HistoryMinute)) (b : Book) (marks : List Mark) → AreMarked b marks → b.maybe ≡ None → Follows past lost b →
+    ensures { (past : List HistoryMinute) (lost : List (List HistoryMinute)) (b : Book) (marks : List Mark) → AreMarksOf b marks → b.maybe ≡ None → Follows past lost b →
         (rest : List HistoryMinute) × (map (λ i. i.minute) past ≡ map (λ m. m.minute) (marks_of Recorder marks) ++ map (λ i. i.minute) rest) }
 {}
