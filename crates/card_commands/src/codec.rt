@@ -1,4 +1,5 @@
 ghost use Rattle.std.specs.Prelude.{◌≡◌, ◌≤◌, ◌+◌, ◌++◌, Ok, IfOk, length};
+ghost use Rattle.card_commands.specs.declared.port.TheConstants.{WRITE_MOST};
 ghost use Rattle.byte_fields.specs.Images.{number_at};
 ghost use Rattle.chip_model.specs.Commands.{command_of, meaning, has_good_parameters, has_good_length};
 ghost use Rattle.card_commands.specs.Written.{bytes_of, IsWritable};
@@ -144,7 +145,7 @@ pub fn write_command(command: &Command) -> ArrayVec<u8, 260>
 
 // A header with data behind it.
 fn written(header: [u8; 5], bytes: &[u8]) -> ArrayVec<u8, 260>
-    requires { length bytes.now ≤ 255 }
+    requires { length bytes.now ≤ WRITE_MOST }
     ensures { result.items ≡ header ++ bytes.now }
 {
     let mut command = held(&header);

@@ -1,4 +1,5 @@
 ghost use Rattle.std.specs.Prelude.{◌≡◌, ◌≤◌, ◌<◌, ◌+◌, ◌^◌, true, false, length, take, Some, None, Ok, Err, OnOk, IfOk, IfErr, IfSome, is_err};
+ghost use Rattle.card_commands.specs.declared.port.TheConstants.{READ_MOST, WRITE_MOST};
 ghost use Rattle.card_layout.specs.Application.{IsApplication, application_in};
 ghost use Rattle.card_layout.specs.Files.{image_size_of};
 ghost use Rattle.tach_media.specs.Medium.{Reads, bytes_at};
@@ -99,7 +100,7 @@ impl<C: Chip> Port<C> {
     ) -> Result<(), Failed>
         requires selected { self.old.selected ≡ Some file }
         requires some { 0 < length out.old }
-        requires few { length out.old ≤ 256 }
+        requires few { length out.old ≤ READ_MOST }
         requires inside { offset + length out.old ≤ file.range.len }
         requires file { file.range.base + file.range.len ≤ LARGEST_IMAGE }
         ensures bytes { OnOk result (IfSome (C.state self.old.chip).image (λ x. out.new ≡ bytes_at x (file.range.base + offset) (length out.old))) }
@@ -155,7 +156,7 @@ impl<C: Chip> Port<C> {
         requires selected { self.old.selected ≡ Some file }
         requires updated { file.updated ≡ true }
         requires some { 0 < length bytes.now }
-        requires few { length bytes.now ≤ 255 }
+        requires few { length bytes.now ≤ WRITE_MOST }
         requires behind { file.range.base ≤ place }
         requires inside { place + length bytes.now ≤ file.range.base + file.range.len }
         requires file { file.range.base + file.range.len ≤ LARGEST_IMAGE }

@@ -1,4 +1,5 @@
-ghost use Rattle.std.specs.Prelude.{◌≡◌, ◌≤◌, ◌<◌, ◌+◌, true, length, Some, OnOk, OnErr, IfSome, is_err};
+ghost use Rattle.std.specs.Prelude.{◌^◌, ◌≡◌, ◌≤◌, ◌<◌, ◌+◌, true, length, Some, OnOk, OnErr, IfSome, is_err};
+ghost use Rattle.card_commands.specs.declared.port.TheConstants.{READ_MOST, WRITE_MOST};
 ghost use Rattle.tach_media.specs.Medium.{Reads, bytes_at};
 ghost use Rattle.chip_model.specs.Outcomes.{command_outcome, in_directory, found, is_application, Fixes};
 ghost use Rattle.tach_media.specs.Chip.{Does, WritesAt};
@@ -53,9 +54,9 @@ pub fn read<C: Chip>(
 ) -> Result<(), Failed>
     requires selected { (C.card chip.old).selected ≡ Some file }
     requires some { 0 < length out.old }
-    requires few { length out.old ≤ 256 }
+    requires few { length out.old ≤ READ_MOST }
     requires inside { offset + length out.old ≤ file.range.len }
-    requires near { offset < 32768 }
+    requires near { offset < 2 ^ 15 }
     ensures bytes { OnOk result (IfSome (C.state chip.old).image (λ x. out.new ≡ bytes_at x (file.range.base + offset) (length out.old))) }
     ensures card { OnOk result (C.card chip.new ≡ record (C.card chip.old) { application = (C.card chip.new).application }) }
     ensures sizes { OnOk result (Fixes (is_application file) (C.state chip.old).image (C.card chip.old).application (C.card chip.new).application) }
@@ -84,9 +85,9 @@ pub fn update<C: Chip>(
     requires selected { (C.card chip.old).selected ≡ Some file }
     requires updated { file.updated ≡ true }
     requires some { 0 < length bytes.now }
-    requires few { length bytes.now ≤ 255 }
+    requires few { length bytes.now ≤ WRITE_MOST }
     requires inside { offset + length bytes.now ≤ file.range.len }
-    requires near { offset < 32768 }
+    requires near { offset < 2 ^ 15 }
     ensures writes { WritesAt (file.range.base + offset) bytes.now (C.state chip.old) (C.state chip.new) (is_err result) }
     ensures card { C.card chip.new ≡ C.card chip.old }
 {

@@ -1,4 +1,5 @@
 ghost use Rattle.std.specs.Prelude.{◌≡◌, ◌≤◌, ◌<◌, ◌+◌, ◌++◌, ◌/◌, ◌%◌, [], ◌∷◌, true, not, length, Some, None, Ok, OnOk, OnErr, IfOk, IfSome, is_ok, is_err};
+ghost use Rattle.card_commands.specs.declared.port.TheConstants.{READ_MOST};
 ghost use Rattle.chip_model.specs.declared.command.Command.TheVariants.{Select, Read, Update};
 ghost use Rattle.card_layout.specs.Application.{application_in};
 ghost use Rattle.tach_media.specs.Medium.{State, LiesInside, Reads, bytes_at};
@@ -223,7 +224,7 @@ impl<M: Medium> SimCard<M> {
     // READ BINARY.
     fn read_binary(&mut self, offset: u16, len: u16, answer: &mut Answer) -> Result<u16, Failed>
         requires works { self.old.works ≡ true }
-        requires len { len ≤ 256 }
+        requires len { len ≤ READ_MOST }
         requires empty { answer.old.items ≡ [] }
         ensures performed { IfOk result (λ status. IsPerformed (Ok (Read offset len)) (M.state self.old.medium).image self.old.card self.new.card answer.new.items status) }
         ensures reads { Reads (M.state self.old.medium) (M.state self.new.medium) (is_err result) }
@@ -277,7 +278,7 @@ impl<M: Medium> SimCard<M> {
         requires empty { answer.old.items ≡ [] }
         ensures performed { IfOk result (λ status. IsPerformed read.now (M.state self.old.medium).image self.old.card self.new.card answer.new.items status) }
         ensures image { Does (outcome_from self.old.card read.now).effect (M.state self.old.medium) (M.state self.new.medium) (is_err result) }
-        ensures room { length answer.new.items ≤ 256 }
+        ensures room { length answer.new.items ≤ READ_MOST }
         ensures kept { OnErr result (self.new.card ≡ self.old.card) }
         ensures no_answer { OnErr result (answer.new.items ≡ []) }
     {
@@ -337,7 +338,7 @@ impl<M: Medium> Chip for SimCard<M> {
 
 // Puts the status word behind the data.
 fn conclude(answer: &mut Answer, status: u16)
-    requires { length answer.old.items ≤ 256 }
+    requires { length answer.old.items ≤ READ_MOST }
     ensures { answer.new.items ≡ answer.old.items ++ (status / 256 ∷ status % 256 ∷ []) }
 {
     let _ = answer.try_extend_from_slice(&status.to_be_bytes());

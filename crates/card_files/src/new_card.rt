@@ -1,5 +1,6 @@
 //! The flat image of a new card, as its maker issues it.
 ghost use Rattle.std.specs.Prelude.{◌≡◌, ◌+◌, ◌^◌, ◌<◌, ◌++◌, length, replicate, IfOk, OnOk, vec_len, slice_range, Some};
+ghost use Rattle.card_files.specs.declared.new_card.TheConstants.{IDENTIFICATION_SIZE};
 ghost use Rattle.byteorder.specs.Endian.{big_bytes};
 ghost use Rattle.card_layout.specs.Application.{application_bytes};
 ghost use Rattle.card_layout.specs.Files.{image_size_of};
@@ -133,7 +134,7 @@ fn write_number(n: u16, out: &mut [u8])
 /// Writes the fields of Identification in their order.
 #[tactic(auto, unfolding(crate::specs::NewCard::identification_bytes))]
 fn write_identification(identity: &CardIdentity, out: &mut [u8])
-    requires { length out.old ≡ 143 }
+    requires { length out.old ≡ IDENTIFICATION_SIZE }
     ensures { out.new ≡ identification_bytes identity.now }
 {
     let (state, out) = out.split_at_mut(1);

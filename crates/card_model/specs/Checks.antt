@@ -1,5 +1,6 @@
 -- What is checked of a string of days, in order, and the place in the file of days where it first fails.
 use Rattle.std.specs.Prelude.{ℕ, zero, suc, ◌+◌, ◌-◌, ◌/◌, ◌%◌, Bool, true, false, ◌&&◌, ◌||◌, Option, Some, None, List, [], ◌∷◌, ◌++◌, map, drop, nat_eq, nat_lt, nat_le, if◌then◌else◌}
+use Rattle.card_model.specs.declared.lengths.TheConstants.{DAY_LEAST, DAY_MOST}
 use Rattle.tach_media.specs.Medium.{bytes_at}
 use Rattle.activity_codec.specs.Words.{word_minute}
 use Rattle.card_model.specs.Bytes.{number}
@@ -22,9 +23,9 @@ first_failing (c ∷ cs) = if c.passes then first_failing cs else Some c.place
 abbrev pub is_pointer : (size p : ℕ) → Bool
 is_pointer size p = nat_lt p size && nat_eq (p % 2) 0
 
--- even, 14 to 2892, and with the bytes before it not more than the string has
+-- even, of a day's length, and with the bytes before it not more than the string has
 abbrev pub is_len : (size so_far len : ℕ) → Bool
-is_len size so_far len = nat_eq (len % 2) 0 && nat_le 14 len && nat_le len 2892 && nat_le (so_far + len) size
+is_len size so_far len = nat_eq (len % 2) 0 && nat_le DAY_LEAST len && nat_le len DAY_MOST && nat_le (so_far + len) size
 
 -- the length of the day before; in the oldest day it is not looked at
 abbrev pub is_previous : (so_far before previous : ℕ) → Bool

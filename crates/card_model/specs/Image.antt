@@ -1,5 +1,6 @@
 -- The days that a card's flat image holds: in the file of days two pointers, and a circle of bytes.
 use Rattle.std.specs.Prelude.{◌≡◌, ◌⊎◌, ℕ, ◌+◌, ◌-◌, ◌%◌, ◌<◌, ◌≤◌, ◌^◌, List, [], ◌∷◌, ◌++◌, take, drop, nat_lt, if◌then◌else◌}
+use Rattle.card_model.specs.declared.lengths.TheConstants.{STRING_LEAST, STRING_MOST}
 use Rattle.tach_media.specs.Medium.{bytes_at}
 use Rattle.card_model.specs.Bytes.{number}
 use Rattle.card_model.specs.Days.{Day, total, far, records, AreDays}
@@ -12,8 +13,8 @@ pub record StringShape : Type 0 where
 -- the lengths that a card may have
 pub record IsStringShape (r : StringShape) : Type 0 where
   pub even : r.size % 2 ≡ 0
-  pub low : 5544 ≤ r.size
-  pub high : r.size ≤ 13776
+  pub low : STRING_LEAST ≤ r.size
+  pub high : r.size ≤ STRING_MOST
   pub short : r.base + (4 + r.size) < 2 ^ 32
 
 -- a circle of bytes, read once round from a place on

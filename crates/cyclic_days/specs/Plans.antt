@@ -1,5 +1,6 @@
 -- The writes of the calls on a string, in their order, by what is kept of it.
 use Rattle.std.specs.Prelude.{ℕ, ◌+◌, ◌-◌, ◌*◌, ◌%◌, ◌&&◌, List, [], ◌∷◌, ◌++◌, length, take, drop, nat_eq, nat_le, nat_lt, if◌then◌else◌, ◌==◌}
+use Rattle.card_model.specs.declared.lengths.TheConstants.{DAY_LEAST, DAY_MOST}
 use Rattle.tach_media.specs.Medium.{bytes_at}
 use Rattle.write_plan.specs.Plan.{Piece, piece}
 use Rattle.card_model.specs.Bytes.{number, two_bytes}
@@ -12,7 +13,7 @@ use Rattle.cyclic_days.specs.Held.{Held, newest_len, end_of, oldest_at}
 
 -- a number as the length of a day that goes, which counts the least of a day where it is none
 abbrev pub dropped_len : ℕ → ℕ
-dropped_len n = if nat_eq (n % 2) 0 && (nat_le 14 n && nat_le n 2892) then n else 14
+dropped_len n = if nat_eq (n % 2) 0 && (nat_le DAY_LEAST n && nat_le n DAY_MOST) then n else DAY_LEAST
 
 -- how many bytes are in use without the oldest day, where so many bytes more do not fit
 abbrev pub left_in : Held → (new : ℕ) → List ℕ → (used : ℕ) → ℕ
@@ -20,9 +21,9 @@ left_in v new x used =
     if nat_le (used + new) v.shape.size then used
     else used - dropped_len (number (bytes_at x (at v.shape (spot v.shape.size (oldest_at v used) 2)) 2))
 
--- how many days go at most for so many bytes more: each has 14 at least
+-- how many days go at most for so many bytes more
 abbrev pub most_drops : (size used new : ℕ) → ℕ
-most_drops size used new = if nat_le (used + new) size then 0 else (if nat_le (used + new) (size + 14) then 1 else 2)
+most_drops size used new = if nat_le (used + new) size then 0 else (if nat_le (used + new) (size + DAY_LEAST) then 1 else 2)
 
 -- a drop: the oldest pointer, and the length before the day that is the oldest then
 abbrev pub drop_pieces : Held → (used left : ℕ) → List Piece

@@ -1,4 +1,5 @@
 ghost use Rattle.std.specs.Prelude.{◌≡◌, ◌≤◌, ◌<◌, ◌+◌, ◌%◌, ℕ, length, slice_index, IfOk, OnOk, IfSome, is_err, option_map, take, Some, None, []};
+ghost use Rattle.card_model.specs.declared.lengths.TheConstants.{DAY_MOST, STRING_MOST};
 ghost use Rattle.tach_media.specs.Medium.{LeavesOnly, Reads, HasCause, LiesInside, IsPartlyWritten, IsSettled, last_count, put, bytes_at};
 ghost use Rattle.card_model.specs.Days.{Day};
 ghost use Rattle.card_model.specs.Bytes.{number, two_bytes};
@@ -13,6 +14,7 @@ use crate::DayHead;
 use crate::bytes::{read_two, write_two};
 use crate::head::RecordHead;
 use card_layout::Range;
+use card_model::lengths::DAY_MOST;
 use std::marker::Model;
 use tach_media::{Failed, Medium};
 
@@ -56,7 +58,7 @@ impl Circle {
     // How many bytes the string has.
     pub(crate) fn size(&self) -> u32
         ensures size { result ≡ self.now.size }
-        ensures most { result ≤ 13776 }
+        ensures most { result ≤ STRING_MOST }
     {
         self.size
     }
@@ -72,12 +74,12 @@ impl Circle {
 
     // A number, or 0 where it is no length of a day.
     pub(crate) fn day_len(n: u32) -> u32
-        ensures same { n % 2 ≡ 0 → n ≤ 2892 → result ≡ n }
+        ensures same { n % 2 ≡ 0 → n ≤ DAY_MOST → result ≡ n }
         ensures taken { 0 < result → result ≡ n }
         ensures even { result % 2 ≡ 0 }
-        ensures most { result ≤ 2892 }
+        ensures most { result ≤ DAY_MOST }
     {
-        if n % 2 == 0 && n <= 2892 { n } else { 0 }
+        if n % 2 == 0 && n <= DAY_MOST { n } else { 0 }
     }
 
     // The place so far behind another, round the end.
@@ -114,7 +116,7 @@ impl Circle {
     pub(crate) fn back(&self, from: u32, distance: u32) -> u32
         requires pointer { IsPointer self.now.size from }
         requires even { distance % 2 ≡ 0 }
-        requires most { distance ≤ 2892 }
+        requires most { distance ≤ DAY_MOST }
         ensures place { IsPlace self.now.size result distance from }
         ensures pointer { IsPointer self.now.size result }
     {
@@ -155,9 +157,9 @@ impl Circle {
         requires fits { FileFitsIn self.now (M.state medium.old) }
         requires pointer { IsPointer self.now.size place }
         ensures len { IfOk result (λ n. IfSome (M.state medium.old).image (λ x. (q : ℕ) → IsPlace self.now.size place 2 q → q < self.now.size
-            → number (bytes_at x (at self.now q) 2) % 2 ≡ 0 → number (bytes_at x (at self.now q) 2) ≤ 2892 → n ≡ number (bytes_at x (at self.now q) 2))) }
+            → number (bytes_at x (at self.now q) 2) % 2 ≡ 0 → number (bytes_at x (at self.now q) 2) ≤ DAY_MOST → n ≡ number (bytes_at x (at self.now q) 2))) }
         ensures even { IfOk result (λ n. n % 2 ≡ 0) }
-        ensures most { IfOk result (λ n. n ≤ 2892) }
+        ensures most { IfOk result (λ n. n ≤ DAY_MOST) }
         ensures reads { Reads (M.state medium.old) (M.state medium.new) (is_err result) }
     {
         let field = self.base + 4 + self.spot(place, 2);
@@ -169,10 +171,10 @@ impl Circle {
     pub(crate) fn previous_at<M: Medium>(&self, medium: &mut M, place: u32) -> Result<u32, Failed>
         requires fits { FileFitsIn self.now (M.state medium.old) }
         requires pointer { IsPointer self.now.size place }
-        ensures len { IfOk result (λ n. IfSome (M.state medium.old).image (λ x. number (bytes_at x (at self.now place) 2) % 2 ≡ 0 → number (bytes_at x (at self.now place) 2) ≤ 2892
+        ensures len { IfOk result (λ n. IfSome (M.state medium.old).image (λ x. number (bytes_at x (at self.now place) 2) % 2 ≡ 0 → number (bytes_at x (at self.now place) 2) ≤ DAY_MOST
             → n ≡ number (bytes_at x (at self.now place) 2))) }
         ensures even { IfOk result (λ n. n % 2 ≡ 0) }
-        ensures most { IfOk result (λ n. n ≤ 2892) }
+        ensures most { IfOk result (λ n. n ≤ DAY_MOST) }
         ensures reads { Reads (M.state medium.old) (M.state medium.new) (is_err result) }
     {
         let field = self.base + 4 + place;

@@ -1,4 +1,5 @@
 ghost use Rattle.std.specs.Prelude.{◌≡◌, ◌≢◌, ◌≤◌, ◌<◌, ◌+◌, ◌*◌, ◌%◌, ℕ, List, [], length, slice_get, slice_index, None, IfOk, IfErr, OnOk, IfSome, is_err};
+ghost use Rattle.card_model.specs.declared.lengths.TheConstants.{STRING_LEAST, STRING_MOST};
 ghost use Rattle.std.specs.List.{last_or};
 ghost use Rattle.tach_media.specs.Medium.{LeavesOnly, Reads, HasCause, LiesInside, IsSettled, last_count};
 ghost use Rattle.card_model.specs.Checks.{first_bad};
@@ -45,8 +46,8 @@ impl Days {
     pub fn load<M: Medium>(medium: &mut M, range: Range) -> Result<Days, DaysFault>
         requires inside { range.base + range.len ≤ (M.state medium.old).size }
         requires even { range.len % 2 ≡ 0 }
-        requires low { 5548 ≤ range.len }
-        requires high { range.len ≤ 13780 }
+        requires low { 4 + STRING_LEAST ≤ range.len }
+        requires high { range.len ≤ 4 + STRING_MOST }
         ensures shape { IfOk result (λ days. days.shape ≡ shape_of range) }
         ensures days { IfOk result (λ days. IfSome (M.state medium.old).image (λ x. Knows days x (days_of (shape_of range) x))) }
         ensures bad { IfErr result (λ fault. IfBadDays fault (λ p. IfSome (M.state medium.old).image (λ x. first_bad (shape_of range) x ≡ Some p))) }

@@ -1,4 +1,5 @@
 ghost use Rattle.std.specs.Prelude.{◌≡◌, ◌≤◌, ◌<◌, ◌+◌, ◌*◌, ◌%◌, Some, None, true, drop, IfOk, IfErr, IfSome, IfNone, OnOk, is_err, ◌&&◌, nat_le, nat_lt};
+ghost use Rattle.card_model.specs.declared.lengths.TheConstants.{DAY_LEAST, DAY_MOST, DAYS_MOST, STRING_LEAST, STRING_MOST};
 ghost use Rattle.tach_media.specs.Medium.{Reads};
 ghost use Rattle.card_model.specs.Image.{StringShape, IsStringShape, IsPointer, Holds, spot, turned, string_of, oldest_pointer, newest_pointer, circle_of, IsPlace};
 ghost use Rattle.card_model.specs.Walk.{words_of, days_of};
@@ -11,6 +12,7 @@ use crate::bytes::read_two;
 use crate::circle::Circle;
 use crate::head::RecordHead;
 use card_layout::Range;
+use card_model::lengths::{DAY_LEAST, DAY_MOST};
 use tach_media::{Failed, Medium};
 
 impl Circle {
@@ -21,7 +23,7 @@ impl Circle {
         ensures { result ≡ is_len self.now.size so_far len }
     {
         let size = self.size();
-        len % 2 == 0 && 14 <= len && len <= 2892 && so_far + len <= size
+        len % 2 == 0 && DAY_LEAST <= len && len <= DAY_MOST && so_far + len <= size
     }
 
     // The offset of the first field of a record that fails.
@@ -31,7 +33,7 @@ impl Circle {
         requires shape { IsStringShape self.now }
         ensures first { result ≡ first_failing (field_checks self.now.size so_far before date head.now.previous head.now.len head.now.date head.now.counter) }
         ensures offset { IfSome result (λ k. (k % 2 ≡ 0) × (so_far + k ≤ self.now.size)) }
-        ensures len { IfNone result ((head.now.len % 2 ≡ 0) × (14 ≤ head.now.len) × (head.now.len ≤ 2892) × (so_far + head.now.len ≤ self.now.size)) }
+        ensures len { IfNone result ((head.now.len % 2 ≡ 0) × (DAY_LEAST ≤ head.now.len) × (head.now.len ≤ DAY_MOST) × (so_far + head.now.len ≤ self.now.size)) }
     {
         if !self.is_len(so_far, head.len as u32) {
             return Some(2);
@@ -109,7 +111,7 @@ impl Circle {
         requires even { so_far % 2 ≡ 0 }
         ensures shape { IsStringShape self.now }
         ensures record { IfOk result (λ h. IfSome (M.state medium.old).image (λ x. IsRecord self.now.size so_far before date (turned (spot self.now.size oldest so_far) (string_of self.now x)) h)) }
-        ensures len { IfOk result (λ h. (h.len % 2 ≡ 0) × (14 ≤ h.len) × (h.len ≤ 2892) × (so_far + h.len ≤ self.now.size)) }
+        ensures len { IfOk result (λ h. (h.len % 2 ≡ 0) × (DAY_LEAST ≤ h.len) × (h.len ≤ DAY_MOST) × (so_far + h.len ≤ self.now.size)) }
         ensures bad { IfErr result (λ fault. IfBadDays fault (λ p. IfSome (M.state medium.old).image (λ x. FailsAt self.now.size oldest so_far before date (turned (spot self.now.size oldest so_far) (string_of self.now x)) p))) }
         ensures place { IfErr result (λ fault. IfBadDays fault (λ p. p < 4 + self.now.size)) }
         ensures reads { Reads (M.state medium.old) (M.state medium.new) (has_failed result) }
@@ -139,7 +141,7 @@ impl Circle {
         requires below { reach < self.now.size }
         ensures shape { IsStringShape self.now }
         ensures days { OnOk result (IfSome (M.state medium.old).image (λ x. oldest ≡ oldest_pointer self.now x → IsPointer self.now.size (newest_pointer self.now x) → IsPlace self.now.size oldest reach (newest_pointer self.now x) → Holds self.now x (days_of self.now x))) }
-        ensures bad { IfErr result (λ fault. IfBadDays fault (λ p. IfSome (M.state medium.old).image (λ x. oldest ≡ oldest_pointer self.now x → first_failing (day_checks 984 self.now.size oldest reach 0 0 0 (circle_of self.now x)) ≡ Some p))) }
+        ensures bad { IfErr result (λ fault. IfBadDays fault (λ p. IfSome (M.state medium.old).image (λ x. oldest ≡ oldest_pointer self.now x → first_failing (day_checks DAYS_MOST self.now.size oldest reach 0 0 0 (circle_of self.now x)) ≡ Some p))) }
         ensures place { IfErr result (λ fault. IfBadDays fault (λ p. p < 4 + self.now.size)) }
         ensures reads { Reads (M.state medium.old) (M.state medium.new) (has_failed result) }
     {
@@ -191,8 +193,8 @@ impl Circle {
     pub(crate) fn load<M: Medium>(medium: &mut M, range: Range) -> Result<Circle, DaysFault>
         requires inside { range.base + range.len ≤ (M.state medium.old).size }
         requires even { range.len % 2 ≡ 0 }
-        requires low { 5548 ≤ range.len }
-        requires high { range.len ≤ 13780 }
+        requires low { 4 + STRING_LEAST ≤ range.len }
+        requires high { range.len ≤ 4 + STRING_MOST }
         ensures shape { IfOk result (λ days. days ≡ shape_of range) }
         ensures days { OnOk result (IfSome (M.state medium.old).image (λ x. Holds (shape_of range) x (days_of (shape_of range) x))) }
         ensures bad { IfErr result (λ fault. IfBadDays fault (λ p. IfSome (M.state medium.old).image (λ x. first_bad (shape_of range) x ≡ Some p))) }

@@ -1,5 +1,5 @@
 //! Driving without an appropriate card, and power supply interruptions (Annex IB, section III.12).
-ghost use Rattle.std.specs.Prelude.{◌≡◌, ◌+◌, ◌/◌, ◌==◌, ◌≤◌, ◌<◌, List, [], ◌++◌, option_to_list, if◌then◌else◌};
+ghost use Rattle.std.specs.Prelude.{◌^◌, ◌≡◌, ◌+◌, ◌/◌, ◌==◌, ◌≤◌, ◌<◌, List, [], ◌++◌, option_to_list, if◌then◌else◌};
 ghost use Rattle.event_model.specs.Spans.{DriverSecond, bares_of, all_bare, gap_of};
 ghost use Rattle.event_rules.specs.Bare.{Bare, StandsFor, IsNext, no_run, grown, span_in};
 
@@ -16,14 +16,14 @@ pub struct NoCardRun {
 }
 
 impl Model for NoCardRun {
-    ghost use Rattle.std.specs.Prelude.{◌+◌, ◌≤◌};
+    ghost use Rattle.std.specs.Prelude.{◌^◌, ◌+◌, ◌≤◌};
     ghost use Rattle.event_rules.specs.Bare.{Bare};
 
     ghost Value = { Bare };
 
     ghost view = { λ r. record { begin = r.begin; seconds = r.seconds } };
 
-    ghost invariant = { λ r. r.begin + r.seconds ≤ 4294967296 };
+    ghost invariant = { λ r. r.begin + r.seconds ≤ 2 ^ 32 };
 }
 
 impl NoCardRun {
@@ -57,7 +57,7 @@ impl NoCardRun {
     /// The last of them is at most 4294967295, and `second` is the one after the one that was fed before, where there is one.
     pub fn feed_run(&mut self, second: u32, n: u32, bare: bool) -> Option<Span>
         requires some { 0 < n }
-        requires fits { second + n ≤ 4294967296 }
+        requires fits { second + n ≤ 2 ^ 32 }
         requires next { IsNext self.old second }
         ensures fed { (seconds : List DriverSecond) → StandsFor self.old seconds → StandsFor self.new (seconds ++ all_bare second n bare) }
         ensures given { (seconds : List DriverSecond) → StandsFor self.old seconds → bares_of (seconds ++ all_bare second n bare) ≡ bares_of seconds ++ option_to_list result }
@@ -72,7 +72,7 @@ impl NoCardRun {
 
     /// The run goes on, with so many seconds more.
     fn grow(&mut self, second: u32, n: u32)
-        requires fits { second + n ≤ 4294967296 }
+        requires fits { second + n ≤ 2 ^ 32 }
         requires next { IsNext self.old second }
         ensures kept { self.new ≡ grown second n self.old }
         ensures end { self.new.begin + self.new.seconds ≡ second + n }
@@ -107,7 +107,7 @@ impl NoCardRun {
 
 /// The run of so many seconds, if there is one.
 fn run_of(begin: u32, seconds: u64) -> Option<Span>
-    requires { begin + seconds ≤ 4294967296 }
+    requires { begin + seconds ≤ 2 ^ 32 }
     ensures { result ≡ span_in (record { begin = begin; seconds = seconds }) }
 {
     if seconds == 0 {

@@ -1,5 +1,5 @@
 //! Over speeding (Annex IB, section III.12).
-ghost use Rattle.std.specs.Prelude.{◌≡◌, ◌+◌, ◌*◌, ◌/◌, ◌==◌, ◌≤◌, ◌<◌, List, [], ◌++◌, option_to_list, if◌then◌else◌, nat_lt};
+ghost use Rattle.std.specs.Prelude.{◌^◌, ◌≡◌, ◌+◌, ◌*◌, ◌/◌, ◌==◌, ◌≤◌, ◌<◌, List, [], ◌++◌, option_to_list, if◌then◌else◌, nat_lt};
 ghost use Rattle.event_model.specs.Spans.{SpeedSecond, overs_of, at_speed};
 ghost use Rattle.event_rules.specs.Speeding.{Speeding, StandsFor, IsNext, no_run, grown, over_in};
 
@@ -24,7 +24,7 @@ impl Fast {
     #[tactic(auto, using(crate::proofs::Sums::sum_fits))]
     fn grown(self, second: u32, n: u32, speed: u8) -> Self
         requires next { IsNext self second }
-        requires fits { second + n ≤ 4294967296 }
+        requires fits { second + n ≤ 2 ^ 32 }
         requires sum { self.sum ≤ 255 * self.seconds }
         ensures value { result ≡ grown second n speed self }
         ensures end { result.begin + result.seconds ≡ second + n }
@@ -52,7 +52,7 @@ impl Fast {
 
     /// The over speeding that it is where it ends now.
     fn over(self) -> Option<Over>
-        requires end { self.begin + self.seconds ≤ 4294967296 }
+        requires end { self.begin + self.seconds ≤ 2 ^ 32 }
         requires sum { self.sum ≤ 255 * self.seconds }
         ensures { result ≡ over_in self }
     {
@@ -86,14 +86,14 @@ pub struct Overspeed {
 }
 
 impl Model for Overspeed {
-    ghost use Rattle.std.specs.Prelude.{◌+◌, ◌*◌, ◌≤◌};
+    ghost use Rattle.std.specs.Prelude.{◌^◌, ◌+◌, ◌*◌, ◌≤◌};
     ghost use Rattle.event_rules.specs.Speeding.{Speeding};
 
     ghost Value = { Speeding };
 
     ghost view = { λ o. record { limit = o.limit; run = o.run } };
 
-    ghost invariant = { λ o. (o.run.begin + o.run.seconds ≤ 4294967296) × (o.run.sum ≤ 255 * o.run.seconds) };
+    ghost invariant = { λ o. (o.run.begin + o.run.seconds ≤ 2 ^ 32) × (o.run.sum ≤ 255 * o.run.seconds) };
 }
 
 impl Overspeed {
@@ -127,7 +127,7 @@ impl Overspeed {
     /// The last of them is at most 4294967295, and `second` is the one after the one that was fed before, where there is one.
     pub fn feed_run(&mut self, second: u32, n: u32, speed: u8) -> Option<Over>
         requires some { 0 < n }
-        requires fits { second + n ≤ 4294967296 }
+        requires fits { second + n ≤ 2 ^ 32 }
         requires next { IsNext self.old.run second }
         ensures fed { (seconds : List SpeedSecond) → StandsFor self.old seconds → StandsFor self.new (seconds ++ at_speed second n speed) }
         ensures given { (seconds : List SpeedSecond) → StandsFor self.old seconds → overs_of self.old.limit (seconds ++ at_speed second n speed) ≡ overs_of self.old.limit seconds ++ option_to_list result }
@@ -150,7 +150,7 @@ impl Overspeed {
 
     /// The run goes on, with so many seconds more.
     fn grow(&mut self, second: u32, n: u32, speed: u8)
-        requires fits { second + n ≤ 4294967296 }
+        requires fits { second + n ≤ 2 ^ 32 }
         requires next { IsNext self.old.run second }
         ensures kept { self.new ≡ record { limit = self.old.limit; run = grown second n speed self.old.run } }
         ensures end { self.new.run.begin + self.new.run.seconds ≡ second + n }

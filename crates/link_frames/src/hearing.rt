@@ -1,5 +1,6 @@
 //! What one byte does, as plain work on the bytes that were kept.
 ghost use Rattle.std.specs.Prelude.{◌≡◌, ◌<◌, ◌≤◌, ◌+◌, ◌-◌, ◌%◌, ◌==◌, ◌++◌, ◌∷◌, [], IsTrue, IfSome, IfNone, true, length, sum, map, take, option_map, option_to_list};
+ghost use Rattle.link_frames.specs.declared.hearing.TheConstants.{KEPT};
 ghost use Rattle.std.specs.Bool.{OnFalse, OnTrue};
 ghost use Rattle.link_model.specs.Frames.{second, third};
 ghost use Rattle.link_model.specs.Hearing.{starts, looks_right, size_of, is_kept, header_size, heard_at_last, after_byte, heard_in, kept_after};
@@ -55,8 +56,8 @@ fn is_last(kept: &[u8], byte: u8) -> bool
     requires { length kept.now < size_of kept.now }
     ensures value { result ≡ (length (kept.now ++ byte ∷ []) == size_of (kept.now ++ byte ∷ [])) }
     ensures long { OnTrue result (4 ≤ length kept.now) }
-    ensures few { length kept.now ≤ 259 }
-    ensures room { OnFalse result (length kept.now < 259) }
+    ensures few { length kept.now ≤ KEPT }
+    ensures room { OnFalse result (length kept.now < KEPT) }
 {
     if kept.len() < 4 {
         return false;
@@ -71,7 +72,7 @@ fn is_last(kept: &[u8], byte: u8) -> bool
 
 // The sum of bytes, modulo 256.
 pub fn sum_of(bytes: &[u8]) -> u8
-    requires { length bytes.now ≤ 259 }
+    requires { length bytes.now ≤ KEPT }
     ensures { result ≡ sum bytes.now % 256 }
 {
     let total: u32 = bytes.iter().map(|byte| *byte as u32).sum();

@@ -1,5 +1,5 @@
 //! What is counted of one minute.
-ghost use Rattle.std.specs.Prelude.{◌≡◌, ◌+◌, ◌*◌, ◌≤◌, map, length};
+ghost use Rattle.std.specs.Prelude.{◌^◌, ◌-◌, ◌≡◌, ◌+◌, ◌*◌, ◌≤◌, map, length};
 ghost use Rattle.std.specs.List.{AllByRecursion};
 ghost use Rattle.activity_codec.specs.Activity.{is_driving};
 ghost use Rattle.minute_rules.specs.Counted.{Fits, closed, opened, with_driver, with_codriver, moved, waited, waits_on, past_waited, drivers_longest, class_by};
@@ -34,7 +34,7 @@ pub struct Counted {
 impl Counted {
     /// The open seconds get this activity.
     pub fn closed(self, act: Activity) -> Self
-        requires { self.driver.going_seconds + self.open_seconds ≤ 4294967295 }
+        requires { self.driver.going_seconds + self.open_seconds ≤ 2 ^ 32 - 1 }
         ensures { result ≡ closed act self }
     {
         Counted {
@@ -48,7 +48,7 @@ impl Counted {
 
     /// So many more of the driver's seconds.
     pub fn with_driver(self, act: Activity, seconds: u32) -> Self
-        requires { self.driver.going_seconds + seconds ≤ 4294967295 }
+        requires { self.driver.going_seconds + seconds ≤ 2 ^ 32 - 1 }
         ensures { result ≡ with_driver act seconds self }
     {
         Counted {
@@ -62,7 +62,7 @@ impl Counted {
 
     /// So many more of the co-driver's seconds.
     pub fn with_codriver(self, act: Activity, seconds: u32) -> Self
-        requires { self.codriver.going_seconds + seconds ≤ 4294967295 }
+        requires { self.codriver.going_seconds + seconds ≤ 2 ^ 32 - 1 }
         ensures { result ≡ with_codriver act seconds self }
     {
         Counted {
@@ -76,7 +76,7 @@ impl Counted {
 
     /// So many more of the driver's seconds at speed 0: they are open till the 120th second after the stop.
     pub fn waited(self, waiting: Option<u32>, act: Activity, seconds: u32) -> Self
-        requires { self.driver.going_seconds + self.open_seconds + seconds ≤ 4294967295 }
+        requires { self.driver.going_seconds + self.open_seconds + seconds ≤ 2 ^ 32 - 1 }
         ensures { result ≡ waited waiting act seconds self }
     {
         let Some(count) = waiting else {
@@ -93,7 +93,7 @@ impl Counted {
 
     /// So many more open seconds.
     fn opened(self, seconds: u32) -> Self
-        requires { self.open_seconds + seconds ≤ 4294967295 }
+        requires { self.open_seconds + seconds ≤ 2 ^ 32 - 1 }
         ensures { result ≡ opened seconds self }
     {
         Counted {
@@ -107,9 +107,9 @@ impl Counted {
 
     /// So many more moving seconds.
     pub fn moved(self, seconds: u32, speed: u8) -> Self
-        requires driver { self.driver.going_seconds + seconds ≤ 4294967295 }
-        requires codriver { self.codriver.going_seconds + seconds ≤ 4294967295 }
-        requires travelled { self.travelled ≤ 255 * 4294967295 }
+        requires driver { self.driver.going_seconds + seconds ≤ 2 ^ 32 - 1 }
+        requires codriver { self.codriver.going_seconds + seconds ≤ 2 ^ 32 - 1 }
+        requires travelled { self.travelled ≤ 255 * (2 ^ 32 - 1) }
         ensures { result ≡ moved seconds speed self }
     {
         Counted {
@@ -123,7 +123,7 @@ impl Counted {
 
     /// The driver's longest activity: what is open counts as WORK.
     pub fn drivers_longest(self) -> Activity
-        requires { Fits 4294967295 self }
+        requires { Fits (2 ^ 32 - 1) self }
         ensures { result ≡ drivers_longest self }
     {
         self.driver
@@ -134,7 +134,7 @@ impl Counted {
 
 /// The open seconds of these minutes get this activity.
 pub fn close_all<L: Ledger>(minutes: &mut [Counted], act: Activity, steps: &mut Steps<L>)
-    requires { AllByRecursion (Fits 4294967295) minutes.old }
+    requires { AllByRecursion (Fits (2 ^ 32 - 1)) minutes.old }
     ensures closed { minutes.new ≡ map (closed act) minutes.old }
     ensures cost { steps.new ≡ steps.old + length minutes.old }
 {
@@ -151,7 +151,7 @@ pub fn end_late<L: Ledger>(
     seconds: u32,
     steps: &mut Steps<L>,
 )
-    requires { AllByRecursion (Fits 4294967295) past.old.items }
+    requires { AllByRecursion (Fits (2 ^ 32 - 1)) past.old.items }
     ensures kept { past.new.items ≡ past_waited waiting seconds past.old.items }
     ensures cost { steps.new ≤ steps.old + 5 }
 {
@@ -175,7 +175,7 @@ pub fn still_waiting(waiting: Option<u32>, seconds: u32) -> Option<u32>
 
 /// The driver's class of a minute, by it and the minutes before and after it.
 pub fn driver_class(rule: Rule, before: Counted, this: Counted, after: Counted) -> Activity
-    requires { Fits 4294967295 before × Fits 4294967295 this × Fits 4294967295 after }
+    requires { Fits (2 ^ 32 - 1) before × Fits (2 ^ 32 - 1) this × Fits (2 ^ 32 - 1) after }
     ensures { result ≡ class_by rule before this after }
 {
     let driving = match rule {

@@ -1,5 +1,5 @@
 //! A span of seconds with power, fed one after another (Annex IB, section III.4).
-ghost use Rattle.std.specs.Prelude.{◌≡◌, ◌+◌, ◌-◌, ◌*◌, ◌/◌, ◌%◌, ◌<◌, ◌≤◌, ◌++◌, map, length};
+ghost use Rattle.std.specs.Prelude.{◌^◌, ◌≡◌, ◌+◌, ◌-◌, ◌*◌, ◌/◌, ◌%◌, ◌<◌, ◌≤◌, ◌++◌, map, length};
 ghost use Rattle.activity_codec.specs.Activity.{activity_of};
 ghost use Rattle.minute_model.specs.Minute.{minutes_ahead};
 ghost use Rattle.minute_model.specs.Span.{Span, activity_next, begin, fed, fed_many, picked, settled, decided_in, travelled_of, end_of};
@@ -36,7 +36,7 @@ pub struct Minutes {
 }
 
 impl Model for Minutes {
-    ghost use Rattle.std.specs.Prelude.{◌+◌, ◌/◌, ◌≤◌};
+    ghost use Rattle.std.specs.Prelude.{◌^◌, ◌-◌, ◌+◌, ◌/◌, ◌≤◌};
     ghost use Rattle.std.specs.List.{AllByRecursion};
     ghost use Rattle.minute_rules.specs.Counted.{Fits};
     ghost use Rattle.minute_rules.specs.Kept.{Kept};
@@ -109,7 +109,7 @@ impl Minutes {
     ///
     /// The number of the next second is below 4294967295.
     pub fn feed(&mut self, speed: u8) -> Decided
-        requires { self.old.next < 4294967295 }
+        requires { self.old.next < 2 ^ 32 - 1 }
         ensures fed { (span : Span) → StandsFor self.old span → StandsFor self.new (fed span speed) }
         ensures given { (span : Span) → StandsFor self.old span → decided_in (fed span speed) ≡ decided_in span ++ result.items }
         ensures next { self.new.next ≡ self.old.next + 1 }
@@ -122,7 +122,7 @@ impl Minutes {
         requires name { blank.name ≡ L.name }
         requires parts { blank.parts ≡ L.parts }
         requires one { blank.parts ≡ 1 }
-        requires fits { self.old.next < 4294967295 }
+        requires fits { self.old.next < 2 ^ 32 - 1 }
         ensures fed { (span : Span) → StandsFor self.old span → StandsFor self.new (fed span speed) }
         ensures given { (span : Span) → StandsFor self.old span → decided_in (fed span speed) ≡ decided_in span ++ result.items }
         ensures next { self.new.next ≡ self.old.next + 1 }
@@ -136,7 +136,7 @@ impl Minutes {
     ///
     /// The number of the next second and `n` together are at most 4294967295.
     pub fn feed_run<L: Ledger>(&mut self, n: u32, speed: u8, steps: &mut Steps<L>) -> Decided
-        requires fits { self.old.next + n ≤ 4294967295 }
+        requires fits { self.old.next + n ≤ 2 ^ 32 - 1 }
         requires minute { self.old.next % 60 + n ≤ 60 }
         ensures fed { (span : Span) → StandsFor self.old span → StandsFor self.new (fed_many span speed n) }
         ensures given { (span : Span) → StandsFor self.old span → decided_in (fed_many span speed n) ≡ decided_in span ++ result.items }
@@ -174,7 +174,7 @@ impl Minutes {
 
     /// So many seconds of one minute.
     fn run<L: Ledger>(&mut self, n: u32, speed: u8, steps: &mut Steps<L>)
-        requires { self.old.next + n ≤ 4294967295 }
+        requires { self.old.next + n ≤ 2 ^ 32 - 1 }
         ensures kept { self.new ≡ run n speed self.old }
         ensures cost { steps.new ≤ steps.old + 10 }
     {
@@ -219,7 +219,7 @@ impl Minutes {
 
     /// Seconds at speed 0, for which nothing is selected any more: the driver waits till the 120th second after the stop.
     fn pass<L: Ledger>(&mut self, n: u32, steps: &mut Steps<L>)
-        requires { self.old.next + n ≤ 4294967295 }
+        requires { self.old.next + n ≤ 2 ^ 32 - 1 }
         ensures kept { self.new ≡ passed n self.old }
         ensures cost { steps.new ≤ steps.old + 5 }
     {
@@ -235,7 +235,7 @@ impl Minutes {
 
     /// Moving seconds: what was selected for them does not count, and a stop may follow.
     fn drive<L: Ledger>(&mut self, n: u32, speed: u8, steps: &mut Steps<L>)
-        requires { self.old.next + n ≤ 4294967295 }
+        requires { self.old.next + n ≤ 2 ^ 32 - 1 }
         ensures kept { self.new ≡ driven n speed self.old }
         ensures cost { steps.new ≤ steps.old + 5 }
     {

@@ -1,5 +1,5 @@
 //! Runs of equal seconds, counted as they come.
-ghost use Rattle.std.specs.Prelude.{◌≡◌, ◌+◌, ◌≤◌};
+ghost use Rattle.std.specs.Prelude.{◌^◌, ◌-◌, ◌≡◌, ◌+◌, ◌≤◌};
 ghost use Rattle.minute_rules.specs.Tally.{with_run, longest_in};
 
 use activity_codec::Activity;
@@ -16,7 +16,7 @@ pub struct Tally {
 impl Tally {
     /// So many more seconds of this activity.
     pub fn with(self, act: Activity, seconds: u32) -> Self
-        requires { self.going_seconds + seconds ≤ 4294967295 }
+        requires { self.going_seconds + seconds ≤ 2 ^ 32 - 1 }
         ensures { result ≡ with_run self act seconds }
     {
         if seconds == 0 {

@@ -1,5 +1,6 @@
 //! Reading a trace from a source.
 ghost use Rattle.std.specs.Prelude.{◌≡◌, ℕ, ◌<◌, ◌≤◌, ◌^◌, ◌∷◌, List, length, IfOk, OnOk, IsErrOf, IsErrAnd, ◌⊎◌, Some, Err, MatchResult};
+ghost use Rattle.trace_text.specs.declared.read.TheConstants.{MOST_BYTES};
 ghost use Rattle.std.specs.Io.KnownBytes.{IsAtEnd};
 ghost use Rattle.tach_media.specs.Medium.{Rose};
 ghost use Rattle.std.specs.List.{AllByRecursion};
@@ -58,7 +59,7 @@ pub fn read_trace<S: Source>(alloc: Global, source: &mut S, form: Form) -> Resul
 
 /// The trace of a text.
 fn trace_of(alloc: Global, text: &[u8], form: Form) -> Result<Trace, TraceFault>
-    requires { length text.now ≤ 16777216 }
+    requires { length text.now ≤ MOST_BYTES }
     ensures { MatchResult result (λ t. IsTraceOf form (lines_of text.now) t.start t.items) (IsFaultOf form (lines_of text.now)) }
 {
     let mut reading = Reading::new(alloc, form);

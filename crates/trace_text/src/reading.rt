@@ -29,7 +29,7 @@ pub struct Reading {
 }
 
 impl Reading {
-    ghost use Rattle.std.specs.Prelude.{◌≡◌, ◌+◌, ◌<◌, ℕ, List, [], ◌∷◌, ◌++◌, OnOk, IfErr, MatchResult, None as NoSecond, Some as Second, true};
+    ghost use Rattle.std.specs.Prelude.{◌^◌, ◌-◌, ◌≡◌, ◌+◌, ◌<◌, ℕ, List, [], ◌∷◌, ◌++◌, OnOk, IfErr, MatchResult, None as NoSecond, Some as Second, true};
     ghost use Rattle.trace_model.specs.declared.Item.{Item as Each};
     ghost use Rattle.trace_text.specs.Text.{counts};
     ghost use Rattle.trace_text.specs.Trace.{IsTraceOf, put_in, added, waits};
@@ -53,7 +53,7 @@ impl Reading {
 
     /// Reads one more line.
     pub fn take(&mut self, line: &[u8]) -> Result<(), TraceFault>
-        requires { self.old.lines < 4294967295 }
+        requires { self.old.lines < 2 ^ 32 - 1 }
         ensures ok { (lines : List (List ℕ)) → HasRead lines self.old → OnOk result (HasRead (lines ++ line.now ∷ []) self.new) }
         ensures fault { (lines behind : List (List ℕ)) → HasRead lines self.old
             → IfErr result (IsFaultOf self.old.form (lines ++ line.now ∷ behind)) }
@@ -72,7 +72,7 @@ impl Reading {
 
     /// Reads the first line that counts.
     fn take_start(&mut self, line: &[u8]) -> Result<(), TraceFault>
-        requires lines { self.old.lines < 4294967295 }
+        requires lines { self.old.lines < 2 ^ 32 - 1 }
         requires first { self.old.start ≡ NoSecond }
         requires counted { counts line.now ≡ true }
         ensures ok { (lines : List (List ℕ)) → HasRead lines self.old → OnOk result (HasRead (lines ++ line.now ∷ []) self.new) }
@@ -91,7 +91,7 @@ impl Reading {
 
     /// Reads a line that counts, behind the `start` line.
     fn take_item(&mut self, start: u32, line: &[u8]) -> Result<(), TraceFault>
-        requires lines { self.old.lines < 4294967295 }
+        requires lines { self.old.lines < 2 ^ 32 - 1 }
         requires later { self.old.start ≡ Second start }
         requires counted { counts line.now ≡ true }
         ensures ok { (lines : List (List ℕ)) → HasRead lines self.old → OnOk result (HasRead (lines ++ line.now ∷ []) self.new) }
@@ -169,7 +169,7 @@ impl Reading {
 
     /// The trace of the lines that were read, with the second that is put in where no run follows the actions at the end.
     pub fn finish(mut self) -> Result<Trace, TraceFault>
-        requires { self.lines < 4294967295 }
+        requires { self.lines < 2 ^ 32 - 1 }
         ensures { (lines : List (List ℕ)) → HasRead lines self
             → MatchResult result (λ t. IsTraceOf self.form lines t.start t.items) (IsFaultOf self.form lines) }
     {
@@ -185,7 +185,7 @@ impl Reading {
     }
 }
 
-ghost use Rattle.std.specs.Prelude.{◌≡◌, ◌↔◌, ◌+◌, IsTrue};
+ghost use Rattle.std.specs.Prelude.{◌^◌, ◌-◌, ◌≡◌, ◌↔◌, ◌+◌, IsTrue};
 ghost use Rattle.trace_model.specs.Trace.{item_seconds};
 ghost use Rattle.trace_text.specs.Trace.{IsWithin, waits};
 

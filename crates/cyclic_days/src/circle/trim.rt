@@ -1,4 +1,5 @@
 ghost use Rattle.std.specs.Prelude.{◌≡◌, ◌≤◌, ◌<◌, ◌+◌, ◌*◌, List, length, IfOk, OnOk, IfSome, is_err, option_map, true, [], ◌≢◌};
+ghost use Rattle.card_model.specs.declared.lengths.TheConstants.{DAYS_MOST};
 ghost use Rattle.tach_media.specs.Medium.{LeavesOnly, Reads, HasCause, LiesInside, IsPartlyWritten, IsSettled, last_count, put, bytes_at};
 ghost use Rattle.card_model.specs.Days.{Day};
 ghost use Rattle.card_model.specs.Bytes.{number, two_bytes};
@@ -10,6 +11,7 @@ ghost use Rattle.cyclic_days.specs.Trim.{IsWithoutLast, IsLosingLast, IsTrimming
 
 use super::Circle;
 use crate::bytes::{read_two, write_two};
+use card_model::lengths::DAYS_MOST;
 use tach_media::{Failed, Medium};
 
 impl Circle {
@@ -87,13 +89,13 @@ impl Circle {
         ensures settled { OnOk result (WritesOrReads (M.state medium.old) (M.state medium.new)) }
         ensures empty { IfSome (M.state medium.old).image (λ x. Holds self.now x [] → Reads (M.state medium.old) (M.state medium.new) (is_err result)) }
         ensures cause { HasCause (M.state medium.old) (M.state medium.new) (is_err result) }
-        ensures most { (M.state medium.new).clock ≤ (M.state medium.old).clock + 984 }
+        ensures most { (M.state medium.new).clock ≤ (M.state medium.old).clock + DAYS_MOST }
         ensures writes { IfSome (M.state medium.old).image (λ x. (days : List Day) → Holds self.now x days → (M.state medium.new).clock + length (until date days) ≤ (M.state medium.old).clock + (length days + 1)) }
         ensures drops { OnOk result (IfSome (M.state medium.old).image (λ x. (days : List Day) → Holds self.now x days → (M.state medium.new).clock + length (until date days) ≤ (M.state medium.old).clock + length days)) }
     {
         let mut later = self.is_later(medium, date)?;
         let mut count: u32 = 0;
-        while later && count < 984 {
+        while later && count < DAYS_MOST {
             self.drop_newest(medium)?;
             later = self.is_later(medium, date)?;
             count += 1;
@@ -186,7 +188,7 @@ impl Circle {
         ensures still { OnOk result (SettlesIfSettled (M.state medium.old) (M.state medium.new)) }
         ensures empty { IfSome (M.state medium.old).image (λ x. Holds self.now x [] → Reads (M.state medium.old) (M.state medium.new) (is_err result)) }
         ensures cause { HasCause (M.state medium.old) (M.state medium.new) (is_err result) }
-        ensures most { (M.state medium.new).clock ≤ (M.state medium.old).clock + 985 }
+        ensures most { (M.state medium.new).clock ≤ (M.state medium.old).clock + (DAYS_MOST + 1) }
         ensures writes { IfSome (M.state medium.old).image (λ x. (days : List Day) → Holds self.now x days → (M.state medium.new).clock + length (until (date_of minute) days) ≤ (M.state medium.old).clock + (length days + 1)) }
     {
         self.drop_later(medium, first_second(minute))?;

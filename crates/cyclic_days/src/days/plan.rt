@@ -1,4 +1,5 @@
 ghost use Rattle.std.specs.Prelude.{◌≡◌, ◌≤◌, ◌<◌, ◌+◌, ◌-◌, ◌*◌, ◌%◌, ◌∷◌, [], length, true, IfOk, OnOk, OnErr, IfSome};
+ghost use Rattle.card_model.specs.declared.lengths.TheConstants.{DAY_MOST};
 ghost use Rattle.tach_media.specs.Medium.{Reads};
 ghost use Rattle.write_plan.specs.Plan.{more, none, piece};
 ghost use Rattle.card_model.specs.Bytes.{two_bytes};
@@ -29,7 +30,7 @@ fn dropped_len(n: u32) -> u32
     ensures len { result ≡ dropped_len n }
     ensures even { result % 2 ≡ 0 }
     ensures least { 14 ≤ result }
-    ensures most { result ≤ 2892 }
+    ensures most { result ≤ DAY_MOST }
 {
     if n % 2 == 0 && 14 <= n && n <= 2892 {
         n
@@ -43,7 +44,7 @@ impl Days {
     pub(crate) fn newest_len(&self) -> u32
         ensures len { result ≡ newest_len self.now }
         ensures even { result % 2 ≡ 0 }
-        ensures most { result ≤ 2892 }
+        ensures most { result ≤ DAY_MOST }
     {
         if self.tail.used == 0 {
             0

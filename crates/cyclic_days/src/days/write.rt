@@ -1,4 +1,5 @@
 ghost use Rattle.std.specs.Prelude.{◌≡◌, ◌≢◌, [], ◌≤◌, ◌<◌, ◌+◌, ◌-◌, ◌*◌, ◌%◌, List, length, IfOk, OnOk, IfSome, is_err};
+ghost use Rattle.card_model.specs.declared.lengths.TheConstants.{DAYS_MOST};
 ghost use Rattle.tach_media.specs.Medium.{LeavesOnly, Reads, HasCause, LiesInside, IsSettled, last_count};
 ghost use Rattle.write_plan.specs.Plan.{PutsAll, PutsBy};
 ghost use Rattle.card_model.specs.Days.{Day};
@@ -207,7 +208,7 @@ impl Days {
         ensures still { OnOk result (SettlesIfSettled (M.state medium.old) (M.state medium.new)) }
         ensures empty { IfSome (M.state medium.old).image (λ x. Holds self.old.shape x [] → Reads (M.state medium.old) (M.state medium.new) (is_err result)) }
         ensures cause { HasCause (M.state medium.old) (M.state medium.new) (is_err result) }
-        ensures most { (M.state medium.new).clock ≤ (M.state medium.old).clock + 985 }
+        ensures most { (M.state medium.new).clock ≤ (M.state medium.old).clock + (DAYS_MOST + 1) }
         ensures writes { IfSome (M.state medium.old).image (λ x. (days : List Day) → Holds self.old.shape x days → (M.state medium.new).clock + length (until (date_of minute) days) ≤ (M.state medium.old).clock + (length days + 1)) }
     {
         self.circle.trim(medium, minute)?;

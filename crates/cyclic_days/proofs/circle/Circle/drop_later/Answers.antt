@@ -39,7 +39,7 @@ loop-later-preserved g c =
     let inv = c.loop-later.invariant in
     let again = c.in_ok-later-2.ensures in
     record {
-      few = omega (arith, c.if-count-lt984.true);
+      few = omega (arith, c.if-count-lt-DAYS_MOST.true);
       most = omega (arith, inv.most, c.drop_newest.ensures.most, again.reads.clock);
       shape = inv.shape;
       cause = cause_after (cause_after inv.cause c.in_ok-drop_newest.ensures.cause) again.reads.cause;
@@ -57,15 +57,15 @@ loop-later-preserved g c =
       later = subst (λ (o : Option (List ℕ)). IfSome o (λ y. (days : List Day) → Holds r y days → c.in_ok-later-2.later ≡ newest_later date days)) (sym (again.reads.same refl)) again.later;
     }
 
-pub returns-else-count-lt984-clause-trimmed : goal.returns-else-count-lt984-clause-trimmed
-returns-else-count-lt984-clause-trimmed g c =
+pub returns-else-count-lt-DAYS_MOST-clause-trimmed : goal.returns-else-count-lt-DAYS_MOST-clause-trimmed
+returns-else-count-lt-DAYS_MOST-clause-trimmed g c =
     let r = c.args.self.now in
     let date = c.args.date in
     let i = c.loop-later.count in
     let inv = c.loop-later.invariant in
     where_told (g.M.Medium.state c.args.medium.now).image _ (IsTrimmed r date) (λ x y was is.
     trimmed r date i x y (at_image (IsTrimming r date i x) is (at_image (λ x. IfSome (g.M.Medium.state c.loop-later.medium).image (IsTrimming r date i x)) was inv.made))
-    (λ days kept h s k. too_many r inv.shape date i x (omega (arith, c.requires.fits, (g.met.M.Medium.coherent c.args.medium.now).sized x was)) c.if-count-lt984.false days kept h s))
+    (λ days kept h s k. too_many r inv.shape date i x (omega (arith, c.requires.fits, (g.met.M.Medium.coherent c.args.medium.now).sized x was)) c.if-count-lt-DAYS_MOST.false days kept h s))
 
 pub returns-after-loop-later-clause-trimmed : goal.returns-after-loop-later-clause-trimmed
 returns-after-loop-later-clause-trimmed g c =
@@ -123,8 +123,8 @@ returns-in_err-later-2-clause-writes g c =
           (at_image (IsTrimming c.args.self.now c.args.date c.loop-later.count x) now.1 (at_image (λ x. IfSome (g.M.Medium.state c.loop-later.medium).image (IsTrimming c.args.self.now c.args.date c.loop-later.count x)) was inv.made)) days h,
     ))
 
-pub returns-else-count-lt984-clause-drops : goal.returns-else-count-lt984-clause-drops
-returns-else-count-lt984-clause-drops g c =
+pub returns-else-count-lt-DAYS_MOST-clause-drops : goal.returns-else-count-lt-DAYS_MOST-clause-drops
+returns-else-count-lt-DAYS_MOST-clause-drops g c =
     let inv = c.loop-later.invariant in
     if_told (g.M.Medium.state c.args.medium.now).image _ (λ x was days h.
     let now = told_too (g.M.Medium.state c.args.medium.now).image (g.M.Medium.state c.loop-later.medium).image x (sym inv.moments.tells) was in
@@ -135,8 +135,8 @@ returns-else-count-lt984-clause-drops g c =
           (at_image (IsTrimming c.args.self.now c.args.date c.loop-later.count x) now.1 (at_image (λ x. IfSome (g.M.Medium.state c.loop-later.medium).image (IsTrimming c.args.self.now c.args.date c.loop-later.count x)) was inv.made)) days h,
     ))
 
-pub returns-else-count-lt984-clause-writes : goal.returns-else-count-lt984-clause-writes
-returns-else-count-lt984-clause-writes g c = from_told (g.M.Medium.state c.args.medium.now).image _ _ (returns-else-count-lt984-clause-drops g c) (λ x was few days h. omega (arith, few days h))
+pub returns-else-count-lt-DAYS_MOST-clause-writes : goal.returns-else-count-lt-DAYS_MOST-clause-writes
+returns-else-count-lt-DAYS_MOST-clause-writes g c = from_told (g.M.Medium.state c.args.medium.now).image _ _ (returns-else-count-lt-DAYS_MOST-clause-drops g c) (λ x was few days h. omega (arith, few days h))
 
 pub returns-after-loop-later-clause-drops : goal.returns-after-loop-later-clause-drops
 returns-after-loop-later-clause-drops g c =
