@@ -1,11 +1,12 @@
 -- How often the unit broke down, over each step.
-use Rattle.std.proofs.Common.{◌≡◌, ℕ, ◌+◌, ◌-◌, ◌≤◌, Bool, true, false, List, [], ◌∷◌, ◌++◌, length, map, refl, ap, sym, ◌∙◌, arith, length-append}
+use Rattle.std.proofs.Common.{◌≡◌, ℕ, ◌+◌, ◌-◌, ◌≤◌, Bool, true, false, List, [], ◌∷◌, ◌++◌, length, map, refl, ap, sym, ◌∙◌, ⊎_elim, inl, inr, arith, length-append}
 use Rattle.std.specs.Prelude.{min}
+use Rattle.std.proofs.lemmas.Bool.{cases_lt}
 use Rattle.std.proofs.lemmas.List.{append-nil, length-map}
 use Rattle.tach_media.specs.Medium.{State, Rose, HasBroken, last_count}
 use Rattle.log_model.specs.declared.lines.Break.{Break}
 use Rattle.log_model.specs.Log.{RunLog}
-use Rattle.log_model.specs.Causes.{cuts, second_of}
+use Rattle.log_model.specs.Causes.{cuts, second_of, RoseBy}
 use Rattle.unit_course.specs.Caused.{cuts_by}
 use Rattle.unit_course.proofs.Offs.{by-same, by-other, by-found}
 use Rattle.recorder.specs.Lines.{cut_at, found_from}
@@ -55,3 +56,8 @@ broke-all log none faults h = record {
       let broke = h.broke in
       omega (arith, start, all, broke);
 }
+
+-- so the count of breakdowns rose by as many
+pub rose-by : {old new : State} {n : ℕ} → HasBroken old new n → RoseBy n old.breakdowns new.breakdowns
+rose-by {old} {new} {n} h =
+    ⊎_elim (λ less. inr (let broke = h.breakdowns in omega (arith, broke, less))) (λ all. inl all) (cases_lt new.breakdowns (old.breakdowns + n))

@@ -9,6 +9,7 @@ use Rattle.minute_model.specs.Span.{Span, count_from, end_of, ungiven_of, latest
 use Rattle.minute_model.proofs.Counted.{count_from-parts, decided-minutes, ungiven-most}
 use Rattle.minute_model.proofs.Spans.{fed_many-end, fed_many-rule, fed_many-first_number, fed_many-settlings, fed_many-numbered, fed_many-settled}
 use Rattle.recorder.specs.Keeping.{AreDue, kept_after, AreFrom, due_after}
+use Rattle.recorder.specs.Going.{first_second, end_of_seconds}
 
 -- these minutes come one after another from one on: what that says of them
 record IsRun (u k kept : ℕ) (items : List Minute) : Type 0 where
@@ -61,7 +62,7 @@ pub record Decides (u later kept : ℕ) (items : List Minute) : Type 0 where
   pub next : due_after u items ≡ later
 
 pub decides : (span : Span) (speed n kept : ℕ) (items : List Minute) → AreNumbered span.first span.seconds → AreSettled span → decided_in (fed_many span speed n) ≡ decided_in span ++ items →
-    kept < ungiven_of span → 86400 ≤ span.first → end_of span + n ≤ 4294880896 → Decides (ungiven_of span) (ungiven_of (fed_many span speed n)) kept items
+    kept < ungiven_of span → first_second ≤ span.first → end_of span + n ≤ end_of_seconds → Decides (ungiven_of span) (ungiven_of (fed_many span speed n)) kept items
 decides span speed n kept items numbered settled given late low small =
     let later = fed_many span speed n in
     let u = ungiven_of span in

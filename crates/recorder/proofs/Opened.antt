@@ -1,4 +1,5 @@
 -- A run begins: what holds behind its opening.
+use Rattle.unit_model.specs.declared.layout.TheConstants.{HIGHEST_ODOMETER}
 use Rattle.std.proofs.Common.{◌≡◌, inl, ⊎_elim, ℕ, ◌+◌, ◌-◌, ◌/◌, ◌<◌, ◌≤◌, true, Option, Some, None, List, [], length, drop, is_some, refl, ap, sym, subst, ◌∙◌, arith}
 use Rattle.tach_media.specs.Medium.{State, IsCoherent, LeavesOnly, Unchanged}
 use Rattle.tach_media.proofs.Runs.{at_image}
@@ -47,10 +48,10 @@ module _ (x : List ℕ) (U V : State) (starts : StartsAs x U) (before : IsCohere
       (inl (whole (recorded x) (few_days x (at_image (IsFoundBy journal) image-is loaded.found).pointer)))
       (at_image Decodes image-is loaded.decodes) (let k = kept-is in omega (arith, k, late))
 
-  pub opened-stands : (due : ℕ) → journal.kept < due → journal.odometer ≤ 9999999 → Stands (begun_with x U.clock) due not_begun not_travelled [] V
+  pub opened-stands : (due : ℕ) → journal.kept < due → journal.odometer ≤ HIGHEST_ODOMETER → Stands (begun_with x U.clock) due not_begun not_travelled [] V
   opened-stands due late low = record {
     holds = opened-holds due late;
-    travels = travelled-opened (odometer_at x) V x refl (let is = (at_image (IsFoundBy journal) image-is loaded.found).odometer in let le : odometer_at x ≤ 9999999 = omega (arith, is, low) in le) now-one;
+    travels = travelled-opened (odometer_at x) V x refl (let is = (at_image (IsFoundBy journal) image-is loaded.found).odometer in let le : odometer_at x ≤ HIGHEST_ODOMETER = omega (arith, is, low) in le) now-one;
   }
 
   pub decodes-is : Decodes x

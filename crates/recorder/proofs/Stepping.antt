@@ -1,5 +1,6 @@
 -- The book behind a step.
 use Rattle.std.proofs.Common.{◌≡◌, ⊎_elim, ℕ, List}
+use Rattle.std.specs.Prelude.{Result, Ok, Err, OnOk}
 use Rattle.tach_media.specs.Medium.{State}
 use Rattle.log_model.specs.declared.lines.Break.{Break}
 use Rattle.log_model.specs.declared.lines.Mark.{Mark}
@@ -17,3 +18,8 @@ begun-book s old new before after b marks unit is =
 pub turn-book : (s : Began) (old new : Run) (before after : List Break) (n speed begun : ℕ) (b : Book) (prior marks : List Mark) (unit : State) → IsTurn s old new before after n speed begun b prior marks unit → (c : Book) × Booked s new c marks unit
 turn-book s old new before after n speed begun b prior marks unit is =
     ⊎_elim (λ passed. (b, passed.booked)) (λ lit. ⊎_elim (λ all. (kept_all all.items b, all.booked)) (λ off. (broken (plain off.d) (kept_all off.front b), off.booked)) lit) is
+
+-- what follows where a call ended well
+pub on-ok : {A E P Q : Type 0} (r : Result A E) → OnOk r P → (P → Q) → OnOk r Q
+on-ok (Ok a) p f = f p
+on-ok (Err e) p f = tt

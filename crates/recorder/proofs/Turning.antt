@@ -17,7 +17,8 @@ use Rattle.recorder.proofs.Standing.{stands-later, travelled-before}
 use Rattle.recorder.specs.declared.run.Run.{Run}
 use Rattle.recorder.specs.declared.run.Power.{Power}
 use Rattle.recorder.specs.declared.run.Power.TheVariants.{Lit, Due, Lost}
-use Rattle.recorder.specs.Going.{waiting, IsLit, HasMarkRoom, cuts_from, cuts_within}
+use Rattle.unit_model.specs.declared.layout.TheConstants.{IMAGE_SIZE}
+use Rattle.recorder.specs.Going.{first_second, end_of_seconds, waiting, IsLit, IsGoing, HasMarkRoom, cuts_from, cuts_within}
 use Rattle.recorder.specs.Lines.{Listed}
 use Rattle.recorder.specs.Keeping.{plain, AreFrom, due_after, kept_all, IsBrokenOff}
 use Rattle.recorder.proofs.Due.{Decides, decides, due-among}
@@ -69,7 +70,7 @@ dark-booked s old new b marks unit n begun dark is h =
 
 -- reads leave a unit one
 pub reads-unit : {U V : State} {R : List ℕ → List ℕ → Type 0} → LeavesOnly U V R → IsUnit U → IsUnit V
-reads-unit run unit = record { sized = run.size ∙ unit.sized; behind = run.behind ∙ unit.behind; writable = subst (λ (ws : List (ℕ × ℕ)). LiesInside ws 0 2485808) (sym run.writable) unit.writable }
+reads-unit run unit = record { sized = run.size ∙ unit.sized; behind = run.behind ∙ unit.behind; writable = subst (λ (ws : List (ℕ × ℕ)). LiesInside ws 0 IMAGE_SIZE) (sym run.writable) unit.writable }
 
 pub goes-then : {old mid new : State} → GoesOn old mid → GoesOn mid new → GoesOn old new
 goes-then first next = record {
@@ -104,7 +105,7 @@ break-dark Due len room next n left offs is some h = omega (arith, h)
 break-dark Lost len room next n left offs is some h = omega (arith, h, some)
 
 -- A turn with power.
-module _ (run : Run) (unit : State) (is : run.power ≡ Lit) (lit : IsLit run unit) (n speed : ℕ) (items : List Minute) (given : decided_in (fed_many lit.span speed n) ≡ decided_in lit.span ++ items) (minutes : Kept) (fed : StandsFor minutes (fed_many lit.span speed n)) (small : run.next + n ≤ 4294880896) where
+module _ (run : Run) (unit : State) (is : run.power ≡ Lit) (lit : IsLit run unit) (n speed : ℕ) (items : List Minute) (given : decided_in (fed_many lit.span speed n) ≡ decided_in lit.span ++ items) (minutes : Kept) (fed : StandsFor minutes (fed_many lit.span speed n)) (small : run.next + n ≤ end_of_seconds) where
   abbrev pub span_later : Span
   span_later = fed_many lit.span speed n
 
@@ -114,8 +115,8 @@ module _ (run : Run) (unit : State) (is : run.power ≡ Lit) (lit : IsLit run un
   pub turn-end : end_of span_later ≡ run.next + n
   turn-end = fed_many-end lit.span speed n ∙ ap (λ (m : ℕ). m + n) lit.next
 
-  pub turn-low : 86400 ≤ span_later.first
-  turn-low = subst (λ (m : ℕ). 86400 ≤ m) (sym (fed_many-first_number lit.span speed n)) lit.low
+  pub turn-low : first_second ≤ span_later.first
+  turn-low = subst (λ (m : ℕ). first_second ≤ m) (sym (fed_many-first_number lit.span speed n)) lit.low
 
   -- the first minute that may still be marked, before the turn and behind it
   pub turn-due : due_of run ≡ ungiven_of lit.span
@@ -168,3 +169,13 @@ module _ (run : Run) (unit : State) (is : run.power ≡ Lit) (lit : IsLit run un
         let w = waiting-lost new.power new.minutes.owing power in
         omega (arith, among, d, m, w, next))
         (λ p. absurd (let no : Lost ≡ Lit = sym power ∙ p in cc)) (λ p. absurd (let no : Lost ≡ Lit = sym power ∙ p in cc)) h.stands
+
+-- a run goes on behind an `off` line
+pub off-going : (old new : Run) (unit : State) (n : ℕ) → new ≡ record old { power = Due; next = old.next + n; begun = 0 } → old.next + n ≤ end_of_seconds → IsGoing old unit → IsGoing new unit
+off-going old new unit n is small h = subst (λ (r : Run). IsGoing r unit) (sym is) (record {
+  is_unit = h.is_unit;
+  low = let low = h.low in omega (arith, low);
+  small = small;
+  odometer = h.odometer;
+  lit = λ p. absurd (let no : Due ≡ Lit = p in cc);
+})

@@ -11,6 +11,7 @@ use Rattle.run_model.specs.Span.{picks_of}
 use Rattle.minute_model.specs.Span.{Span}
 use Rattle.unit_course.specs.Turn.{IsSelection}
 use Rattle.log_model.specs.declared.lines.Refused.{Refused}
+use Rattle.recorder.specs.Going.{largest_number}
 use Rattle.log_model.specs.declared.lines.SlotFault.TheVariants.{NoPower}
 
 -- the items from one index to another
@@ -51,4 +52,4 @@ with_picks picks span = record {
 pub record AreSelections (from to : ℕ) (items : List Item) : Type 0 where
   pub each : AllByRecursion IsSelection (actions_in (between from to items))
   pub count : length (actions_in (between from to items)) ≡ to - from
-  pub few : to - from ≤ 4294967295
+  pub few : to - from ≤ largest_number

@@ -1,15 +1,14 @@
 -- What a run has recorded, by the history of its trace (profile).
-use Rattle.std.specs.Prelude.{◌≤◌, true, ℕ, List, length}
+use Rattle.std.specs.Prelude.{ℕ, List}
 use Rattle.tach_media.specs.Medium.{State}
 use Rattle.trace_model.specs.declared.Card.{Card}
 use Rattle.trace_model.specs.declared.Item.{Item}
 use Rattle.trace_model.specs.Trace.{seconds_of}
 use Rattle.minute_model.specs.declared.Rule.TheVariants.{Original}
 use Rattle.run_model.specs.declared.Device.{Device}
-use Rattle.run_model.specs.declared.Device.TheVariants.{Unit as Recorder}
+use Rattle.run_model.specs.declared.Device.TheVariants.{Unit as Recorder, CardA, CardB}
 use Rattle.log_model.specs.declared.lines.Verdict.{Verdict}
 use Rattle.log_model.specs.Log.{RunLog}
-use Rattle.log_model.specs.Causes.{cuts, device_of, RoseBy, HasCauses}
 use Rattle.log_model.specs.Course.{Told, went}
 use Rattle.history_model.specs.Book.{Book, Follows}
 use Rattle.history_model.specs.Minutes.{HistoryMinute}
@@ -41,6 +40,12 @@ history_of start o origin items = unit_history Original start (run_log o) (told_
 abbrev pub lost_of : Start → Outcome → (origin : ℕ) → List Item → List (List HistoryMinute)
 lost_of start o origin items = with_lost Original start (run_log o) (told_of o origin items)
 
+-- how often each device broke down
+abbrev pub breakdowns_of : (unit card_a card_b : State) → Device → ℕ
+breakdowns_of unit card_a card_b Recorder = unit.breakdowns
+breakdowns_of unit card_a card_b CardA = card_a.breakdowns
+breakdowns_of unit card_a card_b CardB = card_b.breakdowns
+
 -- nothing may be found of a card: none enters
 abbrev pub NoVerdict : Card → ℕ → Verdict → Type 0
 NoVerdict card second verdict = ⊥
@@ -63,6 +68,3 @@ pub record IsFollowed (start : Start) (x : List ℕ) (origin : ℕ) (items : Lis
   pub course : Followed Original start origin (started x clock).first (seconds_of origin items) (progress o.breaks.items unfound next begun supply book)
   -- each decided minute is acknowledged, but where a cut came in the second that decided it
   pub complete : AreMarked Original (went (log_of o.breaks.items) (seconds_of origin items)).told o.marks.items
-  -- each line of the run log has its cause, and what happened has its line, where each cut by a failed call broke the unit once more
-  pub causes : (before now : Device → ℕ) → RoseBy (length (cuts true (run_log o))) (before Recorder) (now Recorder) →
-      ((card : Card) → before (device_of card) ≤ now (device_of card)) → HasCauses NoVerdict before now (seconds_of origin items) (run_log o)

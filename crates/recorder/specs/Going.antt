@@ -1,8 +1,9 @@
 -- What is known of a run between two calls, whatever its unit tells (profile).
-use Rattle.std.specs.Prelude.{◌≡◌, ℕ, ◌+◌, ◌-◌, ◌/◌, ◌<◌, ◌≤◌, true, IfSome, List, length}
+use Rattle.std.specs.Prelude.{◌≡◌, ℕ, ◌+◌, ◌-◌, ◌/◌, ◌<◌, ◌≤◌, ◌^◌, true, IfSome, List, length}
 use Rattle.tach_media.specs.Medium.{State}
 use Rattle.minute_model.specs.Span.{Span, end_of, ungiven_of}
 use Rattle.minute_rules.specs.Kept.{StandsFor}
+use Rattle.unit_model.specs.declared.layout.TheConstants.{HIGHEST_ODOMETER}
 use Rattle.unit_model.specs.Image.{IsUnit}
 use Rattle.unit_journal.specs.Image.{Agrees}
 use Rattle.log_model.specs.declared.lines.Break.{Break}
@@ -12,6 +13,17 @@ use Rattle.recorder.specs.declared.run.Power.{Power}
 use Rattle.recorder.specs.declared.run.Power.TheVariants.{Lit, Due, Lost}
 use Rattle.recorder.specs.Lines.{Listed}
 
+-- the largest number of four bytes
+abbrev pub largest_number : ℕ
+largest_number = 2 ^ 32 - 1
+
+-- the seconds that a trace can have: from the second day on, and up to the last day whose end is told in four bytes
+abbrev pub first_second : ℕ
+first_second = 86400
+
+abbrev pub end_of_seconds : ℕ
+end_of_seconds = 2 ^ 32 - 86400
+
 -- while there is power: the unit works, the journal agrees with it, the minutes stand for the seconds of a span up to the next
 -- second, and none that they have not given yet is kept
 pub record IsLit (run : Run) (unit : State) : Type 0 where
@@ -20,15 +32,15 @@ pub record IsLit (run : Run) (unit : State) : Type 0 where
   pub span : Span
   pub stands : StandsFor run.minutes span
   pub next : end_of span ≡ run.next
-  pub low : 86400 ≤ span.first
+  pub low : first_second ≤ span.first
   pub later : run.journal.kept < ungiven_of span
 
 -- a run between two calls
 pub record IsGoing (run : Run) (unit : State) : Type 0 where
   pub is_unit : IsUnit unit
-  pub low : 86400 ≤ run.next
-  pub small : run.next ≤ 4294880896
-  pub odometer : run.odometer ≤ 9999999
+  pub low : first_second ≤ run.next
+  pub small : run.next ≤ end_of_seconds
+  pub odometer : run.odometer ≤ HIGHEST_ODOMETER
   pub lit : run.power ≡ Lit → IsLit run unit
 
 -- the minutes before that of the next second that may still be marked

@@ -9,6 +9,7 @@ pub use Rattle.unit_course.specs.Keeping.{plain, kept_all}
 pub use Rattle.unit_rule.specs.Odometer.{odometer_by}
 use Rattle.recorder.specs.Standing.{Began, Travel, stranded, all_travelled, Stands}
 use Rattle.minute_model.specs.declared.Minute.{Minute}
+use Rattle.unit_model.specs.declared.layout.TheConstants.{LAST_MINUTE}
 use Rattle.unit_model.specs.Days.{UnitMinute}
 
 -- a decided minute as the unit holds it
@@ -23,7 +24,7 @@ seen_plain d = record {
 -- these minutes rise from one on, and the unit can hold them
 abbrev pub AreDue : ℕ → List Minute → Type 0
 AreDue kept [] = Unit {0}
-AreDue kept (d ∷ ds) = (kept < d.minute) × (1440 ≤ d.minute) × (d.minute ≤ 71582788) × AreDue d.minute ds
+AreDue kept (d ∷ ds) = (kept < d.minute) × (1440 ≤ d.minute) × (d.minute ≤ LAST_MINUTE) × AreDue d.minute ds
 
 -- the last-kept minute after these
 abbrev pub kept_after : ℕ → List Minute → ℕ

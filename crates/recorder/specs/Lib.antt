@@ -3,6 +3,7 @@ pub mod Booked
 pub mod Broken
 pub mod Followed
 pub mod Going
+pub mod Gone
 pub mod Keeping
 pub mod Lines
 pub mod Opening

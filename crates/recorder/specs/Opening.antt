@@ -8,7 +8,7 @@ use Rattle.unit_model.specs.Decoding.{Decodes, first_bad_place}
 use Rattle.unit_memory.specs.declared.fault.UnitFault.{UnitFault}
 use Rattle.unit_memory.specs.declared.fault.UnitFault.TheVariants.{Failed, BadUnit as Bad}
 use Rattle.unit_journal.specs.declared.notes.Notes.{Notes}
-use Rattle.unit_journal.specs.Image.{IsNotes, IsFoundBy}
+use Rattle.unit_journal.specs.Image.{IsFoundBy}
 use Rattle.recorder.specs.declared.opening.RunFault.{RunFault}
 use Rattle.recorder.specs.declared.opening.RunFault.TheVariants.{MediumFault, BadUnit, ClockBack, SameCard}
 

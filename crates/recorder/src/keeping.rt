@@ -1,6 +1,7 @@
 //! The keeping of decided minutes on the unit.
 ghost use Rattle.std.specs.Prelude.{◌≡◌, ◌++◌, ◌∷◌, [], ◌+◌, ◌<◌, ◌≤◌, ℕ, suc, None, false, true, length, is_some, IfSome, OnOk, OnErr, is_err};
 ghost use Rattle.tach_media.specs.Medium.{HasCause, last_count};
+ghost use Rattle.unit_model.specs.declared.layout.TheConstants.{HIGHEST_ODOMETER, LAST_MINUTE};
 ghost use Rattle.unit_model.specs.Image.{IsUnit};
 ghost use Rattle.unit_journal.specs.Image.{Agrees};
 ghost use Rattle.unit_journal.specs.Kept.{kept_minute};
@@ -31,7 +32,7 @@ fn out(act: Activity) -> State
 
 /// The odometer in kilometres, where it stood at `stored` and so many km/h were summed up by seconds since.
 fn odometer_after(stored: u32, travelled: u64) -> Odometer
-    requires { stored ≤ 9999999 }
+    requires { stored ≤ HIGHEST_ODOMETER }
     ensures { result.0 ≡ odometer_by stored travelled }
 {
     let more = (travelled / 3600).min(HIGHEST_ODOMETER as u64) as u32;
@@ -40,7 +41,7 @@ fn odometer_after(stored: u32, travelled: u64) -> Odometer
 
 /// A decided minute as the unit keeps it, without a card.
 fn kept_of(minute: &Minute, stored: u32) -> KeptMinute
-    requires { stored ≤ 9999999 }
+    requires { stored ≤ HIGHEST_ODOMETER }
     ensures minute { kept_minute result ≡ seen_plain minute.now }
     ensures odometer { result.odometer.0 ≡ odometer_by stored minute.now.travelled }
 {
@@ -68,8 +69,8 @@ fn keep<M: Medium>(
     requires agrees { IfSome (M.state unit.old).image (Agrees journal.old) }
     requires low { 1440 ≤ minute.now.minute }
     requires later { journal.old.kept < minute.now.minute }
-    requires small { minute.now.minute ≤ 71582788 }
-    requires odometer { stored ≤ 9999999 }
+    requires small { minute.now.minute ≤ LAST_MINUTE }
+    requires odometer { stored ≤ HIGHEST_ODOMETER }
     requires room { length marks.old.items < marks.old.room }
     ensures unit { IsUnit (M.state unit.new) }
     ensures agrees { OnOk result (IfSome (M.state unit.new).image (Agrees journal.new)) }
@@ -112,7 +113,7 @@ pub fn keep_all<M: Medium>(
     requires unit { IsUnit (M.state unit.old) }
     requires agrees { IfSome (M.state unit.old).image (Agrees journal.old) }
     requires due { AreDue journal.old.kept decided.now }
-    requires odometer { stored ≤ 9999999 }
+    requires odometer { stored ≤ HIGHEST_ODOMETER }
     requires room { length marks.old.items + length decided.now ≤ marks.old.room }
     ensures unit { IsUnit (M.state unit.new) }
     ensures agrees { OnOk result (IfSome (M.state unit.new).image (Agrees journal.new)) }

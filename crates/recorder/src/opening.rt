@@ -2,6 +2,7 @@
 ghost use Rattle.std.specs.Prelude.{◌≡◌, ◌<◌, ◌≤◌, ◌/◌, IfOk, OnOk, OnErr, IfErr, IfSome, Some, IsErrOf};
 ghost use Rattle.tach_media.specs.Medium.{LeavesOnly, Unchanged, Rose};
 ghost use Rattle.unit_model.specs.Decoding.{Decodes, first_bad_place};
+ghost use Rattle.unit_model.specs.declared.layout.TheConstants.{IMAGE_SIZE};
 ghost use Rattle.unit_model.specs.Image.{IsUnit};
 ghost use Rattle.unit_memory.specs.Fault.{IfBadUnit};
 ghost use Rattle.unit_journal.specs.Image.{IsFoundBy};
@@ -28,7 +29,7 @@ pub enum RunFault {
 
 /// Revives the unit and judges it; it writes nothing.
 pub fn load<M: Medium>(unit: &mut M) -> Result<Journal, UnitFault>
-    requires unit { (M.state unit.old).size ≡ 2485808 }
+    requires unit { (M.state unit.old).size ≡ IMAGE_SIZE }
     ensures loaded { IfOk result (IsLoaded (M.state unit.new)) }
     ensures bad { IfErr result (IsNotLoaded (M.state unit.old) (M.state unit.new)) }
     ensures broke { IfErr result (HasBrokenDown (M.state unit.old) (M.state unit.new)) }
@@ -56,7 +57,7 @@ pub fn judge_clock(kept: u32, second: u32) -> Result<(), RunFault>
 
 /// Judges the unit, and the clock of a run that begins at this second.
 pub fn judge<M: Medium>(unit: &mut M, start: u32) -> Result<Journal, RunFault>
-    requires unit { (M.state unit.old).size ≡ 2485808 }
+    requires unit { (M.state unit.old).size ≡ IMAGE_SIZE }
     ensures loaded { IfOk result (IsLoaded (M.state unit.new)) }
     ensures later { IfOk result (λ journal. journal.kept < start / 60) }
     ensures refused { IfErr result (IsRefused start (M.state unit.old) (M.state unit.new)) }

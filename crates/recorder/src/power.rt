@@ -1,6 +1,7 @@
 //! Power lost, and power back.
 ghost use Rattle.std.specs.Prelude.{◌≡◌, ◌+◌, ◌-◌, ◌/◌, ◌<◌, ◌≤◌, ◌++◌, ◌∷◌, [], ℕ, List, true, false, None, length, is_some, IfOk, IfErr, OnOk, IsOk};
 ghost use Rattle.tach_media.specs.Medium.{IsCoherent};
+ghost use Rattle.unit_model.specs.declared.layout.TheConstants.{HIGHEST_ODOMETER};
 ghost use Rattle.unit_model.specs.Image.{IsUnit};
 ghost use Rattle.recorder.specs.Opening.{IsLoaded, HasFound, IsFoundLater};
 ghost use Rattle.history_model.specs.Book.{Book};
@@ -9,7 +10,7 @@ ghost use Rattle.recorder.specs.Standing.{Began, Travel, odometer_after, Stands}
 ghost use Rattle.recorder.specs.Booked.{Booked, GoesOn};
 ghost use Rattle.recorder.specs.Broken.{BreaksDown};
 ghost use Rattle.recorder.specs.Steps.{IsPoweredOn, IsMendedOn, IsSecondBegun};
-ghost use Rattle.recorder.specs.Going.{IsGoing, HasMarkRoom, HasBreakRoom, cuts_from, cuts_within};
+ghost use Rattle.recorder.specs.Going.{first_second, end_of_seconds, IsGoing, HasMarkRoom, HasBreakRoom, cuts_from, cuts_within};
 ghost use Rattle.recorder.specs.declared.run.Power.TheVariants.{Lit, Due, Lost};
 
 use crate::lines::Lines;
@@ -50,8 +51,8 @@ impl Run {
 
     /// So many seconds without power.
     pub fn off(&mut self, seconds: u32, breaks: &mut Lines<Break>)
-        requires low { 86400 ≤ self.old.next }
-        requires small { self.old.next + seconds ≤ 4294880896 }
+        requires low { first_second ≤ self.old.next }
+        requires small { self.old.next + seconds ≤ end_of_seconds }
         requires room { HasBreakRoom cuts_from self.old breaks.old seconds 1 }
         ensures power { self.new ≡ record self.old { power = Due; next = self.old.next + seconds; begun = 0 } }
         ensures breaks { breaks.new ≡ record { items = breaks.old.items ++ off_cut (is_lit self.old.power) (self.old.next - 1) self.old.begun; room = breaks.old.room } }
@@ -148,9 +149,9 @@ impl Run {
         breaks: &mut Lines<Break>,
     ) -> Result<(), RunFault>
         requires unit { IsUnit (M.state unit.old) }
-        requires low { 86400 ≤ self.old.next }
-        requires small { self.old.next ≤ 4294880896 }
-        requires odometer { self.old.odometer ≤ 9999999 }
+        requires low { first_second ≤ self.old.next }
+        requires small { self.old.next ≤ end_of_seconds }
+        requires odometer { self.old.odometer ≤ HIGHEST_ODOMETER }
         requires loaded { IsLoaded (M.state unit.old) journal }
         requires room { length breaks.old.items < breaks.old.room }
         requires unfound { self.old.unfound ≤ length breaks.old.items }

@@ -1,15 +1,18 @@
 //! A run: the seconds of a trace, one after another.
-ghost use Rattle.std.specs.Prelude.{◌≡◌, ◌+◌, ◌-◌, ◌/◌, ◌<◌, ◌≤◌, ◌++◌, ℕ, List, true, false, length, is_some, IfErr, OnOk, IsOk};
+ghost use Rattle.std.specs.Prelude.{◌≡◌, ◌+◌, ◌-◌, ◌/◌, ◌^◌, ◌<◌, ◌≤◌, ◌++◌, ℕ, List, true, false, length, is_some, IfErr, OnOk, IsOk};
 ghost use Rattle.tach_media.specs.Medium.{LeavesOnly, Unchanged, HasBroken, last_count};
-ghost use Rattle.log_model.specs.Causes.{cuts};
+ghost use Rattle.log_model.specs.Causes.{cuts, HasCauses};
+ghost use Rattle.trace_model.specs.Trace.{seconds_of};
+ghost use Rattle.unit_model.specs.declared.layout.TheConstants.{HIGHEST_ODOMETER};
 ghost use Rattle.unit_model.specs.Decoding.{Decodes};
 ghost use Rattle.unit_model.specs.Image.{IsUnit, last_kept};
 ghost use Rattle.history_model.specs.Book.{Book};
 ghost use Rattle.unit_rule.specs.Marks.{Holds};
 ghost use Rattle.recorder.specs.Opening.{IsLoaded, IsRefused, IsFoundLater, IsUnitFault};
 ghost use Rattle.history_model.specs.Presence.{Start};
+ghost use Rattle.recorder.specs.Going.{largest_number};
 ghost use Rattle.recorder.specs.Booked.{StartsAs, started};
-ghost use Rattle.recorder.specs.Followed.{IsFollowed, run_log};
+ghost use Rattle.recorder.specs.Followed.{IsFollowed, NoVerdict, breakdowns_of, run_log};
 ghost use Rattle.trace_text.specs.Trace.{IsWellFormed};
 ghost use Rattle.recorder.specs.Trace.{IsForUnit, IsReserved, needs_no_card};
 ghost use Rattle.recorder.specs.Room.{first_waiting};
@@ -72,8 +75,13 @@ pub fn run_trace<U: Medium, C: Chip>(
     ensures holds { (x : List ℕ) → StartsAs x (U.state unit.old) → (U.state unit.new).clock < last_count
         → OnOk result ((due : ℕ) × (b : Book) × Holds (started x (U.state unit.old).clock) due b outcome.new.marks.items (U.state unit.new)) }
     // The book is that of the trace: it follows the unit history, by what the run told.
-    ensures followed { (start : Start) (x : List ℕ) → StartsAs x (U.state unit.old) → (U.state unit.new).clock < last_count → length trace.now.items ≤ 4294967295
+    ensures followed { (start : Start) (x : List ℕ) → StartsAs x (U.state unit.old) → (U.state unit.new).clock < last_count → length trace.now.items ≤ largest_number
         → OnOk result (IsFollowed start x trace.now.start trace.now.items (U.state unit.old).clock outcome.new (U.state unit.new)) }
+    // Each line of the run log has its cause, and what happened has its line: the refused actions are those of the seconds without
+    // power, and each cut was made by an `off` line that met power or by a call that failed, which broke the unit down.
+    ensures causes { (x : List ℕ) → StartsAs x (U.state unit.old) → (U.state unit.new).clock < last_count → length trace.now.items ≤ largest_number
+        → OnOk result (HasCauses NoVerdict (breakdowns_of (U.state unit.old) (C.state _card_a.old) (C.state _card_b.old)) (breakdowns_of (U.state unit.new) (C.state _card_a.new) (C.state _card_b.new))
+        (seconds_of trace.now.start trace.now.items) (run_log outcome.new)) }
     ensures finds { outcome.new.finds ≡ outcome.old.finds }
     // Each cut that a failed call made is a breakdown of the unit more.
     ensures broke { HasBroken (U.state unit.old) (U.state unit.new) (length (cuts true (run_log outcome.new))) }
@@ -123,7 +131,7 @@ fn needs_no_card(item: Item) -> bool
 
 /// The first item that waits for its second behind an item, where it was this one before: an action waits itself.
 fn first_waiting(item: Item, first: usize, index: usize) -> usize
-    requires { index < 18446744073709551615 }
+    requires { index < 2 ^ 64 - 1 }
     ensures { result ≡ first_waiting item first index }
 {
     match item {
@@ -138,12 +146,11 @@ impl Run {
     ghost use Rattle.recorder.specs.Acting.{between, actions_in, AreSelections};
     ghost use Rattle.recorder.specs.Recorded.{Recorded};
     ghost use Rattle.trace_text.specs.Line.{InRange};
-    ghost use Rattle.recorder.specs.Going.{IsGoing};
+    ghost use Rattle.recorder.specs.Going.{end_of_seconds, IsGoing};
     ghost use Rattle.recorder.specs.Turn.{HasRoom};
     ghost use Rattle.recorder.specs.Room.{off_count, has_seconds};
     ghost use Rattle.recorder.specs.Standing.{Began};
-    ghost use Rattle.recorder.specs.Booked.{Booked, GoesOn};
-    ghost use Rattle.recorder.specs.Broken.{BreaksDown};
+    ghost use Rattle.recorder.specs.Gone.{HasGone};
     ghost use Rattle.recorder.specs.declared.run.Power.TheVariants.{Due};
 
     /// A run that begins at this second, of a unit with this journal.
@@ -152,7 +159,7 @@ impl Run {
         ensures next { result.next ≡ start }
         ensures begun { result.begun ≡ 0 }
         ensures unfound { result.unfound ≡ 0 }
-        ensures odometer { result.odometer ≤ 9999999 }
+        ensures odometer { result.odometer ≤ HIGHEST_ODOMETER }
         ensures stored { result.odometer ≡ journal.odometer }
     {
         Run {
@@ -179,22 +186,13 @@ impl Run {
         requires first { from ≤ to }
         requires last { to ≤ length items.now }
         requires item { InRange item }
-        requires small { self.old.next + item_seconds item ≤ 4294880896 }
+        requires small { self.old.next + item_seconds item ≤ end_of_seconds }
         requires room { HasRoom self.old outcome.old (item_seconds item) (off_count item) (to - from) }
         requires going { IsGoing self.old (M.state unit.old) }
         requires unfound { self.old.unfound ≤ length outcome.old.breaks.items }
-        ensures late { IfErr result IsFoundLater }
+        ensures gone { HasGone result (item_seconds item) self.old self.new outcome.old outcome.new (M.state unit.old) (M.state unit.new) }
         ensures idle { OnOk result (has_seconds item ≡ false → (self.new ≡ self.old) × (outcome.new ≡ outcome.old)) }
-        ensures going { OnOk result (IsGoing self.new (M.state unit.new)) }
-        ensures next { OnOk result (self.new.next ≡ self.old.next + item_seconds item) }
-        ensures unfound { OnOk result (self.new.unfound ≤ length outcome.new.breaks.items) }
         ensures room { (left offs acts : ℕ) → HasRoom self.old outcome.old (item_seconds item + left) (off_count item + offs) (to - from + acts) → OnOk result (HasRoom self.new outcome.new left offs acts) }
-        ensures unit { IsUnit (M.state unit.new) }
-        ensures finds { outcome.new.finds ≡ outcome.old.finds }
-        ensures goes_on { GoesOn (M.state unit.old) (M.state unit.new) }
-        ensures broke { BreaksDown outcome.old.breaks.items outcome.new.breaks.items (M.state unit.old) (M.state unit.new) }
-        ensures booked { (s : Began) (b : Book) → Booked s self.old b outcome.old.marks.items (M.state unit.old) → is_some (M.state unit.old).image ≡ true → (M.state unit.new).clock < last_count
-            → IsOk result × ((c : Book) × Booked s self.new c outcome.new.marks.items (M.state unit.new)) }
         ensures recorded { (start : Start) (s : Began) (origin : ℕ) (done : List TraceSecond) → Recorded start s origin done self.old outcome.old.breaks.items outcome.old.marks.items outcome.old.refused.items (M.state unit.old)
             → is_some (M.state unit.old).image ≡ true → (M.state unit.new).clock < last_count → AreSelections from to items.now
             → IsOk result × Recorded start s origin (done ++ seconds_at self.old.next (actions_in (between from to items.now)) item) self.new outcome.new.breaks.items outcome.new.marks.items outcome.new.refused.items (M.state unit.new) }

@@ -2,6 +2,7 @@
 ghost use Rattle.std.specs.Prelude.{◌≡◌, ◌+◌, ◌-◌, ◌/◌, ◌%◌, ◌<◌, ◌≤◌, ◌++◌, ◌∷◌, [], ◌&&◌, ℕ, List, true, false, length, min, is_some, IfErr, OnOk, IsOk};
 ghost use Rattle.minute_model.specs.Span.{Span, decided_in, fed_many};
 ghost use Rattle.minute_rules.specs.Kept.{StandsFor};
+ghost use Rattle.recorder.specs.Going.{largest_number};
 
 use crate::keeping::keep_all;
 use crate::lines::Lines;
@@ -31,14 +32,14 @@ fn turn_length(next: u32, left: u32) -> u32
 
 /// How many actions a second had, as its breaks tell it.
 fn number_of(actions: usize) -> u32
-    ensures { result ≡ min actions 4294967295 }
+    ensures { result ≡ min actions largest_number }
 {
     actions.min(u32::MAX as usize) as u32
 }
 
 /// So many seconds of one minute, in steps that nobody counts.
 fn feed(minutes: &mut Minutes, n: u32, speed: u8) -> Decided
-    requires fits { minutes.old.next + n ≤ 4294967295 }
+    requires fits { minutes.old.next + n ≤ largest_number }
     requires minute { minutes.old.next % 60 + n ≤ 60 }
     ensures fed { (span : Span) → StandsFor minutes.old span → StandsFor minutes.new (fed_many span speed n) }
     ensures given { (span : Span) → StandsFor minutes.old span → decided_in (fed_many span speed n) ≡ decided_in span ++ result.items }
@@ -51,7 +52,7 @@ fn feed_by<L: Ledger>(minutes: &mut Minutes, n: u32, speed: u8, blank: Blank) ->
     requires name { blank.name ≡ L.name }
     requires parts { blank.parts ≡ L.parts }
     requires one { blank.parts ≡ 1 }
-    requires fits { minutes.old.next + n ≤ 4294967295 }
+    requires fits { minutes.old.next + n ≤ largest_number }
     requires minute { minutes.old.next % 60 + n ≤ 60 }
     ensures fed { (span : Span) → StandsFor minutes.old span → StandsFor minutes.new (fed_many span speed n) }
     ensures given { (span : Span) → StandsFor minutes.old span → decided_in (fed_many span speed n) ≡ decided_in span ++ result.items }
@@ -63,13 +64,13 @@ fn feed_by<L: Ledger>(minutes: &mut Minutes, n: u32, speed: u8, blank: Blank) ->
 
 impl Run {
     ghost use Rattle.unit_model.specs.Image.{IsUnit};
-    ghost use Rattle.recorder.specs.Going.{IsGoing, HasMarkRoom, HasBreakRoom, cuts_from, cuts_within};
+    ghost use Rattle.recorder.specs.Going.{end_of_seconds, IsGoing, HasMarkRoom, HasBreakRoom, cuts_from, cuts_within};
     ghost use Rattle.recorder.specs.Turn.{HasRoom, HasRoomWithin, OnlyMinutes};
     ghost use Rattle.recorder.specs.Acting.{between, action_of, actions_in, picks_in, refused_in, with_picks, AreSelections};
     ghost use Rattle.recorder.specs.Power.{is_lit};
+    ghost use Rattle.recorder.specs.Gone.{HasGone};
     ghost use Rattle.recorder.specs.Booked.{Booked, GoesOn};
     ghost use Rattle.recorder.specs.Broken.{BreaksDown};
-    ghost use Rattle.recorder.specs.Opening.{IsFoundLater};
     ghost use Rattle.recorder.specs.Steps.{IsTurn, IsLitTurn};
     ghost use Rattle.recorder.specs.Recorded.{Recorded};
     ghost use Rattle.trace_model.specs.Trace.{TraceSecond, driven};
@@ -92,22 +93,13 @@ impl Run {
     ) -> Result<(), RunFault>
         requires going { IsGoing self.old (M.state unit.old) }
         requires some { 0 < seconds }
-        requires small { self.old.next + seconds ≤ 4294880896 }
+        requires small { self.old.next + seconds ≤ end_of_seconds }
         requires first { from ≤ to }
         requires last { to ≤ length items.now }
         requires room { HasRoom self.old outcome.old seconds 0 (to - from) }
         requires unfound { self.old.unfound ≤ length outcome.old.breaks.items }
-        ensures late { IfErr result IsFoundLater }
-        ensures going { OnOk result (IsGoing self.new (M.state unit.new)) }
-        ensures next { OnOk result (self.new.next ≡ self.old.next + seconds) }
+        ensures gone { HasGone result seconds self.old self.new outcome.old outcome.new (M.state unit.old) (M.state unit.new) }
         ensures room { (left offs acts : ℕ) → HasRoom self.old outcome.old (seconds + left) offs (to - from + acts) → OnOk result (HasRoom self.new outcome.new left offs acts) }
-        ensures unfound { OnOk result (self.new.unfound ≤ length outcome.new.breaks.items) }
-        ensures unit { IsUnit (M.state unit.new) }
-        ensures finds { outcome.new.finds ≡ outcome.old.finds }
-        ensures goes_on { GoesOn (M.state unit.old) (M.state unit.new) }
-        ensures broke { BreaksDown outcome.old.breaks.items outcome.new.breaks.items (M.state unit.old) (M.state unit.new) }
-        ensures booked { (s : Began) (b : Book) → Booked s self.old b outcome.old.marks.items (M.state unit.old) → is_some (M.state unit.old).image ≡ true → (M.state unit.new).clock < last_count
-            → IsOk result × ((c : Book) × Booked s self.new c outcome.new.marks.items (M.state unit.new)) }
         ensures recorded { (start : Start) (s : Began) (origin : ℕ) (done : List TraceSecond) → Recorded start s origin done self.old outcome.old.breaks.items outcome.old.marks.items outcome.old.refused.items (M.state unit.old)
             → is_some (M.state unit.old).image ≡ true → (M.state unit.new).clock < last_count → AreSelections from to items.now
             → IsOk result × Recorded start s origin (done ++ driven seconds self.old.next speed (actions_in (between from to items.now))) self.new outcome.new.breaks.items outcome.new.marks.items outcome.new.refused.items (M.state unit.new) }
@@ -127,20 +119,11 @@ impl Run {
         outcome: &mut Outcome,
     ) -> Result<(), RunFault>
         requires going { IsGoing self.old (M.state unit.old) }
-        requires small { self.old.next + seconds ≤ 4294880896 }
+        requires small { self.old.next + seconds ≤ end_of_seconds }
         requires room { HasRoom self.old outcome.old seconds 0 0 }
         requires unfound { self.old.unfound ≤ length outcome.old.breaks.items }
-        ensures late { IfErr result IsFoundLater }
-        ensures going { OnOk result (IsGoing self.new (M.state unit.new)) }
-        ensures next { OnOk result (self.new.next ≡ self.old.next + seconds) }
+        ensures gone { HasGone result seconds self.old self.new outcome.old outcome.new (M.state unit.old) (M.state unit.new) }
         ensures room { (left offs acts : ℕ) → HasRoom self.old outcome.old (seconds + left) offs acts → OnOk result (HasRoom self.new outcome.new left offs acts) }
-        ensures unfound { OnOk result (self.new.unfound ≤ length outcome.new.breaks.items) }
-        ensures unit { IsUnit (M.state unit.new) }
-        ensures finds { outcome.new.finds ≡ outcome.old.finds }
-        ensures goes_on { GoesOn (M.state unit.old) (M.state unit.new) }
-        ensures broke { BreaksDown outcome.old.breaks.items outcome.new.breaks.items (M.state unit.old) (M.state unit.new) }
-        ensures booked { (s : Began) (b : Book) → Booked s self.old b outcome.old.marks.items (M.state unit.old) → is_some (M.state unit.old).image ≡ true → (M.state unit.new).clock < last_count
-            → IsOk result × ((c : Book) × Booked s self.new c outcome.new.marks.items (M.state unit.new)) }
         ensures recorded { (start : Start) (s : Began) (origin : ℕ) (done : List TraceSecond) → Recorded start s origin done self.old outcome.old.breaks.items outcome.old.marks.items outcome.old.refused.items (M.state unit.old)
             → is_some (M.state unit.old).image ≡ true → (M.state unit.new).clock < last_count
             → IsOk result × Recorded start s origin (done ++ driven seconds self.old.next speed []) self.new outcome.new.breaks.items outcome.new.marks.items outcome.new.refused.items (M.state unit.new) }
@@ -165,20 +148,11 @@ impl Run {
         requires going { IsGoing self.old (M.state unit.old) }
         requires some { 0 < n }
         requires minute { self.old.next % 60 + n ≤ 60 }
-        requires small { self.old.next + n ≤ 4294880896 }
+        requires small { self.old.next + n ≤ end_of_seconds }
         requires room { HasRoom self.old outcome.old n 0 0 }
         requires unfound { self.old.unfound ≤ length outcome.old.breaks.items }
-        ensures late { IfErr result IsFoundLater }
-        ensures going { OnOk result (IsGoing self.new (M.state unit.new)) }
-        ensures next { OnOk result (self.new.next ≡ self.old.next + n) }
+        ensures gone { HasGone result n self.old self.new outcome.old outcome.new (M.state unit.old) (M.state unit.new) }
         ensures room { (left offs acts : ℕ) → HasRoom self.old outcome.old (n + left) offs acts → OnOk result (HasRoom self.new outcome.new left offs acts) }
-        ensures unfound { OnOk result (self.new.unfound ≤ length outcome.new.breaks.items) }
-        ensures unit { IsUnit (M.state unit.new) }
-        ensures finds { outcome.new.finds ≡ outcome.old.finds }
-        ensures goes_on { GoesOn (M.state unit.old) (M.state unit.new) }
-        ensures broke { BreaksDown outcome.old.breaks.items outcome.new.breaks.items (M.state unit.old) (M.state unit.new) }
-        ensures booked { (s : Began) (b : Book) → Booked s self.old b outcome.old.marks.items (M.state unit.old) → is_some (M.state unit.old).image ≡ true → (M.state unit.new).clock < last_count
-            → IsOk result × ((c : Book) × Booked s self.new c outcome.new.marks.items (M.state unit.new)) }
         ensures recorded { (start : Start) (s : Began) (origin : ℕ) (done : List TraceSecond) → Recorded start s origin done self.old outcome.old.breaks.items outcome.old.marks.items outcome.old.refused.items (M.state unit.old)
             → is_some (M.state unit.old).image ≡ true → (M.state unit.new).clock < last_count
             → IsOk result × Recorded start s origin (done ++ driven n self.old.next speed []) self.new outcome.new.breaks.items outcome.new.marks.items outcome.new.refused.items (M.state unit.new) }
@@ -262,7 +236,7 @@ impl Run {
         requires going { IsGoing self.old (M.state unit.old) }
         requires some { 0 < n }
         requires minute { self.old.next % 60 + n ≤ 60 }
-        requires small { self.old.next + n ≤ 4294880896 }
+        requires small { self.old.next + n ≤ end_of_seconds }
         requires room { HasRoomWithin self.old outcome.old n 0 0 }
         ensures going { IsGoing self.new (M.state unit.new) }
         ensures next { self.new.next ≡ self.old.next + n }
@@ -297,7 +271,7 @@ impl Run {
         requires going { IsGoing self.old (M.state unit.old) }
         requires some { 0 < n }
         requires minute { self.old.next % 60 + n ≤ 60 }
-        requires small { self.old.next + n ≤ 4294880896 }
+        requires small { self.old.next + n ≤ end_of_seconds }
         requires room { HasRoomWithin self.old outcome.old n 0 0 }
         ensures going { IsGoing self.new (M.state unit.new) }
         ensures next { self.new.next ≡ self.old.next + n }
@@ -331,7 +305,7 @@ impl Run {
 
     /// So many seconds are over, the last of which had so many actions.
     fn pass(&mut self, n: u32, begun: u32)
-        requires { self.old.next + n ≤ 4294967295 }
+        requires { self.old.next + n ≤ largest_number }
         ensures { self.new ≡ record self.old { next = self.old.next + n; begun = begun } }
     {
         self.next += n;

@@ -33,7 +33,7 @@ use Rattle.tacho.specs.Outside.{Outside, SourceTold, memory_of}
 use Rattle.tacho.specs.Program.{Ends}
 use Rattle.tacho.proofs.Fed.{untrue}
 use Rattle.tacho.specs.Reading.{JudgesTrace}
-use Rattle.tacho.specs.Recorded.{IsEmpty, outcome_text, IsRecordEnd, IsRun, IsRefusal, IsOfUnit, run_refusal_of, IsTold, IsSound, Starts, IsRecorded, EndsRecord}
+use Rattle.tacho.specs.Recorded.{IsEmpty, outcome_text, IsRecordEnd, IsRun, IsRefusal, IsOfUnit, run_refusal_of, IsTold, IsSound, Starts, IsRecorded, IsCaused, EndsRecord}
 
 -- no line of a trace of the unit alone is a card's
 pub for-unit : (items : List Item) → AllByRecursion (IsKnown UnitAlone) items → IsForUnit items
@@ -103,6 +103,7 @@ ends-before old new outcome fault ends early no_run no_refusal judges empty memo
   printed = λ is. absurd (no_run (subst IsRun (sym is) tt));
   front = λ is. absurd (no_run (subst IsRun (sym is) tt));
   run = λ start items x told starts is. absurd (no_run is);
+  caused = λ start items x told starts is. absurd (no_run is);
   bad_unit = λ place x starts is. absurd (no_refusal (subst IsRefusal (sym is) tt));
   clock_back = λ kept second x starts is. absurd (no_refusal (subst IsRefusal (sym is) tt));
   refused = λ x starts is. absurd (no_refusal is);
@@ -142,6 +143,7 @@ module _ (old new : Outside) (outcome : Outcome) (start : ℕ) (items : List Ite
     printed = λ is. absurd (cc);
     front = λ is. absurd (cc);
     run = λ s is x told starts no. absurd no;
+    caused = λ s is x told starts no. absurd no;
     bad_unit = λ place x starts is. absurd (cc);
     clock_back = λ kept second x starts is. absurd (cc);
     refused = λ x starts is. let r = refused x starts.alone starts.clock in (r.1, r.2);
@@ -160,6 +162,7 @@ module _ (old new : Outside) (outcome : Outcome) (start : ℕ) (items : List Ite
         printed = λ is. absurd (cc);
         front = λ is. absurd (cc);
         run = λ s is x told starts no. absurd no;
+        caused = λ s is x told starts no. absurd no;
         bad_unit = λ p x starts is. let e : place ≡ p = cc in bad x starts ∙ ap Some e;
         clock_back = λ kept second x starts is. absurd (cc);
         refused = λ x starts is. let r = refused x starts.alone starts.clock in (r.1, r.2);
@@ -180,6 +183,7 @@ module _ (old new : Outside) (outcome : Outcome) (start : ℕ) (items : List Ite
         printed = λ is. absurd (cc);
         front = λ is. absurd (cc);
         run = λ s is x told starts no. absurd no;
+        caused = λ s is x told starts no. absurd no;
         bad_unit = λ p x starts is. absurd (cc);
         clock_back = λ k t x starts is.
             let e : kept ≡ k = cc in let f : second ≡ t = cc in
@@ -207,18 +211,20 @@ pub ends-run : {T : Type 0} (old new : Outside) (outcome : Outcome) (start : ℕ
     → ((text : List ℕ) (n : ℕ) → old.source.left ≡ Some text → IsLongText UnitAlone text n → ⊥)
     → ((text : List ℕ) (s : ℕ) (is : List Item) → old.source.left ≡ Some text → IsTraceText UnitAlone text s is → (start ≡ s) × (items ≡ is))
     → ((x : List ℕ) → StartsAs x old.unit → new.unit.clock < last_count → IsRecorded x start items old.unit.clock outcome new.unit)
+    → ((x : List ℕ) → StartsAs x old.unit → new.unit.clock < last_count → IsCaused old new start items outcome)
     → ((x : List ℕ) → StartsAs x old.unit → Decodes x × (last_kept x < start / 60))
     → OnOk r (Appends old.sink.held new.sink.held (outcome_text outcome))
     → IfErr r (λ fault. (fault ≡ WriteFault) × AppendsFront old.sink.held new.sink.held (outcome_text outcome))
     → IfErr r (λ fault. Rose old.sink.faults new.sink.faults)
     → EndsRecord old new outcome (end_of r)
-ends-run old new outcome start items (Ok u) read no_bad no_long is_read recorded begun appends front rose = record {
+ends-run old new outcome start items (Ok u) read no_bad no_long is_read recorded caused begun appends front rose = record {
   ends = tt;
   judges = judges-well old.source new.source Done (λ n is. cc) (λ n is. cc) no_bad no_long;
   read = λ is. read;
   printed = λ is. appends;
   front = λ is. absurd (cc);
   run = λ s is x told starts done. of_trace s is x (is_read told.text s is told.told told.trace) (recorded x starts.alone starts.clock);
+  caused = λ s is x told starts done. of_causes s is (is_read told.text s is told.told told.trace) (caused x starts.alone starts.clock);
   bad_unit = λ place x starts is. absurd (cc);
   clock_back = λ kept second x starts is. absurd (cc);
   refused = λ x starts is. absurd is;
@@ -231,9 +237,12 @@ ends-run old new outcome start items (Ok u) read no_bad no_long is_read recorded
     of_trace : (s : ℕ) (is : List Item) (x : List ℕ) → (start ≡ s) × (items ≡ is) → IsRecorded x start items old.unit.clock outcome new.unit → IsRecorded x s is old.unit.clock outcome new.unit
     of_trace s is x same h = subst (λ (t : ℕ). IsRecorded x t is old.unit.clock outcome new.unit) same.0 (subst (λ (l : List Item). IsRecorded x start l old.unit.clock outcome new.unit) same.1 h)
 
+    of_causes : (s : ℕ) (is : List Item) → (start ≡ s) × (items ≡ is) → IsCaused old new start items outcome → IsCaused old new s is outcome
+    of_causes s is same h = subst (λ (t : ℕ). IsCaused old new t is outcome) same.0 (subst (λ (l : List Item). IsCaused old new start l outcome) same.1 h)
+
     not_back : (s : ℕ) (x : List ℕ) → start ≡ s → last_kept x < start / 60 → s / 60 ≤ last_kept x → ⊥
     not_back s x same late back = let here : last_kept x < s / 60 = subst (λ (t : ℕ). last_kept x < t / 60) same late in omega (arith, here, back)
-ends-run old new outcome start items (Err fault) read no_bad no_long is_read recorded begun appends front rose =
+ends-run old new outcome start items (Err fault) read no_bad no_long is_read recorded caused begun appends front rose =
     subst (EndsRecord old new outcome) (sym front.0) (record {
       ends = tt;
       judges = judges-well old.source new.source WriteFault (λ n is. cc) (λ n is. cc) no_bad no_long;
@@ -241,6 +250,7 @@ ends-run old new outcome start items (Err fault) read no_bad no_long is_read rec
       printed = λ is. absurd (cc);
       front = λ is. front.1;
       run = λ s is x told starts done. of_trace s is x (is_read told.text s is told.told told.trace) (recorded x starts.alone starts.clock);
+      caused = λ s is x told starts done. of_causes s is (is_read told.text s is told.told told.trace) (caused x starts.alone starts.clock);
       bad_unit = λ place x starts is. absurd (cc);
       clock_back = λ kept second x starts is. absurd (cc);
       refused = λ x starts is. absurd is;
@@ -252,6 +262,9 @@ ends-run old new outcome start items (Err fault) read no_bad no_long is_read rec
   where
     of_trace : (s : ℕ) (is : List Item) (x : List ℕ) → (start ≡ s) × (items ≡ is) → IsRecorded x start items old.unit.clock outcome new.unit → IsRecorded x s is old.unit.clock outcome new.unit
     of_trace s is x same h = subst (λ (t : ℕ). IsRecorded x t is old.unit.clock outcome new.unit) same.0 (subst (λ (l : List Item). IsRecorded x start l old.unit.clock outcome new.unit) same.1 h)
+
+    of_causes : (s : ℕ) (is : List Item) → (start ≡ s) × (items ≡ is) → IsCaused old new start items outcome → IsCaused old new s is outcome
+    of_causes s is same h = subst (λ (t : ℕ). IsCaused old new t is outcome) same.0 (subst (λ (l : List Item). IsCaused old new start l outcome) same.1 h)
 
 -- so the call ends that was asked for it
 pub record-ends : {T : Type 0} (old new : Outside) (outcome : Outcome) (r : Result T Fault)

@@ -6,14 +6,16 @@ use Rattle.tach_media.specs.Streams.{AppendsFront}
 use Rattle.run_model.specs.declared.Device.{Device}
 use Rattle.run_model.specs.declared.Device.TheVariants.{Unit as OfUnit, CardA, CardB}
 use Rattle.log_model.specs.declared.lines.Mark.{Mark}
+use Rattle.log_model.specs.Causes.{HasCauses}
 use Rattle.safety_model.specs.Unit.{is_of}
 use Rattle.history_model.specs.Presence.{Start}
 use Rattle.recorder.specs.Booked.{StartsAs}
-use Rattle.recorder.specs.Followed.{IsFollowed}
+use Rattle.recorder.specs.Followed.{IsFollowed, NoVerdict, breakdowns_of, run_log}
 use Rattle.recorder.specs.declared.opening.RunFault.{RunFault}
 use Rattle.recorder.specs.declared.opening.RunFault.TheVariants as run
 use Rattle.recorder.specs.declared.outcome.Outcome.{Outcome}
 use Rattle.trace_model.specs.declared.Item.{Item}
+use Rattle.trace_model.specs.Trace.{seconds_of}
 use Rattle.trace_text.specs.declared.trace.Form.TheVariants.{UnitAlone}
 use Rattle.trace_text.specs.Judged.{IsTraceText}
 use Rattle.unit_model.specs.Image.{last_kept}
@@ -102,6 +104,14 @@ pub record Starts (x : List ℕ) (old new : State) : Type 0 where
 abbrev pub IsRecorded : (x : List ℕ) → (start : ℕ) → List Item → (clock : ℕ) → Outcome → State → Type 0
 IsRecorded x start items clock outcome unit = (cards : Start) → IsFollowed cards x start items clock outcome unit
 
+-- how often each device broke down
+abbrev pub breakdowns_in : Outside → Device → ℕ
+breakdowns_in told = breakdowns_of told.unit told.card_a.memory told.card_b.memory
+
+-- each line of the run log of a trace has its cause, and what happened has its line
+abbrev pub IsCaused : (old new : Outside) → (start : ℕ) → List Item → Outcome → Type 0
+IsCaused old new start items outcome = HasCauses NoVerdict (breakdowns_in old) (breakdowns_in new) (seconds_of start items) (run_log outcome)
+
 -- HOW `record` ENDS.
 pub record EndsRecord (old new : Outside) (outcome : Outcome) (fault : Fault) : Type 0 where
   pub ends : IsRecordEnd fault
@@ -114,6 +124,9 @@ pub record EndsRecord (old new : Outside) (outcome : Outcome) (fault : Fault) : 
   -- THE RUN of the trace, where it was recorded.
   pub run : (start : ℕ) (items : List Item) (x : List ℕ) → IsTold old start items → Starts x old.unit new.unit → IsRun fault
       → IsRecorded x start items old.unit.clock outcome new.unit
+  -- Its refused actions are those of the seconds without power, and each cut was an `off` line's or a breakdown of the unit.
+  pub caused : (start : ℕ) (items : List Item) (x : List ℕ) → IsTold old start items → Starts x old.unit new.unit → IsRun fault
+      → IsCaused old new start items outcome
   -- Each refusal by the unit has its cause in the image that it started with; the unit is as it was, and there is no outcome.
   pub bad_unit : (place : ℕ) (x : List ℕ) → Starts x old.unit new.unit → fault ≡ BadUnit place → first_bad_place x ≡ Some place
   pub clock_back : (kept second : ℕ) (x : List ℕ) → Starts x old.unit new.unit → fault ≡ ClockBack kept second

@@ -1,6 +1,6 @@
 use Rattle.std.proofs.Common.{◌≡◌, ℕ, ◌+◌, ◌-◌, ◌/◌, ◌<◌, ◌≤◌, true, List, [], length, take, drop, is_some, refl, ap, sym, subst, ◌∙◌, arith}
 use Rattle.std.specs.Prelude.{IfErr, Result, Ok, Err}
-use Rattle.tach_media.specs.Medium.{LiesInside}
+use Rattle.tach_media.specs.Medium.{State, LiesInside}
 use Rattle.std.proofs.lemmas.List.{take_all}
 use Rattle.trace_model.specs.declared.Item.{Item}
 use Rattle.trace_model.specs.Trace.{TraceSecond, item_seconds, total_seconds, seconds_of}
@@ -11,7 +11,11 @@ use Rattle.unit_course.specs.Lines.{log_of}
 use Rattle.unit_course.specs.Complete.{AreMarked}
 use Rattle.unit_course.specs.Caused.{WellCaused}
 use Rattle.unit_course.specs.Followed.{Due as Awaited, Followed}
-use Rattle.recorder.specs.Followed.{NoVerdict, run_log, history_of, lost_of}
+use Rattle.recorder.specs.Followed.{NoVerdict, run_log, history_of, lost_of, breakdowns_of}
+use Rattle.trace_model.specs.declared.Card.{Card}
+use Rattle.trace_model.specs.declared.Card.TheVariants.{A, B}
+use Rattle.log_model.specs.Causes.{device_of}
+use Rattle.history_model.specs.Presence.{Start, CardStart}
 use Rattle.recorder.specs.Recorded.{progress, Recorded}
 use Rattle.recorder.proofs.Waiting.{Waits, waits-none, waits-more, seconds-none, seconds-more}
 use Rattle.recorder.proofs.Recording.{followed-as}
@@ -25,6 +29,7 @@ use Rattle.unit_rule.proofs.Safety.{unit-safe}
 use Rattle.recorder.specs.declared.run.Power.{Power}
 use Rattle.recorder.specs.declared.run.Power.TheVariants.{Lit, Due}
 use Rattle.recorder.specs.Lines.{Listed}
+use Rattle.unit_model.specs.declared.layout.TheConstants.{IMAGE_SIZE}
 use Rattle.recorder.specs.Going.{waiting, cuts_from}
 use Rattle.recorder.specs.Booked.{StartsAs, started, due_of}
 use Rattle.recorder.proofs.Opened.{opened-stands, kept-is, decodes-is, later-is-units, refused-is-units}
@@ -32,8 +37,17 @@ use Rattle.recorder.specs.Room.{offs, off_count}
 use Rattle.recorder.specs.Turn.{HasRoom}
 use Rattle.recorder.proofs.Items.{each-at, seconds-here, offs-here, room-less, room-behind, waiting-most, total-parts}
 use Rattle.recorder.proofs.Turning.{booked-at, goes-then}
-use Rattle.recorder.proofs.Broken.{broke-none, broke-then, broke-all}
+use Rattle.recorder.proofs.Broken.{broke-none, broke-then, broke-all, rose-by}
 use Rattle.recorder.proofs.run.run_trace.Goals as goal
+
+-- what no card brings
+no_cards : Start
+no_cards = let none : CardStart = record { entries = []; owed = []; mark = 0; word = 0 } in record { card_a = none; card_b = none }
+
+-- a call on the unit breaks no card
+same-cards : (old new card_a card_b : State) → old.breakdowns ≤ new.breakdowns → (card : Card) → breakdowns_of old card_a card_b (device_of card) ≤ breakdowns_of new card_a card_b (device_of card)
+same-cards old new card_a card_b le A = omega arith
+same-cards old new card_a card_b le B = omega arith
 
 -- what holds of each error
 if_err : {A E : Type 0} {P : E → Type 0} (r : Result A E) → ((e : E) → P e) → IfErr r P
@@ -57,7 +71,7 @@ loop-i-init g c =
     record {
       first = omega arith;
       going = record {
-        is_unit = record { sized = run.size ∙ q.unit.sized; behind = run.behind ∙ q.unit.behind; writable = subst (λ (ws : List (ℕ × ℕ)). LiesInside ws 0 2485808) (sym run.writable) q.unit.writable };
+        is_unit = record { sized = run.size ∙ q.unit.sized; behind = run.behind ∙ q.unit.behind; writable = subst (λ (ws : List (ℕ × ℕ)). LiesInside ws 0 IMAGE_SIZE) (sym run.writable) q.unit.writable };
         low = let low = q.well.first.0 in omega (arith, low, next);
         small = let last = q.well.within.1 in omega (arith, last, next);
         odometer = c.new-run.ensures.odometer;
@@ -123,7 +137,7 @@ loop-i-init g c =
 pub returns-in_err-item-clause-refused : goal.returns-in_err-item-clause-refused
 returns-in_err-item-clause-refused g c = if_err c.from_residual-in_err-item.result (λ fault x starts below.
     let v = c.loop-i.invariant in
-    let e = c.in_err-item.ensures in
+    let e = c.in_err-item.ensures.gone in
     let clock = e.goes_on.clock in
     let was = v.booked x starts (omega (arith, clock, below)) in
     absurd (let no = (e.booked (begun_with x (g.U.Medium.state c.args.unit.now).clock) was.0 was.1 (v.goes_on.tells ∙ starts.tells) below).0 in cc))
@@ -152,7 +166,8 @@ item-requires-clause-room g c =
 pub loop-i-preserved : goal.loop-i-preserved
 loop-i-preserved g c =
     let v = c.loop-i.invariant in
-    let e = c.in_ok-item.ensures in
+    let e = c.in_ok-item.ensures.gone in
+    let f = c.in_ok-item.ensures in
     let items = c.args.trace.now.items in
     let i = c.loop-i.i in
     let item = c.get-item.result.now in
@@ -168,7 +183,7 @@ loop-i-preserved g c =
           (room-behind item c.loop-i.run c.item.new.self c.loop-i.outcome c.item.new.outcome (total_seconds (drop (i + 1) items)) (offs (drop (i + 1) items)) (length items) c.loop-i.first i v.first low
           (subst (λ (n : ℕ). HasRoom c.loop-i.run c.loop-i.outcome n (off_count item + offs (drop (i + 1) items)) (length items - c.loop-i.first)) s
           (subst (λ (n : ℕ). HasRoom c.loop-i.run c.loop-i.outcome (total_seconds (drop i items)) n (length items - c.loop-i.first)) o v.room))
-          e.idle e.room);
+          f.idle f.room);
       unfound = e.unfound;
       goes_on = goes-then v.goes_on e.goes_on;
       broke = broke-then v.broke e.broke;
@@ -182,7 +197,7 @@ loop-i-preserved g c =
           let first = v.first in
           subst (λ (ss : List TraceSecond). Recorded start (begun_with x (g.U.Medium.state c.args.unit.now).clock) c.args.trace.now.start ss c.item.new.self c.item.new.outcome.breaks.items c.item.new.outcome.marks.items c.item.new.outcome.refused.items (g.U.Medium.state c.item.new.unit))
           (sym (seconds-more c.args.trace.now.start items i c.loop-i.first item c.loop-i.run.next c.get-item.ensures (let parts = total-parts items i in let was = v.next in omega (arith, parts, was)) v.waits))
-          (e.recorded start (begun_with x (g.U.Medium.state c.args.unit.now).clock) c.args.trace.now.start (seconds_of c.args.trace.now.start (take i items)) r (v.goes_on.tells ∙ starts.tells) below
+          (f.recorded start (begun_with x (g.U.Medium.state c.args.unit.now).clock) c.args.trace.now.start (seconds_of c.args.trace.now.start (take i items)) r (v.goes_on.tells ∙ starts.tells) below
           (record { each = v.waits.each; count = v.waits.count; few = omega (arith, few, low, first) })).1;
       booked = λ x starts below.
           let clock = e.goes_on.clock in
@@ -216,10 +231,25 @@ returns-clause-followed g c = λ start x starts below few.
       begun = c.loop-i.run.begun;
       course = f;
       complete = subst (λ (is : List Item). AreMarked Original (went (log_of c.loop-i.outcome.breaks.items) (seconds_of c.args.trace.now.start is)).told c.loop-i.outcome.marks.items) whole r.complete;
-      causes = has_causes Original start c.args.trace.now.start (started x (g.U.Medium.state c.args.unit.now).clock).first (seconds_of c.args.trace.now.start items) c.loop-i.outcome.breaks.items c.loop-i.run.unfound c.loop-i.run.next c.loop-i.run.begun r.supply r.book f c.loop-i.outcome.refused.items
-          (subst (λ (is : List Item). WellCaused (seconds_of c.args.trace.now.start is) (progress c.loop-i.outcome.breaks.items c.loop-i.run.unfound c.loop-i.run.next c.loop-i.run.begun r.supply r.book) c.loop-i.outcome.refused.items) whole r.caused)
-          (run_log c.loop-i.outcome) refl refl finds NoVerdict;
     }
+
+pub returns-clause-causes : goal.returns-clause-causes
+returns-clause-causes g c = λ x starts below few.
+    let v = c.loop-i.invariant in
+    let items = c.args.trace.now.items in
+    let first = (started x (g.U.Medium.state c.args.unit.now).clock).first in
+    let r = v.recorded no_cards x starts below few in
+    let whole = take_all c.loop-i.i items (omega (arith, c.loop-i-test.false, c.len-i-end.ensures)) in
+    let finds = ap (λ (l : Listed Find). l.items) (v.finds ∙ c.requires.reserved.finds) in
+    let broke = broke-all (run_log c.loop-i.outcome) (ap (λ (l : Listed Break). l.items) c.requires.reserved.breaks) v.goes_on.faults v.broke in
+    has_causes Original no_cards c.args.trace.now.start first (seconds_of c.args.trace.now.start items) c.loop-i.outcome.breaks.items c.loop-i.run.unfound c.loop-i.run.next c.loop-i.run.begun r.supply r.book
+    (subst (λ (is : List Item). Followed Original no_cards c.args.trace.now.start first (seconds_of c.args.trace.now.start is) (progress c.loop-i.outcome.breaks.items c.loop-i.run.unfound c.loop-i.run.next c.loop-i.run.begun r.supply r.book)) whole r.followed)
+    c.loop-i.outcome.refused.items
+    (subst (λ (is : List Item). WellCaused (seconds_of c.args.trace.now.start is) (progress c.loop-i.outcome.breaks.items c.loop-i.run.unfound c.loop-i.run.next c.loop-i.run.begun r.supply r.book) c.loop-i.outcome.refused.items) whole r.caused)
+    (run_log c.loop-i.outcome) refl refl finds NoVerdict
+    (breakdowns_of (g.U.Medium.state c.args.unit.now) (g.C.Chip.state c.args._card_a.now) (g.C.Chip.state c.args._card_b.now))
+    (breakdowns_of (g.U.Medium.state c.loop-i.unit) (g.C.Chip.state c.args._card_a.now) (g.C.Chip.state c.args._card_b.now))
+    (rose-by broke) (same-cards (g.U.Medium.state c.args.unit.now) (g.U.Medium.state c.loop-i.unit) (g.C.Chip.state c.args._card_a.now) (g.C.Chip.state c.args._card_b.now) v.goes_on.breakdowns)
 
 pub returns-clause-begun : goal.returns-clause-begun
 returns-clause-begun g c = c.loop-i.invariant.began
@@ -230,8 +260,8 @@ returns-clause-broke g c =
 
 pub returns-in_err-item-clause-broke : goal.returns-in_err-item-clause-broke
 returns-in_err-item-clause-broke g c =
-    let more = goes-then c.loop-i.invariant.goes_on c.in_err-item.ensures.goes_on in
-    broke-all (run_log c.item.new.outcome) (ap (λ (l : Listed Break). l.items) c.requires.reserved.breaks) more.faults (broke-then c.loop-i.invariant.broke c.in_err-item.ensures.broke)
+    let more = goes-then c.loop-i.invariant.goes_on c.in_err-item.ensures.gone.goes_on in
+    broke-all (run_log c.item.new.outcome) (ap (λ (l : Listed Break). l.items) c.requires.reserved.breaks) more.faults (broke-then c.loop-i.invariant.broke c.in_err-item.ensures.gone.broke)
 
 pub returns-in_err-journal-clause-broke : goal.returns-in_err-journal-clause-broke
 returns-in_err-journal-clause-broke g c =

@@ -7,7 +7,7 @@ use Rattle.unit_model.specs.Image.{last_kept}
 use Rattle.recorder.specs.Recorded.{Recorded}
 use Rattle.recorder.proofs.Waiting.{Waits}
 use Rattle.history_model.specs.Book.{Book}
-use Rattle.recorder.specs.Going.{IsGoing}
+use Rattle.recorder.specs.Going.{largest_number, IsGoing}
 use Rattle.recorder.specs.Turn.{HasRoom}
 use Rattle.recorder.specs.Room.{offs}
 use Rattle.recorder.specs.Broken.{BreaksDown}
@@ -26,7 +26,7 @@ invariant-loop-i g l = record {
   waits : Waits l.trace.items l.first l.i;
   finds : l.outcome.finds ≡ l.fn.outcome.finds;
   began : (x : List ℕ) → StartsAs x (g.U.Medium.state l.fn.unit) → Decodes x × (last_kept x < l.trace.start / 60);
-  recorded : (start : Start) (x : List ℕ) → StartsAs x (g.U.Medium.state l.fn.unit) → (g.U.Medium.state l.unit).clock < last_count → length l.trace.items ≤ 4294967295 →
+  recorded : (start : Start) (x : List ℕ) → StartsAs x (g.U.Medium.state l.fn.unit) → (g.U.Medium.state l.unit).clock < last_count → length l.trace.items ≤ largest_number →
       Recorded start (begun_with x (g.U.Medium.state l.fn.unit).clock) l.trace.start (seconds_of l.trace.start (take l.i l.trace.items)) l.run l.outcome.breaks.items l.outcome.marks.items l.outcome.refused.items (g.U.Medium.state l.unit);
   booked : (x : List ℕ) → StartsAs x (g.U.Medium.state l.fn.unit) → (g.U.Medium.state l.unit).clock < last_count → (b : Book) × Booked (begun_with x (g.U.Medium.state l.fn.unit).clock) l.run b l.outcome.marks.items (g.U.Medium.state l.unit);
 }

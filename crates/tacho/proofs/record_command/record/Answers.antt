@@ -21,4 +21,5 @@ returns-clause-ends g c =
     let e = c.in-Ok.ensures in
     ends-run _ _ c.run_trace.new.outcome c.in-Ok.trace.start c.in-Ok.trace.items c.print_outcome.result e.end e.finds_bad_line e.finds_too_long e.reads
     (λ x alone clock cards. c.in_default-run_trace.ensures.followed cards x alone clock (omega (arith, e.few)))
+    (λ x alone clock. c.in_default-run_trace.ensures.causes x alone clock (omega (arith, e.few)))
     c.in_default-run_trace.ensures.begun c.print_outcome.ensures.ok c.print_outcome.ensures.err c.print_outcome.ensures.cause

@@ -1,4 +1,4 @@
-use Rattle.std.proofs.Common.{◌≡◌, ℕ, ◌+◌, ◌-◌, ◌<◌, ◌≤◌, ◌∙◌, Bool, List, [], ◌++◌, length, ap, sym, subst, append_assoc, arith}
+use Rattle.std.proofs.Common.{rules, ◌≡◌, ℕ, ◌+◌, ◌-◌, ◌<◌, ◌≤◌, ◌∙◌, Bool, List, [], ◌++◌, length, refl, ap, sym, subst, append_assoc, arith}
 use Rattle.trace_model.specs.Trace.{TraceSecond, driven}
 use Rattle.trace_model.specs.declared.Action.{Action}
 use Rattle.minute_rules.specs.Kept.{StandsFor}
@@ -13,7 +13,9 @@ use Rattle.recorder.specs.Acting.{between, actions_in, picks_in, refused_in, wit
 use Rattle.recorder.proofs.Acting.{going-picked, late-picked, booked-picked, acted-room}
 use Rattle.recorder.proofs.Beginning.{begun-room}
 use Rattle.recorder.proofs.Items.{room-less}
-use Rattle.recorder.proofs.Stepping.{begun-book, turn-book}
+use Rattle.recorder.proofs.Stepping.{begun-book, turn-book, on-ok}
+use Rattle.recorder.proofs.Turning.{goes-then}
+use Rattle.std.proofs.lemmas.Grind.{common_steps}
 use Rattle.recorder.proofs.Broken.{broke-then}
 use Rattle.recorder.proofs.run.Run.drive.Goals as goal
 
@@ -29,18 +31,30 @@ drive_on-requires-clause-room g c = c.turn.ensures.room (c.args.seconds - 1) 0 0
 pub returns-clause-room : goal.returns-clause-room
 returns-clause-room g c = λ more offs acts h. c.drive_on.ensures.room more offs acts (c.turn.ensures.room (c.args.seconds - 1 + more) offs acts (acted-room c.begin_second.new.self c.act_all.new.self (record c.args.outcome.now { breaks = c.begin_second.new.breaks }) c.act_all.new.refused (c.args.seconds + more) (1 + (c.args.seconds - 1 + more)) offs ((c.args.to - c.args.from)) acts c.act_all.ensures.only (late-picked c.begin_second.new.self c.act_all.new.self (g.M.Medium.state c.begin_second.new.unit) (picks_in (c.in_ok-has_power.has_power && is_lit c.begin_second.new.self.power) (actions_in (between c.args.from c.args.to c.args.items.now))) c.act_all.ensures.only c.act_all.ensures.picked c.in_ok-has_power.ensures.going) c.act_all.ensures.room c.act_all.ensures.few (omega (arith, c.requires.some)) (begun-room c.args.self.now c.begin_second.new.self c.args.outcome.now c.begin_second.new.breaks (c.args.seconds + more) offs ((c.args.to - c.args.from) + acts) (omega (arith, c.requires.some)) c.in_ok-has_power.ensures.next c.in_ok-has_power.ensures.marks c.in_ok-has_power.ensures.room h)))
 
-pub returns-clause-booked : goal.returns-clause-booked
-returns-clause-booked g c = λ s b h told below.
-    let clock = c.drive_on.ensures.goes_on.clock in
-    let begun = (c.in_ok-has_power.ensures.booked s b c.args.outcome.now.marks.items h told).1 in
-    let on = begun-book s c.args.self.now c.begin_second.new.self c.args.outcome.now.breaks.items c.begin_second.new.breaks.items b c.args.outcome.now.marks.items (g.M.Medium.state c.begin_second.new.unit) begun in
-    let acted = booked-picked c.begin_second.new.self c.act_all.new.self (g.M.Medium.state c.begin_second.new.unit) (picks_in (c.in_ok-has_power.has_power && is_lit c.begin_second.new.self.power) (actions_in (between c.args.from c.args.to c.args.items.now))) c.act_all.ensures.only c.act_all.ensures.picked c.in_ok-has_power.ensures.going s on.0 c.args.outcome.now.marks.items on.1 in
-    let turned = turn-book s c.act_all.new.self c.turn.new.self c.begin_second.new.breaks.items c.turn.new.outcome.breaks.items 1 c.args.speed _ on.0 c.args.outcome.now.marks.items c.turn.new.outcome.marks.items (g.M.Medium.state c.turn.new.unit) (c.turn.ensures.booked s on.0 acted (omega (arith, clock, below))) in
-    c.drive_on.ensures.booked s turned.0 turned.1 (c.turn.ensures.goes_on.tells ∙ (c.in_ok-has_power.ensures.goes_on.tells ∙ told)) below
+pub returns-clause-gone : goal.returns-clause-gone
+returns-clause-gone g c =
+    let e = c.drive_on.ensures.gone in
+    record {
+      late = e.late;
+      going = e.going;
+      next = on-ok c.drive_on.result e.next (λ later. let turned = c.turn.ensures.next in let acted = ap (λ (m : Run). m.next) c.act_all.ensures.only in let begun = c.in_ok-has_power.ensures.next in let some = c.requires.some in omega (arith, later, turned, acted, begun, some));
+      unfound = e.unfound;
+      is_unit = e.is_unit;
+      finds = e.finds ∙ c.turn.ensures.finds;
+      goes_on = goes-then (goes-then c.in_ok-has_power.ensures.goes_on c.turn.ensures.goes_on) e.goes_on;
+      broke = broke-then (broke-then c.in_ok-has_power.ensures.broke c.turn.ensures.broke) e.broke;
+      booked = λ s b h told below.
+          let clock = e.goes_on.clock in
+          let begun = (c.in_ok-has_power.ensures.booked s b c.args.outcome.now.marks.items h told).1 in
+          let on = begun-book s c.args.self.now c.begin_second.new.self c.args.outcome.now.breaks.items c.begin_second.new.breaks.items b c.args.outcome.now.marks.items (g.M.Medium.state c.begin_second.new.unit) begun in
+          let acted = booked-picked c.begin_second.new.self c.act_all.new.self (g.M.Medium.state c.begin_second.new.unit) (picks_in (c.in_ok-has_power.has_power && is_lit c.begin_second.new.self.power) (actions_in (between c.args.from c.args.to c.args.items.now))) c.act_all.ensures.only c.act_all.ensures.picked c.in_ok-has_power.ensures.going s on.0 c.args.outcome.now.marks.items on.1 in
+          let turned = turn-book s c.act_all.new.self c.turn.new.self c.begin_second.new.breaks.items c.turn.new.outcome.breaks.items 1 c.args.speed _ on.0 c.args.outcome.now.marks.items c.turn.new.outcome.marks.items (g.M.Medium.state c.turn.new.unit) (c.turn.ensures.booked s on.0 acted (omega (arith, clock, below))) in
+          e.booked s turned.0 turned.1 (c.turn.ensures.goes_on.tells ∙ (c.in_ok-has_power.ensures.goes_on.tells ∙ told)) below;
+    }
 
 pub returns-clause-recorded : goal.returns-clause-recorded
 returns-clause-recorded g c = λ start s origin done r told below are.
-    let clock = c.drive_on.ensures.goes_on.clock in
+    let clock = c.drive_on.ensures.gone.goes_on.clock in
     let next : ℕ = c.args.self.now.next in
     let actions : List Action = actions_in (between c.args.from c.args.to c.args.items.now) in
     let begins = (c.in_ok-has_power.ensures.booked s r.book c.args.outcome.now.marks.items r.booked told).1 in
@@ -63,11 +77,18 @@ returns-clause-recorded g c = λ start s origin done r told below are.
           ∙ ap (λ (ss : List TraceSecond). done ++ ss) (sym (driven-first c.args.seconds next c.args.speed actions c.requires.some))) rest.1,
     )
 
-pub returns-in_err-has_power-clause-booked : goal.returns-in_err-has_power-clause-booked
-returns-in_err-has_power-clause-booked g c = λ s b h told below. absurd (let no = (c.in_err-has_power.ensures.booked s b c.args.outcome.now.marks.items h told).0 in cc)
+pub returns-in_err-has_power-clause-gone : goal.returns-in_err-has_power-clause-gone
+returns-in_err-has_power-clause-gone g c = record {
+  late = first_of (search rules, grind (arith, common_steps));
+  going = first_of (search rules, grind (arith, common_steps));
+  next = first_of (search rules, grind (arith, common_steps));
+  unfound = first_of (search rules, grind (arith, common_steps));
+  is_unit = c.in_err-has_power.ensures.unit;
+  finds = refl;
+  goes_on = c.in_err-has_power.ensures.goes_on;
+  broke = c.in_err-has_power.ensures.broke;
+  booked = λ s b h told below. absurd (let no = (c.in_err-has_power.ensures.booked s b c.args.outcome.now.marks.items h told).0 in cc);
+}
 
 pub returns-in_err-has_power-clause-recorded : goal.returns-in_err-has_power-clause-recorded
 returns-in_err-has_power-clause-recorded g c = λ start s origin done r told below are. absurd (let no = (c.in_err-has_power.ensures.booked s r.book c.args.outcome.now.marks.items r.booked told).0 in cc)
-
-pub returns-clause-broke : goal.returns-clause-broke
-returns-clause-broke g c = broke-then (broke-then c.in_ok-has_power.ensures.broke c.turn.ensures.broke) c.drive_on.ensures.broke

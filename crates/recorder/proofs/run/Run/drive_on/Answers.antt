@@ -1,17 +1,19 @@
-use Rattle.std.proofs.Common.{◌≡◌, ℕ, ◌+◌, ◌-◌, ◌<◌, ◌≤◌, List, [], ◌++◌, ◌∙◌, refl, ap, sym, subst, append_assoc, arith}
+use Rattle.std.proofs.Common.{rules, ◌≡◌, ℕ, ◌+◌, ◌-◌, ◌<◌, ◌≤◌, List, [], ◌++◌, ◌∙◌, refl, ap, sym, subst, append_assoc, arith}
 use Rattle.std.proofs.lemmas.List.{append-nil}
 use Rattle.trace_model.specs.Trace.{TraceSecond, driven}
 use Rattle.recorder.specs.Recorded.{Recorded}
 use Rattle.recorder.proofs.Recording.{plain-parts}
 use Rattle.recorder.specs.Turn.{HasRoom}
 use Rattle.recorder.proofs.Turning.{goes-then, goes-none}
+use Rattle.std.proofs.lemmas.Grind.{common_steps}
 use Rattle.recorder.proofs.Broken.{broke-none, broke-then}
 use Rattle.recorder.proofs.run.Run.drive_on.Goals as goal
 
 pub loop-left-preserved : goal.loop-left-preserved
 loop-left-preserved g c =
     let v = c.loop-left.invariant in
-    let e = c.in_ok-step.ensures in
+    let e = c.in_ok-step.ensures.gone in
+    let room = c.in_ok-step.ensures.room in
     let n : ℕ = c.turn_length-n.result in
     let left : ℕ = c.loop-left.left in
     let most = c.turn_length-n.ensures.most in
@@ -19,8 +21,8 @@ loop-left-preserved g c =
     record {
       going = e.going;
       next = let was = v.next in omega (arith, was, next, most);
-      enough = e.room (left - n) 0 0 (subst (λ (m : ℕ). HasRoom c.loop-left.self c.loop-left.outcome m 0 0) (let is : left ≡ n + (left - n) = omega (arith, most) in is) v.enough);
-      room = λ more offs acts h. e.room (left - n + more) offs acts (subst (λ (m : ℕ). HasRoom c.loop-left.self c.loop-left.outcome m offs acts) (let is : left + more ≡ n + (left - n + more) = omega (arith, most) in is) (v.room more offs acts h));
+      enough = room (left - n) 0 0 (subst (λ (m : ℕ). HasRoom c.loop-left.self c.loop-left.outcome m 0 0) (let is : left ≡ n + (left - n) = omega (arith, most) in is) v.enough);
+      room = λ more offs acts h. room (left - n + more) offs acts (subst (λ (m : ℕ). HasRoom c.loop-left.self c.loop-left.outcome m offs acts) (let is : left + more ≡ n + (left - n + more) = omega (arith, most) in is) (v.room more offs acts h));
       unfound = e.unfound;
       goes_on = goes-then v.goes_on e.goes_on;
       broke = broke-then v.broke e.broke;
@@ -36,7 +38,7 @@ loop-left-preserved g c =
           ∙ ap (λ (m : ℕ). done ++ (driven gone c.args.self.now.next c.args.speed [] ++ driven n m c.args.speed [])) here
           ∙ ap (λ (ss : List TraceSecond). done ++ ss) (sym (plain-parts gone n c.args.self.now.next c.args.speed))
           ∙ ap (λ (m : ℕ). done ++ driven m c.args.self.now.next c.args.speed []) (let same : gone + n ≡ c.args.seconds - (left - n) = let few = v.few in omega (arith, few, most) in same))
-          (e.recorded start s origin (done ++ driven gone c.args.self.now.next c.args.speed []) was (v.goes_on.tells ∙ told) below).1;
+          (c.in_ok-step.ensures.recorded start s origin (done ++ driven gone c.args.self.now.next c.args.speed []) was (v.goes_on.tells ∙ told) below).1;
       booked = λ s b h told below.
           let clock = e.goes_on.clock in
           let was = v.booked s b h told (omega (arith, clock, below)) in
@@ -72,24 +74,44 @@ loop-left-init g c = record {
       (sym (ap (λ (m : ℕ). done ++ driven m c.args.self.now.next c.args.speed []) (let none : c.args.seconds - c.args.seconds ≡ 0 = omega arith in none) ∙ append-nil done)) r;
 }
 
-pub returns-clause-booked : goal.returns-clause-booked
-returns-clause-booked g c = λ s b h told below. (refl, c.loop-left.invariant.booked s b h told below)
-
-pub returns-in_err-step-clause-booked : goal.returns-in_err-step-clause-booked
-returns-in_err-step-clause-booked g c = λ s b h told below.
+pub returns-clause-gone : goal.returns-clause-gone
+returns-clause-gone g c =
     let v = c.loop-left.invariant in
-    let e = c.in_err-step.ensures in
-    let clock = e.goes_on.clock in
-    let was = v.booked s b h told (omega (arith, clock, below)) in
-    absurd (let no = (e.booked s was.0 was.1 (v.goes_on.tells ∙ told) below).0 in cc)
+    record {
+      late = tt;
+      going = v.going;
+      next = let next = v.next in omega (arith, next, c.loop-left-test.false);
+      unfound = v.unfound;
+      is_unit = v.going.is_unit;
+      finds = v.finds;
+      goes_on = v.goes_on;
+      broke = v.broke;
+      booked = λ s b h told below. (refl, v.booked s b h told below);
+    }
+
+pub returns-in_err-step-clause-gone : goal.returns-in_err-step-clause-gone
+returns-in_err-step-clause-gone g c =
+    let v = c.loop-left.invariant in
+    let e = c.in_err-step.ensures.gone in
+    record {
+      late = first_of (search rules, grind (arith, common_steps));
+      going = first_of (search rules, grind (arith, common_steps));
+      next = first_of (search rules, grind (arith, common_steps));
+      unfound = first_of (search rules, grind (arith, common_steps));
+      is_unit = e.is_unit;
+      finds = e.finds ∙ v.finds;
+      goes_on = goes-then v.goes_on e.goes_on;
+      broke = broke-then v.broke e.broke;
+      booked = λ s b h told below.
+          let clock = e.goes_on.clock in
+          let was = v.booked s b h told (omega (arith, clock, below)) in
+          absurd (let no = (e.booked s was.0 was.1 (v.goes_on.tells ∙ told) below).0 in cc);
+    }
 
 pub returns-in_err-step-clause-recorded : goal.returns-in_err-step-clause-recorded
 returns-in_err-step-clause-recorded g c = λ start s origin done r told below.
     let v = c.loop-left.invariant in
-    let e = c.in_err-step.ensures in
+    let e = c.in_err-step.ensures.gone in
     let clock = e.goes_on.clock in
     let was = v.booked s r.book r.booked told (omega (arith, clock, below)) in
     absurd (let no = (e.booked s was.0 was.1 (v.goes_on.tells ∙ told) below).0 in cc)
-
-pub returns-in_err-step-clause-broke : goal.returns-in_err-step-clause-broke
-returns-in_err-step-clause-broke g c = broke-then c.loop-left.invariant.broke c.in_err-step.ensures.broke

@@ -1,4 +1,4 @@
-use Rattle.std.proofs.Common.{◌≡◌, ◌+◌, ◌<◌, List, [], ◌++◌, refl, ap, sym, subst, ◌∙◌, arith}
+use Rattle.std.proofs.Common.{rules, ◌≡◌, ◌+◌, ◌<◌, List, [], ◌++◌, refl, ap, sym, subst, ◌∙◌, arith}
 use Rattle.std.specs.Prelude.{◌&&◌}
 use Rattle.std.proofs.lemmas.List.{append-nil}
 use Rattle.activity_codec.specs.declared.values.Slot.{Slot}
@@ -13,7 +13,9 @@ use Rattle.recorder.proofs.Recording.{stepped}
 use Rattle.recorder.proofs.Courses.{none-last}
 use Rattle.recorder.proofs.Beginning.{begun-room}
 use Rattle.recorder.proofs.Stepping.{begun-book, turn-book}
+use Rattle.std.proofs.lemmas.Grind.{common_steps}
 use Rattle.recorder.proofs.Broken.{broke-then}
+use Rattle.recorder.proofs.Turning.{goes-then}
 use Rattle.recorder.proofs.run.Run.step.Goals as goal
 
 pub turn-requires-clause-room : goal.turn-requires-clause-room
@@ -24,13 +26,23 @@ pub returns-clause-room : goal.returns-clause-room
 returns-clause-room g c = λ left offs acts h. c.turn.ensures.room left offs acts
     (begun-room c.args.self.now c.begin_second.new.self c.args.outcome.now c.begin_second.new.breaks (c.args.n + left) offs acts (omega (arith, c.requires.some)) c.in_ok-begin_second.ensures.next c.in_ok-begin_second.ensures.marks c.in_ok-begin_second.ensures.room h)
 
-pub returns-clause-booked : goal.returns-clause-booked
-returns-clause-booked g c = λ s b h told below.
-    let begun = (c.in_ok-begin_second.ensures.booked s b c.args.outcome.now.marks.items h told).1 in
-    let on = begun-book s c.args.self.now c.begin_second.new.self c.args.outcome.now.breaks.items c.begin_second.new.breaks.items b c.args.outcome.now.marks.items (g.M.Medium.state c.begin_second.new.unit) begun in (
-      refl,
-      turn-book s c.begin_second.new.self c.turn.new.self c.begin_second.new.breaks.items c.turn.new.outcome.breaks.items c.args.n c.args.speed 0 on.0 c.args.outcome.now.marks.items c.turn.new.outcome.marks.items (g.M.Medium.state c.turn.new.unit) (c.turn.ensures.booked s on.0 on.1 below),
-    )
+pub returns-clause-gone : goal.returns-clause-gone
+returns-clause-gone g c = record {
+  late = tt;
+  going = c.turn.ensures.going;
+  next = let turned = c.turn.ensures.next in let begun = c.in_ok-begin_second.ensures.next in omega (arith, turned, begun);
+  unfound = let turned = c.turn.ensures.unfound in let few = c.turn.ensures.breaks in let begun = c.in_ok-begin_second.ensures.unfound in omega (arith, turned, few, begun);
+  is_unit = c.turn.ensures.unit;
+  finds = c.turn.ensures.finds;
+  goes_on = goes-then c.in_ok-begin_second.ensures.goes_on c.turn.ensures.goes_on;
+  broke = broke-then c.in_ok-begin_second.ensures.broke c.turn.ensures.broke;
+  booked = λ s b h told below.
+      let begun = (c.in_ok-begin_second.ensures.booked s b c.args.outcome.now.marks.items h told).1 in
+      let on = begun-book s c.args.self.now c.begin_second.new.self c.args.outcome.now.breaks.items c.begin_second.new.breaks.items b c.args.outcome.now.marks.items (g.M.Medium.state c.begin_second.new.unit) begun in (
+        refl,
+        turn-book s c.begin_second.new.self c.turn.new.self c.begin_second.new.breaks.items c.turn.new.outcome.breaks.items c.args.n c.args.speed 0 on.0 c.args.outcome.now.marks.items c.turn.new.outcome.marks.items (g.M.Medium.state c.turn.new.unit) (c.turn.ensures.booked s on.0 on.1 below),
+      );
+}
 
 pub returns-clause-recorded : goal.returns-clause-recorded
 returns-clause-recorded g c = λ start s origin done r told below.
@@ -45,11 +57,18 @@ returns-clause-recorded g c = λ start s origin done r told below.
           (λ b k. c.turn.ensures.booked s b k below),
     )
 
-pub returns-in_err-begin_second-clause-booked : goal.returns-in_err-begin_second-clause-booked
-returns-in_err-begin_second-clause-booked g c = λ s b h told below. absurd (let no = (c.in_err-begin_second.ensures.booked s b c.args.outcome.now.marks.items h told).0 in cc)
+pub returns-in_err-begin_second-clause-gone : goal.returns-in_err-begin_second-clause-gone
+returns-in_err-begin_second-clause-gone g c = record {
+  late = first_of (search rules, grind (arith, common_steps));
+  going = first_of (search rules, grind (arith, common_steps));
+  next = first_of (search rules, grind (arith, common_steps));
+  unfound = first_of (search rules, grind (arith, common_steps));
+  is_unit = c.in_err-begin_second.ensures.unit;
+  finds = refl;
+  goes_on = c.in_err-begin_second.ensures.goes_on;
+  broke = c.in_err-begin_second.ensures.broke;
+  booked = λ s b h told below. absurd (let no = (c.in_err-begin_second.ensures.booked s b c.args.outcome.now.marks.items h told).0 in cc);
+}
 
 pub returns-in_err-begin_second-clause-recorded : goal.returns-in_err-begin_second-clause-recorded
 returns-in_err-begin_second-clause-recorded g c = λ start s origin done r told below. absurd (let no = (c.in_err-begin_second.ensures.booked s r.book c.args.outcome.now.marks.items r.booked told).0 in cc)
-
-pub returns-clause-broke : goal.returns-clause-broke
-returns-clause-broke g c = broke-then c.in_ok-begin_second.ensures.broke c.turn.ensures.broke

@@ -1,0 +1,27 @@
+-- How a run goes on by some seconds, whatever its unit tells (profile).
+use Rattle.std.specs.Prelude.{◌≡◌, ℕ, ◌+◌, ◌<◌, ◌≤◌, true, Result, IfErr, IsOk, OnOk, length, is_some}
+use Rattle.tach_media.specs.Medium.{State, last_count}
+use Rattle.unit_model.specs.Image.{IsUnit}
+use Rattle.history_model.specs.Book.{Book}
+use Rattle.recorder.specs.declared.opening.RunFault.{RunFault}
+use Rattle.recorder.specs.declared.outcome.Outcome.{Outcome}
+use Rattle.recorder.specs.declared.run.Run.{Run}
+use Rattle.recorder.specs.Opening.{IsFoundLater}
+use Rattle.recorder.specs.Going.{IsGoing}
+use Rattle.recorder.specs.Standing.{Began}
+use Rattle.recorder.specs.Booked.{Booked, GoesOn}
+use Rattle.recorder.specs.Broken.{BreaksDown}
+
+-- A run went on by so many seconds, or a power-on has refused the unit: no failed call does, nor a unit that tells its image.
+pub record HasGone (result : Result (Unit {0}) RunFault) (seconds : ℕ) (old new : Run) (before after : Outcome) (prior unit : State) : Type 0 where
+  pub late : IfErr result IsFoundLater
+  pub going : OnOk result (IsGoing new unit)
+  pub next : OnOk result (new.next ≡ old.next + seconds)
+  pub unfound : OnOk result (new.unfound ≤ length after.breaks.items)
+  pub is_unit : IsUnit unit
+  pub finds : after.finds ≡ before.finds
+  pub goes_on : GoesOn prior unit
+  pub broke : BreaksDown before.breaks.items after.breaks.items prior unit
+  -- where the unit and its marks are as a book says, they are so again, by a book that goes on
+  pub booked : (s : Began) (b : Book) → Booked s old b before.marks.items prior → is_some prior.image ≡ true → unit.clock < last_count
+      → IsOk result × ((c : Book) × Booked s new c after.marks.items unit)
