@@ -1,11 +1,13 @@
 -- What is kept of the calls on the two slots.
-use Rattle.std.specs.Prelude.{◌≡◌, ◌⊎◌, ℕ, ◌+◌, ◌/◌, ◌≤◌, Bool, true, false, Option, Some, None, List, [], ◌∷◌, nat_eq, take}
+use Rattle.std.specs.Prelude.{◌≡◌, ◌⊎◌, ℕ, ◌+◌, ◌/◌, ◌≤◌, ◌<◌, Bool, true, false, Option, Some, None, IfSome, List, [], ◌∷◌, nat_eq, take, All}
 use Rattle.activity_codec.specs.declared.values.Slot.{Slot}
+use Rattle.activity_codec.specs.declared.values.Slot.TheVariants.{Driver, CoDriver}
 use Rattle.trace_model.specs.declared.Card.{Card}
 use Rattle.trace_model.specs.declared.Card.TheVariants.{A, B}
 use Rattle.log_model.specs.Slots.{other_slot}
 use Rattle.slot_machine.specs.declared.seats.Seat.{Seat}
 use Rattle.slot_machine.specs.declared.seats.Ended.{Ended}
+use Rattle.slot_machine.specs.declared.seats.Present.{Present}
 use Rattle.slot_machine.specs.declared.seats.Lefts.{Lefts}
 use Rattle.slot_machine.specs.Calls.{SlotCall, Seats, Table, seat_in, with_seat, is_card, powerless, has_left, ending, table_of}
 
@@ -90,3 +92,26 @@ pub record Holds (kept : Kept) (table : Table) : Type 0 where
 -- this stands for these calls so far
 pub record StandsFor (kept : Kept) (calls : List SlotCall) : Type 0 where
   pub holds : Holds kept (table_of calls)
+
+-- the minute in which a card last left a slot or lost power
+abbrev pub left_of : Lefts → Card → Option ℕ
+left_of left A = left.a
+left_of left B = left.b
+
+-- A card that was present in a slot in a minute, and did not leave since, sits there, and its newest minute at its acceptance was
+-- earlier.
+abbrev pub SitsSince : Kept → Slot → (minute : ℕ) → Option Card → Type 0
+SitsSince kept slot minute None = Unit {0}
+SitsSince kept slot minute (Some card) =
+    IfSome (left_of kept.left card) (λ left. left ≤ minute)
+    → (newest : ℕ) × (seat_in kept.seats slot ≡ Some (record { card = card; newest = Some newest })) × (newest < minute)
+
+-- the cards that were present in a minute sit so
+pub record SitStill (kept : Kept) (minute : ℕ) (present : Present) : Type 0 where
+  pub driver : SitsSince kept Driver minute present.driver
+  pub codriver : SitsSince kept CoDriver minute present.codriver
+
+-- the minutes that are kept are over, and the cards that were present in them sit so
+pub record KnowsNewest (kept : Kept) : Type 0 where
+  pub over : All (λ e. e.minute < kept.minute) kept.past
+  pub sit : All (λ e. SitStill kept e.minute e.present) kept.past

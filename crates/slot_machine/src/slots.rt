@@ -4,7 +4,7 @@ ghost use Rattle.std.specs.Result.{result_err};
 ghost use Rattle.trace_model.specs.declared.Action.TheVariants.{Insert, Withdraw, Tear, Place};
 ghost use Rattle.log_model.specs.Slots.{refusal, other_slot};
 ghost use Rattle.slot_machine.specs.Calls.{SlotCall, Put, Take, CutAt, EndMinute, seat_in, with_seat, card_in, is_card, has_accepted, powerless, logged, ending, ended_in, present_in, present_by};
-ghost use Rattle.slot_machine.specs.Kept.{Kept, StandsFor, IsFree, left_in, with_left, put_in, taken, cut_off, minute_ended, nothing_yet};
+ghost use Rattle.slot_machine.specs.Kept.{Kept, StandsFor, KnowsNewest, SitStill, IsFree, left_in, with_left, put_in, taken, cut_off, minute_ended, nothing_yet};
 
 use crate::seats::{Ended, Lefts, Present, Seat, is_same};
 use activity_codec::Slot;
@@ -44,6 +44,7 @@ impl Slots {
     pub fn new() -> Self
         ensures stands { StandsFor result [] }
         ensures kept { result ≡ nothing_yet }
+        ensures newest { KnowsNewest result }
     {
         Slots {
             minute: 0,
@@ -119,6 +120,7 @@ impl Slots {
         requires free { IsFree self.old.seats slot card }
         ensures stands { (calls : List SlotCall) → StandsFor self.old calls → StandsFor self.new (calls ++ Put slot card newest_minute ∷ []) }
         ensures kept { self.new ≡ put_in slot card newest_minute self.old }
+        ensures newest { KnowsNewest self.old → KnowsNewest self.new }
     {
         let seat = Seat {
             card,
@@ -135,6 +137,7 @@ impl Slots {
         requires minute { self.old.minute ≤ second / 60 }
         ensures stands { (calls : List SlotCall) → StandsFor self.old calls → StandsFor self.new (calls ++ Take slot second ∷ []) }
         ensures kept { self.new ≡ taken slot second self.old }
+        ensures newest { KnowsNewest self.old → KnowsNewest self.new }
     {
         self.leave(self.seat(slot), second / 60);
         self.set_seat(slot, None);
@@ -147,6 +150,7 @@ impl Slots {
         requires minute { self.old.minute ≤ second / 60 }
         ensures stands { (calls : List SlotCall) → StandsFor self.old calls → StandsFor self.new (calls ++ CutAt second ∷ []) }
         ensures kept { self.new ≡ cut_off second self.old }
+        ensures newest { KnowsNewest self.old → KnowsNewest self.new }
     {
         let driver = self.seat(Slot::Driver);
         let codriver = self.seat(Slot::CoDriver);
@@ -163,15 +167,18 @@ impl Slots {
         requires minute { self.old.minute ≤ minute }
         ensures stands { (calls : List SlotCall) → StandsFor self.old calls → StandsFor self.new (calls ++ EndMinute minute ∷ []) }
         ensures kept { self.new ≡ minute_ended minute self.old }
+        ensures newest { KnowsNewest self.old → KnowsNewest self.new }
     {
         self.remember(self.ending(minute));
     }
 
-    /// The cards that were present in a minute, one of the last four that ended.
+    /// The cards that were present in a minute, one of the last four that ended. A card among them that did not leave since
+    /// sits in its slot still, and told an earlier minute as its newest one at its acceptance.
     pub fn present(&self, minute: u32) -> Present
         requires ended { is_some (present_in self.now.past minute) ≡ true }
         ensures present { (calls : List SlotCall) → StandsFor self.now calls → Some result ≡ present_by calls minute }
         ensures kept { Some result ≡ present_in self.now.past minute }
+        ensures newest { KnowsNewest self.now → SitStill self.now minute result }
     {
         self.kept_present(minute)
     }

@@ -1,7 +1,11 @@
 use Rattle.std.proofs.Common.{rules, []}
 use Rattle.slot_machine.specs.Kept.{nothing_yet}
 use Rattle.slot_machine.proofs.Calling.{by-value, new-stands}
+use Rattle.slot_machine.proofs.Newest.{knows-by-value, new-knows}
 use Rattle.slot_machine.proofs.slots.Slots.new.Goals as goal
 
 pub returns-clause-stands : goal.returns-clause-stands
 returns-clause-stands c = by-value _ nothing_yet [] new-stands (search rules)
+
+pub returns-clause-newest : goal.returns-clause-newest
+returns-clause-newest c = knows-by-value _ nothing_yet new-knows (search rules)
