@@ -14,23 +14,23 @@ use Rattle.event_model.specs.Kept.{stored, on_day, best_of, KeepsDays}
 use Rattle.event_model.proofs.Retaining.{by_test, all-front, all-back, Split, split-at, and-first, and-second, or-second, Later, all-later, any-found, none-earliest, stored-one, stored-none, stored-all, stored-most, stored-append}
 
 -- an event of another day
-abbrev Other : ℕ → Held → Type 0
+abbrev pub Other : ℕ → Held → Type 0
 Other day h = h.begin / 86400 ≡ day → ⊥
 
-on-append : (day : ℕ) (xs ys : List Held) → on_day day (xs ++ ys) ≡ on_day day xs ++ on_day day ys
+pub on-append : (day : ℕ) (xs ys : List Held) → on_day day (xs ++ ys) ≡ on_day day xs ++ on_day day ys
 on-append day xs ys = filter-append (λ (h : Held). h.begin / 86400 == day) xs ys
 
-on-here : (day : ℕ) (h : Held) (xs : List Held) → h.begin / 86400 ≡ day → on_day day (h ∷ xs) ≡ h ∷ on_day day xs
+pub on-here : (day : ℕ) (h : Held) (xs : List Held) → h.begin / 86400 ≡ day → on_day day (h ∷ xs) ≡ h ∷ on_day day xs
 on-here day h xs is = rw (eq-eqb (h.begin / 86400) day is) refl
 
-on-off : (day : ℕ) (h : Held) (xs : List Held) → Other day h → on_day day (h ∷ xs) ≡ on_day day xs
+pub on-off : (day : ℕ) (h : Held) (xs : List Held) → Other day h → on_day day (h ∷ xs) ≡ on_day day xs
 on-off day h xs other = rw (ne_eqb (h.begin / 86400) day other) refl
 
 on-none : (day : ℕ) (xs : List Held) → All (Other day) xs → on_day day xs ≡ []
 on-none day [] each = refl
 on-none day (x ∷ xs) each = on-off day x xs (All-head (Other day) x xs each) ∙ on-none day xs (All-tail (Other day) x xs each)
 
-none-on : (day : ℕ) (xs : List Held) → on_day day xs ≡ [] → All (Other day) xs
+pub none-on : (day : ℕ) (xs : List Held) → on_day day xs ≡ [] → All (Other day) xs
 none-on day [] none = All-nil (Other day)
 none-on day (x ∷ xs) none =
     by_test (x.begin / 86400 == day)
@@ -164,14 +164,14 @@ any-swap : (q : Held → Bool) (sb sa : List Held) (x e : Held) → q x ≡ q e 
 any-swap q [] sa x e is = rw is refl
 any-swap q (y ∷ sb) sa x e is = ap (λ (b : Bool). q y || b) (any-swap q sb sa x e is)
 
-any-none : (day : ℕ) (xs : List Held) → All (Other day) xs → list_any (λ h. h.begin / 86400 == day) xs ≡ true → ⊥
+pub any-none : (day : ℕ) (xs : List Held) → All (Other day) xs → list_any (λ h. h.begin / 86400 == day) xs ≡ true → ⊥
 any-none day [] each is = cc
 any-none day (x ∷ xs) each is =
     let at : list_any (λ h. h.begin / 86400 == day) xs ≡ true = rw (ne_eqb (x.begin / 86400) day (All-head (Other day) x xs each)) at is in
     any-none day xs (All-tail (Other day) x xs each) at
 
 -- what passes no test is nowhere
-position-none : (q : Held → Bool) (xs : List Held) → position q xs ≡ None → All (λ x. q x ≡ false) xs
+pub position-none : (q : Held → Bool) (xs : List Held) → position q xs ≡ None → All (λ x. q x ≡ false) xs
 position-none q xs is = go xs (by_test (list_any q xs) (λ passed. absurd (let found = lt-ltb (position_or_len q xs) (length xs) (any-found q xs passed) in let failed = rw found at is in cc)) (λ failed. failed))
   where
     go : (xs : List Held) → list_any q xs ≡ false → All (λ x. q x ≡ false) xs

@@ -4,3 +4,4 @@ pub mod Spans
 pub mod Places
 pub mod Kept
 pub mod Events
+pub mod Counted

@@ -12,4 +12,8 @@ pub use kinds::{
     INSERTION_WHILE_DRIVING, OVER_SPEEDING, POWER_INTERRUPTION, Purpose, SESSION_NOT_CLOSED,
     TIME_OVERLAP,
 };
-pub use laws::{the_best_of_the_last_days_are_kept, the_most_recent_are_kept};
+pub use laws::{
+    similar_events_of_a_day_are_counted, the_best_of_the_last_days_are_kept,
+    the_best_of_the_last_days_of_a_run_are_kept, the_most_recent_are_kept,
+    the_most_recent_of_a_run_are_kept,
+};
