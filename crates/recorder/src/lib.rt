@@ -8,6 +8,8 @@ mod opening;
 mod outcome;
 mod power;
 mod run;
+#[cfg(test)]
+mod tests;
 mod turn;
 
 pub use lines::Lines;

@@ -1,0 +1,318 @@
+ghost use Rattle.std.specs.Prelude.{IfOk, ◌≡◌, ◌+◌, ◌*◌, ◌<◌, ◌^◌};
+ghost use Rattle.tach_media.specs.MemMedium.{memory_state};
+ghost use Rattle.unit_model.specs.Image.{IsUnit};
+
+use crate::lines::Lines;
+use crate::opening::{RunFault, load};
+use crate::outcome::Outcome;
+use crate::run::{is_for_unit, run_trace};
+use log_model::{Break, Mark, Refused, SlotFault};
+use std::alloc::{AllocError, Global};
+use std::process::Abort;
+use std::rt::HostRuntime;
+use std::test::Fail;
+use tach_media::{AbsentChip, Left, Medium, MemMedium, MemSource, Memory, Stop};
+use tacho_types::TimeReal;
+use trace_text::{Form, TraceFault, read_trace};
+use unit_journal::Journal;
+use unit_model::layout::IMAGE_SIZE;
+
+/// 2010-03-01 00:00, and its minute.
+const T0: u32 = 1267401600;
+
+const M0: u32 = 21123360;
+
+/// A unit with this image, with room for so many writes, whose calls stop so.
+fn unit_with(
+    alloc: Global,
+    image: Vec<u8>,
+    writes: u32,
+    stops: Vec<Stop>,
+) -> Result<MemMedium, Memory>
+    ensures { IfOk result (λ unit. IsUnit (memory_state unit.log unit.counts)) }
+{
+    if image.len() != IMAGE_SIZE as usize {
+        return Err(Memory);
+    }
+    MemMedium::new(alloc, image, writes, 40000000, stops)
+}
+
+/// The image of a new unit.
+fn new_image(alloc: Global) -> Result<Vec<u8>, AllocError> {
+    let mut image = vec![in alloc; 0u8; IMAGE_SIZE as usize]?;
+    if image.len() > 3 {
+        image[3] = 1;
+    }
+    Ok(image)
+}
+
+/// A new unit, whose calls stop so.
+fn new_unit(alloc: Global, stops: Vec<Stop>) -> Result<MemMedium, Memory>
+    ensures { IfOk result (λ unit. IsUnit (memory_state unit.log unit.counts)) }
+{
+    unit_with(alloc, new_image(alloc)?, 400000, stops)
+}
+
+/// Records a trace, which has no line for a card, on a unit.
+fn record<U: Medium>(
+    alloc: Global,
+    text: &[u8],
+    unit: &mut U,
+) -> Result<(Result<(), RunFault>, Outcome), Fail>
+    requires { IsUnit (U.state unit.old) }
+    ensures { IsUnit (U.state unit.new) }
+{
+    let mut source = MemSource::new(text.to_vec(alloc)?, Vec::new(alloc));
+    let trace = match read_trace(alloc, &mut source, Form::Whole) {
+        Ok(trace) => trace,
+        Err(fault) => return Err(Fail::from(fault)),
+    };
+    if !is_for_unit(&trace.items) {
+        return Err(Fail::from(TraceFault::BadLine(0)));
+    }
+    let mut outcome = Outcome::reserve(alloc, &trace)?;
+    let mut card_a = AbsentChip::new(24959);
+    let mut card_b = AbsentChip::new(24959);
+    let ended = run_trace(&trace, unit, &mut card_a, &mut card_b, &mut outcome);
+    Ok((ended, outcome))
+}
+
+/// What a unit that works again holds: the last-kept minute, the odometer, and the words of the day of a second.
+#[derive(Drop)]
+struct Held {
+    kept: u32,
+    odometer: u32,
+    words: Vec<u16>,
+}
+
+fn what_is_held<U: Medium>(alloc: Global, unit: &mut U, second: u32) -> Result<Held, Fail> {
+    if unit.size() != IMAGE_SIZE {
+        return Err(Fail::from("no unit"));
+    }
+    let Ok(journal) = load(unit) else {
+        return Err(Fail::from("not loaded"));
+    };
+    let words = words_on(alloc, &journal, unit, second)?;
+    Ok(Held {
+        kept: journal.last_kept(),
+        odometer: journal.odometer().0,
+        words,
+    })
+}
+
+/// The words of the day of a second.
+fn words_on<U: Medium>(
+    alloc: Global,
+    journal: &Journal,
+    unit: &mut U,
+    second: u32,
+) -> Result<Vec<u16>, Fail> {
+    let mut words = Vec::new(alloc);
+    if unit.size() != IMAGE_SIZE {
+        return Err(Fail::from("no unit"));
+    }
+    if let Some(day) = journal.find(unit, TimeReal(second / 86400 * 86400))? {
+        for index in 0..day.words {
+            if unit.size() != IMAGE_SIZE {
+                return Err(Fail::from("no unit"));
+            }
+            words.push(journal.word(unit, &day, index)?)?;
+        }
+    }
+    Ok(words)
+}
+
+#[test]
+fn a_drive_is_kept(rt: HostRuntime) -> Result<(), Fail> {
+    let alloc = rt.alloc();
+    let text = b"start 1267401600\nrun 60 0\nrun 3540 50\n";
+    let mut unit = new_unit(alloc, Vec::new(alloc))?;
+    let (ended, outcome) = record(alloc, text, &mut unit)?;
+    assert_eq!(rt; ended, Ok(()));
+    assert_eq!(rt; outcome.marks.len(), 58);
+    assert_eq!(rt; outcome.breaks.len(), 0);
+    assert_eq!(rt; outcome.refused.len(), 0);
+    assert_eq!(rt; outcome.marks.get(57).minute, M0 + 57);
+    let (again, _) = record(alloc, text, &mut unit)?;
+    assert_eq!(rt; again, Err(RunFault::ClockBack(M0 + 57, T0)));
+    let held = what_is_held(alloc, &mut unit, T0)?;
+    assert_eq!(rt; held.kept, M0 + 57);
+    assert_eq!(rt; held.odometer, 47);
+    assert!(rt; held.words.as_slice() == [0x2000u16, 0xA000, 0x3801, 0xA801].as_slice());
+    Ok(())
+}
+
+#[test]
+fn a_gap_stands_as_rest(rt: HostRuntime) -> Result<(), Fail> {
+    let alloc = rt.alloc();
+    let mut unit = new_unit(alloc, Vec::new(alloc))?;
+    let (ended, outcome) = record(
+        alloc,
+        b"start 1267401600\nrun 300 50\noff 600\nrun 300 50",
+        &mut unit,
+    )?;
+    assert_eq!(rt; ended, Ok(()));
+    assert_eq!(rt; outcome.marks.len(), 6);
+    let held = what_is_held(alloc, &mut unit, T0)?;
+    assert_eq!(rt; held.kept, M0 + 17);
+    assert!(rt;
+        held.words.as_slice() == [0x3800u16, 0xA800, 0x2003, 0xA003, 0x380F, 0xA80F].as_slice()
+    );
+    Ok(())
+}
+
+#[test]
+fn an_off_line_at_the_beginning_is_no_cut(rt: HostRuntime) -> Result<(), Fail> {
+    let alloc = rt.alloc();
+    let mut unit = new_unit(alloc, Vec::new(alloc))?;
+    let (ended, outcome) = record(
+        alloc,
+        b"start 1267401600\noff 90\nrun 300 0\noff 7\noff 7",
+        &mut unit,
+    )?;
+    assert_eq!(rt; ended, Ok(()));
+    assert_eq!(rt; outcome.breaks.len(), 1);
+    assert_eq!(rt; outcome.marks.len(), 3);
+    assert_eq!(rt; outcome.marks.get(0).minute, M0 + 1);
+    Ok(())
+}
+
+/// 400 days in one line: the newest 366 days are there.
+#[test]
+fn the_longest_trace_is_kept(rt: HostRuntime) -> Result<(), Fail> {
+    let alloc = rt.alloc();
+    let mut unit = unit_with(alloc, new_image(alloc)?, 4000000, Vec::new(alloc))?;
+    let (ended, outcome) = record(alloc, b"start 1267401600\nrun 34560000 0", &mut unit)?;
+    assert_eq!(rt; ended, Ok(()));
+    assert_eq!(rt; outcome.marks.len(), 575998);
+    let newest = what_is_held(alloc, &mut unit, T0 + 34560000 - 86400)?;
+    assert_eq!(rt; newest.kept, M0 + 575997);
+    assert_eq!(rt; newest.words.len(), 2);
+    let lost = what_is_held(alloc, &mut unit, T0 + 33 * 86400)?;
+    assert_eq!(rt; lost.words.len(), 0);
+    let oldest = what_is_held(alloc, &mut unit, T0 + 34 * 86400)?;
+    assert_eq!(rt; oldest.words.len(), 2);
+    Ok(())
+}
+
+/// How many calls the opening of a run makes.
+fn calls_of_the_opening(alloc: Global) -> Result<u64, Fail> {
+    let mut unit = new_unit(alloc, Vec::new(alloc))?;
+    let _ = record(alloc, b"start 1267401600", &mut unit)?;
+    Ok(unit.calls())
+}
+
+/// So many stops, the first of this call, and each next one of a call so many later, and by so many more each time.
+fn stops(
+    alloc: Global,
+    count: u32,
+    first: u64,
+    mut step: u64,
+    more: u64,
+    left: Left,
+) -> Result<Vec<Stop>, AllocError> {
+    let mut stops = Vec::new(alloc);
+    let mut call = first;
+    for _ in 0..count {
+        stops.push(Stop { call, left })?;
+        call = call.saturating_add(step);
+        step = step.saturating_add(more);
+    }
+    Ok(stops)
+}
+
+/// Whether a cut tells the marks before it, and none behind it: of those in an earlier minute it found the last, or a later one.
+fn is_right(marks: &Lines<Mark>, cut: &Break) -> bool {
+    let Break::Cut {
+        second,
+        kept,
+        failed,
+        ..
+    } = *cut
+    else {
+        return false;
+    };
+    for i in 0..marks.len() {
+        let minute = marks.get(i).minute;
+        if (minute <= kept) != (minute < second / 60) {
+            return false;
+        }
+    }
+    failed
+}
+
+/// Calls of four hours, over a midnight, are cut short in this manner, each of them by a call later behind the power-on before it:
+/// each is told as a cut, each power-on finds what was acknowledged before, and the unit can be recorded on again.
+fn stop_often(rt: &(impl Abort + AllocGlobal), left: Left) -> Result<(), Fail> {
+    let alloc = rt.alloc();
+    let load = calls_of_the_opening(alloc)?;
+    let stops = stops(alloc, 24, load.saturating_add(load), load, 1, left)?;
+    let mut unit = new_unit(alloc, stops)?;
+    let (ended, outcome) = record(
+        alloc,
+        b"start 1267484400\nrun 7200 50\nrun 7200 0",
+        &mut unit,
+    )?;
+    assert_eq!(rt; ended, Ok(()));
+    assert_eq!(rt; outcome.breaks.len(), 24);
+    for i in 0..outcome.breaks.len() {
+        assert!(rt; is_right(&outcome.marks, outcome.breaks.get(i)));
+    }
+    let (again, more) = record(alloc, b"start 1267498800\nrun 300 10", &mut unit)?;
+    assert_eq!(rt; again, Ok(()));
+    assert_eq!(rt; more.marks.len(), 3);
+    Ok(())
+}
+
+#[test]
+fn stops_before_a_write(rt: HostRuntime) -> Result<(), Fail> {
+    stop_often(&rt, Left::Before)
+}
+
+#[test]
+fn stops_after_a_write(rt: HostRuntime) -> Result<(), Fail> {
+    stop_often(&rt, Left::After)
+}
+
+#[test]
+fn torn_writes(rt: HostRuntime) -> Result<(), Fail> {
+    stop_often(&rt, Left::Torn(0x55))
+}
+
+#[test]
+fn a_failing_power_on_is_a_cut(rt: HostRuntime) -> Result<(), Fail> {
+    let alloc = rt.alloc();
+    let first = calls_of_the_opening(alloc)?;
+    let mut unit = new_unit(alloc, stops(alloc, 60, first, 1, 0, Left::Before)?)?;
+    let (ended, outcome) = record(alloc, b"start 1267401600\nrun 3600 0\nrun 300 0", &mut unit)?;
+    assert_eq!(rt; ended, Ok(()));
+    assert_eq!(rt; outcome.breaks.len(), 60);
+    let cut = Break::Cut {
+        second: T0 + 3540,
+        kept: 0,
+        failed: true,
+        begun: 0,
+    };
+    assert_eq!(rt; *outcome.breaks.get(59), cut);
+    assert_eq!(rt; outcome.marks.len(), 3);
+    Ok(())
+}
+
+#[test]
+fn an_action_without_power_is_refused(rt: HostRuntime) -> Result<(), Fail> {
+    let alloc = rt.alloc();
+    let first = calls_of_the_opening(alloc)?;
+    let mut unit = new_unit(alloc, stops(alloc, 1, first, 1, 0, Left::Before)?)?;
+    let text =
+        b"start 1267401600\nselect driver work\nrun 30 0\nselect driver work\nselect driver work\nrun 300 0";
+    let (ended, outcome) = record(alloc, text, &mut unit)?;
+    assert_eq!(rt; ended, Ok(()));
+    assert_eq!(rt; outcome.refused.len(), 2);
+    let refused = Refused {
+        second: T0 + 30,
+        fault: SlotFault::NoPower,
+    };
+    assert_eq!(rt; *outcome.refused.get(1), refused);
+    assert_eq!(rt; outcome.marks.len(), 2);
+    Ok(())
+}
