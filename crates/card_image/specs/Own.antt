@@ -1,11 +1,12 @@
 -- A card's image read by the sizes that it tells itself, and what the stated overwriting leaves of a card's entries.
-use Rattle.std.specs.Prelude.{◌≡◌, ℕ, ◌≤◌, Option, None, List, ◌++◌}
+use Rattle.std.specs.Prelude.{◌≡◌, ℕ, ◌/◌, ◌≤◌, Option, None, List, ◌++◌, Contains}
 use Rattle.activity_codec.specs.declared.entries.Entry.{Entry}
 use Rattle.card_layout.specs.declared.files.Application.{Application}
 use Rattle.card_layout.specs.declared.files.Fid.{Fid}
 use Rattle.card_layout.specs.Application.{application_in, application_of}
 use Rattle.card_retention.specs.Expected.{WordDay, Counted, counted, expected_days}
 use Rattle.card_retention.specs.Entries.{last_entry, newest_word}
+use Rattle.card_retention.specs.Shown.{InDays}
 use Rattle.card_retention.specs.Retains.{CardRetains}
 use Rattle.card_image.specs.Fields.{card_days, card_number, end_mark, session_time}
 use Rattle.card_image.specs.View.{Held, CardView, card_view, counting}
@@ -46,6 +47,11 @@ unfoldable pub days_with : (start : List ℕ) → (next : ℕ) → List Entry �
 days_with start next more =
     expected_days (own_covered start) next (counted (own_covered start) (counted_view (own_view start)) more)
 
+-- Each day at the start up to that of the end mark, from this one on, is one of these: a repair cuts later days only.
+abbrev pub StandsFrom : (start : List ℕ) → (oldest : ℕ) → List WordDay → Type 0
+StandsFrom start oldest days = (d : WordDay) → Contains (own_view start).held.days d →
+    d.day ≤ (own_view start).mark / 1440 → oldest ≤ d.day → InDays d.day days
+
 -- Of these entries, which begin with its own, a card whose image was this at the start keeps all but those of whole days at the old
 -- end, where the next one is not earlier than a minute; the newest of these days, those that are there and 16 bytes together exceed
 -- its string.
@@ -53,7 +59,8 @@ pub record KeepsFrom (start : List ℕ) (from : ℕ) (all : List Entry) (held : 
   pub more : List Entry
   pub begins : all ≡ (own_view start).held.entries ++ more
   pub keeps : (next : ℕ) → from ≤ next →
-      CardRetains (own_sizes start).activity 16 (days_with start next more) all held.days held.entries
+      (r : CardRetains (own_sizes start).activity 16 (days_with start next more) all held.days held.entries)
+      × StandsFrom start r.oldest held.days
 
 -- And where it is late enough, so that behind the last entry its closing word counts.
 abbrev pub KeepsOf : (start : List ℕ) → List Entry → Held → Type 0

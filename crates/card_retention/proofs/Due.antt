@@ -1,11 +1,11 @@
 -- Entries that come next, and are not on the card yet, count as there.
-use Rattle.std.proofs.Common.{◌≡◌, inl, inr, ⊎_elim, ℕ, suc, ◌/◌, ◌<◌, ◌≤◌, Bool, true, false, cond, Option, Some, None, List, [], ◌∷◌, ◌++◌, All, refl, sym, ◌∙◌, ap, subst, arith, append_assoc}
-use Rattle.std.specs.Prelude.{nat_eq, nat_le}
+use Rattle.std.proofs.Common.{◌≡◌, ℕ, suc, ◌/◌, ◌<◌, ◌≤◌, Bool, true, false, cond, Option, Some, None, List, [], ◌∷◌, ◌++◌, All, refl, sym, ◌∙◌, ap, subst, arith, append_assoc}
+use Rattle.std.specs.Prelude.{nat_le}
 use Rattle.std.proofs.lemmas.Bool.Decides.{nat_tests}
 use Rattle.std.proofs.lemmas.List.Elements.{All-head, All-tail}
 use Rattle.activity_codec.specs.declared.entries.Entry.{Entry}
 use Rattle.card_retention.specs.Expected.{WordDay, more, is_newest, goes_on, is_closed, closes, first_words, adds, Counted, with_entry, counted, expected_days}
-use Rattle.card_retention.specs.Shown.{Covers, IsFull, AllBefore, AllFrom, Grows}
+use Rattle.card_retention.specs.Shown.{Covers, IsFull, AllBefore, AllFrom}
 use Rattle.card_retention.specs.Retains.{Rise, entries_from, CardRetains}
 use Rattle.card_retention.proofs.Core.{covers_more, full_more, grows_total}
 use Rattle.card_retention.proofs.Growing.{more_some, append_some, more_back, more_total, more_grows, grows_longer, from_more, from_append}
@@ -160,23 +160,25 @@ from_both o (e ∷ all) due = by (nat_le o (e.minute / 1440)) (from_both o all d
     by false rest = rest
 
 -- WHAT COMES NEXT COUNTS: where a string keeps the rule of these entries with the next one not earlier than the first of the others,
--- which are later and of no earlier day, it keeps that of all with these counted as there.
+-- which are later and of no earlier day, it keeps that of all with these counted as there, from the same day on.
 pub retains_due : (size bytes covered n : ℕ) (c : Counted) (all : List Entry) (e : Entry) (es : List Entry) (days : List WordDay) (shown : List Entry) → Rise (e ∷ es) → AllBefore (suc (e.minute / 1440)) c.days →
-    CardRetains size bytes (expected_days covered e.minute c) all days shown → CardRetains size bytes (expected_days covered n (counted covered c (e ∷ es))) (all ++ e ∷ es) days (shown ++ e ∷ es)
+    (r : CardRetains size bytes (expected_days covered e.minute c) all days shown) → (k : CardRetains size bytes (expected_days covered n (counted covered c (e ∷ es))) (all ++ e ∷ es) days (shown ++ e ∷ es)) × (k.oldest ≡ r.oldest)
 retains_due size bytes covered n c all e es days shown later low r =
     let had : Has size bytes r.oldest (closes covered c.before e.minute c.days) days = record { gone = r.gone; there = r.there; split = r.split; covers = r.covers; full = r.full; some = r.some; low = r.low; high = r.high; none = r.none } in
     let has = has_due size bytes r.oldest covered n days c e es later low had in
-    let from : r.oldest ≤ e.minute / 1440 = from_oldest size bytes r.oldest days (e.minute / 1440) (closes covered c.before e.minute c.days) (before_closed (suc (e.minute / 1440)) covered c.before e.minute c.days low) had in
-    record {
-      gone = has.gone;
-      there = has.there;
-      split = has.split;
-      covers = has.covers;
-      full = has.full;
-      some = has.some;
-      oldest = r.oldest;
-      low = has.low;
-      high = has.high;
-      none = has.none;
-      entries = ap (λ (l : List Entry). l ++ e ∷ es) r.entries ∙ ap (λ (l : List Entry). entries_from r.oldest all ++ l) (sym (from_all r.oldest e es later from)) ∙ sym (from_both r.oldest all (e ∷ es));
-    }
+    let from : r.oldest ≤ e.minute / 1440 = from_oldest size bytes r.oldest days (e.minute / 1440) (closes covered c.before e.minute c.days) (before_closed (suc (e.minute / 1440)) covered c.before e.minute c.days low) had in (
+      record {
+        gone = has.gone;
+        there = has.there;
+        split = has.split;
+        covers = has.covers;
+        full = has.full;
+        some = has.some;
+        oldest = r.oldest;
+        low = has.low;
+        high = has.high;
+        none = has.none;
+        entries = ap (λ (l : List Entry). l ++ e ∷ es) r.entries ∙ ap (λ (l : List Entry). entries_from r.oldest all ++ l) (sym (from_all r.oldest e es later from)) ∙ sym (from_both r.oldest all (e ∷ es));
+      },
+      refl,
+    )

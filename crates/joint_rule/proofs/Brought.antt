@@ -14,12 +14,12 @@ use Rattle.card_image.proofs.Newest.{newest_of_entries}
 use Rattle.history_model.specs.Presence.{CardStart, closed_at, trimmed_by, newest_by}
 use Rattle.joint_rule.specs.Views.{beyond}
 
-last-same : (es : List Entry) → last es ≡ last_entry es
+pub last-same : (es : List Entry) → last es ≡ last_entry es
 last-same [] = refl
 last-same (e ∷ []) = refl
 last-same (e ∷ f ∷ es) = last-same (f ∷ es)
 
-closed-same : (o : Option Entry) → closed_at o ≡ closed_on_card o
+pub closed-same : (o : Option Entry) → closed_at o ≡ closed_on_card o
 closed-same None = refl
 closed-same (Some e) = refl
 

@@ -1,5 +1,5 @@
 -- What is stated of a card's overwriting goes on with what is owed to it.
-use Rattle.std.proofs.Common.{◌≡◌, ℕ, zero, suc, ◌/◌, ◌<◌, ◌≤◌, List, [], ◌∷◌, ◌++◌, All, Bool, true, cond, refl, sym, ◌∙◌, ap, subst, arith, append_assoc, nat_lt}
+use Rattle.std.proofs.Common.{◌≡◌, ℕ, suc, ◌/◌, ◌<◌, ◌≤◌, List, [], ◌∷◌, ◌++◌, All, cond, refl, sym, ◌∙◌, ap, subst, arith, append_assoc, nat_lt}
 use Rattle.std.proofs.lemmas.List.{append-nil}
 use Rattle.std.proofs.lemmas.List.Elements.{All-head, All-weaker}
 use Rattle.activity_codec.specs.declared.entries.Entry.{Entry}
@@ -11,7 +11,7 @@ use Rattle.card_retention.specs.Retains.{Rise, CardRetains}
 use Rattle.card_retention.proofs.Due.{before_counted, counted_then, retains_due}
 use Rattle.card_image.specs.Fields.{card_days, end_mark, session_time}
 use Rattle.card_image.specs.View.{Held, CardView, card_view}
-use Rattle.card_image.specs.Own.{own_sizes, own_view, own_covered, counted_view, days_with, KeepsFrom, KeepsOf}
+use Rattle.card_image.specs.Own.{own_sizes, own_view, own_covered, counted_view, days_with, StandsFrom, KeepsFrom, KeepsOf}
 use Rattle.card_image.proofs.Newest.{counting_before}
 use Rattle.history_model.specs.Presence.{CardStart}
 use Rattle.history_model.proofs.Filters.{all-back}
@@ -36,8 +36,8 @@ module _ (image : List ℕ) where
       record {
         more = kept.more;
         begins = ap (λ (zs : List Entry). start.entries ++ zs) (append-nil more) ∙ kept.begins;
-        keeps = λ n le. subst (λ (zs : List Entry). CardRetains (own_sizes image).activity 16 (days_with image n kept.more) (start.entries ++ zs) x.days (x.entries ++ [])) (sym (append-nil more))
-            (subst (λ (zs : List Entry). CardRetains (own_sizes image).activity 16 (days_with image n kept.more) (start.entries ++ more) x.days zs) (sym (append-nil x.entries)) (kept.keeps n le));
+        keeps = λ n le. subst (λ (zs : List Entry). (r : CardRetains (own_sizes image).activity 16 (days_with image n kept.more) (start.entries ++ zs) x.days (x.entries ++ [])) × StandsFrom image r.oldest x.days) (sym (append-nil more))
+            (subst (λ (zs : List Entry). (r : CardRetains (own_sizes image).activity 16 (days_with image n kept.more) (start.entries ++ more) x.days zs) × StandsFrom image r.oldest x.days) (sym (append-nil x.entries)) (kept.keeps n le));
       },
     )
     owed-entries_count next marked more (e ∷ es) x low had above late rise kept = (
@@ -45,11 +45,10 @@ module _ (image : List ℕ) where
       record {
         more = kept.more ++ e ∷ es;
         begins = whole ∙ ap (λ (zs : List Entry). zs ++ e ∷ es) kept.begins ∙ append_assoc (own_view image).held.entries kept.more (e ∷ es);
-        keeps = λ n le. subst (λ (zs : List Entry). CardRetains (own_sizes image).activity 16 (days_with image n (kept.more ++ e ∷ es)) zs x.days (x.entries ++ e ∷ es)) (sym whole)
-            (subst (λ (days : List WordDay). CardRetains (own_sizes image).activity 16 days ((start.entries ++ more) ++ e ∷ es) x.days (x.entries ++ e ∷ es))
+        keeps = λ n le. subst (λ (zs : List Entry). (r : CardRetains (own_sizes image).activity 16 (days_with image n (kept.more ++ e ∷ es)) zs x.days (x.entries ++ e ∷ es)) × StandsFrom image r.oldest x.days) (sym whole)
+            (subst (λ (days : List WordDay). (r : CardRetains (own_sizes image).activity 16 days ((start.entries ++ more) ++ e ∷ es) x.days (x.entries ++ e ∷ es)) × StandsFrom image r.oldest x.days)
             (sym (days-due n (kept.more ++ e ∷ es) ∙ ap (λ (c : Counted). expected_days (own_covered image) n c) (counted_then (own_covered image) (counted_view (own_view image)) kept.more (e ∷ es))))
-            (retains_due (own_sizes image).activity 16 (own_covered image) n (counted (own_covered image) (counted_view (own_view image)) kept.more) (start.entries ++ more) e es x.days x.entries rise before
-            (subst (λ (days : List WordDay). CardRetains (own_sizes image).activity 16 days (start.entries ++ more) x.days x.entries) (days-due e.minute kept.more) (kept.keeps e.minute (omega arith)))));
+            ((with-due n).0, subst (λ (o : ℕ). StandsFrom image o x.days) (sym (with-due n).1) first.1));
       },
     )
       where
@@ -66,3 +65,10 @@ module _ (image : List ℕ) where
         before : AllBefore (suc (e.minute / 1440)) (counted (own_covered image) (counted_view (own_view image)) kept.more).days
         before = before_counted (suc (e.minute / 1440)) (own_covered image) (counted_view (own_view image)) kept.more
             (days-before e.minute are (omega (arith, mark, low, behind)) (omega (arith, word, All-head (λ (d : Entry). start.word < d.minute) e es late))) each
+
+        first : (r : CardRetains (own_sizes image).activity 16 (expected_days (own_covered image) e.minute (counted (own_covered image) (counted_view (own_view image)) kept.more)) (start.entries ++ more) x.days x.entries) × StandsFrom image r.oldest x.days
+        first = subst (λ (days : List WordDay). (r : CardRetains (own_sizes image).activity 16 days (start.entries ++ more) x.days x.entries) × StandsFrom image r.oldest x.days) (days-due e.minute kept.more) (kept.keeps e.minute (omega arith))
+
+        with-due : (n : ℕ) → (k : CardRetains (own_sizes image).activity 16 (expected_days (own_covered image) n (counted (own_covered image) (counted (own_covered image) (counted_view (own_view image)) kept.more) (e ∷ es))) ((start.entries ++ more) ++ e ∷ es) x.days (x.entries ++ e ∷ es))
+            × (k.oldest ≡ first.0.oldest)
+        with-due n = retains_due (own_sizes image).activity 16 (own_covered image) n (counted (own_covered image) (counted_view (own_view image)) kept.more) (start.entries ++ more) e es x.days x.entries rise before first.0
