@@ -1,0 +1,12 @@
+pub mod Rising
+pub mod Behinds
+pub mod Meeting
+pub mod Checking
+pub mod Copies
+pub mod Slices
+pub mod Walking
+pub mod Places
+pub mod Verdicts
+pub mod Newest
+pub mod Telling
+pub mod Faults
