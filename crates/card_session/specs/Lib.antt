@@ -1,0 +1,6 @@
+pub mod Books
+pub mod Telling
+pub mod Sessions
+pub mod Moments
+pub mod Cards
+pub mod Parts

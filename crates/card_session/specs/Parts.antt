@@ -1,0 +1,134 @@
+-- What the parts of a session's calls do, each after it and at each of its moments.
+use Rattle.std.specs.Prelude.{◌≡◌, ◌≢◌, ◌⊎◌, ℕ, ◌+◌, ◌-◌, ◌*◌, ◌<◌, Bool, false, Option, Some, None, List, [], length, IfSome}
+use Rattle.activity_codec.specs.declared.entries.Entry.{Entry}
+use Rattle.tach_media.specs.Medium.{State, LeavesOnly, HasCause}
+use Rattle.card_records.specs.declared.vehicle.Vehicle.{Vehicle}
+use Rattle.card_model.specs.Days.{Day}
+use Rattle.card_model.specs.Changes.{Remain, OnNewest, TakesWord, IsNext, date_of}
+use Rattle.card_retention.specs.Entries.{newest_word}
+use Rattle.tacho_types.specs.declared.texts.Registration.{Registration}
+use Rattle.cyclic_days.specs.Steps.{IsIdle}
+use Rattle.card_session.specs.Books.{Book, mark_of, with_change, with_new_day, day_words, gap_closed, entered_days, travelled, vehicle_after, with_entry, measured_to, last_used, begun_vehicle, vehicle_counter}
+use Rattle.card_session.specs.Sessions.{Session, KnowsCard, IsOpenBook, EndsStrictly, newest_in, book_of}
+use Rattle.card_session.specs.Moments.{IsBook, IsBeforeGap, IsBeforeWords, IsBeforeUse, IsKeepMoment}
+use Rattle.card_session.specs.Cards.{IsCard}
+
+-- After Ok the image is so related to the one before, and at each moment so. A part may make no call.
+pub record DoesPart (old new : State) (failed : Bool) (S R : List ℕ → List ℕ → Type 0) : Type 0 where
+  pub done : failed ≡ false → IfSome old.image (λ x. IfSome new.image (S x))
+  pub leaves : LeavesOnly old new R
+  pub cause : HasCause old new failed ⊎ ((failed ≡ false) × IsIdle old new)
+
+-- of a card that is known, and whose book is such a one, it makes this book, which then is known
+abbrev pub IsPartDone : (s next : Session) → (Book → Type 0) → (Book → Book) → List ℕ → List ℕ → Type 0
+IsPartDone s next P f x y = KnowsCard s x → P (book_of s.application x) → IsCard s.application (IsBook (f (book_of s.application x))) x y × KnowsCard next y
+
+-- a moment of it
+abbrev pub IsPartMoment : Session → (Book → Type 0) → (Book → List Day → Option Vehicle → Type 0) → List ℕ → List ℕ → Type 0
+IsPartMoment s P Q x c = KnowsCard s x → P (book_of s.application x) → IsCard s.application (Q (book_of s.application x)) x c
+
+-- beside the days nothing that a session keeps has changed
+pub record HasSame (s next : Session) : Type 0 where
+  pub application : next.application ≡ s.application
+  pub vehicles : next.vehicles ≡ s.vehicles
+  pub newest : next.newest ≡ s.newest
+  pub vehicle : next.vehicle ≡ s.vehicle
+  pub registration : next.registration ≡ s.registration
+  pub minute : next.minute ≡ s.minute
+  pub odometer : next.odometer ≡ s.odometer
+
+-- ADD A WORD, where there is one: the newest day takes it
+abbrev pub TakesSome : Option ℕ → Book → Type 0
+TakesSome word b = IfSome word (λ w. OnNewest (TakesWord w) b.days)
+
+abbrev pub with_some : (size : ℕ) → Option ℕ → Book → Book
+with_some size None b = b
+with_some size (Some w) b = record { days = with_change size w b.days; vehicle = b.vehicle }
+
+abbrev pub IsAdding : (size : ℕ) → Option ℕ → Book → List Day → Option Vehicle → Type 0
+IsAdding size None b days vehicle = (days ≡ b.days) × (vehicle ≡ b.vehicle)
+IsAdding size (Some w) b days vehicle = (Remain (size - 2) b.days days ⊎ (days ≡ with_change size w b.days)) × (vehicle ≡ b.vehicle)
+
+-- CLOSE THE GAP before a minute: no word and no mark reaches it
+abbrev pub IsBeforeGapOf : (minute : ℕ) → Book → Type 0
+IsBeforeGapOf minute b = IsOpenBook b × (newest_in b < minute)
+
+abbrev pub with_gap_closed : (size minute : ℕ) → Book → Book
+with_gap_closed size minute b = record { days = gap_closed size (mark_of b) minute b.days; vehicle = b.vehicle }
+
+abbrev pub IsClosingGap : (size minute : ℕ) → Book → List Day → Option Vehicle → Type 0
+IsClosingGap size minute b days vehicle = (IsBeforeGap size (mark_of b) minute b.days days ⊎ (days ≡ gap_closed size (mark_of b) minute b.days)) × (vehicle ≡ b.vehicle)
+
+-- BEGIN THE DAY of an entry
+abbrev pub BeginsDay : Entry → Book → Type 0
+BeginsDay e b = IsNext b.days (date_of e.minute) (day_words e)
+
+abbrev pub with_day : (size : ℕ) → Entry → Book → Book
+with_day size e b = record { days = with_new_day size e b.days; vehicle = b.vehicle }
+
+abbrev pub IsBeforeDay : (size : ℕ) → Entry → Book → List Day → Option Vehicle → Type 0
+IsBeforeDay size e b days vehicle = (Remain (size - (12 + 2 * length (day_words e))) b.days days ⊎ (days ≡ with_new_day size e b.days)) × (vehicle ≡ b.vehicle)
+
+-- AN ENTRY'S WORDS: no word reaches its minute
+abbrev pub IsBeforeEntry : Entry → Book → Type 0
+IsBeforeEntry e b = EndsStrictly b.days × (newest_word b.days < e.minute)
+
+abbrev pub with_words : (size : ℕ) → Entry → Book → Book
+with_words size e b = record { days = entered_days size e b.days; vehicle = b.vehicle }
+
+abbrev pub IsWriting : (size : ℕ) → Entry → Book → List Day → Option Vehicle → Type 0
+IsWriting size e b days vehicle = (IsBeforeWords size e b.days days ⊎ (days ≡ entered_days size e b.days)) × (vehicle ≡ b.vehicle)
+
+-- THE DISTANCE of the newest day
+abbrev pub HasDay : Book → Type 0
+HasDay b = b.days ≢ []
+
+abbrev pub with_more : (km : ℕ) → Book → Book
+with_more km b = record { days = travelled km b.days; vehicle = b.vehicle }
+
+abbrev pub IsTravelling : (km : ℕ) → Book → List Day → Option Vehicle → Type 0
+IsTravelling km b days vehicle = ((days ≡ b.days) ⊎ (days ≡ travelled km b.days)) × (vehicle ≡ b.vehicle)
+
+-- THE USE OF THE VEHICLE
+abbrev pub AnyBook : Book → Type 0
+AnyBook b = Unit {0}
+
+abbrev pub with_use : Registration → (odometer minute : ℕ) → Book → Book
+with_use registration odometer minute b = record { days = b.days; vehicle = Some (vehicle_after registration odometer minute b.vehicle) }
+
+abbrev pub IsUsing : Registration → (odometer minute : ℕ) → Book → List Day → Option Vehicle → Type 0
+IsUsing registration odometer minute b days vehicle =
+    (days ≡ b.days) × (IsBeforeUse registration odometer minute b.vehicle vehicle ⊎ (vehicle ≡ Some (vehicle_after registration odometer minute b.vehicle)))
+
+-- one of its fields: the odometer value at its end, or the last use
+abbrev pub with_measured : (odometer : ℕ) → Book → Book
+with_measured odometer b = record { days = b.days; vehicle = measured_to odometer b.vehicle }
+
+abbrev pub IsSettingOdometer : (odometer : ℕ) → Book → List Day → Option Vehicle → Type 0
+IsSettingOdometer odometer b days vehicle = (days ≡ b.days) × ((vehicle ≡ b.vehicle) ⊎ (vehicle ≡ measured_to odometer b.vehicle))
+
+abbrev pub with_last_use : (seconds : ℕ) → Book → Book
+with_last_use seconds b = record { days = b.days; vehicle = last_used seconds b.vehicle }
+
+abbrev pub IsSettingUse : (seconds : ℕ) → Book → List Day → Option Vehicle → Type 0
+IsSettingUse seconds b days vehicle = (days ≡ b.days) × ((vehicle ≡ b.vehicle) ⊎ (vehicle ≡ last_used seconds b.vehicle))
+
+-- or a new one
+abbrev pub with_new_use : Registration → (odometer minute : ℕ) → Book → Book
+with_new_use registration odometer minute b = record { days = b.days; vehicle = Some (begun_vehicle registration odometer minute (vehicle_counter b.vehicle)) }
+
+abbrev pub IsAddingUse : Registration → (odometer minute : ℕ) → Book → List Day → Option Vehicle → Type 0
+IsAddingUse registration odometer minute b days vehicle =
+    (days ≡ b.days) × ((vehicle ≡ b.vehicle) ⊎ (vehicle ≡ Some (begun_vehicle registration odometer minute (vehicle_counter b.vehicle))))
+
+-- beside the newest vehicle entry nothing that a session keeps has changed
+pub record SameButVehicle (s t : Session) : Type 0 where
+  pub application : t.application ≡ s.application
+  pub days : t.days ≡ s.days
+  pub registration : t.registration ≡ s.registration
+  pub minute : t.minute ≡ s.minute
+  pub odometer : t.odometer ≡ s.odometer
+
+-- AN ENTRY, whole
+abbrev pub entered : (size : ℕ) → Registration → (odometer more : ℕ) → Entry → Book → Book
+entered size registration odometer more e b = with_entry size registration odometer more b e
