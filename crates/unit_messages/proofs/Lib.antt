@@ -1,0 +1,5 @@
+mod Cutting
+mod Days
+mod Overviews
+mod Fronts
+mod Pieces

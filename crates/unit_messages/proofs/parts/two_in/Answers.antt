@@ -1,0 +1,6 @@
+use Rattle.std.proofs.Common.{◌∙◌, sym}
+use Rattle.byte_fields.proofs.Spelled.{number_two_bytes}
+use Rattle.unit_messages.proofs.parts.two_in.Goals as goal
+
+pub returns : goal.returns
+returns c = c.from_be_bytes.ensures ∙ sym (number_two_bytes c.args.bytes.now c.args.place)

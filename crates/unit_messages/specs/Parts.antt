@@ -1,0 +1,91 @@
+-- The parts of which messages are made, one after the other, and where bytes are read as them.
+use Rattle.std.specs.Prelude.{◌≡◌, ℕ, ◌+◌, ◌-◌, ◌*◌, ◌%◌, ◌<◌, ◌≤◌, ◌^◌, ◌==◌, ◌&&◌, nat_le, nat_lt, Bool, List, [], ◌∷◌, ◌++◌, length, map, slice_index, Option, Some, None, option_and_then, if◌then◌else◌}
+use Rattle.std.specs.List.{list_all}
+use Rattle.byte_fields.specs.Images.{number_at}
+use Rattle.unit_model.specs.Days.{word_minute}
+use Rattle.unit_model.specs.Image.{words_at}
+use Rattle.link_model.specs.declared.request.Request.{Request}
+use Rattle.link_model.specs.declared.request.Request.TheVariants.{Overview as AskOverview, Day as AskDay, Events as AskEvents, Speed as AskSpeed, Technical as AskTechnical}
+use Rattle.message_model.specs.Messages.{counted, AreEntries}
+use Rattle.unit_messages.specs.declared.parts.Part.{Part}
+use Rattle.unit_messages.specs.declared.parts.Part.TheVariants.{Field, Few, Many}
+use Rattle.unit_messages.specs.declared.parts.TheConstants.{SERVICE, OVERVIEW_PARTS, DAY_PARTS, EVENT_PARTS, SPEED_PARTS, TECHNICAL_PARTS}
+use Rattle.unit_messages.specs.declared.reading.MessageRead.{MessageRead}
+
+-- entries of one size behind their count
+abbrev pub AreCounted : (width size : ℕ) → List ℕ → Type 0
+AreCounted width size bytes = (entries : List (List ℕ)) × AreEntries width size entries × (bytes ≡ counted width entries)
+
+-- the bytes of a part
+abbrev pub IsPart : Part → List ℕ → Type 0
+IsPart (Field n) bytes = length bytes ≡ n
+IsPart (Few size) bytes = AreCounted 1 size bytes
+IsPart (Many size) bytes = AreCounted 2 size bytes
+
+-- how many bytes a part has at most
+abbrev pub most : Part → ℕ
+most (Field n) = n
+most (Few size) = 1 + 256 * size
+most (Many size) = 2 + 65536 * size
+
+abbrev pub most_of : List Part → ℕ
+most_of [] = 0
+most_of (part ∷ parts) = most part + most_of parts
+
+-- parts, each by its bytes
+abbrev pub AreParts : List Part → List (List ℕ) → Type 0
+AreParts [] fields = fields ≡ []
+AreParts (part ∷ parts) [] = ⊥
+AreParts (part ∷ parts) (field ∷ fields) = IsPart part field × AreParts parts fields
+
+-- an end that lies inside the bytes
+abbrev pub within : List ℕ → ℕ → Option ℕ
+within bytes end = if nat_le end (length bytes) then Some end else None
+
+-- where entries end whose count stands at a place
+abbrev pub counted_end : List ℕ → (at width size : ℕ) → Option ℕ
+counted_end bytes at width size =
+    if nat_le (at + width) (length bytes) then within bytes (at + width + number_at bytes at width * size) else None
+
+-- where a part ends that begins at a place; None where the bytes end before it
+abbrev pub part_end : List ℕ → ℕ → Part → Option ℕ
+part_end bytes at (Field n) = within bytes (at + n)
+part_end bytes at (Few size) = counted_end bytes at 1 size
+part_end bytes at (Many size) = counted_end bytes at 2 size
+
+abbrev pub parts_end : List ℕ → List Part → ℕ → Option ℕ
+parts_end bytes [] at = Some at
+parts_end bytes (part ∷ parts) at = option_and_then (parts_end bytes parts) (part_end bytes at part)
+
+-- a message at the front: where its parts end
+abbrev pub read_as : Request → Option ℕ → Option MessageRead
+read_as request None = None
+read_as request (Some end) = Some (record { request = request; len = end })
+
+-- the place of a day's first word, behind its insertions and the words' count
+abbrev pub words_place : List ℕ → ℕ
+words_place bytes = 13 + 129 * number_at bytes 9 2
+
+abbrev pub word_count : List ℕ → ℕ
+word_count bytes = number_at bytes (words_place bytes - 2) 2
+
+-- each word is below 1440
+abbrev pub are_words : List ℕ → Bool
+are_words words = list_all (λ w. nat_lt (word_minute w) 1440) words
+
+-- a day is a day's first second, and each of its words stands in it
+abbrev pub day_at_front : List ℕ → Option ℕ → Option MessageRead
+day_at_front bytes None = None
+day_at_front bytes (Some end) =
+    if number_at bytes 2 4 % 86400 == 0 && are_words (words_at bytes (words_place bytes) (word_count bytes))
+    then read_as (AskDay (number_at bytes 2 4)) (Some end) else None
+
+abbrev pub numbered_at_front : List ℕ → ℕ → Option MessageRead
+numbered_at_front bytes number =
+    if number == 1 then read_as AskOverview (parts_end bytes OVERVIEW_PARTS 2) else if number == 2 then day_at_front bytes (parts_end bytes DAY_PARTS 2)
+    else if number == 3 then read_as AskEvents (parts_end bytes EVENT_PARTS 2) else if number == 4 then read_as AskSpeed (parts_end bytes SPEED_PARTS 2)
+    else if number == 5 then read_as AskTechnical (parts_end bytes TECHNICAL_PARTS 2) else None
+
+-- what is read at the front of bytes
+abbrev pub at_front : List ℕ → Option MessageRead
+at_front bytes = if nat_le 2 (length bytes) && slice_index bytes 0 == SERVICE then numbered_at_front bytes (slice_index bytes 1) else None
