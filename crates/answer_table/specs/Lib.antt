@@ -1,0 +1,4 @@
+pub mod Steps
+pub mod Asking
+pub mod Sending
+pub mod Running

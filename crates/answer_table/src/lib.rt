@@ -1,0 +1,19 @@
+//! The table of answers of a unit on the link (Annex IB, Appendix 7), as plain work on values: what a session does about a
+//! frame, and what it sends of a message of which a part was read. No unit is asked here, and nothing takes memory from the
+//! heap.
+#![tactic(auto)]
+
+mod laws;
+mod sending;
+mod standing;
+mod step;
+mod table;
+
+pub use laws::{a_fresh_line_answers_by_the_table, a_line_goes_on, a_run_goes_on};
+pub use sending::{MOST, Reply, begun, place_of, sent_on};
+pub use standing::Standing;
+pub use step::Step;
+pub use table::step_of;
+
+#[cfg(test)]
+mod tests;
