@@ -1,3 +1,4 @@
 pub mod Pieces
 pub mod Checking
 pub mod Runs
+pub mod Parts

@@ -9,7 +9,9 @@ mod standing;
 mod step;
 mod table;
 
-pub use laws::{a_fresh_line_answers_by_the_table, a_line_goes_on, a_run_goes_on};
+pub use laws::{
+    a_fresh_line_answers_by_the_table, a_line_goes_on, a_part_is_of_some_message, a_run_goes_on,
+};
 pub use sending::{MOST, Reply, begun, place_of, sent_on};
 pub use standing::Standing;
 pub use step::Step;
