@@ -1,7 +1,37 @@
--- Messages in pieces: where a piece stands.
-use Rattle.std.specs.Prelude.{ℕ, ◌-◌, ◌*◌, ◌==◌, ◌||◌, nat_lt, min, Option, Some, None, if◌then◌else◌}
+-- Messages in pieces: where a piece stands, and pieces that are joined.
+use Rattle.std.specs.Prelude.{◌≡◌, ◌≢◌, ℕ, ◌+◌, ◌-◌, ◌*◌, ◌%◌, ◌≤◌, ◌==◌, ◌||◌, nat_lt, min, List, [], ◌∷◌, ◌++◌, length, take, drop, fold, Option, Some, None, if◌then◌else◌}
+use Rattle.byte_fields.specs.Images.{number_at}
+use Rattle.unit_messages.specs.declared.joining.JoinFault.{JoinFault}
+use Rattle.unit_messages.specs.declared.joining.JoinFault.TheVariants.{Broken, Memory}
 
 -- where the piece of a counter stands in so many bytes, and how many it has
 abbrev pub piece_range : (len counter : ℕ) → Option (ℕ × ℕ)
 piece_range len counter =
     if counter == 0 || nat_lt len (251 * (counter - 1)) then None else Some (251 * (counter - 1), min (len - 251 * (counter - 1)) 251)
+
+-- how many pieces were joined, as a counter of two bytes, the bytes, and for how many there is room
+pub record Joined : Type 0 where
+  pub pieces : ℕ
+  pub bytes : List ℕ
+  pub room : ℕ
+
+-- the counter of the next piece
+abbrev pub wanted : Joined → ℕ
+wanted j = (j.pieces + 1) % 65536
+
+-- the counter of a piece stands behind 76 and the number
+abbrev pub counter_in : List ℕ → ℕ
+counter_in piece = number_at piece 2 2
+
+-- the bytes with a piece more, of which the first gives 76 and the number too
+abbrev pub begun_with : List ℕ → List ℕ → List ℕ
+begun_with [] piece = take 2 piece
+begun_with (b ∷ bytes) piece = b ∷ bytes
+
+abbrev pub with_piece : Joined → List ℕ → List ℕ
+with_piece j piece = begun_with j.bytes piece ++ drop 4 piece
+
+-- a joiner refuses a piece for its counter, or for want of memory
+abbrev pub IsFaultOf : (wanted counter : ℕ) → JoinFault → Type 0
+IsFaultOf wanted counter (Broken w c) = (w ≡ wanted) × (c ≡ counter) × (counter ≢ wanted)
+IsFaultOf wanted counter Memory = counter ≡ wanted
