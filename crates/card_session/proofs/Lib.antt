@@ -3,5 +3,9 @@ pub mod OnCard
 pub mod Following
 pub mod Preparing
 pub mod OnDays
+pub mod OnRing
 pub mod Told
+pub mod Keeping
+pub mod Marks
+pub mod Lasting
 pub mod Rows

@@ -12,19 +12,20 @@ use Rattle.card_records.specs.declared.vehicle.Vehicle.{Vehicle}
 use Rattle.card_model.specs.Days.{Day, total}
 use Rattle.card_model.specs.Changes.{with_newest, with_km}
 use Rattle.card_model.specs.Image.{StringShape, Holds, newest_pointer}
-use Rattle.gated_ring.specs.Ring.{Shape}
+use Rattle.gated_ring.specs.Ring.{Shape, IsNewest}
 use Rattle.cyclic_days.specs.declared.head.Tail.{Tail}
 use Rattle.cyclic_days.specs.Held.{Held, Knows, tail_in}
 use Rattle.card_retention.specs.Expected.{is_newest}
 use Rattle.card_retention.specs.Shown.{sizes, is_open}
-use Rattle.card_image.specs.Fields.{day_string, last_use_of}
-use Rattle.card_session.specs.Books.{Book, mark_of, latest_of, closing_word, entry_word, tells_state, km_after, travelled}
+use Rattle.card_image.specs.Fields.{day_string, vehicle_ring, last_use_of}
+use Rattle.card_session.specs.Books.{Book, mark_of, latest_of, closing_word, entry_word, tells_state, km_after, travelled, goes_on_with}
 use Rattle.card_session.specs.Telling.{gap_word, is_newest_day, entry_change, km_told}
 use Rattle.card_session.specs.Sessions.{Session, IsValue, KnowsCard, book_of}
 use Rattle.card_session.specs.Moments.{IsBook}
 use Rattle.card_session.specs.Cards.{IsCard, days_and_vehicles}
 use Rattle.card_session.specs.Parts.{DoesPart, IsPartDone, IsPartMoment, HasSame, SameButVehicle, TakesSome, with_some, IsAdding, IsBeforeGapOf, with_gap_closed, IsClosingGap, IsBeforeEntry, with_words, IsWriting, BeginsDay, with_day, IsBeforeDay, HasDay, with_more, IsTravelling}
 use Rattle.card_session.proofs.Composing.{part_of, part_none, card_as}
+use Rattle.card_session.proofs.OnCard.{newest_told}
 use Rattle.card_session.proofs.Following.{gap_told, day_told, change_told, km_is}
 use Rattle.card_session.proofs.Preparing.{gap_asks, gap_makes, gap_moments, change_asks, change_makes, change_moments, day_asks, day_makes, day_moments}
 
@@ -140,3 +141,11 @@ module _ (s : Session) (value : IsValue s) (t : Session) where
       days_is x knows =
           ap (λ (n : ℕ). with_newest (with_km n) (Days x)) (is ∙ ap (λ (o : Option Tail). km_after more (km_told o)) (told x (Days x) knows.days))
           ∙ km_is more (newest_pointer s.days.shape x) (total (Days x)) (Days x)
+
+-- ---- the newest vehicle entry
+
+-- it does not go on with a minute, or there is none
+pub not_going : (s : Session) (minute : ℕ) → (s.newest ≡ None) ⊎ (goes_on_with s.registration minute s.vehicle ≡ false) → (x : List ℕ) → KnowsCard s x → goes_on_with s.registration minute (book_of s.application x).vehicle ≡ false
+not_going s minute (inl none) x knows =
+    ap (goes_on_with s.registration minute) (newest_told s.application x None (subst (λ (o : Option ℕ). IsNewest (vehicle_ring s.application) x o) none knows.newest))
+not_going s minute (inr other) x knows = ap (goes_on_with s.registration minute) (sym knows.vehicle) ∙ other

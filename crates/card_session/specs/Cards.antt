@@ -1,19 +1,19 @@
 -- What the calls of a session leave of a card, after them and at each moment.
-use Rattle.std.specs.Prelude.{◌≡◌, ◌⊎◌, ℕ, suc, ◌+◌, ◌-◌, ◌*◌, Option, Some, None, List}
+use Rattle.std.specs.Prelude.{◌≡◌, ◌⊎◌, ℕ, suc, ◌+◌, ◌-◌, ◌*◌, Option, Some, None, List, [], ◌∷◌}
 use Rattle.activity_codec.specs.declared.values.Activity.{Activity}
 use Rattle.activity_codec.specs.declared.entries.Entry.{Entry}
 use Rattle.card_layout.specs.declared.files.Application.{Application}
 use Rattle.card_layout.specs.Files.{place_of}
-use Rattle.tach_media.specs.Medium.{SameOutside}
+use Rattle.tach_media.specs.Medium.{SameOutside, put}
 use Rattle.tacho_types.specs.declared.numbers.Odometer.{Odometer}
 use Rattle.card_records.specs.declared.vehicle.Vehicle.{Vehicle}
 use Rattle.card_model.specs.Days.{Day}
 use Rattle.card_model.specs.Image.{Holds}
 use Rattle.gated_ring.specs.Ring.{PointsInside, size_of as ring_size}
 use Rattle.card_image.specs.Fields.{file, day_string, vehicle_ring}
-use Rattle.card_session.specs.Books.{Book, with_entry}
+use Rattle.card_session.specs.Books.{Book, with_entry, closed}
 use Rattle.card_session.specs.Sessions.{Session, IsSession, book_of}
-use Rattle.card_session.specs.Moments.{IsBook, IsKeepMoment}
+use Rattle.card_session.specs.Moments.{IsBook, IsKeepMoment, IsCloseMoment}
 
 -- how many bytes the days and the vehicle entries have, which stand one after the other
 abbrev pub days_and_vehicles : Application → ℕ
@@ -40,3 +40,17 @@ pub record IsCardKept (s next : Session) (e : Entry) (odometer : ℕ) (x y : Lis
 -- a moment of a keep
 pub record IsCardKeeping (s : Session) (e : Entry) (odometer : ℕ) (x c : List ℕ) : Type 0 where
   pub card : IsCard s.application (IsKeepMoment s.application.activity s.registration odometer (grown s.odometer odometer) e (book_of s.application x)) x c
+
+-- the session time is 0
+abbrev pub ended : Application → List ℕ → List ℕ
+ended app x = put (place_of app (file 0x0507)) (0 ∷ 0 ∷ 0 ∷ 0 ∷ []) x
+
+-- After a withdrawal: the closing word and the end mark at it, where the word is to be written, and behind them the session time.
+pub record IsCardClosed (s : Session) (act : Activity) (x y : List ℕ) : Type 0 where
+  pub before : List ℕ
+  pub card : IsCard s.application (IsBook (closed s.application.activity act (book_of s.application x))) x before
+  pub session : y ≡ ended s.application before
+
+-- a moment of it
+abbrev pub IsCardClosing : Session → Activity → List ℕ → List ℕ → Type 0
+IsCardClosing s act x c = IsCard s.application (IsCloseMoment s.application.activity act (book_of s.application x)) x c ⊎ IsCardClosed s act x c

@@ -1,5 +1,6 @@
 -- The days and the newest vehicle entry at the moments of a session's calls.
 use Rattle.std.specs.Prelude.{◌≡◌, ◌⊎◌, ℕ, suc, ◌+◌, ◌-◌, ◌*◌, ◌/◌, ◌<◌, Bool, true, false, ◌&&◌, Option, Some, None, List, length, if◌then◌else◌}
+use Rattle.activity_codec.specs.declared.values.Activity.{Activity}
 use Rattle.activity_codec.specs.declared.entries.Entry.{Entry}
 use Rattle.tacho_types.specs.declared.texts.Registration.{Registration}
 use Rattle.card_records.specs.declared.vehicle.Vehicle.{Vehicle}
@@ -7,7 +8,7 @@ use Rattle.card_model.specs.Days.{Day}
 use Rattle.card_model.specs.Changes.{Remain}
 use Rattle.card_retention.specs.Expected.{is_newest}
 use Rattle.card_retention.specs.Shown.{sizes, is_open}
-use Rattle.card_session.specs.Books.{Book, mark_of, day_words, tells_state, gap_closed, entered_days, vehicle_after, with_entry, goes_on_with, measured_to}
+use Rattle.card_session.specs.Books.{Book, mark_of, day_words, tells_state, gap_closed, entered_days, vehicle_after, with_entry, goes_on_with, measured_to, closed_days, closed}
 
 -- the days and the newest vehicle are those of a book
 abbrev pub IsBook : Book → List Day → Option Vehicle → Type 0
@@ -46,3 +47,14 @@ IsKeepMoment size registration odometer more e b days vehicle =
     ((vehicle ≡ b.vehicle) × IsBeforeMark size b (with_entry size registration odometer more b e) e days)
     ⊎ ((days ≡ (with_entry size registration odometer more b e).days)
     × (IsBeforeUse registration odometer e.minute b.vehicle vehicle ⊎ (vehicle ≡ (with_entry size registration odometer more b e).vehicle)))
+
+-- ---- a withdrawal
+
+-- A closing word is still to be written, or stands there: of the days no more of the oldest are gone than must be for it.
+abbrev pub IsClosingWord : (size : ℕ) → Activity → Book → List Day → Type 0
+IsClosingWord size act b kept =
+    (kept ≡ b.days) ⊎ ((is_open (mark_of b) b.days ≡ true) × (Remain (size - 2) b.days kept ⊎ (kept ≡ closed_days size (mark_of b) act b.days)))
+
+-- A moment of the closing: the end mark moves once the word stands there.
+abbrev pub IsCloseMoment : (size : ℕ) → Activity → Book → List Day → Option Vehicle → Type 0
+IsCloseMoment size act b days vehicle = ((vehicle ≡ b.vehicle) × IsClosingWord size act b days) ⊎ IsBook (closed size act b) days vehicle

@@ -1,0 +1,63 @@
+-- What a moment of a keep leaves alone on the card, and where its end mark stands.
+use Rattle.std.proofs.Common.{◌≡◌, inl, inr, ⊎_elim, ℕ, ◌+◌, ◌*◌, ◌/◌, ◌≤◌, true, List, length, take, drop, Option, Some, None, option_map, refl, sym, ◌∙◌, ap, subst, arith}
+use Rattle.std.specs.Prelude.{◌⊎◌}
+use Rattle.activity_codec.specs.declared.entries.Entry.{Entry}
+use Rattle.byte_fields.proofs.Images.{part_before, part_after}
+use Rattle.tacho_types.specs.declared.texts.Registration.{Registration}
+use Rattle.tach_media.specs.Medium.{bytes_at}
+use Rattle.card_layout.specs.declared.files.Application.{Application}
+use Rattle.card_layout.specs.Files.{files_of, place_of, size_of}
+use Rattle.card_records.specs.declared.vehicle.Vehicle.{Vehicle}
+use Rattle.card_records.specs.declared.current_use.CurrentUse.{CurrentUse}
+use Rattle.card_records.specs.CurrentUses.{current_use_of}
+use Rattle.card_model.specs.Days.{Day}
+use Rattle.card_image.specs.Fields.{file, file_bytes, day_string, last_use_of, end_mark, current_use, session_time, newest_vehicle}
+use Rattle.card_session.specs.Books.{Book, mark_of, vehicle_after, measured_to, goes_on_with}
+use Rattle.card_session.specs.Sessions.{Session, book_of}
+use Rattle.card_session.specs.Cards.{IsCard, IsCardKeeping, days_and_vehicles, grown}
+use Rattle.card_session.proofs.Preparing.{used_at}
+
+module _ (app : Application) (P : List Day → Option Vehicle → Type 0) (x c : List ℕ) (is : IsCard app P x c) where
+  -- the files before the days, as the sizes and the events, and those behind the vehicle entries, as the places and the current use
+  pub before_days : (place len : ℕ) → place + len ≤ (day_string app).base → bytes_at c place len ≡ bytes_at x place len
+  before_days place len low = part_before (day_string app).base (days_and_vehicles app) place len x c is.outside low
+
+  pub behind_vehicles : (place len : ℕ) → (day_string app).base + days_and_vehicles app ≤ place → bytes_at c place len ≡ bytes_at x place len
+  behind_vehicles place len high = part_after (day_string app).base (days_and_vehicles app) place len x c is.outside high
+
+  -- the events
+  pub events_same : file_bytes app 0x0502 c ≡ file_bytes app 0x0502 x
+  unfolding files_of
+  events_same = before_days (place_of app (file 0x0502)) (size_of app (file 0x0502)) (omega arith)
+
+  -- the current use, and so the session time
+  pub current_same : file_bytes app 0x0507 c ≡ file_bytes app 0x0507 x
+  unfolding files_of
+  current_same = behind_vehicles (place_of app (file 0x0507)) (size_of app (file 0x0507)) (omega arith)
+
+  pub session_same : session_time app c ≡ session_time app x
+  unfolding current_use
+  session_same = ap (λ (l : List ℕ). (current_use_of l).session.0) current_same
+
+-- the end mark is that of the book
+pub mark_told : (app : Application) (x : List ℕ) → end_mark app x ≡ mark_of (book_of app x)
+unfolding book_of
+mark_told app x = refl
+
+measured_mark : (odometer : ℕ) (o : Option Vehicle) → last_use_of (measured_to odometer o) ≡ last_use_of o
+measured_mark odometer None = refl
+measured_mark odometer (Some v) = refl
+
+-- The end mark is the old one, or it is the entry's minute.
+pub keeping_mark : (s : Session) (e : Entry) (odometer : ℕ) (x c : List ℕ) → IsCardKeeping s e odometer x c → (end_mark s.application c ≡ end_mark s.application x) ⊎ (end_mark s.application c ≡ e.minute)
+keeping_mark s e odometer x c keeping =
+    ⊎_elim
+    (λ old. inl (mark_told s.application c ∙ ap (λ (o : Option Vehicle). last_use_of o / 60) old.0 ∙ sym (mark_told s.application x)))
+    (λ new. ⊎_elim
+    (λ before. inl (mark_told s.application c ∙ by (book_of s.application c).vehicle before ∙ sym (mark_told s.application x)))
+    (λ after. inr (mark_told s.application c ∙ ap (λ (o : Option Vehicle). last_use_of o / 60) after ∙ used_at s.registration odometer e.minute (book_of s.application x).vehicle)) new.1)
+    keeping.card.told
+  where
+    by : (now : Option Vehicle) → ((now ≡ (book_of s.application x).vehicle) ⊎ ((goes_on_with s.registration e.minute (book_of s.application x).vehicle ≡ true) × (now ≡ measured_to odometer (book_of s.application x).vehicle))) → last_use_of now / 60 ≡ mark_of (book_of s.application x)
+    by now (inl same) = ap (λ (o : Option Vehicle). last_use_of o / 60) same
+    by now (inr set) = ap (λ (o : Option Vehicle). last_use_of o / 60) set.1 ∙ ap (λ (n : ℕ). n / 60) (measured_mark odometer (book_of s.application x).vehicle)
