@@ -14,3 +14,6 @@ mod words;
 pub use fault::{BadFile, InsertFault};
 pub use files::{Judged, judge_image};
 pub use looking::{CardLook, judge, look};
+
+#[cfg(test)]
+mod tests;

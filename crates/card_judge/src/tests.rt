@@ -1,0 +1,292 @@
+//! Cards of the smallest sizes in memory, judged and looked at.
+ghost use Rattle.std.specs.Prelude.{◌≤◌, ◌<◌, ◌^◌, length, IfSome};
+ghost use Rattle.card_layout.specs.Application.{IsApplication};
+ghost use Rattle.card_layout.specs.Files.{image_size_of};
+ghost use Rattle.card_judge.specs.Judged.{TellsSizes};
+
+use super::*;
+use card_files::{CardIdentity, blank_card, image_size, read_application};
+use card_layout::{Application, Fid};
+use card_records::Vehicle;
+use std::alloc::Global;
+use std::test::Fail;
+use tach_media::{Left, MemMedium, Memory, SliceMedium, Stop};
+use tacho_types::{FullCardNumber, Name36, Nation, Odometer, Registration, TimeReal};
+
+const SMALLEST: Application = Application {
+    structure: 0,
+    events: 6,
+    faults: 12,
+    activity: 5544,
+    vehicles: 84,
+    places: 84,
+};
+
+const IDENTITY: CardIdentity = CardIdentity {
+    state: Nation(13),
+    number: *b"DEMO000000000000",
+    surname: Name36(*b"\x01MUSTERMANN                         "),
+    first: Name36(*b"\x01HEIKE                              "),
+};
+
+/// Where the string of days begins in its image, behind its two pointers; the file of vehicles; that of places; and that
+/// of the current use.
+const STRING: usize = 1487;
+
+const VEHICLES: usize = 7031;
+
+const PLACES: usize = 9637;
+
+const CURRENT_USE: usize = 10478;
+
+/// 2010-03-01 00:00:00 and the midnight after it, and the minutes 599 and 600 of that day.
+const DATE: [u8; 4] = [0x4B, 0x8B, 0x03, 0x80];
+
+const NEXT_DATE: [u8; 4] = [0x4B, 0x8C, 0x55, 0x00];
+
+const AT_599: [u8; 4] = [0x4B, 0x8B, 0x8F, 0xE4];
+
+const AT_600: [u8; 4] = [0x4B, 0x8B, 0x90, 0x20];
+
+// Other bytes at a place, where they fit.
+fn put(image: &mut Vec<u8>, place: usize, bytes: &[u8]) {
+    if place <= image.len() && bytes.len() <= image.len() - place {
+        let room = &mut image[place..place + bytes.len()];
+        room.copy_from_slice(bytes);
+    }
+}
+
+// A card with one day of these words, a vehicle that was used last at this time, and a session that began at this second.
+fn card(alloc: Global, words: &[u8], last_use: &[u8], session: u8) -> Result<Vec<u8>, Memory>
+    requires { length words.now ≤ 8 }
+{
+    let mut image = blank_card(alloc, &IDENTITY, &SMALLEST)?;
+    put(&mut image, STRING + 3, &[12 + words.len() as u8]);
+    put(&mut image, STRING + 4, &DATE);
+    put(&mut image, STRING + 9, &[1]);
+    put(&mut image, STRING + 12, words);
+    put(&mut image, VEHICLES + 8, &DATE);
+    put(&mut image, VEHICLES + 12, last_use);
+    put(&mut image, CURRENT_USE + 3, &[session]);
+    Ok(image)
+}
+
+// The sizes that a card tells, which it has.
+fn sizes_of(image: &[u8]) -> Option<Application>
+    ensures sizes { IfSome result IsApplication }
+    ensures fits { IfSome result (λ app. image_size_of app ≤ length image.now) }
+    ensures told { IfSome result (λ app. TellsSizes app image.now) }
+    ensures short { IfSome result (λ app. length image.now < 2 ^ 32) }
+{
+    if image.len() < 43 || image.len() > 24959 {
+        return None;
+    }
+    match read_application(&image[33..43]) {
+        Ok(app) if image_size(&app) as usize <= image.len() => Some(app),
+        _ => None,
+    }
+}
+
+// Judges a card by the sizes that it tells.
+fn judged(image: &[u8]) -> Result<Judged, InsertFault> {
+    match sizes_of(image) {
+        None => Err(InsertFault::Failed),
+        Some(app) => judge(&mut SliceMedium::new(image), &app),
+    }
+}
+
+// Looks at a card by the sizes that it tells.
+fn seen(image: &[u8]) -> Result<CardLook, InsertFault> {
+    match sizes_of(image) {
+        None => Err(InsertFault::Failed),
+        Some(app) => look(&mut SliceMedium::new(image), &app),
+    }
+}
+
+// Why a card is refused, if it is.
+fn refused(image: &[u8]) -> Option<InsertFault> {
+    judged(image).err()
+}
+
+fn is_blank(judged: &Judged) -> bool {
+    judged.days.tail().is_none()
+        && judged.newest.is_none()
+        && judged.vehicle.is_none()
+        && judged.current.session.0 == 0
+}
+
+#[test]
+fn a_new_card(rt: HostRuntime) -> Result<(), Fail> {
+    let image = blank_card(rt.alloc(), &IDENTITY, &SMALLEST)?;
+    assert!(rt; matches!(&judged(&image), Ok(judged) if is_blank(judged)));
+    let told = CardLook {
+        number: FullCardNumber {
+            kind: 1,
+            state: IDENTITY.state,
+            number: IDENTITY.number,
+        },
+        surname: IDENTITY.surname,
+        first: IDENTITY.first,
+        expiry: TimeReal(1388534399),
+        session: 0,
+        newest_minute: 0,
+        previous: None,
+    };
+    assert!(rt; seen(&image) == Ok(told));
+    Ok(())
+}
+
+// A refusal with a file and a place in it.
+fn not_valid(fid: Fid, place: u32) -> Option<InsertFault> {
+    Some(InsertFault::NotValid { fid, place })
+}
+
+/// A day of no card that works from minute 600 on, with a word more: at that minute again, at the minute after it, and
+/// one later.
+const WORK: [u8; 4] = [0x20, 0x00, 0x12, 0x58];
+
+const AGAIN: [u8; 6] = [0x20, 0x00, 0x12, 0x58, 0x22, 0x58];
+
+const CLOSED: [u8; 6] = [0x20, 0x00, 0x12, 0x58, 0x22, 0x59];
+
+const CLOSED_LATE: [u8; 6] = [0x20, 0x00, 0x12, 0x58, 0x22, 0x5A];
+
+#[test]
+fn the_words_of_a_card(rt: HostRuntime) -> Result<(), Fail> {
+    let alloc = rt.alloc();
+    assert!(rt; refused(&card(alloc, &WORK, &AT_600, 0)?).is_none());
+    assert!(rt; refused(&card(alloc, &CLOSED, &AT_600, 0)?).is_none());
+    assert!(rt; refused(&card(alloc, &WORK, &AT_599, 0)?) == not_valid(Fid::ACTIVITY, 18));
+    assert!(rt; refused(&card(alloc, &CLOSED_LATE, &AT_600, 0)?) == not_valid(Fid::ACTIVITY, 20));
+    assert!(rt; refused(&card(alloc, &AGAIN, &AT_600, 0)?) == not_valid(Fid::ACTIVITY, 20));
+    // a session that is open: words behind the end mark are cut
+    assert!(rt; refused(&card(alloc, &WORK, &AT_599, 1)?).is_none());
+    assert!(rt; refused(&card(alloc, &AGAIN, &AT_600, 1)?) == not_valid(Fid::ACTIVITY, 20));
+    Ok(())
+}
+
+#[test]
+fn the_pointers_of_a_card(rt: HostRuntime) -> Result<(), Fail> {
+    let alloc = rt.alloc();
+    let mut image = card(alloc, &WORK, &AT_600, 0)?;
+    put(&mut image, PLACES, &[84]);
+    assert!(rt; refused(&image) == not_valid(Fid::PLACES, 0));
+    put(&mut image, VEHICLES + 1, &[84]);
+    assert!(rt; refused(&image) == not_valid(Fid::VEHICLES, 0));
+    put(&mut image, STRING - 1, &[1]);
+    assert!(rt; refused(&image) == not_valid(Fid::ACTIVITY, 2));
+    Ok(())
+}
+
+// The newest minute that a card tells.
+fn newest_told(image: &[u8]) -> Option<u32> {
+    match seen(image) {
+        Ok(told) => Some(told.newest_minute),
+        Err(_) => None,
+    }
+}
+
+#[test]
+fn the_newest_minute_of_a_card(rt: HostRuntime) -> Result<(), Fail> {
+    let alloc = rt.alloc();
+    let midnight = 21123360;
+    assert!(rt; newest_told(&card(alloc, &WORK, &AT_600, 0)?) == Some(midnight + 600));
+    assert!(rt; newest_told(&card(alloc, &CLOSED, &AT_600, 0)?) == Some(midnight + 601));
+    assert!(rt; newest_told(&card(alloc, &CLOSED, &AT_599, 1)?) == Some(midnight + 599));
+    Ok(())
+}
+
+#[test]
+fn a_card_with_a_session(rt: HostRuntime) -> Result<(), Fail> {
+    let told = seen(&card(rt.alloc(), &WORK, &AT_600, 7)?);
+    let previous = Vehicle {
+        odometer_begin: Odometer(0),
+        odometer_end: Odometer(0),
+        first_use: TimeReal(1267401600),
+        last_use: TimeReal(1267437600),
+        registration: Registration([0; 15]),
+        counter: [0, 0],
+    };
+    assert!(rt; matches!(told, Ok(told) if told.session == 7 && told.previous == Some(previous)));
+    Ok(())
+}
+
+// The card whose minute 600 is its last, with a second day, the next one, of this word.
+fn two_days(alloc: Global, words: &[u8], word: [u8; 2], session: u8) -> Result<Vec<u8>, Memory>
+    requires { length words.now ≤ 8 }
+{
+    let mut image = card(alloc, words, &AT_600, session)?;
+    let len = 12 + words.len();
+    let second = STRING + len;
+    put(&mut image, STRING - 1, &[len as u8]);
+    put(&mut image, second + 1, &[len as u8]);
+    put(&mut image, second + 3, &[14]);
+    put(&mut image, second + 4, &NEXT_DATE);
+    put(&mut image, second + 9, &[2]);
+    put(&mut image, second + 12, &word);
+    Ok(image)
+}
+
+#[test]
+fn a_day_behind_the_end_mark(rt: HostRuntime) -> Result<(), Fail> {
+    let alloc = rt.alloc();
+    let absent = [0x20, 0x00];
+    let entry = [0x00, 0x00];
+    let midnight = 21123360;
+    let closed = two_days(alloc, &CLOSED, absent, 0)?;
+    assert!(rt; newest_told(&closed) == Some(midnight + 1440));
+    // what is open at the mark is not closed at the minute after it
+    assert!(rt; refused(&two_days(alloc, &WORK, absent, 0)?) == not_valid(Fid::ACTIVITY, 32));
+    assert!(rt; refused(&two_days(alloc, &CLOSED, entry, 0)?) == not_valid(Fid::ACTIVITY, 34));
+    // a session that is open: that day is cut
+    assert!(rt; newest_told(&two_days(alloc, &WORK, entry, 1)?) == Some(midnight + 600));
+    Ok(())
+}
+
+#[test]
+fn a_place_behind_the_end_of_the_string(rt: HostRuntime) -> Result<(), Fail> {
+    let mut image = card(rt.alloc(), &[], &AT_600, 1)?;
+    put(&mut image, STRING, &[0; 16]);
+    // a day of three words that begins 14 bytes before the end, at 5530
+    put(&mut image, STRING - 4, &[0x15, 0x9A, 0x15, 0x9A]);
+    put(&mut image, STRING + 5533, &[18]);
+    put(&mut image, STRING + 5534, &DATE);
+    put(&mut image, STRING + 5539, &[1]);
+    put(&mut image, STRING + 5542, &[0x20, 0x00]);
+    put(&mut image, STRING, &[0x12, 0x58, 0x22, 0x58]);
+    assert!(rt; refused(&image) == not_valid(Fid::ACTIVITY, 6));
+    Ok(())
+}
+
+// Looks at a card whose call of this number fails, counted from 0.
+fn seen_until(
+    alloc: Global,
+    image: Vec<u8>,
+    call: u64,
+) -> Result<Result<CardLook, InsertFault>, Memory> {
+    let Some(app) = sizes_of(&image) else {
+        return Err(Memory);
+    };
+    let mut stops = Vec::new(alloc);
+    stops
+        .push(Stop {
+            call,
+            left: Left::Before,
+        })
+        .map_err(|_| Memory)?;
+    let mut medium = MemMedium::new(alloc, image, 0, 0, stops)?;
+    Ok(look(&mut medium, &app))
+}
+
+#[test]
+fn a_card_that_fails(rt: HostRuntime) -> Result<(), Fail> {
+    let alloc = rt.alloc();
+    let whole = seen(&card(alloc, &WORK, &AT_600, 0)?);
+    // the files that are judged are one read, and Identification is the next
+    for call in 0..2 {
+        let cut = seen_until(alloc, card(alloc, &WORK, &AT_600, 0)?, call)?;
+        assert!(rt; cut == Err(InsertFault::Failed));
+    }
+    assert!(rt; seen_until(alloc, card(alloc, &WORK, &AT_600, 0)?, 2)? == whole);
+    Ok(())
+}
