@@ -35,7 +35,7 @@ pub later_below : (held : List Held) (event : Held) (o : Option ℕ) → IfSome 
 later_below held event None below = tt
 later_below held event (Some i) below = where_true (nat_lt (held_at held i).begin event.begin) i (length held) below
 
-found_below : (q : Held → Bool) (held : List Held) (o : Option ℕ) → position q held ≡ o → IfSome o (λ i. i < length held)
+pub found_below : (q : Held → Bool) (held : List Held) (o : Option ℕ) → position q held ≡ o → IfSome o (λ i. i < length held)
 found_below q held None is = tt
 found_below q held (Some i) is = (position-Some q held i none_held is).0
 
@@ -108,7 +108,7 @@ at_counted kind table None i = refl
 at_counted kind table (Some field) i = refl
 
 -- the number in one byte
-one_byte : (entry : List ℕ) (p : ℕ) → number_at entry p 1 ≡ slice_index_or entry p 0
+pub one_byte : (entry : List ℕ) (p : ℕ) → number_at entry p 1 ≡ slice_index_or entry p 0
 one_byte entry p =
     let there : slice_index_or (take 1 (drop p entry)) 0 0 ≡ slice_index_or entry p 0 = get_or-take 1 (drop p entry) 0 0 (omega arith) ∙ get_or-drop p entry 0 0 ∙ ap (λ (k : ℕ). slice_index_or entry k 0) (omega arith) in
     omega (arith, there)

@@ -4,4 +4,8 @@ pub mod Noted
 pub mod Fronts
 pub mod Counting
 pub mod Withdrawing
+pub mod EntryFields
+pub mod Placing
+pub mod Journals
+pub mod ZeroBytes
 mod Rows

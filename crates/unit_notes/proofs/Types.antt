@@ -8,7 +8,7 @@ use Rattle.byte_fields.proofs.Fields.{number_part}
 use Rattle.tach_media.specs.Medium.{LiesInside}
 use Rattle.tach_media.proofs.Ranges.{lies_part}
 use Rattle.gated_ring.specs.Ring.{Shape, size_of, place_of, gate_number}
-use Rattle.gated_ring.proofs.Places.{entry_writable, place_writable}
+use Rattle.gated_ring.proofs.Places.{place_low, place_high}
 use Rattle.event_model.specs.declared.kinds.TheConstants.{CARD_NOT_VALID, TIME_OVERLAP, DRIVING_WITHOUT_CARD, INSERTION_WHILE_DRIVING, SESSION_NOT_CLOSED, OVER_SPEEDING, CARD_FAULT}
 use Rattle.event_model.specs.declared.entries.Held.{Held}
 use Rattle.event_model.specs.Kinds.{places_of}
@@ -98,6 +98,13 @@ module _ (kind similar : ℕ) (front : List ℕ) (long : length front ≡ front_
 
   pub opens : (held_in kind front).begin ≢ 0 → gate_number (table_of kind) (with_similar kind similar front) ≢ 0
   opens some zero = some (begin_is front kind ∙ ap (big_number 4) (sym (gate_same (nat_eq kind CARD_FAULT))) ∙ zero)
+
+-- a range among the places of a ring may be written where all of the ring may be
+pub entry_writable : (ranges : List (ℕ × ℕ)) (r : Shape) (i o n : ℕ) → i < r.count → o + n ≤ r.width → LiesInside ranges r.base (size_of r) → LiesInside ranges (place_of r i + o) n
+entry_writable ranges r i o n below few whole = lies_part ranges r.base (size_of r) (place_of r i + o) n (omega (arith, place_low r i)) (omega (arith, place_high r i below, few)) whole
+
+place_writable : (ranges : List (ℕ × ℕ)) (r : Shape) (i n : ℕ) → i < r.count → n ≤ r.width → LiesInside ranges r.base (size_of r) → LiesInside ranges (place_of r i) n
+place_writable ranges r i n below few whole = lies_part ranges r.base (size_of r) (place_of r i) n (omega (arith, place_low r i)) (omega (arith, place_high r i below, few)) whole
 
 -- ---- a ring that is the type's
 

@@ -4,15 +4,23 @@
 #![tactic(auto)]
 
 mod insertion;
+mod laws;
+mod memory;
 mod noting;
 mod over;
 mod rings;
 mod tables;
 mod unit_event;
+mod zeros;
 
 pub use insertion::Insertion;
-pub use noting::{note_event, note_fault};
-pub use over::note_over;
-pub use rings::{insertions, note_insertion, note_place, note_withdrawal, places};
-pub use tables::{events, faults, overs};
+pub use laws::{
+    a_front_tells_its_event, a_front_tells_its_over_speeding, a_place_leaves_the_journal,
+    a_withdrawal_leaves_the_journal, an_entry_tells_its_insertion, an_entry_tells_its_place,
+    an_event_leaves_the_journal, an_insertion_leaves_the_journal,
+    an_over_speeding_leaves_the_journal, the_best_of_the_last_days_are_held,
+    the_held_events_are_those_noted, the_most_recent_are_held,
+    the_places_of_its_type_have_it_noted,
+};
+pub use memory::UnitNotes;
 pub use unit_event::UnitEvent;

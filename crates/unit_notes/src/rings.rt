@@ -1,11 +1,10 @@
 //! The rings of insertions and places, and what is noted in them.
-ghost use Rattle.std.specs.Prelude.{◌≡◌, ◌≢◌, ◌≤◌, ◌<◌, ◌+◌, ◌^◌, ◌++◌, length, IfOk, IfErr, IfSome, OnOk, is_err};
+ghost use Rattle.std.specs.Prelude.{◌≡◌, ◌≢◌, ◌≤◌, ◌<◌, ◌+◌, ◌*◌, ◌^◌, ◌++◌, length, IfOk, IfSome, OnOk, is_err};
 ghost use Rattle.unit_model.specs.declared.layout.TheConstants.{IMAGE_SIZE};
 ghost use Rattle.byte_fields.specs.Images.{number_at};
-ghost use Rattle.tach_media.specs.Medium.{Reads, LeavesOnly, HasCause, IsSettled, Rose, last_count};
-ghost use Rattle.gated_ring.specs.Ring.{pointer, PointsInside, taken};
+ghost use Rattle.tach_media.specs.Medium.{LeavesOnly, HasCause, IsSettled, Rose, last_count};
+ghost use Rattle.gated_ring.specs.Ring.{PointsInside, taken};
 ghost use Rattle.gated_ring.specs.Change.{IsAdding, IsAdded, IsSet, OrUnwritten, adding_writes};
-ghost use Rattle.gated_ring.specs.Loading.{IfBadPointer, has_failed};
 ghost use Rattle.unit_model.specs.Image.{IsUnit};
 ghost use Rattle.message_model.specs.Records.{insertion_ring, unit_place_ring};
 ghost use Rattle.unit_notes.specs.Entries.{insertion_bytes, unit_place_bytes};
@@ -13,13 +12,14 @@ ghost use Rattle.unit_notes.specs.Noting.{IsWithdrawing, IsWithdrawn};
 
 use crate::Insertion;
 use crate::insertion::write_insertion;
-use gated_ring::{Ring, RingFault};
+use crate::zeros::Zeros;
+use gated_ring::Ring;
 use tach_media::{Failed, Medium};
 use tacho_types::{
     FullCardNumber, Odometer, PlaceEntry, TimeReal, write_card_number, write_odometer, write_place,
     write_time,
 };
-use unit_model::layout::{INSERTIONS, PLACES};
+use unit_model::layout::{IMAGE_SIZE, INSERTIONS, PLACES};
 
 /// How many insertions and places a unit holds, and the width of the pointers before them.
 const INSERTION_PLACES: u32 = 2048;
@@ -38,50 +38,43 @@ const OUT_ODOMETER: u32 = 106;
 /// The size of a place of a card's holder, which begins with the card's number.
 const PLACE_SIZE: usize = FullCardNumber::SIZE + PlaceEntry::SIZE;
 
-/// The ring of insertions. It writes nothing.
-///
-/// # Errors
-///
-/// 1. `Failed` where the medium failed.
-/// 2. `BadPointer` exactly where the pointer is not below 2048.
-pub fn insertions<M: Medium>(unit: &mut M) -> Result<Ring, RingFault>
-    requires unit { (M.state unit.old).size ≡ IMAGE_SIZE }
-    ensures ring { IfOk result (λ ring. ring ≡ insertion_ring) }
-    ensures known { IfOk result (λ ring. IfSome (M.state unit.old).image (PointsInside ring)) }
-    ensures bad { IfErr result (λ fault. IfBadPointer fault (λ v. (2048 ≤ v) × IfSome (M.state unit.old).image (λ x. pointer insertion_ring x ≡ v))) }
-    ensures reads { Reads (M.state unit.old) (M.state unit.new) (has_failed result) }
+// A ring of the unit behind a pointer of four bytes. Its pointer is that of each unit that decodes, so no unit is asked for it.
+fn ring_at(base: u32, width: u32, count: u32, gate: u32) -> Ring
+    requires inside { base + (4 + count * width) ≤ IMAGE_SIZE }
+    requires some { 0 < count }
+    requires few { count ≤ 2048 }
+    requires gate { gate + 4 ≤ width }
+    ensures { result ≡ record { base = base; width = width; count = count; pointer_width = 4; gate = gate } }
 {
-    let width = Insertion::SIZE as u32;
-    Ring::load(
-        unit,
+    let mut zeros = Zeros::new(IMAGE_SIZE);
+    Ring::load(&mut zeros, base, width, count, POINTER, gate).unwrap()
+}
+
+/// The ring of insertions.
+pub fn insertions() -> Ring
+    ensures { result ≡ insertion_ring }
+{
+    ring_at(
         INSERTIONS.place,
-        width,
+        Insertion::SIZE as u32,
         INSERTION_PLACES,
-        POINTER,
         TIME,
     )
 }
 
-/// The ring of places. It writes nothing.
-///
-/// # Errors
-///
-/// 1. `Failed` where the medium failed.
-/// 2. `BadPointer` exactly where the pointer is not below 255.
-pub fn places<M: Medium>(unit: &mut M) -> Result<Ring, RingFault>
-    requires unit { (M.state unit.old).size ≡ IMAGE_SIZE }
-    ensures ring { IfOk result (λ ring. ring ≡ unit_place_ring) }
-    ensures known { IfOk result (λ ring. IfSome (M.state unit.old).image (PointsInside ring)) }
-    ensures bad { IfErr result (λ fault. IfBadPointer fault (λ v. (255 ≤ v) × IfSome (M.state unit.old).image (λ x. pointer unit_place_ring x ≡ v))) }
-    ensures reads { Reads (M.state unit.old) (M.state unit.new) (has_failed result) }
+/// The ring of places.
+pub fn places() -> Ring
+    ensures { result ≡ unit_place_ring }
 {
-    let width = PLACE_SIZE as u32;
-    let time = FullCardNumber::SIZE as u32;
-    Ring::load(unit, PLACES.place, width, PLACE_PLACES, POINTER, time)
+    ring_at(
+        PLACES.place,
+        PLACE_SIZE as u32,
+        PLACE_PLACES,
+        FullCardNumber::SIZE as u32,
+    )
 }
 
-/// Notes an insertion, the newest of its ring, and answers its index. `insertions` is the ring that [`insertions`] gave of
-/// this unit; the insertion's time is not 0.
+/// Notes an insertion, the newest of its ring, and answers its index. The insertion's time is not 0.
 ///
 /// A stop at a moment of the call leaves the insertions before, these without the one whose place is taken, or with the new
 /// one. Every other byte of the unit stays.
@@ -89,12 +82,7 @@ pub fn places<M: Medium>(unit: &mut M) -> Result<Ring, RingFault>
 /// # Errors
 ///
 /// `Failed` where the medium failed.
-pub fn note_insertion<M: Medium>(
-    insertions: &Ring,
-    unit: &mut M,
-    entry: &Insertion,
-) -> Result<u32, Failed>
-    requires ring { insertions.now ≡ insertion_ring }
+pub fn note_insertion<M: Medium>(unit: &mut M, entry: &Insertion) -> Result<u32, Failed>
     requires unit { IsUnit (M.state unit.old) }
     requires time { entry.now.time.0 ≢ 0 }
     requires odometer { entry.now.odometer.0 < 2 ^ 24 }
@@ -111,8 +99,7 @@ pub fn note_insertion<M: Medium>(
 {
     let mut bytes = [0; Insertion::SIZE];
     write_insertion(entry, &mut bytes);
-    let mut ring = *insertions;
-    ring.add(unit, &bytes)
+    insertions().add(unit, &bytes)
 }
 
 /// Notes the withdrawal of the card of an insertion, by the index that [`note_insertion`] answered: the time, and then the
@@ -122,13 +109,11 @@ pub fn note_insertion<M: Medium>(
 ///
 /// `Failed` where the medium failed.
 pub fn note_withdrawal<M: Medium>(
-    insertions: &Ring,
     unit: &mut M,
     index: u32,
     time: TimeReal,
     odometer: Odometer,
 ) -> Result<(), Failed>
-    requires ring { insertions.now ≡ insertion_ring }
     requires unit { IsUnit (M.state unit.old) }
     requires index { index < 2048 }
     requires odometer { odometer.0 < 2 ^ 24 }
@@ -141,21 +126,14 @@ pub fn note_withdrawal<M: Medium>(
 {
     let mut out_time = [0; TimeReal::SIZE];
     write_time(time, &mut out_time);
-    set_part(insertions, unit, index, OUT_TIME, &out_time)?;
+    set_part(unit, index, OUT_TIME, &out_time)?;
     let mut out_odometer = [0; Odometer::SIZE];
     write_odometer(odometer, &mut out_odometer);
-    set_part(insertions, unit, index, OUT_ODOMETER, &out_odometer)
+    set_part(unit, index, OUT_ODOMETER, &out_odometer)
 }
 
 // Writes a few bytes of an insertion behind its time.
-fn set_part<M: Medium>(
-    insertions: &Ring,
-    unit: &mut M,
-    index: u32,
-    offset: u32,
-    bytes: &[u8],
-) -> Result<(), Failed>
-    requires ring { insertions.now ≡ insertion_ring }
+fn set_part<M: Medium>(unit: &mut M, index: u32, offset: u32, bytes: &[u8]) -> Result<(), Failed>
     requires unit { IsUnit (M.state unit.old) }
     requires index { index < 2048 }
     requires behind { 98 ≤ offset }
@@ -169,12 +147,10 @@ fn set_part<M: Medium>(
     ensures cause { HasCause (M.state unit.old) (M.state unit.new) (is_err result) }
     ensures most { (M.state unit.new).clock ≤ (M.state unit.old).clock + 1 }
 {
-    let mut ring = *insertions;
-    ring.set_small(unit, index, offset, bytes)
+    insertions().set_small(unit, index, offset, bytes)
 }
 
-/// Notes a place that the holder of a card entered, the newest of its ring. `places` is the ring that [`places`] gave of this
-/// unit; the entry's time is not 0.
+/// Notes a place that the holder of a card entered, the newest of its ring. The entry's time is not 0.
 ///
 /// A stop at a moment of the call leaves the places before, these without the one whose place is taken, or with the new one.
 /// Every other byte of the unit stays.
@@ -183,12 +159,10 @@ fn set_part<M: Medium>(
 ///
 /// `Failed` where the medium failed.
 pub fn note_place<M: Medium>(
-    places: &Ring,
     unit: &mut M,
     number: &FullCardNumber,
     entry: &PlaceEntry,
 ) -> Result<(), Failed>
-    requires ring { places.now ≡ unit_place_ring }
     requires unit { IsUnit (M.state unit.old) }
     requires time { entry.now.time.0 ≢ 0 }
     requires odometer { entry.now.odometer.0 < 2 ^ 24 }
@@ -202,8 +176,7 @@ pub fn note_place<M: Medium>(
 {
     let mut bytes = [0; PLACE_SIZE];
     write_unit_place(number, entry, &mut bytes);
-    let mut ring = *places;
-    ring.add(unit, &bytes)?;
+    places().add(unit, &bytes)?;
     Ok(())
 }
 

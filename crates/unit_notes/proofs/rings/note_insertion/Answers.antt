@@ -7,18 +7,18 @@ use Rattle.unit_notes.proofs.Withdrawing.{shape_fits, shape_writable, number_ope
 use Rattle.unit_notes.proofs.rings.note_insertion.Goals as goal
 
 pub add-requires-clause-fits : goal.add-requires-clause-fits
-add-requires-clause-fits g c = shape_fits c.args.insertions.now insertion_ring c.requires.ring insertions_inside _ c.requires.unit.sized
+add-requires-clause-fits g c = shape_fits c.insertions.result insertion_ring c.insertions.ensures insertions_inside _ c.requires.unit.sized
 
 pub add-requires-clause-writable : goal.add-requires-clause-writable
-add-requires-clause-writable g c = shape_writable c.args.insertions.now insertion_ring c.requires.ring insertions_inside _ c.requires.unit.writable
+add-requires-clause-writable g c = shape_writable c.insertions.result insertion_ring c.insertions.ensures insertions_inside _ c.requires.unit.writable
 
 pub add-requires-clause-open : goal.add-requires-clause-open
-add-requires-clause-open g c = number_opens c.args.insertions.now insertion_ring _ c.args.entry.now.time.0 c.requires.ring c.write_insertion.ensures.time c.requires.time
+add-requires-clause-open g c = number_opens c.insertions.result insertion_ring _ c.args.entry.now.time.0 c.insertions.ensures c.write_insertion.ensures.time c.requires.time
 
 pub returns-clause-writes : goal.returns-clause-writes
 returns-clause-writes g c =
     let len : length c.write_insertion.new.out ≡ 129 = search rules in
-    subst (λ (s : Shape). IfSome (g.M.Medium.state c.args.unit.now).image (λ x. PointsInside s x → (g.M.Medium.state c.add.new.medium).clock ≤ (g.M.Medium.state c.args.unit.now).clock + adding_writes s x)) c.requires.ring (c.add.ensures.writes (omega (arith, len)))
+    subst (λ (s : Shape). IfSome (g.M.Medium.state c.args.unit.now).image (λ x. PointsInside s x → (g.M.Medium.state c.add.new.medium).clock ≤ (g.M.Medium.state c.args.unit.now).clock + adding_writes s x)) c.insertions.ensures (c.add.ensures.writes)
 
 pub returns-clause-index : goal.returns-clause-index
-returns-clause-index g c = subst (λ (s : Shape). IfOk c.add.result (λ index. IfSome (g.M.Medium.state c.args.unit.now).image (λ x. PointsInside s x → index ≡ taken s x))) c.requires.ring c.add.ensures.index
+returns-clause-index g c = subst (λ (s : Shape). IfOk c.add.result (λ index. IfSome (g.M.Medium.state c.args.unit.now).image (λ x. PointsInside s x → index ≡ taken s x))) c.insertions.ensures c.add.ensures.index

@@ -7,20 +7,20 @@ use Rattle.unit_notes.proofs.Withdrawing.{shape_fits, shape_writable, number_ope
 use Rattle.unit_notes.proofs.rings.note_place.Goals as goal
 
 pub add-requires-clause-fits : goal.add-requires-clause-fits
-add-requires-clause-fits g c = shape_fits c.args.places.now unit_place_ring c.requires.ring places_inside _ c.requires.unit.sized
+add-requires-clause-fits g c = shape_fits c.places.result unit_place_ring c.places.ensures places_inside _ c.requires.unit.sized
 
 pub add-requires-clause-writable : goal.add-requires-clause-writable
-add-requires-clause-writable g c = shape_writable c.args.places.now unit_place_ring c.requires.ring places_inside _ c.requires.unit.writable
+add-requires-clause-writable g c = shape_writable c.places.result unit_place_ring c.places.ensures places_inside _ c.requires.unit.writable
 
 pub add-requires-clause-open : goal.add-requires-clause-open
-add-requires-clause-open g c = number_opens c.args.places.now unit_place_ring _ c.args.entry.now.time.0 c.requires.ring c.write_unit_place.ensures.time c.requires.time
+add-requires-clause-open g c = number_opens c.places.result unit_place_ring _ c.args.entry.now.time.0 c.places.ensures c.write_unit_place.ensures.time c.requires.time
 
 pub returns-in_err-add-clause-writes : goal.returns-in_err-add-clause-writes
 returns-in_err-add-clause-writes g c =
     let len : length c.write_unit_place.new.out ≡ 28 = search rules in
-    subst (λ (s : Shape). IfSome (g.M.Medium.state c.args.unit.now).image (λ x. PointsInside s x → (g.M.Medium.state c.add.new.medium).clock ≤ (g.M.Medium.state c.args.unit.now).clock + adding_writes s x)) c.requires.ring (c.in_err-add.ensures.writes (omega (arith, len)))
+    subst (λ (s : Shape). IfSome (g.M.Medium.state c.args.unit.now).image (λ x. PointsInside s x → (g.M.Medium.state c.add.new.medium).clock ≤ (g.M.Medium.state c.args.unit.now).clock + adding_writes s x)) c.places.ensures (c.in_err-add.ensures.writes)
 
 pub returns-clause-writes : goal.returns-clause-writes
 returns-clause-writes g c =
     let len : length c.write_unit_place.new.out ≡ 28 = search rules in
-    subst (λ (s : Shape). IfSome (g.M.Medium.state c.args.unit.now).image (λ x. PointsInside s x → (g.M.Medium.state c.add.new.medium).clock ≤ (g.M.Medium.state c.args.unit.now).clock + adding_writes s x)) c.requires.ring (c.in_ok-add.ensures.writes (omega (arith, len)))
+    subst (λ (s : Shape). IfSome (g.M.Medium.state c.args.unit.now).image (λ x. PointsInside s x → (g.M.Medium.state c.add.new.medium).clock ≤ (g.M.Medium.state c.args.unit.now).clock + adding_writes s x)) c.places.ensures (c.in_ok-add.ensures.writes)

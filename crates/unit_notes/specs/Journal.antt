@@ -1,0 +1,10 @@
+-- Images in which nothing has changed that a journal reads or writes: version and vehicle, last-kept minute and odometer, owed rows
+-- and days. The two numbers of over speedings between them may differ.
+use Rattle.std.specs.Prelude.{◌≡◌, ℕ, ◌-◌, List, length}
+use Rattle.byte_fields.specs.Images.{bytes_at}
+use Rattle.unit_model.specs.declared.layout.TheConstants.{FIRST_OVER, SPARE_COUNTS, INSERTIONS}
+
+pub record KeepsJournal (x c : List ℕ) : Type 0 where
+  pub front : bytes_at c 0 FIRST_OVER.place ≡ bytes_at x 0 FIRST_OVER.place
+  pub rest : bytes_at c SPARE_COUNTS.place (INSERTIONS.place - SPARE_COUNTS.place) ≡ bytes_at x SPARE_COUNTS.place (INSERTIONS.place - SPARE_COUNTS.place)
+  pub same_length : length c ≡ length x
