@@ -1,0 +1,13 @@
+pub mod Lines
+pub mod Deciding
+pub mod Spelling
+pub mod Finding
+pub mod Fronts
+pub mod Walks
+pub mod Entries
+pub mod Rows
+pub mod OneWay
+pub mod UnitOneWay
+pub mod Marks
+pub mod Loading
+pub mod Telling

@@ -1,0 +1,15 @@
+//! What a unit file and a card file show (Annex IB, Appendix 7): the unit's minutes and the card's entries, and their view
+//! text (profile). A file outside its grammar is refused with the place of what is wrong.
+#![tactic(auto)]
+
+mod card;
+mod day_words;
+mod entry;
+mod fault;
+mod laws;
+mod parts;
+mod string;
+
+pub use card::{CardHistory, card_text, last_days, read_card_file};
+pub use fault::ViewFault;
+pub use laws::{a_card_file_does_not_fail, a_unit_file_does_not_fail};
