@@ -8,3 +8,6 @@ mod reading;
 pub use joining::{JoinFault, Joiner, split_at};
 pub use link_model::Request;
 pub use reading::{BadMessage, MessageRead, OverviewRead, day_words, overview, read_message};
+
+#[cfg(test)]
+mod tests;
