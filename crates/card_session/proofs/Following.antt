@@ -91,6 +91,21 @@ words_strict e = by (nat_eq (e.minute % 1440) 0) refl
         let some : e.minute % 1440 ≢ 0 = differ (e.minute % 1440) 0 is in
         (bare_minute, (omega (arith, entry_minute e, some), omega (arith, entry_minute e), tt))
 
+-- the words of a day by whether its first entry stands at midnight
+pub words_alone : (e : Entry) (w : ℕ) → w ≡ entry_word e → e.minute % 1440 ≡ 0 → w ∷ [] ≡ day_words e
+words_alone e w is zero = ap (λ (n : ℕ). n ∷ []) is ∙ by (nat_eq (e.minute % 1440) 0) refl
+  where
+    by : (b : Bool) → nat_eq (e.minute % 1440) 0 ≡ b → entry_word e ∷ [] ≡ cond b (entry_word e ∷ []) (bare_word ∷ entry_word e ∷ [])
+    by true at = refl
+    by false at = absurd (differ (e.minute % 1440) 0 at zero)
+
+pub words_behind : (e : Entry) (v w : ℕ) → v ≡ bare_word → w ≡ entry_word e → e.minute % 1440 ≢ 0 → v ∷ w ∷ [] ≡ day_words e
+words_behind e v w first is some = ap (λ (n : ℕ). n ∷ w ∷ []) first ∙ ap (λ (n : ℕ). bare_word ∷ n ∷ []) is ∙ by (nat_eq (e.minute % 1440) 0) refl
+  where
+    by : (b : Bool) → nat_eq (e.minute % 1440) 0 ≡ b → bare_word ∷ entry_word e ∷ [] ≡ cond b (entry_word e ∷ []) (bare_word ∷ entry_word e ∷ [])
+    by true at = absurd (some (same_is (e.minute % 1440) 0 at))
+    by false at = refl
+
 pub begins_day : (e : Entry) (days : List Day) → 1440 ≤ e.minute → AreDays 0 days → is_newest (e.minute / 1440) (sizes days) ≡ false → newest_word days < e.minute → IsNext days (date_of e.minute) (day_words e)
 begins_day e [] some are is late = record { later = omega (arith, some); midnight = omega arith; ordered = words_strict e }
 begins_day e (d ∷ ds) some are is late = record { later = later_day 0 e d ds are is late; midnight = omega arith; ordered = words_strict e }

@@ -1,8 +1,9 @@
 -- The parts of a keep, one after the other.
-use Rattle.std.proofs.Common.{◌≡◌, inl, inr, ⊎_elim, ℕ, ◌*◌, ◌<◌, ◌≤◌, Bool, true, false, cond, List, Option, Some, None, refl, sym, ◌∙◌, ap, subst, arith}
+use Rattle.std.proofs.Common.{◌≡◌, inl, inr, ⊎_elim, ℕ, ◌*◌, ◌<◌, ◌≤◌, Bool, true, false, cond, List, Option, Some, None, IfSome, refl, sym, ◌∙◌, ap, subst, arith}
 use Rattle.std.specs.Prelude.{◌⊎◌}
 use Rattle.activity_codec.specs.declared.entries.Entry.{Entry}
 use Rattle.tach_media.specs.Medium.{State}
+use Rattle.tach_media.proofs.Runs.{where_told, at_image}
 use Rattle.tacho_types.specs.declared.texts.Registration.{Registration}
 use Rattle.card_layout.specs.declared.files.Application.{Application}
 use Rattle.card_records.specs.declared.vehicle.Vehicle.{Vehicle}
@@ -61,6 +62,11 @@ module _ (s : Session) (odometer minute : ℕ) where
       then_part s u t AnyBook AnyBook (with_measured odometer) (with_last_use (60 * minute)) (IsSettingOdometer odometer) (IsSettingUse (60 * minute)) IsUsingOn app first next (λ x y knows any then. tt)
       (λ b ds v any is. (is.0, ⊎_elim (λ still. inl still) (λ set. inr (inl set)) is.1))
       (λ b ds v any is. (is.0, ⊎_elim (λ still. inr (inl still)) (λ set. inr (inr set)) is.1))
+
+  pub on_failed : {old new : State} {failed : Bool} (u t : Session) → DoesPart old new true (IsPartDone s u AnyBook (with_measured odometer)) (IsPartMoment s AnyBook (IsSettingOdometer odometer)) → failed ≡ true
+      → DoesPart old new failed (IsPartDone s t AnyBook on_both) (IsPartMoment s AnyBook IsUsingOn)
+  on_failed u t part is =
+      failed_part s u t AnyBook (with_measured odometer) on_both (IsSettingOdometer odometer) IsUsingOn part is (λ b ds v any q. (q.0, ⊎_elim (λ still. inl still) (λ set. inr (inl set)) q.1))
 
   -- a new entry
   pub new_use_as : {old new : State} {failed : Bool} (t : Session) (v : Vehicle) → v ≡ begun_vehicle s.registration odometer minute (vehicle_counter s.vehicle)
@@ -193,3 +199,11 @@ module _ (s : Session) (value : IsValue s) (odometer more : ℕ) (e : Entry) whe
         newest = subst (λ (p : Application). IsNewest (vehicle_ring p) y u.newest) (sym app) (subst (λ (o : Option ℕ). IsNewest (vehicle_ring t.application) y o) (sym newest) knows.newest);
         vehicle = vehicle ∙ knows.vehicle ∙ ap (λ (p : Application). (book_of p y).vehicle) (sym app);
       }
+
+  pub kept_told : {old new : State} (t u : Session) → s.minute < e.minute → more ≡ grown s.odometer odometer → t.application ≡ s.application → DoesPart old new false (IsPartDone s t P (entered size s.registration odometer more e)) (IsPartMoment s P K)
+      → u.application ≡ t.application → u.days ≡ t.days → u.newest ≡ t.newest → u.vehicle ≡ t.vehicle → u.minute ≡ e.minute → IfSome old.image (λ x. IfSome new.image (λ y. IsSession s x → IsCardKept s u e odometer x y))
+  kept_told {old} {new} t u later is app part same_app days newest vehicle minute =
+      where_told old.image new.image (λ x y. IsSession s x → IsCardKept s u e odometer x y) (λ x y was there knows.
+      kept_done x y t u later is app
+      (at_image (λ y. IsPartDone s t P (entered size s.registration odometer more e) x y) there (at_image (λ x. IfSome new.image (IsPartDone s t P (entered size s.registration odometer more e) x)) was (part.done refl)))
+      same_app days newest vehicle minute knows)

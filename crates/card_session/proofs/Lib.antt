@@ -4,8 +4,8 @@ pub mod Following
 pub mod Preparing
 pub mod OnDays
 pub mod OnRing
-pub mod Told
 pub mod Keeping
-pub mod Marks
-pub mod Lasting
 pub mod Rows
+pub mod Marks
+pub mod Told
+pub mod Lasting

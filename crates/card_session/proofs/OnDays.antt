@@ -131,6 +131,17 @@ module _ (s t : Session) (value : IsValue s) (same : HasSame s t) (old new : Sta
       cause = inl cause;
     }
 
+    -- the same by a date that is the entry's
+    pub begin_with : (date : ℕ) → date ≡ date_of e.minute → t.days.shape ≡ s.days.shape
+        → (failed ≡ false → IfSome old.image (λ x. IfSome new.image (IfKnown s.days (IsDayBegun s.days.shape date words) x)))
+        → (failed ≡ false → IfSome old.image (λ x. IfSome new.image (KnowsBegun s.days t.days date words x)))
+        → LeavesOnly old new (IfKnown s.days (IsDayBeginning s.days.shape date words)) → HasCause old new failed
+        → DoesPart old new failed (IsPartDone s t (BeginsDay e) (with_day size e)) (IsPartMoment s (BeginsDay e) (IsBeforeDay size e))
+    begin_with date is shape begun knowing moments cause =
+        begin_part shape (subst (λ (d : ℕ). failed ≡ false → IfSome old.image (λ x. IfSome new.image (IfKnown s.days (IsDayBegun s.days.shape d words) x))) is begun)
+        (subst (λ (d : ℕ). failed ≡ false → IfSome old.image (λ x. IfSome new.image (KnowsBegun s.days t.days d words x))) is knowing)
+        (subst (λ (d : ℕ). LeavesOnly old new (IfKnown s.days (IsDayBeginning s.days.shape d words))) is moments) cause
+
   -- SET THE DISTANCE
   module _ (km : ℕ) where
     -- the days so measured

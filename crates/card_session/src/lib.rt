@@ -1,5 +1,9 @@
-//! What a session writes on a driver card (profile): the change words and the distance of a minute, and the use of the vehicle.
+//! Sessions of driver cards (profile): a keep brings a card a minute. A session is a value that knows no card; each call is
+//! lent one.
 #![tactic(auto)]
 
-pub mod vehicle_use;
-pub mod words;
+mod session;
+mod vehicle_use;
+mod words;
+
+pub use session::{CardSession, Kept};

@@ -11,3 +11,6 @@ pub mod UnitOneWay
 pub mod Marks
 pub mod Loading
 pub mod Telling
+pub mod UnitStates
+pub mod UnitFronts
+pub mod UnitDays

@@ -35,7 +35,7 @@ told_all last app days vehicles mark from r x mark_is r_is x_is from_is =
     ∙ ap (λ (s : StringShape). F s x) r_is ∙ ap (λ (y : List ℕ). F (string_alone app) y) x_is ∙ told_is last app days vehicles
 
 -- all of what stands behind a place
-rest_is : {X : Type 0} → (A : List X) (from : ℕ) → take (length A - from) (drop from A) ≡ drop from A
+pub rest_is : {X : Type 0} → (A : List X) (from : ℕ) → take (length A - from) (drop from A) ≡ drop from A
 rest_is A from = ap (λ (n : ℕ). take n (drop from A)) (sym (length-drop from A)) ∙ take-length (drop from A)
 
 -- a head that is shown is that of a day that is shown

@@ -6,3 +6,4 @@ pub mod Deciding
 pub mod Reading
 pub mod Walking
 pub mod Showing
+pub mod UnitShowing

@@ -9,7 +9,12 @@ mod fault;
 mod laws;
 mod parts;
 mod string;
+mod unit;
 
 pub use card::{CardHistory, card_text, last_days, read_card_file};
 pub use fault::ViewFault;
 pub use laws::{a_card_file_does_not_fail, a_unit_file_does_not_fail};
+pub use unit::{UnitHistory, last_messages, read_download, unit_text};
+
+#[cfg(test)]
+mod tests;

@@ -1,0 +1,12 @@
+use Rattle.std.proofs.Common.{rules, inl, inr, ◌≡◌, ◌+◌, ◌*◌, ℕ, Bool, true, false, List, Option, Some, None, refl, sym, ◌∙◌, ap, subst, arith}
+use Rattle.std.specs.Prelude.{is_err}
+use Rattle.card_model.specs.Days.{Day}
+use Rattle.cyclic_days.specs.Held.{Held, Knows, tail_in}
+use Rattle.card_session.specs.Sessions.{Session, IsValue}
+use Rattle.card_session.proofs.Told.{gap_part}
+use Rattle.card_session.proofs.session.CardSession.close_gap.Goals as goal
+
+pub returns-clause-part : goal.returns-clause-part
+returns-clause-part g c =
+    let value : IsValue c.args.self.now = subst IsValue c.self.view_is c.self.invariant in
+    gap_part c.args.self.now value _ c.args.minute c.mark.result c.tail.result c.gap_word-word.result c.mark.ensures.mark (subst (λ (h : Held). (x : List ℕ) (days : List Day) → Knows h x days → c.tail.result ≡ tail_in h.shape x days) (ap (λ (s : Session). s.days) c.self.view_is) c.tail.ensures.newest) c.gap_word-word.ensures c.add.ensures.part

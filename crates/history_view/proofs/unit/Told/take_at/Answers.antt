@@ -1,0 +1,9 @@
+use Rattle.std.proofs.Common.{◌≡◌, ◌∙◌, ℕ, ◌+◌, List, length, drop, refl, ap, sym, subst, arith}
+use Rattle.std.proofs.lemmas.List.{length-drop}
+use Rattle.unit_messages.specs.Reading.{BeginsWith, BeginsNoMessage}
+use Rattle.history_view.proofs.Telling.{rest_is}
+use Rattle.history_view.proofs.UnitFronts.{no_message}
+use Rattle.history_view.proofs.unit.Told.take_at.Goals as goal
+
+pub returns-in-Err-clause-bad : goal.returns-in-Err-clause-bad
+returns-in-Err-clause-bad c = (refl, no_message (drop c.args.place c.args.b.now) (subst BeginsNoMessage (rest_is c.args.b.now c.args.place) c.in-Err.ensures.bad.1))
