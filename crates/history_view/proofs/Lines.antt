@@ -14,7 +14,7 @@ use Rattle.view_model.specs.declared.Line.{Line}
 use Rattle.view_model.specs.Lines.{day_of, goes_on, with_minute, lines_of}
 use Rattle.view_text.specs.Entries.{entry_shown}
 use Rattle.view_text.specs.Exact.{both}
-use Rattle.view_text.specs.declared.text.TheConstants.{DAYS}
+use Rattle.tacho_types.specs.declared.calendar.TheConstants.{DAYS}
 use Rattle.view_text.proofs.More.{by_test}
 use Rattle.view_text.proofs.Texts.{lines-below}
 use Rattle.history_view.specs.Histories.{minute_shown, minute_told, entry_told, line_minutes, minutes_on, AreLines}

@@ -16,7 +16,7 @@ use Rattle.view_model.specs.declared.State.{State}
 use Rattle.view_model.specs.declared.UnitShown.{UnitShown}
 use Rattle.view_model.specs.declared.Viewed.{Viewed}
 use Rattle.view_model.specs.Lines.{day_of}
-use Rattle.view_text.specs.declared.text.TheConstants.{DAYS}
+use Rattle.tacho_types.specs.declared.calendar.TheConstants.{DAYS}
 use Rattle.view_text.proofs.More.{by_test}
 use Rattle.history_view.specs.declared.unit.DayAt.{DayAt}
 use Rattle.history_view.specs.Histories.{minute_shown}

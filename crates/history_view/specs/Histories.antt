@@ -8,7 +8,7 @@ use Rattle.view_model.specs.declared.CardShown.{CardShown}
 use Rattle.view_model.specs.declared.Viewed.{Viewed}
 use Rattle.view_model.specs.declared.Line.{Line}
 use Rattle.view_model.specs.Lines.{day_of, lines_of}
-use Rattle.view_text.specs.declared.text.TheConstants.{DAYS}
+use Rattle.tacho_types.specs.declared.calendar.TheConstants.{DAYS}
 
 -- what the view of a unit shows of a minute, and the minute that is shown so
 abbrev pub minute_shown : UnitMinute → Viewed UnitShown

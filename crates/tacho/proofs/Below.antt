@@ -20,7 +20,7 @@ use Rattle.view_model.specs.declared.UnitShown.{UnitShown}
 use Rattle.view_model.specs.declared.Viewed.{Viewed}
 use Rattle.view_model.specs.declared.Line.{Line}
 use Rattle.view_model.specs.Lines.{day_of, lines_of, same_unit}
-use Rattle.view_text.specs.declared.text.TheConstants.{DAYS}
+use Rattle.tacho_types.specs.declared.calendar.TheConstants.{DAYS}
 use Rattle.view_text.proofs.Texts.{lines-below}
 use Rattle.tacho.specs.Feeding.{fed_items}
 use Rattle.tacho.specs.Minutes.{without_card, minutes_shown}

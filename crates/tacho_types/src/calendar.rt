@@ -7,10 +7,13 @@ use arrayvec::ArrayVec;
 use jiff::ToSpan;
 use jiff::civil::{Date, date};
 
-/// The date `YYYY-MM-DD` of the day with this number since 1970-01-01, below 49711: the days that a
+/// How many days a `TimeReal` can name, from 1970-01-01 on.
+pub const DAYS: u32 = 49711;
+
+/// The date `YYYY-MM-DD` of the day with this number since 1970-01-01: one of those that a
 /// `TimeReal` can name.
 pub fn day_text(day: u32) -> ArrayVec<u8, 10>
-    requires { day < 49711 }
+    requires { day < DAYS }
     ensures { IsDateText day result.items }
 {
     let date = civil_date(day);
@@ -32,7 +35,7 @@ pub fn day_text(day: u32) -> ArrayVec<u8, 10>
 
 /// The date of a day number.
 fn civil_date(day: u32) -> Date
-    requires { day < 49711 }
+    requires { day < DAYS }
     ensures day { epoch_day result ≡ pos day }
     ensures year { pos 0 ≤ℤ result.year }
 {

@@ -9,7 +9,7 @@ mod views;
 
 pub use lines::add_minute;
 pub use shown::Shown;
-pub use text::{DAYS, lines_text};
+pub use text::lines_text;
 pub use views::{card_text, unit_text};
 
 #[cfg(test)]

@@ -7,11 +7,8 @@ ghost use Rattle.view_text.specs.Adding.{AddsLine, AddsDay};
 
 use crate::shown::Shown;
 use std::alloc::{AllocError, Global};
-use tacho_types::day_text;
+use tacho_types::{DAYS, day_text};
 use view_model::Line;
-
-/// How many days a time of four bytes can name, from 1970-01-01 on.
-pub const DAYS: u32 = 49711;
 
 /// The text of lines, one after another.
 pub fn lines_text<T: Shown>(alloc: Global, lines: &[Line<T>]) -> Result<Vec<u8>, AllocError>

@@ -6,9 +6,10 @@ ghost use Rattle.view_model.specs.Text.{IsUnitView, IsCardView};
 ghost use Rattle.view_text.specs.Entries.{entry_shown};
 
 use crate::lines::add_minute;
-use crate::text::{DAYS, lines_text};
+use crate::text::lines_text;
 use activity_codec::Entry;
 use std::alloc::{AllocError, Global};
+use tacho_types::DAYS;
 use view_model::{CardShown, Line, UnitShown, Viewed};
 
 /// The view text of a unit's minutes.

@@ -10,7 +10,7 @@ use std::alloc::{AllocError, Global};
 use std::process::Abort;
 use std::test::Fail;
 use tach_media::{Left, Medium, MemMedium, Memory, Stop};
-use tacho_types::Odometer;
+use tacho_types::{DAYS, Odometer};
 use unit_journal::{Journal, KeptMinute, State, UnitDay};
 use unit_model::layout::IMAGE_SIZE;
 
@@ -84,7 +84,7 @@ pub fn one_day(alloc: Global, kept: u32) -> Result<Vec<u8>, AllocError> {
 }
 
 fn put_day(image: &mut [u8], index: usize, day: u32) {
-    if day < 49711 {
+    if day < DAYS {
         put_head(image, index, DAY * day, 900, 4);
     }
     put_word(image, index, 0, 0x2000);

@@ -2,7 +2,7 @@ use Rattle.std.specs.Prelude.{map}
 use Rattle.view_model.specs.Lines.{same_card}
 use Rattle.view_model.specs.Text.{IsCardView}
 use Rattle.view_text.specs.Entries.{entry_shown}
-use Rattle.view_text.specs.declared.text.TheConstants.{DAYS}
+use Rattle.tacho_types.specs.declared.calendar.TheConstants.{DAYS}
 use Rattle.view_text.proofs.Texts.{lines-below, entries-below}
 use Rattle.view_text.proofs.views.card_text.Goals as goal
 

@@ -1,6 +1,6 @@
 use Rattle.view_model.specs.Lines.{same_unit}
 use Rattle.view_model.specs.Text.{IsUnitView}
-use Rattle.view_text.specs.declared.text.TheConstants.{DAYS}
+use Rattle.tacho_types.specs.declared.calendar.TheConstants.{DAYS}
 use Rattle.view_text.proofs.Texts.{lines-below}
 use Rattle.view_text.proofs.views.unit_text.Goals as goal
 
