@@ -25,7 +25,7 @@ pub struct Reply {
 
 /// The answer to a request of a message, of which the first part was read. The length is the message's, with 76 and its number.
 pub fn begun(request: Request, standing: Standing, told: Option<u32>, bytes: &[u8]) -> Reply
-    requires { length bytes.now ≤ 252 }
+    requires { length bytes.now ≤ MOST }
     ensures { (content : Option (List ℕ)) → IsPart content 2 told bytes.now → reply_of result ≡ begins (state_of standing) request content }
 {
     let Some(len) = told else {
@@ -42,8 +42,8 @@ pub fn begun(request: Request, standing: Standing, told: Option<u32>, bytes: &[u
 
 /// The answer to an acknowledged piece that asks for a piece, of which the bytes were read.
 pub fn sent_on(request: Request, counter: u16, code: u16, told: Option<u32>, bytes: &[u8]) -> Reply
-    requires { length bytes.now ≤ 252 }
-    ensures { (content : Option (List ℕ)) → IsPart content (2 + 251 * (code - 1)) told bytes.now → reply_of result ≡ sends_on request counter content code }
+    requires { length bytes.now ≤ MOST }
+    ensures { (content : Option (List ℕ)) → IsPart content (2 + PIECE * (code - 1)) told bytes.now → reply_of result ≡ sends_on request counter content code }
 {
     let Some(len) = told else {
         return refused(Standing::Sending(request, counter), ACKNOWLEDGE);
@@ -59,7 +59,7 @@ pub fn sent_on(request: Request, counter: u16, code: u16, told: Option<u32>, byt
 
 /// Where the piece of a counter begins in its message, which begins with 76 and its number.
 pub fn place_of(counter: u16) -> u32
-    ensures { result ≡ 2 + 251 * (counter - 1) }
+    ensures { result ≡ 2 + PIECE * (counter - 1) }
 {
     2 + PIECE as u32 * counter.saturating_sub(1) as u32
 }
@@ -76,7 +76,7 @@ fn refused(standing: Standing, service: u8) -> Reply
 
 // A piece of a message, whose bytes these begin with.
 fn sent(request: Request, counter: u16, bytes: &[u8]) -> Reply
-    ensures { reply_of result ≡ sends_piece request counter (take 251 bytes.now) }
+    ensures { reply_of result ≡ sends_piece request counter (take PIECE bytes.now) }
 {
     let [high, low] = counter.to_be_bytes();
     Reply {
@@ -88,8 +88,8 @@ fn sent(request: Request, counter: u16, bytes: &[u8]) -> Reply
 // The bytes that a piece has room for.
 #[tactic(auto, using(std::proofs::lemmas::List::take_min))]
 fn front(bytes: &[u8]) -> &[u8]
-    ensures value { result.now ≡ take 251 bytes.now }
-    ensures few { length result.now ≤ 251 }
+    ensures value { result.now ≡ take PIECE bytes.now }
+    ensures few { length result.now ≤ PIECE }
 {
     &bytes[..PIECE.min(bytes.len())]
 }

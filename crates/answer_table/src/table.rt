@@ -236,7 +236,7 @@ fn size_of(number: u8) -> usize
 
 // How far into its day the second of a request of a day lies.
 fn past_midnight(number: u8, bytes: &[u8]) -> u32
-    ensures { result ≡ (if number == 2 then day_in bytes.now % 86400 else 0) }
+    ensures { result ≡ (if number == 2 then day_in bytes.now % SECONDS_OF_DAY else 0) }
 {
     if number == 2 {
         day_in(bytes) % SECONDS_OF_DAY

@@ -3,6 +3,7 @@ use Rattle.std.specs.Prelude.{◌≡◌, ℕ, ◌+◌, ◌<◌, ◌≤◌, ◌^�
 use Rattle.card_model.specs.Days.{Day, total}
 use Rattle.card_model.specs.Image.{StringShape, IsStringShape, Holds, IsAt}
 use Rattle.card_model.specs.Walk.{days_of}
+use Rattle.card_model.specs.declared.lengths.TheConstants.{STRING_MOST}
 use Rattle.cyclic_days.specs.declared.head.DayHead.{DayHead}
 use Rattle.cyclic_days.specs.Heads.{heads_from}
 use Rattle.card_judge.specs.declared.walk.Met.{Met}
@@ -21,7 +22,7 @@ pub record IsMet (r : StringShape) (x : List ℕ) (older : List Day) (d : Day) (
   pub words : m.head.words ≡ length d.words
   pub so_far : m.so_far ≡ total older
   pub place : m.head.place < r.size
-  pub near : m.so_far ≤ 13776
+  pub near : m.so_far ≤ STRING_MOST
 
 -- these are the last of some days and those before it
 pub record IsLastMet (r : StringShape) (x : List ℕ) (ds : List Day) (m : Met) : Type 0 where

@@ -24,6 +24,9 @@ pub struct Behind {
     pub bad: Option<u32>,
 }
 
+/// The last minute that a `TimeReal` can name, since 1970-01-01.
+pub const LAST_MINUTE: u32 = 71582788;
+
 /// The seconds of a day, and the minutes.
 const DAY_SECONDS: u32 = 86400;
 
@@ -31,7 +34,7 @@ const DAY_MINUTES: u32 = 1440;
 
 /// The first second of the day of a minute.
 pub fn date_of(minute: u32) -> u32
-    requires { minute ≤ 71582788 }
+    requires { minute ≤ LAST_MINUTE }
     ensures { result ≡ date_of minute }
 {
     minute / DAY_MINUTES * DAY_SECONDS
@@ -39,7 +42,7 @@ pub fn date_of(minute: u32) -> u32
 
 /// Whether a day of this date is later than the day of a minute.
 pub fn is_later_day(date: u32, minute: u32) -> bool
-    requires { minute ≤ 71582788 }
+    requires { minute ≤ LAST_MINUTE }
     ensures { result ≡ (if nat_le date (date_of minute) then false else true) }
 {
     date > date_of(minute)
@@ -73,7 +76,7 @@ impl Behind {
 
     /// What was seen with one word more, which stands at this place.
     pub fn see(self, mark: u32, date: u32, word: u16, place: u32) -> Behind
-        requires mark { mark ≤ 71582788 }
+        requires mark { mark ≤ LAST_MINUTE }
         ensures { result ≡ seen_by mark self (record { date = date; word = word; place = place }) }
     {
         let minute = minute_at(date, word);

@@ -103,7 +103,7 @@ fn newest_minute(judged: &Judged) -> u32
 
 // The card's number, of a driver card with these bytes of Identification.
 fn number_of(identification: &[u8]) -> FullCardNumber
-    requires { length identification.now ≡ 143 }
+    requires { length identification.now ≡ IDENTIFICATION }
     ensures { result ≡ card_number_of (1 ∷ take 17 identification.now) }
 {
     let mut bytes = [DRIVER_CARD; FullCardNumber::SIZE];

@@ -6,6 +6,8 @@ ghost use Rattle.card_model.specs.Walk.{days_of};
 ghost use Rattle.card_image.specs.Judging.{PlacedWord, words_placed};
 ghost use Rattle.card_judge.specs.Walks.{IsInMemory, IsMet};
 ghost use Rattle.card_judge.specs.Words.{IsBehind, HasMet};
+ghost use Rattle.card_model.specs.declared.lengths.TheConstants.{STRING_MOST};
+ghost use Rattle.card_judge.specs.declared.behind.TheConstants.{LAST_MINUTE};
 
 use crate::behind::{Behind, is_later_day};
 use crate::memory::{after, first, word};
@@ -46,9 +48,9 @@ fn see_words(
     requires size { round.now.size ≡ days.now.shape.size }
     requires oldest { round.now.oldest ≡ oldest_pointer days.now.shape image.now }
     requires short { round.now.oldest < 2 ^ 24 }
-    requires mark { mark ≤ 71582788 }
+    requires mark { mark ≤ LAST_MINUTE }
     requires place { met.now.head.place < days.now.shape.size }
-    requires near { met.now.so_far ≤ 13776 }
+    requires near { met.now.so_far ≤ STRING_MOST }
     ensures { (older : List Day) (d : Day) → IsMet days.now.shape image.now older d met.now → (ws : List PlacedWord) → IsBehind mark ws behind
         → IsBehind mark (ws ++ words_placed days.now.shape.size (oldest_pointer days.now.shape image.now) (met.now.so_far + 12) d.date d.words) result }
 {
@@ -82,9 +84,9 @@ impl Walked {
         requires size { round.now.size ≡ days.now.shape.size }
         requires oldest { round.now.oldest ≡ oldest_pointer days.now.shape image.now }
         requires short { round.now.oldest < 2 ^ 24 }
-        requires mark { mark ≤ 71582788 }
+        requires mark { mark ≤ LAST_MINUTE }
         requires place { met.head.place < days.now.shape.size }
-        requires near { met.so_far ≤ 13776 }
+        requires near { met.so_far ≤ STRING_MOST }
         ensures { (older : List Day) (d : Day) → IsMet days.now.shape image.now older d met → HasMet days.now.shape image.now mark older self → HasMet days.now.shape image.now mark (older ++ d ∷ []) result }
     {
         let behind = see_words(self.behind, days, image, round, mark, &met);
@@ -105,7 +107,7 @@ pub fn walk(days: &Days, image: &[u8], round: &Round, mark: u32) -> Walked
     requires size { round.now.size ≡ days.now.shape.size }
     requires oldest { round.now.oldest ≡ oldest_pointer days.now.shape image.now }
     requires short { round.now.oldest < 2 ^ 24 }
-    requires mark { mark ≤ 71582788 }
+    requires mark { mark ≤ LAST_MINUTE }
     ensures { HasMet days.now.shape image.now mark (days_of days.now.shape image.now) result }
 {
     let mut walked = Walked {

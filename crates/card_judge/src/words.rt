@@ -8,6 +8,8 @@ ghost use Rattle.card_model.specs.Walk.{days_of};
 ghost use Rattle.card_image.specs.Judging.{words_placed, rising_checks, newest_rises, word_checks};
 ghost use Rattle.card_judge.specs.Words.{passes_after, first_of, limit_of};
 ghost use Rattle.card_judge.specs.Walks.{IsInMemory, IsMet, IsLastOf};
+ghost use Rattle.card_model.specs.declared.lengths.TheConstants.{STRING_MOST};
+ghost use Rattle.card_judge.specs.declared.behind.TheConstants.{LAST_MINUTE};
 
 use crate::behind::date_of;
 use crate::memory::word;
@@ -25,7 +27,7 @@ fn first_not_later(days: &Days, image: &[u8], round: &Round, met: &Met, limit: u
     requires oldest { round.now.oldest ≡ oldest_pointer days.now.shape image.now }
     requires short { round.now.oldest < 2 ^ 24 }
     requires place { met.now.head.place < days.now.shape.size }
-    requires near { met.now.so_far ≤ 13776 }
+    requires near { met.now.so_far ≤ STRING_MOST }
     ensures { (older : List Day) (d : Day) → IsMet days.now.shape image.now older d met.now → result ≡ first_failing (rising_checks (words_placed days.now.shape.size (oldest_pointer days.now.shape image.now) (met.now.so_far + 12) d.date (early limit d.words))) }
 {
     let mut before = None;
@@ -65,7 +67,7 @@ pub fn first_bad_word(
     requires size { round.now.size ≡ days.now.shape.size }
     requires oldest { round.now.oldest ≡ oldest_pointer days.now.shape image.now }
     requires short { round.now.oldest < 2 ^ 24 }
-    requires mark { mark ≤ 71582788 }
+    requires mark { mark ≤ LAST_MINUTE }
     ensures { result ≡ first_failing (word_checks days.now.shape.size (oldest_pointer days.now.shape image.now) mark session (days_of days.now.shape image.now)) }
 {
     let walked = walk(days, image, round, mark);
@@ -115,7 +117,7 @@ fn first_of_cut(
     requires size { round.now.size ≡ days.now.shape.size }
     requires oldest { round.now.oldest ≡ oldest_pointer days.now.shape image.now }
     requires short { round.now.oldest < 2 ^ 24 }
-    requires mark { mark ≤ 71582788 }
+    requires mark { mark ≤ LAST_MINUTE }
     requires cut { IsLastOf days.now.shape image.now (until (date_of mark) (days_of days.now.shape image.now)) cut }
     ensures { result ≡ first_failing (newest_rises days.now.shape.size (oldest_pointer days.now.shape image.now) 0 (trimmed mark (days_of days.now.shape image.now))) }
 {
@@ -130,7 +132,7 @@ fn first_of_cut(
 
 // Up to which minute a day counts that is not later than the mark's: the mark's own up to the mark.
 fn limit_of(mark: u32, date: u32) -> u16
-    requires { mark ≤ 71582788 }
+    requires { mark ≤ LAST_MINUTE }
     ensures { result ≡ limit_of mark date }
 {
     if date == date_of(mark) {
