@@ -145,7 +145,7 @@ module _ (rule : Rule) (start : Start) (from first : ℕ) (done : List TraceSeco
   front-found : take p.unfound later ≡ take p.unfound p.breaks
   front-found = take-front p.unfound p.breaks (cut ∷ []) f.unfound
 
-  second : cut_second (last (cut_last (t ∷ span))) ≡ Some (p.next - 1)
+  pub second : cut_second (last (cut_last (t ∷ span))) ≡ Some (p.next - 1)
   second =
       let whole = spanned (log_of p.breaks) from done f.order in
       let apart = apart-last from (from + length done) f.ended (t ∷ span) (subst (λ (ss : List (List Told)). AreApart from ss (from + length done)) f.spans whole.apart) in

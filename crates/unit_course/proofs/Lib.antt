@@ -17,3 +17,5 @@ pub mod Caused
 pub mod WithCauses
 pub mod Rows
 pub mod Walk
+pub mod Legs
+pub mod Travelled

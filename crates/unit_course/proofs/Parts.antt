@@ -114,7 +114,7 @@ behind a until (x ∷ xs) ys h =
     let later : x.minute + 1 ≤ rest.at = rest.from in
     record { at = rest.at; from = omega (arith, here, later); before = All-cons (λ (i : HistoryMinute). i.minute < rest.at) x xs (omega (arith, later)) rest.before; after = rest.after }
 
-rising-all : (a until : ℕ) (ys : List HistoryMinute) → Rises a ys until → All (λ i. a ≤ i.minute) ys
+pub rising-all : (a until : ℕ) (ys : List HistoryMinute) → Rises a ys until → All (λ i. a ≤ i.minute) ys
 rising-all a until [] h = All-nil (λ (i : HistoryMinute). a ≤ i.minute)
 rising-all a until (y ∷ ys) h =
     let here : a ≤ y.minute = h.0 in

@@ -1,13 +1,14 @@
 -- Worked turns and runs from 2010-03-01 00:00 on, computed from the seconds of a trace and a written log.
-use Rattle.std.proofs.Common.{◌≡◌, ℕ, ◌+◌, true, false, None, List, [], ◌∷◌, ◌++◌, refl}
+use Rattle.std.proofs.Common.{◌≡◌, inl, inr, ℕ, ◌+◌, true, false, None, List, [], ◌∷◌, ◌++◌, refl}
 use Rattle.activity_codec.specs.declared.values.Slot.TheVariants.{Driver}
-use Rattle.activity_codec.specs.declared.values.Activity.TheVariants.{Available, Driving}
+use Rattle.activity_codec.specs.declared.values.Activity.TheVariants.{Available, Driving, Rest}
 use Rattle.activity_codec.specs.declared.values.Pick.TheVariants as pick
 use Rattle.trace_model.specs.declared.Action.TheVariants.{Select}
 use Rattle.trace_model.specs.declared.Item.{Item}
 use Rattle.trace_model.specs.declared.Item.TheVariants.{Run, Off}
 use Rattle.trace_model.specs.Trace.{driven, seconds_of}
 use Rattle.minute_model.specs.declared.Rule.TheVariants.{Original}
+use Rattle.minute_model.specs.declared.Minute.{Minute}
 use Rattle.minute_model.specs.Minute.{decided}
 use Rattle.log_model.specs.declared.lines.Break.{Break}
 use Rattle.log_model.specs.Log.{cut_in, kept_after, is_torn_in, found_in}
@@ -15,10 +16,11 @@ use Rattle.log_model.specs.Course.{went}
 use Rattle.log_model.specs.Spans.{spans_of}
 use Rattle.history_model.specs.Minutes.{HistoryMinute}
 use Rattle.history_model.specs.Presence.{Start, CardStart, present_in}
-use Rattle.history_model.specs.History.{unit_history, with_lost}
+use Rattle.history_model.specs.History.{unit_history, with_lost, limit_of}
 use Rattle.history_model.specs.Book.{Book, all, not_begun, kept, broken, found}
 use Rattle.unit_course.specs.Turn.{lit_seconds, dark_seconds, cut_last}
 use Rattle.unit_course.specs.Lines.{log_of, cut_at, found_from}
+use Rattle.unit_course.specs.Legs.{kilometres_of, IsLeg, AreLegs}
 
 -- A DRIVE OVER THE HOUR in two turns, the first with a selection
 over_the_hour : (went (log_of []) (driven 30 1267405170 50 (Select Driver pick.Work ∷ []) ++ driven 30 1267405200 50 [])).told
@@ -82,3 +84,33 @@ lost_of_two_power_ons = refl
 minutes_before_the_second_second : minutes twice (Run 301 50 ∷ []) ≡ drives 0 ∷ drives 1 ∷ []
 unfolding decided seconds_of went spans_of cut_in kept_after is_torn_in found_in unit_history present_in
 minutes_before_the_second_second = refl
+
+-- LEGS: whole kilometres, each for itself
+three_legs : kilometres_of (7199 ∷ 3600 ∷ 0 ∷ []) ≡ 2
+three_legs = refl
+
+-- of two minutes the first was kept, and the keeping of the second was broken off
+abbrev first_minute : Minute
+first_minute = record { minute = 1440; driver = Driving; codriver = Rest; travelled = 3000 }
+
+abbrev second_minute : Minute
+second_minute = record { minute = 1441; driver = Driving; codriver = Rest; travelled = 6000 }
+
+its_own : IsLeg 1440 (first_minute ∷ second_minute ∷ []) 3000
+its_own = inl refl
+
+the_one_begun : IsLeg 1440 (first_minute ∷ second_minute ∷ []) 6000
+the_one_begun = inr (second_minute, refl, refl)
+
+none_kept : IsLeg 1439 (first_minute ∷ second_minute ∷ []) 0
+none_kept = inl refl
+
+-- the legs of that run: of the first span the first minute was found, and the other two decided nothing
+legs_of_two_power_ons : AreLegs Original (limit_of (log_of twice)) 0 (spans_of (went (log_of twice) (seconds_of 1267401600 (Run 302 50 ∷ []))).told) (3000 ∷ 0 ∷ 0 ∷ [])
+unfolding decided seconds_of went spans_of cut_in kept_after is_torn_in found_in
+legs_of_two_power_ons = (inl refl, (inl refl, (inl refl, refl)))
+
+-- in the first second of the last span they go by the last-kept minute of the unit, here by the second one, as long as its keeping may have ended
+legs_before_the_second_second : AreLegs Original (limit_of (log_of twice)) 21123361 (spans_of (went (log_of twice) (seconds_of 1267401600 (Run 301 50 ∷ []))).told) (6000 ∷ 0 ∷ 0 ∷ [])
+unfolding decided seconds_of went spans_of cut_in kept_after is_torn_in found_in
+legs_before_the_second_second = (inl refl, (inl refl, (inl refl, refl)))

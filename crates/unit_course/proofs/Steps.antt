@@ -375,7 +375,7 @@ went-refusing breaks refused ss =
     went-same (log_of breaks) (refusing breaks refused) ss
     (all-numbered (λ (u : ℕ). SameAt (log_of breaks) (refusing breaks refused) u) ss (λ u. record { cut = cut-refusing breaks refused u; torn = torn-refusing breaks refused u; found = found-refusing breaks refused u }))
 
-limits-refusing : (breaks : List Break) (refused : List Refused) (spans : List (List Told)) → SameLimits (log_of breaks) (refusing breaks refused) spans
+pub limits-refusing : (breaks : List Break) (refused : List Refused) (spans : List (List Told)) → SameLimits (log_of breaks) (refusing breaks refused) spans
 limits-refusing breaks refused [] = tt
 limits-refusing breaks refused (span ∷ spans) = (λ long. by (cut_second (last span)), limits-refusing breaks refused spans)
   where

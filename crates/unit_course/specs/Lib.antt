@@ -4,3 +4,5 @@ pub mod Keeping
 pub mod Followed
 pub mod Complete
 pub mod Caused
+pub mod Legs
+pub mod Travelled
