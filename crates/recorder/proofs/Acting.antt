@@ -7,7 +7,7 @@ use Rattle.minute_model.specs.Span.{Span}
 use Rattle.minute_rules.specs.Kept.{StandsFor}
 use Rattle.log_model.specs.declared.lines.Mark.{Mark}
 use Rattle.history_model.specs.Book.{Book}
-use Rattle.recorder.specs.Standing.{Began}
+use Rattle.recorder.specs.Standing.{Began, Travel}
 use Rattle.recorder.specs.declared.run.Run.{Run}
 use Rattle.recorder.specs.declared.run.Power.{Power}
 use Rattle.recorder.specs.declared.run.Power.TheVariants.{Lit, Due, Lost}
@@ -59,8 +59,8 @@ module _ (old new : Run) (unit : State) (picks : List (Slot × Pick)) (only : On
       go Due is = let v = ap (λ (q : Power). waiting q new.minutes.owing) (same ∙ is) in omega (arith, v)
       go Lost is = let v = ap (λ (q : Power). waiting q new.minutes.owing) (same ∙ is) in omega (arith, v)
 
-  pub booked-picked : (s : Began) (b : Book) (marks : List Mark) → Booked s old b marks unit → Booked s new b marks unit
-  booked-picked s b marks k = booked-at s new b k.travel marks unit (due_of old)
+  pub booked-picked : (s : Began) (b : Book) (g : Travel) (marks : List Mark) → Booked s old b g marks unit → Booked s new b g marks unit
+  booked-picked s b g marks k = booked-at s new b g marks unit (due_of old)
       (let late = late-picked in let n = ap (λ (r : Run). r.next) only in omega (arith, late, n)) (λ p. k.none (sym (ap (λ (r : Run). r.power) only) ∙ p))
       (λ p. ap (λ (r : Run). r.odometer) only ∙ k.odometer (sym (ap (λ (r : Run). r.power) only) ∙ p)) k.stands
 

@@ -13,13 +13,14 @@ use Rattle.log_model.specs.declared.lines.Refused.{Refused}
 use Rattle.log_model.specs.declared.lines.Find.{Find}
 use Rattle.log_model.specs.Course.{Told, went}
 use Rattle.log_model.specs.Log.{RunLog}
+use Rattle.log_model.specs.Spans.{spans_of}
 use Rattle.log_model.specs.Causes.{cuts, device_of, RoseBy, HasCauses}
 use Rattle.log_model.specs.declared.lines.Verdict.{Verdict}
 use Rattle.trace_model.specs.declared.Card.{Card}
 use Rattle.run_model.specs.declared.Device.{Device}
 use Rattle.run_model.specs.declared.Device.TheVariants.{Unit as Recorder}
 use Rattle.history_model.specs.Book.{Book, all, found, not_begun, IsMark, Follows}
-use Rattle.history_model.specs.History.{unit_history, with_lost}
+use Rattle.history_model.specs.History.{unit_history, with_lost, limit_of}
 use Rattle.history_model.specs.Presence.{Start}
 use Rattle.history_model.specs.Growth.{picking}
 use Rattle.unit_course.specs.Lines.{log_of, cut_at, found_from}
@@ -31,6 +32,9 @@ use Rattle.unit_course.proofs.Parts.{none-of_last}
 use Rattle.unit_course.proofs.Steps as steps
 use Rattle.unit_course.proofs.Marked as marked
 use Rattle.unit_course.proofs.WithCauses as causes
+use Rattle.unit_course.proofs.Travelled as travels
+use Rattle.unit_course.specs.Legs.{Travel, not_travelled, resumed, all_travelled, stranded_at, kilometres_of, AreLegs}
+use Rattle.unit_course.specs.Travelled.{MayShow, HasLegs}
 use Rattle.unit_course.specs.Caused.{cuts_by, IsOver, Caused, WellCaused}
 use Rattle.log_model.specs.declared.lines.SlotFault.{SlotFault}
 use Rattle.log_model.specs.declared.lines.SlotFault.TheVariants.{NoPower}
@@ -143,6 +147,58 @@ module _ (rule : Rule) (start : Start) (from first : ℕ) (done : List TraceSeco
   pub cut_off_done : (t : Told) (span : List Told) → supply ≡ On (t ∷ span) → (n : ℕ) → 0 < n → AreMarked rule (went (log_of (breaks ++ cut_at (next - 1) false begun ∷ [])) (done ++ dark n next)).told marks
   cut_off_done t span is zero some = absurd (omega (arith, some))
   cut_off_done t span is (suc n) some = marked.cut_off_marked rule start from first done (progress breaks unfound next begun supply b) f marks old t span is refl n
+
+-- WHAT WAS TRAVELLED, by the spans
+pub begins_leg : (rule : Rule) (first from : ℕ) → HasLegs rule first [] (progress [] 0 from 0 Awaited not_begun) not_travelled
+begins_leg rule first from = travels.begins_legs rule first from
+
+module _ (rule : Rule) (start : Start) (from first : ℕ) (done : List TraceSecond) (breaks : List Break) (unfound next begun : ℕ) (supply : Supply) (b : Book) (f : Followed rule start from first done (progress breaks unfound next begun supply b))
+    (g : Travel) (h : HasLegs rule first done (progress breaks unfound next begun supply b) g) where
+  pub powered_leg : MayPower supply next → (k leg : ℕ) → MayShow first b g k leg → HasLegs rule first done (progress (found_from unfound k breaks) (length (found_from unfound k breaks)) next begun (On []) (found k b)) (resumed leg g)
+  powered_leg may k leg shown = travels.powered_legs rule start from first done (progress breaks unfound next begun supply b) f g h may k leg shown
+
+  pub powers_not_leg : MayFail supply next → (n speed : ℕ) (actions : List Action) → 0 < n → next % 60 + n ≤ 60 → AllByRecursion IsSelection actions → (told : ℕ) →
+      HasLegs rule first (done ++ driven n next speed actions) (progress (breaks ++ cut_at next true 0 ∷ []) unfound (next + n) told Gone b) g
+  powers_not_leg may zero speed actions some fits each told = absurd (omega (arith, some))
+  powers_not_leg may (suc n) speed actions some fits each told = travels.powers_not_legs rule start from first done (progress breaks unfound next begun supply b) f g h may n speed actions told fits each
+
+  pub turned_leg : (span : List Told) → supply ≡ On span → (n speed : ℕ) (actions : List Action) (told : ℕ) → 0 < n → AllByRecursion IsSelection actions → length (actions_of_last n actions) ≡ told → (new : List Minute) →
+      decided_in (fed_many (picking (picks_of actions) (span_at rule next span)) speed n) ≡ decided_in (span_at rule next span) ++ new →
+      HasLegs rule first (done ++ driven n next speed actions) (progress breaks unfound (next + n) told (On (span ++ lit_seconds n next speed (picks_of actions) (begins_with span))) (kept_all new b)) (all_travelled new g)
+  turned_leg span is zero speed actions told some each had new given = absurd (omega (arith, some))
+  turned_leg span is (suc n) speed actions told some each had new given =
+      subst (λ (m : ℕ). HasLegs rule first (done ++ driven (suc n) next speed actions) (progress breaks unfound (next + suc n) m (On (span ++ lit_seconds (suc n) next speed (picks_of actions) (begins_with span))) (kept_all new b)) (all_travelled new g)) had
+      (travels.turned_legs rule start from first done (progress breaks unfound next begun supply b) f g h span is refl n speed actions each new given)
+
+  pub breaks_off_leg : (span : List Told) → supply ≡ On span → (n speed : ℕ) (actions : List Action) (told : ℕ) → 0 < n → AllByRecursion IsSelection actions → length (actions_of_last n actions) ≡ told → (new : List Minute) →
+      decided_in (fed_many (picking (picks_of actions) (span_at rule next span)) speed n) ≡ decided_in (span_at rule next span) ++ new → (front : List Minute) (d : Option Minute) (rest : List Minute) → new ≡ front ++ (option_to_list d ++ rest) → (failed : Bool) →
+      HasLegs rule first (done ++ driven n next speed actions) (progress (breaks ++ cut_at (next + n - 1) failed told ∷ []) unfound (next + n) told Gone (broken_at (option_map {T = Minute} plain d) (kept_all front b))) (stranded_at d (all_travelled front g))
+  breaks_off_leg span is zero speed actions told some each had new given front d rest are failed = absurd (omega (arith, some))
+  breaks_off_leg span is (suc n) speed actions told some each had new given front d rest are failed =
+      subst (λ (m : ℕ). HasLegs rule first (done ++ driven (suc n) next speed actions) (progress (breaks ++ cut_at (next + suc n - 1) failed m ∷ []) unfound (next + suc n) m Gone (broken_at (option_map {T = Minute} plain d) (kept_all front b))) (stranded_at d (all_travelled front g))) had
+      (travels.broken_legs rule start from first done (progress breaks unfound next begun supply b) f g h span is refl n speed actions each new given front d rest are failed)
+
+  pub stays_dark_leg : supply ≡ Gone → (n speed : ℕ) (actions : List Action) → 0 < next % 60 → next % 60 + n ≤ 60 → (told : ℕ) → HasLegs rule first (done ++ driven n next speed actions) (progress breaks unfound (next + n) told supply b) g
+  stays_dark_leg is n speed actions late fits told =
+      subst (λ (s : Supply). HasLegs rule first (done ++ driven n next speed actions) (progress breaks unfound (next + n) told s b) g) (sym is)
+      (travels.stays_dark_legs rule start from first done (progress breaks unfound next begun supply b) f g h is n speed actions told late fits)
+
+  pub goes_off_leg : IsDark supply → (n : ℕ) → 0 < n → HasLegs rule first (done ++ dark n next) (progress breaks unfound (next + n) 0 Awaited b) g
+  goes_off_leg is zero some = absurd (omega (arith, some))
+  goes_off_leg is (suc n) some = travels.goes_off_legs rule start from first done (progress breaks unfound next begun supply b) f g h is n
+
+  pub cut_off_leg : (t : Told) (span : List Told) → supply ≡ On (t ∷ span) → (n : ℕ) → 0 < n → HasLegs rule first (done ++ dark n next) (progress (breaks ++ cut_at (next - 1) false begun ∷ []) unfound (next + n) 0 Awaited b) g
+  cut_off_leg t span is zero some = absurd (omega (arith, some))
+  cut_off_leg t span is (suc n) some = travels.cut_off_legs rule start from first done (progress breaks unfound next begun supply b) f g h t span is refl n
+
+  -- at any moment, by the run log
+  pub shown_leg : (log : RunLog) → log.breaks ≡ breaks → log.finds ≡ [] → (k leg : ℕ) → MayShow first b g k leg →
+      (legs : List ℕ) × AreLegs rule (limit_of log) k (spans_of (went log done).told) legs × (kilometres_of legs ≡ kilometres_of (g.before ++ leg ∷ []))
+  shown_leg log same none k leg shown =
+      subst (λ (l : RunLog). (legs : List ℕ) × AreLegs rule (limit_of l) k (spans_of (went l done).told) legs × (kilometres_of legs ≡ kilometres_of (g.before ++ leg ∷ [])))
+      (ap (λ (bs : List Break). record { breaks = bs; refused = log.refused; finds = [] }) (sym same)
+      ∙ ap (λ (fs : List Find). record { breaks = log.breaks; refused = log.refused; finds = fs }) (sym none))
+      (travels.logged_legs rule start from first done (progress breaks unfound next begun supply b) refl g k leg shown f h log.refused)
 
 -- WHAT THE LOG TELLS, AND WHY
 pub begins_why : (from : ℕ) → WellCaused [] (progress [] 0 from 0 Awaited not_begun) []

@@ -11,12 +11,12 @@ use Rattle.trace_model.specs.Trace.{TraceSecond, driven, dark}
 use Rattle.trace_model.specs.declared.Action.{Action}
 use Rattle.run_model.specs.Span.{picks_of}
 use Rattle.minute_model.specs.declared.Rule.TheVariants.{Original}
-use Rattle.minute_model.specs.declared.Minute.{Minute}
 use Rattle.minute_model.specs.Span.{Span, begin, fed_many, decided_in}
 use Rattle.minute_rules.specs.Kept.{Kept, StandsFor}
 use Rattle.log_model.specs.Course.{Told, went}
 use Rattle.unit_course.specs.Complete.{AreMarked}
 use Rattle.unit_course.specs.Caused.{WellCaused}
+use Rattle.unit_course.specs.Travelled.{HasLegs}
 use Rattle.log_model.specs.declared.lines.Refused.{Refused}
 use Rattle.log_model.specs.declared.lines.SlotFault.{SlotFault}
 use Rattle.log_model.specs.declared.lines.SlotFault.TheVariants.{NoPower}
@@ -29,7 +29,7 @@ use Rattle.unit_course.specs.Lines.{log_of, cut_at, found_from}
 use Rattle.unit_course.specs.Keeping.{plain, kept_all}
 use Rattle.unit_course.specs.Turn.{IsSelection, span_at, lit_seconds, begins_with, actions_of_last}
 use Rattle.unit_course.specs.Followed.{Supply, Lit as On, Due as Awaited, Lost as Gone, Progress, Followed, going_on}
-use Rattle.recorder.specs.Standing.{Began}
+use Rattle.recorder.specs.Standing.{Began, Travel, resumed, stranded, all_travelled}
 use Rattle.recorder.specs.declared.run.Run.{Run}
 use Rattle.recorder.specs.declared.run.Power.{Power}
 use Rattle.recorder.specs.declared.run.Power.TheVariants.{Lit, Due, Lost}
@@ -41,7 +41,8 @@ use Rattle.recorder.specs.Going.{waiting}
 use Rattle.recorder.specs.Recorded.{power_of, HasSecond, progress, Recorded}
 use Rattle.recorder.specs.Steps.{IsSecondBegun, IsNotPoweredOn, IsPoweredOn, IsFoundOn, IsTurn, IsLitTurn, AreDecided}
 use Rattle.recorder.proofs.Turning.{lit-is, booked-at}
-use Rattle.recorder.proofs.Courses.{MayPower, MayFail, powered, powers_not, turned, breaks_off, stays_dark, goes_off, cut_off, rules_see_the_turn, powered_done, turned_done, broken_done, failed_done, dark_done, off_done, cut_off_done, why-by, powered_why, powers_not_why, turned_why, breaks_off_why, stays_dark_why, goes_off_why, cut_off_why}
+use Rattle.recorder.proofs.Courses.{MayPower, MayFail, powered, powers_not, turned, breaks_off, stays_dark, goes_off, cut_off, rules_see_the_turn, powered_done, turned_done, broken_done, failed_done, dark_done, off_done, cut_off_done, why-by, powered_why, powers_not_why, turned_why, breaks_off_why, stays_dark_why, goes_off_why, cut_off_why, powered_leg, powers_not_leg, turned_leg, breaks_off_leg, stays_dark_leg, goes_off_leg, cut_off_leg}
+use Rattle.minute_model.specs.declared.Minute.{Minute}
 
 -- power by its supply
 lit-supply : (supply : Supply) (p : Power) → power_of supply ≡ p → is_lit p ≡ true → (span : List Told) × (supply ≡ On span)
@@ -84,6 +85,14 @@ followed-as start from first done supply b {a} {c} {u} {v} {n} {m} {g} {h} ac uv
     (subst (λ (x : ℕ). Followed Original start from first done (progress a u x h supply b)) nm
     (subst (λ (x : ℕ). Followed Original start from first done (progress a u n x supply b)) gh f)))
 
+pub legs-as : (first : ℕ) (done : List TraceSecond) (supply : Supply) (b : Book) (t : Travel) {a c : List Break} {u v n m g h : ℕ} → a ≡ c → u ≡ v → n ≡ m → g ≡ h →
+    HasLegs Original first done (progress a u n g supply b) t → HasLegs Original first done (progress c v m h supply b) t
+legs-as first done supply b t {a} {c} {u} {v} {n} {m} {g} {h} ac uv nm gh l =
+    subst (λ (x : List Break). HasLegs Original first done (progress x v m h supply b) t) ac
+    (subst (λ (x : ℕ). HasLegs Original first done (progress a x m h supply b) t) uv
+    (subst (λ (x : ℕ). HasLegs Original first done (progress a u x h supply b) t) nm
+    (subst (λ (x : ℕ). HasLegs Original first done (progress a u n x supply b) t) gh l)))
+
 -- what the refusals of a second without power tell
 told-dark : (second : ℕ) (actions : List Action) → map (λ r. (r.second, r.fault)) (refused_in false second actions) ≡ map {B = ℕ × SlotFault} (λ (a : Action). (second, NoPower)) actions
 told-dark second [] = refl
@@ -97,20 +106,24 @@ module _ (start : Start) (s : Began) (from : ℕ) (done : List TraceSecond) (n s
   marked-as ss marks is m = subst (λ (bs : List Break). AreMarked Original (went (log_of bs) ss).told marks) is m
 
   -- with power, from a run whose span is this
-  lit-stepped : (act new : Run) (mids after : List Break) (prior marks : List Mark) (unit : State) (b : Book) (span : List Told) → length (actions_of_last n actions) ≡ begun → act.next % 60 + n ≤ 60 →
-      Followed Original start from s.opened.first done (progress mids act.unfound act.next act.begun (On span) b) → AreMarked Original (went (log_of mids) done).told prior →
+  lit-stepped : (act new : Run) (mids after : List Break) (prior marks : List Mark) (unit : State) (b : Book) (t : Travel) (span : List Told) → length (actions_of_last n actions) ≡ begun → act.next % 60 + n ≤ 60 →
+      Followed Original start from s.opened.first done (progress mids act.unfound act.next act.begun (On span) b) → HasLegs Original s.opened.first done (progress mids act.unfound act.next act.begun (On span) b) t → AreMarked Original (went (log_of mids) done).told prior →
       (refused : List Refused) → WellCaused done (progress mids act.unfound act.next act.begun (On span) b) refused →
       StandsFor act.minutes (picking (picks_of actions) (span_at Original act.next span)) →
-      IsLitTurn s act new mids after n speed begun b prior marks unit → Recorded start s from (done ++ driven n act.next speed actions) new after marks refused unit
-  lit-stepped act new mids after prior marks unit b span had fits f old refused why stands turn = ⊎_elim
+      IsLitTurn s act new mids after n speed begun b t prior marks unit → Recorded start s from (done ++ driven n act.next speed actions) new after marks refused unit
+  lit-stepped act new mids after prior marks unit b t span had fits f l old refused why stands turn = ⊎_elim
       (λ all. record {
         book = kept_all all.items b;
+        travel = all_travelled all.items t;
         booked = all.booked;
         supply = On (span ++ lit_seconds n act.next speed (picks_of actions) (begins_with span));
         power = sym all.power;
         second = has-second span n act.next speed (picks_of actions) (begins_with span) some;
         followed = followed-as start from s.opened.first (done ++ driven n act.next speed actions) (On (span ++ lit_seconds n act.next speed (picks_of actions) (begins_with span))) (kept_all all.items b) (sym all.breaks) (sym all.unfound) (sym all.next) (sym all.begun_is)
             (turned Original start from s.opened.first done mids act.unfound act.next act.begun (On span) b f span refl n speed actions begun some each had all.items
+            (all.decided.given (picking (picks_of actions) (span_at Original act.next span)) stands));
+        legs = legs-as s.opened.first (done ++ driven n act.next speed actions) (On (span ++ lit_seconds n act.next speed (picks_of actions) (begins_with span))) (kept_all all.items b) (all_travelled all.items t) (sym all.breaks) (sym all.unfound) (sym all.next) (sym all.begun_is)
+            (turned_leg Original start from s.opened.first done mids act.unfound act.next act.begun (On span) b f t l span refl n speed actions begun some each had all.items
             (all.decided.given (picking (picks_of actions) (span_at Original act.next span)) stands));
         complete = marked-as (done ++ driven n act.next speed actions) marks (sym all.breaks)
             (turned_done Original start from s.opened.first done mids act.unfound act.next act.begun (On span) b f prior old span refl n speed actions some each fits all.items
@@ -124,12 +137,16 @@ module _ (start : Start) (s : Began) (from : ℕ) (done : List TraceSecond) (n s
       })
       (λ off. record {
         book = broken (plain off.d) (kept_all off.front b);
+        travel = stranded off.d.travelled (all_travelled off.front t);
         booked = off.booked;
         supply = Gone;
         power = sym off.power;
         second = tt;
         followed = followed-as start from s.opened.first (done ++ driven n act.next speed actions) Gone (broken (plain off.d) (kept_all off.front b)) (sym off.breaks) (sym off.unfound) (sym off.next) (sym off.begun_is)
             (breaks_off Original start from s.opened.first done mids act.unfound act.next act.begun (On span) b f span refl n speed actions begun some each had off.items
+            (off.decided.given (picking (picks_of actions) (span_at Original act.next span)) stands) off.front (Some off.d) off.rest off.are true);
+        legs = legs-as s.opened.first (done ++ driven n act.next speed actions) Gone (broken (plain off.d) (kept_all off.front b)) (stranded off.d.travelled (all_travelled off.front t)) (sym off.breaks) (sym off.unfound) (sym off.next) (sym off.begun_is)
+            (breaks_off_leg Original start from s.opened.first done mids act.unfound act.next act.begun (On span) b f t l span refl n speed actions begun some each had off.items
             (off.decided.given (picking (picks_of actions) (span_at Original act.next span)) stands) off.front (Some off.d) off.rest off.are true);
         complete = marked-as (done ++ driven n act.next speed actions) marks (sym off.breaks)
             (broken_done Original start from s.opened.first done mids act.unfound act.next act.begun (On span) b f prior old span refl n speed actions begun some each fits had off.items
@@ -142,19 +159,22 @@ module _ (start : Start) (s : Began) (from : ℕ) (done : List TraceSecond) (n s
       turn
 
   -- without power behind a failed power-on
-  failed-stepped : (old act new : Run) (mids after : List Break) (marks : List Mark) (unit : State) (b : Book) (before : List Break) (unfound : ℕ) (supply : Supply) →
-      Followed Original start from s.opened.first done (progress before unfound old.next old.begun supply b) → AreMarked Original (went (log_of before) done).told marks →
+  failed-stepped : (old act new : Run) (mids after : List Break) (marks : List Mark) (unit : State) (b : Book) (t : Travel) (before : List Break) (unfound : ℕ) (supply : Supply) →
+      Followed Original start from s.opened.first done (progress before unfound old.next old.begun supply b) → HasLegs Original s.opened.first done (progress before unfound old.next old.begun supply b) t → AreMarked Original (went (log_of before) done).told marks →
       (refused : List Refused) → WellCaused done (progress before unfound old.next old.begun supply b) refused → MayFail supply old.next → old.next % 60 + n ≤ 60 →
       act.power ≡ Lost → act.next ≡ old.next → act.unfound ≡ unfound → mids ≡ before ++ cut_at old.next true 0 ∷ [] →
-      (new ≡ record act { next = act.next + n; begun = begun }) → after ≡ mids → Booked s new b marks unit → Recorded start s from (done ++ driven n old.next speed actions) new after marks refused unit
-  failed-stepped old act new mids after marks unit b before unfound supply f old_marks refused why may fits lost next found cut run same booked = record {
+      (new ≡ record act { next = act.next + n; begun = begun }) → after ≡ mids → Booked s new b t marks unit → Recorded start s from (done ++ driven n old.next speed actions) new after marks refused unit
+  failed-stepped old act new mids after marks unit b t before unfound supply f l old_marks refused why may fits lost next found cut run same booked = record {
     book = b;
+    travel = t;
     booked = booked;
     supply = Gone;
     power = sym (ap (λ (r : Run). r.power) run ∙ lost);
     second = tt;
     followed = followed-as start from s.opened.first (done ++ driven n old.next speed actions) Gone b (sym (same ∙ cut)) (sym (ap (λ (r : Run). r.unfound) run ∙ found)) (sym (ap (λ (r : Run). r.next) run ∙ ap (λ (m : ℕ). m + n) next)) (sym (ap (λ (r : Run). r.begun) run))
         (powers_not Original start from s.opened.first done before unfound old.next old.begun supply b f may n speed actions some fits each begun);
+    legs = legs-as s.opened.first (done ++ driven n old.next speed actions) Gone b t (sym (same ∙ cut)) (sym (ap (λ (r : Run). r.unfound) run ∙ found)) (sym (ap (λ (r : Run). r.next) run ∙ ap (λ (m : ℕ). m + n) next)) (sym (ap (λ (r : Run). r.begun) run))
+        (powers_not_leg Original start from s.opened.first done before unfound old.next old.begun supply b f t l may n speed actions some fits each begun);
     complete = marked-as (done ++ driven n old.next speed actions) marks (sym (same ∙ cut)) (failed_done Original start from s.opened.first done before unfound old.next old.begun supply b f marks old_marks may n speed actions some fits each);
     caused = powers_not_why Original start from s.opened.first done before unfound old.next old.begun supply b f refused why may n speed actions some fits each
         (progress after new.unfound new.next new.begun Gone b) (same ∙ cut);
@@ -164,9 +184,9 @@ module _ (start : Start) (s : Began) (from : ℕ) (done : List TraceSecond) (n s
   pub stepped : (old mid act new : Run) (before mids after : List Break) (marks later : List Mark) (refused told : List Refused) (unit0 unit1 unit2 : State) (r : Recorded start s from done old before marks refused unit0) →
       length (actions_of_last n actions) ≡ begun → old.next % 60 + n ≤ 60 →
       told ≡ refused ++ refused_in (has_power old.power old.next) old.next actions →
-      IsSecondBegun s old mid before mids r.book marks unit1 → OnlyMinutes mid act →
+      IsSecondBegun s old mid before mids r.book r.travel marks unit1 → OnlyMinutes mid act →
       ((span : Span) → StandsFor mid.minutes span → StandsFor act.minutes (with_picks (picks_in (has_power old.power old.next && is_lit mid.power) actions) span)) →
-      ((b : Book) → Booked s mid b marks unit1 → IsTurn s act new mids after n speed begun b marks later unit2) →
+      ((b : Book) (t : Travel) → Booked s mid b t marks unit1 → IsTurn s act new mids after n speed begun b t marks later unit2) →
       Recorded start s from (done ++ driven n old.next speed actions) new after later told unit2
   stepped old mid act new before mids after marks later refused told unit0 unit1 unit2 r had fits adds begins only picked turn = ⊎_elim none on begins
     where
@@ -197,32 +217,32 @@ module _ (start : Start) (s : Began) (from : ℕ) (done : List TraceSecond) (n s
           ∙ ap (λ (l : List (ℕ × SlotFault)). map (λ (r : Refused). (r.second, r.fault)) refused ++ l) (told-dark old.next actions)
 
       -- with power, where the span so far is this
-      lit : (span : List Told) (b : Book) → has_power old.power old.next ≡ true → mid.power ≡ Lit → mid.next ≡ old.next →
-          Followed Original start from s.opened.first done (progress mids mid.unfound mid.next mid.begun (On span) b) → AreMarked Original (went (log_of mids) done).told marks →
-          WellCaused done (progress mids mid.unfound mid.next mid.begun (On span) b) told → StandsFor mid.minutes (span_at Original old.next span) → Booked s mid b marks unit1 →
+      lit : (span : List Told) (b : Book) (t : Travel) → has_power old.power old.next ≡ true → mid.power ≡ Lit → mid.next ≡ old.next →
+          Followed Original start from s.opened.first done (progress mids mid.unfound mid.next mid.begun (On span) b) → HasLegs Original s.opened.first done (progress mids mid.unfound mid.next mid.begun (On span) b) t → AreMarked Original (went (log_of mids) done).told marks →
+          WellCaused done (progress mids mid.unfound mid.next mid.begun (On span) b) told → StandsFor mid.minutes (span_at Original old.next span) → Booked s mid b t marks unit1 →
           Recorded start s from (done ++ driven n old.next speed actions) new after later told unit2
-      lit span b some is same f old_marks well stands booked = ⊎_elim
+      lit span b t some is same f l old_marks well stands booked = ⊎_elim
           (λ passed. absurd (let no = ap is_lit (power ∙ is) in let dark = passed.dark in cc))
           (λ turn. subst (λ (m : ℕ). Recorded start s from (done ++ driven n m speed actions) new after later told unit2) (next ∙ same)
-          (lit-stepped act new mids after marks later unit2 b span had (let at = next in omega (arith, fits, at, same))
-          (followed-as start from s.opened.first done (On span) b refl (sym unfound) (sym next) (sym acted) f) old_marks
+          (lit-stepped act new mids after marks later unit2 b t span had (let at = next in omega (arith, fits, at, same))
+          (followed-as start from s.opened.first done (On span) b refl (sym unfound) (sym next) (sym acted) f) (legs-as s.opened.first done (On span) b t refl (sym unfound) (sym next) (sym acted) l) old_marks
           told (why-by done (progress mids mid.unfound mid.next mid.begun (On span) b) (progress mids act.unfound act.next act.begun (On span) b) told refl refl well)
           (subst (λ (m : ℕ). StandsFor act.minutes (picking (picks_of actions) (span_at Original m span))) (sym (next ∙ same))
           (subst (StandsFor act.minutes) (ap (λ (t : Bool). with_picks (picks_in t actions) (span_at Original old.next span)) (ap (λ (t : Bool). t && is_lit mid.power) some ∙ ap is_lit is) ∙ with-at old.next span (picks_of actions))
           (picked (span_at Original old.next span) stands)))
           turn))
-          (turn b booked)
+          (turn b t booked)
 
       -- without power, behind a failed power-on
-      failed : (b : Book) (breaks : List Break) (from_ : ℕ) (supply : Supply) → Followed Original start from s.opened.first done (progress breaks from_ old.next old.begun supply b) → AreMarked Original (went (log_of breaks) done).told marks →
+      failed : (b : Book) (t : Travel) (breaks : List Break) (from_ : ℕ) (supply : Supply) → Followed Original start from s.opened.first done (progress breaks from_ old.next old.begun supply b) → HasLegs Original s.opened.first done (progress breaks from_ old.next old.begun supply b) t → AreMarked Original (went (log_of breaks) done).told marks →
           WellCaused done (progress breaks from_ old.next old.begun supply b) told → MayFail supply old.next →
-          mid.power ≡ Lost → mid.next ≡ old.next → mid.unfound ≡ from_ → mids ≡ breaks ++ cut_at old.next true 0 ∷ [] → Booked s mid b marks unit1 → Recorded start s from (done ++ driven n old.next speed actions) new after later told unit2
-      failed b breaks from_ supply f old_marks well may lost same found cut booked = ⊎_elim
-          (λ passed. failed-stepped old act new mids after later unit2 b breaks from_ supply f (subst (λ (ms : List Mark). AreMarked Original (went (log_of breaks) done).told ms) (sym passed.same) old_marks) told well may fits (power ∙ lost) (next ∙ same) (unfound ∙ found) cut passed.run passed.breaks passed.booked)
+          mid.power ≡ Lost → mid.next ≡ old.next → mid.unfound ≡ from_ → mids ≡ breaks ++ cut_at old.next true 0 ∷ [] → Booked s mid b t marks unit1 → Recorded start s from (done ++ driven n old.next speed actions) new after later told unit2
+      failed b t breaks from_ supply f l old_marks well may lost same found cut booked = ⊎_elim
+          (λ passed. failed-stepped old act new mids after later unit2 b t breaks from_ supply f l (subst (λ (ms : List Mark). AreMarked Original (went (log_of breaks) done).told ms) (sym passed.same) old_marks) told well may fits (power ∙ lost) (next ∙ same) (unfound ∙ found) cut passed.run passed.breaks passed.booked)
           (λ turn. absurd (let no = ap is_lit (power ∙ lost) in let yes : is_lit act.power ≡ true = ⊎_elim (λ all. all.lit) (λ off. off.lit) turn in cc))
-          (turn b booked)
+          (turn b t booked)
 
-      none : IsNotPoweredOn s old mid before mids r.book marks unit1 → Recorded start s from (done ++ driven n old.next speed actions) new after later told unit2
+      none : IsNotPoweredOn s old mid before mids r.book r.travel marks unit1 → Recorded start s from (done ++ driven n old.next speed actions) new after later told unit2
       none h = ⊎_elim dark going h.why
         where
           same : act.power ≡ old.power
@@ -237,6 +257,7 @@ module _ (start : Start) (s : Began) (from : ℕ) (done : List TraceSecond) (n s
               let p : new.power ≡ Lost = ap (λ (m : Run). m.power) passed.run ∙ lost in
               record {
                 book = r.book;
+                travel = r.travel;
                 booked = passed.booked;
                 supply = r.supply;
                 power = r.power ∙ sym (ap (λ (m : Run). m.power) passed.run ∙ same);
@@ -244,6 +265,9 @@ module _ (start : Start) (s : Began) (from : ℕ) (done : List TraceSecond) (n s
                 followed = followed-as start from s.opened.first (done ++ driven n old.next speed actions) r.supply r.book (sym (passed.breaks ∙ h.breaks)) (sym (ap (λ (m : Run). m.unfound) passed.run ∙ unfound ∙ ap (λ (m : Run). m.unfound) h.run))
                     (sym (ap (λ (m : Run). m.next) passed.run ∙ ap (λ (x : ℕ). x + n) (next ∙ ap (λ (m : Run). m.next) h.run))) (sym (ap (λ (m : Run). m.begun) passed.run))
                     (stays_dark Original start from s.opened.first done before old.unfound old.next old.begun r.supply r.book r.followed gone.0 n speed actions gone.1 fits begun);
+                legs = legs-as s.opened.first (done ++ driven n old.next speed actions) r.supply r.book r.travel (sym (passed.breaks ∙ h.breaks)) (sym (ap (λ (m : Run). m.unfound) passed.run ∙ unfound ∙ ap (λ (m : Run). m.unfound) h.run))
+                    (sym (ap (λ (m : Run). m.next) passed.run ∙ ap (λ (x : ℕ). x + n) (next ∙ ap (λ (m : Run). m.next) h.run))) (sym (ap (λ (m : Run). m.begun) passed.run))
+                    (stays_dark_leg Original start from s.opened.first done before old.unfound old.next old.begun r.supply r.book r.followed r.travel r.legs gone.0 n speed actions gone.1 fits begun);
                 complete = marked-as (done ++ driven n old.next speed actions) later (sym (passed.breaks ∙ h.breaks))
                     (dark_done Original start from s.opened.first done before old.unfound old.next old.begun r.supply r.book r.followed later (subst (λ (ms : List Mark). AreMarked Original (went (log_of before) done).told ms) (sym passed.same) r.complete) gone.0 n speed actions gone.1 fits);
                 caused = stays_dark_why Original start from s.opened.first done before old.unfound old.next old.begun r.supply r.book r.followed refused r.caused gone.0 n speed actions some gone.1 fits told (all-refused without)
@@ -251,51 +275,54 @@ module _ (start : Start) (s : Began) (from : ℕ) (done : List TraceSecond) (n s
                 minutes = λ is. absurd (let no : Lost ≡ Lit = sym p ∙ is in cc);
               })
               (λ turn. absurd (let no = ap is_lit lost in let yes : is_lit act.power ≡ true = ⊎_elim (λ all. all.lit) (λ off. off.lit) turn in cc))
-              (turn r.book h.booked)
+              (turn r.book r.travel h.booked)
 
           going : is_lit old.power ≡ true → Recorded start s from (done ++ driven n old.next speed actions) new after later told unit2
           going has =
               let is = lit-supply r.supply old.power r.power has in
               let here : old.power ≡ Lit = lit-is old.power has in
               let some_power : has_power old.power old.next ≡ true = ap (λ (q : Power). has_power q old.next) here in
-              lit is.0 r.book some_power (ap (λ (m : Run). m.power) h.run ∙ here) (ap (λ (m : Run). m.next) h.run)
+              lit is.0 r.book r.travel some_power (ap (λ (m : Run). m.power) h.run ∙ here) (ap (λ (m : Run). m.next) h.run)
               (followed-as start from s.opened.first done (On is.0) r.book (sym h.breaks) (sym (ap (λ (m : Run). m.unfound) h.run)) (sym (ap (λ (m : Run). m.next) h.run)) (sym (ap (λ (m : Run). m.begun) h.run))
               (subst (λ (x : Supply). Followed Original start from s.opened.first done (progress before old.unfound old.next old.begun x r.book)) is.1 r.followed))
+              (legs-as s.opened.first done (On is.0) r.book r.travel (sym h.breaks) (sym (ap (λ (m : Run). m.unfound) h.run)) (sym (ap (λ (m : Run). m.next) h.run)) (sym (ap (λ (m : Run). m.begun) h.run))
+              (subst (λ (x : Supply). HasLegs Original s.opened.first done (progress before old.unfound old.next old.begun x r.book) r.travel) is.1 r.legs))
               (marked-as done marks (sym h.breaks) r.complete)
               (why-by done (progress before old.unfound old.next old.begun r.supply r.book) (progress mids mid.unfound mid.next mid.begun (On is.0) r.book) told h.breaks (sym is.1) (why some_power))
               (subst (λ (m : Run). StandsFor m.minutes (span_at Original old.next is.0)) (sym h.run)
               (subst (λ (x : Supply). StandsFor old.minutes (span_at Original old.next (going_on x))) is.1 (r.minutes here)))
               h.booked
 
-      on : (has_power old.power old.next ≡ true) × (is_lit old.power ≡ false) × IsPoweredOn s old mid before mids r.book marks unit1 → Recorded start s from (done ++ driven n old.next speed actions) new after later told unit2
+      on : (has_power old.power old.next ≡ true) × (is_lit old.power ≡ false) × IsPoweredOn s old mid before mids r.book r.travel marks unit1 → Recorded start s from (done ++ driven n old.next speed actions) new after later told unit2
       on h = ⊎_elim
-          (λ lost. failed r.book before old.unfound r.supply r.followed r.complete (why h.0) (may-fail r.supply old.next may) (ap (λ (m : Run). m.power) lost.run) (ap (λ (m : Run). m.next) lost.run) (ap (λ (m : Run). m.unfound) lost.run) lost.breaks lost.booked)
+          (λ lost. failed r.book r.travel before old.unfound r.supply r.followed r.legs r.complete (why h.0) (may-fail r.supply old.next may) (ap (λ (m : Run). m.power) lost.run) (ap (λ (m : Run). m.next) lost.run) (ap (λ (m : Run). m.unfound) lost.run) lost.breaks lost.booked)
           loaded h.2
         where
           may : MayPower r.supply old.next
           may = may-power r.supply old.power old.next r.power h.0 h.1
 
-          loaded : IsFoundOn s old mid before mids r.book marks unit1 → Recorded start s from (done ++ driven n old.next speed actions) new after later told unit2
+          loaded : IsFoundOn s old mid before mids r.book r.travel marks unit1 → Recorded start s from (done ++ driven n old.next speed actions) new after later told unit2
           loaded fo =
               let breaks : List Break = found_from old.unfound fo.kept before in
-              let p = powered Original start from s.opened.first done before old.unfound old.next old.begun r.supply r.book r.followed may fo.kept fo.mark fo.sure in
+              let p = powered Original start from s.opened.first done before old.unfound old.next old.begun r.supply r.book r.followed may fo.kept fo.shown.mark fo.shown.low in
+              let l = powered_leg Original start from s.opened.first done before old.unfound old.next old.begun r.supply r.book r.followed r.travel r.legs may fo.kept fo.leg fo.shown in
               let m = powered_done Original start from s.opened.first done before old.unfound old.next old.begun r.supply r.book r.followed marks r.complete may fo.kept in
               let w = powered_why Original start from s.opened.first done before old.unfound old.next old.begun r.supply r.book r.followed told (why h.0) may fo.kept in
               ⊎_elim
-              (λ back. lit [] (found fo.kept r.book) h.0 back.0 fo.on.next
-              (followed-as start from s.opened.first done (On []) (found fo.kept r.book) (sym back.1) (sym fo.on.unfound) (sym fo.on.next) (sym fo.on.begun) p) (marked-as done marks (sym back.1) m)
+              (λ back. lit [] (found fo.kept r.book) (resumed fo.leg r.travel) h.0 back.0 fo.on.next
+              (followed-as start from s.opened.first done (On []) (found fo.kept r.book) (sym back.1) (sym fo.on.unfound) (sym fo.on.next) (sym fo.on.begun) p) (legs-as s.opened.first done (On []) (found fo.kept r.book) (resumed fo.leg r.travel) (sym back.1) (sym fo.on.unfound) (sym fo.on.next) (sym fo.on.begun) l) (marked-as done marks (sym back.1) m)
               (w (progress mids mid.unfound mid.next mid.begun (On []) (found fo.kept r.book)) back.1 refl) back.2 fo.on.booked)
-              (λ lost. failed (found fo.kept r.book) breaks (length breaks) (On []) p m (w (progress breaks (length breaks) old.next old.begun (On []) (found fo.kept r.book)) refl refl) tt lost.0 fo.on.next fo.on.unfound lost.1 fo.on.booked)
+              (λ lost. failed (found fo.kept r.book) (resumed fo.leg r.travel) breaks (length breaks) (On []) p l m (w (progress breaks (length breaks) old.next old.begun (On []) (found fo.kept r.book)) refl refl) tt lost.0 fo.on.next fo.on.unfound lost.1 fo.on.booked)
               fo.on.side
 
 -- AN OFF LINE
 -- the first minute that may still be marked is no earlier
-pub off-booked : (s : Began) (old new : Run) (b : Book) (marks : List Mark) (unit : State) (n : ℕ) → new ≡ record old { power = Due; next = old.next + n; begun = 0 } → Booked s old b marks unit → Booked s new b marks unit
-off-booked s old new b marks unit n is h =
+pub off-booked : (s : Began) (old new : Run) (b : Book) (t : Travel) (marks : List Mark) (unit : State) (n : ℕ) → new ≡ record old { power = Due; next = old.next + n; begun = 0 } → Booked s old b t marks unit → Booked s new b t marks unit
+off-booked s old new b t marks unit n is h =
     let p = ap (λ (r : Run). r.power) is in
     let w = ap (λ (q : Power). waiting q new.minutes.owing) p in
     let next = ap (λ (r : Run). r.next) is in
-    booked-at s new b h.travel marks unit (due_of old) (omega (arith, w, next)) (λ lit. absurd (let no : Due ≡ Lit = sym p ∙ lit in cc)) (λ lit. absurd (let no : Due ≡ Lit = sym p ∙ lit in cc)) h.stands
+    booked-at s new b t marks unit (due_of old) (omega (arith, w, next)) (λ lit. absurd (let no : Due ≡ Lit = sym p ∙ lit in cc)) (λ lit. absurd (let no : Due ≡ Lit = sym p ∙ lit in cc)) h.stands
 
 module _ (start : Start) (s : Began) (from : ℕ) (done : List TraceSecond) where
   off-by : (before : List Break) (unfound next begun : ℕ) (b : Book) (n : ℕ) → 0 < n → (supply : Supply) → HasSecond supply → Followed Original start from s.opened.first done (progress before unfound next begun supply b) →
@@ -331,17 +358,31 @@ module _ (start : Start) (s : Began) (from : ℕ) (done : List TraceSecond) wher
   off-why before unfound next begun b n some Gone second f refused why q is =
       goes_off_why Original start from s.opened.first done before unfound next begun Gone b f refused why tt n some q (is ∙ append-nil before)
 
+  off-legs : (before : List Break) (unfound next begun : ℕ) (b : Book) (n : ℕ) → 0 < n → (supply : Supply) → HasSecond supply → Followed Original start from s.opened.first done (progress before unfound next begun supply b) →
+      (t : Travel) → HasLegs Original s.opened.first done (progress before unfound next begun supply b) t →
+      HasLegs Original s.opened.first (done ++ dark n next) (progress (before ++ off_cut (is_lit (power_of supply)) (next - 1) begun) unfound (next + n) 0 Awaited b) t
+  off-legs before unfound next begun b n some (On []) second f t l = absurd second
+  off-legs before unfound next begun b n some (On (x ∷ span)) second f t l = cut_off_leg Original start from s.opened.first done before unfound next begun (On (x ∷ span)) b f t l x span refl n some
+  off-legs before unfound next begun b n some Awaited second f t l =
+      legs-as s.opened.first (done ++ dark n next) Awaited b t (sym (append-nil before)) refl refl refl (goes_off_leg Original start from s.opened.first done before unfound next begun Awaited b f t l tt n some)
+  off-legs before unfound next begun b n some Gone second f t l =
+      legs-as s.opened.first (done ++ dark n next) Awaited b t (sym (append-nil before)) refl refl refl (goes_off_leg Original start from s.opened.first done before unfound next begun Gone b f t l tt n some)
+
   pub off-recorded : (old new : Run) (before after : List Break) (marks : List Mark) (refused : List Refused) (unit : State) (n : ℕ) → 0 < n → new ≡ record old { power = Due; next = old.next + n; begun = 0 } →
       after ≡ before ++ off_cut (is_lit old.power) (old.next - 1) old.begun → Recorded start s from done old before marks refused unit → Recorded start s from (done ++ dark n old.next) new after marks refused unit
   off-recorded old new before after marks refused unit n some is breaks r = record {
     book = r.book;
-    booked = off-booked s old new r.book marks unit n is r.booked;
+    travel = r.travel;
+    booked = off-booked s old new r.book r.travel marks unit n is r.booked;
     supply = Awaited;
     power = sym (ap (λ (m : Run). m.power) is);
     second = tt;
     followed = followed-as start from s.opened.first (done ++ dark n old.next) Awaited r.book
         (ap (λ (p : Power). before ++ off_cut (is_lit p) (old.next - 1) old.begun) r.power ∙ sym breaks) (sym (ap (λ (m : Run). m.unfound) is)) (sym (ap (λ (m : Run). m.next) is)) (sym (ap (λ (m : Run). m.begun) is))
         (off-by before old.unfound old.next old.begun r.book n some r.supply r.second r.followed);
+    legs = legs-as s.opened.first (done ++ dark n old.next) Awaited r.book r.travel
+        (ap (λ (p : Power). before ++ off_cut (is_lit p) (old.next - 1) old.begun) r.power ∙ sym breaks) (sym (ap (λ (m : Run). m.unfound) is)) (sym (ap (λ (m : Run). m.next) is)) (sym (ap (λ (m : Run). m.begun) is))
+        (off-legs before old.unfound old.next old.begun r.book n some r.supply r.second r.followed r.travel r.legs);
     complete = subst (λ (bs : List Break). AreMarked Original (went (log_of bs) (done ++ dark n old.next)).told marks) (ap (λ (p : Power). before ++ off_cut (is_lit p) (old.next - 1) old.begun) r.power ∙ sym breaks)
         (off-marked before old.unfound old.next old.begun r.book n some r.supply r.second r.followed marks r.complete);
     caused = off-why before old.unfound old.next old.begun r.book n some r.supply r.second r.followed refused r.caused (progress after new.unfound new.next new.begun Awaited r.book)

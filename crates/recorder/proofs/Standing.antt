@@ -1,17 +1,22 @@
 -- How the unit stands, over each kind of step.
-use Rattle.std.proofs.Common.{◌≡◌, ℕ, suc, ◌≤◌, true, None, Some, List, [], ◌∷◌, ◌++◌, refl}
+use Rattle.std.proofs.Common.{◌≡◌, ℕ, suc, ◌≤◌, true, None, Some, List, [], ◌∷◌, ◌++◌, refl, All, subst}
 use Rattle.tach_media.specs.Medium.{State, IsCoherent, LeavesOnly, Unchanged}
-use Rattle.unit_model.specs.Image.{last_kept, odometer_at}
+use Rattle.unit_model.specs.Image.{last_kept}
 use Rattle.unit_journal.specs.declared.notes.Notes.{Notes}
 use Rattle.unit_journal.specs.Mends.{IsMending}
 use Rattle.minute_model.specs.declared.Minute.{Minute}
 use Rattle.log_model.specs.declared.lines.Mark.{Mark}
-use Rattle.history_model.specs.Book.{Book, found}
+use Rattle.history_model.specs.Minutes.{HistoryMinute}
+use Rattle.history_model.specs.Book.{Book, all, found, IsMark}
+use Rattle.joint_rule.specs.Views.{unit_view}
+use Rattle.unit_course.specs.Travelled.{MayShow}
+use Rattle.unit_rule.proofs.Moves.{shown-last}
 use Rattle.unit_rule.proofs.Found.{found-holds, holds-later}
 use Rattle.unit_rule.proofs.Marking.{holds-aside, holds-read}
 use Rattle.unit_rule.proofs.Mending.{mending-aside, mending-odometer}
 use Rattle.unit_rule.proofs.Travelling.{travelled-aside, travelled-read, travelled-found}
-use Rattle.recorder.specs.Standing.{Began, Travel, travelled, resumed, odometer_after, all_travelled, Stands}
+use Rattle.unit_rule.specs.Odometer.{ShowsOdometer}
+use Rattle.recorder.specs.Standing.{Began, Travel, travelled, resumed, all_travelled, Stands}
 
 pub stands-later : (s : Began) (due later : ℕ) (b : Book) (g : Travel) (marks : List Mark) (unit : State) → due ≤ later → Stands s due b g marks unit → Stands s later b g marks unit
 stands-later s due later b g marks unit le h = record { holds = holds-later s.opened due later b marks unit le h.holds; travels = h.travels }
@@ -28,10 +33,21 @@ module _ (s : Began) (due : ℕ) (b : Book) (g : Travel) (marks : List Mark) {U 
 
   -- the odometer that is found is that of one more leg
   pub stands-found : (k : ℕ) (x : List ℕ) → IsCoherent V → LeavesOnly U V Unchanged → V.works ≡ true → V.image ≡ Some x → last_kept x ≡ k →
-      (leg : ℕ) × (odometer_at x ≡ odometer_after s.odometer (g.before ++ leg ∷ [])) × Stands s due (found k b) (resumed leg g) marks V
+      (shown : ShowsOdometer s.odometer b g x) × Stands s due (found k b) (resumed shown.leg g) marks V
   stands-found k x after run works is last =
       let on = travelled-found s.odometer b g h.travels before k x after run works is in
-      (on.0.leg, on.0.is, record { holds = found-holds s.opened due b marks h.holds before after run works x is k last; travels = on.1 })
+      (on.0, record { holds = found-holds s.opened due b marks h.holds before after run works x is k last; travels = on.1 })
+
+-- an image that a stop may leave shows what the book says
+pub may-show : (s : Began) (due : ℕ) (b : Book) (g : Travel) (marks : List Mark) (unit : State) → Stands s due b g marks unit → (y : List ℕ) → unit.may_leave y → (shown : ShowsOdometer s.odometer b g y) → MayShow s.opened.first b g (last_kept y) shown.leg
+may-show s due b g marks unit h y left shown =
+    let shows = (h.holds.unit_holds [] []).now (unit_view [] [] y) (y, left, refl) in
+    record {
+      mark = subst (IsMark s.opened.first (all b)) (shown-last [] [] y) shows.mark;
+      low = subst (λ (k : ℕ). All (λ (i : HistoryMinute). i.minute ≤ k) b.sure) (shown-last [] [] y) shows.sure;
+      side = shown.side;
+      behind = shown.behind;
+    }
 
 -- what was travelled, over minutes that are kept
 pub all_travelled-more : (xs : List Minute) (d : Minute) (g : Travel) → all_travelled (xs ++ d ∷ []) g ≡ travelled d.travelled (all_travelled xs g)

@@ -5,19 +5,19 @@ use Rattle.tach_media.specs.Medium.{State}
 use Rattle.log_model.specs.declared.lines.Break.{Break}
 use Rattle.log_model.specs.declared.lines.Mark.{Mark}
 use Rattle.history_model.specs.Book.{Book, found, broken}
-use Rattle.recorder.specs.Standing.{Began}
+use Rattle.recorder.specs.Standing.{Began, Travel, resumed, stranded, all_travelled}
 use Rattle.recorder.specs.declared.run.Run.{Run}
 use Rattle.recorder.specs.Keeping.{plain, kept_all}
 use Rattle.recorder.specs.Booked.{Booked}
 use Rattle.recorder.specs.Steps.{IsSecondBegun, IsTurn}
 
-pub begun-book : (s : Began) (old new : Run) (before after : List Break) (b : Book) (marks : List Mark) (unit : State) → IsSecondBegun s old new before after b marks unit → (c : Book) × Booked s new c marks unit
-begun-book s old new before after b marks unit is =
-    ⊎_elim (λ none. (b, none.booked)) (λ on. ⊎_elim (λ lost. (b, lost.booked)) (λ mended. (found mended.kept b, mended.on.booked)) on.2) is
+pub begun-book : (s : Began) (old new : Run) (before after : List Break) (b : Book) (g : Travel) (marks : List Mark) (unit : State) → IsSecondBegun s old new before after b g marks unit → (c : Book) × (h : Travel) × Booked s new c h marks unit
+begun-book s old new before after b g marks unit is =
+    ⊎_elim (λ none. (b, g, none.booked)) (λ on. ⊎_elim (λ lost. (b, g, lost.booked)) (λ mended. (found mended.kept b, resumed mended.leg g, mended.on.booked)) on.2) is
 
-pub turn-book : (s : Began) (old new : Run) (before after : List Break) (n speed begun : ℕ) (b : Book) (prior marks : List Mark) (unit : State) → IsTurn s old new before after n speed begun b prior marks unit → (c : Book) × Booked s new c marks unit
-turn-book s old new before after n speed begun b prior marks unit is =
-    ⊎_elim (λ passed. (b, passed.booked)) (λ lit. ⊎_elim (λ all. (kept_all all.items b, all.booked)) (λ off. (broken (plain off.d) (kept_all off.front b), off.booked)) lit) is
+pub turn-book : (s : Began) (old new : Run) (before after : List Break) (n speed begun : ℕ) (b : Book) (g : Travel) (prior marks : List Mark) (unit : State) → IsTurn s old new before after n speed begun b g prior marks unit → (c : Book) × (h : Travel) × Booked s new c h marks unit
+turn-book s old new before after n speed begun b g prior marks unit is =
+    ⊎_elim (λ passed. (b, g, passed.booked)) (λ lit. ⊎_elim (λ all. (kept_all all.items b, all_travelled all.items g, all.booked)) (λ off. (broken (plain off.d) (kept_all off.front b), stranded off.d.travelled (all_travelled off.front g), off.booked)) lit) is
 
 -- what follows where a call ended well
 pub on-ok : {A E P Q : Type 0} (r : Result A E) → OnOk r P → (P → Q) → OnOk r Q

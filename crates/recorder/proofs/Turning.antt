@@ -51,22 +51,22 @@ lit-is Lost is = absurd (cc)
 
 -- by the first minute that may still be marked
 pub booked-at : (s : Began) (run : Run) (b : Book) (g : Travel) (marks : List Mark) (unit : State) (due : ℕ) → due ≤ due_of run → (run.power ≡ Lit → b.maybe ≡ None) → (run.power ≡ Lit → run.odometer ≡ odometer_after s.odometer g.before) →
-    Stands s due b g marks unit → Booked s run b marks unit
-booked-at s run b g marks unit due le none odometer h = record { travel = g; stands = stands-later s due (due_of run) b g marks unit le h; none = none; odometer = odometer }
+    Stands s due b g marks unit → Booked s run b g marks unit
+booked-at s run b g marks unit due le none odometer h = record { stands = stands-later s due (due_of run) b g marks unit le h; none = none; odometer = odometer }
 
 -- without power
-pub lost-booked : (s : Began) (run : Run) (b : Book) (g : Travel) (marks : List Mark) (unit : State) (next : ℕ) → run.power ≡ Lost → run.next ≡ next → Stands s (next / 60) b g marks unit → Booked s run b marks unit
+pub lost-booked : (s : Began) (run : Run) (b : Book) (g : Travel) (marks : List Mark) (unit : State) (next : ℕ) → run.power ≡ Lost → run.next ≡ next → Stands s (next / 60) b g marks unit → Booked s run b g marks unit
 lost-booked s run b g marks unit next lost is h =
     booked-at s run b g marks unit (next / 60) (let w = waiting-lost run.power run.minutes.owing lost in omega (arith, w, is)) (λ lit. absurd (let no : Lost ≡ Lit = sym lost ∙ lit in cc)) (λ lit. absurd (let no : Lost ≡ Lit = sym lost ∙ lit in cc)) h
 
 -- and so many seconds later, still without it
-pub dark-booked : (s : Began) (old new : Run) (b : Book) (marks : List Mark) (unit : State) (n begun : ℕ) → is_lit old.power ≡ false → new ≡ record old { next = old.next + n; begun = begun } → Booked s old b marks unit → Booked s new b marks unit
-dark-booked s old new b marks unit n begun dark is h =
+pub dark-booked : (s : Began) (old new : Run) (b : Book) (g : Travel) (marks : List Mark) (unit : State) (n begun : ℕ) → is_lit old.power ≡ false → new ≡ record old { next = old.next + n; begun = begun } → Booked s old b g marks unit → Booked s new b g marks unit
+dark-booked s old new b g marks unit n begun dark is h =
     let power = ap (λ (r : Run). r.power) is in
     let next = ap (λ (r : Run). r.next) is in
     let w = waiting-dark old.power old.minutes.owing dark in
     let v = waiting-dark new.power new.minutes.owing (ap is_lit power ∙ dark) in
-    booked-at s new b h.travel marks unit (due_of old) (omega (arith, w, v, next)) (λ lit. h.none (sym power ∙ lit)) (λ lit. ap (λ (r : Run). r.odometer) is ∙ h.odometer (sym power ∙ lit)) h.stands
+    booked-at s new b g marks unit (due_of old) (omega (arith, w, v, next)) (λ lit. h.none (sym power ∙ lit)) (λ lit. ap (λ (r : Run). r.odometer) is ∙ h.odometer (sym power ∙ lit)) h.stands
 
 -- reads leave a unit one
 pub reads-unit : {U V : State} {R : List ℕ → List ℕ → Type 0} → LeavesOnly U V R → IsUnit U → IsUnit V
@@ -146,23 +146,23 @@ module _ (run : Run) (unit : State) (is : run.power ≡ Lit) (lit : IsLit run un
   pub turn-room_lost : (marks later : Listed Mark) (left : ℕ) → later.room ≡ marks.room → length later.items ≤ length marks.items + length items → HasMarkRoom run marks (n + left) → length later.items + (run.next + n + left) / 60 ≤ later.room + ((run.next + n) / 60 - 0)
   turn-room_lost marks later left same few h = let r = h.room in let d = turn-due in let m = turn-most in let k = turn-decides.count in omega (arith, r, d, m, k, same, few)
 
-  module _ (s : Began) (b : Book) (marks : List Mark) (booked : Booked s run b marks unit) where
-    pub turn-stands : Stands s (ungiven_of lit.span) b booked.travel marks unit
-    turn-stands = subst (λ (m : ℕ). Stands s m b booked.travel marks unit) turn-due booked.stands
+  module _ (s : Began) (b : Book) (g : Travel) (marks : List Mark) (booked : Booked s run b g marks unit) where
+    pub turn-stands : Stands s (ungiven_of lit.span) b g marks unit
+    turn-stands = subst (λ (m : ℕ). Stands s m b g marks unit) turn-due booked.stands
 
     -- all were kept
     pub turn-kept : (new : Run) (later : List Mark) (after : State) → new.power ≡ Lit → new.next ≡ run.next + n → new.minutes.owing ≡ minutes.owing → new.odometer ≡ run.odometer →
-        Stands s (due_after (ungiven_of lit.span) items) (kept_all items b) (all_travelled items booked.travel) later after → Booked s new (kept_all items b) later after
+        Stands s (due_after (ungiven_of lit.span) items) (kept_all items b) (all_travelled items g) later after → Booked s new (kept_all items b) (all_travelled items g) later after
     turn-kept new later after power next owing odometer h =
-        booked-at s new (kept_all items b) (all_travelled items booked.travel) later after (due_after (ungiven_of lit.span) items)
+        booked-at s new (kept_all items b) (all_travelled items g) later after (due_after (ungiven_of lit.span) items)
         (let d = turn-decides.next in let l = turn-due_later in let w = waiting-lit new.power new.minutes.owing power in omega (arith, d, l, w, next, owing))
         (λ p. kept_all-none items b (booked.none is))
-        (λ p. odometer ∙ booked.odometer is ∙ ap (odometer_after s.odometer) (sym (travelled-before items booked.travel))) h
+        (λ p. odometer ∙ booked.odometer is ∙ ap (odometer_after s.odometer) (sym (travelled-before items g))) h
 
     -- the keeping of one was broken off
-    pub turn-broken : (new : Run) (later : List Mark) (after : State) → new.power ≡ Lost → new.next ≡ run.next + n → (h : IsBrokenOff s b booked.travel items later after) → Booked s new (broken (plain h.d) (kept_all h.front b)) later after
+    pub turn-broken : (new : Run) (later : List Mark) (after : State) → new.power ≡ Lost → new.next ≡ run.next + n → (h : IsBrokenOff s b g items later after) → Booked s new (broken (plain h.d) (kept_all h.front b)) (stranded h.d.travelled (all_travelled h.front g)) later after
     turn-broken new later after power next h =
-        booked-at s new (broken (plain h.d) (kept_all h.front b)) (stranded h.d.travelled (all_travelled h.front booked.travel)) later after (suc h.d.minute)
+        booked-at s new (broken (plain h.d) (kept_all h.front b)) (stranded h.d.travelled (all_travelled h.front g)) later after (suc h.d.minute)
         (let among = due-among (ungiven_of lit.span) h.front h.rest h.d (subst (AreFrom (ungiven_of lit.span)) h.are turn-decides.from) in
         let d = ap (due_after (ungiven_of lit.span)) (sym h.are) ∙ turn-decides.next in
         let m = turn-most in

@@ -5,21 +5,20 @@ use Rattle.log_model.specs.declared.lines.Mark.{Mark}
 use Rattle.history_model.specs.Book.{Book}
 pub use Rattle.recorder.specs.Standing.{Started, started, Began, begun_with, Stands, Travel, odometer_after}
 use Rattle.recorder.specs.declared.run.Run.{Run}
-use Rattle.recorder.specs.declared.run.Power.{Power}
 use Rattle.recorder.specs.declared.run.Power.TheVariants.{Lit}
 use Rattle.recorder.specs.Going.{waiting}
+use Rattle.recorder.specs.declared.run.Power.{Power}
 
 -- the first minute that may still be marked
 abbrev pub due_of : Run → ℕ
 due_of run = run.next / 60 - waiting run.power run.minutes.owing
 
 -- between two calls; while there is power, no minute is begun that may not be there
-pub record Booked (s : Began) (run : Run) (b : Book) (marks : List Mark) (unit : State) : Type 0 where
-  pub travel : Travel
-  pub stands : Stands s (due_of run) b travel marks unit
+pub record Booked (s : Began) (run : Run) (b : Book) (g : Travel) (marks : List Mark) (unit : State) : Type 0 where
+  pub stands : Stands s (due_of run) b g marks unit
   pub none : run.power ≡ Lit → b.maybe ≡ None
   -- the odometer that the run counts from is that at the last power-on
-  pub odometer : run.power ≡ Lit → run.odometer ≡ odometer_after s.odometer travel.before
+  pub odometer : run.power ≡ Lit → run.odometer ≡ odometer_after s.odometer g.before
 
 -- a unit went on: its clock has not gone back, and it tells as much as before
 pub record GoesOn (old new : State) : Type 0 where

@@ -20,7 +20,7 @@ use Rattle.unit_course.specs.Complete.{AreMarked}
 use Rattle.unit_course.specs.Followed.{Supply, Followed}
 use Rattle.unit_rule.specs.Rule.{started}
 use Rattle.unit_rule.specs.Marks.{Holds}
-use Rattle.unit_rule.specs.Odometer.{Travel, HasTravelled}
+use Rattle.unit_rule.specs.Odometer.{OdometerSafe}
 use Rattle.unit_model.specs.Image.{odometer_at}
 use Rattle.recorder.specs.declared.outcome.Outcome.{Outcome}
 use Rattle.recorder.specs.Recorded.{progress}
@@ -57,9 +57,8 @@ pub record IsFollowed (start : Start) (x : List ℕ) (origin : ℕ) (items : Lis
   pub due : ℕ
   pub book : Book
   pub holds : Holds (started x clock) due book o.marks.items unit
-  -- the odometer of each image is the start's and what was travelled since
-  pub travel : Travel
-  pub travels : HasTravelled (odometer_at x) book travel unit
+  -- the odometer of each image that a stop may leave is the start's and the whole kilometres of each span
+  pub odometer : (y : List ℕ) → unit.may_leave y → OdometerSafe Original (run_log o) (told_of o origin items) (odometer_at x) y
   pub follows : Follows (history_of start o origin items) (lost_of start o origin items) book
   pub supply : Supply
   pub unfound : ℕ

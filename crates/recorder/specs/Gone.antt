@@ -8,7 +8,7 @@ use Rattle.recorder.specs.declared.outcome.Outcome.{Outcome}
 use Rattle.recorder.specs.declared.run.Run.{Run}
 use Rattle.recorder.specs.Opening.{IsFoundLater}
 use Rattle.recorder.specs.Going.{IsGoing}
-use Rattle.recorder.specs.Standing.{Began}
+use Rattle.recorder.specs.Standing.{Began, Travel}
 use Rattle.recorder.specs.Booked.{Booked, GoesOn}
 use Rattle.recorder.specs.Broken.{BreaksDown}
 
@@ -23,5 +23,5 @@ pub record HasGone (result : Result (Unit {0}) RunFault) (seconds : ℕ) (old ne
   pub goes_on : GoesOn prior unit
   pub broke : BreaksDown before.breaks.items after.breaks.items prior unit
   -- where the unit and its marks are as a book says, they are so again, by a book that goes on
-  pub booked : (s : Began) (b : Book) → Booked s old b before.marks.items prior → is_some prior.image ≡ true → unit.clock < last_count
-      → IsOk result × ((c : Book) × Booked s new c after.marks.items unit)
+  pub booked : (s : Began) (b : Book) (g : Travel) → Booked s old b g before.marks.items prior → is_some prior.image ≡ true → unit.clock < last_count
+      → IsOk result × ((c : Book) × (h : Travel) × Booked s new c h after.marks.items unit)

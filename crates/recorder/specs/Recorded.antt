@@ -15,7 +15,8 @@ use Rattle.history_model.specs.Book.{Book}
 use Rattle.history_model.specs.Presence.{Start}
 use Rattle.unit_course.specs.Followed.{Supply, Lit as On, Due as Awaited, Lost as Gone, Progress, Followed, going_on}
 use Rattle.unit_course.specs.Turn.{span_at}
-use Rattle.recorder.specs.Standing.{Began}
+use Rattle.unit_course.specs.Travelled.{HasLegs}
+use Rattle.recorder.specs.Standing.{Began, Travel}
 use Rattle.recorder.specs.declared.run.Run.{Run}
 use Rattle.recorder.specs.declared.run.Power.{Power}
 use Rattle.recorder.specs.declared.run.Power.TheVariants.{Lit, Due, Lost}
@@ -44,11 +45,14 @@ progress breaks unfound next begun supply book =
 pub record Recorded (start : Start) (s : Began) (from : ℕ) (done : List TraceSecond)
     (run : Run) (breaks : List Break) (marks : List Mark) (refused : List Refused) (unit : State) : Type 0 where
   pub book : Book
-  pub booked : Booked s run book marks unit
+  pub travel : Travel
+  pub booked : Booked s run book travel marks unit
   pub supply : Supply
   pub power : power_of supply ≡ run.power
   pub second : HasSecond supply
   pub followed : Followed Original start from s.opened.first done (progress breaks run.unfound run.next run.begun supply book)
+  -- what was travelled is that of the spans
+  pub legs : HasLegs Original s.opened.first done (progress breaks run.unfound run.next run.begun supply book) travel
   -- each decided minute is acknowledged, but where a cut came in the second that decided it
   pub complete : AreMarked Original (went (log_of breaks) done).told marks
   -- refusals, cuts and the `off` lines that are cuts are those of the seconds

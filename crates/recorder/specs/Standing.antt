@@ -1,13 +1,13 @@
 -- How the unit of a run stands between two calls: by its book, and by what was travelled (profile).
-use Rattle.std.specs.Prelude.{ℕ, List, [], ◌∷◌}
+use Rattle.std.specs.Prelude.{ℕ, List}
 use Rattle.tach_media.specs.Medium.{State}
 use Rattle.unit_model.specs.Image.{odometer_at}
-use Rattle.minute_model.specs.declared.Minute.{Minute}
 use Rattle.log_model.specs.declared.lines.Mark.{Mark}
 use Rattle.history_model.specs.Book.{Book}
 pub use Rattle.unit_rule.specs.Rule.{Started, started}
 use Rattle.unit_rule.specs.Marks.{Holds}
-pub use Rattle.unit_rule.specs.Odometer.{Travel, not_travelled, travelled, stranded, resumed, odometer_after, HasTravelled}
+pub use Rattle.unit_course.specs.Legs.{Travel, not_travelled, travelled, stranded, resumed, all_travelled}
+pub use Rattle.unit_rule.specs.Odometer.{odometer_after, HasTravelled}
 
 -- what the opening found, and the odometer in kilometres
 pub record Began : Type 0 where
@@ -17,11 +17,6 @@ pub record Began : Type 0 where
 -- the same of a run that begins with this image, at this clock
 abbrev pub begun_with : List ℕ → (clock : ℕ) → Began
 begun_with x clock = record { opened = started x clock; odometer = odometer_at x }
-
--- these minutes were kept, one after another
-abbrev pub all_travelled : List Minute → Travel → Travel
-all_travelled [] g = g
-all_travelled (d ∷ ds) g = all_travelled ds (travelled d.travelled g)
 
 -- the unit and its marks are as the book says, and the odometer of its images is that of what was travelled
 pub record Stands (s : Began) (due : ℕ) (b : Book) (g : Travel) (marks : List Mark) (unit : State) : Type 0 where

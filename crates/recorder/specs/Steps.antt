@@ -1,5 +1,5 @@
 -- What a power-on and a turn do to a run, its breaks and its book (profile).
-use Rattle.std.specs.Prelude.{◌≡◌, ◌⊎◌, ℕ, ◌+◌, ◌-◌, ◌/◌, ◌<◌, ◌≤◌, Bool, true, false, List, [], ◌∷◌, ◌++◌, All, length}
+use Rattle.std.specs.Prelude.{◌≡◌, ◌⊎◌, ℕ, ◌+◌, ◌-◌, ◌/◌, ◌<◌, ◌≤◌, Bool, true, false, List, [], ◌∷◌, ◌++◌, length}
 use Rattle.tach_media.specs.Medium.{State}
 use Rattle.minute_model.specs.declared.Rule.TheVariants.{Original}
 use Rattle.minute_model.specs.declared.Minute.{Minute}
@@ -7,8 +7,9 @@ use Rattle.minute_model.specs.Span.{Span, begin, fed_many, decided_in}
 use Rattle.minute_rules.specs.Kept.{StandsFor}
 use Rattle.log_model.specs.declared.lines.Break.{Break}
 use Rattle.log_model.specs.declared.lines.Mark.{Mark}
-use Rattle.history_model.specs.Book.{Book, all, found, broken, IsMark}
-use Rattle.recorder.specs.Standing.{Began}
+use Rattle.history_model.specs.Book.{Book, found, broken}
+use Rattle.unit_course.specs.Travelled.{MayShow}
+use Rattle.recorder.specs.Standing.{Began, Travel, resumed, stranded, all_travelled}
 use Rattle.recorder.specs.declared.run.Run.{Run}
 use Rattle.recorder.specs.declared.run.Power.TheVariants.{Lit, Lost}
 use Rattle.recorder.specs.Lines.{cut_at, found_from}
@@ -18,60 +19,60 @@ use Rattle.recorder.specs.Booked.{Booked}
 
 -- A loaded unit was mended, or a call failed in that. The cuts since the last power-on that loaded it tell the last-kept minute
 -- that was found; where the mend failed, the second is a cut's too.
-pub record IsMendedOn (s : Began) (old new : Run) (before after : List Break) (kept : ℕ) (b : Book) (marks : List Mark) (unit : State) : Type 0 where
+pub record IsMendedOn (s : Began) (old new : Run) (before after : List Break) (kept : ℕ) (b : Book) (g : Travel) (marks : List Mark) (unit : State) : Type 0 where
   pub late : kept < old.next / 60
   pub next : new.next ≡ old.next
   pub begun : new.begun ≡ old.begun
   pub unfound : new.unfound ≡ length (found_from old.unfound kept before)
   pub side : ((new.power ≡ Lit) × (after ≡ found_from old.unfound kept before) × StandsFor new.minutes (begin Original old.next))
       ⊎ ((new.power ≡ Lost) × (after ≡ found_from old.unfound kept before ++ cut_at old.next true 0 ∷ []))
-  pub booked : Booked s new b marks unit
+  pub booked : Booked s new b g marks unit
 
--- the unit was loaded, and its last-kept minute was found: the sure minutes are no later
-pub record IsFoundOn (s : Began) (old new : Run) (before after : List Break) (b : Book) (marks : List Mark) (unit : State) : Type 0 where
+-- the unit was loaded: its last-kept minute was found, and its odometer
+pub record IsFoundOn (s : Began) (old new : Run) (before after : List Break) (b : Book) (g : Travel) (marks : List Mark) (unit : State) : Type 0 where
   pub kept : ℕ
-  pub mark : IsMark s.opened.first (all b) kept
-  pub sure : All (λ i. i.minute ≤ kept) b.sure
-  pub on : IsMendedOn s old new before after kept (found kept b) marks unit
+  pub leg : ℕ
+  pub shown : MayShow s.opened.first b g kept leg
+  pub on : IsMendedOn s old new before after kept (found kept b) (resumed leg g) marks unit
 
 -- a call failed before the unit was loaded: the second is a cut's
-pub record IsLostAtOnce (s : Began) (old new : Run) (before after : List Break) (b : Book) (marks : List Mark) (unit : State) : Type 0 where
+pub record IsLostAtOnce (s : Began) (old new : Run) (before after : List Break) (b : Book) (g : Travel) (marks : List Mark) (unit : State) : Type 0 where
   pub run : new ≡ record old { power = Lost }
   pub breaks : after ≡ before ++ cut_at old.next true 0 ∷ []
-  pub booked : Booked s new b marks unit
+  pub booked : Booked s new b g marks unit
 
 -- power is back, or was lost at once
-abbrev pub IsPoweredOn : Began → (old new : Run) → (before after : List Break) → Book → List Mark → State → Type 0
-IsPoweredOn s old new before after b marks unit =
-    IsLostAtOnce s old new before after b marks unit ⊎ IsFoundOn s old new before after b marks unit
+abbrev pub IsPoweredOn : Began → (old new : Run) → (before after : List Break) → Book → Travel → List Mark → State → Type 0
+IsPoweredOn s old new before after b g marks unit =
+    IsLostAtOnce s old new before after b g marks unit ⊎ IsFoundOn s old new before after b g marks unit
 
 -- no power-on: the power goes on, or it stays away
-pub record IsNotPoweredOn (s : Began) (old new : Run) (before after : List Break) (b : Book) (marks : List Mark) (unit : State) : Type 0 where
+pub record IsNotPoweredOn (s : Began) (old new : Run) (before after : List Break) (b : Book) (g : Travel) (marks : List Mark) (unit : State) : Type 0 where
   pub why : (has_power old.power old.next ≡ false) ⊎ (is_lit old.power ≡ true)
   pub run : new ≡ old
   pub breaks : after ≡ before
-  pub booked : Booked s new b marks unit
+  pub booked : Booked s new b g marks unit
 
 -- a second has begun
-abbrev pub IsSecondBegun : Began → (old new : Run) → (before after : List Break) → Book → List Mark → State → Type 0
-IsSecondBegun s old new before after b marks unit =
-    IsNotPoweredOn s old new before after b marks unit
-    ⊎ ((has_power old.power old.next ≡ true) × (is_lit old.power ≡ false) × IsPoweredOn s old new before after b marks unit)
+abbrev pub IsSecondBegun : Began → (old new : Run) → (before after : List Break) → Book → Travel → List Mark → State → Type 0
+IsSecondBegun s old new before after b g marks unit =
+    IsNotPoweredOn s old new before after b g marks unit
+    ⊎ ((has_power old.power old.next ≡ true) × (is_lit old.power ≡ false) × IsPoweredOn s old new before after b g marks unit)
 
 -- n seconds went by without power
-pub record IsPassed (s : Began) (old new : Run) (before after : List Break) (n begun : ℕ) (b : Book) (prior marks : List Mark) (unit : State) : Type 0 where
+pub record IsPassed (s : Began) (old new : Run) (before after : List Break) (n begun : ℕ) (b : Book) (g : Travel) (prior marks : List Mark) (unit : State) : Type 0 where
   pub dark : is_lit old.power ≡ false
   pub same : marks ≡ prior
   pub run : new ≡ record old { next = old.next + n; begun = begun }
   pub breaks : after ≡ before
-  pub booked : Booked s new b marks unit
+  pub booked : Booked s new b g marks unit
 
 -- the minutes that n seconds at a speed decide
 pub record AreDecided (old : Run) (n speed : ℕ) (items : List Minute) : Type 0 where
   pub given : (span : Span) → StandsFor old.minutes span → decided_in (fed_many span speed n) ≡ decided_in span ++ items
 
 -- n seconds with power: what they decide was kept
-pub record IsKeptIn (s : Began) (old new : Run) (before after : List Break) (n speed begun : ℕ) (b : Book) (prior marks : List Mark) (unit : State) : Type 0 where
+pub record IsKeptIn (s : Began) (old new : Run) (before after : List Break) (n speed begun : ℕ) (b : Book) (g : Travel) (prior marks : List Mark) (unit : State) : Type 0 where
   pub lit : is_lit old.power ≡ true
   pub items : List Minute
   pub decided : AreDecided old n speed items
@@ -83,10 +84,10 @@ pub record IsKeptIn (s : Began) (old new : Run) (before after : List Break) (n s
   pub unfound : new.unfound ≡ old.unfound
   pub begun_is : new.begun ≡ begun
   pub breaks : after ≡ before
-  pub booked : Booked s new (kept_all items b) marks unit
+  pub booked : Booked s new (kept_all items b) (all_travelled items g) marks unit
 
 -- n seconds with power: in the last of them the keeping of a minute was broken off
-pub record IsBrokenIn (s : Began) (old new : Run) (before after : List Break) (n speed begun : ℕ) (b : Book) (prior marks : List Mark) (unit : State) : Type 0 where
+pub record IsBrokenIn (s : Began) (old new : Run) (before after : List Break) (n speed begun : ℕ) (b : Book) (g : Travel) (prior marks : List Mark) (unit : State) : Type 0 where
   pub lit : is_lit old.power ≡ true
   pub items : List Minute
   pub decided : AreDecided old n speed items
@@ -100,14 +101,14 @@ pub record IsBrokenIn (s : Began) (old new : Run) (before after : List Break) (n
   pub unfound : new.unfound ≡ old.unfound
   pub begun_is : new.begun ≡ begun
   pub breaks : after ≡ before ++ cut_at (old.next + n - 1) true begun ∷ []
-  pub booked : Booked s new (broken (plain d) (kept_all front b)) marks unit
+  pub booked : Booked s new (broken (plain d) (kept_all front b)) (stranded d.travelled (all_travelled front g)) marks unit
 
 -- n seconds with power
-abbrev pub IsLitTurn : Began → (old new : Run) → (before after : List Break) → (n speed begun : ℕ) → Book → (prior marks : List Mark) → State → Type 0
-IsLitTurn s old new before after n speed begun b prior marks unit =
-    IsKeptIn s old new before after n speed begun b prior marks unit ⊎ IsBrokenIn s old new before after n speed begun b prior marks unit
+abbrev pub IsLitTurn : Began → (old new : Run) → (before after : List Break) → (n speed begun : ℕ) → Book → Travel → (prior marks : List Mark) → State → Type 0
+IsLitTurn s old new before after n speed begun b g prior marks unit =
+    IsKeptIn s old new before after n speed begun b g prior marks unit ⊎ IsBrokenIn s old new before after n speed begun b g prior marks unit
 
 -- n seconds of one minute
-abbrev pub IsTurn : Began → (old new : Run) → (before after : List Break) → (n speed begun : ℕ) → Book → (prior marks : List Mark) → State → Type 0
-IsTurn s old new before after n speed begun b prior marks unit =
-    IsPassed s old new before after n begun b prior marks unit ⊎ IsLitTurn s old new before after n speed begun b prior marks unit
+abbrev pub IsTurn : Began → (old new : Run) → (before after : List Break) → (n speed begun : ℕ) → Book → Travel → (prior marks : List Mark) → State → Type 0
+IsTurn s old new before after n speed begun b g prior marks unit =
+    IsPassed s old new before after n begun b g prior marks unit ⊎ IsLitTurn s old new before after n speed begun b g prior marks unit

@@ -97,8 +97,8 @@ impl Run {
         ensures unit { IsUnit (M.state unit.new) }
         ensures goes_on { GoesOn (M.state unit.old) (M.state unit.new) }
         ensures broke { BreaksDown breaks.old.items breaks.new.items (M.state unit.old) (M.state unit.new) }
-        ensures booked { (s : Began) (b : Book) (marks : List Mark) → Booked s self.old b marks (M.state unit.old) → is_some (M.state unit.old).image ≡ true
-            → IsOk result × IsSecondBegun s self.old self.new breaks.old.items breaks.new.items b marks (M.state unit.new) }
+        ensures booked { (s : Began) (b : Book) (g : Travel) (marks : List Mark) → Booked s self.old b g marks (M.state unit.old) → is_some (M.state unit.old).image ≡ true
+            → IsOk result × IsSecondBegun s self.old self.new breaks.old.items breaks.new.items b g marks (M.state unit.new) }
     {
         if !self.has_power() {
             return Ok(false);
@@ -128,8 +128,8 @@ impl Run {
         ensures unit { IsUnit (M.state unit.new) }
         ensures goes_on { GoesOn (M.state unit.old) (M.state unit.new) }
         ensures broke { BreaksDown breaks.old.items breaks.new.items (M.state unit.old) (M.state unit.new) }
-        ensures booked { (s : Began) (b : Book) (marks : List Mark) → Booked s self.old b marks (M.state unit.old) → is_some (M.state unit.old).image ≡ true
-            → IsOk result × IsPoweredOn s self.old self.new breaks.old.items breaks.new.items b marks (M.state unit.new) }
+        ensures booked { (s : Began) (b : Book) (g : Travel) (marks : List Mark) → Booked s self.old b g marks (M.state unit.old) → is_some (M.state unit.old).image ≡ true
+            → IsOk result × IsPoweredOn s self.old self.new breaks.old.items breaks.new.items b g marks (M.state unit.new) }
     {
         match load(unit) {
             Ok(journal) => self.found(journal, unit, breaks),
@@ -165,7 +165,7 @@ impl Run {
         ensures goes_on { GoesOn (M.state unit.old) (M.state unit.new) }
         ensures broke { BreaksDown breaks.old.items breaks.new.items (M.state unit.old) (M.state unit.new) }
         ensures booked { (s : Began) (b : Book) (g : Travel) (marks : List Mark) → Stands s (self.old.next / 60) b g marks (M.state unit.old) → b.maybe ≡ None → journal.odometer ≡ odometer_after s.odometer g.before → HasFound journal (M.state unit.old)
-            → IsOk result × IsMendedOn s self.old self.new breaks.old.items breaks.new.items journal.kept b marks (M.state unit.new) }
+            → IsOk result × IsMendedOn s self.old self.new breaks.old.items breaks.new.items journal.kept b g marks (M.state unit.new) }
     {
         let kept = journal.last_kept();
         breaks.find(self.unfound, kept);

@@ -77,7 +77,7 @@ impl Run {
     ghost use Rattle.history_model.specs.Presence.{Start};
     ghost use Rattle.recorder.specs.declared.run.Power.TheVariants.{Lit};
     ghost use Rattle.history_model.specs.Book.{Book};
-    ghost use Rattle.recorder.specs.Standing.{Began};
+    ghost use Rattle.recorder.specs.Standing.{Began, Travel};
     ghost use Rattle.tach_media.specs.Medium.{last_count};
 
     /// So many seconds at one speed, from 1 on, with the actions among the items from one index to another at their beginning.
@@ -248,8 +248,8 @@ impl Run {
         ensures finds { outcome.new.finds ≡ outcome.old.finds }
         ensures goes_on { GoesOn (M.state unit.old) (M.state unit.new) }
         ensures broke { BreaksDown outcome.old.breaks.items outcome.new.breaks.items (M.state unit.old) (M.state unit.new) }
-        ensures booked { (s : Began) (b : Book) → Booked s self.old b outcome.old.marks.items (M.state unit.old) → (M.state unit.new).clock < last_count
-            → IsTurn s self.old self.new outcome.old.breaks.items outcome.new.breaks.items n speed begun b outcome.old.marks.items outcome.new.marks.items (M.state unit.new) }
+        ensures booked { (s : Began) (b : Book) (g : Travel) → Booked s self.old b g outcome.old.marks.items (M.state unit.old) → (M.state unit.new).clock < last_count
+            → IsTurn s self.old self.new outcome.old.breaks.items outcome.new.breaks.items n speed begun b g outcome.old.marks.items outcome.new.marks.items (M.state unit.new) }
     {
         if !self.is_lit() {
             self.pass(n, begun);
@@ -283,8 +283,8 @@ impl Run {
         ensures finds { outcome.new.finds ≡ outcome.old.finds }
         ensures goes_on { GoesOn (M.state unit.old) (M.state unit.new) }
         ensures broke { BreaksDown outcome.old.breaks.items outcome.new.breaks.items (M.state unit.old) (M.state unit.new) }
-        ensures booked { (s : Began) (b : Book) → Booked s self.old b outcome.old.marks.items (M.state unit.old) → (M.state unit.new).clock < last_count
-            → IsLitTurn s self.old self.new outcome.old.breaks.items outcome.new.breaks.items n speed begun b outcome.old.marks.items outcome.new.marks.items (M.state unit.new) }
+        ensures booked { (s : Began) (b : Book) (g : Travel) → Booked s self.old b g outcome.old.marks.items (M.state unit.old) → (M.state unit.new).clock < last_count
+            → IsLitTurn s self.old self.new outcome.old.breaks.items outcome.new.breaks.items n speed begun b g outcome.old.marks.items outcome.new.marks.items (M.state unit.new) }
     {
         let decided = feed(&mut self.minutes, n, speed);
         let odometer = self.odometer;

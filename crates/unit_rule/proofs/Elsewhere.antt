@@ -9,7 +9,8 @@ use Rattle.log_model.specs.declared.lines.Mark.{Mark}
 use Rattle.history_model.specs.Book.{Book}
 use Rattle.unit_rule.specs.Rule.{Started}
 use Rattle.unit_rule.specs.Marks.{Holds}
-use Rattle.unit_rule.specs.Odometer.{Travel, HasTravelled}
+use Rattle.unit_course.specs.Legs.{Travel}
+use Rattle.unit_rule.specs.Odometer.{HasTravelled}
 use Rattle.unit_rule.proofs.Found.{left-decodes}
 use Rattle.unit_rule.proofs.Marking.{holds-aside}
 use Rattle.unit_rule.proofs.Travelling.{travelled-aside}

@@ -16,7 +16,8 @@ use Rattle.history_model.specs.Book.{Book, not_begun, kept, broken, found}
 use Rattle.joint_rule.specs.Filling.{seen_by_unit}
 use Rattle.unit_rule.specs.Rule.{Started}
 use Rattle.unit_rule.specs.Marks.{Holds}
-use Rattle.unit_rule.specs.Odometer.{odometer_by, odometer_after, kilometres_of, Travel, not_travelled, travelled, stranded, resumed, ShowsOdometer, HasTravelled, AreLegs, OdometerSafe}
+use Rattle.unit_course.specs.Legs.{Travel, not_travelled, travelled, stranded, resumed, kilometres_of, AreLegs}
+use Rattle.unit_rule.specs.Odometer.{odometer_by, odometer_after, ShowsOdometer, HasTravelled, OdometerSafe}
 use Rattle.unit_rule.proofs.Found.{left-earlier, one-image}
 
 odometer-low : (start : ℕ) (legs : List ℕ) → start ≤ HIGHEST_ODOMETER → odometer_after start legs ≤ HIGHEST_ODOMETER
@@ -133,9 +134,9 @@ module _ (start : ℕ) (b : Book) (g : Travel) {U V : State} (t : HasTravelled s
 
 -- at the end, where the legs of what was travelled are those of the spans
 pub odometer-safe : (rule : Rule) (log : RunLog) (told : List Told) (start : ℕ) (b : Book) (g : Travel) (unit : State) → HasTravelled start b g unit →
-    ((x : List ℕ) → (shown : ShowsOdometer start b g x) → (legs : List ℕ) × AreLegs rule (limit_of log) (last_kept x) (spans_of told) legs × (kilometres_of legs ≡ kilometres_of (g.before ++ shown.leg ∷ []))) →
+    ((x : List ℕ) → unit.may_leave x → (shown : ShowsOdometer start b g x) → (legs : List ℕ) × AreLegs rule (limit_of log) (last_kept x) (spans_of told) legs × (kilometres_of legs ≡ kilometres_of (g.before ++ shown.leg ∷ []))) →
     (x : List ℕ) → unit.may_leave x → OdometerSafe rule log told start x
 odometer-safe rule log told start b g unit t are x left =
     let shown = t.now x left in
-    let legs = are x shown in
+    let legs = are x left shown in
     record { legs = legs.0; are = legs.1; sum_is = shown.is ∙ odometer-sum start (g.before ++ shown.leg ∷ []) t.begins ∙ ap (λ (n : ℕ). min (start + n) HIGHEST_ODOMETER) (sym legs.2) }

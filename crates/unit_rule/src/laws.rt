@@ -12,7 +12,8 @@ ghost use Rattle.safety_model.specs.Unit.{UnitSafe, marks_of};
 ghost use Rattle.unit_rule.specs.Rule.{Started, started};
 ghost use Rattle.unit_rule.specs.Marks.{Holds};
 ghost use Rattle.unit_rule.specs.Complete.{AreMarksOf};
-ghost use Rattle.unit_rule.specs.Odometer.{Travel, HasTravelled, kilometres_of};
+ghost use Rattle.unit_course.specs.Legs.{Travel, kilometres_of};
+ghost use Rattle.unit_rule.specs.Odometer.{HasTravelled};
 
 use tach_media::Medium;
 

@@ -11,15 +11,18 @@ use Rattle.unit_course.specs.Lines.{log_of}
 use Rattle.unit_course.specs.Complete.{AreMarked}
 use Rattle.unit_course.specs.Caused.{WellCaused}
 use Rattle.unit_course.specs.Followed.{Due as Awaited, Followed}
-use Rattle.recorder.specs.Followed.{NoVerdict, run_log, history_of, lost_of, breakdowns_of}
+use Rattle.unit_course.specs.Travelled.{HasLegs}
+use Rattle.unit_model.specs.Image.{last_kept, odometer_at}
+use Rattle.unit_rule.proofs.Travelling.{odometer-safe}
+use Rattle.recorder.specs.Followed.{NoVerdict, run_log, told_of, history_of, lost_of, breakdowns_of}
 use Rattle.trace_model.specs.declared.Card.{Card}
 use Rattle.trace_model.specs.declared.Card.TheVariants.{A, B}
 use Rattle.log_model.specs.Causes.{device_of}
 use Rattle.history_model.specs.Presence.{Start, CardStart}
 use Rattle.recorder.specs.Recorded.{progress, Recorded}
 use Rattle.recorder.proofs.Waiting.{Waits, waits-none, waits-more, seconds-none, seconds-more}
-use Rattle.recorder.proofs.Recording.{followed-as}
-use Rattle.recorder.proofs.Courses.{begins, begins_done, is_followed, begins_why, why-by, has_causes}
+use Rattle.recorder.proofs.Recording.{followed-as, legs-as}
+use Rattle.recorder.proofs.Courses.{begins, begins_done, begins_leg, is_followed, shown_leg, begins_why, why-by, has_causes}
 use Rattle.log_model.specs.declared.lines.Mark.{Mark}
 use Rattle.log_model.specs.declared.lines.Break.{Break}
 use Rattle.log_model.specs.declared.lines.Refused.{Refused}
@@ -36,6 +39,7 @@ use Rattle.recorder.proofs.Opened.{opened-stands, kept-is, decodes-is, later-is-
 use Rattle.recorder.specs.Room.{offs, off_count}
 use Rattle.recorder.specs.Turn.{HasRoom}
 use Rattle.recorder.proofs.Items.{each-at, seconds-here, offs-here, room-less, room-behind, waiting-most, total-parts}
+use Rattle.recorder.proofs.Standing.{may-show}
 use Rattle.recorder.proofs.Turning.{booked-at, goes-then}
 use Rattle.recorder.proofs.Broken.{broke-none, broke-then, broke-all, rose-by}
 use Rattle.recorder.proofs.run.run_trace.Goals as goal
@@ -106,6 +110,7 @@ loop-i-init g c =
           let none = ap (λ (l : Listed Break). l.items) q.reserved.breaks in
           record {
             book = not_begun;
+            travel = not_travelled;
             booked = booked-at (begun_with x U.clock) c.new-run.result not_begun not_travelled c.args.outcome.now.marks.items V due (omega (arith, w, next)) (λ p. refl) (λ p. absurd (let no : Due ≡ Lit = sym c.new-run.ensures.power ∙ p in cc))
                 (subst (λ (ms : List Mark). Stands (begun_with x U.clock) due not_begun not_travelled ms V) (sym (ap (λ (l : Listed Mark). l.items) q.reserved.marks)) h);
             supply = Awaited;
@@ -114,6 +119,9 @@ loop-i-init g c =
             followed = subst (λ (ss : List TraceSecond). Followed Original start c.args.trace.now.start (started x U.clock).first ss (progress c.args.outcome.now.breaks.items c.new-run.result.unfound c.new-run.result.next c.new-run.result.begun Awaited not_begun)) (sym (seconds-none c.args.trace.now.start))
                 (followed-as start c.args.trace.now.start (started x U.clock).first [] Awaited not_begun (sym none) (sym c.new-run.ensures.unfound) (sym next) (sym c.new-run.ensures.begun)
                 (begins Original start c.args.trace.now.start (started x U.clock).first (omega (arith, kept, late))));
+            legs = subst (λ (ss : List TraceSecond). HasLegs Original (started x U.clock).first ss (progress c.args.outcome.now.breaks.items c.new-run.result.unfound c.new-run.result.next c.new-run.result.begun Awaited not_begun) not_travelled) (sym (seconds-none c.args.trace.now.start))
+                (legs-as (started x U.clock).first [] Awaited not_begun not_travelled (sym none) (sym c.new-run.ensures.unfound) (sym next) (sym c.new-run.ensures.begun)
+                (begins_leg Original (started x U.clock).first c.args.trace.now.start));
             complete = subst (λ (ss : List TraceSecond). AreMarked Original (went (log_of c.args.outcome.now.breaks.items) ss).told c.args.outcome.now.marks.items) (sym (seconds-none c.args.trace.now.start))
                 (subst (λ (bs : List Break). AreMarked Original (went (log_of bs) []).told c.args.outcome.now.marks.items) (sym none) (begins_done Original c.args.outcome.now.marks.items));
             caused = subst (λ (ss : List TraceSecond). WellCaused ss (progress c.args.outcome.now.breaks.items c.new-run.result.unfound c.new-run.result.next c.new-run.result.begun Awaited not_begun) c.args.outcome.now.refused.items) (sym (seconds-none c.args.trace.now.start))
@@ -129,6 +137,7 @@ loop-i-init g c =
           let so = c.new-run.ensures.stored in
           let h = opened-stands x U V starts (g.met.U.Medium.coherent c.args.unit.now) (g.met.U.Medium.coherent c.judge.new.unit) run c.in_ok-journal.journal e.loaded due e.later (omega (arith, few, so)) in (
             not_begun,
+            not_travelled,
             booked-at (begun_with x U.clock) c.new-run.result not_begun not_travelled c.args.outcome.now.marks.items V due (omega (arith, w, next)) (λ p. refl) (λ p. absurd (let no : Due ≡ Lit = sym c.new-run.ensures.power ∙ p in cc))
                 (subst (λ (ms : List Mark). Stands (begun_with x U.clock) due not_begun not_travelled ms V) (sym (ap (λ (l : Listed Mark). l.items) q.reserved.marks)) h),
           );
@@ -140,7 +149,7 @@ returns-in_err-item-clause-refused g c = if_err c.from_residual-in_err-item.resu
     let e = c.in_err-item.ensures.gone in
     let clock = e.goes_on.clock in
     let was = v.booked x starts (omega (arith, clock, below)) in
-    absurd (let no = (e.booked (begun_with x (g.U.Medium.state c.args.unit.now).clock) was.0 was.1 (v.goes_on.tells ∙ starts.tells) below).0 in cc))
+    absurd (let no = (e.booked (begun_with x (g.U.Medium.state c.args.unit.now).clock) was.0 was.1 was.2 (v.goes_on.tells ∙ starts.tells) below).0 in cc))
 
 pub item-requires-clause-item : goal.item-requires-clause-item
 item-requires-clause-item g c = each-at c.args.trace.now.items c.loop-i.i c.get-item.result.now c.get-item.ensures c.requires.well.each
@@ -202,11 +211,11 @@ loop-i-preserved g c =
       booked = λ x starts below.
           let clock = e.goes_on.clock in
           let was = v.booked x starts (omega (arith, clock, below)) in
-          (e.booked (begun_with x (g.U.Medium.state c.args.unit.now).clock) was.0 was.1 (v.goes_on.tells ∙ starts.tells) below).1;
+          (e.booked (begun_with x (g.U.Medium.state c.args.unit.now).clock) was.0 was.1 was.2 (v.goes_on.tells ∙ starts.tells) below).1;
     }
 
 pub returns-clause-holds : goal.returns-clause-holds
-returns-clause-holds g c = λ x starts below. let b = c.loop-i.invariant.booked x starts below in (due_of c.loop-i.run, b.0, b.1.stands.holds)
+returns-clause-holds g c = λ x starts below. let b = c.loop-i.invariant.booked x starts below in (due_of c.loop-i.run, b.0, b.2.stands.holds)
 
 pub returns-clause-followed : goal.returns-clause-followed
 returns-clause-followed g c = λ start x starts below few.
@@ -216,14 +225,17 @@ returns-clause-followed g c = λ start x starts below few.
     let whole = take_all c.loop-i.i items (omega (arith, c.loop-i-test.false, c.len-i-end.ensures)) in
     let finds = ap (λ (l : Listed Find). l.items) (v.finds ∙ c.requires.reserved.finds) in
     let f = subst (λ (is : List Item). Followed Original start c.args.trace.now.start (started x (g.U.Medium.state c.args.unit.now).clock).first (seconds_of c.args.trace.now.start is) (progress c.loop-i.outcome.breaks.items c.loop-i.run.unfound c.loop-i.run.next c.loop-i.run.begun r.supply r.book)) whole r.followed in
+    let l = subst (λ (is : List Item). HasLegs Original (started x (g.U.Medium.state c.args.unit.now).clock).first (seconds_of c.args.trace.now.start is) (progress c.loop-i.outcome.breaks.items c.loop-i.run.unfound c.loop-i.run.next c.loop-i.run.begun r.supply r.book) r.travel) whole r.legs in
     let follows = is_followed Original start c.args.trace.now.start (started x (g.U.Medium.state c.args.unit.now).clock).first (seconds_of c.args.trace.now.start items) c.loop-i.outcome.breaks.items c.loop-i.run.unfound c.loop-i.run.next c.loop-i.run.begun r.supply r.book f (run_log c.loop-i.outcome) refl finds in
     record {
       safe = unit-safe (started x (g.U.Medium.state c.args.unit.now).clock) (history_of start c.loop-i.outcome c.args.trace.now.start items) (lost_of start c.loop-i.outcome c.args.trace.now.start items) (due_of c.loop-i.run) r.book c.loop-i.outcome.marks.items (g.U.Medium.state c.loop-i.unit) (g.met.U.Medium.coherent c.loop-i.unit) follows r.booked.stands.holds;
       due = due_of c.loop-i.run;
       book = r.book;
       holds = r.booked.stands.holds;
-      travel = r.booked.travel;
-      travels = r.booked.stands.travels;
+      odometer = odometer-safe Original (run_log c.loop-i.outcome) (told_of c.loop-i.outcome c.args.trace.now.start items) (odometer_at x) r.book r.travel (g.U.Medium.state c.loop-i.unit) r.booked.stands.travels
+          (λ y left shown. shown_leg Original start c.args.trace.now.start (started x (g.U.Medium.state c.args.unit.now).clock).first (seconds_of c.args.trace.now.start items) c.loop-i.outcome.breaks.items c.loop-i.run.unfound c.loop-i.run.next c.loop-i.run.begun r.supply r.book f r.travel l
+          (run_log c.loop-i.outcome) refl finds (last_kept y) shown.leg
+          (may-show (begun_with x (g.U.Medium.state c.args.unit.now).clock) (due_of c.loop-i.run) r.book r.travel c.loop-i.outcome.marks.items (g.U.Medium.state c.loop-i.unit) r.booked.stands y left shown));
       follows = follows;
       supply = r.supply;
       unfound = c.loop-i.run.unfound;

@@ -11,7 +11,7 @@ use Rattle.recorder.specs.Going.{largest_number, IsGoing}
 use Rattle.recorder.specs.Turn.{HasRoom}
 use Rattle.recorder.specs.Room.{offs}
 use Rattle.recorder.specs.Broken.{BreaksDown}
-use Rattle.recorder.specs.Booked.{Booked, GoesOn, StartsAs, begun_with}
+use Rattle.recorder.specs.Booked.{Booked, GoesOn, StartsAs, begun_with, Travel}
 use Rattle.recorder.proofs.run.run_trace.Given as goal
 
 abbrev pub invariant-loop-i : goal.invariant-loop-i
@@ -28,5 +28,5 @@ invariant-loop-i g l = record {
   began : (x : List ℕ) → StartsAs x (g.U.Medium.state l.fn.unit) → Decodes x × (last_kept x < l.trace.start / 60);
   recorded : (start : Start) (x : List ℕ) → StartsAs x (g.U.Medium.state l.fn.unit) → (g.U.Medium.state l.unit).clock < last_count → length l.trace.items ≤ largest_number →
       Recorded start (begun_with x (g.U.Medium.state l.fn.unit).clock) l.trace.start (seconds_of l.trace.start (take l.i l.trace.items)) l.run l.outcome.breaks.items l.outcome.marks.items l.outcome.refused.items (g.U.Medium.state l.unit);
-  booked : (x : List ℕ) → StartsAs x (g.U.Medium.state l.fn.unit) → (g.U.Medium.state l.unit).clock < last_count → (b : Book) × Booked (begun_with x (g.U.Medium.state l.fn.unit).clock) l.run b l.outcome.marks.items (g.U.Medium.state l.unit);
+  booked : (x : List ℕ) → StartsAs x (g.U.Medium.state l.fn.unit) → (g.U.Medium.state l.unit).clock < last_count → (b : Book) × (t : Travel) × Booked (begun_with x (g.U.Medium.state l.fn.unit).clock) l.run b t l.outcome.marks.items (g.U.Medium.state l.unit);
 }

@@ -43,13 +43,13 @@ returns-clause-gone g c =
       finds = e.finds ∙ c.turn.ensures.finds;
       goes_on = goes-then (goes-then c.in_ok-has_power.ensures.goes_on c.turn.ensures.goes_on) e.goes_on;
       broke = broke-then (broke-then c.in_ok-has_power.ensures.broke c.turn.ensures.broke) e.broke;
-      booked = λ s b h told below.
+      booked = λ s b t h told below.
           let clock = e.goes_on.clock in
-          let begun = (c.in_ok-has_power.ensures.booked s b c.args.outcome.now.marks.items h told).1 in
-          let on = begun-book s c.args.self.now c.begin_second.new.self c.args.outcome.now.breaks.items c.begin_second.new.breaks.items b c.args.outcome.now.marks.items (g.M.Medium.state c.begin_second.new.unit) begun in
-          let acted = booked-picked c.begin_second.new.self c.act_all.new.self (g.M.Medium.state c.begin_second.new.unit) (picks_in (c.in_ok-has_power.has_power && is_lit c.begin_second.new.self.power) (actions_in (between c.args.from c.args.to c.args.items.now))) c.act_all.ensures.only c.act_all.ensures.picked c.in_ok-has_power.ensures.going s on.0 c.args.outcome.now.marks.items on.1 in
-          let turned = turn-book s c.act_all.new.self c.turn.new.self c.begin_second.new.breaks.items c.turn.new.outcome.breaks.items 1 c.args.speed _ on.0 c.args.outcome.now.marks.items c.turn.new.outcome.marks.items (g.M.Medium.state c.turn.new.unit) (c.turn.ensures.booked s on.0 acted (omega (arith, clock, below))) in
-          e.booked s turned.0 turned.1 (c.turn.ensures.goes_on.tells ∙ (c.in_ok-has_power.ensures.goes_on.tells ∙ told)) below;
+          let begun = (c.in_ok-has_power.ensures.booked s b t c.args.outcome.now.marks.items h told).1 in
+          let on = begun-book s c.args.self.now c.begin_second.new.self c.args.outcome.now.breaks.items c.begin_second.new.breaks.items b t c.args.outcome.now.marks.items (g.M.Medium.state c.begin_second.new.unit) begun in
+          let acted = booked-picked c.begin_second.new.self c.act_all.new.self (g.M.Medium.state c.begin_second.new.unit) (picks_in (c.in_ok-has_power.has_power && is_lit c.begin_second.new.self.power) (actions_in (between c.args.from c.args.to c.args.items.now))) c.act_all.ensures.only c.act_all.ensures.picked c.in_ok-has_power.ensures.going s on.0 on.1 c.args.outcome.now.marks.items on.2 in
+          let turned = turn-book s c.act_all.new.self c.turn.new.self c.begin_second.new.breaks.items c.turn.new.outcome.breaks.items 1 c.args.speed _ on.0 on.1 c.args.outcome.now.marks.items c.turn.new.outcome.marks.items (g.M.Medium.state c.turn.new.unit) (c.turn.ensures.booked s on.0 on.1 acted (omega (arith, clock, below))) in
+          e.booked s turned.0 turned.1 turned.2 (c.turn.ensures.goes_on.tells ∙ (c.in_ok-has_power.ensures.goes_on.tells ∙ told)) below;
     }
 
 pub returns-clause-recorded : goal.returns-clause-recorded
@@ -57,7 +57,7 @@ returns-clause-recorded g c = λ start s origin done r told below are.
     let clock = c.drive_on.ensures.gone.goes_on.clock in
     let next : ℕ = c.args.self.now.next in
     let actions : List Action = actions_in (between c.args.from c.args.to c.args.items.now) in
-    let begins = (c.in_ok-has_power.ensures.booked s r.book c.args.outcome.now.marks.items r.booked told).1 in
+    let begins = (c.in_ok-has_power.ensures.booked s r.book r.travel c.args.outcome.now.marks.items r.booked told).1 in
     let number : length actions ≡ c.number_of.result = are.count ∙ sym (let e = c.number_of.ensures in let few = are.few in omega (arith, e, few)) in
     let first = stepped start s origin done 1 c.args.speed actions c.number_of.result (omega arith) are.each c.args.self.now c.begin_second.new.self c.act_all.new.self c.turn.new.self c.args.outcome.now.breaks.items c.begin_second.new.breaks.items c.turn.new.outcome.breaks.items c.args.outcome.now.marks.items c.turn.new.outcome.marks.items c.args.outcome.now.refused.items c.turn.new.outcome.refused.items
     (g.M.Medium.state c.args.unit.now) (g.M.Medium.state c.begin_second.new.unit) (g.M.Medium.state c.turn.new.unit) r
@@ -67,7 +67,7 @@ returns-clause-recorded g c = λ start s origin done r told below are.
     ∙ ap (λ (m : ℕ). c.args.outcome.now.refused.items ++ refused_in (has_power c.args.self.now.power next) m actions) c.in_ok-has_power.ensures.next)
     begins c.act_all.ensures.only
     (λ span stands. subst (λ (t : Bool). StandsFor c.act_all.new.self.minutes (with_picks (picks_in (t && is_lit c.begin_second.new.self.power) actions) span)) c.in_ok-has_power.ensures.power (c.act_all.ensures.picked span stands))
-    (λ b k. c.turn.ensures.booked s b (booked-picked c.begin_second.new.self c.act_all.new.self (g.M.Medium.state c.begin_second.new.unit) (picks_in (c.in_ok-has_power.has_power && is_lit c.begin_second.new.self.power) actions) c.act_all.ensures.only c.act_all.ensures.picked c.in_ok-has_power.ensures.going s b c.args.outcome.now.marks.items k) (omega (arith, clock, below))) in
+    (λ b t k. c.turn.ensures.booked s b t (booked-picked c.begin_second.new.self c.act_all.new.self (g.M.Medium.state c.begin_second.new.unit) (picks_in (c.in_ok-has_power.has_power && is_lit c.begin_second.new.self.power) actions) c.act_all.ensures.only c.act_all.ensures.picked c.in_ok-has_power.ensures.going s b t c.args.outcome.now.marks.items k) (omega (arith, clock, below))) in
     let rest = c.drive_on.ensures.recorded start s origin (done ++ driven 1 next c.args.speed actions) first (c.turn.ensures.goes_on.tells ∙ (c.in_ok-has_power.ensures.goes_on.tells ∙ told)) below in
     let later : c.turn.new.self.next ≡ next + 1 = let t = c.turn.ensures.next in let a = ap (λ (m : Run). m.next) c.act_all.ensures.only in let b = c.in_ok-has_power.ensures.next in omega (arith, t, a, b) in (
       rest.0,
@@ -87,8 +87,8 @@ returns-in_err-has_power-clause-gone g c = record {
   finds = refl;
   goes_on = c.in_err-has_power.ensures.goes_on;
   broke = c.in_err-has_power.ensures.broke;
-  booked = λ s b h told below. absurd (let no = (c.in_err-has_power.ensures.booked s b c.args.outcome.now.marks.items h told).0 in cc);
+  booked = λ s b t h told below. absurd (let no = (c.in_err-has_power.ensures.booked s b t c.args.outcome.now.marks.items h told).0 in cc);
 }
 
 pub returns-in_err-has_power-clause-recorded : goal.returns-in_err-has_power-clause-recorded
-returns-in_err-has_power-clause-recorded g c = λ start s origin done r told below are. absurd (let no = (c.in_err-has_power.ensures.booked s r.book c.args.outcome.now.marks.items r.booked told).0 in cc)
+returns-in_err-has_power-clause-recorded g c = λ start s origin done r told below are. absurd (let no = (c.in_err-has_power.ensures.booked s r.book r.travel c.args.outcome.now.marks.items r.booked told).0 in cc)

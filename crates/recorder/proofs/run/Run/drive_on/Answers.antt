@@ -39,10 +39,10 @@ loop-left-preserved g c =
           ∙ ap (λ (ss : List TraceSecond). done ++ ss) (sym (plain-parts gone n c.args.self.now.next c.args.speed))
           ∙ ap (λ (m : ℕ). done ++ driven m c.args.self.now.next c.args.speed []) (let same : gone + n ≡ c.args.seconds - (left - n) = let few = v.few in omega (arith, few, most) in same))
           (c.in_ok-step.ensures.recorded start s origin (done ++ driven gone c.args.self.now.next c.args.speed []) was (v.goes_on.tells ∙ told) below).1;
-      booked = λ s b h told below.
+      booked = λ s b t h told below.
           let clock = e.goes_on.clock in
-          let was = v.booked s b h told (omega (arith, clock, below)) in
-          (e.booked s was.0 was.1 (v.goes_on.tells ∙ told) below).1;
+          let was = v.booked s b t h told (omega (arith, clock, below)) in
+          (e.booked s was.0 was.1 was.2 (v.goes_on.tells ∙ told) below).1;
     }
 
 pub returns-clause-room : goal.returns-clause-room
@@ -66,7 +66,7 @@ loop-left-init g c = record {
   unfound = c.requires.unfound;
   goes_on = goes-none (g.M.Medium.state c.args.unit.now);
   broke = broke-none c.args.outcome.now.breaks.items (omega arith);
-  booked = λ s b h told below. (b, h);
+  booked = λ s b t h told below. (b, t, h);
   finds = refl;
   few = omega arith;
   recorded = λ start s origin done r told below.
@@ -86,7 +86,7 @@ returns-clause-gone g c =
       finds = v.finds;
       goes_on = v.goes_on;
       broke = v.broke;
-      booked = λ s b h told below. (refl, v.booked s b h told below);
+      booked = λ s b t h told below. (refl, v.booked s b t h told below);
     }
 
 pub returns-in_err-step-clause-gone : goal.returns-in_err-step-clause-gone
@@ -102,10 +102,10 @@ returns-in_err-step-clause-gone g c =
       finds = e.finds ∙ v.finds;
       goes_on = goes-then v.goes_on e.goes_on;
       broke = broke-then v.broke e.broke;
-      booked = λ s b h told below.
+      booked = λ s b t h told below.
           let clock = e.goes_on.clock in
-          let was = v.booked s b h told (omega (arith, clock, below)) in
-          absurd (let no = (e.booked s was.0 was.1 (v.goes_on.tells ∙ told) below).0 in cc);
+          let was = v.booked s b t h told (omega (arith, clock, below)) in
+          absurd (let no = (e.booked s was.0 was.1 was.2 (v.goes_on.tells ∙ told) below).0 in cc);
     }
 
 pub returns-in_err-step-clause-recorded : goal.returns-in_err-step-clause-recorded
@@ -113,5 +113,5 @@ returns-in_err-step-clause-recorded g c = λ start s origin done r told below.
     let v = c.loop-left.invariant in
     let e = c.in_err-step.ensures.gone in
     let clock = e.goes_on.clock in
-    let was = v.booked s r.book r.booked told (omega (arith, clock, below)) in
-    absurd (let no = (e.booked s was.0 was.1 (v.goes_on.tells ∙ told) below).0 in cc)
+    let was = v.booked s r.book r.travel r.booked told (omega (arith, clock, below)) in
+    absurd (let no = (e.booked s was.0 was.1 was.2 (v.goes_on.tells ∙ told) below).0 in cc)

@@ -3,7 +3,7 @@ use Rattle.trace_model.specs.Trace.{TraceSecond, driven}
 use Rattle.history_model.specs.Presence.{Start}
 use Rattle.tach_media.specs.Medium.{last_count}
 use Rattle.history_model.specs.Book.{Book}
-use Rattle.recorder.specs.Standing.{Began}
+use Rattle.recorder.specs.Standing.{Began, Travel}
 use Rattle.recorder.specs.Going.{IsGoing}
 use Rattle.recorder.specs.Turn.{HasRoom}
 use Rattle.recorder.specs.Broken.{BreaksDown}
@@ -20,8 +20,8 @@ invariant-loop-left g l = record {
   unfound : l.self.unfound ≤ length l.outcome.breaks.items;
   goes_on : GoesOn (g.M.Medium.state l.fn.unit) (g.M.Medium.state l.unit);
   broke : BreaksDown l.fn.outcome.breaks.items l.outcome.breaks.items (g.M.Medium.state l.fn.unit) (g.M.Medium.state l.unit);
-  booked : (s : Began) (b : Book) → Booked s l.fn.self b l.fn.outcome.marks.items (g.M.Medium.state l.fn.unit) → is_some (g.M.Medium.state l.fn.unit).image ≡ true → (g.M.Medium.state l.unit).clock < last_count →
-      (c : Book) × Booked s l.self c l.outcome.marks.items (g.M.Medium.state l.unit);
+  booked : (s : Began) (b : Book) (t : Travel) → Booked s l.fn.self b t l.fn.outcome.marks.items (g.M.Medium.state l.fn.unit) → is_some (g.M.Medium.state l.fn.unit).image ≡ true → (g.M.Medium.state l.unit).clock < last_count →
+      (c : Book) × (h : Travel) × Booked s l.self c h l.outcome.marks.items (g.M.Medium.state l.unit);
   finds : l.outcome.finds ≡ l.fn.outcome.finds;
   few : l.left ≤ l.seconds;
   recorded : (start : Start) (s : Began) (origin : ℕ) (done : List TraceSecond) → Recorded start s origin done l.fn.self l.fn.outcome.breaks.items l.fn.outcome.marks.items l.fn.outcome.refused.items (g.M.Medium.state l.fn.unit) →

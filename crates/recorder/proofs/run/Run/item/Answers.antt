@@ -47,7 +47,7 @@ returns-in-Act-clause-gone g c = record {
   finds = refl;
   goes_on = goes-none (g.M.Medium.state c.args.unit.now);
   broke = broke-none c.args.outcome.now.breaks.items (omega arith);
-  booked = λ s b h told below. (refl, (b, h));
+  booked = λ s b t h told below. (refl, (b, t, h));
 }
 
 pub returns-in-Off-clause-gone : goal.returns-in-Off-clause-gone
@@ -67,8 +67,8 @@ returns-in-Off-clause-gone g c =
       finds = refl;
       goes_on = goes-none (g.M.Medium.state c.args.unit.now);
       broke = broke-off _ _ _ breaks (omega arith);
-      booked = λ s b h told below.
-          (refl, (b, off-booked s c.args.self.now c.off.new.self b c.args.outcome.now.marks.items (g.M.Medium.state c.args.unit.now) c.in-Off.seconds c.off.ensures.power h));
+      booked = λ s b t h told below.
+          (refl, (b, t, off-booked s c.args.self.now c.off.new.self b t c.args.outcome.now.marks.items (g.M.Medium.state c.args.unit.now) c.in-Off.seconds c.off.ensures.power h));
     }
 
 pub returns-in-Run-clause-gone : goal.returns-in-Run-clause-gone

@@ -56,14 +56,14 @@ pub returns-in-Ok-clause-goes_on : goal.returns-in-Ok-clause-goes_on
 returns-in-Ok-clause-goes_on g c = record { clock = c.in-Ok.ensures.clock; tells = c.in-Ok.ensures.tells; faults = c.in-Ok.ensures.cause.faults; breakdowns = c.in-Ok.ensures.cause.breakdowns }
 
 pub returns-in-Ok-clause-booked : goal.returns-in-Ok-clause-booked
-returns-in-Ok-clause-booked g c = λ s b h below.
+returns-in-Ok-clause-booked g c = λ s b t h below.
     let lit = c.requires.going.lit c.requires.lit in
     let u = ungiven_of lit.span in
     let d = turn-decides c.args.self.now (g.M.Medium.state c.args.unit.now) c.requires.lit (c.requires.going.lit c.requires.lit) c.args.n c.args.speed c.feed-decided.result.items (c.feed-decided.ensures.given (c.requires.going.lit c.requires.lit).span (c.requires.going.lit c.requires.lit).stands) c.feed-decided.new.minutes (c.feed-decided.ensures.fed (c.requires.going.lit c.requires.lit).span (c.requires.going.lit c.requires.lit).stands) c.requires.small in
     let v = c.as_slice.ensures.value in
-    let said = c.in-Ok.ensures.marked s u b h.travel (turn-stands c.args.self.now (g.M.Medium.state c.args.unit.now) c.requires.lit (c.requires.going.lit c.requires.lit) c.args.n c.args.speed c.feed-decided.result.items (c.feed-decided.ensures.given (c.requires.going.lit c.requires.lit).span (c.requires.going.lit c.requires.lit).stands) c.feed-decided.new.minutes (c.feed-decided.ensures.fed (c.requires.going.lit c.requires.lit).span (c.requires.going.lit c.requires.lit).stands) c.requires.small s b c.args.outcome.now.marks.items h) (h.none c.requires.lit) (h.odometer c.requires.lit) (subst (AreFrom u) (sym v) d.from) below in
-    let booked = turn-kept c.args.self.now (g.M.Medium.state c.args.unit.now) c.requires.lit (c.requires.going.lit c.requires.lit) c.args.n c.args.speed c.feed-decided.result.items (c.feed-decided.ensures.given (c.requires.going.lit c.requires.lit).span (c.requires.going.lit c.requires.lit).stands) c.feed-decided.new.minutes (c.feed-decided.ensures.fed (c.requires.going.lit c.requires.lit).span (c.requires.going.lit c.requires.lit).stands) c.requires.small s b c.args.outcome.now.marks.items h c.pass.new.self c.keep_all.new.marks.items (g.M.Medium.state c.keep_all.new.unit) (ap (λ (r : Run). r.power) c.pass.ensures ∙ c.requires.lit) (ap (λ (r : Run). r.next) c.pass.ensures) (ap (λ (r : Run). r.minutes.owing) c.pass.ensures) (ap (λ (r : Run). r.odometer) c.pass.ensures)
-    (subst (λ (ds : List Minute). Stands s (due_after u ds) (kept_all ds b) (all_travelled ds h.travel) c.keep_all.new.marks.items (g.M.Medium.state c.keep_all.new.unit)) v said) in
+    let said = c.in-Ok.ensures.marked s u b t (turn-stands c.args.self.now (g.M.Medium.state c.args.unit.now) c.requires.lit (c.requires.going.lit c.requires.lit) c.args.n c.args.speed c.feed-decided.result.items (c.feed-decided.ensures.given (c.requires.going.lit c.requires.lit).span (c.requires.going.lit c.requires.lit).stands) c.feed-decided.new.minutes (c.feed-decided.ensures.fed (c.requires.going.lit c.requires.lit).span (c.requires.going.lit c.requires.lit).stands) c.requires.small s b t c.args.outcome.now.marks.items h) (h.none c.requires.lit) (h.odometer c.requires.lit) (subst (AreFrom u) (sym v) d.from) below in
+    let booked = turn-kept c.args.self.now (g.M.Medium.state c.args.unit.now) c.requires.lit (c.requires.going.lit c.requires.lit) c.args.n c.args.speed c.feed-decided.result.items (c.feed-decided.ensures.given (c.requires.going.lit c.requires.lit).span (c.requires.going.lit c.requires.lit).stands) c.feed-decided.new.minutes (c.feed-decided.ensures.fed (c.requires.going.lit c.requires.lit).span (c.requires.going.lit c.requires.lit).stands) c.requires.small s b t c.args.outcome.now.marks.items h c.pass.new.self c.keep_all.new.marks.items (g.M.Medium.state c.keep_all.new.unit) (ap (λ (r : Run). r.power) c.pass.ensures ∙ c.requires.lit) (ap (λ (r : Run). r.next) c.pass.ensures) (ap (λ (r : Run). r.minutes.owing) c.pass.ensures) (ap (λ (r : Run). r.odometer) c.pass.ensures)
+    (subst (λ (ds : List Minute). Stands s (due_after u ds) (kept_all ds b) (all_travelled ds t) c.keep_all.new.marks.items (g.M.Medium.state c.keep_all.new.unit)) v said) in
     inl (record {
       lit = ap is_lit c.requires.lit;
       next = ap (λ (r : Run). r.next) c.pass.ensures;
@@ -96,14 +96,14 @@ pub returns-in-Err-clause-goes_on : goal.returns-in-Err-clause-goes_on
 returns-in-Err-clause-goes_on g c = record { clock = c.in-Err.ensures.clock; tells = c.in-Err.ensures.tells; faults = c.in-Err.ensures.cause.faults; breakdowns = c.in-Err.ensures.cause.breakdowns }
 
 pub returns-in-Err-clause-booked : goal.returns-in-Err-clause-booked
-returns-in-Err-clause-booked g c = λ s b h below.
+returns-in-Err-clause-booked g c = λ s b t h below.
     let lit = c.requires.going.lit c.requires.lit in
     let u = ungiven_of lit.span in
     let d = turn-decides c.args.self.now (g.M.Medium.state c.args.unit.now) c.requires.lit (c.requires.going.lit c.requires.lit) c.args.n c.args.speed c.feed-decided.result.items (c.feed-decided.ensures.given (c.requires.going.lit c.requires.lit).span (c.requires.going.lit c.requires.lit).stands) c.feed-decided.new.minutes (c.feed-decided.ensures.fed (c.requires.going.lit c.requires.lit).span (c.requires.going.lit c.requires.lit).stands) c.requires.small in
     let v = c.as_slice.ensures.value in
-    let said = c.in-Err.ensures.broken s u b h.travel (turn-stands c.args.self.now (g.M.Medium.state c.args.unit.now) c.requires.lit (c.requires.going.lit c.requires.lit) c.args.n c.args.speed c.feed-decided.result.items (c.feed-decided.ensures.given (c.requires.going.lit c.requires.lit).span (c.requires.going.lit c.requires.lit).stands) c.feed-decided.new.minutes (c.feed-decided.ensures.fed (c.requires.going.lit c.requires.lit).span (c.requires.going.lit c.requires.lit).stands) c.requires.small s b c.args.outcome.now.marks.items h) (h.none c.requires.lit) (h.odometer c.requires.lit) (subst (AreFrom u) (sym v) d.from) below in
-    let off = subst (λ (ds : List Minute). IsBrokenOff s b h.travel ds c.keep_all.new.marks.items (g.M.Medium.state c.keep_all.new.unit)) v said in
-    let booked = turn-broken c.args.self.now (g.M.Medium.state c.args.unit.now) c.requires.lit (c.requires.going.lit c.requires.lit) c.args.n c.args.speed c.feed-decided.result.items (c.feed-decided.ensures.given (c.requires.going.lit c.requires.lit).span (c.requires.going.lit c.requires.lit).stands) c.feed-decided.new.minutes (c.feed-decided.ensures.fed (c.requires.going.lit c.requires.lit).span (c.requires.going.lit c.requires.lit).stands) c.requires.small s b c.args.outcome.now.marks.items h c.pass-in-Err.new.self c.keep_all.new.marks.items (g.M.Medium.state c.keep_all.new.unit)
+    let said = c.in-Err.ensures.broken s u b t (turn-stands c.args.self.now (g.M.Medium.state c.args.unit.now) c.requires.lit (c.requires.going.lit c.requires.lit) c.args.n c.args.speed c.feed-decided.result.items (c.feed-decided.ensures.given (c.requires.going.lit c.requires.lit).span (c.requires.going.lit c.requires.lit).stands) c.feed-decided.new.minutes (c.feed-decided.ensures.fed (c.requires.going.lit c.requires.lit).span (c.requires.going.lit c.requires.lit).stands) c.requires.small s b t c.args.outcome.now.marks.items h) (h.none c.requires.lit) (h.odometer c.requires.lit) (subst (AreFrom u) (sym v) d.from) below in
+    let off = subst (λ (ds : List Minute). IsBrokenOff s b t ds c.keep_all.new.marks.items (g.M.Medium.state c.keep_all.new.unit)) v said in
+    let booked = turn-broken c.args.self.now (g.M.Medium.state c.args.unit.now) c.requires.lit (c.requires.going.lit c.requires.lit) c.args.n c.args.speed c.feed-decided.result.items (c.feed-decided.ensures.given (c.requires.going.lit c.requires.lit).span (c.requires.going.lit c.requires.lit).stands) c.feed-decided.new.minutes (c.feed-decided.ensures.fed (c.requires.going.lit c.requires.lit).span (c.requires.going.lit c.requires.lit).stands) c.requires.small s b t c.args.outcome.now.marks.items h c.pass-in-Err.new.self c.keep_all.new.marks.items (g.M.Medium.state c.keep_all.new.unit)
     (ap (λ (r : Run). r.power) c.pass-in-Err.ensures ∙ ap (λ (r : Run). r.power) c.cut.ensures.power)
     (ap (λ (r : Run). r.next) c.pass-in-Err.ensures ∙ ap (λ (r : Run). r.next + c.args.n) c.cut.ensures.power)
     off in

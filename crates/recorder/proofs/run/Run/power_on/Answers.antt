@@ -1,16 +1,14 @@
-use Rattle.std.proofs.Common.{◌≡◌, inl, inr, All, subst, ◌/◌, ◌≤◌, ℕ, true, Option, Some, None, List, [], is_some, refl, ap, sym, ◌∙◌, arith}
+use Rattle.std.proofs.Common.{◌≡◌, inl, inr, subst, ◌/◌, ◌≤◌, ℕ, true, Option, Some, None, List, [], is_some, refl, ap, sym, ◌∙◌, arith}
 use Rattle.tach_media.proofs.Runs.{at_image, revived}
 use Rattle.tach_media.specs.Medium.{State}
 use Rattle.unit_model.specs.Decoding.{first_bad_place}
 use Rattle.unit_journal.specs.Image.{IsFoundBy}
 use Rattle.unit_journal.proofs.Loading.{not_decoded}
 use Rattle.log_model.specs.declared.lines.Mark.{Mark}
-use Rattle.history_model.specs.Book.{Book, all, found, IsMark}
-use Rattle.history_model.specs.Minutes.{HistoryMinute}
-use Rattle.recorder.specs.Standing.{Began, Stands, resumed}
-use Rattle.joint_rule.specs.Views.{unit_view}
-use Rattle.unit_rule.proofs.Moves.{shown-last}
-use Rattle.recorder.proofs.Standing.{stands-read, stands-found, stands-later}
+use Rattle.history_model.specs.Book.{Book, found}
+use Rattle.recorder.specs.Standing.{Began, Travel, Stands, resumed}
+use Rattle.unit_course.specs.Travelled.{MayShow}
+use Rattle.recorder.proofs.Standing.{may-show, stands-read, stands-found, stands-later}
 use Rattle.recorder.specs.declared.run.Run.{Run}
 use Rattle.log_model.specs.declared.lines.Break.{Break}
 use Rattle.recorder.specs.Lines.{Listed}
@@ -25,11 +23,11 @@ told-one o (Some x) same told = (x, refl)
 told-one o None same told = absurd (let no = same ∙ told in cc)
 
 -- up to the minute of the next second
-at-next : (s : Began) (run : Run) (b : Book) (marks : List Mark) (unit : State) → (h : Booked s run b marks unit) → Stands s (run.next / 60) b h.travel marks unit
-at-next s run b marks unit h = stands-later s (due_of run) (run.next / 60) b h.travel marks unit (omega arith) h.stands
+at-next : (s : Began) (run : Run) (b : Book) (t : Travel) (marks : List Mark) (unit : State) → Booked s run b t marks unit → Stands s (run.next / 60) b t marks unit
+at-next s run b t marks unit h = stands-later s (due_of run) (run.next / 60) b t marks unit (omega arith) h.stands
 
 pub returns-in-Ok-clause-booked : goal.returns-in-Ok-clause-booked
-returns-in-Ok-clause-booked g c = λ s b marks h told.
+returns-in-Ok-clause-booked g c = λ s b t marks h told.
     let before = g.met.M.Medium.coherent c.args.unit.now in
     let after = g.met.M.Medium.coherent c.load.new.unit in
     let run = c.load.ensures.leaves in
@@ -37,36 +35,35 @@ returns-in-Ok-clause-booked g c = λ s b marks h told.
     let loaded = c.in-Ok.ensures.loaded in
     let seen = at_image (IsFoundBy c.in-Ok.journal) image.1 loaded.found in
     let last = seen.kept in
-    let h0 = at-next s c.args.self.now b marks (g.M.Medium.state c.args.unit.now) h in
-    let back = stands-found s (c.args.self.now.next / 60) b h.travel marks h0 before c.in-Ok.journal.kept image.0 after run loaded.works image.1 last in
-    let on = c.found.ensures.booked s (found c.in-Ok.journal.kept b) (resumed back.0 h.travel) marks back.2 refl (sym seen.odometer ∙ back.1) (image.0, image.1, last) in
-    let shows = (h0.holds.unit_holds [] []).now (unit_view [] [] image.0) (image.0, revived after run image.0 image.1, refl) in
-    let is : (unit_view [] [] image.0).last ≡ c.in-Ok.journal.kept = shown-last [] [] image.0 ∙ last in (
+    let h0 = at-next s c.args.self.now b t marks (g.M.Medium.state c.args.unit.now) h in
+    let back = stands-found s (c.args.self.now.next / 60) b t marks h0 before c.in-Ok.journal.kept image.0 after run loaded.works image.1 last in
+    let on = c.found.ensures.booked s (found c.in-Ok.journal.kept b) (resumed back.0.leg t) marks back.1 refl (sym seen.odometer ∙ back.0.is) (image.0, image.1, last) in
+    let shown = may-show s (c.args.self.now.next / 60) b t marks (g.M.Medium.state c.args.unit.now) h0 image.0 (revived after run image.0 image.1) back.0 in (
       on.0,
       inr (record {
         kept = c.in-Ok.journal.kept;
-        mark = subst (IsMark s.opened.first (all b)) is shows.mark;
-        sure = subst (λ (k : ℕ). All (λ (i : HistoryMinute). i.minute ≤ k) b.sure) is shows.sure;
+        leg = back.0.leg;
+        shown = subst (λ (k : ℕ). MayShow s.opened.first b t k back.0.leg) last shown;
         on = on.1;
       }),
     )
 
 pub returns-in-Err-BadUnit-clause-booked : goal.returns-in-Err-BadUnit-clause-booked
-returns-in-Err-BadUnit-clause-booked g c = λ s b marks h told.
+returns-in-Err-BadUnit-clause-booked g c = λ s b t marks h told.
     let run = c.load.ensures.leaves in
     let image = told-one (g.M.Medium.state c.args.unit.now).image (g.M.Medium.state c.load.new.unit).image run.tells told in
     let bad = rw c.in-Err-BadUnit.field-0-is at c.in-Err-BadUnit.ensures.bad in
-    absurd (not_decoded image.0 c.in-Err-BadUnit.place (at_image (λ x. first_bad_place x ≡ Some c.in-Err-BadUnit.place) image.1 bad) (left-decodes s.opened (c.args.self.now.next / 60) b marks (at-next s c.args.self.now b marks (g.M.Medium.state c.args.unit.now) h).holds (g.met.M.Medium.coherent c.args.unit.now) (g.met.M.Medium.coherent c.load.new.unit) run image.0 image.1))
+    absurd (not_decoded image.0 c.in-Err-BadUnit.place (at_image (λ x. first_bad_place x ≡ Some c.in-Err-BadUnit.place) image.1 bad) (left-decodes s.opened (c.args.self.now.next / 60) b marks (at-next s c.args.self.now b t marks (g.M.Medium.state c.args.unit.now) h).holds (g.met.M.Medium.coherent c.args.unit.now) (g.met.M.Medium.coherent c.load.new.unit) run image.0 image.1))
 
 pub returns-in-Err-Failed-clause-booked : goal.returns-in-Err-Failed-clause-booked
-returns-in-Err-Failed-clause-booked g c = λ s b marks h told.
+returns-in-Err-Failed-clause-booked g c = λ s b t marks h told.
     let before = g.met.M.Medium.coherent c.args.unit.now in (
       refl,
       inl (record {
         run = c.cut.ensures.power;
         breaks = ap (λ (l : Listed Break). l.items) c.cut.ensures.breaks;
-        booked = lost-booked s c.cut.new.self b h.travel marks (g.M.Medium.state c.load.new.unit) c.args.self.now.next (ap (λ (r : Run). r.power) c.cut.ensures.power) (ap (λ (r : Run). r.next) c.cut.ensures.power)
-            (stands-read s (c.args.self.now.next / 60) b h.travel marks (at-next s c.args.self.now b marks (g.M.Medium.state c.args.unit.now) h) before c.load.ensures.leaves);
+        booked = lost-booked s c.cut.new.self b t marks (g.M.Medium.state c.load.new.unit) c.args.self.now.next (ap (λ (r : Run). r.power) c.cut.ensures.power) (ap (λ (r : Run). r.next) c.cut.ensures.power)
+            (stands-read s (c.args.self.now.next / 60) b t marks (at-next s c.args.self.now b t marks (g.M.Medium.state c.args.unit.now) h) before c.load.ensures.leaves);
       }),
     )
 

@@ -36,17 +36,17 @@ returns-clause-gone g c = record {
   finds = c.turn.ensures.finds;
   goes_on = goes-then c.in_ok-begin_second.ensures.goes_on c.turn.ensures.goes_on;
   broke = broke-then c.in_ok-begin_second.ensures.broke c.turn.ensures.broke;
-  booked = λ s b h told below.
-      let begun = (c.in_ok-begin_second.ensures.booked s b c.args.outcome.now.marks.items h told).1 in
-      let on = begun-book s c.args.self.now c.begin_second.new.self c.args.outcome.now.breaks.items c.begin_second.new.breaks.items b c.args.outcome.now.marks.items (g.M.Medium.state c.begin_second.new.unit) begun in (
+  booked = λ s b t h told below.
+      let begun = (c.in_ok-begin_second.ensures.booked s b t c.args.outcome.now.marks.items h told).1 in
+      let on = begun-book s c.args.self.now c.begin_second.new.self c.args.outcome.now.breaks.items c.begin_second.new.breaks.items b t c.args.outcome.now.marks.items (g.M.Medium.state c.begin_second.new.unit) begun in (
         refl,
-        turn-book s c.begin_second.new.self c.turn.new.self c.begin_second.new.breaks.items c.turn.new.outcome.breaks.items c.args.n c.args.speed 0 on.0 c.args.outcome.now.marks.items c.turn.new.outcome.marks.items (g.M.Medium.state c.turn.new.unit) (c.turn.ensures.booked s on.0 on.1 below),
+        turn-book s c.begin_second.new.self c.turn.new.self c.begin_second.new.breaks.items c.turn.new.outcome.breaks.items c.args.n c.args.speed 0 on.0 on.1 c.args.outcome.now.marks.items c.turn.new.outcome.marks.items (g.M.Medium.state c.turn.new.unit) (c.turn.ensures.booked s on.0 on.1 on.2 below),
       );
 }
 
 pub returns-clause-recorded : goal.returns-clause-recorded
 returns-clause-recorded g c = λ start s origin done r told below.
-    let begins = (c.in_ok-begin_second.ensures.booked s r.book c.args.outcome.now.marks.items r.booked told).1 in (
+    let begins = (c.in_ok-begin_second.ensures.booked s r.book r.travel c.args.outcome.now.marks.items r.booked told).1 in (
       refl,
       stepped start s origin done c.args.n c.args.speed [] 0 c.requires.some tt c.args.self.now c.begin_second.new.self c.begin_second.new.self c.turn.new.self c.args.outcome.now.breaks.items c.begin_second.new.breaks.items c.turn.new.outcome.breaks.items c.args.outcome.now.marks.items c.turn.new.outcome.marks.items c.args.outcome.now.refused.items c.turn.new.outcome.refused.items
           (g.M.Medium.state c.args.unit.now) (g.M.Medium.state c.begin_second.new.unit) (g.M.Medium.state c.turn.new.unit) r (none-last c.args.n) c.requires.minute
@@ -54,7 +54,7 @@ returns-clause-recorded g c = λ start s origin done r told below.
           ∙ sym (ap (λ (l : List Refused). c.args.outcome.now.refused.items ++ l) (refused-none (has_power c.args.self.now.power c.args.self.now.next) c.args.self.now.next) ∙ append-nil c.args.outcome.now.refused.items))
           begins refl
           (λ span stands. subst (StandsFor c.begin_second.new.self.minutes) (sym (ap (λ (ps : List (Slot × Pick)). with_picks ps span) (picks-none (has_power c.args.self.now.power c.args.self.now.next && is_lit c.begin_second.new.self.power)) ∙ with-none span)) stands)
-          (λ b k. c.turn.ensures.booked s b k below),
+          (λ b t k. c.turn.ensures.booked s b t k below),
     )
 
 pub returns-in_err-begin_second-clause-gone : goal.returns-in_err-begin_second-clause-gone
@@ -67,8 +67,8 @@ returns-in_err-begin_second-clause-gone g c = record {
   finds = refl;
   goes_on = c.in_err-begin_second.ensures.goes_on;
   broke = c.in_err-begin_second.ensures.broke;
-  booked = λ s b h told below. absurd (let no = (c.in_err-begin_second.ensures.booked s b c.args.outcome.now.marks.items h told).0 in cc);
+  booked = λ s b t h told below. absurd (let no = (c.in_err-begin_second.ensures.booked s b t c.args.outcome.now.marks.items h told).0 in cc);
 }
 
 pub returns-in_err-begin_second-clause-recorded : goal.returns-in_err-begin_second-clause-recorded
-returns-in_err-begin_second-clause-recorded g c = λ start s origin done r told below. absurd (let no = (c.in_err-begin_second.ensures.booked s r.book c.args.outcome.now.marks.items r.booked told).0 in cc)
+returns-in_err-begin_second-clause-recorded g c = λ start s origin done r told below. absurd (let no = (c.in_err-begin_second.ensures.booked s r.book r.travel c.args.outcome.now.marks.items r.booked told).0 in cc)
