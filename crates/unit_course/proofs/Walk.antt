@@ -1,5 +1,5 @@
 -- The steps one after another, over the run of two power-ons in a row: each premise is met, and the book follows at the end.
-use Rattle.std.proofs.Common.{◌≡◌, inl, inr, ℕ, ◌+◌, ◌*◌, ◌≤◌, true, Some, List, [], ◌∷◌, ◌++◌, refl, arith}
+use Rattle.std.proofs.Common.{◌≡◌, inl, inr, ℕ, ◌+◌, ◌*◌, ◌≤◌, true, Some, None, List, [], ◌∷◌, ◌++◌, refl, ap, arith}
 use Rattle.std.proofs.lemmas.List.Elements.{All-nil, All-cons}
 use Rattle.activity_codec.specs.declared.values.Activity.TheVariants.{Available, Driving}
 use Rattle.trace_model.specs.Trace.{TraceSecond, driven}
@@ -12,14 +12,19 @@ use Rattle.log_model.specs.declared.lines.Break.{Break}
 use Rattle.log_model.specs.declared.lines.Break.TheVariants.{Cut}
 use Rattle.log_model.specs.Log.{RunLog}
 use Rattle.log_model.specs.Course.{went}
+use Rattle.log_model.specs.Spans.{spans_of}
 use Rattle.history_model.specs.Minutes.{HistoryMinute}
 use Rattle.history_model.specs.Presence.{Start}
-use Rattle.history_model.specs.History.{unit_history, with_lost}
+use Rattle.history_model.specs.History.{unit_history, with_lost, limit_of}
 use Rattle.history_model.specs.Growth.{picking}
 use Rattle.history_model.specs.Book.{Book, not_begun, kept, broken, found, Follows}
 use Rattle.unit_course.specs.Turn.{lit_seconds, span_at}
 use Rattle.unit_course.specs.Keeping.{plain}
 use Rattle.unit_course.specs.Followed.{Lit, Due, Lost, Followed}
+use Rattle.unit_course.specs.Lines.{log_of}
+use Rattle.unit_course.specs.Legs.{Travel, not_travelled, travelled, stranded, resumed, kilometres_of, AreLegs}
+use Rattle.unit_course.specs.Travelled.{HasLegs}
+use Rattle.unit_course.proofs.Travelled.{begins_legs, powered_legs, powers_not_legs, turned_legs, broken_legs, shown_legs}
 use Rattle.unit_course.proofs.Steps.{begins, powered, powers_not, turned, breaks_off, is_followed}
 
 -- a minute of that day at 50 km/h, by its number since midnight
@@ -73,3 +78,42 @@ module _ (start : Start) where
       (record { breaks = Cut 1267401839 21123360 true 0 ∷ Cut 1267401840 21123360 true 0 ∷ []; unfound = 2; next = 1267401902; begun = 0; supply = Lit (lit_seconds 2 1267401900 50 [] true); book = found 21123360 book; waiting = [] })
       (turned Original start 1267401600 21123000 (driven 240 1267401600 50 [] ++ driven 60 1267401840 50 []) (record { breaks = Cut 1267401839 21123360 true 0 ∷ Cut 1267401840 21123360 true 0 ∷ []; unfound = 2; next = 1267401900; begun = 0; supply = Lit []; book = found 21123360 book; waiting = [] }) 1 50 [] tt [] again [] refl refl no_minute)
       []
+
+  -- WHAT WAS TRAVELLED in it: at the second power-on the odometer of the first minute is found
+  abbrev travel : Travel
+  travel = stranded 6000 (travelled 3000 (resumed 0 not_travelled))
+
+  lit_legs : HasLegs Original 21123000 [] (record { breaks = []; unfound = 0; next = 1267401600; begun = 0; supply = Lit []; book = found 21123000 not_begun; waiting = [] }) (resumed 0 not_travelled)
+  lit_legs = powered_legs Original start 1267401600 21123000 [] (record { breaks = []; unfound = 0; next = 1267401600; begun = 0; supply = Due; book = not_begun; waiting = [] }) begun not_travelled (begins_legs Original 21123000 1267401600) tt 21123000 0
+      (record { mark = inl refl; low = All-nil (λ (i : HistoryMinute). i.minute ≤ 21123000); side = inl refl; behind = λ i some at. absurd (let no : None ≡ Some i = some in cc) })
+
+  lost_legs : HasLegs Original 21123000 (driven 240 1267401600 50 []) (record { breaks = Cut 1267401839 0 true 0 ∷ []; unfound = 0; next = 1267401840; begun = 0; supply = Lost; book = book; waiting = [] }) travel
+  lost_legs = broken_legs Original start 1267401600 21123000 [] (record { breaks = []; unfound = 0; next = 1267401600; begun = 0; supply = Lit []; book = found 21123000 not_begun; waiting = [] }) lit (resumed 0 not_travelled) lit_legs [] refl refl 239 50 [] tt (driving 0 ∷ driving 1 ∷ []) two_minutes (driving 0 ∷ []) (Some (driving 1)) [] refl true
+
+  failed_legs : HasLegs Original 21123000 (driven 240 1267401600 50 [] ++ driven 60 1267401840 50 []) (record { breaks = Cut 1267401839 0 true 0 ∷ Cut 1267401840 0 true 0 ∷ []; unfound = 0; next = 1267401900; begun = 0; supply = Lost; book = book; waiting = [] }) travel
+  failed_legs = powers_not_legs Original start 1267401600 21123000 (driven 240 1267401600 50 []) (record { breaks = Cut 1267401839 0 true 0 ∷ []; unfound = 0; next = 1267401840; begun = 0; supply = Lost; book = book; waiting = [] }) cut travel lost_legs refl 59 50 [] 0 (omega arith) tt
+
+  again_legs : HasLegs Original 21123000 (driven 240 1267401600 50 [] ++ driven 60 1267401840 50 []) (record { breaks = Cut 1267401839 21123360 true 0 ∷ Cut 1267401840 21123360 true 0 ∷ []; unfound = 2; next = 1267401900; begun = 0; supply = Lit []; book = found 21123360 book; waiting = [] }) (resumed 3000 travel)
+  again_legs = powered_legs Original start 1267401600 21123000 (driven 240 1267401600 50 [] ++ driven 60 1267401840 50 []) (record { breaks = Cut 1267401839 0 true 0 ∷ Cut 1267401840 0 true 0 ∷ []; unfound = 0; next = 1267401900; begun = 0; supply = Lost; book = book; waiting = [] }) failed travel failed_legs refl 21123360 3000
+      (record {
+        mark = inr (plain (driving 0), (0, omega arith, refl), refl);
+        low = All-cons (λ (i : HistoryMinute). i.minute ≤ 21123360) (plain (driving 0)) [] (omega arith) (All-nil (λ (i : HistoryMinute). i.minute ≤ 21123360));
+        side = inl refl;
+        behind = λ i some at. absurd (let one : plain (driving 1) ≡ i = cc in let minute = ap (λ (j : HistoryMinute). j.minute) one in omega (arith, minute, at));
+      })
+
+  -- two seconds later these are the legs: of the first minute, and none of the other spans
+  pub two_power_ons_legs : (legs : List ℕ) × AreLegs Original (limit_of (log_of (Cut 1267401839 21123360 true 0 ∷ Cut 1267401840 21123360 true 0 ∷ []))) 21123360
+      (spans_of (went (log_of (Cut 1267401839 21123360 true 0 ∷ Cut 1267401840 21123360 true 0 ∷ [])) ((driven 240 1267401600 50 [] ++ driven 60 1267401840 50 []) ++ driven 2 1267401900 50 [])).told) legs × (kilometres_of legs ≡ kilometres_of (0 ∷ 3000 ∷ 0 ∷ []))
+  two_power_ons_legs =
+      shown_legs Original start 1267401600 21123000 ((driven 240 1267401600 50 [] ++ driven 60 1267401840 50 []) ++ driven 2 1267401900 50 [])
+      (record { breaks = Cut 1267401839 21123360 true 0 ∷ Cut 1267401840 21123360 true 0 ∷ []; unfound = 2; next = 1267401902; begun = 0; supply = Lit (lit_seconds 2 1267401900 50 [] true); book = found 21123360 book; waiting = [] })
+      refl (resumed 3000 travel) 21123360 0
+      (record {
+        mark = inr (plain (driving 0), (0, omega arith, refl), refl);
+        low = All-cons (λ (i : HistoryMinute). i.minute ≤ 21123360) (plain (driving 0)) [] (omega arith) (All-nil (λ (i : HistoryMinute). i.minute ≤ 21123360));
+        side = inl refl;
+        behind = λ i some at. absurd (let no : None ≡ Some i = some in cc);
+      })
+      (turned Original start 1267401600 21123000 (driven 240 1267401600 50 [] ++ driven 60 1267401840 50 []) (record { breaks = Cut 1267401839 21123360 true 0 ∷ Cut 1267401840 21123360 true 0 ∷ []; unfound = 2; next = 1267401900; begun = 0; supply = Lit []; book = found 21123360 book; waiting = [] }) 1 50 [] tt [] again [] refl refl no_minute)
+      (turned_legs Original start 1267401600 21123000 (driven 240 1267401600 50 [] ++ driven 60 1267401840 50 []) (record { breaks = Cut 1267401839 21123360 true 0 ∷ Cut 1267401840 21123360 true 0 ∷ []; unfound = 2; next = 1267401900; begun = 0; supply = Lit []; book = found 21123360 book; waiting = [] }) again (resumed 3000 travel) again_legs [] refl refl 1 50 [] tt [] no_minute)
