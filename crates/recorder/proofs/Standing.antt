@@ -53,7 +53,3 @@ may-show s due b g marks unit h y left shown =
 pub all_travelled-more : (xs : List Minute) (d : Minute) (g : Travel) → all_travelled (xs ++ d ∷ []) g ≡ travelled d.travelled (all_travelled xs g)
 all_travelled-more [] d g = refl
 all_travelled-more (x ∷ xs) d g = all_travelled-more xs d (travelled x.travelled g)
-
-pub travelled-before : (xs : List Minute) (g : Travel) → (all_travelled xs g).before ≡ g.before
-travelled-before [] g = refl
-travelled-before (x ∷ xs) g = travelled-before xs (travelled x.travelled g)

@@ -13,7 +13,8 @@ use Rattle.history_model.specs.Book.{Book, broken}
 use Rattle.unit_rule.specs.Rule.{Started}
 use Rattle.unit_rule.specs.Marks.{Holds}
 use Rattle.recorder.specs.Standing.{Began, Travel, stranded, odometer_after, all_travelled, Stands}
-use Rattle.recorder.proofs.Standing.{stands-later, travelled-before}
+use Rattle.unit_course.proofs.Legs.{travelled-earlier}
+use Rattle.recorder.proofs.Standing.{stands-later}
 use Rattle.recorder.specs.declared.run.Run.{Run}
 use Rattle.recorder.specs.declared.run.Power.{Power}
 use Rattle.recorder.specs.declared.run.Power.TheVariants.{Lit, Due, Lost}
@@ -157,7 +158,7 @@ module _ (run : Run) (unit : State) (is : run.power ≡ Lit) (lit : IsLit run un
         booked-at s new (kept_all items b) (all_travelled items g) later after (due_after (ungiven_of lit.span) items)
         (let d = turn-decides.next in let l = turn-due_later in let w = waiting-lit new.power new.minutes.owing power in omega (arith, d, l, w, next, owing))
         (λ p. kept_all-none items b (booked.none is))
-        (λ p. odometer ∙ booked.odometer is ∙ ap (odometer_after s.odometer) (sym (travelled-before items g))) h
+        (λ p. odometer ∙ booked.odometer is ∙ ap (odometer_after s.odometer) (sym (travelled-earlier items g))) h
 
     -- the keeping of one was broken off
     pub turn-broken : (new : Run) (later : List Mark) (after : State) → new.power ≡ Lost → new.next ≡ run.next + n → (h : IsBrokenOff s b g items later after) → Booked s new (broken (plain h.d) (kept_all h.front b)) (stranded h.d.travelled (all_travelled h.front g)) later after

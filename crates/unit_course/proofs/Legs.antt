@@ -3,6 +3,7 @@ use Rattle.std.proofs.Common.{◌≡◌, ◌⊎◌, inl, inr, ⊎_elim, ℕ, suc
 use Rattle.std.specs.Prelude.{unwrap_or, find}
 use Rattle.std.specs.List.{AllByRecursion}
 use Rattle.std.proofs.lemmas.Bool.Decides.{nat_tests}
+use Rattle.std.proofs.lemmas.Option.{none-some}
 use Rattle.std.proofs.lemmas.List.Sums.{sum_by-cons, sum_by-append}
 use Rattle.std.proofs.lemmas.List.Elements.{All-nil, All-cons, All-head, All-tail, All-weaker, All-contains, All-filter, filter-append}
 use Rattle.minute_model.specs.declared.Rule.{Rule}
@@ -21,7 +22,7 @@ use Rattle.history_model.proofs.Deciding.{short-none}
 use Rattle.history_model.proofs.Filters.{filter-none, filter-whole}
 use Rattle.unit_course.specs.Keeping.{plain}
 use Rattle.unit_course.specs.Followed.{IsKnown}
-use Rattle.unit_course.specs.Legs.{Travel, travelled, all_travelled, kilometres_of, travelled_by, IsLeg, AreLegs}
+use Rattle.unit_course.specs.Legs.{Travel, travelled, all_travelled, kilometres_of, travelled_by, IsLeg, AreLegs, AreWhole, whole_legs}
 use Rattle.unit_course.proofs.Alike.{Alike, decided-empty}
 
 -- WHAT WAS TRAVELLED up to the last of some minutes
@@ -191,6 +192,26 @@ leg-kept k kept rest leg low high is = inl (is ∙ ap travelled_by (sym (up_to-p
 
 pub leg-begun : (k : ℕ) (kept rest : List Minute) (d : Minute) (leg : ℕ) → All (λ d. d.minute ≤ k) kept → k < d.minute → leg ≡ d.travelled → IsLeg k (kept ++ d ∷ rest) leg
 leg-begun k kept rest d leg low late is = inr (d, first-later k kept rest d low late, is)
+
+-- WHERE ALL MINUTES OF THE SPANS WERE KEPT they have these legs and no others
+none-later : (k : ℕ) (ds : List Minute) → All (λ d. d.minute ≤ k) ds → find (λ (d : Minute). nat_lt k d.minute) ds ≡ None
+none-later k [] low = refl
+none-later k (d ∷ ds) low =
+    let is = passed k d.minute (All-head (λ (e : Minute). e.minute ≤ k) d ds low) in
+    ap (λ (b : Bool). cond b (Some d) (find (λ (e : Minute). nat_lt k e.minute) ds)) is
+    ∙ none-later k ds (All-tail (λ (e : Minute). e.minute ≤ k) d ds low)
+
+leg-whole : (k : ℕ) (ds : List Minute) (leg : ℕ) → All (λ d. d.minute ≤ k) ds → IsLeg k ds leg → leg ≡ travelled_by ds
+leg-whole k ds leg low (inl is) =
+    is ∙ ap travelled_by (filter-whole (λ (d : Minute). nat_le d.minute k) ds (All-weaker (λ (d : Minute). d.minute ≤ k) (λ d. nat_le d.minute k ≡ true) (λ d le. within k d.minute le) ds low))
+leg-whole k ds leg low (inr begun) = absurd (none-some begun.0 (sym (none-later k ds low) ∙ begun.1))
+
+pub legs-whole : (rule : Rule) (f : List Told → List (List Told) → Option ℕ) (k : ℕ) (spans : List (List Told)) (legs : List ℕ) → AreWhole rule f k spans → AreLegs rule f k spans legs → legs ≡ whole_legs rule spans
+legs-whole rule f k [] legs whole h = h
+legs-whole rule f k (span ∷ later) [] whole h = absurd h
+legs-whole rule f k (span ∷ later) (leg ∷ legs) whole h =
+    ap (λ (l : ℕ). l ∷ legs) (leg-whole (unwrap_or (f span later) k) (decided_of rule span) leg whole.0 h.0)
+    ∙ ap (λ (ls : List ℕ). travelled_by (decided_of rule span) ∷ ls) (legs-whole rule f k later legs whole.1 h.1)
 
 -- minutes of the book, as they were decided
 pub plain-all : (P : ℕ → Type 0) (ds : List Minute) → All (λ i. P i.minute) (map plain ds) → All (λ d. P d.minute) ds

@@ -1,5 +1,5 @@
 -- What a run has travelled, in km/h times seconds: of each time that there was power, and of each power span (profile).
-use Rattle.std.specs.Prelude.{◌≡◌, ◌⊎◌, ℕ, ◌/◌, Option, Some, None, List, [], ◌∷◌, ◌++◌, sum_by, filter, find, nat_le, nat_lt, unwrap_or}
+use Rattle.std.specs.Prelude.{◌≡◌, ◌⊎◌, ℕ, ◌/◌, ◌≤◌, Option, Some, None, List, [], ◌∷◌, ◌++◌, All, sum_by, map, filter, find, nat_le, nat_lt, unwrap_or}
 use Rattle.minute_model.specs.declared.Rule.{Rule}
 use Rattle.minute_model.specs.declared.Minute.{Minute}
 use Rattle.log_model.specs.Course.{Told}
@@ -58,3 +58,12 @@ abbrev pub AreLegs : Rule → (limit : List Told → List (List Told) → Option
 AreLegs rule limit k [] legs = legs ≡ []
 AreLegs rule limit k (span ∷ later) [] = ⊥
 AreLegs rule limit k (span ∷ later) (leg ∷ legs) = IsLeg (unwrap_or (limit span later) k) (decided_of rule span) leg × AreLegs rule limit k later legs
+
+-- each minute that these spans have decided is no later than the limit of its span's cut, or where it has none than the last-kept one
+abbrev pub AreWhole : Rule → (limit : List Told → List (List Told) → Option ℕ) → (kept : ℕ) → List (List Told) → Type 0
+AreWhole rule limit k [] = Unit {0}
+AreWhole rule limit k (span ∷ later) = All (λ d. d.minute ≤ unwrap_or (limit span later) k) (decided_of rule span) × AreWhole rule limit k later
+
+-- what was travelled in each span, up to the last minute that it has decided
+abbrev pub whole_legs : Rule → List (List Told) → List ℕ
+whole_legs rule spans = map (λ span. travelled_by (decided_of rule span)) spans

@@ -4,16 +4,21 @@ ghost use Rattle.run_model.specs.declared.Device.TheVariants.{Unit as Recorder};
 ghost use Rattle.unit_model.specs.Days.{newest_of};
 ghost use Rattle.unit_model.specs.Decoding.{Decodes};
 ghost use Rattle.unit_model.specs.Image.{last_kept, odometer_at, recorded};
+ghost use Rattle.minute_model.specs.declared.Rule.{Rule};
+ghost use Rattle.log_model.specs.Log.{RunLog};
+ghost use Rattle.log_model.specs.Course.{Told};
+ghost use Rattle.log_model.specs.Spans.{spans_of};
 ghost use Rattle.log_model.specs.declared.lines.Mark.{Mark};
 ghost use Rattle.history_model.specs.Minutes.{HistoryMinute};
 ghost use Rattle.history_model.specs.Book.{Book, Follows, AreLost, not_begun};
+ghost use Rattle.history_model.specs.History.{limit_of};
 ghost use Rattle.joint_rule.specs.Filling.{filled_with};
 ghost use Rattle.safety_model.specs.Unit.{UnitSafe, marks_of};
 ghost use Rattle.unit_rule.specs.Rule.{Started, started};
 ghost use Rattle.unit_rule.specs.Marks.{Holds};
 ghost use Rattle.unit_rule.specs.Complete.{AreMarksOf};
-ghost use Rattle.unit_course.specs.Legs.{Travel, kilometres_of};
-ghost use Rattle.unit_rule.specs.Odometer.{HasTravelled};
+ghost use Rattle.unit_course.specs.Legs.{Travel, kilometres_of, AreWhole, whole_legs};
+ghost use Rattle.unit_rule.specs.Odometer.{HasTravelled, OdometerSafe};
 
 use tach_media::Medium;
 
@@ -35,6 +40,13 @@ pub fn what_is_found_decodes<M: Medium>(unit: &M)
 pub fn an_odometer_is_a_sum<M: Medium>(unit: &M)
     ensures { (start : ℕ) (b : Book) (g : Travel) → HasTravelled start b g (M.state unit.now) → (x : List ℕ) → (M.state unit.now).may_leave x →
         (leg : ℕ) × ((leg ≡ g.sure) ⊎ (g.maybe ≡ Some leg)) × (odometer_at x ≡ min (start + kilometres_of (g.before ++ leg ∷ [])) HIGHEST_ODOMETER) }
+{}
+
+/// Where each minute that the spans of a run have decided was kept, the odometer is the start's and the whole kilometres of each
+/// span, up to the last minute that it has decided: no other one is `OdometerSafe`.
+pub fn a_whole_odometer()
+    ensures { (rule : Rule) (log : RunLog) (told : List Told) (start : ℕ) (x : List ℕ) → OdometerSafe rule log told start x → AreWhole rule (limit_of log) (last_kept x) (spans_of told) →
+        odometer_at x ≡ min (start + kilometres_of (whole_legs rule (spans_of told))) HIGHEST_ODOMETER }
 {}
 
 /// A unit that has an image which decodes, and no other, is a start: so is each image that a run may leave.

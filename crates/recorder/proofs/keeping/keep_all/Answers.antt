@@ -3,7 +3,7 @@ use Rattle.std.proofs.lemmas.List.{take_all}
 use Rattle.tach_media.proofs.Runs.{cause_after, no_reads}
 use Rattle.minute_model.specs.declared.Minute.{Minute}
 use Rattle.recorder.specs.Standing.{odometer_after, all_travelled, Stands}
-use Rattle.recorder.proofs.Standing.{travelled-before}
+use Rattle.unit_course.proofs.Legs.{travelled-earlier}
 use Rattle.recorder.specs.Keeping.{due_after, kept_all}
 use Rattle.recorder.proofs.Keep.{on_err, kept_all-none, due-here, kept-here, late-here, stands-here, broken-here}
 use Rattle.log_model.specs.declared.lines.Mark.{Mark}
@@ -31,7 +31,7 @@ returns-in_err-keep-clause-broken g c = λ s due b t h none at from below.
     on_err c.from_residual.result
     (broken-here ds i low s b t c.keep.new.marks.items (g.M.Medium.state c.keep.new.unit)
     (c.in_err-keep.ensures.broken s (due_after due (take i ds)) (kept_all (take i ds) b) (all_travelled (take i ds) t) was (kept_all-none (take i ds) b none)
-    (at ∙ ap (odometer_after s.odometer) (sym (travelled-before (take i ds) t))) (late-here ds i low due from)))
+    (at ∙ ap (odometer_after s.odometer) (sym (travelled-earlier (take i ds) t))) (late-here ds i low due from)))
 
 pub loop-minute-init : goal.loop-minute-init
 loop-minute-init g c = record {
@@ -74,7 +74,7 @@ loop-minute-preserved g c =
           let was = v.marked s due b t h none at from (omega (arith, clock, below)) in
           stands-here ds i low s due b t c.keep.new.marks.items (g.M.Medium.state c.keep.new.unit)
           (e.marked s (due_after due (take i ds)) (kept_all (take i ds) b) (all_travelled (take i ds) t) was (kept_all-none (take i ds) b none)
-          (at ∙ ap (odometer_after s.odometer) (sym (travelled-before (take i ds) t))) (late-here ds i low due from) below);
+          (at ∙ ap (odometer_after s.odometer) (sym (travelled-earlier (take i ds) t))) (late-here ds i low due from) below);
     }
 
 pub returns-clause-marked : goal.returns-clause-marked
