@@ -80,8 +80,7 @@ pub fn read_card_file(alloc: Global, b: &[u8]) -> Result<CardHistory, ViewFault>
 /// The entries of the newest `n` days of a card file's string, also of days behind the end mark and of days without an entry,
 /// which show none; of all days where there are fewer. It refuses as `read_card_file` does.
 pub fn last_days(alloc: Global, b: &[u8], n: u32) -> Result<CardHistory, ViewFault>
-    requires short { length b.now < 2 ^ 32 }
-    requires some { 1 ≤ n }
+    requires { length b.now < 2 ^ 32 }
     ensures entries { IfOk result (λ h. ShowsCardFile (Some n) b.now h) }
     ensures bad { IfErr result (λ fault. IfBadFile fault (λ place. IsBadCardFile place b.now)) }
 {

@@ -55,7 +55,7 @@ fn place_of(alloc: Global, at: usize, byte: u8) -> Result<u32, AllocError> {
 fn shown(alloc: Global, last: Option<u32>) -> Result<Vec<u8>, Memory> {
     let bytes = file(alloc)?;
     let history = match last {
-        Some(n) => last_days(alloc, short(bytes.as_slice()), n.max(1)),
+        Some(n) => last_days(alloc, short(bytes.as_slice()), n),
         None => read_card_file(alloc, short(bytes.as_slice())),
     };
     match history {
@@ -125,7 +125,7 @@ fn unit_file(alloc: Global) -> Result<Vec<u8>, AllocError> {
 fn unit_shown(alloc: Global, last: Option<u32>) -> Result<Vec<u8>, Memory> {
     let bytes = unit_file(alloc)?;
     let history = match last {
-        Some(n) => last_messages(alloc, short(bytes.as_slice()), n.max(1)),
+        Some(n) => last_messages(alloc, short(bytes.as_slice()), n),
         None => read_download(alloc, short(bytes.as_slice())),
     };
     match history {

@@ -69,8 +69,7 @@ pub fn read_download(alloc: Global, b: &[u8]) -> Result<UnitHistory, ViewFault>
 
 /// The minutes of the last `n` messages of a day; of all where there are fewer. It refuses as `read_download` does.
 pub fn last_messages(alloc: Global, b: &[u8], n: u32) -> Result<UnitHistory, ViewFault>
-    requires short { length b.now < 2 ^ 32 }
-    requires some { 1 ≤ n }
+    requires { length b.now < 2 ^ 32 }
     ensures minutes { IfOk result (λ h. ShowsUnitFile (Some n) b.now h) }
     ensures bad { IfErr result (λ fault. IfBadFile fault (λ place. IsBadUnitFile place b.now)) }
 {
