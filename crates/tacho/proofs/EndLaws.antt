@@ -10,6 +10,7 @@ use Rattle.tacho.specs.declared.end.Fault.{Fault}
 use Rattle.tacho.specs.declared.end.Fault.TheVariants.{Done, BadTrace, TooLong, ReadFault, WriteFault, Memory}
 use Rattle.tacho.specs.End.{end_of, refusal_of, IsUnread, IsUnprinted}
 use Rattle.tacho.specs.Outside.{SourceTold}
+use Rattle.tacho.specs.Minutes.{IsMinutesEnd}
 use Rattle.tacho.specs.Reading.{JudgesTrace}
 
 pub refusal-bad : (fault : TraceFault) (n : ℕ) → refusal_of fault ≡ BadTrace n → fault ≡ trace.BadLine n
@@ -26,6 +27,13 @@ failure-unprinted trace.ReadFault is = tt
 failure-unprinted trace.Memory is = tt
 failure-unprinted _ is = absurd is
 
+-- a trace that was not read ends `minutes`
+pub refusal-end : (fault : TraceFault) → (refusal_of fault ≡ Done → ⊥) × IsMinutesEnd (refusal_of fault)
+refusal-end trace.ReadFault = (λ e. cc, tt)
+refusal-end (trace.BadLine n) = (λ e. cc, tt)
+refusal-end (trace.TooLong n) = (λ e. cc, tt)
+refusal-end trace.Memory = (λ e. cc, tt)
+
 -- what a fault of a trace ends with
 pub refused : (fault wanted : TraceFault) → (fault ≡ wanted) ⊎ IsFailure fault → (refusal_of fault ≡ refusal_of wanted) ⊎ IsUnread (refusal_of fault)
 refused fault wanted (inl same) = inl (ap refusal_of same)
@@ -39,7 +47,7 @@ prints-end WriteFault is read write = absurd (write refl)
 prints-end _ is read write = absurd is
 
 -- where the source did not fail, it is the wanted end, or memory ran out
-wanted-end : (fault wanted : Fault) → (fault ≡ wanted) ⊎ IsUnread fault → (fault ≡ ReadFault → ⊥) → (fault ≡ wanted) ⊎ (fault ≡ Memory)
+pub wanted-end : (fault wanted : Fault) → (fault ≡ wanted) ⊎ IsUnread fault → (fault ≡ ReadFault → ⊥) → (fault ≡ wanted) ⊎ (fault ≡ Memory)
 wanted-end fault wanted (inl same) read = inl same
 wanted-end Memory wanted (inr is) read = inr refl
 wanted-end ReadFault wanted (inr is) read = absurd (read refl)

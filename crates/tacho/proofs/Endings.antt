@@ -1,5 +1,5 @@
--- How `minutes` ends, by what it answers.
-use Rattle.std.proofs.Common.{◌≡◌, ◌≤◌, ◌⊎◌, inl, refl, ℕ, List, ap}
+-- How `minutes` and `view` end, by what they answer.
+use Rattle.std.proofs.Common.{◌≡◌, ◌≤◌, ◌<◌, ◌⊎◌, inl, inr, refl, ℕ, List, length, Option, ap, subst, arith}
 use Rattle.std.specs.Prelude.{Result, Ok, Err, Some, OnOk, IfErr, IsErrAnd}
 use Rattle.std.specs.Io.KnownBytes.{Appends, IsAtEnd}
 use Rattle.tach_media.specs.Medium.{Rose}
@@ -9,19 +9,17 @@ use Rattle.trace_text.specs.declared.trace.Form.TheVariants.{Minutes as FormOfMi
 use Rattle.trace_model.specs.declared.Item.{Item}
 use Rattle.trace_text.specs.Judged.{IsTraceText, IsBadText, IsLongText}
 use Rattle.tacho.specs.declared.end.Fault.{Fault}
-use Rattle.tacho.specs.declared.end.Fault.TheVariants.{Done, Usage, BadTrace, TooLong, ReadFault, WriteFault, MediumFault}
-use Rattle.tacho.specs.declared.forms.Form.TheVariants.{Minutes}
+use Rattle.tacho.specs.declared.end.Fault.TheVariants.{Done, Usage, BadTrace, TooLong, ReadFault, WriteFault, MediumFault, Memory, BadFile}
+use Rattle.tacho.specs.declared.forms.Form.{Form}
+use Rattle.tacho.specs.declared.forms.Form.TheVariants.{Minutes, View}
 use Rattle.tacho.specs.End.{end_of, ended_by, IsUnread, IsUnprinted}
 use Rattle.tacho.specs.Outside.{Outside}
-use Rattle.tacho.specs.Minutes.{PrintsMinutes, EndsMinutes}
+use Rattle.tacho.specs.Minutes.{PrintsMinutes, IsMinutesEnd, EndsMinutes}
+use Rattle.tacho.specs.View.{PrintsFile, IsBadFile, IsViewEnd, EndsView, most_bytes}
 use Rattle.recorder.specs.declared.outcome.Outcome.{Outcome}
 use Rattle.tacho.specs.Recorded.{IsEmpty}
-use Rattle.tacho.specs.Program.{Ends}
-use Rattle.tacho.proofs.EndLaws.{prints-end, judges-trace}
-
--- no end of `minutes` but at a refusal of the source, the sink or memory
-abbrev pub IsOther : Fault → Type 0
-IsOther fault = (fault ≡ Done → ⊥) × (fault ≡ Usage → ⊥) × ((device : Device) → fault ≡ MediumFault device → ⊥)
+use Rattle.tacho.specs.Program.{Ends, EndsForm, IsUnrecorded}
+use Rattle.tacho.proofs.EndLaws.{prints-end, wanted-end, judges-trace}
 
 pub ends-minutes : {T : Type 0} (old new : Outside) (r : Result T Fault)
     → ((text : List ℕ) → old.source.left ≡ Some text → OnOk r ((out : List ℕ) × PrintsMinutes text out × Appends old.sink.held new.sink.held out))
@@ -34,9 +32,10 @@ pub ends-minutes : {T : Type 0} (old new : Outside) (r : Result T Fault)
     → ((text : List ℕ) (n : ℕ) → old.source.left ≡ Some text → IsBadText FormOfMinutes text n → IsErrAnd r (λ fault. (fault ≡ BadTrace n) ⊎ IsUnread fault))
     → ((text : List ℕ) (n : ℕ) → old.source.left ≡ Some text → IsLongText FormOfMinutes text n → IsErrAnd r (λ fault. (fault ≡ TooLong n) ⊎ IsUnread fault))
     → ((text : List ℕ) → old.source.left ≡ Some text → r ≡ Err WriteFault → (out : List ℕ) × PrintsMinutes text out × AppendsFront old.sink.held new.sink.held out)
-    → IfErr r IsOther
+    → IfErr r (λ fault. (fault ≡ Done → ⊥) × IsMinutesEnd fault)
     → EndsMinutes old new (end_of r)
 ends-minutes old new (Ok u) printed read bad long read_fault write_fault prints finds_bad finds_long front other = record {
+  ends = tt;
   printed = λ text told is. printed text told;
   read = λ is. read;
   judges = judges-trace old.source new.source (Ok u) bad long read_fault finds_bad finds_long;
@@ -44,6 +43,7 @@ ends-minutes old new (Ok u) printed read bad long read_fault write_fault prints 
   front = λ text told is. absurd (cc);
 }
 ends-minutes old new (Err fault) printed read bad long read_fault write_fault prints finds_bad finds_long front other = record {
+  ends = other.1;
   printed = λ text told is. absurd (other.0 is);
   read = λ is. absurd (other.0 is);
   judges = judges-trace old.source new.source (Err fault) bad long read_fault finds_bad finds_long;
@@ -51,16 +51,60 @@ ends-minutes old new (Err fault) printed read bad long read_fault write_fault pr
   front = λ text told is. front text told (ap Err is);
 }
 
--- so the call ends that was asked for it
-pub minutes-ends : {T : Type 0} (old new : Outside) (r : Result T Fault)
-    → EndsMinutes old new (end_of r)
-    → IfErr r IsOther
+-- where no stream failed and the file is not too long, it was shown or judged, or memory ran out
+judged : (fault : Fault) → IsViewEnd fault → (fault ≡ ReadFault → ⊥) → (fault ≡ WriteFault → ⊥) → ((n : ℕ) → fault ≡ TooLong n → ⊥)
+    → (fault ≡ Done) ⊎ ((fault ≡ Memory) ⊎ ((place : ℕ) × (fault ≡ BadFile place)))
+judged Done ends read write long = inl refl
+judged Memory ends read write long = inr (inl refl)
+judged (BadFile place) ends read write long = inr (inr (place, refl))
+judged (TooLong n) ends read write long = absurd (long n refl)
+judged ReadFault ends read write long = absurd (read refl)
+judged WriteFault ends read write long = absurd (write refl)
+judged _ ends read write long = absurd ends
+
+pub ends-view : {T : Type 0} (last : Option ℕ) (old new : Outside) (r : Result T Fault)
+    → ((bytes : List ℕ) → old.source.left ≡ Some bytes → OnOk r ((out : List ℕ) × PrintsFile last bytes out × Appends old.sink.held new.sink.held out))
+    → OnOk r (IsAtEnd new.source.left)
+    → ((bytes : List ℕ) (place : ℕ) → old.source.left ≡ Some bytes → r ≡ Err (BadFile place) → IsBadFile place bytes)
+    → ((bytes : List ℕ) (n : ℕ) → old.source.left ≡ Some bytes → r ≡ Err (TooLong n) → (n ≡ 0) × (most_bytes < length bytes))
+    → ((bytes : List ℕ) → old.source.left ≡ Some bytes → most_bytes < length bytes → IsErrAnd r (λ fault. (fault ≡ TooLong 0) ⊎ IsUnread fault))
+    → (r ≡ Err ReadFault → Rose old.source.faults new.source.faults)
+    → (r ≡ Err WriteFault → Rose old.sink.faults new.sink.faults)
+    → ((bytes : List ℕ) → old.source.left ≡ Some bytes → r ≡ Err WriteFault → (out : List ℕ) × PrintsFile last bytes out × AppendsFront old.sink.held new.sink.held out)
+    → IfErr r (λ fault. (fault ≡ Done → ⊥) × IsViewEnd fault)
+    → EndsView last old new (end_of r)
+ends-view last old new (Ok u) printed read bad long finds_long read_fault write_fault front other = record {
+  ends = tt;
+  printed = λ bytes told is. printed bytes told;
+  read = λ is. read;
+  bad_file = λ bytes place told is. absurd (cc);
+  too_long = λ bytes n told is. absurd (cc);
+  judges = λ bytes told few no_read no_write. inl refl;
+  finds_too_long = λ bytes told many no_read. absurd (finds_long bytes told many);
+  front = λ bytes told is. absurd (cc);
+}
+ends-view last old new (Err fault) printed read bad long finds_long read_fault write_fault front other = record {
+  ends = other.1;
+  printed = λ bytes told is. absurd (other.0 is);
+  read = λ is. absurd (other.0 is);
+  bad_file = λ bytes place told is. bad bytes place told (ap Err is);
+  too_long = λ bytes n told is. long bytes n told (ap Err is);
+  judges = λ bytes told few no_read no_write.
+      judged fault other.1 (λ e. no_read (read_fault (ap Err e))) (λ e. no_write (write_fault (ap Err e)))
+      (λ n e. let many = long bytes n told (ap Err e) in omega (arith, few, many.1));
+  finds_too_long = λ bytes told many no_read. wanted-end fault (TooLong 0) (finds_long bytes told many) (λ e. no_read (read_fault (ap Err e)));
+  front = λ bytes told is. front bytes told (ap Err is);
+}
+
+-- so the call ends that was asked for it, where the form uses the source and the sink alone
+streams-end : {T : Type 0} (form : Form) (old new : Outside) (outcome : Outcome) (r : Result T Fault)
+    → EndsForm form old new (ended_by outcome (end_of r)) → IsUnrecorded (Some form) outcome
+    → (end_of r ≡ Usage → ⊥) → ((device : Device) → end_of r ≡ MediumFault device → ⊥)
     → (r ≡ Err ReadFault → Rose old.source.faults new.source.faults)
     → (r ≡ Err WriteFault → Rose old.sink.faults new.sink.faults)
     → (old.source.faults ≤ new.source.faults) × (old.sink.faults ≤ new.sink.faults)
-    → (outcome : Outcome) → IsEmpty outcome
-    → Ends (Some Minutes) old new (ended_by outcome (end_of r))
-minutes-ends old new (Ok u) ends other read_fault write_fault counts outcome none = record {
+    → Ends (Some form) old new (ended_by outcome (end_of r))
+streams-end form old new outcome (Ok u) ends none no_usage no_medium read_fault write_fault counts = record {
   status = refl;
   usage = (λ is. absurd (cc), λ none. absurd (cc));
   form = ends;
@@ -73,16 +117,36 @@ minutes-ends old new (Ok u) ends other read_fault write_fault counts outcome non
     writes = counts.1;
   };
 }
-minutes-ends old new (Err fault) ends other read_fault write_fault counts outcome none = record {
+streams-end form old new outcome (Err fault) ends none no_usage no_medium read_fault write_fault counts = record {
   status = refl;
-  usage = (λ is. absurd (other.1 is), λ none. absurd (cc));
+  usage = (λ is. absurd (no_usage is), λ none. absurd (cc));
   form = ends;
   unrecorded = none;
   causes = record {
     read_fault = λ is. read_fault (ap Err is);
     write_fault = λ is. write_fault (ap Err is);
-    medium_fault = λ device is. absurd (other.2 device is);
+    medium_fault = λ device is. absurd (no_medium device is);
     reads = counts.0;
     writes = counts.1;
   };
 }
+
+pub minutes-ends : {T : Type 0} (old new : Outside) (r : Result T Fault)
+    → EndsMinutes old new (end_of r)
+    → (r ≡ Err ReadFault → Rose old.source.faults new.source.faults)
+    → (r ≡ Err WriteFault → Rose old.sink.faults new.sink.faults)
+    → (old.source.faults ≤ new.source.faults) × (old.sink.faults ≤ new.sink.faults)
+    → (outcome : Outcome) → IsEmpty outcome
+    → Ends (Some Minutes) old new (ended_by outcome (end_of r))
+minutes-ends old new r ends read_fault write_fault counts outcome none =
+    streams-end Minutes old new outcome r ends none (λ is. subst IsMinutesEnd is ends.ends) (λ device is. subst IsMinutesEnd is ends.ends) read_fault write_fault counts
+
+pub view-ends : {T : Type 0} (last : Option ℕ) (old new : Outside) (r : Result T Fault)
+    → EndsView last old new (end_of r)
+    → (r ≡ Err ReadFault → Rose old.source.faults new.source.faults)
+    → (r ≡ Err WriteFault → Rose old.sink.faults new.sink.faults)
+    → (old.source.faults ≤ new.source.faults) × (old.sink.faults ≤ new.sink.faults)
+    → (outcome : Outcome) → IsEmpty outcome
+    → Ends (Some (View last)) old new (ended_by outcome (end_of r))
+view-ends last old new r ends read_fault write_fault counts outcome none =
+    streams-end (View last) old new outcome r ends none (λ is. subst IsViewEnd is ends.ends) (λ device is. subst IsViewEnd is ends.ends) read_fault write_fault counts

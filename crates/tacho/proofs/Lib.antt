@@ -4,6 +4,7 @@ pub mod Fed
 pub mod Below
 pub mod EndLaws
 pub mod Endings
+pub mod Views
 pub mod Formats
 pub mod WordRows
 pub mod Lines

@@ -8,6 +8,13 @@ one-word (p ∷ []) a n at_0 = cc
 one-word [] a n at_0 = absurd (cc)
 one-word (p ∷ q ∷ words) a n at_0 = absurd (omega (arith, n))
 
+pub three-words : (words : List (List ℕ)) (a b c : List ℕ) → length words ≡ 3 → slice_get words 0 ≡ Some a → slice_get words 1 ≡ Some b → slice_get words 2 ≡ Some c → words ≡ a ∷ b ∷ c ∷ []
+three-words (p ∷ q ∷ r ∷ []) a b c n at_0 at_1 at_2 = cc
+three-words [] a b c n at_0 at_1 at_2 = absurd (cc)
+three-words (p ∷ []) a b c n at_0 at_1 at_2 = absurd (omega (arith, n))
+three-words (p ∷ q ∷ []) a b c n at_0 at_1 at_2 = absurd (omega (arith, n))
+three-words (p ∷ q ∷ r ∷ s ∷ words) a b c n at_0 at_1 at_2 = absurd (omega (arith, n))
+
 pub six-words : (words : List (List ℕ)) (a b c d e f : List ℕ) → length words ≡ 6 → slice_get words 0 ≡ Some a → slice_get words 1 ≡ Some b → slice_get words 2 ≡ Some c → slice_get words 3 ≡ Some d → slice_get words 4 ≡ Some e → slice_get words 5 ≡ Some f → words ≡ a ∷ b ∷ c ∷ d ∷ e ∷ f ∷ []
 six-words (p ∷ q ∷ r ∷ s ∷ t ∷ u ∷ []) a b c d e f n at_0 at_1 at_2 at_3 at_4 at_5 = cc
 six-words [] a b c d e f n at_0 at_1 at_2 at_3 at_4 at_5 = absurd (cc)
@@ -19,13 +26,13 @@ six-words (p ∷ q ∷ r ∷ s ∷ t ∷ []) a b c d e f n at_0 at_1 at_2 at_3 a
 six-words (p ∷ q ∷ r ∷ s ∷ t ∷ u ∷ v ∷ words) a b c d e f n at_0 at_1 at_2 at_3 at_4 at_5 = absurd (omega (arith, n))
 
 -- other numbers of words are in no form
-pub no-form : (words : List (List ℕ)) → (length words ≡ 1 → ⊥) → (length words ≡ 6 → ⊥) → form_of words ≡ None
+pub no-form : (words : List (List ℕ)) → (length words ≡ 1 → ⊥) → (length words ≡ 3 → ⊥) → (length words ≡ 6 → ⊥) → form_of words ≡ None
 unfolding form_of
-no-form [] one six = refl
-no-form (p ∷ []) one six = absurd (one refl)
-no-form (p ∷ q ∷ []) one six = refl
-no-form (p ∷ q ∷ r ∷ []) one six = refl
-no-form (p ∷ q ∷ r ∷ s ∷ []) one six = refl
-no-form (p ∷ q ∷ r ∷ s ∷ t ∷ []) one six = refl
-no-form (p ∷ q ∷ r ∷ s ∷ t ∷ u ∷ []) one six = absurd (six refl)
-no-form (p ∷ q ∷ r ∷ s ∷ t ∷ u ∷ v ∷ words) one six = refl
+no-form [] one three six = refl
+no-form (p ∷ []) one three six = absurd (one refl)
+no-form (p ∷ q ∷ []) one three six = refl
+no-form (p ∷ q ∷ r ∷ []) one three six = absurd (three refl)
+no-form (p ∷ q ∷ r ∷ s ∷ []) one three six = refl
+no-form (p ∷ q ∷ r ∷ s ∷ t ∷ []) one three six = refl
+no-form (p ∷ q ∷ r ∷ s ∷ t ∷ u ∷ []) one three six = absurd (six refl)
+no-form (p ∷ q ∷ r ∷ s ∷ t ∷ u ∷ v ∷ words) one three six = refl

@@ -6,8 +6,8 @@ use Rattle.tacho_types.specs.declared.texts.Registration.{Registration}
 use Rattle.card_files.specs.declared.new_card.CardIdentity.{CardIdentity}
 use Rattle.unit_memory.specs.declared.format.Identity.{Identity}
 use Rattle.tacho.specs.declared.forms.Form.{Form}
-use Rattle.tacho.specs.declared.forms.Form.TheVariants.{Minutes, Record, FormatCard, FormatUnit}
-use Rattle.tacho.specs.declared.forms.TheConstants.{CARD_NUMBER, NAME, PLATE, VIN, NATION_MOST, LIMIT_LEAST, LIMIT_MOST}
+use Rattle.tacho.specs.declared.forms.Form.TheVariants.{Minutes, Record, FormatCard, FormatUnit, View}
+use Rattle.tacho.specs.declared.forms.TheConstants.{CARD_NUMBER, NAME, PLATE, VIN, NATION_MOST, LIMIT_LEAST, LIMIT_MOST, LAST_LEAST, LAST_MOST}
 use Rattle.tacho.specs.Texts.{word_in, number_in, padded}
 
 -- steps each of which may tell nothing
@@ -45,10 +45,12 @@ unit_in nation plate vin limit = do
   limit ← number_in LIMIT_LEAST LIMIT_MOST limit
   Some (record { vin = vin; registration = registration; limit = limit })
 
--- `minutes` and `record`
+-- `minutes`, `record` and `view`
 abbrev pub form_of_one : List ℕ → Option Form
 form_of_one word =
-    if bytes_eq word (codes "minutes") then Some Minutes else (if bytes_eq word (codes "record") then Some Record else None)
+    if bytes_eq word (codes "minutes") then Some Minutes
+    else (if bytes_eq word (codes "record") then Some Record
+    else (if bytes_eq word (codes "view") then Some (View None) else None))
 
 -- `unit N PLATE VIN LIMIT`
 abbrev pub unit_form : (nation plate vin limit : List ℕ) → Option Form
@@ -72,8 +74,22 @@ abbrev pub form_of_six : (command what first second third fourth : List ℕ) →
 form_of_six command what first second third fourth =
     if bytes_eq command (codes "format") then format_of what first second third fourth else None
 
+-- `last N`, N from 1 to 366
+abbrev pub last_form : List ℕ → Option Form
+last_form count = do
+  days ← number_in LAST_LEAST LAST_MOST count
+  Some (View (Some days))
+
+abbrev pub view_of : (which count : List ℕ) → Option Form
+view_of which count = if bytes_eq which (codes "last") then last_form count else None
+
+-- `view` and what follows it
+abbrev pub form_of_three : (command which count : List ℕ) → Option Form
+form_of_three command which count = if bytes_eq command (codes "view") then view_of which count else None
+
 -- what the words ask for; nothing where they are in no form
 unfoldable pub form_of : List (List ℕ) → Option Form
 form_of (word ∷ []) = form_of_one word
+form_of (command ∷ which ∷ count ∷ []) = form_of_three command which count
 form_of (command ∷ what ∷ first ∷ second ∷ third ∷ fourth ∷ []) = form_of_six command what first second third fourth
 form_of _ = None

@@ -7,4 +7,5 @@ pub mod Reading
 pub mod Minutes
 pub mod Recorded
 pub mod Formatting
+pub mod View
 pub mod Program

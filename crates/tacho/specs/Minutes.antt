@@ -16,7 +16,7 @@ use Rattle.trace_model.specs.declared.Item.{Item}
 use Rattle.run_model.specs.Span.{trace_span}
 use Rattle.trace_text.specs.Judged.{IsTraceText}
 use Rattle.tacho.specs.declared.end.Fault.{Fault}
-use Rattle.tacho.specs.declared.end.Fault.TheVariants.{Done, WriteFault, Memory}
+use Rattle.tacho.specs.declared.end.Fault.TheVariants.{Done, BadTrace, TooLong, ReadFault, WriteFault, Memory}
 use Rattle.tacho.specs.Outside.{Outside}
 use Rattle.tacho.specs.Reading.{JudgesTrace}
 
@@ -46,8 +46,19 @@ pub record PrintsMinutes (text out : List ℕ) : Type 0 where
   pub trace : IsTraceText Minutes text start items
   pub view : IsUnitView (minutes_shown start items) out
 
+-- how `minutes` can end
+abbrev pub IsMinutesEnd : Fault → Type 0
+IsMinutesEnd Done = Unit {0}
+IsMinutesEnd (BadTrace n) = Unit {0}
+IsMinutesEnd (TooLong n) = Unit {0}
+IsMinutesEnd ReadFault = Unit {0}
+IsMinutesEnd WriteFault = Unit {0}
+IsMinutesEnd Memory = Unit {0}
+IsMinutesEnd _ = ⊥
+
 -- How the command `minutes` ends.
 pub record EndsMinutes (old new : Outside) (fault : Fault) : Type 0 where
+  pub ends : IsMinutesEnd fault
   -- Done: the sink gained exactly the view text of the decided minutes of the source's trace, and nothing of the source is
   -- left.
   pub printed : (text : List ℕ) → old.source.left ≡ Some text → fault ≡ Done → (out : List ℕ) × PrintsMinutes text out × Appends old.sink.held new.sink.held out

@@ -21,7 +21,7 @@ use Rattle.trace_text.specs.Judged.{IsTraceText}
 use Rattle.unit_model.specs.Image.{last_kept}
 use Rattle.unit_model.specs.Decoding.{Decodes, first_bad_place}
 use Rattle.tacho.specs.declared.end.Fault.{Fault}
-use Rattle.tacho.specs.declared.end.Fault.TheVariants.{Done, Usage, BadTrace, TooLong, BadUnit, ClockBack, ReadFault, WriteFault, MediumFault, Memory}
+use Rattle.tacho.specs.declared.end.Fault.TheVariants.{Done, Usage, BadTrace, TooLong, BadUnit, ClockBack, ReadFault, WriteFault, MediumFault, Memory, BadFile}
 use Rattle.tacho.specs.End.{IsBeforeDevices}
 use Rattle.tacho.specs.Outside.{Outside}
 use Rattle.tacho.specs.Reading.{JudgesTrace}
@@ -54,6 +54,7 @@ outcome_text outcome =
 abbrev pub IsRecordEnd : Fault → Type 0
 IsRecordEnd (MediumFault device) = device ≡ OfUnit
 IsRecordEnd Usage = ⊥
+IsRecordEnd (BadFile place) = ⊥
 IsRecordEnd _ = Unit {0}
 
 -- the trace was recorded, whether or not that could be printed

@@ -21,6 +21,9 @@ pub enum Fault {
     ReadFault,
     /// The sink failed.
     WriteFault,
+    /// The source is no file that `view` reads: the place of the first message or entry that is not in its grammar, or the file's
+    /// length where a needed entry is missing.
+    BadFile(u32),
     /// This device failed.
     MediumFault(Device),
     /// Out of memory.
@@ -57,6 +60,7 @@ impl Ended {
             Fault::WriteFault => 8,
             Fault::MediumFault(_) => 9,
             Fault::Memory => 10,
+            Fault::BadFile(_) => 11,
         };
         Ended {
             status,

@@ -1,8 +1,8 @@
 //! The forms of words that the program knows (profile).
-ghost use Rattle.std.specs.Prelude.{◌≡◌, ◌∷◌, ◌+◌, ◌-◌, ◌≤◌, length, bytes_eq};
+ghost use Rattle.std.specs.Prelude.{◌≡◌, ◌∷◌, ◌+◌, ◌-◌, ◌≤◌, IfSome, length, bytes_eq};
 ghost use Rattle.std.specs.List.{list_all};
 ghost use Rattle.tacho.specs.Texts.{is_character, is_word, begins_with_dash, word_in, number_in, padded};
-ghost use Rattle.tacho.specs.Forms.{name_in, card_in, registration_in, unit_in, form_of_one, format_of, form_of_six, form_of};
+ghost use Rattle.tacho.specs.Forms.{name_in, card_in, registration_in, unit_in, form_of_one, view_of, form_of_three, format_of, form_of_six, form_of};
 
 use crate::words::Words;
 use card_files::CardIdentity;
@@ -32,6 +32,12 @@ pub const LIMIT_LEAST: u8 = 1;
 /// The greatest speed limit in km/h.
 pub const LIMIT_MOST: u8 = 254;
 
+/// The least number of days that `view last N` takes.
+pub const LAST_LEAST: u32 = 1;
+
+/// The greatest number of days that `view last N` takes: so many days a unit keeps.
+pub const LAST_MOST: u32 = 366;
+
 /// What the words of the command line ask for.
 #[derive(Clone, Copy, Debug, PartialEq, Eq)]
 pub enum Form {
@@ -43,6 +49,8 @@ pub enum Form {
     FormatCard { card: Card, identity: CardIdentity },
     /// `format unit N PLATE VIN LIMIT`: the unit is made new, of this identity.
     FormatUnit { identity: Identity },
+    /// `view`: a unit file or a card file is printed; `view last N`: its last so many days, from 1 to 366.
+    View { last: Option<u32> },
 }
 
 /// What the words ask for, if they are in a form that is known. The test takes no memory.
@@ -51,6 +59,9 @@ pub fn form_of(words: &Words) -> Option<Form>
 {
     if let Some(word) = words.one() {
         return form_of_one(word);
+    }
+    if let Some((command, which, count)) = words.three() {
+        return form_of_three(command, which, count);
     }
     let Some((command, what, first, second, third, fourth)) = words.six() else {
         return None;
@@ -67,6 +78,32 @@ fn form_of_one(word: &str) -> Option<Form>
     }
     if is_text(word, "record") {
         return Some(Form::Record);
+    }
+    if is_text(word, "view") {
+        return Some(Form::View { last: None });
+    }
+    None
+}
+
+/// The form of three words.
+fn form_of_three(command: &str, which: &str, count: &str) -> Option<Form>
+    ensures { result ≡ form_of_three command.now which.now count.now }
+{
+    if is_text(command, "view") {
+        return view_of(which, count);
+    }
+    None
+}
+
+/// Of how many last days the view is to be.
+fn view_of(which: &str, count: &str) -> Option<Form>
+    ensures { result ≡ view_of which.now count.now }
+{
+    if is_text(which, "last") {
+        let Some(days) = number(count, LAST_LEAST, LAST_MOST) else {
+            return None;
+        };
+        return Some(Form::View { last: Some(days) });
     }
     None
 }
@@ -199,10 +236,18 @@ fn vehicle_number(word: &str) -> Option<[u8; 17]>
 }
 
 /// The number in this range that a word spells, without a sign or a leading zero.
+fn number(word: &str, least: u32, most: u32) -> Option<u32>
+    ensures value { result ≡ number_in least most word.now }
+    ensures most { IfSome result (λ n. n ≤ most) }
+{
+    number_between(word.as_bytes(), least, most)
+}
+
+/// The same, of a byte.
 fn byte(word: &str, least: u8, most: u8) -> Option<u8>
     ensures { result ≡ number_in least most word.now }
 {
-    match number_between(word.as_bytes(), least as u32, most as u32) {
+    match number(word, least as u32, most as u32) {
         Some(n) => Some(n as u8),
         None => None,
     }

@@ -10,6 +10,7 @@ mod minutes_command;
 mod outcome_text;
 mod record_command;
 mod top;
+mod view_command;
 mod words;
 
 use card_commands::SimCard;
@@ -75,6 +76,7 @@ fn tell(rt: &HostRuntime, fault: Fault) -> io::Result<()> {
         Fault::MediumFault(Device::CardA) => eprintln!(rt; "medium fault card-a"),
         Fault::MediumFault(Device::CardB) => eprintln!(rt; "medium fault card-b"),
         Fault::Memory => eprintln!(rt; "out of memory"),
+        Fault::BadFile(place) => eprintln!(rt; "bad file at {place}"),
     }
 }
 

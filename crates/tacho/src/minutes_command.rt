@@ -3,7 +3,6 @@ ghost use Rattle.std.specs.Prelude.{◌≡◌, ◌≢◌, ◌≤◌, ◌⊎◌, 
 ghost use Rattle.std.specs.Io.KnownBytes.{Appends, IsAtEnd};
 ghost use Rattle.tach_media.specs.Medium.{Rose};
 ghost use Rattle.tach_media.specs.Streams.{AppendsFront};
-ghost use Rattle.run_model.specs.declared.Device.{Device as DeviceName};
 ghost use Rattle.view_model.specs.Text.{IsUnitView};
 ghost use Rattle.trace_text.specs.declared.trace.Form.TheVariants.{Minutes as FormOfMinutes};
 ghost use Rattle.trace_model.specs.declared.Item.{Item};
@@ -12,7 +11,7 @@ ghost use Rattle.trace_text.specs.Trace.{IsWellFormed};
 ghost use Rattle.std.specs.List.{AllByRecursion};
 ghost use Rattle.trace_text.specs.Judged.{IsTraceText, IsBadText, IsLongText};
 ghost use Rattle.tacho.specs.End.{refusal_of, IsUnread, IsUnprinted};
-ghost use Rattle.tacho.specs.Minutes.{PrintsMinutes, minutes_shown};
+ghost use Rattle.tacho.specs.Minutes.{PrintsMinutes, minutes_shown, IsMinutesEnd};
 
 use crate::end::Fault;
 use crate::minutes::lines_of;
@@ -44,7 +43,7 @@ pub fn print_minutes<S: Source, K: Sink>(
     ensures front { (text : List ℕ) → S.left source.old ≡ Some text → result ≡ Err Fault.WriteFault
         → (out : List ℕ) × PrintsMinutes text out × AppendsFront (K.held sink.old) (K.held sink.new) out }
     ensures nothing { IfErr result (λ fault. fault ≢ Fault.WriteFault → sink.new ≡ sink.old) }
-    ensures other { IfErr result (λ fault. (fault ≢ Fault.Done) × (fault ≢ Fault.Usage) × ((device : DeviceName) → fault ≢ Fault.MediumFault device)) }
+    ensures other { IfErr result (λ fault. (fault ≢ Fault.Done) × IsMinutesEnd fault) }
 {
     let trace = match read_trace(alloc, source, trace_text::Form::Minutes) {
         Ok(trace) => trace,

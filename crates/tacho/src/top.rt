@@ -12,6 +12,7 @@ use crate::format_command::{format_card, make_unit};
 use crate::forms::{Form, form_of};
 use crate::minutes_command::print_minutes;
 use crate::record_command::record;
+use crate::view_command::print_view;
 use crate::words::Words;
 use recorder::Outcome;
 use run_model::{Card, Device};
@@ -22,6 +23,7 @@ use tach_media::{Chip, Medium, Sink, Source};
 ///
 /// `minutes` reads a trace from the source, and writes the view text of its decided minutes, no card present, to the sink.
 /// `record` reads a trace that no card bears on, records it on the unit, and writes five lines of counts to the sink.
+/// `view` reads a unit file or a card file from the source, and writes the view text of its minutes or entries to the sink.
 /// `format a` and `format b` issue the card anew, of the largest sizes, `format unit` makes the unit new; they write
 /// `formatted` to the sink. No other device is used than the form's.
 pub fn tacho<S: Source, K: Sink, U: Medium, C: Chip>(
@@ -87,6 +89,7 @@ fn perform<S: Source, K: Sink, U: Medium, C: Chip>(
             format_card(alloc, &identity, Device::CardB, card_b, sink),
         ),
         Form::FormatUnit { identity } => Ended::after(nothing, make_unit(&identity, unit, sink)),
+        Form::View { last } => Ended::after(nothing, print_view(alloc, last, source, sink)),
     }
 }
 

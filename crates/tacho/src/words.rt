@@ -76,6 +76,17 @@ impl Words {
         Some(self.get(0))
     }
 
+    /// The words, where there are three.
+    pub fn three(&self) -> Option<(&str, &str, &str)>
+        ensures found { IfSome result (λ w. self.now ≡ w.0.now ∷ w.1.now ∷ w.2.now ∷ []) }
+        ensures none { IfNone result (length self.now ≡ 3 → ⊥) }
+    {
+        if self.len() != 3 {
+            return None;
+        }
+        Some((self.get(0), self.get(1), self.get(2)))
+    }
+
     /// The words, where there are six.
     pub fn six(&self) -> Option<(&str, &str, &str, &str, &str, &str)>
         ensures found { IfSome result (λ w. self.now ≡ w.0.now ∷ w.1.now ∷ w.2.now ∷ w.3.now ∷ w.4.now ∷ w.5.now ∷ []) }

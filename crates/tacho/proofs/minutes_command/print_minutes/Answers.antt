@@ -1,7 +1,7 @@
 use Rattle.std.proofs.Common.{◌≡◌, ◌∙◌, sym, ap, Err}
 use Rattle.trace_text.specs.declared.trace.TraceFault.TheVariants.{BadLine, TooLong}
 use Rattle.tacho.specs.declared.end.Fault.TheVariants as end
-use Rattle.tacho.proofs.EndLaws.{refusal-bad, failure-unprinted, refused}
+use Rattle.tacho.proofs.EndLaws.{refusal-bad, failure-unprinted, refusal-end, refused}
 use Rattle.tacho.proofs.minutes_command.print_minutes.Goals as goal
 
 pub returns-in-Err-clause-bad_trace : goal.returns-in-Err-clause-bad_trace
@@ -26,3 +26,6 @@ returns-then-is_err-clause-finds_bad_trace g c = λ text n told is. absurd (c.in
 
 pub returns-then-is_err-clause-finds_too_long : goal.returns-then-is_err-clause-finds_too_long
 returns-then-is_err-clause-finds_too_long g c = λ text n told is. absurd (c.in-Ok.ensures.finds_too_long text n told is)
+
+pub returns-in-Err-clause-other : goal.returns-in-Err-clause-other
+returns-in-Err-clause-other g c = rw c.refusal.ensures (refusal-end c.in-Err.fault)

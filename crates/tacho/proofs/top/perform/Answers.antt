@@ -1,4 +1,4 @@
-use Rattle.tacho.proofs.Endings.{ends-minutes, minutes-ends}
+use Rattle.tacho.proofs.Endings.{ends-minutes, minutes-ends, ends-view, view-ends}
 use Rattle.tacho.proofs.top.perform.Goals as goal
 
 pub returns-in-Minutes-clause-ends : goal.returns-in-Minutes-clause-ends
@@ -7,4 +7,12 @@ returns-in-Minutes-clause-ends g c =
     rw (c.in-Minutes.is, c.after.ensures)
     (minutes-ends _ _ c.print_minutes.result
     (ends-minutes _ _ c.print_minutes.result e.printed e.read e.bad_trace e.too_long e.read_fault e.write_fault e.prints e.finds_bad_trace e.finds_too_long e.front e.other)
-    e.other e.read_fault e.write_fault e.counts c.nothing-nothing.result c.nothing-nothing.ensures)
+    e.read_fault e.write_fault e.counts c.nothing-nothing.result c.nothing-nothing.ensures)
+
+pub returns-in-View-clause-ends : goal.returns-in-View-clause-ends
+returns-in-View-clause-ends g c =
+    let e = c.print_view.ensures in
+    rw (c.in-View.is, c.after-in-View.ensures)
+    (view-ends c.in-View.last _ _ c.print_view.result
+    (ends-view c.in-View.last _ _ c.print_view.result e.printed e.read e.bad_file e.too_long e.finds_too_long e.read_fault e.write_fault e.front e.other)
+    e.read_fault e.write_fault e.counts c.nothing-nothing.result c.nothing-nothing.ensures)
