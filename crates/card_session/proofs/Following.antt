@@ -122,7 +122,7 @@ entry_top e = omega (arith, act_few e.act)
 
 -- ---- what the tail tells
 
-words_below : (ws : List ℕ) → AreWords ws → word_minute (last_word ws) < 1440
+pub words_below : (ws : List ℕ) → AreWords ws → word_minute (last_word ws) < 1440
 words_below [] are = absurd are
 words_below (w ∷ ws) are = last_below 0 w ws (words_ascend (w ∷ ws) are)
 

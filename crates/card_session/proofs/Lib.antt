@@ -9,3 +9,10 @@ pub mod Rows
 pub mod Marks
 pub mod Told
 pub mod Lasting
+pub mod Closing
+pub mod Alike
+pub mod Surviving
+pub mod Stopping
+pub mod Valid
+pub mod Committed
+pub mod NewestStays

@@ -11,7 +11,9 @@ use Rattle.card_records.specs.declared.vehicle.Vehicle.{Vehicle}
 use Rattle.card_records.specs.declared.current_use.CurrentUse.{CurrentUse}
 use Rattle.card_records.specs.CurrentUses.{current_use_of}
 use Rattle.card_model.specs.Days.{Day}
-use Rattle.card_image.specs.Fields.{file, file_bytes, day_string, last_use_of, end_mark, current_use, session_time, newest_vehicle}
+use Rattle.card_image.specs.Fields.{file, file_bytes, day_string, last_use_of, end_mark, current_use, session_time, newest_vehicle, card_number}
+use Rattle.card_image.specs.Beside.{HaveSameSizes, HaveSameIdentification}
+use Rattle.card_image.proofs.Beside.{number_same}
 use Rattle.card_session.specs.Books.{Book, mark_of, vehicle_after, measured_to, goes_on_with}
 use Rattle.card_session.specs.Sessions.{Session, book_of}
 use Rattle.card_session.specs.Cards.{IsCard, IsCardKeeping, days_and_vehicles, grown}
@@ -39,12 +41,24 @@ module _ (app : Application) (P : List Day → Option Vehicle → Type 0) (x c :
   unfolding current_use
   session_same = ap (λ (l : List ℕ). (current_use_of l).session.0) current_same
 
+  -- the number
+  pub sizes_still : HaveSameSizes app x c
+  unfolding files_of
+  sizes_still = before_days (place_of app (file 0x0501)) (size_of app (file 0x0501)) (omega arith)
+
+  identification_still : HaveSameIdentification app x c
+  unfolding files_of
+  identification_still = behind_vehicles (place_of app (file 0x0520)) 17 (omega arith)
+
+  pub number_still : card_number app c ≡ card_number app x
+  number_still = number_same app x c sizes_still identification_still
+
 -- the end mark is that of the book
 pub mark_told : (app : Application) (x : List ℕ) → end_mark app x ≡ mark_of (book_of app x)
 unfolding book_of
 mark_told app x = refl
 
-measured_mark : (odometer : ℕ) (o : Option Vehicle) → last_use_of (measured_to odometer o) ≡ last_use_of o
+pub measured_mark : (odometer : ℕ) (o : Option Vehicle) → last_use_of (measured_to odometer o) ≡ last_use_of o
 measured_mark odometer None = refl
 measured_mark odometer (Some v) = refl
 

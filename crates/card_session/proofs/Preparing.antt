@@ -26,25 +26,25 @@ use Rattle.card_session.proofs.Following.{same_is, both_true, not_true, closing_
 
 -- ---- a word more on the newest day
 
-strict_with : (w : ℕ) (ds : List Day) → OnNewest (TakesWord w) ds → EndsStrictly (with_newest (with_word w) ds)
+pub strict_with : (w : ℕ) (ds : List Day) → OnNewest (TakesWord w) ds → EndsStrictly (with_newest (with_word w) ds)
 strict_with w [] takes = absurd takes
 strict_with w (d ∷ []) takes = takes
 strict_with w (d ∷ e ∷ []) takes = takes
 strict_with w (d ∷ e ∷ f ∷ ds) takes = strict_with w (e ∷ f ∷ ds) takes
 
-newest_with : (w m : ℕ) (ds : List Day) → OnNewest (λ d. d.date / 60 + word_minute w ≡ m) ds → newest_word (with_newest (with_word w) ds) ≡ m
+pub newest_with : (w m : ℕ) (ds : List Day) → OnNewest (λ d. d.date / 60 + word_minute w ≡ m) ds → newest_word (with_newest (with_word w) ds) ≡ m
 newest_with w m [] on = absurd on
 newest_with w m (d ∷ []) on = ap (λ (v : ℕ). d.date / 60 + word_minute v) (last_append d.words w) ∙ on
 newest_with w m (d ∷ e ∷ []) on = ap (λ (v : ℕ). e.date / 60 + word_minute v) (last_append e.words w) ∙ on
 newest_with w m (d ∷ e ∷ f ∷ ds) on = newest_with w m (e ∷ f ∷ ds) on
 
 -- the day of the minute after the mark, of an open book
-open_date : (mark : ℕ) (ds : List Day) → is_open mark ds ≡ true → OnNewest (λ d. d.date ≡ date_of (suc mark)) ds
+pub open_date : (mark : ℕ) (ds : List Day) → is_open mark ds ≡ true → OnNewest (λ d. d.date ≡ date_of (suc mark)) ds
 open_date mark [] is = absurd (cc)
 open_date mark (d ∷ []) is = same_is d.date (date_of (suc mark)) (both_true (nat_eq d.date (date_of (suc mark))) (not (word_absent (last_word d.words))) is).0
 open_date mark (d ∷ e ∷ ds) is = open_date mark (e ∷ ds) is
 
-on_as : (P Q : Day → Type 0) (ds : List Day) → ((d : Day) → P d → Q d) → OnNewest P ds → OnNewest Q ds
+pub on_as : (P Q : Day → Type 0) (ds : List Day) → ((d : Day) → P d → Q d) → OnNewest P ds → OnNewest Q ds
 on_as P Q [] weaker on = absurd on
 on_as P Q (d ∷ []) weaker on = weaker d on
 on_as P Q (d ∷ e ∷ ds) weaker on = on_as P Q (e ∷ ds) weaker on

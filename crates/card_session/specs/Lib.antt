@@ -4,3 +4,4 @@ pub mod Sessions
 pub mod Moments
 pub mod Cards
 pub mod Parts
+pub mod Overwriting

@@ -110,6 +110,10 @@ IsSettingOdometer odometer b days vehicle = (days ≡ b.days) × ((vehicle ≡ b
 abbrev pub with_last_use : (seconds : ℕ) → Book → Book
 with_last_use seconds b = record { days = b.days; vehicle = last_used seconds b.vehicle }
 
+-- a session that would know the card with another last use
+abbrev pub used_session : (seconds : ℕ) → Session → Session
+used_session seconds s = record s { vehicle = last_used seconds s.vehicle }
+
 abbrev pub IsSettingUse : (seconds : ℕ) → Book → List Day → Option Vehicle → Type 0
 IsSettingUse seconds b days vehicle = (days ≡ b.days) × ((vehicle ≡ b.vehicle) ⊎ (vehicle ≡ last_used seconds b.vehicle))
 

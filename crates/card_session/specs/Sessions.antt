@@ -13,6 +13,7 @@ use Rattle.card_model.specs.Changes.{AreStrict}
 use Rattle.cyclic_days.specs.Held.{Held, Knows}
 use Rattle.card_retention.specs.Entries.{EndsBy, newest_word}
 use Rattle.card_image.specs.Fields.{file, day_string, vehicle_ring, newest_vehicle, card_days, last_use_of}
+use Rattle.card_session.specs.declared.words.TheConstants.{LATEST_MINUTE}
 use Rattle.card_session.specs.Books.{Book, mark_of}
 
 pub record Session : Type 0 where
@@ -34,7 +35,7 @@ pub record IsValue (s : Session) : Type 0 where
   pub days : s.days.shape ≡ day_string s.application
   pub vehicles : s.vehicles ≡ vehicle_ring s.application
   pub newest : IfSome s.newest (λ i. i < s.application.vehicles)
-  pub mark : last_use_of s.vehicle / 60 ≤ 71582787
+  pub mark : last_use_of s.vehicle / 60 ≤ LATEST_MINUTE
 
 -- what an image tells of the days and of the newest vehicle
 unfoldable pub book_of : Application → List ℕ → Book

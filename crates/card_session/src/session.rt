@@ -1,24 +1,29 @@
-//! A session of a driver card in a slot (profile): its keeping. A session is a value that knows no card; each
+//! A session of a driver card in a slot (profile): its keeping and its withdrawal. A session is a value that knows no card; each
 //! call is lent the card.
 ghost use Rattle.std.specs.Prelude.{◌≡◌, ◌⊎◌, ◌≤◌, ◌<◌, ◌+◌, ◌*◌, ◌/◌, ◌^◌, true, false, Some, None, List, ℕ, IfSome, IfNone, OnOk, is_err, max};
 ghost use Rattle.card_layout.specs.Application.{IsApplication};
 ghost use Rattle.tach_media.specs.Medium.{LeavesOnly, HasCause, IsSettled, last_count};
 ghost use Rattle.cyclic_days.specs.Held.{tail_of};
 ghost use Rattle.cyclic_days.specs.Plans.{most_drops};
-ghost use Rattle.card_image.specs.Fields.{day_string, vehicle_ring, last_use_of};
-ghost use Rattle.card_session.specs.Books.{goes_on_in, goes_on_with, measured_to};
+ghost use Rattle.card_image.specs.Fields.{file, day_string, vehicle_ring, last_use_of};
+ghost use Rattle.card_session.specs.Books.{goes_on_in, goes_on_with, measured_to, closed};
+ghost use Rattle.card_session.specs.declared.words.TheConstants.{LATEST_MINUTE};
 ghost use Rattle.card_session.specs.Telling.{minute_told};
-ghost use Rattle.card_session.specs.Sessions.{IsSession, IsValue, MayKeep};
-ghost use Rattle.card_session.specs.Moments.{IsKeepMoment};
-ghost use Rattle.card_session.specs.Cards.{IsCardKept, IsCardKeeping, grown};
-ghost use Rattle.card_session.specs.Parts.{DoesPart, IsPartDone, IsPartMoment, HasSame, TakesSome, with_some, IsAdding, BeginsDay, with_day, IsBeforeDay, IsBeforeEntry, with_words, IsWriting, IsBeforeGapOf, with_gap_closed, IsClosingGap, HasDay, with_more, IsTravelling, with_use, IsUsing, AnyBook, with_measured, IsSettingOdometer, with_last_use, IsSettingUse, with_new_use, IsAddingUse, SameButVehicle, entered};
+ghost use Rattle.activity_codec.specs.Activity.{activity_of};
+ghost use Rattle.card_layout.specs.Files.{place_of};
+ghost use Rattle.card_session.specs.Sessions.{IsSession, IsValue, IsOpenBook, KnowsCard, MayKeep, MayClose, book_of};
+ghost use Rattle.card_session.specs.Moments.{IsBook, IsKeepMoment, IsCloseMoment};
+ghost use Rattle.card_session.specs.Cards.{IsCard, IsCardKept, IsCardKeeping, IsCardClosed, IsCardClosing, grown};
+ghost use Rattle.card_session.specs.Parts.{DoesPart, IsPartDone, IsPartMoment, HasSame, TakesSome, with_some, IsAdding, BeginsDay, with_day, IsBeforeDay, IsBeforeEntry, with_words, IsWriting, IsBeforeGapOf, with_gap_closed, IsClosingGap, HasDay, with_more, IsTravelling, with_use, IsUsing, AnyBook, with_measured, IsSettingOdometer, with_last_use, IsSettingUse, used_session, with_new_use, IsAddingUse, SameButVehicle, entered};
 
 use crate::vehicle_use::{begun, counter_behind, goes_on, last_use, measured, used};
 use crate::words::{
-    DAY_MINUTES, bare_word, date_of, distance, entry_change, entry_word, gap_word, is_newest_day,
+    DAY_MINUTES, bare_word, closing, date_of, distance, entry_change, entry_word, gap_word,
+    is_newest_day,
 };
-use activity_codec::Entry;
-use card_layout::Application;
+use activity_codec::{Activity, Entry, Pick};
+use card_files::file_range;
+use card_layout::{Application, Fid};
 use card_records::{Vehicle, write_vehicle};
 use cyclic_days::{Days, Tail};
 use gated_ring::Ring;
@@ -79,7 +84,7 @@ impl CardSession {
         requires days { days.shape ≡ day_string application }
         requires vehicles { vehicles ≡ vehicle_ring application }
         requires newest { IfSome newest (λ i. i < application.vehicles) }
-        requires mark { last_use_of vehicle / 60 ≤ 71582787 }
+        requires mark { last_use_of vehicle / 60 ≤ LATEST_MINUTE }
         ensures { result ≡ record { application = application; days = days; vehicles = vehicles; newest = newest; vehicle = vehicle; registration = registration; minute = max (last_use_of vehicle / 60) (minute_told (tail_of days)); odometer = None } }
     {
         let minute = newest_minute(&vehicle, days.tail());
@@ -105,7 +110,7 @@ impl CardSession {
     // The minute up to which the card's minutes count.
     fn mark(&self) -> u32
         ensures mark { result ≡ last_use_of self.now.vehicle / 60 }
-        ensures most { result ≤ 71582787 }
+        ensures most { result ≤ LATEST_MINUTE }
     {
         last_use(&self.vehicle) / 60
     }
@@ -140,7 +145,7 @@ impl CardSession {
     // Begins the day of an entry.
     fn begin<M: Medium>(&mut self, port: &mut M, entry: &Entry) -> Result<(), Failed>
         requires card { MayKeep self.old.application (M.state port.old) }
-        requires last { entry.now.minute ≤ 71582787 }
+        requires last { entry.now.minute ≤ LATEST_MINUTE }
         ensures same { HasSame self.old self.new }
         ensures part { DoesPart (M.state port.old) (M.state port.new) (is_err result) (IsPartDone self.old self.new (BeginsDay entry.now) (with_day self.old.application.activity entry.now)) (IsPartMoment self.old (BeginsDay entry.now) (IsBeforeDay self.old.application.activity entry.now)) }
         ensures most { (M.state port.new).clock ≤ (M.state port.old).clock + (5 + 2 * most_drops self.old.days.shape.size self.old.days.tail.used 16) }
@@ -158,7 +163,7 @@ impl CardSession {
     fn write_words<M: Medium>(&mut self, port: &mut M, entry: &Entry) -> Result<(), Failed>
         requires card { MayKeep self.old.application (M.state port.old) }
         requires first { 1440 ≤ entry.now.minute }
-        requires last { entry.now.minute ≤ 71582787 }
+        requires last { entry.now.minute ≤ LATEST_MINUTE }
         ensures value { IsValue self.old }
         ensures same { HasSame self.old self.new }
         ensures part { DoesPart (M.state port.old) (M.state port.new) (is_err result) (IsPartDone self.old self.new (IsBeforeEntry entry.now) (with_words self.old.application.activity entry.now)) (IsPartMoment self.old (IsBeforeEntry entry.now) (IsWriting self.old.application.activity entry.now)) }
@@ -188,7 +193,7 @@ impl CardSession {
     fn note_vehicle<M: Medium>(&mut self, port: &mut M, kept: &Kept) -> Result<(), Failed>
         requires card { MayKeep self.old.application (M.state port.old) }
         requires first { 1 ≤ kept.now.entry.minute }
-        requires last { kept.now.entry.minute ≤ 71582787 }
+        requires last { kept.now.entry.minute ≤ LATEST_MINUTE }
         requires fits { kept.now.odometer.0 < 2 ^ 24 }
         ensures same { SameButVehicle self.old self.new }
         ensures part { DoesPart (M.state port.old) (M.state port.new) (is_err result) (IsPartDone self.old self.new AnyBook (with_use self.old.registration kept.now.odometer.0 kept.now.entry.minute)) (IsPartMoment self.old AnyBook (IsUsing self.old.registration kept.now.odometer.0 kept.now.entry.minute)) }
@@ -230,7 +235,7 @@ impl CardSession {
         requires newest { self.old.newest ≡ Some index }
         requires vehicle { self.old.vehicle ≡ Some vehicle }
         requires on { goes_on_in self.old.registration kept.now.entry.minute vehicle ≡ true }
-        requires last { kept.now.entry.minute ≤ 71582787 }
+        requires last { kept.now.entry.minute ≤ LATEST_MINUTE }
         requires fits { kept.now.odometer.0 < 2 ^ 24 }
         ensures same { SameButVehicle self.old self.new }
         ensures part { DoesPart (M.state port.old) (M.state port.new) (is_err result) (IsPartDone self.old self.new AnyBook (with_use self.old.registration kept.now.odometer.0 kept.now.entry.minute)) (IsPartMoment self.old AnyBook (IsUsing self.old.registration kept.now.odometer.0 kept.now.entry.minute)) }
@@ -280,7 +285,7 @@ impl CardSession {
         requires card { MayKeep self.old.application (M.state port.old) }
         requires newest { self.old.newest ≡ Some index }
         requires vehicle { self.old.vehicle ≡ Some vehicle }
-        requires last { seconds / 60 ≤ 71582787 }
+        requires last { seconds / 60 ≤ LATEST_MINUTE }
         ensures same { SameButVehicle self.old self.new }
         ensures newest { self.new.newest ≡ self.old.newest }
         ensures part { DoesPart (M.state port.old) (M.state port.new) (is_err result) (IsPartDone self.old self.new AnyBook (with_last_use seconds)) (IsPartMoment self.old AnyBook (IsSettingUse seconds)) }
@@ -299,7 +304,7 @@ impl CardSession {
     fn use_new<M: Medium>(&mut self, port: &mut M, kept: &Kept) -> Result<(), Failed>
         requires card { MayKeep self.old.application (M.state port.old) }
         requires first { 1 ≤ kept.now.entry.minute }
-        requires last { kept.now.entry.minute ≤ 71582787 }
+        requires last { kept.now.entry.minute ≤ LATEST_MINUTE }
         requires fits { kept.now.odometer.0 < 2 ^ 24 }
         ensures same { SameButVehicle self.old self.new }
         ensures part { DoesPart (M.state port.old) (M.state port.new) (is_err result) (IsPartDone self.old self.new AnyBook (with_new_use self.old.registration kept.now.odometer.0 kept.now.entry.minute)) (IsPartMoment self.old AnyBook (IsAddingUse self.old.registration kept.now.odometer.0 kept.now.entry.minute)) }
@@ -321,7 +326,7 @@ impl CardSession {
     fn enter<M: Medium>(&mut self, port: &mut M, kept: &Kept, km: u32) -> Result<(), Failed>
         requires card { MayKeep self.old.application (M.state port.old) }
         requires first { 1440 ≤ kept.now.entry.minute }
-        requires last { kept.now.entry.minute ≤ 71582787 }
+        requires last { kept.now.entry.minute ≤ LATEST_MINUTE }
         requires fits { kept.now.odometer.0 < 2 ^ 24 }
         requires growth { km < 2 ^ 24 }
         ensures value { IsValue self.old }
@@ -337,13 +342,64 @@ impl CardSession {
         self.note_vehicle(port, kept)
     }
 
+    // Writes the closing word, and the end mark at it, where one is to be written.
+    fn close_words<M: Medium>(&mut self, port: &mut M, act: Activity) -> Result<(), Failed>
+        requires card { MayKeep self.old.application (M.state port.old) }
+        ensures value { IsValue self.old }
+        ensures same { self.new.application ≡ self.old.application }
+        ensures part { DoesPart (M.state port.old) (M.state port.new) (is_err result) (λ x y. KnowsCard self.old x → IsOpenBook (book_of self.old.application x) → IsCard self.old.application (IsBook (closed self.old.application.activity act (book_of self.old.application x))) x y) (IsPartMoment self.old IsOpenBook (IsCloseMoment self.old.application.activity act)) }
+        ensures most { (M.state port.new).clock ≤ (M.state port.old).clock + 7 }
+    {
+        let mark = self.mark();
+        let Some(word) = closing(self.days.tail(), mark, act) else {
+            return Ok(());
+        };
+        self.add(port, Some(word))?;
+        match self.newest {
+            None => Ok(()),
+            Some(index) => self.write_last_use(port, index, 60 * (mark + 1)),
+        }
+    }
+
+    // Writes the last use of the newest vehicle entry, which has this index, where the session ends.
+    fn write_last_use<M: Medium>(
+        &mut self,
+        port: &mut M,
+        index: u32,
+        seconds: u32,
+    ) -> Result<(), Failed>
+        requires card { MayKeep self.old.application (M.state port.old) }
+        requires newest { self.old.newest ≡ Some index }
+        requires fits { seconds < 2 ^ 32 }
+        ensures same { self.new.application ≡ self.old.application }
+        ensures part { DoesPart (M.state port.old) (M.state port.new) (is_err result) (IsPartDone self.old (used_session seconds self.old) AnyBook (with_last_use seconds)) (IsPartMoment self.old AnyBook (IsSettingUse seconds)) }
+        ensures most { (M.state port.new).clock ≤ (M.state port.old).clock + 1 }
+    {
+        let mut bytes = [0; TimeReal::SIZE];
+        write_time(TimeReal(seconds), &mut bytes);
+        self.vehicles.set_small(port, index, LAST_USE, &bytes)
+    }
+
+    /// Withdraws the card: the closing word with the selected activity, and the end of the session.
+    pub fn close<M: Medium>(mut self, port: &mut M, selected: Pick) -> Result<(), Failed>
+        requires card { MayClose self.application (M.state port.old) }
+        ensures closed { OnOk result (IfSome (M.state port.old).image (λ x. IfSome (M.state port.new).image (λ y. IsSession self x → IsCardClosed self (activity_of selected) x y))) }
+        ensures moments { LeavesOnly (M.state port.old) (M.state port.new) (λ x c. IsSession self x → IsCardClosing self (activity_of selected) x c) }
+        ensures settled { OnOk result ((M.state port.new).clock < last_count → IsSettled (M.state port.new)) }
+        ensures cause { HasCause (M.state port.old) (M.state port.new) (is_err result) }
+        ensures most { (M.state port.new).clock ≤ (M.state port.old).clock + 8 }
+    {
+        self.close_words(port, selected.activity())?;
+        port.write_at(session_place(&self.application), &[0; TimeReal::SIZE])
+    }
+
     /// Keeps a minute on the card: its word where the state is new, the distance, and last the use of the vehicle, which is
     /// the commit.
     pub fn keep<M: Medium>(&mut self, port: &mut M, kept: &Kept) -> Result<(), Failed>
         requires card { MayKeep self.old.application (M.state port.old) }
         requires later { self.old.minute < kept.now.entry.minute }
         requires first { 1440 ≤ kept.now.entry.minute }
-        requires last { kept.now.entry.minute ≤ 71582787 }
+        requires last { kept.now.entry.minute ≤ LATEST_MINUTE }
         requires fits { kept.now.odometer.0 < 2 ^ 24 }
         ensures same { (self.new.application ≡ self.old.application) × (self.new.registration ≡ self.old.registration) }
         ensures last { OnOk result ((self.new.minute ≡ kept.now.entry.minute) × (self.new.odometer ≡ Some kept.now.odometer)) }
@@ -358,6 +414,16 @@ impl CardSession {
         self.minute = kept.entry.minute;
         self.odometer = Some(kept.odometer);
         Ok(())
+    }
+}
+
+// Where the session time stands, first in its file.
+fn session_place(app: &Application) -> u32
+    ensures { result ≡ place_of app.now (file 0x0507) }
+{
+    match file_range(app, Fid::CURRENT_USE) {
+        None => 0,
+        Some(range) => range.base,
     }
 }
 

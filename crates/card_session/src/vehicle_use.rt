@@ -2,6 +2,7 @@
 ghost use Rattle.std.specs.Prelude.{◌≡◌, ◌*◌, ◌≤◌};
 ghost use Rattle.card_session.specs.Books.{goes_on_in, next_count, vehicle_counter, begun_vehicle, measured, used};
 ghost use Rattle.card_image.specs.Fields.{last_use_of};
+ghost use Rattle.card_session.specs.declared.words.TheConstants.{LATEST_MINUTE};
 
 use crate::words::{DAY_MINUTES, DAY_SECONDS};
 use card_records::Vehicle;
@@ -55,7 +56,7 @@ pub fn begun(
     minute: u32,
     counter: [u8; 2],
 ) -> Vehicle
-    requires { minute ≤ 71582787 }
+    requires { minute ≤ LATEST_MINUTE }
     ensures { result ≡ begun_vehicle registration odometer.0 minute counter }
 {
     let time = TimeReal(60 * minute);

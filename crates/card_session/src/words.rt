@@ -1,7 +1,8 @@
 //! The change words of a session (Annex IB, Appendix 1, ActivityChangeInfo; when each is written: profile).
-ghost use Rattle.std.specs.Prelude.{◌≡◌, ◌≤◌, ◌<◌, ◌^◌, IfSome};
+ghost use Rattle.std.specs.Prelude.{◌≡◌, ◌≤◌, ◌<◌, ◌+◌, ◌^◌, IfSome};
 ghost use Rattle.card_model.specs.Changes.{date_of};
 ghost use Rattle.card_session.specs.Books.{entry_word, bare_word, km_after};
+ghost use Rattle.card_session.specs.declared.words.TheConstants.{LATEST_MINUTE};
 ghost use Rattle.card_session.specs.Telling.{closing_at, gap_word, is_newest_day, entry_change, km_told};
 
 use activity_codec::{Activity, Change, Entry, Slot, decode_change, encode_change};
@@ -13,12 +14,15 @@ pub const DAY_SECONDS: u32 = 86400;
 
 pub const DAY_MINUTES: u32 = 1440;
 
+/// The latest minute that is kept: the closing word, a minute later, has a time in seconds still.
+pub const LATEST_MINUTE: u32 = 71_582_787;
+
 /// No distance of a day is told as more, in km.
 const MOST_KM: u32 = 9999;
 
 /// The first second of the day of a minute.
 pub fn date_of(minute: u32) -> u32
-    requires { minute ≤ 71582788 }
+    requires { minute ≤ LATEST_MINUTE + 1 }
     ensures { result ≡ date_of minute }
 {
     minute / DAY_MINUTES * DAY_SECONDS
@@ -53,7 +57,7 @@ pub fn bare_word() -> u16
 /// The word that closes with an activity at the minute after the end mark, where the latest word is an entry's and that
 /// minute lies in the newest day.
 pub fn closing(tail: Option<Tail>, mark: u32, act: Activity) -> Option<u16>
-    requires { mark ≤ 71582787 }
+    requires { mark ≤ LATEST_MINUTE }
     ensures { result ≡ closing_at mark act tail }
 {
     let next = mark + 1;
@@ -73,7 +77,7 @@ pub fn closing(tail: Option<Tail>, mark: u32, act: Activity) -> Option<u16>
 
 /// The word that closes a gap before the minute of an entry, which there is where the entry does not come at once.
 pub fn gap_word(tail: Option<Tail>, mark: u32, minute: u32) -> Option<u16>
-    requires { mark ≤ 71582787 }
+    requires { mark ≤ LATEST_MINUTE }
     ensures { result ≡ gap_word mark minute tail }
 {
     if minute == mark + 1 {
@@ -84,7 +88,7 @@ pub fn gap_word(tail: Option<Tail>, mark: u32, minute: u32) -> Option<u16>
 
 /// Whether a minute lies in the newest day.
 pub fn is_newest_day(tail: Option<Tail>, minute: u32) -> bool
-    requires { minute ≤ 71582788 }
+    requires { minute ≤ LATEST_MINUTE + 1 }
     ensures { result ≡ is_newest_day minute tail }
 {
     match tail {

@@ -1,0 +1,31 @@
+-- What a card shows of all the entries that it has had, by the stated overwriting.
+use Rattle.std.specs.Prelude.{◌≡◌, ℕ, ◌/◌, ◌<◌, false, List, ◌∷◌, [], ◌++◌}
+use Rattle.activity_codec.specs.declared.entries.Entry.{Entry}
+use Rattle.card_layout.specs.declared.files.Application.{Application}
+use Rattle.card_model.specs.Changes.{trimmed}
+use Rattle.card_retention.specs.Expected.{Counted, is_newest}
+use Rattle.card_retention.specs.Shown.{Bound, Rests, Lives, sizes}
+use Rattle.card_retention.specs.Entries.{entries_up_to}
+use Rattle.card_retention.specs.Retains.{entries_in}
+use Rattle.card_image.specs.Fields.{card_days, end_mark}
+
+-- Between two calls of a session the days are those that the overwriting leaves of all that the entries brought, where the next entry
+-- is not earlier than a minute.
+abbrev pub GoesOn : Application → (slack : Bound) → (covered from : ℕ) → Counted → List ℕ → Type 0
+GoesOn app slack covered from c x = Lives app.activity slack covered from (end_mark app x) c (card_days app x)
+
+-- And so they are once a repair has cut them to the end mark.
+abbrev pub IsRepairable : Application → (slack : Bound) → (covered from : ℕ) → Counted → List ℕ → Type 0
+IsRepairable app slack covered from c x = Rests app.activity slack covered from (end_mark app x) c (trimmed (end_mark app x) (card_days app x))
+
+-- the entries up to the end mark are those of all whose day is there
+abbrev pub ShowsEntries : Application → List Entry → List ℕ → Type 0
+ShowsEntries app all x = entries_up_to (end_mark app x) (card_days app x) ≡ entries_in (sizes (card_days app x)) all
+
+-- with one entry more
+abbrev pub and_entry : Bound → Entry → Bound
+and_entry slack e = record { bytes = slack.bytes; all = slack.all ++ e ∷ [] }
+
+-- An entry's day, where it is new, is later than that of the end mark: so it is on each card whose end mark a session has moved.
+abbrev pub BeginsBehind : Application → Entry → List ℕ → Type 0
+BeginsBehind app e x = is_newest (e.minute / 1440) (sizes (card_days app x)) ≡ false → end_mark app x / 1440 < e.minute / 1440

@@ -1,0 +1,88 @@
+ghost use Rattle.std.specs.Prelude.{◌≡◌, ◌⊎◌, ℕ, suc, ◌<◌, ◌≤◌, max, Some, List, [], ◌∷◌, ◌++◌, length};
+ghost use Rattle.activity_codec.specs.declared.entries.Entry.{Entry};
+ghost use Rattle.activity_codec.specs.declared.values.Activity.{Activity};
+ghost use Rattle.card_layout.specs.Application.{IsApplication};
+ghost use Rattle.card_layout.specs.Files.{image_size_of};
+ghost use Rattle.card_retention.specs.Expected.{Counted, with_entry};
+ghost use Rattle.card_retention.specs.Shown.{Bound, AllUpTo};
+ghost use Rattle.card_retention.specs.Entries.{newest_minute, newest_word, closed_at};
+ghost use Rattle.card_image.specs.Fields.{file_bytes, card_days, card_number, end_mark, session_time};
+ghost use Rattle.card_image.specs.Judging.{IsValid};
+ghost use Rattle.card_image.specs.View.{card_view};
+ghost use Rattle.card_session.specs.Sessions.{Session, IsSession};
+ghost use Rattle.card_session.specs.Cards.{IsCardKeeping, IsCardClosed, IsCardClosing};
+ghost use Rattle.card_session.specs.Overwriting.{GoesOn, IsRepairable, ShowsEntries, BeginsBehind, and_entry};
+
+/// A stop in a keep leaves the session time, the events and the number of a card.
+pub fn a_keep_leaves_the_session()
+    ensures session { (s : Session) (e : Entry) (odometer : ℕ) (x y : List ℕ) → IsCardKeeping s e odometer x y → session_time s.application y ≡ session_time s.application x }
+    ensures events { (s : Session) (e : Entry) (odometer : ℕ) (x y : List ℕ) → IsCardKeeping s e odometer x y → file_bytes s.application 0x0502 y ≡ file_bytes s.application 0x0502 x }
+    ensures number { (s : Session) (e : Entry) (odometer : ℕ) (x y : List ℕ) → IsCardKeeping s e odometer x y → card_number s.application y ≡ card_number s.application x }
+{}
+
+/// A stop leaves the old end mark, or in a keep the entry's minute, and in a withdrawal the minute after the old one.
+pub fn a_stop_leaves_an_end_mark()
+    ensures keep { (s : Session) (e : Entry) (odometer : ℕ) (x y : List ℕ) → IsCardKeeping s e odometer x y → (end_mark s.application y ≡ end_mark s.application x) ⊎ (end_mark s.application y ≡ e.minute) }
+    ensures withdrawal { (s : Session) (act : Activity) (x y : List ℕ) → IsApplication s.application → image_size_of s.application ≤ length x → IsSession s x → IsCardClosing s act x y →
+        (end_mark s.application y ≡ end_mark s.application x) ⊎ (end_mark s.application y ≡ suc (end_mark s.application x)) }
+{}
+
+/// At the end of a withdrawal no session is open.
+pub fn a_withdrawal_ends_the_session()
+    ensures { (s : Session) (act : Activity) (x y : List ℕ) → image_size_of s.application ≤ length x → IsCardClosed s act x y → session_time s.application y ≡ 0 }
+{}
+
+/// A stop in a keep leaves the old end mark and, once a repair has cut them to it, the days of the entries so far, as the stated
+/// overwriting leaves them before this entry; or this entry's minute as the end mark, and the days of this entry too.
+pub fn a_keep_leaves_the_entries()
+    ensures { (s : Session) (e : Entry) (odometer : ℕ) (x y : List ℕ) → IsApplication s.application → IsSession s x → s.minute < e.minute → BeginsBehind s.application e x →
+        (slack : Bound) (covered from : ℕ) (c : Counted) → 16 ≤ slack.bytes → from ≤ e.minute → GoesOn s.application slack covered from c x → IsCardKeeping s e odometer x y →
+        ((end_mark s.application y ≡ end_mark s.application x) × IsRepairable s.application slack covered e.minute c y)
+        ⊎ ((end_mark s.application y ≡ e.minute) × GoesOn s.application (and_entry slack e) covered (suc e.minute) (with_entry covered c e) y) }
+{}
+
+/// A stop in a withdrawal leaves the old end mark and, once a repair has cut them to it, the days of the entries; or the days with
+/// the closing word, and the end mark at it. So they are at its end.
+pub fn a_withdrawal_leaves_the_entries()
+    ensures moments { (s : Session) (act : Activity) (x y : List ℕ) → IsApplication s.application → image_size_of s.application ≤ length x →
+        (slack : Bound) (covered from next : ℕ) (c : Counted) → 16 ≤ slack.bytes → from ≤ next → newest_minute (end_mark s.application x) (card_days s.application x) < next → GoesOn s.application slack covered from c x → IsCardClosing s act x y →
+        ((end_mark s.application y ≡ end_mark s.application x) × IsRepairable s.application slack covered next c y) ⊎ GoesOn s.application slack covered next c y }
+    ensures closed { (s : Session) (act : Activity) (x y : List ℕ) → IsApplication s.application → image_size_of s.application ≤ length x →
+        (slack : Bound) (covered from next : ℕ) (c : Counted) → 16 ≤ slack.bytes → from ≤ next → newest_minute (end_mark s.application x) (card_days s.application x) < next → GoesOn s.application slack covered from c x → IsCardClosed s act x y →
+        GoesOn s.application slack covered next c y }
+{}
+
+/// As long as the end mark of a keep is the old one, a card shows the entries of before whose day is there, and no other.
+pub fn a_keep_shows_the_entries_of_before()
+    ensures { (s : Session) (e : Entry) (odometer : ℕ) (x y : List ℕ) → IsApplication s.application → IsSession s x → s.minute < e.minute → BeginsBehind s.application e x →
+        (all : List Entry) → AllUpTo (end_mark s.application x) all → ShowsEntries s.application all x → IsCardKeeping s e odometer x y → end_mark s.application y ≡ end_mark s.application x → ShowsEntries s.application all y }
+{}
+
+/// Once it is the entry's minute, the card shows that entry behind them too, where no word stood behind the old end mark.
+pub fn a_keep_shows_its_entry()
+    ensures { (s : Session) (e : Entry) (odometer : ℕ) (x y : List ℕ) → IsApplication s.application → IsSession s x → s.minute < e.minute → BeginsBehind s.application e x → newest_word (card_days s.application x) ≤ end_mark s.application x →
+        (all : List Entry) → AllUpTo (end_mark s.application x) all → ShowsEntries s.application all x → IsCardKeeping s e odometer x y → end_mark s.application y ≡ e.minute → ShowsEntries s.application (all ++ e ∷ []) y }
+{}
+
+/// At each moment of a withdrawal a card shows the entries of before whose day is there, and no other.
+pub fn a_withdrawal_shows_the_entries()
+    ensures { (s : Session) (act : Activity) (x y : List ℕ) → IsApplication s.application → image_size_of s.application ≤ length x → IsSession s x →
+        (all : List Entry) → AllUpTo (end_mark s.application x) all → ShowsEntries s.application all x → IsCardClosing s act x y → ShowsEntries s.application all y }
+{}
+
+/// As long as the end mark of a keep is the old one, the newest minute is the old one too, where that is not before all words; and
+/// then that of the entry, or of its closing word.
+pub fn a_keep_leaves_the_newest_minute()
+    ensures before { (s : Session) (e : Entry) (odometer : ℕ) (x y : List ℕ) → IsApplication s.application → IsSession s x → s.minute < e.minute → BeginsBehind s.application e x → IsCardKeeping s e odometer x y → end_mark s.application y ≡ end_mark s.application x →
+        max (card_view s.application x).word (card_view s.application y).newest ≡ max (card_view s.application x).word (card_view s.application x).newest }
+    ensures after { (s : Session) (e : Entry) (odometer : ℕ) (x y : List ℕ) → IsApplication s.application → IsSession s x → s.minute < e.minute → IsCardKeeping s e odometer x y → end_mark s.application y ≡ e.minute →
+        (card_view s.application y).newest ≡ closed_at (Some e) }
+{}
+
+/// A stop in a keep, or in a withdrawal before the session time is written, leaves a card valid that was.
+pub fn a_stop_leaves_a_valid_card()
+    ensures keep { (s : Session) (e : Entry) (odometer : ℕ) (x y : List ℕ) → IsApplication s.application → image_size_of s.application ≤ length x → 0 < session_time s.application x → IsValid s.application x →
+        IsSession s x → s.minute < e.minute → BeginsBehind s.application e x → IsCardKeeping s e odometer x y → IsValid s.application y }
+    ensures withdrawal { (s : Session) (act : Activity) (x y : List ℕ) → IsApplication s.application → image_size_of s.application ≤ length x → 0 < session_time s.application x → IsValid s.application x →
+        IsSession s x → IsCardClosing s act x y → 0 < session_time s.application y → IsValid s.application y }
+{}
