@@ -3,8 +3,14 @@
 use Rattle.std.specs.Prelude.{◌≡◌, ℕ, ◌-◌, List, length}
 use Rattle.byte_fields.specs.Images.{bytes_at}
 use Rattle.unit_model.specs.declared.layout.TheConstants.{FIRST_OVER, SPARE_COUNTS, INSERTIONS}
+use Rattle.unit_model.specs.Decoding.{Decodes}
 
 pub record KeepsJournal (x c : List ℕ) : Type 0 where
   pub front : bytes_at c 0 FIRST_OVER.place ≡ bytes_at x 0 FIRST_OVER.place
   pub rest : bytes_at c SPARE_COUNTS.place (INSERTIONS.place - SPARE_COUNTS.place) ≡ bytes_at x SPARE_COUNTS.place (INSERTIONS.place - SPARE_COUNTS.place)
   pub same_length : length c ≡ length x
+
+-- and where the image decoded it still does
+pub record LeavesJournal (x c : List ℕ) : Type 0 where
+  pub keeps : KeepsJournal x c
+  pub decodes : Decodes x → Decodes c

@@ -2,27 +2,21 @@ ghost use Rattle.std.specs.Prelude.{◌≡◌, ◌≢◌, ℕ, ◌<◌, ◌^◌,
 ghost use Rattle.trace_model.specs.declared.Card.{Card};
 ghost use Rattle.tacho_types.specs.CardNumber.{card_number_bytes};
 ghost use Rattle.tacho_types.specs.declared.card_number.FullCardNumber.{FullCardNumber};
-ghost use Rattle.tacho_types.specs.declared.numbers.Odometer.{Odometer};
-ghost use Rattle.tacho_types.specs.declared.numbers.TimeReal.{TimeReal};
 ghost use Rattle.tacho_types.specs.declared.places.PlaceEntry.{PlaceEntry};
-ghost use Rattle.gated_ring.specs.Change.{IsAdding};
 ghost use Rattle.event_model.specs.declared.entries.Held.{Held};
 ghost use Rattle.event_model.specs.declared.entries.Over.{Over};
 ghost use Rattle.event_model.specs.declared.kinds.TheConstants.{OVER_SPEEDING};
 ghost use Rattle.event_model.specs.Kept.{stored, KeepsRecent, KeepsDays};
 ghost use Rattle.event_model.specs.Kinds.{purpose_of, is_by_day, places_of};
 ghost use Rattle.event_model.specs.Places.{noted};
-ghost use Rattle.message_model.specs.Records.{insertion_ring, unit_place_ring};
 ghost use Rattle.event_model.specs.Events.{Event};
 ghost use Rattle.side_model.specs.Tables.{table_in, held_in, IsNoted};
 ghost use Rattle.unit_model.specs.declared.layout.TheConstants.{IMAGE_SIZE};
-ghost use Rattle.unit_model.specs.Decoding.{Decodes};
 ghost use Rattle.unit_notes.specs.declared.insertion.Insertion.{Insertion};
 ghost use Rattle.unit_notes.specs.declared.unit_event.UnitEvent.{UnitEvent};
 ghost use Rattle.unit_notes.specs.Entries.{insertion_bytes, unit_place_bytes, fault_bytes, over_bytes};
 ghost use Rattle.unit_notes.specs.Fields.{InsertionFits, TellsInsertion, TellsPlace, IsEventOf, IsOverOf, IsFrontOf};
-ghost use Rattle.unit_notes.specs.Journal.{KeepsJournal};
-ghost use Rattle.unit_notes.specs.Noting.{IsWithdrawing, IsNotingEvent, IsEventNoted, IsNotingOver};
+ghost use Rattle.unit_notes.specs.Noting.{IsEventNoted};
 ghost use Rattle.unit_notes.specs.Tables.{front_size, held_table};
 
 /// The entry of an insertion tells it, field by field.
@@ -64,34 +58,4 @@ pub fn the_most_recent_are_held()
 /// before.
 pub fn the_best_of_the_last_days_are_held()
     ensures { (kind : ℕ) (front x y : List ℕ) (all : List Held) → length x ≡ IMAGE_SIZE → length front ≡ front_size kind → is_by_day (purpose_of kind) ≡ true → 0 < (held_in kind front).begin → KeepsDays (purpose_of kind) (places_of kind) all (stored (held_table kind x)) → IsEventNoted kind front x y → KeepsDays (purpose_of kind) (places_of kind) (all ++ held_in kind front ∷ []) (stored (held_table kind y)) }
-{}
-
-/// A stop at a moment of a note leaves what the journal reads, and a unit that decodes: of an insertion,
-pub fn an_insertion_leaves_the_journal()
-    ensures keeps { (head x c : List ℕ) → IsAdding insertion_ring head x c → KeepsJournal x c }
-    ensures decodes { (head x c : List ℕ) → IsAdding insertion_ring head x c → Decodes x → Decodes c }
-{}
-
-/// of a withdrawal,
-pub fn a_withdrawal_leaves_the_journal()
-    ensures keeps { (i : ℕ) (time : TimeReal) (odometer : Odometer) (x c : List ℕ) → IsWithdrawing i time odometer x c → KeepsJournal x c }
-    ensures decodes { (i : ℕ) (time : TimeReal) (odometer : Odometer) (x c : List ℕ) → i < 2048 → IsWithdrawing i time odometer x c → Decodes x → Decodes c }
-{}
-
-/// of a place,
-pub fn a_place_leaves_the_journal()
-    ensures keeps { (head x c : List ℕ) → IsAdding unit_place_ring head x c → KeepsJournal x c }
-    ensures decodes { (head x c : List ℕ) → IsAdding unit_place_ring head x c → Decodes x → Decodes c }
-{}
-
-/// of an event or a fault,
-pub fn an_event_leaves_the_journal()
-    ensures keeps { (kind : ℕ) (front x c : List ℕ) → IsNotingEvent kind front x c → KeepsJournal x c }
-    ensures decodes { (kind : ℕ) (front x c : List ℕ) → IsNotingEvent kind front x c → Decodes x → Decodes c }
-{}
-
-/// and of an over speeding.
-pub fn an_over_speeding_leaves_the_journal()
-    ensures keeps { (begin : ℕ) (front x c : List ℕ) → length x ≡ IMAGE_SIZE → IsNotingOver begin front x c → KeepsJournal x c }
-    ensures decodes { (begin : ℕ) (front x c : List ℕ) → length x ≡ IMAGE_SIZE → IsNotingOver begin front x c → Decodes x → Decodes c }
 {}

@@ -15,12 +15,9 @@ mod zeros;
 
 pub use insertion::Insertion;
 pub use laws::{
-    a_front_tells_its_event, a_front_tells_its_over_speeding, a_place_leaves_the_journal,
-    a_withdrawal_leaves_the_journal, an_entry_tells_its_insertion, an_entry_tells_its_place,
-    an_event_leaves_the_journal, an_insertion_leaves_the_journal,
-    an_over_speeding_leaves_the_journal, the_best_of_the_last_days_are_held,
-    the_held_events_are_those_noted, the_most_recent_are_held,
-    the_places_of_its_type_have_it_noted,
+    a_front_tells_its_event, a_front_tells_its_over_speeding, an_entry_tells_its_insertion,
+    an_entry_tells_its_place, the_best_of_the_last_days_are_held, the_held_events_are_those_noted,
+    the_most_recent_are_held, the_places_of_its_type_have_it_noted,
 };
 pub use memory::UnitNotes;
 pub use unit_event::UnitEvent;

@@ -9,7 +9,7 @@ ghost use Rattle.event_model.specs.Kinds.{purpose_of, purpose_number, is_event};
 ghost use Rattle.message_model.specs.Records.{insertion_ring, unit_place_ring};
 ghost use Rattle.side_model.specs.Tables.{table_of};
 ghost use Rattle.unit_notes.specs.Entries.{insertion_bytes, unit_place_bytes, fault_bytes, over_bytes};
-ghost use Rattle.unit_notes.specs.Journal.{KeepsJournal};
+ghost use Rattle.unit_notes.specs.Journal.{LeavesJournal};
 ghost use Rattle.unit_notes.specs.Noting.{IsWithdrawing, IsWithdrawn, IsNotingEvent, IsEventNoted, IsNotingOver, IsOverNoted};
 ghost use Rattle.unit_notes.specs.Tables.{all_events};
 
@@ -24,7 +24,7 @@ use unit_memory::UnitMemory;
 /// from, so the pointers of its rings are indices, as each note leaves them.
 ///
 /// An entry appears whole: a stop at a moment of a call leaves the entry whose place is taken, no entry there, or the new one.
-/// Version and vehicle, last-kept minute, odometer, owed rows and days stay, at each moment.
+/// Version and vehicle, last-kept minute, odometer, owed rows and days stay, at each moment, and a unit that decoded still does.
 pub trait UnitNotes {
     /// The ring of insertions, for reading.
     fn insertions(&self) -> Ring
@@ -61,7 +61,7 @@ pub trait UnitNotes {
         ensures below { IfOk result (λ index. index < 2048) }
         ensures noted { OnOk result (IfSome (M.state unit.old).image (λ x. IfSome (M.state unit.new).image (IsAdded insertion_ring (insertion_bytes entry.now) x))) }
         ensures moments { LeavesOnly (M.state unit.old) (M.state unit.new) (IsAdding insertion_ring (insertion_bytes entry.now)) }
-        ensures journal { LeavesOnly (M.state unit.old) (M.state unit.new) KeepsJournal }
+        ensures journal { LeavesOnly (M.state unit.old) (M.state unit.new) LeavesJournal }
         ensures settled { OnOk result ((M.state unit.new).clock < last_count → IsSettled (M.state unit.new)) }
         ensures clock { OnOk result (Rose (M.state unit.old).clock (M.state unit.new).clock) }
         ensures cause { HasCause (M.state unit.old) (M.state unit.new) (is_err result) }
@@ -86,7 +86,7 @@ pub trait UnitNotes {
         requires odometer { odometer.0 < 2 ^ 24 }
         ensures noted { OnOk result (IfSome (M.state unit.old).image (λ x. IfSome (M.state unit.new).image (IsWithdrawn index time odometer x))) }
         ensures moments { LeavesOnly (M.state unit.old) (M.state unit.new) (IsWithdrawing index time odometer) }
-        ensures journal { LeavesOnly (M.state unit.old) (M.state unit.new) KeepsJournal }
+        ensures journal { LeavesOnly (M.state unit.old) (M.state unit.new) LeavesJournal }
         ensures settled { OnOk result ((M.state unit.new).clock < last_count → IsSettled (M.state unit.new)) }
         ensures clock { OnOk result (Rose (M.state unit.old).clock (M.state unit.new).clock) }
         ensures cause { HasCause (M.state unit.old) (M.state unit.new) (is_err result) }
@@ -108,7 +108,7 @@ pub trait UnitNotes {
         requires odometer { entry.now.odometer.0 < 2 ^ 24 }
         ensures noted { OnOk result (IfSome (M.state unit.old).image (λ x. IfSome (M.state unit.new).image (IsAdded unit_place_ring (unit_place_bytes number.now entry.now) x))) }
         ensures moments { LeavesOnly (M.state unit.old) (M.state unit.new) (IsAdding unit_place_ring (unit_place_bytes number.now entry.now)) }
-        ensures journal { LeavesOnly (M.state unit.old) (M.state unit.new) KeepsJournal }
+        ensures journal { LeavesOnly (M.state unit.old) (M.state unit.new) LeavesJournal }
         ensures settled { OnOk result ((M.state unit.new).clock < last_count → IsSettled (M.state unit.new)) }
         ensures clock { OnOk result (Rose (M.state unit.old).clock (M.state unit.new).clock) }
         ensures cause { HasCause (M.state unit.old) (M.state unit.new) (is_err result) }
@@ -129,7 +129,7 @@ pub trait UnitNotes {
         requires begin { event.now.begin.0 ≢ 0 }
         ensures noted { OnOk result (IfSome (M.state unit.old).image (λ x. IfSome (M.state unit.new).image (IsEventNoted event.now.kind (fault_bytes event.now) x))) }
         ensures moments { LeavesOnly (M.state unit.old) (M.state unit.new) (IsNotingEvent event.now.kind (fault_bytes event.now)) }
-        ensures journal { LeavesOnly (M.state unit.old) (M.state unit.new) KeepsJournal }
+        ensures journal { LeavesOnly (M.state unit.old) (M.state unit.new) LeavesJournal }
         ensures settled { OnOk result (StaysSettled (M.state unit.old) (M.state unit.new)) }
         ensures cause { HasCause (M.state unit.old) (M.state unit.new) (is_err result) }
         ensures most { (M.state unit.new).clock ≤ (M.state unit.old).clock + 4 };
@@ -151,7 +151,7 @@ pub trait UnitNotes {
         requires begin { over.now.begin ≢ 0 }
         ensures noted { OnOk result (IfSome (M.state unit.old).image (λ x. IfSome (M.state unit.new).image (IsOverNoted over.now.begin (over_bytes over.now driver.now) x))) }
         ensures moments { LeavesOnly (M.state unit.old) (M.state unit.new) (IsNotingOver over.now.begin (over_bytes over.now driver.now)) }
-        ensures journal { LeavesOnly (M.state unit.old) (M.state unit.new) KeepsJournal }
+        ensures journal { LeavesOnly (M.state unit.old) (M.state unit.new) LeavesJournal }
         ensures settled { OnOk result (StaysSettled (M.state unit.old) (M.state unit.new)) }
         ensures cause { HasCause (M.state unit.old) (M.state unit.new) (is_err result) }
         ensures most { (M.state unit.new).clock ≤ (M.state unit.old).clock + 6 };
@@ -168,7 +168,7 @@ pub trait UnitNotes {
         requires begin { event.now.begin.0 ≢ 0 }
         ensures noted { OnOk result (IfSome (M.state unit.old).image (λ x. IfSome (M.state unit.new).image (IsEventNoted event.now.kind (fault_bytes event.now) x))) }
         ensures moments { LeavesOnly (M.state unit.old) (M.state unit.new) (IsNotingEvent event.now.kind (fault_bytes event.now)) }
-        ensures journal { LeavesOnly (M.state unit.old) (M.state unit.new) KeepsJournal }
+        ensures journal { LeavesOnly (M.state unit.old) (M.state unit.new) LeavesJournal }
         ensures settled { OnOk result (StaysSettled (M.state unit.old) (M.state unit.new)) }
         ensures cause { HasCause (M.state unit.old) (M.state unit.new) (is_err result) }
         ensures most { (M.state unit.new).clock ≤ (M.state unit.old).clock + 4 };
