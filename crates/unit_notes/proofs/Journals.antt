@@ -87,7 +87,7 @@ module _ (begin : ℕ) (front x : List ℕ) (long : length x ≡ 2485808) where
 
 -- ---- that it decodes
 
-part_of : (p w q n : ℕ) (x c : List ℕ) → q + n ≤ w → bytes_at c p w ≡ bytes_at x p w → bytes_at c (p + q) n ≡ bytes_at x (p + q) n
+pub part_of : (p w q n : ℕ) (x c : List ℕ) → q + n ≤ w → bytes_at c p w ≡ bytes_at x p w → bytes_at c (p + q) n ≡ bytes_at x (p + q) n
 part_of p w q n x c inside same = sym (part_in c p w q n inside) ∙ ap (λ (l : List ℕ). bytes_at l q n) same ∙ part_in x p w q n inside
 
 -- where the numbers lie that are judged

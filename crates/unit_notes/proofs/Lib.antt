@@ -8,4 +8,5 @@ pub mod EntryFields
 pub mod Placing
 pub mod Journals
 pub mod ZeroBytes
+pub mod AfterRun
 mod Rows

@@ -20,8 +20,6 @@ use Rattle.event_model.specs.declared.kinds.TheConstants.{CARD_FAULT, OVER_SPEED
 use Rattle.event_model.specs.declared.entries.Held.{Held}
 use Rattle.event_model.specs.Kinds.{purpose_of, is_by_day, places_of}
 use Rattle.event_model.specs.Places.{place_of as place_for, day_place, is_of_day, placed, noted, similar_after}
-use Rattle.event_model.specs.Kept.{stored, KeepsRecent, KeepsDays}
-use Rattle.event_model.proofs.Noting.{recently, daily}
 use Rattle.event_model.specs.Events.{Event}
 use Rattle.side_model.specs.Tables.{event_widths, fault_widths, over_widths, widths_of, table_of, table_in, held_in, held_of, similar_field, similar_at, CountsSimilar, HasFront, HasNumbers, HasSpeeds, HasRest, IsEntry, HasOneMore}
 use Rattle.side_model.specs.Tables as side
@@ -75,7 +73,7 @@ pub length-held : (kind : ℕ) (x : List ℕ) → length (held_table kind x) ≡
 unfolding held_table table_in
 length-held kind x = length-map (map (entry_at (table_of kind) x) (range_with_len 0 (places_of kind))) (held_in kind) ∙ length-map-range_with_len (entry_at (table_of kind) x) 0 (places_of kind)
 
-day_below : (kind : ℕ) (held : List Held) (event : Held) → IfSome (day_place kind held event) (λ i. i < length held)
+pub day_below : (kind : ℕ) (held : List Held) (event : Held) → IfSome (day_place kind held event) (λ i. i < length held)
 day_below kind held event = by (is_by_day (purpose_of kind))
   where
     by : (b : Bool) → IfSome (cond b (position (is_of_day (event.begin / 86400)) held) None) (λ i. i < length held)
@@ -297,20 +295,3 @@ module _ (kind : ℕ) (front x y : List ℕ) (long : length x ≡ 2485808) (size
 
   pub held_noted : IsEventNoted kind front x y → held_table kind y ≡ noted kind (held_table kind x) (held_in kind front)
   held_noted done = held_by (place_taken kind front x) (place_of_day kind front x) refl refl done.entry
-
-  -- so those are kept that are to be
-  pub recent_held : (all : List Held) → is_by_day (purpose_of kind) ≡ false → 0 < (held_in kind front).begin → KeepsRecent (places_of kind) all (stored (held_table kind x)) → IsEventNoted kind front x y
-      → KeepsRecent (places_of kind) (all ++ held_in kind front ∷ []) (stored (held_table kind y))
-  recent_held all other some keeps done =
-      let n : length (held_table kind x) ≡ places_of kind = length-held kind x in
-      let before : KeepsRecent (length (held_table kind x)) all (stored (held_table kind x)) = subst (λ (k : ℕ). KeepsRecent k all (stored (held_table kind x))) (sym n) keeps in
-      subst (λ (h : List Held). KeepsRecent (places_of kind) (all ++ held_in kind front ∷ []) (stored h)) (sym (held_noted done))
-      (subst (λ (k : ℕ). KeepsRecent k (all ++ held_in kind front ∷ []) (stored (noted kind (held_table kind x) (held_in kind front)))) n (recently (purpose_of kind) (held_table kind x) all (held_in kind front) other some before))
-
-  pub days_held : (all : List Held) → is_by_day (purpose_of kind) ≡ true → 0 < (held_in kind front).begin → KeepsDays (purpose_of kind) (places_of kind) all (stored (held_table kind x)) → IsEventNoted kind front x y
-      → KeepsDays (purpose_of kind) (places_of kind) (all ++ held_in kind front ∷ []) (stored (held_table kind y))
-  days_held all by_day some keeps done =
-      let n : length (held_table kind x) ≡ places_of kind = length-held kind x in
-      let before : KeepsDays (purpose_of kind) (length (held_table kind x)) all (stored (held_table kind x)) = subst (λ (k : ℕ). KeepsDays (purpose_of kind) k all (stored (held_table kind x))) (sym n) keeps in
-      subst (λ (h : List Held). KeepsDays (purpose_of kind) (places_of kind) (all ++ held_in kind front ∷ []) (stored h)) (sym (held_noted done))
-      (subst (λ (k : ℕ). KeepsDays (purpose_of kind) k (all ++ held_in kind front ∷ []) (stored (noted kind (held_table kind x) (held_in kind front)))) n (daily (purpose_of kind) (held_table kind x) all (held_in kind front) by_day some before))

@@ -4,3 +4,4 @@ pub mod Noting
 pub mod Journal
 pub mod Fields
 pub mod Zeros
+pub mod Retention

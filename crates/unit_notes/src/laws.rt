@@ -1,13 +1,10 @@
-ghost use Rattle.std.specs.Prelude.{◌≡◌, ◌≢◌, ℕ, ◌<◌, ◌^◌, true, false, List, [], ◌∷◌, ◌++◌, length};
+ghost use Rattle.std.specs.Prelude.{◌≡◌, ◌≢◌, ℕ, ◌<◌, ◌^◌, List, length};
 ghost use Rattle.trace_model.specs.declared.Card.{Card};
 ghost use Rattle.tacho_types.specs.CardNumber.{card_number_bytes};
 ghost use Rattle.tacho_types.specs.declared.card_number.FullCardNumber.{FullCardNumber};
 ghost use Rattle.tacho_types.specs.declared.places.PlaceEntry.{PlaceEntry};
-ghost use Rattle.event_model.specs.declared.entries.Held.{Held};
 ghost use Rattle.event_model.specs.declared.entries.Over.{Over};
 ghost use Rattle.event_model.specs.declared.kinds.TheConstants.{OVER_SPEEDING};
-ghost use Rattle.event_model.specs.Kept.{stored, KeepsRecent, KeepsDays};
-ghost use Rattle.event_model.specs.Kinds.{purpose_of, is_by_day, places_of};
 ghost use Rattle.event_model.specs.Places.{noted};
 ghost use Rattle.event_model.specs.Events.{Event};
 ghost use Rattle.side_model.specs.Tables.{table_in, held_in, IsNoted};
@@ -47,15 +44,4 @@ pub fn the_places_of_its_type_have_it_noted()
 /// The events that a unit holds of a type after a note are those that were held, with this one noted.
 pub fn the_held_events_are_those_noted()
     ensures { (kind : ℕ) (front x y : List ℕ) → length x ≡ IMAGE_SIZE → length front ≡ front_size kind → IsEventNoted kind front x y → held_table kind y ≡ noted kind (held_table kind x) (held_in kind front) }
-{}
-
-/// Of a type that keeps the most recent, a note leaves the most recent of all that came, where they were held before.
-pub fn the_most_recent_are_held()
-    ensures { (kind : ℕ) (front x y : List ℕ) (all : List Held) → length x ≡ IMAGE_SIZE → length front ≡ front_size kind → is_by_day (purpose_of kind) ≡ false → 0 < (held_in kind front).begin → KeepsRecent (places_of kind) all (stored (held_table kind x)) → IsEventNoted kind front x y → KeepsRecent (places_of kind) (all ++ held_in kind front ∷ []) (stored (held_table kind y)) }
-{}
-
-/// Of a type that keeps one event a day, a note leaves the best of each of the last days of all that came, where they were held
-/// before.
-pub fn the_best_of_the_last_days_are_held()
-    ensures { (kind : ℕ) (front x y : List ℕ) (all : List Held) → length x ≡ IMAGE_SIZE → length front ≡ front_size kind → is_by_day (purpose_of kind) ≡ true → 0 < (held_in kind front).begin → KeepsDays (purpose_of kind) (places_of kind) all (stored (held_table kind x)) → IsEventNoted kind front x y → KeepsDays (purpose_of kind) (places_of kind) (all ++ held_in kind front ∷ []) (stored (held_table kind y)) }
 {}
