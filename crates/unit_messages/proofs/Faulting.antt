@@ -1,8 +1,8 @@
 -- What is said of an answer whose faults are known.
 use Rattle.std.proofs.Common.{◌≡◌, ℕ, Result, Ok, Err, sym, subst}
 use Rattle.std.specs.Prelude.{OnOk, IfErr}
-use Rattle.unit_messages.specs.declared.piece.PieceFault.{PieceFault}
-use Rattle.unit_messages.specs.declared.piece.PieceFault.TheVariants.{Failed}
+use Rattle.unit_messages.specs.declared.sending.PieceFault.{PieceFault}
+use Rattle.unit_messages.specs.declared.sending.PieceFault.TheVariants.{Failed}
 use Rattle.unit_messages.specs.Faults.{IfBadPiece}
 
 -- what holds at all, after Ok; and a fault that is not of a field

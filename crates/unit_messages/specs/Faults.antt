@@ -2,8 +2,8 @@
 use Rattle.std.specs.Prelude.{ℕ, Bool, true, false, Result, Ok, Err}
 use Rattle.unit_memory.specs.declared.fault.UnitFault.{UnitFault}
 use Rattle.unit_memory.specs.declared.fault.UnitFault.TheVariants.{Failed as UnitFailed, BadUnit as UnitBad}
-use Rattle.unit_messages.specs.declared.piece.PieceFault.{PieceFault}
-use Rattle.unit_messages.specs.declared.piece.PieceFault.TheVariants.{Failed, BadUnit}
+use Rattle.unit_messages.specs.declared.sending.PieceFault.{PieceFault}
+use Rattle.unit_messages.specs.declared.sending.PieceFault.TheVariants.{Failed, BadUnit}
 
 abbrev pub of_unit : UnitFault → PieceFault
 of_unit UnitFailed = Failed

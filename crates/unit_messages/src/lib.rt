@@ -6,12 +6,12 @@ mod entries;
 mod joining;
 mod outline;
 mod parts;
-mod piece;
 mod reading;
+mod sending;
 mod window;
 
 pub use joining::{JoinFault, Joiner, split_at};
 pub use link_model::Request;
 pub use outline::{Outline, find_outline};
-pub use piece::{PieceFault, piece};
 pub use reading::{BadMessage, MessageRead, OverviewRead, day_words, overview, read_message};
+pub use sending::{PieceFault, piece};

@@ -27,7 +27,7 @@ pub enum PieceFault {
 
 impl From<Failed> for PieceFault {
     ghost use Rattle.std.specs.Prelude.{◌≡◌};
-    ghost use Rattle.unit_messages.specs.declared.piece.PieceFault.{PieceFault};
+    ghost use Rattle.unit_messages.specs.declared.sending.PieceFault.{PieceFault};
 
     ghost from_gives = { λ _ fault. fault ≡ PieceFault.Failed };
 

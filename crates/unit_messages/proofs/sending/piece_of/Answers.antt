@@ -4,7 +4,7 @@ use Rattle.unit_messages.specs.Outlines.{asked}
 use Rattle.unit_messages.specs.Sent.{IsPiece}
 use Rattle.unit_messages.specs.Faults.{piece_failed}
 use Rattle.unit_messages.proofs.Calls.{any_failed}
-use Rattle.unit_messages.proofs.piece.piece_of.Goals as goal
+use Rattle.unit_messages.proofs.sending.piece_of.Goals as goal
 
 pub returns-clause-piece : goal.returns-clause-piece
 returns-clause-piece g c =

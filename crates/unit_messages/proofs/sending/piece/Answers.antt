@@ -14,7 +14,7 @@ use Rattle.unit_messages.specs.Faults.{piece_failed, IfBadPiece}
 use Rattle.unit_messages.proofs.Calls.{any_then, reads_any}
 use Rattle.unit_messages.proofs.Joints.{at_told}
 use Rattle.unit_messages.proofs.Faulting.{ok_always, never_bad}
-use Rattle.unit_messages.proofs.piece.piece.Goals as goal
+use Rattle.unit_messages.proofs.sending.piece.Goals as goal
 
 pub find_outline-requires-clause-right : goal.find_outline-requires-clause-right
 find_outline-requires-clause-right g c =
