@@ -87,7 +87,7 @@ times_none j ok x t decodes right none now begin end =
     nothing [] none = refl
     nothing (a ∷ l) none = absurd (omega (arith, none))
 
-pub times_some : (j : Notes) (ok : IsNotes j) (x : List ℕ) (t : Times) (d : UnitDay) → Decodes x → AreRight j x → (i : ℕ) × IsRecordedDay x 0 i d → t.now ≡ 60 * j.kept → t.begin ≡ d.date.0 → t.end ≡ 60 * j.kept → AreTimes x t
+pub times_some : (j : Notes) (ok : IsNotes j) (x : List ℕ) (t : Times) (d : UnitDay) → Decodes x → AreRight j x → ((i : ℕ) × IsRecordedDay x 0 i d) → t.now ≡ 60 * j.kept → t.begin ≡ d.date.0 → t.end ≡ 60 * j.kept → AreTimes x t
 times_some j ok x t d decodes right oldest now begin end =
     let s = shown j ok x right in
     let i = oldest.0 in
