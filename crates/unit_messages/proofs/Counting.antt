@@ -37,7 +37,7 @@ module _ (e : Entries) (are : AreEntries e) (x : List ℕ) (whole : IMAGE_SIZE �
       by true = omega arith
       by false = omega arith
 
-  all_counted : (js : List ℕ) → Each (λ j. j < e.count) js → length (joined (chosen_at (shape_of e) e.choice x js)) ≡ length (chosen_at (shape_of e) e.choice x js) * e.width
+  pub all_counted : (js : List ℕ) → Each (λ j. j < e.count) js → length (joined (chosen_at (shape_of e) e.choice x js)) ≡ length (chosen_at (shape_of e) e.choice x js) * e.width
   all_counted [] all = omega arith
   all_counted (j ∷ js) all =
       let a = chosen_at (shape_of e) e.choice x (j ∷ []) in

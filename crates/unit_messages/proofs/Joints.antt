@@ -8,8 +8,8 @@ pub then_passed : (u v w : Sight) (a b : List ℕ) → v ≡ passed w a → u �
 then_passed u v w a b before after = after ∙ ap (λ (s : Sight). passed s b) before ∙ passed_both w a b
 
 -- what is said of a told image, of the one that is told
-pub at_told : {o : Option (List ℕ)} {A : List ℕ → Type 0} (x : List ℕ) → o ≡ Some x → IfSome o A → A x
-at_told {o} {A} x told said = subst (λ (q : Option (List ℕ)). IfSome q A) told said
+pub at_told : {o : Option (List ℕ)} (A : List ℕ → Type 0) (x : List ℕ) → o ≡ Some x → IfSome o A → A x
+at_told A x told said = subst (λ (q : Option (List ℕ)). IfSome q A) told said
 
 -- two parts of the image
 pub told_then : (o : Option (List ℕ)) (u v w : Sight) (a b : List ℕ → List ℕ) → IfSome o (λ x. v ≡ passed w (a x)) → IfSome o (λ x. u ≡ passed v (b x)) → IfSome o (λ x. u ≡ passed w (a x ++ b x))

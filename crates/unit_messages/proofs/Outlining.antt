@@ -9,7 +9,8 @@ use Rattle.unit_model.specs.Image.{number_of as number_in, last_kept, recorded_i
 use Rattle.unit_model.specs.Decoding.{Decodes, check, is_kept_good}
 use Rattle.unit_model.proofs.Checks.{passes, good_of, le_of, and_split}
 use Rattle.unit_model.proofs.WholeDays.{decoded_of}
-use Rattle.unit_journal.specs.Image.{Notes, IsNotes}
+use Rattle.unit_journal.specs.declared.notes.Notes.{Notes}
+use Rattle.unit_journal.specs.Image.{IsNotes}
 use Rattle.unit_journal.specs.Reading.{AreRight, IsOfDate, IsRecordedDay}
 use Rattle.unit_journal.specs.declared.journal.reading.UnitDay.{UnitDay}
 use Rattle.unit_journal.proofs.Shown.{shown}
@@ -63,7 +64,7 @@ day_outlined j ok x date d o decodes right is same inside counts =
     record {
       day = sent_at x sent.index;
       found = ap (λ (n : ℕ). day_at n (sent_days x)) date_is ∙ sent.found;
-      date = sent.date ∙ sym date_is;
+      date = sent.dated ∙ sym date_is;
       odometer = sym (same.1 ∙ sent.odometer);
       words = sent.words ∙ (λ t. words_at x (place_is t) (sym same.3 t));
       insertions = counts.0 ∙ ap (λ (n : ℕ). length (filter (touches_day n) (ring_list insertion_ring x))) (sym date_is);

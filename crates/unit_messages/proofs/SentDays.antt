@@ -18,7 +18,8 @@ use Rattle.unit_model.proofs.Decoded.{IsDecoded}
 use Rattle.unit_model.proofs.Finding.{all_there}
 use Rattle.unit_model.proofs.LastDay.{in_order}
 use Rattle.unit_model.proofs.Rising.{AreInOrder}
-use Rattle.unit_journal.specs.Image.{Notes, IsNotes}
+use Rattle.unit_journal.specs.declared.notes.Notes.{Notes}
+use Rattle.unit_journal.specs.Image.{IsNotes}
 use Rattle.unit_journal.specs.Reading.{AreRight, IsOfDate}
 use Rattle.unit_journal.specs.declared.journal.reading.UnitDay.{UnitDay}
 use Rattle.unit_journal.proofs.Shown.{AreShown, shown, word_at}
@@ -178,7 +179,7 @@ some_kept j ok x n i s is =
 pub record IsSentDay (x : List ℕ) (date : ℕ) (d : UnitDay) : Type 0 where
   pub index : ℕ
   pub found : find (λ e. e.date == date) (sent_days x) ≡ Some (sent_at x index)
-  pub date : slot_date x index ≡ date
+  pub dated : slot_date x index ≡ date
   pub place : d.place ≡ slot_place index
   pub odometer : d.odometer.0 ≡ slot_odometer x index
   pub words : recorded_words x index ≡ words_at x (slot_place index + 16) d.words
@@ -199,7 +200,7 @@ day_sent j ok x decodes right date d is =
     record {
       index = i;
       found = ap (find (λ e. e.date == date)) (sent_are x (counts_few x decoded)) ∙ found_one (sent_at x) (recorded_indices x) date n i order_is day.nth here;
-      date = here;
+      dated = here;
       place = day.day.place;
       odometer = omega (arith, day.day.odometer, few);
       words = words ∙ ap (λ (m : ℕ). words_at x (slot_place i + 16) m) (sym day.day.words_are);

@@ -14,9 +14,9 @@ returns-clause-passed g c =
     let third = read_same c.in_ok-pass_words.ensures.reads ∙ second in
     day_passed x c.args.day c.args.window.now c.pass.new.self c.pass_number.new.window c.pass_odometer.new.window c.pass_insertions.new.window c.pass_words.new.window c.pass_places.new.window c.pass-2.new.self is
     c.pass.ensures c.pass_number.ensures c.pass_odometer.ensures
-    (at_told x told c.in_ok-pass_insertions.ensures.passed is.insertion_pointer is.insertions)
-    (at_told x second c.in_ok-pass_words.ensures.passed)
-    (at_told x third c.in_ok-pass_places.ensures.passed is.place_pointer is.places)
+    (at_told _ x told c.in_ok-pass_insertions.ensures.passed is.insertion_pointer is.insertions)
+    (at_told _ x second c.in_ok-pass_words.ensures.passed)
+    (at_told _ x third c.in_ok-pass_places.ensures.passed is.place_pointer is.places)
     c.pass-2.ensures)
 
 pub returns-in_err-pass_words-clause-reads : goal.returns-in_err-pass_words-clause-reads

@@ -18,10 +18,10 @@ returns-clause-passed g c =
     let third = read_same c.in_ok-pass_table-2.ensures.reads ∙ second in
     events_passed x e c.args.window.now c.pass.new.self c.pass_table.new.window c.pass_table-2.new.window c.pass-2.new.self c.pass_number.new.window c.pass_byte.new.window c.pass_table-3.new.window c.pass-3.new.self are
     c.pass.ensures
-    (by_shape (shape_of c.fault_entries.result) fault_table x e.faults c.pass_table.new.window c.pass.new.self (ap shape_of c.fault_entries.ensures.is) (at_told x told c.in_ok-pass_table.ensures.passed) are.faults)
-    (by_shape (shape_of c.event_entries.result) event_table x e.events c.pass_table-2.new.window c.pass_table.new.window (ap shape_of c.event_entries.ensures.is) (at_told x second c.in_ok-pass_table-2.ensures.passed) are.events)
+    (by_shape (shape_of c.fault_entries.result) fault_table x e.faults c.pass_table.new.window c.pass.new.self (ap shape_of c.fault_entries.ensures.is) (at_told _ x told c.in_ok-pass_table.ensures.passed) are.faults)
+    (by_shape (shape_of c.event_entries.result) event_table x e.events c.pass_table-2.new.window c.pass_table.new.window (ap shape_of c.event_entries.ensures.is) (at_told _ x second c.in_ok-pass_table-2.ensures.passed) are.events)
     c.pass-2.ensures c.pass_number.ensures c.pass_byte.ensures
-    (by_shape (shape_of c.over_entries.result) over_table x e.overs c.pass_table-3.new.window c.pass_byte.new.window (ap shape_of c.over_entries.ensures.is) (at_told x third c.in_ok-pass_table-3.ensures.passed) are.overs)
+    (by_shape (shape_of c.over_entries.result) over_table x e.overs c.pass_table-3.new.window c.pass_byte.new.window (ap shape_of c.over_entries.ensures.is) (at_told _ x third c.in_ok-pass_table-3.ensures.passed) are.overs)
     c.pass-3.ensures)
 
 pub returns-in_err-pass_table-2-clause-reads : goal.returns-in_err-pass_table-2-clause-reads

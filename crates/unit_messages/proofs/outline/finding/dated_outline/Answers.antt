@@ -18,7 +18,7 @@ use Rattle.unit_messages.proofs.outline.finding.dated_outline.Goals as goal
 pub returns-in-None-clause-outlined : goal.returns-in-None-clause-outlined
 returns-in-None-clause-outlined g c =
     told_all (g.M.Medium.state c.args.unit.now).image _ (λ x told.
-    none_sent x c.args.date (at_told x told c.requires.decodes) (subst (λ (f : Option UnitDay). IsOfDate x c.args.date f) c.in-None.is (at_told x told c.in_ok-found.ensures.found (at_told x told c.requires.right))))
+    none_sent x c.args.date (at_told _ x told c.requires.decodes) (subst (λ (f : Option UnitDay). IsOfDate x c.args.date f) c.in-None.is (at_told _ x told c.in_ok-found.ensures.found (at_told _ x told c.requires.right))))
 
 pub returns-in-Some-clause-outlined : goal.returns-in-Some-clause-outlined
 returns-in-Some-clause-outlined g c =
@@ -53,7 +53,7 @@ found_outline-requires-clause-found g c =
     let here : IfSome before (λ x. IsOfDate x day.date.0 (Some day)) =
     told_all before (λ x. IsOfDate x day.date.0 (Some day)) (λ x told.
     subst (λ (n : ℕ). IsOfDate x n (Some day)) (sym date_is)
-    (subst (λ (f : Option UnitDay). IsOfDate x c.args.date f) c.in-Some.is (at_told x told c.in_ok-found.ensures.found (at_told x told c.requires.right)))) in
+    (subst (λ (f : Option UnitDay). IsOfDate x c.args.date f) c.in-Some.is (at_told _ x told c.in_ok-found.ensures.found (at_told _ x told c.requires.right)))) in
     carried (λ x. IsOfDate x day.date.0 (Some day)) (sym (read_same c.in_ok-found.ensures.reads)) here
 
 pub found_outline-requires-clause-place : goal.found_outline-requires-clause-place

@@ -24,16 +24,16 @@ returns-clause-range g c = record {
 }
 
 pub returns-clause-pointers : goal.returns-clause-pointers
-returns-clause-pointers g c = told_all (g.M.Medium.state c.args.unit.now).image _ (λ x told. pointers_inside x (at_told x told c.requires.decodes))
+returns-clause-pointers g c = told_all (g.M.Medium.state c.args.unit.now).image _ (λ x told. pointers_inside x (at_told _ x told c.requires.decodes))
 
 pub returns-clause-counts : goal.returns-clause-counts
 returns-clause-counts g c =
     let date = c.args.day.now.date.0 in
     told_all (g.M.Medium.state c.args.unit.now).image _ (λ x told.
-    let inside = pointers_inside x (at_told x told c.requires.decodes) in (
-      ring_counted INSERTIONS.place c.in_ok-insertions.insertions c.insertions_on-touching.result (insertions_on date) x c.insertions_on-touching.ensures.is refl inside.0 (at_told x told c.in_ok-insertions.ensures.count),
+    let inside = pointers_inside x (at_told _ x told c.requires.decodes) in (
+      ring_counted INSERTIONS.place c.in_ok-insertions.insertions c.insertions_on-touching.result (insertions_on date) x c.insertions_on-touching.ensures.is refl inside.0 (at_told _ x told c.in_ok-insertions.ensures.count),
       ring_counted PLACES.place c.in_ok-places.places c.places_on-entered.result (places_on date) x c.places_on-entered.ensures.is refl inside.1
-          (at_told x (read_same c.in_ok-insertions.ensures.reads ∙ told) c.in_ok-places.ensures.count),
+          (at_told _ x (read_same c.in_ok-insertions.ensures.reads ∙ told) c.in_ok-places.ensures.count),
     ))
 
 pub returns-in_err-places-clause-reads : goal.returns-in_err-places-clause-reads

@@ -18,13 +18,13 @@ returns-clause-events g c =
     let s2 = read_same c.in_ok-events.ensures.reads ∙ s1 in
     let s3 = read_same c.in_ok-overs.ensures.reads ∙ s2 in
     let s4 = c.in_ok-first_over.ensures.reads.same refl ∙ s3 in
-    let few = overs_few x (at_told x told c.requires.decodes) in
-    let overs = at_told x s4 c.in_ok-over_count.ensures.value in
+    let few = overs_few x (at_told _ x told c.requires.decodes) in
+    let overs = at_told _ x s4 c.in_ok-over_count.ensures.value in
     record {
-      faults = table_many c.fault_entries.result (entries_of FAULTS.place 82 24) x c.in_ok-faults.faults c.fault_entries.ensures.is refl (at_told x told c.in_ok-faults.ensures.count);
-      events = table_many c.event_entries.result (entries_of EVENTS.place 83 60) x c.in_ok-events.events c.event_entries.ensures.is refl (at_told x s1 c.in_ok-events.ensures.count);
-      overs = table_many c.over_entries.result (entries_of OVERS.place 31 10) x c.in_ok-overs.overs c.over_entries.ensures.is refl (at_told x s2 c.in_ok-overs.ensures.count);
-      first_over = at_told x s3 c.in_ok-first_over.ensures.value;
+      faults = table_many c.fault_entries.result (entries_of FAULTS.place 82 24) x c.in_ok-faults.faults c.fault_entries.ensures.is refl (at_told _ x told c.in_ok-faults.ensures.count);
+      events = table_many c.event_entries.result (entries_of EVENTS.place 83 60) x c.in_ok-events.events c.event_entries.ensures.is refl (at_told _ x s1 c.in_ok-events.ensures.count);
+      overs = table_many c.over_entries.result (entries_of OVERS.place 31 10) x c.in_ok-overs.overs c.over_entries.ensures.is refl (at_told _ x s2 c.in_ok-overs.ensures.count);
+      first_over = at_told _ x s3 c.in_ok-first_over.ensures.value;
       over_count = omega (arith, c.min.ensures, overs, few);
     })
 

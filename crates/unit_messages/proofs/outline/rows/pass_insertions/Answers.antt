@@ -10,4 +10,4 @@ returns-clause-passed g c =
     let d = c.args.day in
     told_all (g.M.Medium.state c.args.unit.now).image _ (λ x told low many.
     counted_ring 2 INSERTIONS.place d.insertions c.insertions_on-entries.result (insertions_on d.date) x c.pass_ring.new.window c.pass_count.new.window c.args.window.now c.insertions_on-entries.ensures.is c.pass_count.ensures
-    (at_told x told c.in_ok-pass_ring.ensures.passed) low many)
+    (at_told _ x told c.in_ok-pass_ring.ensures.passed) low many)

@@ -10,4 +10,4 @@ returns-clause-passed g c =
     let d = c.args.day in
     told_all (g.M.Medium.state c.args.unit.now).image _ (λ x told low many.
     counted_ring 1 PLACES.place d.places c.places_on-entries.result (places_on d.date) x c.pass_ring.new.window c.pass_byte.new.window c.args.window.now c.places_on-entries.ensures.is c.pass_byte.ensures
-    (at_told x told c.in_ok-pass_ring.ensures.passed) low many)
+    (at_told _ x told c.in_ok-pass_ring.ensures.passed) low many)

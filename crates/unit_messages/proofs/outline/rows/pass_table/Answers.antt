@@ -20,4 +20,4 @@ returns-clause-passed g c =
     let e = c.args.entries.now in
     told_all (g.M.Medium.state c.args.unit.now).image _ (λ x told many.
     table_read e x c.pass.new.window c.pass_byte.new.window c.passes_over-over.new.self c.args.window.now c.args.count c.requires.each many c.pass_byte.ensures (c.passes_over-over.ensures.same c.if-over.false)
-    (at_told x told c.in_ok-pass.ensures.passed))
+    (at_told _ x told c.in_ok-pass.ensures.passed))
