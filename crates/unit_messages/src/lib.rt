@@ -15,3 +15,6 @@ pub use link_model::Request;
 pub use outline::{Outline, find_outline};
 pub use reading::{BadMessage, MessageRead, OverviewRead, day_words, overview, read_message};
 pub use sending::{PieceFault, piece};
+
+#[cfg(test)]
+mod tests;
