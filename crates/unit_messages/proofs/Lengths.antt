@@ -63,11 +63,20 @@ table_counted : (e : Entries) (x : List ℕ) (n : ℕ) → AreEntries e → IMAG
     → length (counted 1 (entries_in (shape_of e) x)) ≡ 1 + n * e.width
 table_counted e x n are long each many = counted_long 1 (n * e.width) (entries_in (shape_of e) x) (table_long e x are long each ∙ ap (λ (m : ℕ). m * e.width) (sym many))
 
+faults_are : AreEntries (entries_of FAULTS.place 82 24)
+faults_are = record { inside = omega arith; gate = omega arith; narrow = omega arith; few = omega arith; room = omega arith }
+
+events_are : AreEntries (entries_of EVENTS.place 83 60)
+events_are = record { inside = omega arith; gate = omega arith; narrow = omega arith; few = omega arith; room = omega arith }
+
+overs_are : AreEntries (entries_of OVERS.place 31 10)
+overs_are = record { inside = omega arith; gate = omega arith; narrow = omega arith; few = omega arith; room = omega arith }
+
 events_long : (x : List ℕ) (e : EventOutline) → IMAGE_SIZE ≤ length x → AreEventsOf x e → 143 + 82 * e.faults + 83 * e.events + 31 * e.overs ≡ length (event_parts x e)
 events_long x e long are =
-    let f = table_counted (entries_of FAULTS.place 82 24) x e.faults (record { inside = omega arith; gate = omega arith; narrow = omega arith; few = omega arith; room = omega arith }) long refl are.faults in
-    let v = table_counted (entries_of EVENTS.place 83 60) x e.events (record { inside = omega arith; gate = omega arith; narrow = omega arith; few = omega arith; room = omega arith }) long refl are.events in
-    let o = table_counted (entries_of OVERS.place 31 10) x e.overs (record { inside = omega arith; gate = omega arith; narrow = omega arith; few = omega arith; room = omega arith }) long refl are.overs in
+    let f = table_counted (entries_of FAULTS.place 82 24) x e.faults faults_are long refl are.faults in
+    let v = table_counted (entries_of EVENTS.place 83 60) x e.events events_are long refl are.events in
+    let o = table_counted (entries_of OVERS.place 31 10) x e.overs overs_are long refl are.overs in
     by (counted 1 (entries_in fault_table x)) (counted 1 (entries_in event_table x)) (replicate 4 0) (big_bytes 4 e.first_over) (big_bytes 1 e.over_count) (counted 1 (entries_in over_table x)) (replicate 129 0) f v refl
     (length-bytes_high_first 4 e.first_over) (length-bytes_high_first 1 e.over_count) o refl
   where
