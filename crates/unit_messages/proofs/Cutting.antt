@@ -23,7 +23,7 @@ use Rattle.unit_messages.specs.Parts.{AreCounted, IsPart, AreParts, within, coun
 pub within_le : (b : List ℕ) (e : ℕ) → e ≤ length b → within b e ≡ Some e
 within_le b e le = ap (λ (t : Bool). cond t (Some e) None) (le_true e (length b) le)
 
-if_some : (t : Bool) (o : Option ℕ) (e : ℕ) → cond t o None ≡ Some e → (t ≡ true) × (o ≡ Some e)
+pub if_some : {X : Type 0} (t : Bool) (o : Option X) (e : X) → cond t o None ≡ Some e → (t ≡ true) × (o ≡ Some e)
 if_some true o e is = (refl, is)
 if_some false o e is = absurd (cc)
 

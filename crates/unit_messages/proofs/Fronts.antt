@@ -3,7 +3,6 @@ use Rattle.std.proofs.Common.{◌≡◌, ℕ, zero, suc, ◌+◌, ◌*◌, ◌%�
 use Rattle.std.specs.Prelude.{nat_le, ◌==◌, slice_index}
 use Rattle.std.proofs.lemmas.List.{length-map, drop_at}
 use Rattle.std.proofs.lemmas.List.Elements.{All-nil, All-cons}
-use Rattle.std.proofs.lemmas.Bool.Decides.{nat_tests}
 use Rattle.byteorder.specs.Endian.{big_number, big_bytes}
 use Rattle.byteorder.specs.Numbers.{length-bytes_high_first, big_from-lt}
 use Rattle.byte_fields.specs.Images.{number_at}
@@ -12,6 +11,7 @@ use Rattle.byte_fields.proofs.Numbers.{big_bytes-big_number}
 use Rattle.byte_fields.proofs.Cuts.{IsBytes-drop}
 use Rattle.unit_model.specs.Image.{words_at}
 use Rattle.unit_model.proofs.Checks.{le_true, le_of, and_split}
+use Rattle.unit_model.proofs.Finding.{eq_of}
 use Rattle.link_model.specs.declared.request.Request.{Request}
 use Rattle.link_model.specs.declared.request.Request.TheVariants.{Overview as AskOverview, Day as AskDay, Events as AskEvents, Speed as AskSpeed, Technical as AskTechnical}
 use Rattle.message_model.specs.Messages.{Overview, DayMessage, EventMessage, SpeedMessage, TechnicalMessage, Message, AnOverview, ADay, AnEventList, ASpeedList, ATechnical, AreEntries, counted, word_bytes, overview_bytes, day_bytes, event_bytes, speed_bytes, technical_bytes, number_of, content_of, message_bytes, IsOverview, IsDayMessage, IsEventMessage, IsSpeedMessage, IsTechnicalMessage, IsMessage}
@@ -19,7 +19,7 @@ use Rattle.unit_messages.specs.declared.reading.MessageRead.{MessageRead}
 use Rattle.unit_messages.specs.declared.parts.TheConstants.{OVERVIEW_PARTS, DAY_PARTS, EVENT_PARTS, SPEED_PARTS, TECHNICAL_PARTS}
 use Rattle.unit_messages.specs.Parts.{parts_end, read_as, words_place, word_count, are_words, day_at_front, numbered_at_front, at_front}
 use Rattle.unit_messages.specs.Reading.{BeginsWith, request_of, IsReadAs, BeginsNoMessage}
-use Rattle.unit_messages.proofs.Cutting.{parts_complete, parts_sound}
+use Rattle.unit_messages.proofs.Cutting.{if_some, parts_complete, parts_sound}
 use Rattle.unit_messages.proofs.Days.{Low, all_low, words_many, entry_words, entry_words_low, IsLaid, day_laid, words_tested, words_pass}
 
 -- what is read where this message stands at the front
@@ -301,9 +301,6 @@ two_first [] content more x y some a c is = absurd (omega (arith, some))
 two_first (u ∷ []) content more x y some a c is = absurd (omega (arith, some))
 two_first (u ∷ v ∷ b) content more x y some a c is = λ t. a t ∷ c t ∷ is t
 
-eq_of : (a b : ℕ) → (a == b) ≡ true → a ≡ b
-eq_of a b is = grind (arith, nat_tests)
-
 -- where the day's words are read, in bytes that such a message begins
 day_laid_at : (b : List ℕ) (end : ℕ) → 2 ≤ length b → (m : DayMessage) → DayStands b end m → IsLaid m b
 day_laid_at b end some m s =
@@ -368,10 +365,6 @@ module _ (b : List ℕ) (bytes : IsBytes b) (some : 2 ≤ length b) (first : sli
         inside = s.inside;
       })
       (found ∙ ap (λ (d : ℕ). record { request = AskDay d; len = end }) laid.date)
-    where
-      if_some : (t : Bool) (o : Option MessageRead) (r : MessageRead) → cond t o None ≡ Some r → (t ≡ true) × (o ≡ Some r)
-      if_some true o r e = (refl, e)
-      if_some false o r e = absurd (cc)
 
   numbered_read : (n : ℕ) (read : MessageRead) → slice_index b 1 ≡ n → numbered_at_front b n ≡ Some read → IsRead b read
   numbered_read n read number is = by1 (n == 1) refl is
@@ -415,10 +408,6 @@ module _ (b : List ℕ) (bytes : IsBytes b) (some : 2 ≤ length b) (first : sli
 
 pub front_sound : (b : List ℕ) (read : MessageRead) → IsBytes b → at_front b ≡ Some read → IsRead b read
 front_sound b read bytes is =
-    let tests = if_some (nat_le 2 (length b) && slice_index b 0 == 0x76) (numbered_at_front b (slice_index b 1)) is in
+    let tests = if_some (nat_le 2 (length b) && slice_index b 0 == 0x76) (numbered_at_front b (slice_index b 1)) read is in
     let both = and_split (nat_le 2 (length b)) (slice_index b 0 == 0x76) tests.0 in
     numbered_read b bytes (le_of 2 (length b) both.0) (eq_of (slice_index b 0) 0x76 both.1) (slice_index b 1) read refl tests.1
-  where
-    if_some : (t : Bool) (o : Option MessageRead) → cond t o None ≡ Some read → (t ≡ true) × (o ≡ Some read)
-    if_some true o e = (refl, e)
-    if_some false o e = absurd (cc)

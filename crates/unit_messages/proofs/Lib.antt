@@ -3,3 +3,15 @@ mod Days
 mod Overviews
 mod Fronts
 mod Pieces
+mod Windows
+mod Calls
+mod Choosing
+mod Passing
+mod Counting
+mod SentDays
+mod Joints
+mod Rings
+mod Contents
+mod Lengths
+mod Outlining
+mod Faulting

@@ -3,6 +3,7 @@
 ghost use Rattle.std.specs.Prelude.{◌≡◌, ◌≢◌, ◌≤◌, ◌<◌, ◌+◌, ◌-◌, ◌⊎◌, ◌↔◌, ℕ, List, [], nat_lt, length, false, IfOk, OnOk, OnErr, IfErr, IfSome, IfNone, IsErrOf};
 ghost use Rattle.byte_fields.specs.Images.{bytes_at};
 ghost use Rattle.link_model.specs.Answers.{cut, has_piece};
+ghost use Rattle.unit_messages.specs.declared.joining.TheConstants.{LONGEST};
 ghost use Rattle.unit_messages.specs.Joining.{piece_range, wanted, counter_in, with_piece, IsFaultOf};
 
 use crate::parts::{HEADER, two_in};
@@ -10,12 +11,14 @@ use link_frames::Frame;
 use std::alloc::Global;
 use std::marker::Model;
 use tach_media::Memory;
+use unit_model::layout::{DAY_WORDS, INSERTIONS, PLACES};
 
 /// How many bytes of a message a piece holds, but for the last, which holds fewer.
 pub const PIECE: u32 = 251;
 
-/// The length of the longest message of a unit: that of a day with 2048 insertions, 2880 words and 255 places.
-pub const LONGEST: usize = 277_236;
+/// The length of the longest message of a unit: that of a day with all insertions, words and places that the unit has room for.
+/// Beside them it has 144 bytes, and a ring's pointer of four bytes is none of them.
+pub const LONGEST: u32 = 136 + INSERTIONS.size + DAY_WORDS.size + PLACES.size;
 
 /// Where the piece of a counter, from 1 on, stands in so many bytes behind a message's number, and how many it has; `None`
 /// exactly where they have no such piece.
@@ -52,6 +55,7 @@ pub struct Joiner {
 
 impl Model for Joiner {
     ghost use Rattle.std.specs.Prelude.{vec_capacity};
+    ghost use Rattle.unit_messages.specs.declared.joining.TheConstants.{LONGEST};
     ghost use Rattle.unit_messages.specs.Joining.{Joined};
 
     ghost Value = { Joined };
@@ -119,7 +123,7 @@ impl Joiner {
         self.pieces = 0;
     }
 
-    /// Makes room for the longest message of a unit, of 277236 bytes; it has the bytes that it had.
+    /// Makes room for the longest message of a unit; it has the bytes that it had.
     ///
     /// # Errors
     ///
@@ -127,11 +131,12 @@ impl Joiner {
     pub fn reserve(&mut self) -> Result<(), Memory>
         ensures pieces { self.new.pieces ≡ self.old.pieces }
         ensures bytes { self.new.bytes ≡ self.old.bytes }
-        ensures room { OnOk result (277236 ≤ self.new.room) }
+        ensures room { OnOk result (LONGEST ≤ self.new.room) }
         ensures never_less { self.old.room ≤ self.new.room }
         ensures same { OnErr result (self.new ≡ self.old) }
     {
-        let more = LONGEST - self.bytes.len().min(LONGEST);
+        let longest = LONGEST as usize;
+        let more = longest - self.bytes.len().min(longest);
         self.bytes.reserve(more)?;
         Ok(())
     }

@@ -1,0 +1,178 @@
+//! The entries of the unit's memory that a message has, read one after the other in the order of their ring.
+ghost use Rattle.unit_model.specs.declared.layout.TheConstants.{IMAGE_SIZE};
+ghost use Rattle.std.specs.Prelude.{◌≡◌, ◌≤◌, ◌<◌, ◌+◌, ◌*◌, ◌-◌, IfOk, OnOk, IfSome, [], ◌∷◌, length, is_err};
+ghost use Rattle.std.specs.List.{range_with_len};
+ghost use Rattle.byte_fields.specs.Fields.{joined};
+ghost use Rattle.tach_media.specs.Medium.{Reads};
+ghost use Rattle.gated_ring.specs.Ring.{order};
+ghost use Rattle.unit_journal.specs.Reading.{ReadsIfAny};
+ghost use Rattle.message_model.specs.Sending.{is_in_day};
+ghost use Rattle.unit_messages.specs.Windows.{passed};
+ghost use Rattle.unit_messages.specs.Chosen.{chosen, room_of, chosen_at, shape_of, is_meant, meant, AreEntries};
+
+use crate::parts::four_in;
+use crate::window::Window;
+use tach_media::{Failed, Medium};
+
+/// Which entries of a ring are meant: each, the insertions of which the insertion or the withdrawal lies in a day, or the places
+/// of a day. A day is told by its first second.
+#[derive(Clone, Copy, Debug, PartialEq, Eq)]
+pub enum Choice {
+    Each,
+    Touching(u32),
+    PlaceOn(u32),
+}
+
+/// Entries of one width behind gates of four bytes, of which the first stands at the base.
+#[derive(Clone, Copy, Debug, PartialEq, Eq)]
+pub struct Entries {
+    pub base: u32,
+    pub width: u32,
+    pub count: u32,
+    pub gate: u32,
+    pub choice: Choice,
+}
+
+// The widest entry, an insertion.
+const WIDEST: usize = 129;
+
+// Whether a second lies in the day that begins at another.
+fn is_in_day(date: u32, second: u32) -> bool
+    ensures { result ≡ is_in_day date second }
+{
+    second / 86400 * 86400 == date
+}
+
+impl Choice {
+    // Whether an entry is meant.
+    fn takes(&self, entry: &[u8]) -> bool
+        requires { room_of self.now ≤ length entry.now }
+        ensures { result ≡ chosen self.now entry.now }
+    {
+        match self {
+            Choice::Each => true,
+            Choice::Touching(date) => {
+                is_in_day(*date, four_in(entry, 94)) || is_in_day(*date, four_in(entry, 102))
+            }
+            Choice::PlaceOn(date) => is_in_day(*date, four_in(entry, 18)),
+        }
+    }
+}
+
+impl Entries {
+    // Where the entry at an index begins.
+    fn place_of(&self, index: u32) -> u32
+        requires entries { AreEntries self.now }
+        requires index { index < self.now.count }
+        ensures place { result ≡ self.now.base + index * self.now.width }
+        ensures inside { result + self.now.width ≤ IMAGE_SIZE }
+    {
+        self.base + index * self.width
+    }
+
+    // Whether an entry is there and meant.
+    fn takes(&self, entry: &[u8]) -> bool
+        requires entries { AreEntries self.now }
+        requires whole { length entry.now ≡ self.now.width }
+        ensures { result ≡ is_meant self.now entry.now }
+    {
+        let gate = four_in(entry, self.gate as usize);
+        if gate == 0 {
+            return false;
+        }
+        self.choice.takes(entry)
+    }
+
+    // An entry that was read passes by, where it is there and meant.
+    fn pass_read(&self, entry: &[u8], window: &mut Window)
+        requires entries { AreEntries self.now }
+        requires whole { length entry.now ≡ self.now.width }
+        ensures { window.new ≡ passed window.old (joined (meant self.now entry.now)) }
+    {
+        let takes = self.takes(entry);
+        if !takes {
+            return;
+        }
+        window.pass(entry);
+    }
+
+    // The entry at an index passes by, where it is there and meant.
+    fn pass_one<M: Medium>(
+        &self,
+        unit: &mut M,
+        index: u32,
+        window: &mut Window,
+    ) -> Result<(), Failed>
+        requires unit { (M.state unit.old).size ≡ IMAGE_SIZE }
+        requires entries { AreEntries self.now }
+        requires index { index < self.now.count }
+        ensures passed { OnOk result (IfSome (M.state unit.old).image (λ x. window.new ≡ passed window.old (joined (chosen_at (shape_of self.now) self.now.choice x (index ∷ []))))) }
+        ensures reads { Reads (M.state unit.old) (M.state unit.new) (is_err result) }
+    {
+        let mut room = [0u8; WIDEST];
+        let entry = &mut room[..self.width as usize];
+        let place = self.place_of(index);
+        unit.read_at(place, entry)?;
+        self.pass_read(entry, window);
+        Ok(())
+    }
+
+    // The entries from one index to another pass by.
+    fn pass_from<M: Medium>(
+        &self,
+        unit: &mut M,
+        from: u32,
+        to: u32,
+        window: &mut Window,
+    ) -> Result<(), Failed>
+        requires unit { (M.state unit.old).size ≡ IMAGE_SIZE }
+        requires entries { AreEntries self.now }
+        requires order { from ≤ to }
+        requires below { to ≤ self.now.count }
+        ensures passed { OnOk result (IfSome (M.state unit.old).image (λ x. window.new ≡ passed window.old (joined (chosen_at (shape_of self.now) self.now.choice x (range_with_len from (to - from)))))) }
+        ensures reads { ReadsIfAny (M.state unit.old) (M.state unit.new) (is_err result) }
+    {
+        for index in from..to {
+            let full = window.is_full();
+            if full {
+                return Ok(());
+            }
+            self.pass_one(unit, index, window)?;
+        }
+        Ok(())
+    }
+
+    /// The entries that are there and meant pass by, from the one at an index on and round the end. No more are read than the
+    /// window takes.
+    pub fn pass<M: Medium>(
+        &self,
+        unit: &mut M,
+        turn: u32,
+        window: &mut Window,
+    ) -> Result<(), Failed>
+        requires unit { (M.state unit.old).size ≡ IMAGE_SIZE }
+        requires entries { AreEntries self.now }
+        requires turn { turn ≤ self.now.count }
+        ensures passed { OnOk result (IfSome (M.state unit.old).image (λ x. window.new ≡ passed window.old (joined (chosen_at (shape_of self.now) self.now.choice x (order (shape_of self.now) turn))))) }
+        ensures reads { ReadsIfAny (M.state unit.old) (M.state unit.new) (is_err result) }
+    {
+        self.pass_from(unit, turn, self.count, window)?;
+        self.pass_from(unit, 0, turn, window)?;
+        Ok(())
+    }
+
+    /// How many entries are there and meant.
+    pub fn count<M: Medium>(&self, unit: &mut M) -> Result<u32, Failed>
+        requires unit { (M.state unit.old).size ≡ IMAGE_SIZE }
+        requires entries { AreEntries self.now }
+        requires wide { 0 < self.now.width }
+        ensures count { IfOk result (λ count. IfSome (M.state unit.old).image (λ x. count ≡ length (chosen_at (shape_of self.now) self.now.choice x (range_with_len 0 self.now.count)))) }
+        ensures few { IfOk result (λ count. count ≤ self.now.count) }
+        ensures reads { ReadsIfAny (M.state unit.old) (M.state unit.new) (is_err result) }
+    {
+        let mut window = Window::new(u32::MAX);
+        self.pass_from(unit, 0, self.count, &mut window)?;
+        let passed = (u32::MAX - window.skip()) / self.width;
+        Ok(passed.min(self.count))
+    }
+}

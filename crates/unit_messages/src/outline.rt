@@ -1,0 +1,180 @@
+//! What a message of the unit's image is made of, known before its bytes (Annex IB, Appendix 7, 2.2.6; what this unit puts
+//! into the fields: profile).
+ghost use Rattle.unit_model.specs.declared.layout.TheConstants.{IMAGE_SIZE};
+ghost use Rattle.std.specs.Prelude.{ℕ, List, Some, min, ◌≡◌, ◌≤◌, ◌+◌, ◌*◌, ◌-◌, OnOk, IfSome, is_err, length};
+ghost use Rattle.unit_journal.specs.Reading.{ReadsIfAny};
+ghost use Rattle.unit_messages.specs.declared.joining.TheConstants.{LONGEST};
+ghost use Rattle.unit_messages.specs.Sent.{IsPiece};
+ghost use Rattle.unit_messages.specs.Outlines.{Outlines, HasPassed, IsDayInRange, IsEventInRange, bytes_sent, asked, length_of};
+
+mod content;
+mod finding;
+mod rows;
+
+use crate::window::{ROOM, Window};
+use arrayvec::ArrayVec;
+use content::{pass_day, pass_events, pass_overview, pass_technical};
+pub use finding::find_outline;
+use link_model::Request;
+use std::marker::Model;
+use tach_media::{Failed, Medium};
+
+/// What an overview tells beside fields of the image: the unit's time, and the period's begin and end.
+#[derive(Clone, Copy, Debug, PartialEq, Eq)]
+pub struct Times {
+    pub now: u32,
+    pub begin: u32,
+    pub end: u32,
+}
+
+/// A day as its message has it: its first second, the odometer then, where its words stand and how many they are, and how many
+/// insertions and places it has.
+#[derive(Clone, Copy, Debug, PartialEq, Eq)]
+pub struct DayOutline {
+    pub date: u32,
+    pub odometer: u32,
+    pub words_place: u32,
+    pub words: u32,
+    pub insertions: u32,
+    pub places: u32,
+}
+
+/// How many faults, events and over speedings there are; the begin of the first over speeding, and their number.
+#[derive(Clone, Copy, Debug, PartialEq, Eq)]
+pub struct EventOutline {
+    pub faults: u32,
+    pub events: u32,
+    pub overs: u32,
+    pub first_over: u32,
+    pub over_count: u32,
+}
+
+/// The message that an outline is of.
+#[derive(Clone, Copy, Debug, PartialEq, Eq)]
+pub enum Plan {
+    Overview(Times),
+    Day(DayOutline),
+    Events(EventOutline),
+    Technical,
+}
+
+/// What a message is made of: it is known from one look at the unit, and serves as long as the unit's image stays.
+#[derive(Clone, Copy, Debug, PartialEq, Eq)]
+pub struct Outline {
+    plan: Plan,
+}
+
+impl Model for Outline {
+    ghost use Rattle.unit_messages.specs.declared.outline.Plan.{Plan};
+    ghost use Rattle.unit_messages.specs.Outlines.{IsInRange};
+
+    ghost Value = { Plan };
+
+    ghost view = { λ o. o.plan };
+
+    ghost invariant = { λ o. IsInRange o.plan };
+
+    ghost inverse = { λ plan. record { plan = plan } };
+}
+
+impl Outline {
+    /// The request that the message answers.
+    pub fn request(&self) -> Request
+        ensures { result ≡ asked self.now }
+    {
+        match self.plan {
+            Plan::Overview(_) => Request::Overview,
+            Plan::Day(day) => Request::Day(day.date),
+            Plan::Events(_) => Request::Events,
+            Plan::Technical => Request::Technical,
+        }
+    }
+
+    /// How many bytes the message has, with 76 and its number in front.
+    pub fn len(&self) -> u32
+        ensures len { result ≡ length_of self.now }
+        ensures told { (x : List ℕ) → IMAGE_SIZE ≤ length x → Outlines self.now x → IfSome (bytes_sent x (asked self.now)) (λ bytes. result ≡ length bytes) }
+        ensures some { 2 ≤ result }
+        ensures few { result ≤ LONGEST }
+    {
+        self.total()
+    }
+
+    /// Reads at most 252 bytes of the message, from a place on; none at its end and behind it. Of a unit that changed since, as
+    /// one that tells nothing may, it gives as many bytes as the outline says.
+    pub fn read<M: Medium>(
+        &self,
+        unit: &mut M,
+        from: u32,
+        out: &mut ArrayVec<u8, ROOM>,
+    ) -> Result<(), Failed>
+        requires unit { (M.state unit.old).size ≡ IMAGE_SIZE }
+        requires outlines { IfSome (M.state unit.old).image (Outlines self.now) }
+        ensures piece { OnOk result (IfSome (M.state unit.old).image (λ x. IsPiece x (asked self.now) from (Some (length_of self.now)) out.new.items)) }
+        ensures fits { OnOk result (length out.new.items ≡ min 252 (length_of self.now - from)) }
+        ensures reads { ReadsIfAny (M.state unit.old) (M.state unit.new) (is_err result) }
+    {
+        let mut window = Window::new(from);
+        self.pass(unit, &mut window)?;
+        let due = self.due(from);
+        *out = window.into_piece(due);
+        Ok(())
+    }
+
+    // The bytes of the message, by its numbers.
+    fn total(&self) -> u32
+        ensures len { result ≡ length_of self.now }
+        ensures some { 2 ≤ result }
+        ensures few { result ≤ LONGEST }
+    {
+        match self.plan {
+            Plan::Overview(_) => 623,
+            Plan::Day(day) => day_total(day),
+            Plan::Events(events) => event_total(events),
+            Plan::Technical => 267,
+        }
+    }
+
+    // How many bytes a piece has.
+    fn due(&self, from: u32) -> usize
+        ensures due { result ≡ min 252 (length_of self.now - from) }
+        ensures few { result ≤ 252 }
+    {
+        let len = self.len();
+        (len - len.min(from)).min(ROOM as u32) as usize
+    }
+
+    // The bytes of the message pass by.
+    fn pass<M: Medium>(&self, unit: &mut M, window: &mut Window) -> Result<(), Failed>
+        requires unit { (M.state unit.old).size ≡ IMAGE_SIZE }
+        ensures passed { OnOk result (IfSome (M.state unit.old).image (λ x. Outlines self.now x → HasPassed self.now x window.old window.new)) }
+        ensures reads { ReadsIfAny (M.state unit.old) (M.state unit.new) (is_err result) }
+    {
+        match self.plan {
+            Plan::Overview(times) => pass_overview(unit, times, window),
+            Plan::Day(day) => pass_day(unit, day, window),
+            Plan::Events(events) => pass_events(unit, events, window),
+            Plan::Technical => pass_technical(unit, window),
+        }
+    }
+}
+
+// How many bytes the message of a day has.
+fn day_total(day: DayOutline) -> u32
+    requires { IsDayInRange day }
+    ensures len { result ≡ length_of (Plan.Day day) }
+    ensures some { 2 ≤ result }
+    ensures few { result ≤ LONGEST }
+{
+    144 + 129 * day.insertions + 2 * day.words + 28 * day.places
+}
+
+// How many bytes the message of events and faults has.
+fn event_total(events: EventOutline) -> u32
+    requires { IsEventInRange events }
+    ensures len { result ≡ length_of (Plan.Events events) }
+    ensures some { 2 ≤ result }
+    ensures few { result ≤ LONGEST }
+{
+    143 + 82 * events.faults + 83 * events.events + 31 * events.overs
+}
