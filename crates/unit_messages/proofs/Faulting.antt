@@ -1,5 +1,5 @@
 -- What is said of an answer whose faults are known.
-use Rattle.std.proofs.Common.{◌≡◌, ℕ, ⊥, absurd, Option, Some, None, Result, Ok, Err, sym, subst}
+use Rattle.std.proofs.Common.{◌≡◌, ℕ, Option, Some, None, Result, Ok, Err, sym, subst}
 use Rattle.std.specs.Prelude.{OnOk, IfErr, IfNone}
 use Rattle.unit_messages.specs.declared.sending.PieceFault.{PieceFault}
 use Rattle.unit_messages.specs.declared.sending.PieceFault.TheVariants.{Failed}
@@ -15,6 +15,6 @@ never_bad (Ok x) P failed = tt
 never_bad (Err fault) P failed = subst (λ (f : PieceFault). IfBadPiece f P) (sym failed) tt
 
 -- what is never none is as is said of none
-pub as_none : {T P : Type 0} (found : Option T) → IfNone found ⊥ → IfNone found P
-as_none (Some x) never = tt
-as_none None never = absurd never
+pub as_none : {T : Type 0} (P : Type 0) (found : Option T) → IfNone found ⊥ → IfNone found P
+as_none P (Some x) never = tt
+as_none P None never = absurd never

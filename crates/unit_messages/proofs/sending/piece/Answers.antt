@@ -1,4 +1,4 @@
-use Rattle.std.proofs.Common.{◌≡◌, ◌∙◌, ⊥, Option, Some, None, IfSome, sym, subst, refl, inl, rules}
+use Rattle.std.proofs.Common.{◌≡◌, ◌∙◌, Option, Some, None, IfSome, sym, subst, refl, inl, rules}
 use Rattle.std.specs.Prelude.{IfOk, IfErr, IfNone, OnOk}
 use Rattle.std.proofs.lemmas.Result.{IfOk-weaker}
 use Rattle.unit_model.specs.Decoding.{Decodes, first_bad_place}
@@ -49,7 +49,7 @@ returns-in-Some-clause-piece g c =
 
 pub returns-in-Some-clause-none : goal.returns-in-Some-clause-none
 returns-in-Some-clause-none g c =
-    IfOk-weaker c.piece_of.result (λ found. IfNone found ⊥) (λ found. IfNone found (c.piece_of.new.out ≡ c.args.out.now)) (λ found it. as_none found it) c.piece_of.ensures.some
+    IfOk-weaker c.piece_of.result (λ found. IfNone found ⊥) (λ found. IfNone found (c.piece_of.new.out ≡ c.args.out.now)) (λ found it. as_none _ found it) c.piece_of.ensures.some
 
 pub returns-in-Some-clause-decodes : goal.returns-in-Some-clause-decodes
 returns-in-Some-clause-decodes g c = ok_always c.piece_of.result c.in_ok-journal.ensures.decodes
