@@ -5,13 +5,13 @@ ghost use Rattle.card_layout.specs.Application.{IsApplication};
 ghost use Rattle.card_layout.specs.Files.{image_size_of};
 ghost use Rattle.card_retention.specs.Expected.{Counted, with_entry};
 ghost use Rattle.card_retention.specs.Shown.{Bound, AllUpTo};
-ghost use Rattle.card_retention.specs.Entries.{newest_minute, newest_word, closed_at};
+ghost use Rattle.card_retention.specs.Entries.{newest_minute, closed_at};
 ghost use Rattle.card_image.specs.Fields.{file_bytes, card_days, card_number, end_mark, session_time};
 ghost use Rattle.card_image.specs.Judging.{IsValid};
 ghost use Rattle.card_image.specs.View.{card_view};
 ghost use Rattle.card_session.specs.Sessions.{Session, IsSession};
 ghost use Rattle.card_session.specs.Cards.{IsCardKeeping, IsCardClosed, IsCardClosing};
-ghost use Rattle.card_session.specs.Overwriting.{GoesOn, IsRepairable, ShowsEntries, BeginsBehind, and_entry};
+ghost use Rattle.card_session.specs.Overwriting.{GoesOn, IsRepairable, ShowsEntries, TellsNoLater, BeginsBehind, and_entry};
 
 /// A stop in a keep leaves the session time, the events and the number of a card.
 pub fn a_keep_leaves_the_session()
@@ -58,10 +58,12 @@ pub fn a_keep_shows_the_entries_of_before()
         (all : List Entry) → AllUpTo (end_mark s.application x) all → ShowsEntries s.application all x → IsCardKeeping s e odometer x y → end_mark s.application y ≡ end_mark s.application x → ShowsEntries s.application all y }
 {}
 
-/// Once it is the entry's minute, the card shows that entry behind them too, where no word stood behind the old end mark.
+/// Once it is the entry's minute, the card shows that entry behind them too, where no minute behind the old end mark told one; and none
+/// behind the new one does.
 pub fn a_keep_shows_its_entry()
-    ensures { (s : Session) (e : Entry) (odometer : ℕ) (x y : List ℕ) → IsApplication s.application → IsSession s x → s.minute < e.minute → BeginsBehind s.application e x → newest_word (card_days s.application x) ≤ end_mark s.application x →
+    ensures entry { (s : Session) (e : Entry) (odometer : ℕ) (x y : List ℕ) → IsApplication s.application → IsSession s x → s.minute < e.minute → BeginsBehind s.application e x → TellsNoLater s.application x →
         (all : List Entry) → AllUpTo (end_mark s.application x) all → ShowsEntries s.application all x → IsCardKeeping s e odometer x y → end_mark s.application y ≡ e.minute → ShowsEntries s.application (all ++ e ∷ []) y }
+    ensures silent { (s : Session) (e : Entry) (odometer : ℕ) (x y : List ℕ) → IsApplication s.application → IsSession s x → s.minute < e.minute → IsCardKeeping s e odometer x y → end_mark s.application y ≡ e.minute → TellsNoLater s.application y }
 {}
 
 /// At each moment of a withdrawal a card shows the entries of before whose day is there, and no other.
