@@ -1,0 +1,2 @@
+pub mod IfAny
+pub mod Parts
