@@ -1,26 +1,35 @@
--- A unit on the link, byte after byte.
-use Rattle.std.specs.Prelude.{◌≡◌, ℕ, Option, List}
+-- A unit on the link, frame after frame.
+use Rattle.std.specs.Prelude.{◌≡◌, ℕ, true, Option, List, [], ◌∷◌, ◌++◌, map}
 use Rattle.std.specs.List.{concat}
 use Rattle.std.specs.Io.KnownBytes.{Appends}
 use Rattle.link_model.specs.declared.request.Request.{Request}
 use Rattle.link_model.specs.declared.side.End.TheVariants as side
-use Rattle.link_model.specs.Answers.{Idle, frames_out}
-use Rattle.answer_table.specs.Running.{Line, line_after, answers_from}
-use Rattle.link_service.specs.declared.line.Line.{Line as CodeLine}
+use Rattle.link_model.specs.Frames.{Heard}
+use Rattle.link_model.specs.Writing.{written_to}
+use Rattle.link_model.specs.Answers.{LinkState, run_from}
+use Rattle.link_frames.specs.Scanning.{Scan}
+use Rattle.answer_table.specs.Asking.{asks_unit}
+use Rattle.answer_table.specs.Running.{state_after}
 
--- what has come of a frame that is not whole yet, and where the session stands
-abbrev pub line_of : CodeLine → Line
-line_of l = record { kept = l.scanner.kept; state = l.session.state }
+-- a scanner of the unit's side, which has this of a frame that is not whole yet
+abbrev pub listening : List ℕ → Scan
+listening kept = record { end = side.Unit; kept = kept }
 
--- it hears the unit's side
-abbrev pub IsListening : CodeLine → Type 0
-IsListening l = l.scanner.end ≡ side.Unit
+-- the bytes of answers, as they go to the loader
+abbrev pub bytes_of : List (List ℕ) → List ℕ
+bytes_of answers = concat (map (written_to side.Loader) answers)
 
--- THE ANSWERS: the bytes of the frames that go out for the bytes that come in
-abbrev pub answers_to : (Request → Option (List ℕ)) → List ℕ → List ℕ
-answers_to messages bytes = concat (frames_out messages Idle bytes)
+-- after these were heard the unit stands so, and the sink has taken the answers
+pub record IsAnswered (messages : Request → Option (List ℕ)) (before : LinkState) (seen : List Heard) (after : LinkState) (held sunk : Option (List ℕ)) : Type 0 where
+  pub stands : after ≡ state_after messages before seen
+  pub sent : Appends held sunk (bytes_of (run_from messages before seen))
 
--- where the line stands after these bytes, and the sink has taken their answers
-pub record IsAnswered (messages : Request → Option (List ℕ)) (before : Line) (bytes : List ℕ) (after : Line) (held sunk : Option (List ℕ)) : Type 0 where
-  pub stands : after ≡ line_after messages before bytes
-  pub sent : Appends held sunk (answers_from messages before bytes)
+-- The unit ended the answers at a frame that was heard, whose answer hangs on it: what was heard before was answered, and nothing
+-- else went to the sink.
+pub record StopsAsking (messages : Request → Option (List ℕ)) (state : LinkState) (seen : List Heard) (held sunk : Option (List ℕ)) : Type 0 where
+  pub before : List Heard
+  pub asking : Heard
+  pub behind : List Heard
+  pub seen_are : seen ≡ before ++ asking ∷ behind
+  pub asks : asks_unit (state_after messages state before) asking ≡ true
+  pub sent : Appends held sunk (bytes_of (run_from messages state before))

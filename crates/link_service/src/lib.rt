@@ -2,10 +2,12 @@
 //! answered by a session, and the answers go to a sink. It takes no memory from the heap.
 #![tactic(auto)]
 
+mod fault;
 mod line;
 mod service;
 
-pub use service::{MOST, ServeFault, serve};
+pub use fault::ServeFault;
+pub use service::{MOST, serve};
 
 #[cfg(test)]
 mod tests;

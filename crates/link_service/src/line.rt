@@ -1,24 +1,20 @@
-ghost use Rattle.std.specs.Prelude.{◌≡◌, ℕ, ◌≤◌, ◌++◌, ◌<◌, [], true, OnOk, OnErr, IfErr, IfSome, Some, List, map, option_to_list, length};
-ghost use Rattle.std.specs.List.{concat};
-ghost use Rattle.std.specs.Io.KnownBytes.{Appends};
+ghost use Rattle.std.specs.Prelude.{◌≡◌, ℕ, ◌≤◌, ◌<◌, [], ◌∷◌, IfOk, OnOk, OnErr, IfErr, IfSome, Some, List, length, take};
 ghost use Rattle.tach_media.specs.Medium.{Rose};
-ghost use Rattle.tach_media.specs.Streams.{AppendsFront};
 ghost use Rattle.link_model.specs.declared.side.End.TheVariants as side;
-ghost use Rattle.link_model.specs.Writing.{written_to};
-ghost use Rattle.link_model.specs.Answers.{answered};
+ghost use Rattle.link_model.specs.Hearing.{heard_in, kept_after};
+ghost use Rattle.link_model.specs.Answers.{Idle};
 ghost use Rattle.link_frames.specs.Seen.{meant};
 ghost use Rattle.message_model.specs.Sending.{content_sent};
 ghost use Rattle.unit_model.specs.Decoding.{first_bad_place};
 ghost use Rattle.unit_journal.specs.Reading.{ReadsIfAny};
-ghost use Rattle.transfer_session.specs.Told.{Knows};
-ghost use Rattle.answer_table.specs.Running.{fresh_line, answers_from};
-ghost use Rattle.link_service.specs.Lines.{line_of, IsAnswered, IsListening};
-ghost use Rattle.link_service.specs.Served.{has_failed, IsCaused};
+ghost use Rattle.transfer_session.specs.Told.{Knows, fresh};
+ghost use Rattle.link_service.specs.Lines.{listening, IsAnswered};
+ghost use Rattle.link_service.specs.Served.{Stops, StopsWithin, has_failed, IsCaused};
 
-use crate::service::ServeFault;
+use crate::fault::ServeFault;
 use link_frames::{End, Scanner, Seen, write_frame};
 use tach_media::{Medium, Sink, put_all};
-use transfer_session::{AnswerFault, Session};
+use transfer_session::Session;
 
 /// A unit on the link: what it hears, and where it stands.
 #[derive(Drop)]
@@ -30,8 +26,8 @@ pub struct Line {
 impl Line {
     /// Nothing has come yet.
     pub fn new() -> Line
-        ensures fresh { line_of result ≡ fresh_line }
-        ensures listens { IsListening result }
+        ensures scanner { result.scanner ≡ listening [] }
+        ensures session { result.session ≡ fresh Idle }
     {
         Line {
             scanner: Scanner::new(End::Unit),
@@ -39,7 +35,7 @@ impl Line {
         }
     }
 
-    /// Answers the frames in these bytes.
+    /// Answers the frames that end in these bytes.
     pub fn answer<K: Sink, U: Medium>(
         &mut self,
         bytes: &[u8],
@@ -47,61 +43,111 @@ impl Line {
         unit: &mut U,
     ) -> Result<(), ServeFault>
         requires unit { (U.state unit.old).size ≡ 2485808 }
-        requires listens { IsListening self.old }
+        requires listens { self.old.scanner ≡ listening self.old.scanner.kept }
         requires knows { IfSome (U.state unit.old).image (Knows self.old.session) }
+        ensures kept { OnOk result (self.new.scanner ≡ listening (kept_after side.Unit self.old.scanner.kept bytes.now)) }
         ensures answered { OnOk result (IfSome (U.state unit.old).image (λ x.
-            IsAnswered (content_sent x) (line_of self.old) bytes.now (line_of self.new) (K.held sink.old) (K.held sink.new))) }
-        ensures front { OnErr result (IfSome (U.state unit.old).image (λ x.
-            AppendsFront (K.held sink.old) (K.held sink.new) (answers_from (content_sent x) (line_of self.old) bytes.now))) }
-        ensures listens { OnOk result (IsListening self.new) }
+            IsAnswered (content_sent x) self.old.session.state (heard_in side.Unit self.old.scanner.kept bytes.now) self.new.session.state (K.held sink.old) (K.held sink.new))) }
         ensures knows { OnOk result (IfSome (U.state unit.old).image (Knows self.new.session)) }
-        ensures cause { IfErr result (λ fault. IsCaused fault (Rose (K.faults sink.old) (K.faults sink.new)) (λ p. IfSome (U.state unit.old).image (λ x. first_bad_place x ≡ Some p))) }
+        ensures stops { IfErr result (λ fault. IfSome (U.state unit.old).image (λ x.
+            Stops fault (content_sent x) self.old.session.state (heard_in side.Unit self.old.scanner.kept bytes.now) (K.held sink.old) (K.held sink.new))) }
+        ensures cause { IfErr result (λ fault. IsCaused fault ⊥ (Rose (K.faults sink.old) (K.faults sink.new)) (λ p. IfSome (U.state unit.old).image (λ x. first_bad_place x ≡ Some p))) }
         ensures counts { K.faults sink.old ≤ K.faults sink.new }
         ensures unit { ReadsIfAny (U.state unit.old) (U.state unit.new) (has_failed result) }
     {
-        let mut rest = bytes;
-        while !rest.is_empty() {
-            let (taken, heard) = self.scanner.feed(rest);
-            rest = &rest[taken..];
-            if let Some(seen) = heard {
-                self.answer_frame(&seen, sink, unit)?;
-            }
+        let mut done = 0usize;
+        while done < bytes.len() {
+            done += self.answer_next(&bytes[done..], sink, unit)?;
         }
         Ok(())
     }
 
-    // Answers a frame, if there is an answer to it.
-    fn answer_frame<K: Sink, U: Medium>(
+    /// Answers the frames that end in these bytes, of which so many may come; where more come, those in the first.
+    pub fn answer_within<K: Sink, U: Medium>(
         &mut self,
-        seen: &Seen,
+        bytes: &[u8],
+        left: usize,
         sink: &mut K,
         unit: &mut U,
     ) -> Result<(), ServeFault>
         requires unit { (U.state unit.old).size ≡ 2485808 }
+        requires listens { self.old.scanner ≡ listening self.old.scanner.kept }
         requires knows { IfSome (U.state unit.old).image (Knows self.old.session) }
-        ensures sent { OnOk result (IfSome (U.state unit.old).image (λ x.
-            Appends (K.held sink.old) (K.held sink.new) (concat (map (written_to side.Loader) (option_to_list (answered (content_sent x) self.old.session.state (meant seen.now)).answer))))) }
-        ensures state { OnOk result (IfSome (U.state unit.old).image (λ x.
-            self.new.session.state ≡ (answered (content_sent x) self.old.session.state (meant seen.now)).state)) }
-        ensures front { OnErr result (IfSome (U.state unit.old).image (λ x.
-            AppendsFront (K.held sink.old) (K.held sink.new) (concat (map (written_to side.Loader) (option_to_list (answered (content_sent x) self.old.session.state (meant seen.now)).answer))))) }
-        ensures scanner { self.new.scanner ≡ self.old.scanner }
+        ensures few { OnOk result (length bytes.now ≤ left) }
+        ensures kept { OnOk result (self.new.scanner ≡ listening (kept_after side.Unit self.old.scanner.kept bytes.now)) }
+        ensures answered { OnOk result (IfSome (U.state unit.old).image (λ x.
+            IsAnswered (content_sent x) self.old.session.state (heard_in side.Unit self.old.scanner.kept bytes.now) self.new.session.state (K.held sink.old) (K.held sink.new))) }
         ensures knows { OnOk result (IfSome (U.state unit.old).image (Knows self.new.session)) }
-        ensures cause { IfErr result (λ fault. IsCaused fault (Rose (K.faults sink.old) (K.faults sink.new)) (λ p. IfSome (U.state unit.old).image (λ x. first_bad_place x ≡ Some p))) }
+        ensures stops { IfErr result (λ fault. IfSome (U.state unit.old).image (λ x.
+            StopsWithin fault (content_sent x) self.old.session.state self.old.scanner.kept left bytes.now (K.held sink.old) (K.held sink.new))) }
+        ensures cause { IfErr result (λ fault. IsCaused fault ⊥ (Rose (K.faults sink.old) (K.faults sink.new)) (λ p. IfSome (U.state unit.old).image (λ x. first_bad_place x ≡ Some p))) }
         ensures counts { K.faults sink.old ≤ K.faults sink.new }
         ensures unit { ReadsIfAny (U.state unit.old) (U.state unit.new) (has_failed result) }
     {
-        let answer = match self.session.answer(unit, seen) {
-            Ok(answer) => answer,
-            Err(AnswerFault::Failed) => return Err(ServeFault::Failed),
-            Err(AnswerFault::BadUnit(place)) => return Err(ServeFault::BadUnit(place)),
-        };
-        let Some(frame) = answer else {
-            return Ok(());
-        };
-        if put_all(sink, write_frame(End::Unit, &frame).as_slice()).is_err() {
-            return Err(ServeFault::WriteFault);
+        if bytes.len() > left {
+            self.answer(&bytes[..left], sink, unit)?;
+            return Err(ServeFault::TooLong);
         }
+        self.answer(bytes, sink, unit)?;
         Ok(())
+    }
+
+    // Takes bytes up to the end of the next frame, or all of them, answers the frame, and says how many it took.
+    fn answer_next<K: Sink, U: Medium>(
+        &mut self,
+        bytes: &[u8],
+        sink: &mut K,
+        unit: &mut U,
+    ) -> Result<usize, ServeFault>
+        requires some { 0 < length bytes.now }
+        requires unit { (U.state unit.old).size ≡ 2485808 }
+        requires listens { self.old.scanner ≡ listening self.old.scanner.kept }
+        requires knows { IfSome (U.state unit.old).image (Knows self.old.session) }
+        ensures taken { IfOk result (λ n. (0 < n) × (n ≤ length bytes.now)) }
+        ensures kept { IfOk result (λ n. self.new.scanner ≡ listening (kept_after side.Unit self.old.scanner.kept (take n bytes.now))) }
+        ensures answered { IfOk result (λ n. IfSome (U.state unit.old).image (λ x.
+            IsAnswered (content_sent x) self.old.session.state (heard_in side.Unit self.old.scanner.kept (take n bytes.now)) self.new.session.state (K.held sink.old) (K.held sink.new))) }
+        ensures knows { OnOk result (IfSome (U.state unit.old).image (Knows self.new.session)) }
+        ensures stops { IfErr result (λ fault. IfSome (U.state unit.old).image (λ x.
+            Stops fault (content_sent x) self.old.session.state (heard_in side.Unit self.old.scanner.kept bytes.now) (K.held sink.old) (K.held sink.new))) }
+        ensures cause { IfErr result (λ fault. IsCaused fault ⊥ (Rose (K.faults sink.old) (K.faults sink.new)) (λ p. IfSome (U.state unit.old).image (λ x. first_bad_place x ≡ Some p))) }
+        ensures counts { K.faults sink.old ≤ K.faults sink.new }
+        ensures unit { ReadsIfAny (U.state unit.old) (U.state unit.new) (has_failed result) }
+    {
+        let (taken, heard) = self.scanner.feed(bytes);
+        let Some(seen) = heard else {
+            return Ok(taken);
+        };
+        answer_frame(&mut self.session, &seen, sink, unit)?;
+        Ok(taken)
+    }
+}
+
+// Answers a frame, if there is an answer to it.
+fn answer_frame<K: Sink, U: Medium>(
+    session: &mut Session,
+    seen: &Seen,
+    sink: &mut K,
+    unit: &mut U,
+) -> Result<(), ServeFault>
+    requires unit { (U.state unit.old).size ≡ 2485808 }
+    requires knows { IfSome (U.state unit.old).image (Knows session.old) }
+    ensures answered { OnOk result (IfSome (U.state unit.old).image (λ x.
+        IsAnswered (content_sent x) session.old.state (meant seen.now ∷ []) session.new.state (K.held sink.old) (K.held sink.new))) }
+    ensures knows { OnOk result (IfSome (U.state unit.old).image (Knows session.new)) }
+    ensures stops { IfErr result (λ fault. IfSome (U.state unit.old).image (λ x.
+        Stops fault (content_sent x) session.old.state (meant seen.now ∷ []) (K.held sink.old) (K.held sink.new))) }
+    ensures cause { IfErr result (λ fault. IsCaused fault ⊥ (Rose (K.faults sink.old) (K.faults sink.new)) (λ p. IfSome (U.state unit.old).image (λ x. first_bad_place x ≡ Some p))) }
+    ensures counts { K.faults sink.old ≤ K.faults sink.new }
+    ensures unit { ReadsIfAny (U.state unit.old) (U.state unit.new) (has_failed result) }
+{
+    let answer = session.answer(unit, seen)?;
+    let Some(frame) = answer else {
+        return Ok(());
+    };
+    let bytes = write_frame(End::Unit, &frame);
+    match put_all(sink, bytes.as_slice()) {
+        Ok(()) => Ok(()),
+        Err(_) => Err(ServeFault::WriteFault),
     }
 }

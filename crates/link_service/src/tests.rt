@@ -1,12 +1,9 @@
-ghost use Rattle.std.specs.Prelude.{◌≡◌, ◌<◌, IfOk, vec_len};
-ghost use Rattle.tach_media.specs.MemMedium.{memory_state};
-ghost use Rattle.unit_model.specs.Image.{IsUnit};
+ghost use Rattle.std.specs.declared.option.Option.TheVariants.{None as Untold};
 
-use crate::line::Line;
 use crate::{ServeFault, serve};
 use std::alloc::{AllocError, Global};
 use std::test::*;
-use tach_media::{MemMedium, MemSink, MemSource, Memory};
+use tach_media::{AbsentMedium, Failed, MemSink, MemSource, Source};
 use unit_model::layout::IMAGE_SIZE;
 
 /// From the start of communication to its end, with a request before the upload, an unknown service, one that is too short, a wrong
@@ -28,19 +25,25 @@ const ANSWERED: [u8; 67] = [
     0x01, 0xC2, 0x21,
 ];
 
-/// So many zeros.
-fn zeros(alloc: Global, count: usize) -> Result<Vec<u8>, AllocError>
-    ensures { IfOk result (λ bytes. vec_len bytes ≡ count) }
-{
-    Ok(vec![in alloc; 0u8; count]?)
+/// A source that gives so many of these bytes at a time, and tells nothing.
+#[derive(Drop)]
+struct Pieces {
+    piece: usize,
+    at: usize,
 }
 
-/// A unit in memory that nobody formatted.
-fn blank(alloc: Global) -> Result<MemMedium, Memory>
-    ensures { IfOk result (λ unit. IsUnit (memory_state unit.log unit.counts)) }
-{
-    let image = zeros(alloc, IMAGE_SIZE as usize)?;
-    MemMedium::new(alloc, image, 0, 0, Vec::new(alloc))
+impl Source for Pieces {
+    ghost left = { λ _. Untold };
+
+    ghost faults = { λ _. 0 };
+
+    fn read(&mut self, buf: &mut [u8]) -> Result<usize, Failed> {
+        let rest = &HEARD[self.at.min(HEARD.len())..];
+        let count = self.piece.min(rest.len()).min(buf.len());
+        buf[..count].copy_from_slice(&rest[..count]);
+        self.at = self.at.saturating_add(count);
+        Ok(count)
+    }
 }
 
 /// These bytes, in a vector with the room for them alone.
@@ -50,46 +53,84 @@ fn copied(alloc: Global, bytes: &[u8]) -> Result<Vec<u8>, AllocError> {
     Ok(list)
 }
 
-/// What is answered to the stream that comes in pieces of so many bytes.
-fn answered(alloc: Global, piece: usize) -> Result<MemSink, Memory>
-    requires { 0 < piece }
-{
-    let mut unit = blank(alloc)?;
-    let mut sink = MemSink::new(Vec::with_capacity(alloc, 100)?, Vec::new(alloc));
-    let mut line = Line::new();
-    for part in HEARD.chunks(piece) {
-        let _ = line.answer(part, &mut sink, &mut unit);
-    }
-    Ok(sink)
+/// These numbers.
+fn listed(alloc: Global, numbers: &[u64]) -> Result<Vec<u64>, AllocError> {
+    let mut list = Vec::new(alloc);
+    list.extend_from_slice(numbers)?;
+    Ok(list)
 }
 
 #[test]
 fn answers_in_any_pieces(rt: HostRuntime) {
     for piece in [1, 2, 7, 255] {
-        let sink = answered(rt.alloc(), piece).unwrap();
+        let mut unit = AbsentMedium::new(IMAGE_SIZE);
+        let mut source = Pieces { piece, at: 0 };
+        let mut sink = MemSink::new(
+            Vec::with_capacity(rt.alloc(), 100).unwrap(),
+            Vec::new(rt.alloc()),
+        );
+        assert_eq!(rt; serve(&mut source, &mut sink, &mut unit), Ok(()));
         assert_eq!(rt; sink.held(), &ANSWERED[..]);
     }
 }
 
+/// A service of these bytes, over a unit that is not there: how it ends, and what the sink holds. These calls of the source and of the
+/// sink fail, each counted from 0; the sink has so much room.
+fn served(
+    alloc: Global,
+    bytes: &[u8],
+    source_fails: &[u64],
+    sink_fails: &[u64],
+    room: usize,
+) -> Result<(Result<(), ServeFault>, MemSink), AllocError> {
+    let mut unit = AbsentMedium::new(IMAGE_SIZE);
+    let mut source = MemSource::new(copied(alloc, bytes)?, listed(alloc, source_fails)?);
+    let mut sink = MemSink::new(Vec::with_capacity(alloc, room)?, listed(alloc, sink_fails)?);
+    let ended = serve(&mut source, &mut sink, &mut unit);
+    Ok((ended, sink))
+}
+
 #[test]
 fn serves_a_source_to_its_end(rt: HostRuntime) {
-    let alloc = rt.alloc();
-    let mut unit = blank(alloc).unwrap();
-    let mut source = MemSource::new(copied(alloc, &HEARD).unwrap(), Vec::new(alloc));
-    let mut sink = MemSink::new(Vec::with_capacity(alloc, 100).unwrap(), Vec::new(alloc));
-    assert_eq!(rt; serve(&mut source, &mut sink, &mut unit), Ok(()));
+    let (ended, sink) = served(rt.alloc(), &HEARD, &[], &[], 100).unwrap();
+    assert_eq!(rt; ended, Ok(()));
     assert_eq!(rt; sink.held(), &ANSWERED[..]);
 }
 
 #[test]
 fn a_full_sink_ends_the_service(rt: HostRuntime) {
-    let alloc = rt.alloc();
-    let mut unit = blank(alloc).unwrap();
-    let mut source = MemSource::new(copied(alloc, &HEARD).unwrap(), Vec::new(alloc));
-    let mut sink = MemSink::new(Vec::with_capacity(alloc, 10).unwrap(), Vec::new(alloc));
-    assert_eq!(rt;
-        serve(&mut source, &mut sink, &mut unit),
-        Err(ServeFault::WriteFault)
-    );
+    let (ended, sink) = served(rt.alloc(), &HEARD, &[], &[], 10).unwrap();
+    assert_eq!(rt; ended, Err(ServeFault::WriteFault));
     assert_eq!(rt; sink.held(), &ANSWERED[..10]);
+}
+
+/// The third answer fails: the two before it were written.
+#[test]
+fn a_failed_sink_ends_the_service(rt: HostRuntime) {
+    let (ended, sink) = served(rt.alloc(), &HEARD, &[], &[2], 100).unwrap();
+    assert_eq!(rt; ended, Err(ServeFault::WriteFault));
+    assert_eq!(rt; sink.held(), &ANSWERED[..16]);
+}
+
+/// What came before the source failed is answered.
+#[test]
+fn a_failed_source_ends_the_service(rt: HostRuntime) {
+    let (ended, sink) = served(rt.alloc(), &HEARD, &[1], &[], 100).unwrap();
+    assert_eq!(rt; ended, Err(ServeFault::ReadFault));
+    assert_eq!(rt; sink.held(), &ANSWERED[..]);
+    let (ended, sink) = served(rt.alloc(), &HEARD, &[0], &[], 100).unwrap();
+    assert_eq!(rt; ended, Err(ServeFault::ReadFault));
+    assert_eq!(rt; sink.held(), &[][..]);
+}
+
+/// A request of the overview behind the first frames: the unit is called at it and not before, and it is not there.
+#[test]
+fn a_unit_is_called_where_it_is_asked(rt: HostRuntime) {
+    let mut bytes = copied(rt.alloc(), &HEARD[..34]).unwrap();
+    bytes
+        .extend_from_slice(&[0x80, 0xEE, 0xF0, 0x02, 0x36, 0x01, 0x97])
+        .unwrap();
+    let (ended, sink) = served(rt.alloc(), bytes.as_slice(), &[], &[], 100).unwrap();
+    assert_eq!(rt; ended, Err(ServeFault::Failed));
+    assert_eq!(rt; sink.held(), &ANSWERED[..31]);
 }

@@ -1,7 +1,7 @@
 -- Two runs of calls that only read, of which there may be none.
-use Rattle.std.proofs.Common.{ℕ, ◌≤◌, inl, inr, Bool, false, refl, sym, ◌∙◌, subst}
-use Rattle.tach_media.specs.Medium.{State, Reads, Rose}
-use Rattle.tach_media.proofs.Runs.{after_reads, reads_then}
+use Rattle.std.proofs.Common.{◌≡◌, ℕ, ◌≤◌, inl, inr, Bool, false, refl, sym, ◌∙◌, subst}
+use Rattle.tach_media.specs.Medium.{State, Reads, Rose, Unchanged}
+use Rattle.tach_media.proofs.Runs.{starts, after_reads, reads_then}
 use Rattle.gated_ring.specs.Loading.{MadeNoCall}
 use Rattle.unit_journal.specs.Reading.{ReadsIfAny}
 
@@ -54,3 +54,12 @@ if_any_then (inl n) (inl m) = inl (m.0, no_calls n.1 m.1)
 if_any_then (inl n) (inr r) = inr (none_then_reads n.1 r)
 if_any_then {old} {mid} {new} (inr r) (inl m) = inr (subst (λ (f : Bool). Reads old new f) (sym m.0) (reads_then_none r m.1))
 if_any_then (inr r) (inr q) = inr (reads_then r q)
+
+-- no call yet
+pub no_reads_yet : (s : State) → ReadsIfAny s s false
+no_reads_yet s = inl (refl, record { same = refl; leaves = starts s Unchanged; clock = refl; works = refl; faults = refl; breakdowns = refl })
+
+-- the size stays
+pub same_size : {old new : State} {failed : Bool} → ReadsIfAny old new failed → new.size ≡ old.size
+same_size (inl none) = none.1.leaves.size
+same_size (inr reads) = reads.leaves.size

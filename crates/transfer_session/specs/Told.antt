@@ -2,7 +2,7 @@
 use Rattle.std.specs.Prelude.{◌≡◌, ℕ, Bool, true, false, Result, Ok, Err, Option, None, IfSome, is_some, List}
 use Rattle.link_model.specs.Answers.{LinkState}
 use Rattle.unit_model.specs.Decoding.{Decodes}
-use Rattle.unit_journal.specs.Image.{Notes}
+use Rattle.unit_journal.specs.declared.notes.Notes.{Notes}
 use Rattle.unit_journal.specs.Reading.{AreRight}
 use Rattle.transfer_session.specs.declared.outline.Plan.{Plan}
 use Rattle.transfer_session.specs.Outlines.{Outlines}

@@ -9,7 +9,7 @@ ghost use Rattle.transfer_session.specs.Outlines.{Outlines, IsOutlined};
 ghost use Rattle.answer_table.specs.Sending.{IsPart};
 ghost use Rattle.transfer_session.specs.Told.{IfBadUnit, has_failed};
 
-use crate::outline::{Outline, find_outline};
+use crate::outline::{Messages, Outline};
 use answer_table::MOST;
 use arrayvec::ArrayVec;
 use link_model::Request;
@@ -61,7 +61,8 @@ pub fn judge<M: Medium>(unit: &mut M) -> Result<Journal, AnswerFault>
 }
 
 /// Reads a part of a message of a unit that was judged. The outline that is known may be this message's.
-pub fn part_of<M: Medium>(
+pub fn part_of<T: Messages, M: Medium>(
+    messages: &T,
     journal: &Journal,
     unit: &mut M,
     known: &Option<Outline>,
@@ -78,27 +79,26 @@ pub fn part_of<M: Medium>(
     ensures outline { IfOk result (λ part. IfSome (M.state unit.old).image (λ x. IfSome part.outline (λ o. Outlines o x))) }
     ensures reads { ReadsIfAny (M.state unit.old) (M.state unit.new) (is_err result) }
 {
-    let outline = outline_of(journal, unit, known, request)?;
+    let outline = outline_of(messages, journal, unit, known, request)?;
     let mut bytes = ArrayVec::new();
-    match outline {
-        None => Ok(Part {
+    let Some(message) = outline else {
+        return Ok(Part {
             told: None,
             bytes,
             outline,
-        }),
-        Some(message) => {
-            message.read(unit, from, &mut bytes)?;
-            Ok(Part {
-                told: Some(message.len()),
-                bytes,
-                outline,
-            })
-        }
-    }
+        });
+    };
+    messages.read(&message, unit, from, &mut bytes)?;
+    Ok(Part {
+        told: Some(message.len()),
+        bytes,
+        outline,
+    })
 }
 
 // The outline of a message; the one that is known where it is this message's.
-fn outline_of<M: Medium>(
+fn outline_of<T: Messages, M: Medium>(
+    messages: &T,
     journal: &Journal,
     unit: &mut M,
     known: &Option<Outline>,
@@ -116,5 +116,5 @@ fn outline_of<M: Medium>(
             return Ok(Some(*message));
         }
     }
-    find_outline(journal, unit, request)
+    messages.find_outline(journal, unit, request)
 }

@@ -7,4 +7,5 @@ mod outline;
 mod session;
 
 pub use asking::AnswerFault;
+pub use outline::Messages;
 pub use session::Session;

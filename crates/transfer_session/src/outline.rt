@@ -47,46 +47,37 @@ impl Outline {
 
     pub fn len(&self) -> u32
         ensures len { result ≡ length_of self.now }
-        ensures least { 2 ≤ result }
+        ensures some { 2 ≤ result }
     {
         let _plan = self.plan;
         623
     }
+}
 
-    pub fn read<M: Medium>(
+pub trait Messages {
+    fn read<M: Medium>(
         &self,
+        outline: &Outline,
         unit: &mut M,
         from: u32,
         out: &mut ArrayVec<u8, 252>,
     ) -> Result<(), Failed>
         requires unit { (M.state unit.old).size ≡ 2485808 }
-        requires outlines { IfSome (M.state unit.old).image (Outlines self.now) }
-        ensures piece { OnOk result (IfSome (M.state unit.old).image (λ x. IsPiece x (asked self.now) from (Some (length_of self.now)) out.new.items)) }
-        ensures fits { OnOk result (length out.new.items ≡ min 252 (length_of self.now - from)) }
-        ensures reads { ReadsIfAny (M.state unit.old) (M.state unit.new) (is_err result) }
-    {
-        let _size = unit.size();
-        let _plan = self.plan;
-        let _from = from;
-        out.clear();
-        Err(Failed)
-    }
-}
+        requires outlines { IfSome (M.state unit.old).image (Outlines outline.now) }
+        ensures piece { OnOk result (IfSome (M.state unit.old).image (λ x. IsPiece x (asked outline.now) from (Some (length_of outline.now)) out.new.items)) }
+        ensures fits { OnOk result (length out.new.items ≡ min 252 (length_of outline.now - from)) }
+        ensures reads { ReadsIfAny (M.state unit.old) (M.state unit.new) (is_err result) };
 
-pub fn find_outline<M: Medium>(
-    journal: &Journal,
-    unit: &mut M,
-    request: &Request,
-) -> Result<Option<Outline>, Failed>
-    requires unit { (M.state unit.old).size ≡ 2485808 }
-    requires right { IfSome (M.state unit.old).image (AreRight journal.now) }
-    requires decodes { IfSome (M.state unit.old).image Decodes }
-    ensures outlined { IfOk result (λ found. IfSome (M.state unit.old).image (λ x. IsOutlined x request.now found)) }
-    ensures request { IfOk result (λ found. IfSome found (λ o. asked o ≡ request.now)) }
-    ensures reads { ReadsIfAny (M.state unit.old) (M.state unit.new) (is_err result) }
-{
-    let _size = unit.size();
-    let _kept = journal.last_kept();
-    let _request = *request;
-    Err(Failed)
+    fn find_outline<M: Medium>(
+        &self,
+        journal: &Journal,
+        unit: &mut M,
+        request: &Request,
+    ) -> Result<Option<Outline>, Failed>
+        requires unit { (M.state unit.old).size ≡ 2485808 }
+        requires right { IfSome (M.state unit.old).image (AreRight journal.now) }
+        requires decodes { IfSome (M.state unit.old).image Decodes }
+        ensures outlined { IfOk result (λ found. IfSome (M.state unit.old).image (λ x. IsOutlined x request.now found)) }
+        ensures request { IfOk result (λ found. IfSome found (λ o. asked o ≡ request.now)) }
+        ensures reads { ReadsIfAny (M.state unit.old) (M.state unit.new) (is_err result) };
 }

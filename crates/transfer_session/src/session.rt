@@ -1,16 +1,17 @@
 ghost use Rattle.std.specs.Prelude.{◌≡◌, ℕ, ◌≤◌, true, false, ◌||◌, IfOk, OnOk, OnErr, IfErr, IfSome, Some, List, Option, is_some};
 ghost use Rattle.link_model.specs.declared.request.Request.{Request as Asked};
-ghost use Rattle.link_model.specs.Answers.{Idle, answered};
+ghost use Rattle.link_model.specs.Answers.{Idle, answered, sends_on};
 ghost use Rattle.link_frames.specs.Seen.{meant};
 ghost use Rattle.message_model.specs.Sending.{content_sent};
 ghost use Rattle.unit_model.specs.Decoding.{Decodes, first_bad_place};
 ghost use Rattle.unit_journal.specs.Reading.{ReadsIfAny};
 ghost use Rattle.answer_table.specs.Asking.{asks_unit};
-ghost use Rattle.answer_table.specs.Sending.{IsPart};
+ghost use Rattle.answer_table.specs.Steps.{state_of, begins, performed, asks};
+ghost use Rattle.answer_table.specs.Sending.{IsPart, reply_of};
 ghost use Rattle.transfer_session.specs.Told.{Knows, is_judged, fresh, IfBadUnit, has_failed};
 
 use crate::asking::{AnswerFault, Part, judge, part_of};
-use crate::outline::Outline;
+use crate::outline::{Messages, Outline};
 use answer_table::{Reply, Standing, Step, begun, place_of, sent_on, step_of};
 use link_frames::{Frame, Seen};
 use link_model::Request;
@@ -55,8 +56,9 @@ impl Session {
     ///
     /// `Failed` where the unit failed, and `BadUnit` with the place of the first field of its image, in order of places, that
     /// fails. The session is as it was.
-    pub fn answer<M: Medium>(
+    pub fn answer<T: Messages, M: Medium>(
         &mut self,
+        messages: &T,
         unit: &mut M,
         seen: &Seen,
     ) -> Result<Option<Frame>, AnswerFault>
@@ -79,31 +81,99 @@ impl Session {
         ensures spared { asks_unit self.old.state (meant seen.now) ≡ false → unit.new ≡ unit.old }
         ensures silent { IfErr result (λ fault. asks_unit self.old.state (meant seen.now) ≡ true) }
     {
-        let reply = match step_of(self.standing, seen) {
-            Step::Answer(frame, standing) => Reply {
-                answer: Some(frame),
-                standing,
-            },
-            Step::Silence(standing) => Reply {
-                answer: None,
-                standing,
-            },
-            Step::Begin(request, standing) => {
-                let part = self.ask(unit, &request, 2)?;
-                begun(request, standing, part.told, part.bytes.as_slice())
-            }
-            Step::Piece(request, counter, code) => {
-                let part = self.ask(unit, &request, place_of(code))?;
-                sent_on(request, counter, code, part.told, part.bytes.as_slice())
-            }
-        };
+        let reply = self.perform(messages, unit, step_of(self.standing, seen))?;
         self.standing = reply.standing;
         Ok(reply.answer)
     }
 
-    // Reads a part of a message, of a unit that is judged before, if it was not yet.
-    fn ask<M: Medium>(
+    // What a step answers, by the unit's messages where it hangs on them.
+    fn perform<T: Messages, M: Medium>(
         &mut self,
+        messages: &T,
+        unit: &mut M,
+        step: Step,
+    ) -> Result<Reply, AnswerFault>
+        requires unit { (M.state unit.old).size ≡ 2485808 }
+        requires knows { IfSome (M.state unit.old).image (Knows self.old) }
+        ensures performed { IfOk result (λ reply. IfSome (M.state unit.old).image (λ x. reply_of reply ≡ performed (content_sent x) step)) }
+        ensures possible { IfOk result (λ reply. (messages : Asked → Option (List ℕ)) × (reply_of reply ≡ performed messages step)) }
+        ensures stays { OnOk result (self.new.state ≡ self.old.state) }
+        ensures judged { OnOk result (is_judged self.new ≡ (is_judged self.old || asks step)) }
+        ensures knows { OnOk result (IfSome (M.state unit.old).image (Knows self.new)) }
+        ensures same { OnErr result (self.new ≡ self.old) }
+        ensures bad { IfErr result (λ fault. IfBadUnit fault (λ p. (is_judged self.old ≡ false) × IfSome (M.state unit.old).image (λ x. first_bad_place x ≡ Some p))) }
+        ensures reads { ReadsIfAny (M.state unit.old) (M.state unit.new) (has_failed result) }
+        ensures spared { asks step ≡ false → unit.new ≡ unit.old }
+        ensures silent { IfErr result (λ fault. asks step ≡ true) }
+    {
+        match step {
+            Step::Answer(frame, standing) => Ok(Reply {
+                answer: Some(frame),
+                standing,
+            }),
+            Step::Silence(standing) => Ok(Reply {
+                answer: None,
+                standing,
+            }),
+            Step::Begin(request, standing) => self.begin(messages, unit, request, standing),
+            Step::Piece(request, counter, code) => {
+                self.go_on(messages, unit, request, counter, code)
+            }
+        }
+    }
+
+    // Begins to send a message, where there is one.
+    fn begin<T: Messages, M: Medium>(
+        &mut self,
+        messages: &T,
+        unit: &mut M,
+        request: Request,
+        standing: Standing,
+    ) -> Result<Reply, AnswerFault>
+        requires unit { (M.state unit.old).size ≡ 2485808 }
+        requires knows { IfSome (M.state unit.old).image (Knows self.old) }
+        ensures begun { IfOk result (λ reply. IfSome (M.state unit.old).image (λ x. reply_of reply ≡ begins (state_of standing) request (content_sent x request))) }
+        ensures possible { IfOk result (λ reply. (content : Option (List ℕ)) × (reply_of reply ≡ begins (state_of standing) request content)) }
+        ensures stays { OnOk result (self.new.state ≡ self.old.state) }
+        ensures judged { OnOk result (is_judged self.new ≡ true) }
+        ensures knows { OnOk result (IfSome (M.state unit.old).image (Knows self.new)) }
+        ensures same { OnErr result (self.new ≡ self.old) }
+        ensures bad { IfErr result (λ fault. IfBadUnit fault (λ p. (is_judged self.old ≡ false) × IfSome (M.state unit.old).image (λ x. first_bad_place x ≡ Some p))) }
+        ensures reads { ReadsIfAny (M.state unit.old) (M.state unit.new) (has_failed result) }
+    {
+        let part = self.ask(messages, unit, &request, 2)?;
+        Ok(begun(request, standing, part.told, part.bytes.as_slice()))
+    }
+
+    // Goes on with a message.
+    fn go_on<T: Messages, M: Medium>(
+        &mut self,
+        messages: &T,
+        unit: &mut M,
+        request: Request,
+        counter: u16,
+        code: u16,
+    ) -> Result<Reply, AnswerFault>
+        requires unit { (M.state unit.old).size ≡ 2485808 }
+        requires knows { IfSome (M.state unit.old).image (Knows self.old) }
+        ensures sent { IfOk result (λ reply. IfSome (M.state unit.old).image (λ x. reply_of reply ≡ sends_on request counter (content_sent x request) code)) }
+        ensures possible { IfOk result (λ reply. (content : Option (List ℕ)) × (reply_of reply ≡ sends_on request counter content code)) }
+        ensures stays { OnOk result (self.new.state ≡ self.old.state) }
+        ensures judged { OnOk result (is_judged self.new ≡ true) }
+        ensures knows { OnOk result (IfSome (M.state unit.old).image (Knows self.new)) }
+        ensures same { OnErr result (self.new ≡ self.old) }
+        ensures bad { IfErr result (λ fault. IfBadUnit fault (λ p. (is_judged self.old ≡ false) × IfSome (M.state unit.old).image (λ x. first_bad_place x ≡ Some p))) }
+        ensures reads { ReadsIfAny (M.state unit.old) (M.state unit.new) (has_failed result) }
+    {
+        let place = place_of(code);
+        let part = self.ask(messages, unit, &request, place)?;
+        Ok(sent_on(request, counter, code, part.told, part.bytes.as_slice()))
+    }
+
+    // Reads a part of a message, of a unit that is judged before, if it was not yet.
+    fn ask<T: Messages, M: Medium>(
+        &mut self,
+        messages: &T,
         unit: &mut M,
         request: &Request,
         from: u32,
@@ -120,19 +190,38 @@ impl Session {
         ensures bad { IfErr result (λ fault. IfBadUnit fault (λ p. (is_judged self.old ≡ false) × IfSome (M.state unit.old).image (λ x. first_bad_place x ≡ Some p))) }
         ensures reads { ReadsIfAny (M.state unit.old) (M.state unit.new) (has_failed result) }
     {
-        match &self.journal {
-            Some(journal) => {
-                let part = part_of(journal, unit, &self.outline, request, from)?;
-                self.outline = part.outline;
-                Ok(part)
-            }
-            None => {
-                let journal = judge(unit)?;
-                let part = part_of(&journal, unit, &None, request, from)?;
-                self.journal = Some(journal);
-                self.outline = part.outline;
-                Ok(part)
-            }
-        }
+        let Some(journal) = &self.journal else {
+            return self.ask_first(messages, unit, request, from);
+        };
+        let part = part_of(messages, journal, unit, &self.outline, request, from)?;
+        self.outline = part.outline;
+        Ok(part)
+    }
+
+    // Judges the unit, and reads a part of a message.
+    fn ask_first<T: Messages, M: Medium>(
+        &mut self,
+        messages: &T,
+        unit: &mut M,
+        request: &Request,
+        from: u32,
+    ) -> Result<Part, AnswerFault>
+        requires unit { (M.state unit.old).size ≡ 2485808 }
+        requires anew { is_judged self.old ≡ false }
+        requires from { 2 ≤ from }
+        ensures told { IfOk result (λ part. IfSome (M.state unit.old).image (λ x. IsPart (content_sent x request.now) from part.told part.bytes.items)) }
+        ensures possible { IfOk result (λ part. (content : Option (List ℕ)) × IsPart content from part.told part.bytes.items) }
+        ensures stays { OnOk result (self.new.state ≡ self.old.state) }
+        ensures judged { OnOk result (is_judged self.new ≡ true) }
+        ensures knows { OnOk result (IfSome (M.state unit.old).image (Knows self.new)) }
+        ensures same { OnErr result (self.new ≡ self.old) }
+        ensures bad { IfErr result (λ fault. IfBadUnit fault (λ p. IfSome (M.state unit.old).image (λ x. first_bad_place x ≡ Some p))) }
+        ensures reads { ReadsIfAny (M.state unit.old) (M.state unit.new) (has_failed result) }
+    {
+        let journal = judge(unit)?;
+        let part = part_of(messages, &journal, unit, &None, request, from)?;
+        self.journal = Some(journal);
+        self.outline = part.outline;
+        Ok(part)
     }
 }
