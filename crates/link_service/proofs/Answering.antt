@@ -116,3 +116,9 @@ pub all_stopped : (o : Option (List ℕ)) (fault : ServeFault) (line : Line) (le
 all_stopped o fault line left bytes h k few stops =
     first_stopped o fault line left bytes h k
     (subst (λ (b : List ℕ). IfSome o (λ x. Stops fault (content_sent x) line.session.state (heard_in side.Unit line.scanner.kept b) h k)) (sym (take_all left bytes few)) stops)
+
+-- more came, and the first were answered
+pub too_long_stopped : (o : Option (List ℕ)) (line : Line) (after : LinkState) (left : ℕ) (bytes : List ℕ) (h k : Option (List ℕ)) → left < length bytes
+    → IfSome o (λ x. IsAnswered (content_sent x) line.session.state (heard_in side.Unit line.scanner.kept (take left bytes)) after h k)
+    → IfSome o (λ x. StopsWithin TooLong (content_sent x) line.session.state line.scanner.kept left bytes h k)
+too_long_stopped o line after left bytes h k more answered = one_told o _ answered (λ x f. (more, f.sent))

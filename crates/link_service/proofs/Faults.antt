@@ -1,6 +1,6 @@
 -- A fault that was passed on.
 use Rattle.std.proofs.Common.{◌≡◌, ℕ, ◌≤◌, Bool, List, Option, Some, IfSome, Result, Ok, Err, sym, ap, subst, arith}
-use Rattle.std.specs.Prelude.{IfErr, IsErrAnd}
+use Rattle.std.specs.Prelude.{OnOk, IfErr, IsErrAnd}
 use Rattle.tach_media.specs.Medium.{State, Rose}
 use Rattle.unit_memory.proofs.Told.{carried}
 use Rattle.unit_model.specs.Decoding.{first_bad_place}
@@ -31,3 +31,7 @@ caused_on WriteFault a b n o p read le same is = omega (arith, le, is)
 caused_on Failed a b n o p read le same is = tt
 caused_on (BadUnit place) a b n o p read le same is = carried (λ x. first_bad_place x ≡ Some place) same is
 caused_on TooLong a b n o p read le same is = tt
+
+pub on_ok : {A E P : Type 0} (r : Result A E) → P → OnOk r P
+on_ok (Ok a) p = p
+on_ok (Err e) p = tt

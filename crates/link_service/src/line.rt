@@ -14,7 +14,7 @@ ghost use Rattle.link_service.specs.Served.{Stops, StopsWithin, has_failed, IsCa
 use crate::fault::ServeFault;
 use link_frames::{End, Scanner, Seen, write_frame};
 use tach_media::{Medium, Sink, put_all};
-use transfer_session::Session;
+use transfer_session::{Messages, Session};
 
 /// A unit on the link: what it hears, and where it stands.
 #[derive(Drop)]
@@ -36,8 +36,9 @@ impl Line {
     }
 
     /// Answers the frames that end in these bytes.
-    pub fn answer<K: Sink, U: Medium>(
+    pub fn answer<T: Messages, K: Sink, U: Medium>(
         &mut self,
+        messages: &T,
         bytes: &[u8],
         sink: &mut K,
         unit: &mut U,
@@ -57,14 +58,15 @@ impl Line {
     {
         let mut done = 0usize;
         while done < bytes.len() {
-            done += self.answer_next(&bytes[done..], sink, unit)?;
+            done += self.answer_next(messages, &bytes[done..], sink, unit)?;
         }
         Ok(())
     }
 
     /// Answers the frames that end in these bytes, of which so many may come; where more come, those in the first.
-    pub fn answer_within<K: Sink, U: Medium>(
+    pub fn answer_within<T: Messages, K: Sink, U: Medium>(
         &mut self,
+        messages: &T,
         bytes: &[u8],
         left: usize,
         sink: &mut K,
@@ -84,17 +86,17 @@ impl Line {
         ensures counts { K.faults sink.old ≤ K.faults sink.new }
         ensures unit { ReadsIfAny (U.state unit.old) (U.state unit.new) (has_failed result) }
     {
-        if bytes.len() > left {
-            self.answer(&bytes[..left], sink, unit)?;
-            return Err(ServeFault::TooLong);
+        if bytes.len() <= left {
+            return self.answer(messages, bytes, sink, unit);
         }
-        self.answer(bytes, sink, unit)?;
-        Ok(())
+        self.answer(messages, &bytes[..left], sink, unit)?;
+        Err(ServeFault::TooLong)
     }
 
     // Takes bytes up to the end of the next frame, or all of them, answers the frame, and says how many it took.
-    fn answer_next<K: Sink, U: Medium>(
+    fn answer_next<T: Messages, K: Sink, U: Medium>(
         &mut self,
+        messages: &T,
         bytes: &[u8],
         sink: &mut K,
         unit: &mut U,
@@ -118,13 +120,14 @@ impl Line {
         let Some(seen) = heard else {
             return Ok(taken);
         };
-        answer_frame(&mut self.session, &seen, sink, unit)?;
+        answer_frame(messages, &mut self.session, &seen, sink, unit)?;
         Ok(taken)
     }
 }
 
 // Answers a frame, if there is an answer to it.
-fn answer_frame<K: Sink, U: Medium>(
+fn answer_frame<T: Messages, K: Sink, U: Medium>(
+    messages: &T,
     session: &mut Session,
     seen: &Seen,
     sink: &mut K,
@@ -141,7 +144,7 @@ fn answer_frame<K: Sink, U: Medium>(
     ensures counts { K.faults sink.old ≤ K.faults sink.new }
     ensures unit { ReadsIfAny (U.state unit.old) (U.state unit.new) (has_failed result) }
 {
-    let answer = session.answer(unit, seen)?;
+    let answer = session.answer(messages, unit, seen)?;
     let Some(frame) = answer else {
         return Ok(());
     };

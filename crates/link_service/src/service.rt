@@ -9,6 +9,7 @@ ghost use Rattle.link_service.specs.Served.{IsServed, has_failed, IsCaused};
 use crate::fault::ServeFault;
 use crate::line::Line;
 use tach_media::{Medium, Sink, Source};
+use transfer_session::Messages;
 
 /// The most bytes that a service answers.
 pub const MOST: u32 = 16777216;
@@ -20,7 +21,8 @@ pub const MOST: u32 = 16777216;
 ///
 /// `ReadFault` and `TooLong` after the answers to all bytes that came, or to the first 16777216; `WriteFault` after a front of
 /// them; `Failed` and `BadUnit` after the answers to the frames before one whose answer hangs on the unit.
-pub fn serve<S: Source, K: Sink, U: Medium>(
+pub fn serve<T: Messages, S: Source, K: Sink, U: Medium>(
+    messages: &T,
     source: &mut S,
     sink: &mut K,
     unit: &mut U,
@@ -45,7 +47,7 @@ pub fn serve<S: Source, K: Sink, U: Medium>(
         if count == 0 {
             return Ok(());
         }
-        line.answer_within(&block[..count], left, sink, unit)?;
+        line.answer_within(messages, &block[..count], left, sink, unit)?;
         left -= count;
     }
     unreachable!()

@@ -7,5 +7,5 @@ mod outline;
 mod session;
 
 pub use asking::AnswerFault;
-pub use outline::Messages;
+pub use outline::{Messages, Outline};
 pub use session::Session;

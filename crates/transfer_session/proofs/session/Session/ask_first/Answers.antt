@@ -21,7 +21,7 @@ pub part_of-requires-clause-right : goal.part_of-requires-clause-right
 part_of-requires-clause-right g c = carried (AreRight c.in_ok-journal.journal) (sym (c.in_ok-journal.ensures.reads.same refl)) c.in_ok-journal.ensures.right
 
 pub part_of-requires-clause-known : goal.part_of-requires-clause-known
-part_of-requires-clause-known g c = told_all (g.M.Medium.state c.judge-journal.new.unit).image _ (λ x told. tt)
+part_of-requires-clause-known g c = told_all (g.M.Medium.state c.judge.new.unit).image _ (λ x told. tt)
 
 pub returns-in_err-journal-clause-reads : goal.returns-in_err-journal-clause-reads
 returns-in_err-journal-clause-reads g c = passed_reads c.from_residual.result _ c.from_residual.ensures.1 (inr c.in_err-journal.ensures.reads)
