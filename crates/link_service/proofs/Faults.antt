@@ -1,5 +1,5 @@
 -- A fault that was passed on.
-use Rattle.std.proofs.Common.{◌≡◌, ℕ, ◌≤◌, Bool, List, Option, Some, IfSome, Result, Ok, Err, sym, ap, subst, arith}
+use Rattle.std.proofs.Common.{◌≡◌, ℕ, ◌≤◌, List, Option, Some, IfSome, Result, Ok, Err, sym, ap, subst, arith}
 use Rattle.std.specs.Prelude.{OnOk, IfErr, IsErrAnd}
 use Rattle.tach_media.specs.Medium.{State, Rose}
 use Rattle.unit_memory.proofs.Told.{carried}

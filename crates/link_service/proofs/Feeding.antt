@@ -1,5 +1,5 @@
 -- What a scanner of the unit's side took.
-use Rattle.std.proofs.Common.{◌≡◌, ℕ, zero, suc, ◌<◌, List, [], ◌∷◌, ◌++◌, take, drop, Option, Some, None, IfSome, refl, sym, ◌∙◌, ap, subst, arith}
+use Rattle.std.proofs.Common.{◌≡◌, ℕ, zero, suc, ◌<◌, List, [], ◌∷◌, ◌++◌, take, drop, Option, Some, None, IfSome, sym, ◌∙◌, ap, subst, arith}
 use Rattle.std.specs.Prelude.{IfNone, option_map, option_to_list}
 use Rattle.unit_memory.proofs.Told.{one_told}
 use Rattle.link_model.specs.declared.side.End.{End}
@@ -18,11 +18,11 @@ use Rattle.link_service.specs.declared.line.Line.{Line}
 use Rattle.link_service.proofs.Lines.{stops_more}
 use Rattle.link_service.proofs.Streams.{heard_split}
 
+abbrev scan_of : End → List ℕ → Scan
+scan_of end kept = record { end = end; kept = kept }
+
 pub kept_by : (old new : Scan) (bytes : List ℕ) → old ≡ listening old.kept → new ≡ record { end = old.end; kept = kept_after old.end old.kept bytes } → new ≡ listening (kept_after side.Unit old.kept bytes)
-kept_by old new bytes listens is = is ∙ ap (λ (e : End). scan e (kept_after e old.kept bytes)) (ap (λ (s : Scan). s.end) listens)
-  where
-    scan : End → List ℕ → Scan
-    scan end kept = record { end = end; kept = kept }
+kept_by old new bytes listens is = is ∙ ap (λ (e : End). scan_of e (kept_after e old.kept bytes)) (ap (λ (s : Scan). s.end) listens)
 
 heard_by : (old : Scan) (bytes : List ℕ) (seen seen' : Option Seen) → old ≡ listening old.kept → heard_in old.end old.kept bytes ≡ option_to_list (option_map meant seen) → seen ≡ seen'
     → heard_in side.Unit old.kept bytes ≡ option_to_list (option_map meant seen')

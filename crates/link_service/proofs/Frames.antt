@@ -56,9 +56,9 @@ one_stopped session.Failed messages before heard h asks = asking_one messages be
 one_stopped (session.BadUnit place) messages before heard h asks = asking_one messages before heard h asks
 
 -- the cause that the session gives
-pub session_caused : (fault : AnswerFault) (read wrote : Type 0) (P Q : ℕ → Type 0) → ((p : ℕ) → P p → Q p) → IfBadUnit fault P → IsCaused (fault_of fault) read wrote Q
-session_caused session.Failed read wrote P Q weaker is = tt
-session_caused (session.BadUnit place) read wrote P Q weaker is = weaker place is
+pub session_caused : (fault : AnswerFault) (read wrote : Type 0) (judged : Bool) (Q : ℕ → Type 0) → IfBadUnit fault (λ p. (judged ≡ false) × Q p) → IsCaused (fault_of fault) read wrote Q
+session_caused session.Failed read wrote judged Q is = tt
+session_caused (session.BadUnit place) read wrote judged Q is = is.1
 
 -- what the session says of the unit
 pub session_reads : {T U : Type 0} {old new : State} (fault : AnswerFault) → ReadsIfAny old new (session_failed {T} (Err fault)) → ReadsIfAny old new (has_failed {U} (Err (fault_of fault)))

@@ -1,5 +1,5 @@
 -- The answers go on where the unit stands.
-use Rattle.std.proofs.Common.{◌≡◌, ℕ, ◌+◌, ◌≤◌, min, true, List, [], ◌∷◌, ◌++◌, length, take, map, Option, refl, sym, ◌∙◌, ap, subst, append_assoc, arith}
+use Rattle.std.proofs.Common.{◌≡◌, ℕ, ◌+◌, ◌≤◌, min, List, [], ◌∷◌, ◌++◌, length, take, map, Option, refl, sym, ◌∙◌, ap, subst, append_assoc, arith}
 use Rattle.std.specs.List.{concat}
 use Rattle.std.proofs.lemmas.List.{map-append, take-append-le, take_min}
 use Rattle.std.proofs.lemmas.List.Folds.{concat-append}
@@ -51,10 +51,8 @@ none_answered messages state h = record { stands = refl; sent = Appends-nil h }
 -- a front of bytes is a front of more
 front_more : (h k : Option (List ℕ)) (xs ys : List ℕ) → AppendsFront h k xs → AppendsFront h k (xs ++ ys)
 front_more h k xs ys f =
-    let n : ℕ = f.0 in
-    let m : ℕ = min n (length xs) in
-    let le : m ≤ length xs = omega arith in
-    (m, subst (λ (o : List ℕ). Appends h k o) (sym (take-append-le m xs ys le ∙ take_min n xs)) f.1)
+    let le : min f.0 (length xs) ≤ length xs = omega arith in
+    (min f.0 (length xs), subst (λ (o : List ℕ). Appends h k o) (sym (take-append-le (min f.0 (length xs)) xs ys le ∙ take_min f.0 xs)) f.1)
 
 -- bytes and a front of more
 front_behind : (h k l : Option (List ℕ)) (xs ys : List ℕ) → Appends h k xs → AppendsFront k l ys → AppendsFront h l (xs ++ ys)

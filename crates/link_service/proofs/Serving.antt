@@ -1,7 +1,7 @@
 -- A service so far.
-use Rattle.std.proofs.Common.{◌≡◌, ℕ, ◌+◌, ◌-◌, ◌<◌, ◌≤◌, false, List, [], ◌++◌, length, Option, Some, IfSome, Result, Ok, Err, append-nil, refl, sym, ◌∙◌, ap, subst, length-append, arith}
+use Rattle.std.proofs.Common.{◌≡◌, ℕ, ◌+◌, ◌-◌, ◌<◌, ◌≤◌, false, List, [], ◌++◌, length, Option, IfSome, Result, Ok, Err, append-nil, refl, sym, ◌∙◌, ap, subst, length-append, arith}
 use Rattle.std.specs.Prelude.{IsErrAnd}
-use Rattle.std.specs.Io.KnownBytes.{Appends, Consumes, Keeps}
+use Rattle.std.specs.Io.KnownBytes.{Consumes, Keeps}
 use Rattle.std.proofs.KnownBytes.{Consumes-nil, Consumes-trans, Consumes-kept}
 use Rattle.tach_media.specs.Medium.{State}
 use Rattle.tach_media.proofs.Runs.{both_told}
@@ -18,7 +18,7 @@ use Rattle.unit_journal.proofs.IfAny.{read_same}
 use Rattle.transfer_session.specs.Told.{SessionView, Knows, fresh}
 use Rattle.transfer_session.proofs.IfAny.{no_reads_yet, if_any_then}
 use Rattle.link_service.specs.Lines.{listening, IsAnswered}
-use Rattle.link_service.specs.Served.{StopsWithin, Sends, IsServed}
+use Rattle.link_service.specs.Served.{StopsWithin, IsServed}
 use Rattle.link_service.specs.declared.fault.ServeFault.{ServeFault}
 use Rattle.link_service.specs.declared.fault.ServeFault.TheVariants.{ReadFault}
 use Rattle.link_service.specs.declared.line.Line.{Line}

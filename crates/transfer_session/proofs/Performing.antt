@@ -1,14 +1,14 @@
 -- What a step answers.
-use Rattle.std.proofs.Common.{◌≡◌, ℕ, Bool, true, false, ◌||◌, List, Option, None, IfSome, IfOk, Result, Ok, Err, refl, sym, ◌∙◌, ap}
+use Rattle.std.proofs.Common.{◌≡◌, ℕ, Bool, true, false, ◌||◌, List, Option, IfOk, Result, Ok, Err, refl, sym, ◌∙◌, ap}
 use Rattle.std.specs.Prelude.{IfErr}
 use Rattle.std.proofs.lemmas.Result.{IfOk-weaker}
 use Rattle.link_model.specs.declared.request.Request.{Request}
-use Rattle.link_model.specs.Answers.{Reply, sends_on}
+use Rattle.link_model.specs.Answers.{sends_on}
 use Rattle.answer_table.specs.declared.sending.Reply.{Reply as CodeReply}
 use Rattle.answer_table.specs.declared.standing.Standing.{Standing}
 use Rattle.answer_table.specs.declared.step.Step.{Step}
 use Rattle.answer_table.specs.declared.step.Step.TheVariants.{Begin, Piece}
-use Rattle.answer_table.specs.Steps.{state_of, begins, performed, asks}
+use Rattle.answer_table.specs.Steps.{state_of, begins, performed}
 use Rattle.answer_table.specs.Sending.{reply_of}
 use Rattle.transfer_session.specs.declared.asking.AnswerFault.{AnswerFault}
 

@@ -15,7 +15,7 @@ returns-in_err-answer-clause-stops g c =
 
 pub returns-in_err-answer-clause-cause : goal.returns-in_err-answer-clause-cause
 returns-in_err-answer-clause-cause g c =
-    passed c.from_residual.result _ _ c.from_residual.ensures.1 (session_caused _ _ _ _ _ (λ p is. is.1) c.in_err-answer.ensures.bad)
+    passed c.from_residual.result _ _ c.from_residual.ensures.1 (session_caused _ _ _ _ _ c.in_err-answer.ensures.bad)
 
 pub returns-in_err-answer-clause-unit : goal.returns-in_err-answer-clause-unit
 returns-in_err-answer-clause-unit g c = passed_reads c.from_residual.result _ c.from_residual.ensures.1 (session_reads _ c.in_err-answer.ensures.reads)

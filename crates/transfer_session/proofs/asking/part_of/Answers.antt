@@ -1,4 +1,4 @@
-use Rattle.std.proofs.Common.{rules, ◌≡◌, ◌+◌, ◌-◌, ◌∙◌, ℕ, List, [], Option, Some, None, IfSome, min, length, sym, ap, subst, arith}
+use Rattle.std.proofs.Common.{◌≡◌, ◌+◌, ◌-◌, ◌∙◌, ℕ, List, [], Option, Some, None, min, length, sym, ap, subst}
 use Rattle.tach_media.proofs.Runs.{both_told}
 use Rattle.unit_memory.proofs.Told.{one_told, carried}
 use Rattle.unit_journal.proofs.IfAny.{read_same}
@@ -7,8 +7,8 @@ use Rattle.answer_table.specs.Sending.{IsPart}
 use Rattle.answer_table.proofs.Parts.{some_message}
 use Rattle.transfer_session.specs.declared.outline.Plan.{Plan}
 use Rattle.transfer_session.specs.Outlines.{Outlines, IsOutlined, IsPiece, asked, length_of}
-use Rattle.transfer_session.proofs.IfAny.{same_size, if_any_then}
-use Rattle.transfer_session.proofs.Parts.{no_part, none_at_all, outlined_part, outlined_knows}
+use Rattle.transfer_session.proofs.IfAny.{if_any_then}
+use Rattle.transfer_session.proofs.Parts.{no_part, outlined_part, outlined_knows}
 use Rattle.transfer_session.proofs.asking.part_of.Goals as goal
 
 pub returns-in_default-clause-told : goal.returns-in_default-clause-told

@@ -1,4 +1,4 @@
-use Rattle.std.proofs.Common.{ℕ, ◌<◌, length, ◌∙◌, length-take, length-drop, arith}
+use Rattle.std.proofs.Common.{◌<◌, length, ◌∙◌, length-take, length-drop, arith}
 use Rattle.transfer_session.proofs.IfAny.{same_size, if_any_then}
 use Rattle.unit_journal.proofs.IfAny.{read_same}
 use Rattle.link_service.proofs.Answering.{answering_none, answering_on, answering_stops, answering_kept, answering_done, still_listens, still_knows}

@@ -1,4 +1,4 @@
-use Rattle.std.proofs.Common.{◌≡◌, List, ℕ, length, take, sym, subst, arith}
+use Rattle.std.proofs.Common.{◌≡◌, List, length, take, sym, subst, arith}
 use Rattle.unit_memory.proofs.Told.{told_all}
 use Rattle.link_model.specs.Frames.{Heard}
 use Rattle.link_frames.specs.Seen.{meant}

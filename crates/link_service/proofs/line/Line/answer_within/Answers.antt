@@ -1,4 +1,4 @@
-use Rattle.std.proofs.Common.{List, ℕ, ◌≤◌, IfSome, length, arith}
+use Rattle.std.proofs.Common.{◌≤◌, length, arith}
 use Rattle.std.proofs.lemmas.Result.{IfErr-weaker}
 use Rattle.link_service.proofs.Answering.{first_stopped, all_stopped, too_long_stopped}
 use Rattle.link_service.proofs.Faults.{passed, on_ok}

@@ -1,12 +1,11 @@
-use Rattle.std.proofs.Common.{◌≡◌, Bool, true, false, List, ℕ, Option, IfSome, sym, ◌∙◌, ap, subst}
+use Rattle.std.proofs.Common.{◌≡◌, Bool, sym, ◌∙◌, ap}
 use Rattle.std.specs.Prelude.{◌||◌}
 use Rattle.unit_memory.proofs.Told.{one_told}
-use Rattle.link_model.specs.declared.request.Request.{Request}
-use Rattle.link_model.specs.Answers.{LinkState, answered}
+use Rattle.link_model.specs.Answers.{answered}
 use Rattle.link_frames.specs.Seen.{meant}
 use Rattle.message_model.specs.Sending.{content_sent}
 use Rattle.answer_table.specs.Asking.{asks_unit}
-use Rattle.answer_table.specs.Steps.{state_of, performed, asks}
+use Rattle.answer_table.specs.Steps.{performed, asks}
 use Rattle.transfer_session.specs.Told.{SessionView, is_judged}
 use Rattle.transfer_session.proofs.Knowing.{as_found}
 use Rattle.transfer_session.proofs.Faults.{passed, passed_reads}

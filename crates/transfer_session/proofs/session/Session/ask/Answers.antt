@@ -1,8 +1,7 @@
-use Rattle.std.proofs.Common.{◌≡◌, false, List, ℕ, Option, IfSome, sym, ◌∙◌, ap, subst}
+use Rattle.std.proofs.Common.{◌≡◌, Option, sym, ◌∙◌, ap}
 use Rattle.std.specs.Prelude.{is_some}
-use Rattle.unit_model.specs.Decoding.{first_bad_place}
 use Rattle.unit_journal.specs.declared.notes.Notes.{Notes}
-use Rattle.transfer_session.specs.Told.{SessionView, KnowsUnit, is_judged}
+use Rattle.transfer_session.specs.Told.{SessionView, is_judged}
 use Rattle.transfer_session.proofs.Knowing.{decodes_of, right_of, outlines_of, other_outline, as_found}
 use Rattle.transfer_session.proofs.Faults.{failed_bad, failed_reads, bad_anew}
 use Rattle.transfer_session.proofs.session.Session.ask.Goals as goal

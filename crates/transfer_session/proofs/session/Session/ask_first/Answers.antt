@@ -1,4 +1,4 @@
-use Rattle.std.proofs.Common.{List, ℕ, Option, Some, IfSome, inr, refl, sym, ◌∙◌, ap, subst}
+use Rattle.std.proofs.Common.{IfSome, inr, refl, sym, ◌∙◌, ap}
 use Rattle.unit_memory.proofs.Told.{told_all, carried}
 use Rattle.unit_model.specs.Decoding.{Decodes}
 use Rattle.unit_journal.specs.Reading.{AreRight}
@@ -8,7 +8,7 @@ use Rattle.transfer_session.specs.Outlines.{Outlines}
 use Rattle.transfer_session.specs.Told.{SessionView}
 use Rattle.transfer_session.proofs.IfAny.{if_any_then}
 use Rattle.transfer_session.proofs.Knowing.{judged_now}
-use Rattle.transfer_session.proofs.Faults.{failed_bad, failed_reads, passed, passed_reads}
+use Rattle.transfer_session.proofs.Faults.{failed_bad, failed_reads, passed_reads}
 use Rattle.transfer_session.proofs.session.Session.ask_first.Goals as goal
 
 pub part_of-requires-clause-unit : goal.part_of-requires-clause-unit
