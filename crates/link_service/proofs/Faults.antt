@@ -14,9 +14,9 @@ passed (Ok x) e Q is q = absurd is
 passed (Err v) e Q is q = subst Q (sym is) q
 
 -- what it says of the unit
-pub passed_reads : {T : Type 0} {old new : State} (r : Result T ServeFault) (e : ServeFault) → IsErrAnd r (λ v. v ≡ e) → ReadsIfAny old new (has_failed {T} (Err e)) → ReadsIfAny old new (has_failed r)
+pub passed_reads : {T : Type 0} {old new : State} (r : Result T ServeFault) (e : ServeFault) → IsErrAnd r (λ v. v ≡ e) → ReadsIfAny old new (has_failed {T = T} (Err e)) → ReadsIfAny old new (has_failed r)
 passed_reads (Ok x) e is reads = absurd is
-passed_reads {T} {old} {new} (Err v) e is reads = subst (λ (f : ServeFault). ReadsIfAny old new (has_failed {T} (Err f))) (sym is) reads
+passed_reads {T} {old} {new} (Err v) e is reads = subst (λ (f : ServeFault). ReadsIfAny old new (has_failed {T = T} (Err f))) (sym is) reads
 
 -- the error
 pub err_is : {T E : Type 0} (r : Result T E) (e : E) → IsErrAnd r (λ v. v ≡ e) → r ≡ Err e

@@ -1,9 +1,8 @@
 -- The bytes of a stream in two parts.
 use Rattle.std.proofs.Common.{◌≡◌, ℕ, ◌+◌, ◌-◌, ◌<◌, ◌≤◌, List, [], ◌++◌, length, take, drop, Option, Err, sym, ◌∙◌, ap, subst, length-append, arith}
 use Rattle.std.proofs.lemmas.List.{take-append-drop, take_rest}
-use Rattle.std.proofs.Math.Seq.{take-append-add}
+use Rattle.std.proofs.Math.Seq.{take-add, take-append-add}
 use Rattle.std.specs.Io.KnownBytes.{Appends}
-use Rattle.tach_media.proofs.Parts.{take-add}
 use Rattle.link_model.specs.declared.request.Request.{Request}
 use Rattle.link_model.specs.declared.side.End.TheVariants as side
 use Rattle.link_model.specs.Frames.{Heard}
@@ -53,7 +52,7 @@ first_heard came bytes left count = sym (heard_append side.Unit [] came (take le
 
 -- how a service ends by the next bytes
 pub ends : {T : Type 0} (fault : ServeFault) (messages : Request → Option (List ℕ)) (state : LinkState) (came bytes : List ℕ) (left : ℕ) (h k l : Option (List ℕ)) → length came + left ≡ MOST
-    → IsAnswered messages Idle (heard_in side.Unit [] came) state h k → StopsWithin fault messages state (kept_after side.Unit [] came) left bytes k l → Sends {T} (Err fault) messages (came ++ bytes) h l
+    → IsAnswered messages Idle (heard_in side.Unit [] came) state h k → StopsWithin fault messages state (kept_after side.Unit [] came) left bytes k l → Sends {T = T} (Err fault) messages (came ++ bytes) h l
 ends ReadFault messages state came bytes left h k l count f p = absurd p
 ends WriteFault messages state came bytes left h k l count f p =
     subst (λ (seen : List Heard). Stops WriteFault messages Idle seen h l) (first_heard came bytes left count)

@@ -81,7 +81,9 @@ impl Session {
         ensures spared { asks_unit self.old.state (meant seen.now) ≡ false → unit.new ≡ unit.old }
         ensures silent { IfErr result (λ fault. asks_unit self.old.state (meant seen.now) ≡ true) }
     {
-        let reply = self.perform(messages, unit, step_of(self.standing, seen))?;
+        let standing = self.standing;
+        let step = step_of(standing, seen);
+        let reply = self.perform(messages, unit, step)?;
         self.standing = reply.standing;
         Ok(reply.answer)
     }

@@ -80,5 +80,5 @@ returns-then-count-eq0-clause-counts g c = (omega (arith, c.loop-turn.invariant.
 pub returns-then-count-eq0-clause-unit : goal.returns-then-count-eq0-clause-unit
 returns-then-count-eq0-clause-unit g c = c.loop-turn.invariant.0.reads
 
-pub prove-unreachable-requires : goal.prove-unreachable-requires
-prove-unreachable-requires g c = omega (arith, c.loop-turn.invariant.0.turns, c.loop-turn.invariant.0.count)
+pub unreachable-requires : goal.unreachable-requires
+unreachable-requires g c = omega (arith, c.loop-turn.invariant.0.turns, c.loop-turn.invariant.0.count)

@@ -43,7 +43,9 @@ returns-clause-possible g c =
     some_message c.args.from c.len.result items c.requires.from c.len.ensures.some fits
 
 pub returns-clause-outline : goal.returns-clause-outline
-returns-clause-outline g c = one_told (g.M.Medium.state c.args.unit.now).image _ c.in_ok-outline.ensures.outlined (λ x is. outlined_knows c.in_ok-outline.outline x c.args.request.now is)
+returns-clause-outline g c =
+    let request = c.args.request.now in
+    one_told (g.M.Medium.state c.args.unit.now).image _ c.in_ok-outline.ensures.outlined (λ x is. (subst (λ (f : Option Plan). IsOutlined x request f) c.in-Some.is is).1)
 
 pub returns-in_default-clause-outline : goal.returns-in_default-clause-outline
 returns-in_default-clause-outline g c = one_told (g.M.Medium.state c.args.unit.now).image _ c.in_ok-outline.ensures.outlined (λ x is. outlined_knows c.in_ok-outline.outline x c.args.request.now is)

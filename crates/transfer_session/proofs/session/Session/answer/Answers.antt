@@ -20,30 +20,30 @@ returns-in_err-reply-clause-reads g c = passed_reads c.from_residual.result _ c.
 
 pub returns-in_err-reply-clause-spared : goal.returns-in_err-reply-clause-spared
 returns-in_err-reply-clause-spared g c =
-    let asks_is : asks c.step_of.result ≡ asks_unit c.args.self.now.state (meant c.args.seen.now) =
-    c.step_of.ensures.asks ∙ ap (λ (v : SessionView). asks_unit v.state (meant c.args.seen.now)) c.self.view_is in
+    let asks_is : asks c.step_of-step.result ≡ asks_unit c.args.self.now.state (meant c.args.seen.now) =
+    c.step_of-step.ensures.asks ∙ ap (λ (v : SessionView). asks_unit v.state (meant c.args.seen.now)) c.self.view_is in
     λ no. c.perform.ensures.spared (asks_is ∙ no)
 
 pub returns-in_err-reply-clause-silent : goal.returns-in_err-reply-clause-silent
 returns-in_err-reply-clause-silent g c =
-    let asks_is : asks c.step_of.result ≡ asks_unit c.args.self.now.state (meant c.args.seen.now) =
-    c.step_of.ensures.asks ∙ ap (λ (v : SessionView). asks_unit v.state (meant c.args.seen.now)) c.self.view_is in
+    let asks_is : asks c.step_of-step.result ≡ asks_unit c.args.self.now.state (meant c.args.seen.now) =
+    c.step_of-step.ensures.asks ∙ ap (λ (v : SessionView). asks_unit v.state (meant c.args.seen.now)) c.self.view_is in
     if_err c.from_residual.result (λ fault. sym asks_is ∙ c.in_err-reply.ensures.silent)
 
 pub returns-clause-answered : goal.returns-clause-answered
 returns-clause-answered g c =
     one_told (g.M.Medium.state c.args.unit.now).image _ c.in_ok-reply.ensures.performed (λ x is.
-    is ∙ c.step_of.ensures.performs (content_sent x) ∙ ap (λ (v : SessionView). answered (content_sent x) v.state (meant c.args.seen.now)) c.self.view_is)
+    is ∙ c.step_of-step.ensures.performs (content_sent x) ∙ ap (λ (v : SessionView). answered (content_sent x) v.state (meant c.args.seen.now)) c.self.view_is)
 
 pub returns-clause-possible : goal.returns-clause-possible
 returns-clause-possible g c =
     let p = c.in_ok-reply.ensures.possible in
-    (p.0, p.1 ∙ c.step_of.ensures.performs p.0 ∙ ap (λ (v : SessionView). answered p.0 v.state (meant c.args.seen.now)) c.self.view_is)
+    (p.0, p.1 ∙ c.step_of-step.ensures.performs p.0 ∙ ap (λ (v : SessionView). answered p.0 v.state (meant c.args.seen.now)) c.self.view_is)
 
 pub returns-clause-judged : goal.returns-clause-judged
 returns-clause-judged g c =
-    let asks_is : asks c.step_of.result ≡ asks_unit c.args.self.now.state (meant c.args.seen.now) =
-    c.step_of.ensures.asks ∙ ap (λ (v : SessionView). asks_unit v.state (meant c.args.seen.now)) c.self.view_is in
+    let asks_is : asks c.step_of-step.result ≡ asks_unit c.args.self.now.state (meant c.args.seen.now) =
+    c.step_of-step.ensures.asks ∙ ap (λ (v : SessionView). asks_unit v.state (meant c.args.seen.now)) c.self.view_is in
     ap (λ (v : SessionView). is_judged v) c.self-2.view_is ∙ c.in_ok-reply.ensures.judged ∙ ap (λ (b : Bool). is_judged c.args.self.now || b) asks_is
 
 pub returns-clause-knows : goal.returns-clause-knows
@@ -51,6 +51,6 @@ returns-clause-knows g c = as_found _ _ _ c.self-2.view_is c.in_ok-reply.ensures
 
 pub returns-clause-spared : goal.returns-clause-spared
 returns-clause-spared g c =
-    let asks_is : asks c.step_of.result ≡ asks_unit c.args.self.now.state (meant c.args.seen.now) =
-    c.step_of.ensures.asks ∙ ap (λ (v : SessionView). asks_unit v.state (meant c.args.seen.now)) c.self.view_is in
+    let asks_is : asks c.step_of-step.result ≡ asks_unit c.args.self.now.state (meant c.args.seen.now) =
+    c.step_of-step.ensures.asks ∙ ap (λ (v : SessionView). asks_unit v.state (meant c.args.seen.now)) c.self.view_is in
     λ no. c.perform.ensures.spared (asks_is ∙ no)

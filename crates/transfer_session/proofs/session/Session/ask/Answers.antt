@@ -16,12 +16,12 @@ returns-in_default-clause-bad g c =
 pub part_of-requires-clause-decodes : goal.part_of-requires-clause-decodes
 part_of-requires-clause-decodes g c =
     let i = c.self.inside in
-    decodes_of i.journal i.outline c.in-Some.journal.now (g.M.Medium.state c.args.unit.now).image c.in-Some.is (as_found _ _ _ c.self.view_is c.requires.knows)
+    decodes_of i.journal i.outline c.in-Some.journal (g.M.Medium.state c.args.unit.now).image c.in-Some.is (as_found _ _ _ c.self.view_is c.requires.knows)
 
 pub part_of-requires-clause-right : goal.part_of-requires-clause-right
 part_of-requires-clause-right g c =
     let i = c.self.inside in
-    right_of i.journal i.outline c.in-Some.journal.now (g.M.Medium.state c.args.unit.now).image c.in-Some.is (as_found _ _ _ c.self.view_is c.requires.knows)
+    right_of i.journal i.outline c.in-Some.journal (g.M.Medium.state c.args.unit.now).image c.in-Some.is (as_found _ _ _ c.self.view_is c.requires.knows)
 
 pub part_of-requires-clause-known : goal.part_of-requires-clause-known
 part_of-requires-clause-known g c =
