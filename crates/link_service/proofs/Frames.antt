@@ -61,6 +61,6 @@ session_caused session.Failed read wrote judged Q is = tt
 session_caused (session.BadUnit place) read wrote judged Q is = is.1
 
 -- what the session says of the unit
-pub session_reads : {T U : Type 0} {old new : State} (fault : AnswerFault) → ReadsIfAny old new (session_failed {T = T} (Err fault)) → ReadsIfAny old new (has_failed {T = U} (Err (fault_of fault)))
+pub session_reads : {old new : State} (fault : AnswerFault) → ReadsIfAny old new (session_failed {T = Unit {0}} (Err fault)) → ReadsIfAny old new (has_failed {T = Unit {0}} (Err (fault_of fault)))
 session_reads session.Failed reads = reads
 session_reads (session.BadUnit place) reads = reads

@@ -90,17 +90,17 @@ serving_on {turn} {left} {a} {b} {line} {old} {mid} {h} {k} c next new l bytes n
     }
 
 -- the service ends by the next bytes
-ends_so : {T : Type 0} {turn left : ℕ} {a b : Option (List ℕ)} {line : Line} {old mid : State} {h k : Option (List ℕ)} (c l : Option (List ℕ)) (bytes : List ℕ) (fault : ServeFault)
+ends_so : (T : Type 0) {turn left : ℕ} {a b : Option (List ℕ)} {line : Line} {old mid : State} {h k : Option (List ℕ)} (c l : Option (List ℕ)) (bytes : List ℕ) (fault : ServeFault)
     → IsServing turn left a b line old mid h k → Consumes b c bytes
     → IfSome mid.image (λ x. StopsWithin fault (content_sent x) line.session.state line.scanner.kept left bytes k l)
     → IfSome old.image (λ x. IsServed {T = T} (Err fault) (content_sent x) a c h l)
-ends_so {T} {turn} {left} {a} {b} {line} {old} {mid} {h} {k} c l bytes fault s consumed stops =
+ends_so T {turn} {left} {a} {b} {line} {old} {mid} {h} {k} c l bytes fault s consumed stops =
     both_told old.image _ s.answered
     (carried (λ x. StopsWithin fault (content_sent x) line.session.state line.scanner.kept left bytes k l) (read_same s.reads) stops)
     (λ x is f g. record {
       came = s.came ++ bytes;
       consumed = Consumes-trans a b c s.came bytes s.consumed consumed;
-      sends = ends {T = T} fault (content_sent x) line.session.state s.came bytes left h k l s.count f
+      sends = ends T fault (content_sent x) line.session.state s.came bytes left h k l s.count f
           (subst (λ (scan : Scan). StopsWithin fault (content_sent x) line.session.state scan.kept left bytes k l) s.scanner g);
     })
 
@@ -109,7 +109,7 @@ pub serving_ends : {T : Type 0} (r : Result T ServeFault) {turn left : ℕ} {a b
     → IfSome mid.image (λ x. StopsWithin fault (content_sent x) line.session.state line.scanner.kept left bytes k l)
     → IfSome old.image (λ x. IsServed r (content_sent x) a c h l)
 serving_ends {T} r {turn} {left} {a} {b} {line} {old} {mid} {h} {k} c l bytes fault is s consumed stops =
-    subst (λ (q : Result T ServeFault). IfSome old.image (λ x. IsServed q (content_sent x) a c h l)) (sym (err_is r fault is)) (ends_so {T = T} c l bytes fault s consumed stops)
+    subst (λ (q : Result T ServeFault). IfSome old.image (λ x. IsServed q (content_sent x) a c h l)) (sym (err_is r fault is)) (ends_so T c l bytes fault s consumed stops)
 
 -- the source ends, or fails
 pub serving_done : {T : Type 0} (done : T) {turn left : ℕ} {a b : Option (List ℕ)} {line : Line} {old mid : State} {h k : Option (List ℕ)} (c : Option (List ℕ)) (bytes : List ℕ)
@@ -119,7 +119,7 @@ serving_done {T} done {turn} {left} {a} {b} {line} {old} {mid} {h} {k} c bytes s
     subst (λ (l : List ℕ). Consumes a c l) (ap (λ (l : List ℕ). s.came ++ l) none ∙ append-nil s.came) (Consumes-trans a b c s.came bytes s.consumed consumed) in
     one_told old.image _ s.answered (λ x f. record { came = s.came; consumed = all; sends = (omega (arith, s.count), f.sent) })
 
-pub serving_broken : {T : Type 0} {turn left : ℕ} {a b : Option (List ℕ)} {line : Line} {old mid : State} {h k : Option (List ℕ)} (c : Option (List ℕ))
+pub serving_broken : (T : Type 0) {turn left : ℕ} {a b : Option (List ℕ)} {line : Line} {old mid : State} {h k : Option (List ℕ)} (c : Option (List ℕ))
     → IsServing turn left a b line old mid h k → Keeps b c → IfSome old.image (λ x. IsServed {T = T} (Err ReadFault) (content_sent x) a c h k)
-serving_broken {T} {turn} {left} {a} {b} {line} {old} {mid} {h} {k} c s keeps =
+serving_broken T {turn} {left} {a} {b} {line} {old} {mid} {h} {k} c s keeps =
     one_told old.image _ s.answered (λ x f. record { came = s.came; consumed = Consumes-kept a b c s.came s.consumed keeps; sends = (omega (arith, s.count), f.sent) })

@@ -23,15 +23,9 @@ pub passed : {T E : Type 0} (r : Result T E) (e : E) (Q : E → Type 0) → IsEr
 passed (Ok v) e Q is q = absurd is
 passed (Err f) e Q is q = subst Q (sym is) q
 
-pub passed_reads : {T U : Type 0} {old new : State} (r : Result T AnswerFault) (e : AnswerFault) → IsErrAnd r (λ v. v ≡ e) → ReadsIfAny old new (has_failed {T = U} (Err e)) → ReadsIfAny old new (has_failed r)
+pub passed_reads : {T : Type 0} {old new : State} (r : Result T AnswerFault) (e : AnswerFault) → IsErrAnd r (λ v. v ≡ e) → ReadsIfAny old new (has_failed {T = Unit {0}} (Err e)) → ReadsIfAny old new (has_failed r)
 passed_reads (Ok v) e is reads = absurd is
-passed_reads {T} {U} {old} {new} (Err f) e is reads = subst (λ (b : Bool). ReadsIfAny old new b) (same f e is) reads
-  where
-    same : (f e : AnswerFault) → f ≡ e → has_failed {T = U} (Err e) ≡ has_failed {T = T} (Err f)
-    same Failed Failed is = refl
-    same Failed (BadUnit place) is = absurd (cc)
-    same (BadUnit place) Failed is = absurd (cc)
-    same (BadUnit place) (BadUnit other) is = refl
+passed_reads {T} {old} {new} (Err f) e is reads = subst (λ (fault : AnswerFault). ReadsIfAny old new (has_failed {T = Unit {0}} (Err fault))) (sym is) reads
 
 weaker : (fault : AnswerFault) (judged : Bool) (P : ℕ → Type 0) → judged ≡ false → IfBadUnit fault P → IfBadUnit fault (λ p. (judged ≡ false) × P p)
 weaker Failed judged P anew is = tt

@@ -1,14 +1,15 @@
 use Rattle.std.proofs.Common.{◌≡◌, ◌≤◌, ℕ, List, length, take, ◌∙◌, ap, arith}
 use Rattle.std.proofs.lemmas.List.{length-take-le}
+use Rattle.tach_media.specs.Medium.{Rose}
 use Rattle.unit_journal.proofs.IfAny.{read_same}
 use Rattle.transfer_session.proofs.IfAny.{same_size, if_any_then}
 use Rattle.link_service.proofs.Serving.{serving_none, serving_on, serving_ends, serving_done, serving_broken, still_hears, still_known}
-use Rattle.link_service.proofs.Faults.{passed, passed_reads, caused_on}
+use Rattle.link_service.proofs.Faults.{passed_reads, caused_passed}
 use Rattle.link_service.proofs.service.serve.Goals as goal
 
 pub loop-turn-init : goal.loop-turn-init
 loop-turn-init g c =
-    (serving_none (g.S.Source.left c.args.source.now) (g.K.Sink.held c.args.sink.now) c.new-line.result (g.U.Medium.state c.args.unit.now) c.new-line.ensures.scanner c.new-line.ensures.session, (omega arith, omega arith))
+    (serving_none (g.S.Source.left c.args.source.now) (g.K.Sink.held c.args.sink.now) c.new-line.result (g.U.Medium.state c.args.unit.now) c.new-line.ensures.scanner c.new-line.ensures.session, omega arith, omega arith)
 
 pub answer_within-requires-clause-unit : goal.answer_within-requires-clause-unit
 answer_within-requires-clause-unit g c = same_size c.loop-turn.invariant.0.reads ∙ c.requires.unit
@@ -29,7 +30,8 @@ loop-turn-preserved g c =
     let long : length bytes ≡ n = length-take-le n c.read.new.buf within in (
       serving_on (g.S.Source.left c.read.new.self) c.answer_within.new.self (g.U.Medium.state c.answer_within.new.unit) (g.K.Sink.held c.answer_within.new.sink) bytes n
           inv.0 long (omega arith) e.few c.in-Ok.ensures.bytes.0 e.kept e.answered e.knows e.unit,
-      (omega (arith, inv.1.0, c.in-Ok.ensures.cause.later), omega (arith, inv.1.1, e.counts)),
+      omega (arith, inv.1, c.in-Ok.ensures.cause.later),
+      omega (arith, inv.2, e.counts),
     )
 
 pub overflow_sub-left : goal.overflow_sub-left
@@ -46,25 +48,25 @@ returns-in_err-answer_within-clause-served g c =
 
 pub returns-in_err-answer_within-clause-cause : goal.returns-in_err-answer_within-clause-cause
 returns-in_err-answer_within-clause-cause g c =
-    passed c.from_residual.result _ _ c.from_residual.ensures.1
-    (caused_on _ _ _ _ _ _ (λ none. absurd none) c.loop-turn.invariant.1.1 (read_same c.loop-turn.invariant.0.reads) c.in_err-answer_within.ensures.cause)
+    caused_passed c.from_residual.result _ ⊥ (Rose (g.S.Source.faults c.args.source.now) (g.S.Source.faults c.read.new.self)) (g.K.Sink.faults c.args.sink.now) (g.K.Sink.faults c.loop-turn.sink)
+    (g.K.Sink.faults c.answer_within.new.sink) _ _ c.from_residual.ensures.1 (λ none. absurd none) c.loop-turn.invariant.2 (read_same c.loop-turn.invariant.0.reads) c.in_err-answer_within.ensures.cause
 
 pub returns-in_err-answer_within-clause-counts : goal.returns-in_err-answer_within-clause-counts
 returns-in_err-answer_within-clause-counts g c =
-    (omega (arith, c.loop-turn.invariant.1.0, c.in-Ok.ensures.cause.later), omega (arith, c.loop-turn.invariant.1.1, c.in_err-answer_within.ensures.counts))
+    (omega (arith, c.loop-turn.invariant.1, c.in-Ok.ensures.cause.later), omega (arith, c.loop-turn.invariant.2, c.in_err-answer_within.ensures.counts))
 
 pub returns-in_err-answer_within-clause-unit : goal.returns-in_err-answer_within-clause-unit
 returns-in_err-answer_within-clause-unit g c =
     passed_reads c.from_residual.result _ c.from_residual.ensures.1 (if_any_then c.loop-turn.invariant.0.reads c.in_err-answer_within.ensures.unit)
 
 pub returns-in_default-clause-served : goal.returns-in_default-clause-served
-returns-in_default-clause-served g c = serving_broken (g.S.Source.left c.read.new.self) c.loop-turn.invariant.0 c.in_default.ensures.bytes
+returns-in_default-clause-served g c = serving_broken (Unit {0}) (g.S.Source.left c.read.new.self) c.loop-turn.invariant.0 c.in_default.ensures.bytes
 
 pub returns-in_default-clause-cause : goal.returns-in_default-clause-cause
-returns-in_default-clause-cause g c = omega (arith, c.loop-turn.invariant.1.0, c.in_default.ensures.cause.failed)
+returns-in_default-clause-cause g c = omega (arith, c.loop-turn.invariant.1, c.in_default.ensures.cause.failed)
 
 pub returns-in_default-clause-counts : goal.returns-in_default-clause-counts
-returns-in_default-clause-counts g c = (omega (arith, c.loop-turn.invariant.1.0, c.in_default.ensures.cause.later), c.loop-turn.invariant.1.1)
+returns-in_default-clause-counts g c = (omega (arith, c.loop-turn.invariant.1, c.in_default.ensures.cause.later), c.loop-turn.invariant.2)
 
 pub returns-in_default-clause-unit : goal.returns-in_default-clause-unit
 returns-in_default-clause-unit g c = c.loop-turn.invariant.0.reads
@@ -75,7 +77,7 @@ returns-then-count-eq0-clause-served g c =
     (ap (λ (n : ℕ). take n c.read.new.buf) c.if-count-eq0.true)
 
 pub returns-then-count-eq0-clause-counts : goal.returns-then-count-eq0-clause-counts
-returns-then-count-eq0-clause-counts g c = (omega (arith, c.loop-turn.invariant.1.0, c.in-Ok.ensures.cause.later), c.loop-turn.invariant.1.1)
+returns-then-count-eq0-clause-counts g c = (omega (arith, c.loop-turn.invariant.1, c.in-Ok.ensures.cause.later), c.loop-turn.invariant.2)
 
 pub returns-then-count-eq0-clause-unit : goal.returns-then-count-eq0-clause-unit
 returns-then-count-eq0-clause-unit g c = c.loop-turn.invariant.0.reads

@@ -2,7 +2,7 @@ use Rattle.std.proofs.Common.{◌<◌, length, ◌∙◌, length-take, length-dr
 use Rattle.transfer_session.proofs.IfAny.{same_size, if_any_then}
 use Rattle.unit_journal.proofs.IfAny.{read_same}
 use Rattle.link_service.proofs.Answering.{answering_none, answering_on, answering_stops, answering_kept, answering_done, still_listens, still_knows}
-use Rattle.link_service.proofs.Faults.{passed, passed_reads, caused_on}
+use Rattle.link_service.proofs.Faults.{passed, passed_reads, caused_passed}
 use Rattle.link_service.proofs.line.Line.answer.Goals as goal
 
 pub loop-done-init : goal.loop-done-init
@@ -34,7 +34,8 @@ returns-in_err-done-clause-stops g c =
 
 pub returns-in_err-done-clause-cause : goal.returns-in_err-done-clause-cause
 returns-in_err-done-clause-cause g c =
-    passed c.from_residual.result _ _ c.from_residual.ensures.1 (caused_on _ _ _ _ _ _ (λ none. none) c.loop-done.invariant.1 (read_same c.loop-done.invariant.0.reads) c.in_err-done.ensures.cause)
+    caused_passed c.from_residual.result _ ⊥ ⊥ (g.K.Sink.faults c.args.sink.now) (g.K.Sink.faults c.loop-done.sink) (g.K.Sink.faults c.answer_next.new.sink) _ _ c.from_residual.ensures.1
+    (λ none. none) c.loop-done.invariant.1 (read_same c.loop-done.invariant.0.reads) c.in_err-done.ensures.cause
 
 pub returns-in_err-done-clause-unit : goal.returns-in_err-done-clause-unit
 returns-in_err-done-clause-unit g c = passed_reads c.from_residual.result _ c.from_residual.ensures.1 (if_any_then c.loop-done.invariant.0.reads c.in_err-done.ensures.unit)
