@@ -4,6 +4,7 @@ use Rattle.tach_media.specs.Streams.{AppendsFront}
 use Rattle.unit_memory.proofs.Told.{one_told, told_all}
 use Rattle.link_frames.specs.Seen.{meant}
 use Rattle.message_model.specs.Sending.{content_sent}
+use Rattle.link_service.specs.Served.{fault_of}
 use Rattle.link_service.proofs.Faults.{passed, passed_reads}
 use Rattle.link_service.proofs.Frames.{reply, one_silent, one_answered, one_cut, one_stopped, session_caused, session_reads}
 use Rattle.link_service.proofs.line.answer_frame.Goals as goal
@@ -18,7 +19,9 @@ returns-in_err-answer-clause-cause g c =
     passed c.from_residual.result _ _ c.from_residual.ensures.1 (session_caused _ _ _ _ _ c.in_err-answer.ensures.bad)
 
 pub returns-in_err-answer-clause-unit : goal.returns-in_err-answer-clause-unit
-returns-in_err-answer-clause-unit g c = passed_reads c.from_residual.result _ c.from_residual.ensures.1 (session_reads _ c.in_err-answer.ensures.reads)
+returns-in_err-answer-clause-unit g c =
+    let fault = c.in_err-answer.field-0.0 in
+    passed_reads c.from_residual.result (fault_of fault) c.from_residual.ensures.1 (session_reads fault c.in_err-answer.ensures.reads)
 
 pub returns-in_default-clause-answered : goal.returns-in_default-clause-answered
 returns-in_default-clause-answered g c =
