@@ -14,7 +14,7 @@ use Rattle.message_model.specs.Sending.{content_sent}
 use Rattle.unit_journal.specs.Reading.{ReadsIfAny}
 use Rattle.unit_journal.proofs.IfAny.{read_same}
 use Rattle.transfer_session.specs.Told.{Knows}
-use Rattle.transfer_session.proofs.IfAny.{no_reads_yet, if_any_then}
+use Rattle.unit_messages.proofs.Calls.{no_call, any_then}
 use Rattle.link_service.specs.Lines.{listening, IsAnswered}
 use Rattle.link_service.specs.Served.{Stops, StopsWithin}
 use Rattle.link_service.specs.declared.fault.ServeFault.{ServeFault}
@@ -37,7 +37,7 @@ answering_none bytes line s h listens knows = record {
   kept = listens;
   answered = told_all s.image _ (λ x is. none_answered (content_sent x) line.session.state h);
   knows = knows;
-  reads = no_reads_yet s;
+  reads = no_call s;
 }
 
 -- the scanner hears the unit's side, and the session knows the unit, before the next bytes
@@ -68,7 +68,7 @@ answering_on {bytes} {done} {before} {line} {old} {mid} {h} {k} n next new l a f
           (λ x is f g. subst (λ (seen : List Heard). IsAnswered (content_sent x) before.session.state seen next.session.state h l) heard
           (answered_on (content_sent x) before.session.state line.session.state next.session.state (heard_in side.Unit before_kept (take done bytes)) (heard_in side.Unit line.scanner.kept part) h k l f g));
       knows = carried (Knows next.session) same knows;
-      reads = if_any_then a.reads reads;
+      reads = any_then a.reads reads;
     }
 
 -- the answers end in the next bytes

@@ -16,7 +16,7 @@ use Rattle.message_model.specs.Sending.{content_sent}
 use Rattle.unit_journal.specs.Reading.{ReadsIfAny}
 use Rattle.unit_journal.proofs.IfAny.{read_same}
 use Rattle.transfer_session.specs.Told.{SessionView, Knows, fresh}
-use Rattle.transfer_session.proofs.IfAny.{no_reads_yet, if_any_then}
+use Rattle.unit_messages.proofs.Calls.{no_call, any_then}
 use Rattle.link_service.specs.Lines.{listening, IsAnswered}
 use Rattle.link_service.specs.Served.{StopsWithin, IsServed}
 use Rattle.link_service.specs.declared.fault.ServeFault.{ServeFault}
@@ -51,7 +51,7 @@ serving_none before held line s scanner session = record {
   scanner = scanner;
   answered = told_all s.image _ (λ x is. subst (λ (t : LinkState). IsAnswered (content_sent x) Idle [] t held held) (sym (ap (λ (v : SessionView). v.state) session)) (none_answered (content_sent x) Idle held));
   knows = told_all s.image _ (λ x is. subst (λ (v : SessionView). Knows v x) (sym session) (fresh_knows Idle x));
-  reads = no_reads_yet s;
+  reads = no_call s;
 }
 
 -- what is heard in the next bytes, by what is kept of those before
@@ -86,7 +86,7 @@ serving_on {turn} {left} {a} {b} {line} {old} {mid} {h} {k} c next new l bytes n
           (λ x is f g. subst (λ (seen : List Heard). IsAnswered (content_sent x) Idle seen next.session.state h l) (next_heard line.scanner s.came bytes s.scanner)
           (answered_on (content_sent x) Idle line.session.state next.session.state (heard_in side.Unit [] s.came) (heard_in side.Unit line.scanner.kept bytes) h k l f g));
       knows = carried (Knows next.session) same knows;
-      reads = if_any_then s.reads reads;
+      reads = any_then s.reads reads;
     }
 
 -- the service ends by the next bytes

@@ -1,3 +1,4 @@
+ghost use Rattle.unit_model.specs.declared.layout.TheConstants.{IMAGE_SIZE};
 ghost use Rattle.std.specs.Prelude.{◌≡◌, ℕ, ◌≤◌, ◌<◌, [], ◌∷◌, IfOk, OnOk, OnErr, IfErr, IfSome, Some, List, length, take};
 ghost use Rattle.tach_media.specs.Medium.{Rose};
 ghost use Rattle.link_model.specs.declared.side.End.TheVariants as side;
@@ -14,7 +15,7 @@ ghost use Rattle.link_service.specs.Served.{Stops, StopsWithin, has_failed, IsCa
 use crate::fault::ServeFault;
 use link_frames::{End, Scanner, Seen, write_frame};
 use tach_media::{Medium, Sink, put_all};
-use transfer_session::{Messages, Session};
+use transfer_session::Session;
 
 /// A unit on the link: what it hears, and where it stands.
 #[derive(Drop)]
@@ -36,14 +37,13 @@ impl Line {
     }
 
     /// Answers the frames that end in these bytes.
-    pub fn answer<T: Messages, K: Sink, U: Medium>(
+    pub fn answer<K: Sink, U: Medium>(
         &mut self,
-        messages: &T,
         bytes: &[u8],
         sink: &mut K,
         unit: &mut U,
     ) -> Result<(), ServeFault>
-        requires unit { (U.state unit.old).size ≡ 2485808 }
+        requires unit { (U.state unit.old).size ≡ IMAGE_SIZE }
         requires listens { self.old.scanner ≡ listening self.old.scanner.kept }
         requires knows { IfSome (U.state unit.old).image (Knows self.old.session) }
         ensures kept { OnOk result (self.new.scanner ≡ listening (kept_after side.Unit self.old.scanner.kept bytes.now)) }
@@ -58,21 +58,20 @@ impl Line {
     {
         let mut done = 0usize;
         while done < bytes.len() {
-            done += self.answer_next(messages, &bytes[done..], sink, unit)?;
+            done += self.answer_next(&bytes[done..], sink, unit)?;
         }
         Ok(())
     }
 
     /// Answers the frames that end in these bytes, of which so many may come; where more come, those in the first.
-    pub fn answer_within<T: Messages, K: Sink, U: Medium>(
+    pub fn answer_within<K: Sink, U: Medium>(
         &mut self,
-        messages: &T,
         bytes: &[u8],
         left: usize,
         sink: &mut K,
         unit: &mut U,
     ) -> Result<(), ServeFault>
-        requires unit { (U.state unit.old).size ≡ 2485808 }
+        requires unit { (U.state unit.old).size ≡ IMAGE_SIZE }
         requires listens { self.old.scanner ≡ listening self.old.scanner.kept }
         requires knows { IfSome (U.state unit.old).image (Knows self.old.session) }
         ensures few { OnOk result (length bytes.now ≤ left) }
@@ -87,22 +86,21 @@ impl Line {
         ensures unit { ReadsIfAny (U.state unit.old) (U.state unit.new) (has_failed result) }
     {
         if bytes.len() <= left {
-            return self.answer(messages, bytes, sink, unit);
+            return self.answer(bytes, sink, unit);
         }
-        self.answer(messages, &bytes[..left], sink, unit)?;
+        self.answer(&bytes[..left], sink, unit)?;
         Err(ServeFault::TooLong)
     }
 
     // Takes bytes up to the end of the next frame, or all of them, answers the frame, and says how many it took.
-    fn answer_next<T: Messages, K: Sink, U: Medium>(
+    fn answer_next<K: Sink, U: Medium>(
         &mut self,
-        messages: &T,
         bytes: &[u8],
         sink: &mut K,
         unit: &mut U,
     ) -> Result<usize, ServeFault>
         requires some { 0 < length bytes.now }
-        requires unit { (U.state unit.old).size ≡ 2485808 }
+        requires unit { (U.state unit.old).size ≡ IMAGE_SIZE }
         requires listens { self.old.scanner ≡ listening self.old.scanner.kept }
         requires knows { IfSome (U.state unit.old).image (Knows self.old.session) }
         ensures taken { IfOk result (λ n. (0 < n) × (n ≤ length bytes.now)) }
@@ -120,20 +118,19 @@ impl Line {
         let Some(seen) = heard else {
             return Ok(taken);
         };
-        answer_frame(messages, &mut self.session, &seen, sink, unit)?;
+        answer_frame(&mut self.session, &seen, sink, unit)?;
         Ok(taken)
     }
 }
 
 // Answers a frame, if there is an answer to it.
-fn answer_frame<T: Messages, K: Sink, U: Medium>(
-    messages: &T,
+fn answer_frame<K: Sink, U: Medium>(
     session: &mut Session,
     seen: &Seen,
     sink: &mut K,
     unit: &mut U,
 ) -> Result<(), ServeFault>
-    requires unit { (U.state unit.old).size ≡ 2485808 }
+    requires unit { (U.state unit.old).size ≡ IMAGE_SIZE }
     requires knows { IfSome (U.state unit.old).image (Knows session.old) }
     ensures answered { OnOk result (IfSome (U.state unit.old).image (λ x.
         IsAnswered (content_sent x) session.old.state (meant seen.now ∷ []) session.new.state (K.held sink.old) (K.held sink.new))) }
@@ -144,7 +141,7 @@ fn answer_frame<T: Messages, K: Sink, U: Medium>(
     ensures counts { K.faults sink.old ≤ K.faults sink.new }
     ensures unit { ReadsIfAny (U.state unit.old) (U.state unit.new) (has_failed result) }
 {
-    let answer = session.answer(messages, unit, seen)?;
+    let answer = session.answer(unit, seen)?;
     let Some(frame) = answer else {
         return Ok(());
     };

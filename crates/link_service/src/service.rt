@@ -1,3 +1,4 @@
+ghost use Rattle.unit_model.specs.declared.layout.TheConstants.{IMAGE_SIZE};
 ghost use Rattle.std.specs.Prelude.{◌≡◌, ◌≤◌, OnOk, IfErr, IfSome, Some};
 ghost use Rattle.std.specs.Io.KnownBytes.{IsAtEnd};
 ghost use Rattle.tach_media.specs.Medium.{Rose};
@@ -9,7 +10,6 @@ ghost use Rattle.link_service.specs.Served.{IsServed, has_failed, IsCaused};
 use crate::fault::ServeFault;
 use crate::line::Line;
 use tach_media::{Medium, Sink, Source};
-use transfer_session::Messages;
 
 /// The most bytes that a service answers.
 pub const MOST: u32 = 16777216;
@@ -21,13 +21,12 @@ pub const MOST: u32 = 16777216;
 ///
 /// `ReadFault` and `TooLong` after the answers to all bytes that came, or to the first 16777216; `WriteFault` after a front of
 /// them; `Failed` and `BadUnit` after the answers to the frames before one whose answer hangs on the unit.
-pub fn serve<T: Messages, S: Source, K: Sink, U: Medium>(
-    messages: &T,
+pub fn serve<S: Source, K: Sink, U: Medium>(
     source: &mut S,
     sink: &mut K,
     unit: &mut U,
 ) -> Result<(), ServeFault>
-    requires unit { (U.state unit.old).size ≡ 2485808 }
+    requires unit { (U.state unit.old).size ≡ IMAGE_SIZE }
     ensures served { IfSome (U.state unit.old).image (λ x.
         IsServed result (content_sent x) (S.left source.old) (S.left source.new) (K.held sink.old) (K.held sink.new)) }
     // At the end nothing of the source is left.
@@ -47,7 +46,7 @@ pub fn serve<T: Messages, S: Source, K: Sink, U: Medium>(
         if count == 0 {
             return Ok(());
         }
-        line.answer_within(messages, &block[..count], left, sink, unit)?;
+        line.answer_within(&block[..count], left, sink, unit)?;
         left -= count;
     }
     unreachable!()

@@ -1,13 +1,9 @@
 ghost use Rattle.std.specs.declared.option.Option.TheVariants.{None as Untold};
 
 use crate::{ServeFault, serve};
-use arrayvec::ArrayVec;
-use link_model::Request;
 use std::alloc::{AllocError, Global};
 use std::test::*;
-use tach_media::{AbsentMedium, Failed, Medium, MemSink, MemSource, Source};
-use transfer_session::{Messages, Outline};
-use unit_journal::Journal;
+use tach_media::{AbsentMedium, Failed, MemSink, MemSource, Source};
 use unit_model::layout::IMAGE_SIZE;
 
 /// From the start of communication to its end, with a request before the upload, an unknown service, one that is too short, a wrong
@@ -50,31 +46,6 @@ impl Source for Pieces {
     }
 }
 
-/// STAND-IN
-#[derive(Drop)]
-struct NoMessages;
-
-impl Messages for NoMessages {
-    fn read<M: Medium>(
-        &self,
-        _outline: &Outline,
-        _unit: &mut M,
-        _from: u32,
-        _out: &mut ArrayVec<u8, 252>,
-    ) -> Result<(), Failed> {
-        Err(Failed)
-    }
-
-    fn find_outline<M: Medium>(
-        &self,
-        _journal: &Journal,
-        _unit: &mut M,
-        _request: &Request,
-    ) -> Result<Option<Outline>, Failed> {
-        Err(Failed)
-    }
-}
-
 /// These bytes, in a vector with the room for them alone.
 fn copied(alloc: Global, bytes: &[u8]) -> Result<Vec<u8>, AllocError> {
     let mut list = Vec::with_capacity(alloc, bytes.len())?;
@@ -98,10 +69,7 @@ fn answers_in_any_pieces(rt: HostRuntime) {
             Vec::with_capacity(rt.alloc(), 100).unwrap(),
             Vec::new(rt.alloc()),
         );
-        assert_eq!(rt;
-            serve(&NoMessages, &mut source, &mut sink, &mut unit),
-            Ok(())
-        );
+        assert_eq!(rt; serve(&mut source, &mut sink, &mut unit), Ok(()));
         assert_eq!(rt; sink.held(), &ANSWERED[..]);
     }
 }
@@ -118,7 +86,7 @@ fn served(
     let mut unit = AbsentMedium::new(IMAGE_SIZE);
     let mut source = MemSource::new(copied(alloc, bytes)?, listed(alloc, source_fails)?);
     let mut sink = MemSink::new(Vec::with_capacity(alloc, room)?, listed(alloc, sink_fails)?);
-    let ended = serve(&NoMessages, &mut source, &mut sink, &mut unit);
+    let ended = serve(&mut source, &mut sink, &mut unit);
     Ok((ended, sink))
 }
 

@@ -6,8 +6,8 @@ use Rattle.unit_memory.proofs.Told.{one_told}
 use Rattle.unit_model.specs.Decoding.{Decodes}
 use Rattle.unit_journal.specs.declared.notes.Notes.{Notes}
 use Rattle.unit_journal.specs.Reading.{AreRight}
-use Rattle.transfer_session.specs.declared.outline.Plan.{Plan}
-use Rattle.transfer_session.specs.Outlines.{Outlines}
+use Rattle.unit_messages.specs.declared.outline.Plan.{Plan}
+use Rattle.unit_messages.specs.Outlines.{Outlines}
 use Rattle.transfer_session.specs.Told.{SessionView, KnowsUnit}
 
 -- a unit that was judged decodes, and the journal's notes are right

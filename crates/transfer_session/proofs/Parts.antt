@@ -4,8 +4,9 @@ use Rattle.link_model.specs.declared.request.Request.{Request}
 use Rattle.message_model.specs.Messages.{Message, number_of, content_of, message_bytes}
 use Rattle.message_model.specs.Sending.{message_of, content_sent}
 use Rattle.answer_table.specs.Sending.{IsPart}
-use Rattle.transfer_session.specs.declared.outline.Plan.{Plan}
-use Rattle.transfer_session.specs.Outlines.{Outlines, IsPiece, IsOutlined, asked, length_of}
+use Rattle.unit_messages.specs.declared.outline.Plan.{Plan}
+use Rattle.unit_messages.specs.Outlines.{Outlines, IsOutlined, asked, length_of}
+use Rattle.unit_messages.specs.Sent.{IsPiece}
 
 past_two : (a b : ℕ) (c : List ℕ) (from : ℕ) → 2 ≤ from → drop from (a ∷ b ∷ c) ≡ drop (from - 2) c
 past_two a b c zero h = absurd (omega arith)

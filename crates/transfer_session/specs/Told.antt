@@ -4,8 +4,8 @@ use Rattle.link_model.specs.Answers.{LinkState}
 use Rattle.unit_model.specs.Decoding.{Decodes}
 use Rattle.unit_journal.specs.declared.notes.Notes.{Notes}
 use Rattle.unit_journal.specs.Reading.{AreRight}
-use Rattle.transfer_session.specs.declared.outline.Plan.{Plan}
-use Rattle.transfer_session.specs.Outlines.{Outlines}
+use Rattle.unit_messages.specs.declared.outline.Plan.{Plan}
+use Rattle.unit_messages.specs.Outlines.{Outlines}
 use Rattle.transfer_session.specs.declared.asking.AnswerFault.{AnswerFault}
 use Rattle.transfer_session.specs.declared.asking.AnswerFault.TheVariants.{Failed, BadUnit}
 

@@ -1,20 +1,21 @@
 //! The part of an answer that asks the unit.
+ghost use Rattle.unit_model.specs.declared.layout.TheConstants.{IMAGE_SIZE};
 ghost use Rattle.std.specs.Prelude.{◌≡◌, ℕ, ◌≤◌, true, false, IfOk, OnOk, IfErr, IfSome, is_none, Some, List, Option, is_err};
 ghost use Rattle.link_model.specs.declared.request.Request.{Request as Asked};
 ghost use Rattle.message_model.specs.Sending.{content_sent};
 ghost use Rattle.unit_model.specs.Decoding.{Decodes, first_bad_place};
 ghost use Rattle.unit_journal.specs.Reading.{AreRight, ReadsIfAny};
 ghost use Rattle.tach_media.specs.Medium.{Reads};
-ghost use Rattle.transfer_session.specs.Outlines.{Outlines, IsOutlined};
+ghost use Rattle.unit_messages.specs.Outlines.{Outlines, IsOutlined};
 ghost use Rattle.answer_table.specs.Sending.{IsPart};
 ghost use Rattle.transfer_session.specs.Told.{IfBadUnit, has_failed};
 
-use crate::outline::{Messages, Outline};
 use answer_table::MOST;
 use arrayvec::ArrayVec;
 use link_model::Request;
 use tach_media::{Failed, Medium};
 use unit_journal::{Journal, UnitFault};
+use unit_messages::{Outline, find_outline};
 
 /// Why a session does not answer.
 #[derive(Clone, Copy, Debug, PartialEq, Eq)]
@@ -47,7 +48,7 @@ pub struct Part {
 
 /// Judges the unit: the journal of one whose image decodes.
 pub fn judge<M: Medium>(unit: &mut M) -> Result<Journal, AnswerFault>
-    requires unit { (M.state unit.old).size ≡ 2485808 }
+    requires unit { (M.state unit.old).size ≡ IMAGE_SIZE }
     ensures right { IfOk result (λ journal. IfSome (M.state unit.old).image (AreRight journal)) }
     ensures decodes { OnOk result (IfSome (M.state unit.old).image Decodes) }
     ensures bad { IfErr result (λ fault. IfBadUnit fault (λ p. IfSome (M.state unit.old).image (λ x. first_bad_place x ≡ Some p))) }
@@ -61,15 +62,14 @@ pub fn judge<M: Medium>(unit: &mut M) -> Result<Journal, AnswerFault>
 }
 
 /// Reads a part of a message of a unit that was judged. The outline that is known may be this message's.
-pub fn part_of<T: Messages, M: Medium>(
-    messages: &T,
+pub fn part_of<M: Medium>(
     journal: &Journal,
     unit: &mut M,
     known: &Option<Outline>,
     request: &Request,
     from: u32,
 ) -> Result<Part, Failed>
-    requires unit { (M.state unit.old).size ≡ 2485808 }
+    requires unit { (M.state unit.old).size ≡ IMAGE_SIZE }
     requires decodes { IfSome (M.state unit.old).image Decodes }
     requires right { IfSome (M.state unit.old).image (AreRight journal.now) }
     requires known { IfSome (M.state unit.old).image (λ x. IfSome known.now (λ o. Outlines o x)) }
@@ -79,7 +79,7 @@ pub fn part_of<T: Messages, M: Medium>(
     ensures outline { IfOk result (λ part. IfSome (M.state unit.old).image (λ x. IfSome part.outline (λ o. Outlines o x))) }
     ensures reads { ReadsIfAny (M.state unit.old) (M.state unit.new) (is_err result) }
 {
-    let outline = outline_of(messages, journal, unit, known, request)?;
+    let outline = outline_of(journal, unit, known, request)?;
     let mut bytes = ArrayVec::new();
     let Some(message) = outline else {
         return Ok(Part {
@@ -88,7 +88,7 @@ pub fn part_of<T: Messages, M: Medium>(
             outline,
         });
     };
-    messages.read(&message, unit, from, &mut bytes)?;
+    message.read(unit, from, &mut bytes)?;
     Ok(Part {
         told: Some(message.len()),
         bytes,
@@ -97,14 +97,13 @@ pub fn part_of<T: Messages, M: Medium>(
 }
 
 // The outline of a message; the one that is known where it is this message's.
-fn outline_of<T: Messages, M: Medium>(
-    messages: &T,
+fn outline_of<M: Medium>(
     journal: &Journal,
     unit: &mut M,
     known: &Option<Outline>,
     request: &Request,
 ) -> Result<Option<Outline>, Failed>
-    requires unit { (M.state unit.old).size ≡ 2485808 }
+    requires unit { (M.state unit.old).size ≡ IMAGE_SIZE }
     requires decodes { IfSome (M.state unit.old).image Decodes }
     requires right { IfSome (M.state unit.old).image (AreRight journal.now) }
     requires known { IfSome (M.state unit.old).image (λ x. IfSome known.now (λ o. Outlines o x)) }
@@ -116,5 +115,5 @@ fn outline_of<T: Messages, M: Medium>(
             return Ok(Some(*message));
         }
     }
-    messages.find_outline(journal, unit, request)
+    find_outline(journal, unit, request)
 }

@@ -3,9 +3,7 @@
 #![tactic(auto)]
 
 mod asking;
-mod outline;
 mod session;
 
 pub use asking::AnswerFault;
-pub use outline::{Messages, Outline};
 pub use session::Session;

@@ -1,3 +1,4 @@
+ghost use Rattle.unit_model.specs.declared.layout.TheConstants.{IMAGE_SIZE};
 ghost use Rattle.std.specs.Prelude.{◌≡◌, ℕ, ◌≤◌, true, false, ◌||◌, IfOk, OnOk, OnErr, IfErr, IfSome, Some, List, Option, is_some};
 ghost use Rattle.link_model.specs.declared.request.Request.{Request as Asked};
 ghost use Rattle.link_model.specs.Answers.{Idle, answered, sends_on};
@@ -11,13 +12,13 @@ ghost use Rattle.answer_table.specs.Sending.{IsPart, reply_of};
 ghost use Rattle.transfer_session.specs.Told.{Knows, is_judged, fresh, IfBadUnit, has_failed};
 
 use crate::asking::{AnswerFault, Part, judge, part_of};
-use crate::outline::{Messages, Outline};
 use answer_table::{Reply, Standing, Step, begun, place_of, sent_on, step_of};
 use link_frames::{Frame, Seen};
 use link_model::Request;
 use std::marker::Model;
 use tach_media::Medium;
 use unit_journal::Journal;
+use unit_messages::Outline;
 
 /// What a unit has told on the link so far, and what was found of the unit to tell it. A session judges its unit once, at the first
 /// frame whose answer hangs on it.
@@ -56,13 +57,12 @@ impl Session {
     ///
     /// `Failed` where the unit failed, and `BadUnit` with the place of the first field of its image, in order of places, that
     /// fails. The session is as it was.
-    pub fn answer<T: Messages, M: Medium>(
+    pub fn answer<M: Medium>(
         &mut self,
-        messages: &T,
         unit: &mut M,
         seen: &Seen,
     ) -> Result<Option<Frame>, AnswerFault>
-        requires unit { (M.state unit.old).size ≡ 2485808 }
+        requires unit { (M.state unit.old).size ≡ IMAGE_SIZE }
         // What the session has found of the unit is still so; whoever writes nothing to the unit keeps it.
         requires knows { IfSome (M.state unit.old).image (Knows self.old) }
         // The answer, and where the session stands then, are those of the table.
@@ -83,19 +83,14 @@ impl Session {
     {
         let standing = self.standing;
         let step = step_of(standing, seen);
-        let reply = self.perform(messages, unit, step)?;
+        let reply = self.perform(unit, step)?;
         self.standing = reply.standing;
         Ok(reply.answer)
     }
 
     // What a step answers, by the unit's messages where it hangs on them.
-    fn perform<T: Messages, M: Medium>(
-        &mut self,
-        messages: &T,
-        unit: &mut M,
-        step: Step,
-    ) -> Result<Reply, AnswerFault>
-        requires unit { (M.state unit.old).size ≡ 2485808 }
+    fn perform<M: Medium>(&mut self, unit: &mut M, step: Step) -> Result<Reply, AnswerFault>
+        requires unit { (M.state unit.old).size ≡ IMAGE_SIZE }
         requires knows { IfSome (M.state unit.old).image (Knows self.old) }
         ensures performed { IfOk result (λ reply. IfSome (M.state unit.old).image (λ x. reply_of reply ≡ performed (content_sent x) step)) }
         ensures possible { IfOk result (λ reply. (messages : Asked → Option (List ℕ)) × (reply_of reply ≡ performed messages step)) }
@@ -117,22 +112,19 @@ impl Session {
                 answer: None,
                 standing,
             }),
-            Step::Begin(request, standing) => self.begin(messages, unit, request, standing),
-            Step::Piece(request, counter, code) => {
-                self.go_on(messages, unit, request, counter, code)
-            }
+            Step::Begin(request, standing) => self.begin(unit, request, standing),
+            Step::Piece(request, counter, code) => self.go_on(unit, request, counter, code),
         }
     }
 
     // Begins to send a message, where there is one.
-    fn begin<T: Messages, M: Medium>(
+    fn begin<M: Medium>(
         &mut self,
-        messages: &T,
         unit: &mut M,
         request: Request,
         standing: Standing,
     ) -> Result<Reply, AnswerFault>
-        requires unit { (M.state unit.old).size ≡ 2485808 }
+        requires unit { (M.state unit.old).size ≡ IMAGE_SIZE }
         requires knows { IfSome (M.state unit.old).image (Knows self.old) }
         ensures begun { IfOk result (λ reply. IfSome (M.state unit.old).image (λ x. reply_of reply ≡ begins (state_of standing) request (content_sent x request))) }
         ensures possible { IfOk result (λ reply. (content : Option (List ℕ)) × (reply_of reply ≡ begins (state_of standing) request content)) }
@@ -143,20 +135,19 @@ impl Session {
         ensures bad { IfErr result (λ fault. IfBadUnit fault (λ p. (is_judged self.old ≡ false) × IfSome (M.state unit.old).image (λ x. first_bad_place x ≡ Some p))) }
         ensures reads { ReadsIfAny (M.state unit.old) (M.state unit.new) (has_failed result) }
     {
-        let part = self.ask(messages, unit, &request, 2)?;
+        let part = self.ask(unit, &request, 2)?;
         Ok(begun(request, standing, part.told, part.bytes.as_slice()))
     }
 
     // Goes on with a message.
-    fn go_on<T: Messages, M: Medium>(
+    fn go_on<M: Medium>(
         &mut self,
-        messages: &T,
         unit: &mut M,
         request: Request,
         counter: u16,
         code: u16,
     ) -> Result<Reply, AnswerFault>
-        requires unit { (M.state unit.old).size ≡ 2485808 }
+        requires unit { (M.state unit.old).size ≡ IMAGE_SIZE }
         requires knows { IfSome (M.state unit.old).image (Knows self.old) }
         ensures sent { IfOk result (λ reply. IfSome (M.state unit.old).image (λ x. reply_of reply ≡ sends_on request counter (content_sent x request) code)) }
         ensures possible { IfOk result (λ reply. (content : Option (List ℕ)) × (reply_of reply ≡ sends_on request counter content code)) }
@@ -168,19 +159,18 @@ impl Session {
         ensures reads { ReadsIfAny (M.state unit.old) (M.state unit.new) (has_failed result) }
     {
         let place = place_of(code);
-        let part = self.ask(messages, unit, &request, place)?;
+        let part = self.ask(unit, &request, place)?;
         Ok(sent_on(request, counter, code, part.told, part.bytes.as_slice()))
     }
 
     // Reads a part of a message, of a unit that is judged before, if it was not yet.
-    fn ask<T: Messages, M: Medium>(
+    fn ask<M: Medium>(
         &mut self,
-        messages: &T,
         unit: &mut M,
         request: &Request,
         from: u32,
     ) -> Result<Part, AnswerFault>
-        requires unit { (M.state unit.old).size ≡ 2485808 }
+        requires unit { (M.state unit.old).size ≡ IMAGE_SIZE }
         requires knows { IfSome (M.state unit.old).image (Knows self.old) }
         requires from { 2 ≤ from }
         ensures told { IfOk result (λ part. IfSome (M.state unit.old).image (λ x. IsPart (content_sent x request.now) from part.told part.bytes.items)) }
@@ -193,22 +183,21 @@ impl Session {
         ensures reads { ReadsIfAny (M.state unit.old) (M.state unit.new) (has_failed result) }
     {
         let Some(journal) = &self.journal else {
-            return self.ask_first(messages, unit, request, from);
+            return self.ask_first(unit, request, from);
         };
-        let part = part_of(messages, journal, unit, &self.outline, request, from)?;
+        let part = part_of(journal, unit, &self.outline, request, from)?;
         self.outline = part.outline;
         Ok(part)
     }
 
     // Judges the unit, and reads a part of a message.
-    fn ask_first<T: Messages, M: Medium>(
+    fn ask_first<M: Medium>(
         &mut self,
-        messages: &T,
         unit: &mut M,
         request: &Request,
         from: u32,
     ) -> Result<Part, AnswerFault>
-        requires unit { (M.state unit.old).size ≡ 2485808 }
+        requires unit { (M.state unit.old).size ≡ IMAGE_SIZE }
         requires anew { is_judged self.old ≡ false }
         requires from { 2 ≤ from }
         ensures told { IfOk result (λ part. IfSome (M.state unit.old).image (λ x. IsPart (content_sent x request.now) from part.told part.bytes.items)) }
@@ -221,7 +210,7 @@ impl Session {
         ensures reads { ReadsIfAny (M.state unit.old) (M.state unit.new) (has_failed result) }
     {
         let journal = judge(unit)?;
-        let part = part_of(messages, &journal, unit, &None, request, from)?;
+        let part = part_of(&journal, unit, &None, request, from)?;
         self.journal = Some(journal);
         self.outline = part.outline;
         Ok(part)

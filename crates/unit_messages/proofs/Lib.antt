@@ -4,7 +4,7 @@ mod Overviews
 mod Fronts
 mod Pieces
 mod Windows
-mod Calls
+pub mod Calls
 mod Choosing
 mod Passing
 mod Counting

@@ -2,7 +2,8 @@ use Rattle.std.proofs.Common.{◌≡◌, ◌≤◌, ℕ, List, length, take, ◌
 use Rattle.std.proofs.lemmas.List.{length-take-le}
 use Rattle.tach_media.specs.Medium.{Rose}
 use Rattle.unit_journal.proofs.IfAny.{read_same}
-use Rattle.transfer_session.proofs.IfAny.{same_size, if_any_then}
+use Rattle.unit_messages.proofs.Calls.{any_then}
+use Rattle.transfer_session.proofs.IfAny.{same_size}
 use Rattle.link_service.proofs.Serving.{serving_none, serving_on, serving_ends, serving_done, serving_broken, still_hears, still_known}
 use Rattle.link_service.proofs.Faults.{passed_reads, caused_passed}
 use Rattle.link_service.proofs.service.serve.Goals as goal
@@ -57,7 +58,7 @@ returns-in_err-answer_within-clause-counts g c =
 
 pub returns-in_err-answer_within-clause-unit : goal.returns-in_err-answer_within-clause-unit
 returns-in_err-answer_within-clause-unit g c =
-    passed_reads c.from_residual.result _ c.from_residual.ensures.1 (if_any_then c.loop-turn.invariant.0.reads c.in_err-answer_within.ensures.unit)
+    passed_reads c.from_residual.result _ c.from_residual.ensures.1 (any_then c.loop-turn.invariant.0.reads c.in_err-answer_within.ensures.unit)
 
 pub returns-in_default-clause-served : goal.returns-in_default-clause-served
 returns-in_default-clause-served g c = serving_broken (Unit {0}) (g.S.Source.left c.read.new.self) c.loop-turn.invariant.0 c.in_default.ensures.bytes

@@ -5,9 +5,10 @@ use Rattle.unit_journal.proofs.IfAny.{read_same}
 use Rattle.message_model.specs.Sending.{content_sent}
 use Rattle.answer_table.specs.Sending.{IsPart}
 use Rattle.answer_table.proofs.Parts.{some_message}
-use Rattle.transfer_session.specs.declared.outline.Plan.{Plan}
-use Rattle.transfer_session.specs.Outlines.{Outlines, IsOutlined, IsPiece, asked, length_of}
-use Rattle.transfer_session.proofs.IfAny.{if_any_then}
+use Rattle.unit_messages.specs.declared.outline.Plan.{Plan}
+use Rattle.unit_messages.specs.Outlines.{Outlines, IsOutlined, asked, length_of}
+use Rattle.unit_messages.specs.Sent.{IsPiece}
+use Rattle.unit_messages.proofs.Calls.{any_then}
 use Rattle.transfer_session.proofs.Parts.{no_part, outlined_part, outlined_knows}
 use Rattle.transfer_session.proofs.asking.part_of.Goals as goal
 
@@ -51,4 +52,4 @@ pub returns-in_default-clause-outline : goal.returns-in_default-clause-outline
 returns-in_default-clause-outline g c = one_told (g.M.Medium.state c.args.unit.now).image _ c.in_ok-outline.ensures.outlined (λ x is. outlined_knows c.in_ok-outline.outline x c.args.request.now is)
 
 pub returns-clause-reads : goal.returns-clause-reads
-returns-clause-reads g c = if_any_then c.in_ok-outline.ensures.reads c.in_ok-read.ensures.reads
+returns-clause-reads g c = any_then c.in_ok-outline.ensures.reads c.in_ok-read.ensures.reads

@@ -1,5 +1,6 @@
 use Rattle.std.proofs.Common.{◌<◌, length, ◌∙◌, length-take, length-drop, arith}
-use Rattle.transfer_session.proofs.IfAny.{same_size, if_any_then}
+use Rattle.unit_messages.proofs.Calls.{any_then}
+use Rattle.transfer_session.proofs.IfAny.{same_size}
 use Rattle.unit_journal.proofs.IfAny.{read_same}
 use Rattle.link_service.proofs.Answering.{answering_none, answering_on, answering_stops, answering_kept, answering_done, still_listens, still_knows}
 use Rattle.link_service.proofs.Faults.{passed, passed_reads, caused_passed}
@@ -38,7 +39,7 @@ returns-in_err-done-clause-cause g c =
     (λ none. none) c.loop-done.invariant.1 (read_same c.loop-done.invariant.0.reads) c.in_err-done.ensures.cause
 
 pub returns-in_err-done-clause-unit : goal.returns-in_err-done-clause-unit
-returns-in_err-done-clause-unit g c = passed_reads c.from_residual.result _ c.from_residual.ensures.1 (if_any_then c.loop-done.invariant.0.reads c.in_err-done.ensures.unit)
+returns-in_err-done-clause-unit g c = passed_reads c.from_residual.result _ c.from_residual.ensures.1 (any_then c.loop-done.invariant.0.reads c.in_err-done.ensures.unit)
 
 pub returns-clause-kept : goal.returns-clause-kept
 returns-clause-kept g c = answering_kept c.loop-done.invariant.0 (omega arith)

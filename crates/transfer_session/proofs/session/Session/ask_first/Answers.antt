@@ -4,9 +4,9 @@ use Rattle.unit_model.specs.Decoding.{Decodes}
 use Rattle.unit_journal.specs.Reading.{AreRight}
 use Rattle.message_model.specs.Sending.{content_sent}
 use Rattle.answer_table.specs.Sending.{IsPart}
-use Rattle.transfer_session.specs.Outlines.{Outlines}
+use Rattle.unit_messages.specs.Outlines.{Outlines}
 use Rattle.transfer_session.specs.Told.{SessionView}
-use Rattle.transfer_session.proofs.IfAny.{if_any_then}
+use Rattle.unit_messages.proofs.Calls.{any_then}
 use Rattle.transfer_session.proofs.Knowing.{judged_now}
 use Rattle.transfer_session.proofs.Faults.{failed_bad, failed_reads, passed_reads}
 use Rattle.transfer_session.proofs.session.Session.ask_first.Goals as goal
@@ -31,7 +31,7 @@ returns-in_err-part-clause-bad g c = failed_bad c.from_residual-in_err-part.resu
 
 pub returns-in_err-part-clause-reads : goal.returns-in_err-part-clause-reads
 returns-in_err-part-clause-reads g c =
-    failed_reads c.from_residual-in_err-part.result c.from_residual-in_err-part.ensures.1 (if_any_then (inr c.in_ok-journal.ensures.reads) c.in_err-part.ensures.reads)
+    failed_reads c.from_residual-in_err-part.result c.from_residual-in_err-part.ensures.1 (any_then (inr c.in_ok-journal.ensures.reads) c.in_err-part.ensures.reads)
 
 pub returns-clause-told : goal.returns-clause-told
 returns-clause-told g c =
@@ -46,4 +46,4 @@ returns-clause-knows g c =
     (carried (λ x. IfSome c.in_ok-part.part.outline (λ o. Outlines o x)) (c.in_ok-journal.ensures.reads.same refl) c.in_ok-part.ensures.outline)
 
 pub returns-clause-reads : goal.returns-clause-reads
-returns-clause-reads g c = if_any_then (inr c.in_ok-journal.ensures.reads) c.in_ok-part.ensures.reads
+returns-clause-reads g c = any_then (inr c.in_ok-journal.ensures.reads) c.in_ok-part.ensures.reads

@@ -7,7 +7,7 @@ use Rattle.answer_table.specs.declared.step.Step.{Step}
 use Rattle.answer_table.specs.Steps.{performed, asks}
 use Rattle.answer_table.specs.Sending.{reply_of}
 use Rattle.transfer_session.specs.Told.{is_judged}
-use Rattle.transfer_session.proofs.IfAny.{no_reads_yet}
+use Rattle.unit_messages.proofs.Calls.{no_call}
 use Rattle.transfer_session.proofs.Performing.{not_asked, now_judged, if_err, begun_possibly, sent_possibly}
 use Rattle.transfer_session.proofs.session.Session.perform.Goals as goal
 
@@ -21,7 +21,7 @@ pub returns-in-Answer-clause-judged : goal.returns-in-Answer-clause-judged
 returns-in-Answer-clause-judged g c = not_asked (is_judged c.args.self.now) (asks c.args.step) (ap (λ (s : Step). asks s) c.in-Answer.is)
 
 pub returns-in-Answer-clause-reads : goal.returns-in-Answer-clause-reads
-returns-in-Answer-clause-reads g c = no_reads_yet (g.M.Medium.state c.args.unit.now)
+returns-in-Answer-clause-reads g c = no_call (g.M.Medium.state c.args.unit.now)
 
 pub returns-in-Silence-clause-performed : goal.returns-in-Silence-clause-performed
 returns-in-Silence-clause-performed g c = told_all (g.M.Medium.state c.args.unit.now).image _ (λ x told. ap (λ (s : Step). performed (content_sent x) s) (sym c.in-Silence.is))
@@ -33,7 +33,7 @@ pub returns-in-Silence-clause-judged : goal.returns-in-Silence-clause-judged
 returns-in-Silence-clause-judged g c = not_asked (is_judged c.args.self.now) (asks c.args.step) (ap (λ (s : Step). asks s) c.in-Silence.is)
 
 pub returns-in-Silence-clause-reads : goal.returns-in-Silence-clause-reads
-returns-in-Silence-clause-reads g c = no_reads_yet (g.M.Medium.state c.args.unit.now)
+returns-in-Silence-clause-reads g c = no_call (g.M.Medium.state c.args.unit.now)
 
 pub returns-in-Begin-clause-performed : goal.returns-in-Begin-clause-performed
 returns-in-Begin-clause-performed g c =
