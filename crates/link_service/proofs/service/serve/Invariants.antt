@@ -1,0 +1,10 @@
+use Rattle.std.proofs.Common.{◌≤◌}
+use Rattle.link_service.proofs.Serving.{IsServing}
+use Rattle.link_service.proofs.service.serve.Given as goal
+
+-- the bytes so far were answered
+abbrev pub invariant-loop-turn : goal.invariant-loop-turn
+invariant-loop-turn g l =
+    IsServing l._turn l.left (g.S.Source.left l.initial.source) (g.S.Source.left l.source) l.line
+    (g.U.Medium.state l.initial.unit) (g.U.Medium.state l.unit) (g.K.Sink.held l.initial.sink) (g.K.Sink.held l.sink)
+    × (g.S.Source.faults l.initial.source ≤ g.S.Source.faults l.source) × (g.K.Sink.faults l.initial.sink ≤ g.K.Sink.faults l.sink)

@@ -1,0 +1,30 @@
+use transfer_session::AnswerFault;
+
+/// Why a service ended before its source.
+#[derive(Clone, Copy, Debug, PartialEq, Eq)]
+pub enum ServeFault {
+    /// The source failed.
+    ReadFault,
+    /// The sink failed.
+    WriteFault,
+    /// The unit failed.
+    Failed,
+    /// The unit's image does not decode: the place of the first field, in order of places, that fails.
+    BadUnit(u32),
+    /// More than 16777216 bytes came.
+    TooLong,
+}
+
+impl From<AnswerFault> for ServeFault {
+    ghost use Rattle.std.specs.Prelude.{◌≡◌};
+    ghost use Rattle.link_service.specs.Served.{fault_of};
+
+    ghost from_gives = { λ fault made. made ≡ fault_of fault };
+
+    fn from(fault: AnswerFault) -> ServeFault {
+        match fault {
+            AnswerFault::Failed => ServeFault::Failed,
+            AnswerFault::BadUnit(place) => ServeFault::BadUnit(place),
+        }
+    }
+}

@@ -1,0 +1,5 @@
+pub mod IfAny
+pub mod Parts
+pub mod Knowing
+pub mod Performing
+pub mod Faults
