@@ -13,11 +13,19 @@ ghost use Rattle.unit_notes.specs.Journal.{LeavesJournal};
 ghost use Rattle.unit_notes.specs.Noting.{IsWithdrawing, IsWithdrawn, IsNotingEvent, IsEventNoted, IsNotingOver, IsOverNoted};
 ghost use Rattle.unit_notes.specs.Tables.{all_events};
 
-use crate::{Insertion, UnitEvent, noting, over, rings, tables};
-use event_model::Over;
+use crate::insertion::write_insertion;
+use crate::noting::note;
+use crate::over::{count_one, note_first, write_over};
+use crate::rings::{
+    OUT_ODOMETER, OUT_TIME, PLACE_SIZE, insertions, places, set_part, write_unit_place,
+};
+use crate::tables::{FAULT_SIZE, OVER_SIZE};
+use crate::unit_event::write_fault;
+use crate::{Insertion, UnitEvent, rings, tables};
+use event_model::{OVER_SPEEDING, Over};
 use gated_ring::Ring;
 use tach_media::{Failed, Medium};
-use tacho_types::{FullCardNumber, Odometer, PlaceEntry, TimeReal};
+use tacho_types::{FullCardNumber, Odometer, PlaceEntry, TimeReal, write_odometer, write_time};
 use unit_memory::UnitMemory;
 
 /// What the memory of a unit notes beside its minutes, in its rings (profile). The unit is the one that the memory was loaded
@@ -196,7 +204,9 @@ impl UnitNotes for UnitMemory {
     }
 
     fn note_insertion<M: Medium>(&self, unit: &mut M, entry: &Insertion) -> Result<u32, Failed> {
-        rings::note_insertion(unit, entry)
+        let mut bytes = [0; Insertion::SIZE];
+        write_insertion(entry, &mut bytes);
+        insertions().add(unit, &bytes)
     }
 
     fn note_withdrawal<M: Medium>(
@@ -206,7 +216,12 @@ impl UnitNotes for UnitMemory {
         time: TimeReal,
         odometer: Odometer,
     ) -> Result<(), Failed> {
-        rings::note_withdrawal(unit, index, time, odometer)
+        let mut out_time = [0; TimeReal::SIZE];
+        write_time(time, &mut out_time);
+        set_part(unit, index, OUT_TIME, &out_time)?;
+        let mut out_odometer = [0; Odometer::SIZE];
+        write_odometer(odometer, &mut out_odometer);
+        set_part(unit, index, OUT_ODOMETER, &out_odometer)
     }
 
     fn note_place<M: Medium>(
@@ -215,11 +230,16 @@ impl UnitNotes for UnitMemory {
         number: &FullCardNumber,
         entry: &PlaceEntry,
     ) -> Result<(), Failed> {
-        rings::note_place(unit, number, entry)
+        let mut bytes = [0; PLACE_SIZE];
+        write_unit_place(number, entry, &mut bytes);
+        places().add(unit, &bytes)?;
+        Ok(())
     }
 
     fn note_event<M: Medium>(&self, unit: &mut M, event: &UnitEvent) -> Result<(), Failed> {
-        noting::note_event(unit, event)
+        let mut front = [0; FAULT_SIZE];
+        write_fault(event, &mut front);
+        note(unit, event.kind, &front)
     }
 
     fn note_over<M: Medium>(
@@ -228,10 +248,16 @@ impl UnitNotes for UnitMemory {
         over: &Over,
         driver: &FullCardNumber,
     ) -> Result<(), Failed> {
-        over::note_over(unit, over, driver)
+        let mut front = [0; OVER_SIZE - 1];
+        write_over(over, driver, &mut front);
+        note(unit, OVER_SPEEDING, &front)?;
+        note_first(unit, over.begin)?;
+        count_one(unit)
     }
 
     fn note_fault<M: Medium>(&self, unit: &mut M, event: &UnitEvent) -> Result<(), Failed> {
-        noting::note_fault(unit, event)
+        let mut front = [0; FAULT_SIZE];
+        write_fault(event, &mut front);
+        note(unit, event.kind, &front)
     }
 }

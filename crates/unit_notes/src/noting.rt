@@ -1,22 +1,18 @@
 //! The noting of events and faults.
-ghost use Rattle.std.specs.Prelude.{◌≡◌, ◌≢◌, ◌≤◌, ◌<◌, ◌+◌, ◌*◌, ◌==◌, not, ◌&&◌, [], ◌∷◌, length, map, IsTrue, IfOk, IfSome, None, OnOk, is_err, true};
+ghost use Rattle.std.specs.Prelude.{◌≡◌, ◌≢◌, ◌≤◌, ◌<◌, ◌+◌, ◌*◌, [], ◌∷◌, length, map, IfOk, IfSome, None, OnOk, is_err, true};
 ghost use Rattle.byte_fields.specs.Fields.{total_width};
 ghost use Rattle.tach_media.specs.Medium.{Reads, LeavesOnly, HasCause, IsSettled, StaysSettled, last_count};
 ghost use Rattle.unit_model.specs.Image.{IsUnit};
-ghost use Rattle.event_model.specs.declared.kinds.TheConstants.{CARD_FAULT, OVER_SPEEDING};
-ghost use Rattle.event_model.specs.Kinds.{purpose_of, purpose_number, is_event, places_of};
+ghost use Rattle.event_model.specs.Kinds.{places_of};
 ghost use Rattle.event_model.specs.Places.{place_of, day_place, similar_after};
 ghost use Rattle.gated_ring.specs.Change.{IsReplaced, IsReplacingEntry, IsSet, OrUnwritten};
 ghost use Rattle.side_model.specs.Tables.{widths_of, table_of, held_in, similar_field, similar_at};
-ghost use Rattle.unit_notes.specs.Entries.{fault_bytes};
 ghost use Rattle.unit_notes.specs.Tables.{rows_in, place_taken, place_of_day, similar_next, similar_place, front_size, with_similar};
 ghost use Rattle.unit_notes.specs.Noting.{IsNotingEvent, IsEventNoted};
 
-use crate::UnitEvent;
 use crate::tables::{
-    FAULT_SIZE, MOST_BYTES, base_of, count_of, held_in, held_table, similar_at, table_of, width_of,
+    MOST_BYTES, base_of, count_of, held_in, held_table, similar_at, table_of, width_of,
 };
-use crate::unit_event::write_fault;
 use arrayvec::ArrayVec;
 use event_model::{CARD_FAULT, Held};
 use event_rules::{day_place, place_for, similar_after};
@@ -156,49 +152,4 @@ fn count_on_day<M: Medium>(
         Some(day) => count_similar(unit, kind, day, choice.similar),
         None => Ok(()),
     }
-}
-
-/// Notes an event of the types 01, 03, 04, 05, 06 or 08, with its purpose (Annex IB, section III.12): at the place of the
-/// event of its day where that measures less, else in an empty place, else in that of the earliest begin, where it begins
-/// later. Where it is not kept, the event of its day counts it as similar. Every other byte of the unit stays.
-///
-/// # Errors
-///
-/// `Failed` where the medium failed.
-pub fn note_event<M: Medium>(unit: &mut M, event: &UnitEvent) -> Result<(), Failed>
-    requires unit { IsUnit (M.state unit.old) }
-    requires kind { IsTrue (is_event event.now.kind && not (event.now.kind == OVER_SPEEDING)) }
-    requires purpose { event.now.purpose ≡ purpose_number (purpose_of event.now.kind) }
-    requires begin { event.now.begin.0 ≢ 0 }
-    ensures noted { OnOk result (IfSome (M.state unit.old).image (λ x. IfSome (M.state unit.new).image (IsEventNoted event.now.kind (fault_bytes event.now) x))) }
-    ensures moments { LeavesOnly (M.state unit.old) (M.state unit.new) (IsNotingEvent event.now.kind (fault_bytes event.now)) }
-    ensures settled { OnOk result (StaysSettled (M.state unit.old) (M.state unit.new)) }
-    ensures cause { HasCause (M.state unit.old) (M.state unit.new) (is_err result) }
-    ensures most { (M.state unit.new).clock ≤ (M.state unit.old).clock + 4 }
-{
-    let mut front = [0; FAULT_SIZE];
-    write_fault(event, &mut front);
-    note(unit, event.kind, &front)
-}
-
-/// Notes a fault of type 40, with its purpose: in an empty place, else in that of the earliest begin, where it begins later.
-/// Every other byte of the unit stays.
-///
-/// # Errors
-///
-/// `Failed` where the medium failed.
-pub fn note_fault<M: Medium>(unit: &mut M, event: &UnitEvent) -> Result<(), Failed>
-    requires unit { IsUnit (M.state unit.old) }
-    requires kind { event.now.kind ≡ CARD_FAULT }
-    requires purpose { event.now.purpose ≡ purpose_number (purpose_of event.now.kind) }
-    requires begin { event.now.begin.0 ≢ 0 }
-    ensures noted { OnOk result (IfSome (M.state unit.old).image (λ x. IfSome (M.state unit.new).image (IsEventNoted event.now.kind (fault_bytes event.now) x))) }
-    ensures moments { LeavesOnly (M.state unit.old) (M.state unit.new) (IsNotingEvent event.now.kind (fault_bytes event.now)) }
-    ensures settled { OnOk result (StaysSettled (M.state unit.old) (M.state unit.new)) }
-    ensures cause { HasCause (M.state unit.old) (M.state unit.new) (is_err result) }
-    ensures most { (M.state unit.new).clock ≤ (M.state unit.old).clock + 4 }
-{
-    let mut front = [0; FAULT_SIZE];
-    write_fault(event, &mut front);
-    note(unit, event.kind, &front)
 }

@@ -1,13 +1,11 @@
 //! Over speedings: their places, the begin of the first one, and their number.
-ghost use Rattle.std.specs.Prelude.{◌≡◌, ◌≢◌, ◌≤◌, ◌+◌, length, IfSome, OnOk, is_err, option_map, true};
+ghost use Rattle.std.specs.Prelude.{◌≡◌, ◌≤◌, ◌+◌, length, OnOk, is_err, option_map};
 ghost use Rattle.byte_fields.specs.Images.{number_at};
 ghost use Rattle.tach_media.specs.Medium.{LeavesOnly, HasCause, StaysSettled};
 ghost use Rattle.unit_model.specs.Image.{IsUnit};
 ghost use Rattle.unit_notes.specs.Entries.{over_bytes};
-ghost use Rattle.unit_notes.specs.Noting.{OrTurned, with_first, with_one_more, IsNotingOver, IsOverNoted};
+ghost use Rattle.unit_notes.specs.Noting.{OrTurned, with_first, with_one_more};
 
-use crate::noting::note;
-use crate::tables::OVER_SIZE;
 use event_model::{OVER_SPEEDING, Over};
 use tach_media::{Failed, Medium, read_number};
 use tacho_types::{FullCardNumber, TimeReal, write_card_number, write_time};
@@ -22,7 +20,7 @@ const MOST: u32 = 255;
 
 // Writes an over speeding but its number of similar events into 30 bytes.
 #[tactic(auto, unfolding(crate::specs::Entries::over_bytes))]
-fn write_over(over: &Over, driver: &FullCardNumber, out: &mut [u8])
+pub fn write_over(over: &Over, driver: &FullCardNumber, out: &mut [u8])
     requires size { length out.old ≡ 30 }
     ensures bytes { out.new ≡ over_bytes over.now driver.now }
     ensures begin { number_at out.new 2 4 ≡ over.now.begin }
@@ -38,35 +36,8 @@ fn write_over(over: &Over, driver: &FullCardNumber, out: &mut [u8])
     write_card_number(driver, number);
 }
 
-/// Notes an over speeding with the driver's card number at its begin, zeros without a card (Annex IB, section III.12): its
-/// entry as an event of one of the last ten days, of the highest average speed; then its begin as that of the first one,
-/// where none is held; then the number of over speedings, one more, at most 255 (profile). Every other byte of the unit stays.
-///
-/// # Errors
-///
-/// `Failed` where the medium failed.
-pub fn note_over<M: Medium>(
-    unit: &mut M,
-    over: &Over,
-    driver: &FullCardNumber,
-) -> Result<(), Failed>
-    requires unit { IsUnit (M.state unit.old) }
-    requires begin { over.now.begin ≢ 0 }
-    ensures noted { OnOk result (IfSome (M.state unit.old).image (λ x. IfSome (M.state unit.new).image (IsOverNoted over.now.begin (over_bytes over.now driver.now) x))) }
-    ensures moments { LeavesOnly (M.state unit.old) (M.state unit.new) (IsNotingOver over.now.begin (over_bytes over.now driver.now)) }
-    ensures settled { OnOk result (StaysSettled (M.state unit.old) (M.state unit.new)) }
-    ensures cause { HasCause (M.state unit.old) (M.state unit.new) (is_err result) }
-    ensures most { (M.state unit.new).clock ≤ (M.state unit.old).clock + 6 }
-{
-    let mut front = [0; OVER_SIZE - 1];
-    write_over(over, driver, &mut front);
-    note(unit, OVER_SPEEDING, &front)?;
-    note_first(unit, over.begin)?;
-    count_one(unit)
-}
-
 // Notes the begin of the first over speeding where none is held.
-fn note_first<M: Medium>(unit: &mut M, begin: u32) -> Result<(), Failed>
+pub fn note_first<M: Medium>(unit: &mut M, begin: u32) -> Result<(), Failed>
     requires unit { IsUnit (M.state unit.old) }
     ensures written { OnOk result ((M.state unit.new).image ≡ option_map (with_first begin) (M.state unit.old).image) }
     ensures moments { LeavesOnly (M.state unit.old) (M.state unit.new) (OrTurned (with_first begin)) }
@@ -82,7 +53,7 @@ fn note_first<M: Medium>(unit: &mut M, begin: u32) -> Result<(), Failed>
 }
 
 // Counts one over speeding more, at most 255.
-fn count_one<M: Medium>(unit: &mut M) -> Result<(), Failed>
+pub fn count_one<M: Medium>(unit: &mut M) -> Result<(), Failed>
     requires unit { IsUnit (M.state unit.old) }
     ensures written { OnOk result ((M.state unit.new).image ≡ option_map with_one_more (M.state unit.old).image) }
     ensures moments { LeavesOnly (M.state unit.old) (M.state unit.new) (OrTurned with_one_more) }
