@@ -1,2 +1,3 @@
 pub mod Moments
 pub mod Stated
+pub mod Begun

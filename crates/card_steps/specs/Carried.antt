@@ -1,15 +1,17 @@
 -- What is carried of a card's string of days (profile): in a session, and where one was broken off.
-use Rattle.std.specs.Prelude.{◌≡◌, ℕ, List}
+use Rattle.std.specs.Prelude.{◌≡◌, ℕ, ◌/◌, List, [], ◌∷◌, ◌++◌}
 use Rattle.activity_codec.specs.declared.entries.Entry.{Entry}
 use Rattle.card_layout.specs.declared.files.Application.{Application}
-use Rattle.card_model.specs.Changes.{trimmed}
+use Rattle.card_model.specs.Days.{Day}
+use Rattle.card_model.specs.Changes.{date_of, trimmed}
 use Rattle.card_retention.specs.Expected.{Counted, expected_days}
 use Rattle.card_retention.specs.Entries.{entries_up_to}
-use Rattle.card_retention.specs.Retains.{entries_in, CardRetains}
-use Rattle.card_retention.specs.Shown.{Bound, AllUpTo, AllIn, sizes}
+use Rattle.card_retention.specs.Retains.{entries_in, begun_on, CardRetains}
+use Rattle.card_retention.specs.Shown.{Bound, AllBefore, AllUpTo, AllIn, Rests, sizes}
 use Rattle.card_image.specs.Fields.{card_days, end_mark}
 use Rattle.card_image.specs.View.{card_view}
-use Rattle.card_session.specs.Overwriting.{GoesOn, IsRepairable, ShowsEntries, TellsNoLater}
+use Rattle.card_session.specs.Books.{bare_word}
+use Rattle.card_session.specs.Overwriting.{GoesOn, ShowsEntries, TellsNoLater}
 
 -- In a session: of all entries so far the card shows those whose days it has, and keeps the rule of overwriting where the next one is
 -- not earlier than `from`; behind the end mark no minute tells one, but where the closing word is still to come.
@@ -19,12 +21,38 @@ pub record Goes (app : Application) (slack : Bound) (covered from : ℕ) (c : Co
   pub lists : ShowsEntries app all x
   pub silent : TellsNoLater app x
 
--- Where it was broken off: the same of what a repair leaves.
-pub record Broke (app : Application) (slack : Bound) (covered from : ℕ) (c : Counted) (all : List Entry) (x : List ℕ) : Type 0 where
-  pub rests : IsRepairable app slack covered from c x
-  pub until : AllUpTo (end_mark app x) all
-  pub lists : entries_up_to (end_mark app x) (card_days app x)
-      ≡ entries_in (sizes (trimmed (end_mark app x) (card_days app x))) all
+-- Of days that were broken off at an end mark: the same of what a repair leaves.
+pub record BrokeOf (size : ℕ) (slack : Bound) (covered from mark : ℕ) (c : Counted) (all : List Entry) (days : List Day) : Type 0 where
+  pub rests : Rests size slack covered from mark c (trimmed mark days)
+  pub until : AllUpTo mark all
+  pub lists : entries_up_to mark days ≡ entries_in (sizes (trimmed mark days)) all
+
+-- Or the first entry's keep was broken off on the day of the end mark, where that is later than each day that the string had: a repair
+-- leaves these, and that day with its first word. No expected day is as late, and no entry is on it.
+pub record BegunOf (size : ℕ) (slack : Bound) (covered from mark : ℕ) (c : Counted) (all : List Entry) (days : List Day) : Type 0 where
+  pub older : List Day
+  pub young : Day
+  pub is : trimmed mark days ≡ older ++ young ∷ []
+  pub date : young.date ≡ date_of mark
+  pub first : young.words ≡ bare_word ∷ []
+  pub rests : Rests size slack covered from mark c older
+  pub before : AllBefore (mark / 1440) (sizes older)
+  pub fresh : AllBefore (mark / 1440) c.days
+  pub until : AllUpTo mark all
+  pub lists : entries_up_to mark days ≡ entries_in (sizes older) all
+  pub empty : entries_in (begun_on (mark / 1440) ∷ []) all ≡ []
+
+-- Where a session was broken off.
+abbrev pub Broke : Application → (slack : Bound) → (covered from : ℕ) → Counted → (all : List Entry) → List ℕ → Type 0
+Broke app slack covered from c all x = BrokeOf app.activity slack covered from (end_mark app x) c all (card_days app x)
+
+abbrev pub Begun : Application → (slack : Bound) → (covered from : ℕ) → Counted → (all : List Entry) → List ℕ → Type 0
+Begun app slack covered from c all x = BegunOf app.activity slack covered from (end_mark app x) c all (card_days app x)
+
+-- No expected day reaches that of the end mark, and no entry is on it: so it is at the start of a card whose newest day is earlier.
+abbrev pub IsFresh : Application → Counted → (all : List Entry) → List ℕ → Type 0
+IsFresh app c all x =
+    AllBefore (end_mark app x / 1440) c.days × (entries_in (begun_on (end_mark app x / 1440) ∷ []) all ≡ [])
 
 -- What is stated of it: the days that count on the card keep the rule, where the next entry is not earlier than `n`; and the day of each
 -- of these first ones, from the oldest on, is there.

@@ -8,14 +8,14 @@ use Rattle.card_retention.specs.Shown.{Bound}
 use Rattle.card_image.specs.Fields.{end_mark, session_time}
 use Rattle.card_image.specs.View.{card_view}
 use Rattle.card_session.specs.Overwriting.{BeginsBehind, and_entry}
-use Rattle.card_steps.specs.Carried.{Goes, Broke}
+use Rattle.card_steps.specs.Carried.{Goes, Broke, Begun}
 
 module _ (app : Application) (slack : Bound) (covered : ℕ) (c : Counted) (all : List Entry) (e : Entry) (x y : List ℕ) where
-  -- The end mark is the old one: what a repair leaves keeps the rule, where the entry comes next; and the newest minute is the old
-  -- one, but where words stand behind it.
+  -- The end mark is the old one: what a repair leaves keeps the rule, where the entry comes next, or its day is begun; and the
+  -- newest minute is the old one, but where words stand behind it.
   pub record IsStopped : Type 0 where
     pub mark : end_mark app y ≡ end_mark app x
-    pub broke : Broke app slack covered e.minute c all y
+    pub left : Broke app slack covered e.minute c all y ⊎ Begun app slack covered e.minute c all y
     pub newest : max (card_view app x).word (card_view app y).newest ≡ max (card_view app x).word (card_view app x).newest
 
   -- The end mark is the entry's minute: the session goes on with it, the newest minute is that of the closing word behind it, and the

@@ -46,7 +46,7 @@ rows-kept (Err f) o p k same said n has = tt
 pub same_minute : (k : KeptMinute) (i : HistoryMinute) → kept_minute k ≡ seen_by_unit i → 1440 ≤ k.minute → 1440 ≤ i.minute
 same_minute k i is low = let same : k.minute ≡ i.minute = ap (λ (m : UnitMinute). m.minute) is in omega (arith, low, same)
 
-any-later : (next n : ℕ) (full : List Entry) (h : Held) → next ≤ n → AnyString next full h → AnyString n full h
+pub any-later : (next n : ℕ) (full : List Entry) (h : Held) → next ≤ n → AnyString next full h → AnyString n full h
 any-later next n full h le is = tt
 
 module _ {U V : State} (k : UnitMinute) (odometer : ℕ) (i : HistoryMinute) (is : k ≡ seen_by_unit i) (whole : IsCoherent U) (run : LeavesOnly U V (journal.IsKeeping k odometer)) (s : Started) (due : ℕ) (b : Book) (marks : List Mark) (h : Holds s due b marks U) (none : b.maybe ≡ None) (late : due ≤ i.minute) where

@@ -78,7 +78,7 @@ module _ (s : Session) (slack : Bound) (covered from : ℕ) (c : Counted) (all :
   app = s.application
 
   pub shown : IsCardKeeping s e odometer x y → IsKeepShown app slack covered c all e x y
-  shown keeping = keep_shown s e odometer x y slack covered from c all ready.carried.sizes ready.later late ready.carried.bytes ready.carried.session ready.carried.goes ready.clear keeping
+  shown keeping = keep_shown s e odometer x y slack covered from c all ready.carried.sizes ready.later late ready.carried.bytes ready.carried.session ready.carried.goes keeping ready.clear
 
   new-view : IsCardKeeping s e odometer x y → own_view y ≡ card_view app y
   new-view keeping = own-is app y (sizes-same app _ x y keeping.card ∙ ready.carried.application)

@@ -1,5 +1,5 @@
 -- What a card that a session knows must be for a keep, and how it stands after it (profile).
-use Rattle.std.specs.Prelude.{◌≡◌, ℕ, ◌≤◌, Bool, false, true, List, [], ◌∷◌}
+use Rattle.std.specs.Prelude.{◌≡◌, ◌⊎◌, ℕ, ◌≤◌, Bool, false, true, List, [], ◌∷◌}
 use Rattle.activity_codec.specs.declared.entries.Entry.{Entry}
 use Rattle.trace_model.specs.declared.Card.{Card}
 use Rattle.tach_media.specs.Medium.{State}
@@ -9,7 +9,7 @@ use Rattle.card_retention.specs.Shown.{Bound}
 use Rattle.card_image.specs.Own.{own_sizes}
 use Rattle.card_session.specs.Sessions.{Session, IsSession}
 use Rattle.card_session.specs.Overwriting.{BeginsBehind}
-use Rattle.card_steps.specs.Carried.{Goes}
+use Rattle.card_steps.specs.Carried.{Goes, IsFresh}
 use Rattle.history_model.specs.Book.{Book}
 use Rattle.joint_rule.specs.Rules.{In, Torn}
 use Rattle.device_steps.specs.Rule.{Both, CardHolds}
@@ -22,11 +22,11 @@ pub record IsCarried (s : Session) (slack : Bound) (covered from : ℕ) (c : Cou
   pub bytes : 16 ≤ slack.bytes
   pub goes : Goes s.application slack covered from c all x
 
--- And the entry that comes is not earlier than it may be.
+-- And the entry that comes is not earlier than it may be; its day, if it is new, is later than the end mark's, or none so far is as late.
 pub record IsReady (s : Session) (slack : Bound) (covered from : ℕ) (c : Counted) (all : List Entry) (e : Entry)
     (x : List ℕ) : Type 0 where
   pub carried : IsCarried s slack covered from c all x
-  pub clear : BeginsBehind s.application e x
+  pub clear : BeginsBehind s.application e x ⊎ IsFresh s.application c all x
   pub later : from ≤ e.minute
 
 -- After a minute's entry was kept on the card nothing is owed to it; where that failed it is torn out, and what it has or has not of

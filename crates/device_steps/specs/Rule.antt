@@ -13,7 +13,7 @@ use Rattle.card_image.specs.View.{CardView, Held}
 use Rattle.card_image.specs.Own.{own_view, own_number}
 use Rattle.joint_rule.specs.Views.{UnitView, unit_view, other}
 use Rattle.joint_rule.specs.Device.{Seen, seen}
-use Rattle.joint_rule.specs.Rules.{Standing, CardDark, CardRule}
+use Rattle.joint_rule.specs.Rules.{Standing, In, Out, CardDark, CardRule}
 use Rattle.unit_rule.specs.Rule.{Started}
 use Rattle.unit_rule.specs.Marks.{Holds}
 
@@ -74,3 +74,13 @@ pub record IsHeldUp (s : Started) (b : Book) (marks : List Mark) (i : HistoryMin
   pub lit : failed ≡ false → unit.clock < last_count →
       Holds s (suc i.minute) (kept i b) (marks ++ record { device = Recorder; minute = i.minute; clock = unit.clock } ∷ []) unit
   pub dark : Holds s (suc i.minute) (broken i b) marks unit
+
+-- after a card's row was begun it is accepted, where that failed it is not yet
+pub record IsRowTaken (r : Both) (c : Card) (b : Book) (session newest : ℕ) (failed : Bool) (unit card : State) : Type 0 where
+  pub lit : failed ≡ false → CardHolds r c b (In session newest) [] [] unit card
+  pub dark : CardRests r c b Out unit card
+
+-- after a power-on a card is not accepted; where it was broken off it stands as it did
+pub record IsTakenUp (r : Both) (c : Card) (b : Book) (s : Standing) (failed : Bool) (unit card : State) : Type 0 where
+  pub lit : failed ≡ false → CardHolds r c b Out [] [] unit card
+  pub dark : CardRests r c b s unit card

@@ -1,4 +1,4 @@
-use Rattle.card_steps.proofs.Stated.{goes_stated, broke_stated}
+use Rattle.card_steps.proofs.Stated.{goes_stated, broke_stated, begun_stated}
 use Rattle.card_steps.proofs.laws.what_is_carried_is_stated.Goals as goal
 
 pub returns-clause-goes : goal.returns-clause-goes
@@ -6,3 +6,6 @@ returns-clause-goes c = λ app slack covered from marked counted first all x sou
 
 pub returns-clause-broke : goal.returns-clause-broke
 returns-clause-broke c = λ app slack covered from marked counted first all x begun is b n le. broke_stated app slack covered from marked counted first all x begun is b n le
+
+pub returns-clause-begun : goal.returns-clause-begun
+returns-clause-begun c = λ app slack covered from counted first all x begun is b n le. begun_stated app slack covered from counted first all x begun is b n le

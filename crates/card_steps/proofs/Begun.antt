@@ -1,0 +1,328 @@
+-- A keep on the day of the end mark, where that is later than each day that the string has: a stop leaves it with its first word.
+use Rattle.std.proofs.Common.{◌≡◌, ◌⊎◌, inl, inr, ⊎_elim, ℕ, suc, ◌+◌, ◌-◌, ◌*◌, ◌/◌, ◌%◌, ◌<◌, ◌≤◌, max, Bool, true, false, cond, ◌&&◌, ◌||◌, not, Option, Some, None, List, [], ◌∷◌, ◌++◌, length, refl, sym, ◌∙◌, ap, subst, arith}
+use Rattle.std.specs.Prelude.{nat_eq, nat_lt, nat_le}
+use Rattle.std.proofs.lemmas.Bool.Decides.{nat_tests}
+use Rattle.activity_codec.specs.declared.entries.Entry.{Entry}
+use Rattle.activity_codec.specs.declared.values.Activity.TheVariants.{Rest}
+use Rattle.activity_codec.specs.Words.{word_minute, word_absent}
+use Rattle.card_model.specs.Days.{Day, AreDays, last_word}
+use Rattle.card_model.specs.Changes.{OnNewest, Remain, fitting, with_newest, with_word, with_km, with_early, early, cut, new_day, date_of, trimmed}
+use Rattle.card_model.proofs.Retention.{remain_fitting}
+use Rattle.card_model.proofs.Trims.{cut_date}
+use Rattle.card_retention.specs.Expected.{WordDay, Counted, is_newest, with_entry as counted_with}
+use Rattle.card_retention.specs.Shown.{Bound, AllUpTo, AllBefore, Rests, Lives, sizes, size_day, is_open}
+use Rattle.card_retention.specs.Entries.{latest, told_by, entry_at, day_entries, entries_up_to, newest_word, newest_minute}
+use Rattle.card_retention.specs.Retains.{is_day, entries_in, begun_on}
+use Rattle.card_retention.proofs.Closing.{kept_lives}
+use Rattle.card_retention.proofs.Committing.{Quiet, Olds, told_back, commits}
+use Rattle.card_retention.proofs.Growing.{sizes_append}
+use Rattle.card_retention.proofs.Listing.{Lists, append_in, lists_left}
+use Rattle.card_retention.proofs.Newest.{minutes_none}
+use Rattle.card_retention.proofs.Stops.{are_left, stop_none, stop_first}
+use Rattle.card_retention.proofs.Stub.{trimmed_before, trimmed_stub}
+use Rattle.card_session.specs.Books.{Book, mark_of, latest_of, closing_word, gap_closed, entry_word, bare_word, day_words, tells_state, with_change, with_new_day, entered_days, km_after, travelled, with_entry}
+use Rattle.card_session.specs.Moments.{IsBeforeGap, IsBeforeWords, IsBeforeMark, entry_len}
+use Rattle.card_session.specs.Overwriting.{and_entry}
+use Rattle.card_session.specs.Parts.{IsBeforeGapOf}
+use Rattle.card_session.proofs.Alike.{alike_km, are_bare, lives_alike}
+use Rattle.card_session.proofs.Following.{differ, entry_minute, entry_top, words_below}
+use Rattle.card_session.proofs.Lasting.{entered_as}
+use Rattle.card_session.proofs.Preparing.{gap_are, open_date}
+use Rattle.card_session.proofs.Stopping.{closing_absent}
+use Rattle.card_session.proofs.Surviving.{few_bytes}
+use Rattle.tacho_types.specs.declared.texts.Registration.{Registration}
+use Rattle.card_steps.specs.Carried.{BrokeOf, BegunOf}
+
+above : (m n : ℕ) → n < m → nat_le m n ≡ false
+above m n lt = grind (arith, nat_tests)
+
+at_most : (m n : ℕ) → m ≤ n → nat_le m n ≡ true
+at_most m n le = grind (arith, nat_tests)
+
+same : (m n : ℕ) → m ≡ n → nat_eq m n ≡ true
+same m n is = grind (arith, nat_tests)
+
+apart : (m n : ℕ) → n < m → nat_eq m n ≡ false
+apart m n lt = grind (arith, nat_tests)
+
+-- ---- days that are all before one
+
+-- where the newest day is another, and no word is as late
+all_before : (day minute date : ℕ) (ds : List Day) → AreDays date ds → newest_word ds < minute → minute / 1440 ≡ day → is_newest day (sizes ds) ≡ false → AllBefore day (sizes ds)
+all_before day minute date [] are low at other = tt
+all_before day minute date (d ∷ []) are low at other = let another = differ (d.date / 86400) day other in (omega (arith, another, low, at), tt)
+all_before day minute date (d ∷ f ∷ ds) are low at other = let rest = all_before day minute d.date (f ∷ ds) are.2 low at other in (omega (arith, are.2.0, rest.0), rest)
+
+before_left : (k room : ℕ) (ds kept : List Day) → Remain room ds kept → AllBefore k (sizes ds) → AllBefore k (sizes kept)
+before_left k room [] kept left b = subst (λ (l : List Day). AllBefore k (sizes l)) (sym left) tt
+before_left k room (d ∷ ds) kept left b = ⊎_elim (λ whole. subst (λ (l : List Day). AllBefore k (sizes l)) (sym whole) b) (λ gone. before_left k room ds kept gone.1 b.1) left
+
+not_open : (mark : ℕ) (ds : List Day) → AllBefore (mark / 1440) (sizes ds) → OnNewest (λ d. d.date ≡ date_of (suc mark)) ds → ⊥
+not_open mark [] b on = on
+not_open mark (d ∷ []) b on = omega (arith, b.0, on)
+not_open mark (d ∷ e ∷ ds) b on = not_open mark (e ∷ ds) b.1 on
+
+shut_of : (mark : ℕ) (ds : List Day) → AllBefore (mark / 1440) (sizes ds) → is_open mark ds ≡ false
+shut_of mark ds b = by (is_open mark ds) refl
+  where
+    by : (o : Bool) → is_open mark ds ≡ o → is_open mark ds ≡ false
+    by false is = is
+    by true is = absurd (not_open mark ds b (open_date mark ds is))
+
+word_before : (mark date : ℕ) (ds : List Day) → AreDays date ds → AllBefore (mark / 1440) (sizes ds) → newest_word ds ≤ mark
+word_before mark date [] are b = omega arith
+word_before mark date (d ∷ []) are b = let below = words_below d.words are.1.ordered in omega (arith, below, are.1.midnight, b.0)
+word_before mark date (d ∷ e ∷ ds) are b = word_before mark d.date (e ∷ ds) are.2 b.1
+
+-- the newest minute is the mark
+newest_before : (mark : ℕ) (ds : List Day) → AreDays 0 ds → AllBefore (mark / 1440) (sizes ds) → newest_minute mark (trimmed mark ds) ≡ mark
+newest_before mark ds are b =
+    ap (newest_minute mark) (trimmed_before mark ds are b) ∙ ap (λ (o : Bool). cond o (suc mark) (max mark (newest_word ds))) (shut_of mark ds b) ∙ highest (newest_word ds) (word_before mark 0 ds are b)
+  where
+    highest : (n : ℕ) → n ≤ mark → max mark n ≡ mark
+    highest n le = omega (arith, le)
+
+-- no minute of them is behind the mark
+quiet_before : (mark next date : ℕ) (ds : List Day) → AreDays date ds → AllBefore (mark / 1440) (sizes ds) → Quiet mark next ds
+quiet_before mark next date [] are b = tt
+quiet_before mark next date (d ∷ ds) are b = (λ t low behind before. absurd (omega (arith, low, behind, b.0, are.1.midnight)), quiet_before mark next d.date ds are.2 b.1)
+
+olds_before : (mark next date : ℕ) (ds : List Day) → next / 1440 ≡ mark / 1440 → AreDays date ds → AllBefore (mark / 1440) (sizes ds) → Olds (date_of next) ds
+olds_before mark next date [] here are b = tt
+olds_before mark next date (d ∷ ds) here are b = (are.1.midnight, omega (arith, b.0, here), olds_before mark next d.date ds here are.2 b.1)
+
+-- ---- a day that begins with an entry
+
+-- before the entry the first word is the latest, and tells none
+first_latest : (t : ℕ) (e : Entry) → t < e.minute % 1440 → latest (bare_word ∷ entry_word e ∷ []) t ≡ latest (bare_word ∷ []) t
+first_latest t e lt = ap (λ (o : Option ℕ). elim o as (λ _. Option ℕ) [ Some x ↦ Some x | None ↦ cond (nat_le (word_minute bare_word) t) (Some bare_word) None ])
+    (ap (λ (b : Bool). cond b (Some (entry_word e)) None) (above (word_minute (entry_word e)) t (omega (arith, lt, entry_minute e))))
+
+entry_latest : (e : Entry) → latest (bare_word ∷ entry_word e ∷ []) (e.minute % 1440) ≡ Some (entry_word e)
+entry_latest e = ap (λ (o : Option ℕ). elim o as (λ _. Option ℕ) [ Some x ↦ Some x | None ↦ cond (nat_le (word_minute bare_word) (e.minute % 1440)) (Some bare_word) None ])
+    (ap (λ (b : Bool). cond b (Some (entry_word e)) None) (at_most (word_minute (entry_word e)) (e.minute % 1440) (omega (arith, entry_minute e))))
+
+bare_tells : (m t : ℕ) → told_by m (latest (bare_word ∷ []) t) ≡ None
+bare_tells m t = by (nat_le (word_minute bare_word) t)
+  where
+    by : (b : Bool) → told_by m (cond b (Some bare_word) None) ≡ None
+    by true = refl
+    by false = refl
+
+none_day : (mark : ℕ) (d : Day) → ((t : ℕ) → d.date / 60 + t ≤ mark → told_by (d.date / 60 + t) (latest d.words t) ≡ None) → day_entries mark d ≡ []
+unfolding day_entries
+none_day mark d none = minutes_none (entry_at mark d) 1440 0 (λ s le. at s (nat_le (d.date / 60 + s) mark) refl)
+  where
+    le_of : (m n : ℕ) → nat_le m n ≡ true → m ≤ n
+    le_of m n is = grind (arith, nat_tests)
+
+    at : (s : ℕ) (b : Bool) → nat_le (d.date / 60 + s) mark ≡ b → entry_at mark d s ≡ None
+    at s true is = ap (λ (b : Bool). cond b (told_by (d.date / 60 + s) (latest d.words s)) None) is ∙ none s (le_of (d.date / 60 + s) mark is)
+    at s false is = ap (λ (b : Bool). cond b (told_by (d.date / 60 + s) (latest d.words s)) None) is
+
+entries_more : (mark : ℕ) (ds : List Day) (d : Day) → day_entries mark d ≡ [] → entries_up_to mark (ds ++ d ∷ []) ≡ entries_up_to mark ds
+entries_more mark [] d none = ap (λ (l : List Entry). l ++ []) none
+entries_more mark (e ∷ ds) d none = ap (λ (l : List Entry). day_entries mark e ++ l) (entries_more mark ds d none)
+
+cut_first : (mark : ℕ) (d : Day) (w v : ℕ) → d.date ≡ date_of mark → d.words ≡ w ∷ v ∷ [] → word_minute w ≡ 0 → mark % 1440 < word_minute v → (cut mark d).words ≡ w ∷ []
+cut_first mark d w v at words first lt =
+    ap (λ (c : Bool). (cond c (with_early (mark % 1440) d) d).words) (same d.date (date_of mark) at)
+    ∙ ap (λ (ws : List ℕ). early (mark % 1440) ws) words
+    ∙ ap (λ (c : Bool). cond c (w ∷ cond (nat_le (word_minute v) (mark % 1440)) (v ∷ []) []) []) (at_most (word_minute w) (mark % 1440) (omega (arith, first)))
+    ∙ ap (λ (c : Bool). w ∷ cond c (v ∷ []) []) (above (word_minute v) (mark % 1440) lt)
+
+with_last : (f : Day → Day) (ds : List Day) (d : Day) → with_newest f (ds ++ d ∷ []) ≡ ds ++ f d ∷ []
+with_last f [] d = refl
+with_last f (e ∷ []) d = refl
+with_last f (e ∷ g ∷ ds) d = ap (λ (l : List Day). e ∷ l) (with_last f (g ∷ ds) d)
+
+-- behind its first word the mark is the newest minute
+shut_first : (mark : ℕ) (ds : List Day) (y : Day) → y.words ≡ bare_word ∷ [] → is_open mark (ds ++ y ∷ []) ≡ false
+shut_first mark [] y words = ap (λ (ws : List ℕ). nat_eq y.date (date_of (suc mark)) && not (word_absent (last_word ws))) words ∙ none (nat_eq y.date (date_of (suc mark)))
+  where
+    none : (b : Bool) → b && false ≡ false
+    none true = refl
+    none false = refl
+shut_first mark (d ∷ []) y words = shut_first mark [] y words
+shut_first mark (d ∷ e ∷ ds) y words = shut_first mark (e ∷ ds) y words
+
+word_first : (ds : List Day) (y : Day) → y.words ≡ bare_word ∷ [] → newest_word (ds ++ y ∷ []) ≡ y.date / 60
+word_first [] y words = ap (λ (ws : List ℕ). y.date / 60 + word_minute (last_word ws)) words ∙ zero (y.date / 60) (word_minute bare_word) refl
+  where
+    zero : (n m : ℕ) → m ≡ 0 → n + m ≡ n
+    zero n m is = omega (arith, is)
+word_first (d ∷ []) y words = word_first [] y words
+word_first (d ∷ e ∷ ds) y words = word_first (e ∷ ds) y words
+
+newest_first : (mark : ℕ) (ds : List Day) (y : Day) → y.date ≡ date_of mark → y.words ≡ bare_word ∷ [] → newest_minute mark (ds ++ y ∷ []) ≡ mark
+newest_first mark ds y at words =
+    ap (λ (o : Bool). cond o (suc mark) (max mark (newest_word (ds ++ y ∷ [])))) (shut_first mark ds y words) ∙ highest (newest_word (ds ++ y ∷ [])) (omega (arith, word_first ds y words, at))
+  where
+    highest : (n : ℕ) → n ≤ mark → max mark n ≡ mark
+    highest n le = omega (arith, le)
+
+-- ---- the entries of all, with a day on which none is
+
+head_not : (b : Bool) (x : Entry) (xs : List Entry) → cond (b || false) (x ∷ xs) xs ≡ [] → (b ≡ false) × (xs ≡ [])
+head_not false x xs is = (refl, is)
+head_not true x xs is = absurd (cc)
+
+day_more : (k : ℕ) (ws : List WordDay) (v : WordDay) → nat_eq v.day k ≡ false → is_day k (ws ++ v ∷ []) ≡ is_day k ws
+day_more k [] v is = ap (λ (b : Bool). b || false) is
+day_more k (w ∷ ws) v is = ap (λ (b : Bool). nat_eq w.day k || b) (day_more k ws v is)
+
+day_last : (k : ℕ) (ws : List WordDay) (v : WordDay) → nat_eq v.day k ≡ true → is_day k (ws ++ v ∷ []) ≡ true
+day_last k [] v is = ap (λ (b : Bool). b || false) is
+day_last k (w ∷ ws) v is = ap (λ (b : Bool). nat_eq w.day k || b) (day_last k ws v is) ∙ either (nat_eq w.day k)
+  where
+    either : (b : Bool) → b || true ≡ true
+    either true = refl
+    either false = refl
+
+entries_same : (k : ℕ) (ws : List WordDay) (v : WordDay) → v.day ≡ k → (es : List Entry) → entries_in (begun_on k ∷ []) es ≡ [] → entries_in (ws ++ v ∷ []) es ≡ entries_in ws es
+entries_same k ws v at [] none = refl
+entries_same k ws v at (x ∷ es) none =
+    let parts = head_not (nat_eq k (x.minute / 1440)) x (entries_in (begun_on k ∷ []) es) none in
+    ap (λ (b : Bool). cond b (x ∷ entries_in (ws ++ v ∷ []) es) (entries_in (ws ++ v ∷ []) es)) (day_more (x.minute / 1440) ws v (ap (λ (m : ℕ). nat_eq m (x.minute / 1440)) at ∙ parts.0))
+    ∙ ap (λ (l : List Entry). cond (is_day (x.minute / 1440) ws) (x ∷ l) l) (entries_same k ws v at es parts.1)
+
+-- ---- the keep
+
+module _ (size : ℕ) (slack : Bound) (covered from : ℕ) (c : Counted) (all : List Entry) (b : Book) (l : Lives size slack covered from (mark_of b) c b.days) (until : AllUpTo (mark_of b) all) (lists : Lists (mark_of b) all b.days) (long : 5544 ≤ size) (least : 16 ≤ slack.bytes)
+    (e : Entry) (before : IsBeforeGapOf e.minute b) (later : from ≤ e.minute) (here : e.minute / 1440 ≡ mark_of b / 1440) (other : is_newest (e.minute / 1440) (sizes b.days) ≡ false) (fresh : AllBefore (mark_of b / 1440) c.days) (empty : entries_in (begun_on (mark_of b / 1440) ∷ []) all ≡ []) where
+  ordered : AreDays 0 b.days
+  ordered = l.rests.ordered
+
+  behind : mark_of b < e.minute
+  behind = omega (arith, before.1)
+
+  low : AllBefore (mark_of b / 1440) (sizes b.days)
+  low = subst (λ (k : ℕ). AllBefore k (sizes b.days)) here (all_before (e.minute / 1440) e.minute 0 b.days ordered (omega (arith, before.1)) refl other)
+
+  gapped : gap_closed size (mark_of b) e.minute b.days ≡ b.days
+  gapped = ap (λ (o : Bool). cond (o && nat_lt (suc (mark_of b)) e.minute) (with_newest (with_word (closing_word (suc (mark_of b)) Rest (latest_of b.days))) (fitting (size - 2) b.days)) b.days) (shut_of (mark_of b) b.days low)
+
+  abbrev fewer : List Day
+  fewer = fitting (size - 16) b.days
+
+  abbrev young : Day
+  young = new_day b.days (date_of e.minute) (bare_word ∷ entry_word e ∷ [])
+
+  words : day_words e ≡ bare_word ∷ entry_word e ∷ []
+  words = ap (λ (z : Bool). cond z (entry_word e ∷ []) (bare_word ∷ entry_word e ∷ [])) (apart (e.minute % 1440) 0 (omega (arith, here, behind)))
+
+  entered : entered_days size e (gap_closed size (mark_of b) e.minute b.days) ≡ fewer ++ young ∷ []
+  entered = ap (λ (ds : List Day). entered_days size e ds) gapped
+      ∙ ap (λ (n : Bool). cond n (cond (tells_state e b.days) b.days (with_change size (entry_word e) b.days)) (with_new_day size e b.days)) other
+      ∙ ap (λ (ws : List ℕ). fitting (size - (12 + 2 * length ws)) b.days ++ new_day b.days (date_of e.minute) ws ∷ []) words
+
+  -- ---- as long as the mark stays
+
+  pub record Stops (kept : List Day) : Type 0 where
+    pub left : BrokeOf size slack covered e.minute (mark_of b) c all kept ⊎ BegunOf size slack covered e.minute (mark_of b) c all kept
+    pub newest : newest_minute (mark_of b) (trimmed (mark_of b) kept) ≡ mark_of b
+
+  -- some of the oldest days are gone
+  early_stop : (n : ℕ) (kept : List Day) → n ≤ 16 → Remain (size - n) b.days kept → Stops kept
+  early_stop n kept few left =
+      let are : AreDays 0 kept = are_left (size - n) b.days kept left ordered in
+      let lower : AllBefore (mark_of b / 1440) (sizes kept) = before_left (mark_of b / 1440) (size - n) b.days kept left low in
+      record {
+        left = inl (record {
+          rests = stop_first size slack covered from (mark_of b) c b.days l e.minute later long least (size - n) kept (omega (arith, long, few)) (omega (arith, least, few)) left;
+          until = until;
+          lists = lists_left (mark_of b) (size - n) 0 all b.days kept ordered left lists ∙ ap (λ (ds : List Day). entries_in (sizes ds) all) (sym (trimmed_before (mark_of b) kept are lower));
+        });
+        newest = newest_before (mark_of b) kept are lower;
+      }
+
+  pub none_gone : Stops b.days
+  none_gone = record {
+    left = inl (record {
+      rests = stop_none size slack covered from (mark_of b) c b.days l e.minute later long least;
+      until = until;
+      lists = lists ∙ ap (λ (ds : List Day). entries_in (sizes ds) all) (sym (trimmed_before (mark_of b) b.days ordered low));
+    });
+    newest = newest_before (mark_of b) b.days ordered low;
+  }
+
+  left_fewer : Remain (size - 16) b.days fewer
+  left_fewer = remain_fitting (size - 16) b.days
+
+  are_fewer : AreDays 0 fewer
+  are_fewer = are_left (size - 16) b.days fewer left_fewer ordered
+
+  low_fewer : AllBefore (mark_of b / 1440) (sizes fewer)
+  low_fewer = before_left (mark_of b / 1440) (size - 16) b.days fewer left_fewer low
+
+  lists_fewer : Lists (mark_of b) all fewer
+  lists_fewer = lists_left (mark_of b) (size - 16) 0 all b.days fewer ordered left_fewer lists
+
+  -- the day stands there
+  begun_stop : (d : Day) → d.date ≡ date_of e.minute → d.words ≡ bare_word ∷ entry_word e ∷ [] → Stops (fewer ++ d ∷ [])
+  begun_stop d date two =
+      let at : d.date ≡ date_of (mark_of b) = date ∙ ap (λ (n : ℕ). n * 86400) here in
+      let first : (cut (mark_of b) d).words ≡ bare_word ∷ [] = cut_first (mark_of b) d bare_word (entry_word e) at two refl (omega (arith, entry_minute e, here, behind)) in
+      let is : trimmed (mark_of b) (fewer ++ d ∷ []) ≡ fewer ++ cut (mark_of b) d ∷ [] = trimmed_stub (mark_of b) fewer d are_fewer low_fewer at in
+      record {
+        left = inr (record {
+          older = fewer;
+          young = cut (mark_of b) d;
+          is = is;
+          date = cut_date (mark_of b) d ∙ at;
+          first = first;
+          rests = subst (λ (ds : List Day). Rests size slack covered e.minute (mark_of b) c ds) (trimmed_before (mark_of b) fewer are_fewer low_fewer)
+              (stop_first size slack covered from (mark_of b) c b.days l e.minute later long least (size - 16) fewer (omega (arith, long)) (omega (arith, least)) left_fewer);
+          before = low_fewer;
+          fresh = fresh;
+          until = until;
+          lists = entries_more (mark_of b) fewer d
+              (none_day (mark_of b) d (λ t le. ap (λ (ws : List ℕ). told_by (d.date / 60 + t) (latest ws t)) two ∙ ap (λ (o : Option ℕ). told_by (d.date / 60 + t) o) (first_latest t e (omega (arith, le, at, here, behind))) ∙ bare_tells (d.date / 60 + t) t))
+              ∙ lists_fewer;
+          empty = empty;
+        });
+        newest = ap (newest_minute (mark_of b)) is ∙ newest_first (mark_of b) fewer (cut (mark_of b) d) (cut_date (mark_of b) d ∙ at) first;
+      }
+
+  km_is : (more : ℕ) → travelled more (entered_days size e (gap_closed size (mark_of b) e.minute b.days)) ≡ fewer ++ with_km (km_after more 0) young ∷ []
+  km_is more = ap (λ (ds : List Day). travelled more ds) entered ∙ with_last (λ d. with_km (km_after more d.km) d) fewer young
+
+  pub stops : (registration : Registration) (odometer more : ℕ) (kept : List Day) → IsBeforeMark size b (with_entry size registration odometer more b e) e kept → Stops kept
+  stops registration odometer more kept moment = ⊎_elim
+      (λ gap. ⊎_elim (λ still. subst Stops (sym still) none_gone) (λ gone. early_stop 2 kept (omega arith) gone.2) gap)
+      (λ rest. ⊎_elim
+      (λ there. ⊎_elim
+      (λ still. subst Stops (sym (still ∙ gapped)) none_gone)
+      (λ gone. early_stop (entry_len e b.days) kept (few_bytes e b.days) (subst (λ (ds : List Day). Remain (size - entry_len e ds) ds kept) gapped gone.1)) there)
+      (λ last. ⊎_elim
+      (λ word. subst Stops (sym (word ∙ entered)) (begun_stop young refl refl))
+      (λ km. subst Stops (sym (km ∙ km_is more)) (begun_stop (with_km (km_after more 0) young) refl refl)) last) rest) moment
+
+  -- ---- once it has moved
+
+  pub begun_lives : (more : ℕ) → AreDays 0 (travelled more (entered_days size e (gap_closed size (mark_of b) e.minute b.days)))
+      → Lives size (and_entry slack e) covered (suc e.minute) e.minute (counted_with covered c e) (travelled more (entered_days size e (gap_closed size (mark_of b) e.minute b.days)))
+  begun_lives more whole =
+      let are : AreDays 0 (gap_closed size (mark_of b) e.minute b.days) = gap_are size long b ordered e.minute before in
+      lives_alike size (and_entry slack e) covered (suc e.minute) e.minute (counted_with covered c e) (entered_days size e (gap_closed size (mark_of b) e.minute b.days)) (travelled more (entered_days size e (gap_closed size (mark_of b) e.minute b.days)))
+      (alike_km more (entered_days size e (gap_closed size (mark_of b) e.minute b.days))) whole
+      (kept_lives size slack covered from (mark_of b) c b.days l long least e (closing_word (suc (mark_of b)) Rest (latest_of b.days)) (entered_days size e (gap_closed size (mark_of b) e.minute b.days)) later (closing_absent (suc (mark_of b)) Rest (latest_of b.days)) are
+      (are_bare more 0 (entered_days size e (gap_closed size (mark_of b) e.minute b.days)) whole) (entered_as size e (gap_closed size (mark_of b) e.minute b.days) are))
+
+  -- with its first word alone
+  abbrev bare : Day
+  bare = record young { words = bare_word ∷ [] }
+
+  begun_lists : (d : Day) → d.date ≡ date_of e.minute → d.words ≡ bare_word ∷ entry_word e ∷ [] → Lists e.minute (all ++ e ∷ []) (fewer ++ d ∷ [])
+  begun_lists d date two =
+      let on : (size_day d).day ≡ mark_of b / 1440 = omega (arith, date, here) in
+      commits (mark_of b) e fewer bare d behind (quiet_before (mark_of b) e.minute 0 fewer are_fewer low_fewer) (λ t lower above_ below. bare_tells (bare.date / 60 + t) t) (olds_before (mark_of b) e.minute 0 fewer here are_fewer low_fewer) date refl
+      (λ t lower. ap (λ (ws : List ℕ). latest ws t) two ∙ first_latest t e lower)
+      (ap (λ (ws : List ℕ). told_by e.minute (latest ws (e.minute % 1440))) two ∙ ap (λ (o : Option ℕ). told_by e.minute o) (entry_latest e) ∙ told_back e e.minute (entry_word e) refl (entry_top e))
+      ∙ ap (λ (es : List Entry). es ++ e ∷ []) (entries_more (mark_of b) fewer bare (none_day (mark_of b) bare (λ t le. bare_tells (bare.date / 60 + t) t)) ∙ lists_fewer ∙ sym (entries_same (mark_of b / 1440) (sizes fewer) (size_day d) on all empty))
+      ∙ ap (λ (es : List Entry). entries_in (sizes fewer ++ size_day d ∷ []) all ++ es) (sym (ap (λ (y : Bool). cond y (e ∷ []) []) (day_last (e.minute / 1440) (sizes fewer) (size_day d) (same (size_day d).day (e.minute / 1440) (omega (arith, on, here))))))
+      ∙ sym (append_in (sizes fewer ++ size_day d ∷ []) all (e ∷ []))
+      ∙ ap (λ (ws : List WordDay). entries_in ws (all ++ e ∷ [])) (sym (sizes_append fewer (d ∷ [])))
+
+  pub begun_shows : (more : ℕ) → Lists e.minute (all ++ e ∷ []) (travelled more (entered_days size e (gap_closed size (mark_of b) e.minute b.days)))
+  begun_shows more = subst (λ (ds : List Day). Lists e.minute (all ++ e ∷ []) ds) (sym (km_is more)) (begun_lists (with_km (km_after more 0) young) refl refl)

@@ -1,0 +1,18 @@
+use Rattle.std.proofs.Common.{◌≡◌}
+use Rattle.tach_media.proofs.Runs.{ok_gives}
+use Rattle.device_steps.proofs.EntryOwed.{worked}
+use Rattle.device_steps.proofs.PowerBack.{mended-holds, taken-up}
+use Rattle.device_steps.proofs.mending.mend.Goals as goal
+
+pub returns-clause-holds : goal.returns-clause-holds
+returns-clause-holds g c = λ s due b marks h. mended-holds s due b marks _ (g.met.M.Medium.coherent c.args.unit.now) c.mend.ensures.moments h
+
+pub returns-clause-first : goal.returns-clause-first
+returns-clause-first g c = λ r card b z rests.
+    taken-up r card b z (g.C.Medium.state c.args.first.now) _ (g.met.M.Medium.coherent c.args.unit.now) c.mend.ensures.moments rests _ (g.met.M.Medium.coherent c.mend.new.unit)
+    (λ well. (worked well c.mend.ensures.cause).0) (λ well. ok_gives _ c.mend.ensures.mended well)
+
+pub returns-clause-second : goal.returns-clause-second
+returns-clause-second g c = λ r card b z rests.
+    taken-up r card b z (g.D.Medium.state c.args.second.now) _ (g.met.M.Medium.coherent c.args.unit.now) c.mend.ensures.moments rests _ (g.met.M.Medium.coherent c.mend.new.unit)
+    (λ well. (worked well c.mend.ensures.cause).0) (λ well. ok_gives _ c.mend.ensures.mended well)

@@ -1,0 +1,56 @@
+//! A card that was inserted gets its row in the unit.
+ghost use Rattle.std.specs.Prelude.{◌≡◌, ◌≢◌, ◌≤◌, ◌<◌, ◌/◌, ℕ, Some, List, [], option_map, OnOk, IfSome, is_some, is_err};
+ghost use Rattle.activity_codec.specs.declared.entries.Entry.{Entry};
+ghost use Rattle.tach_media.specs.Medium.{HasCause};
+ghost use Rattle.tacho_types.specs.CardNumber.{card_number_bytes};
+ghost use Rattle.unit_model.specs.Image.{IsUnit};
+ghost use Rattle.unit_journal.specs.Image.{Agrees};
+ghost use Rattle.owed_model.specs.Rows.{HasRow};
+ghost use Rattle.log_model.specs.declared.lines.Mark.{Mark};
+ghost use Rattle.history_model.specs.Book.{Book};
+ghost use Rattle.joint_rule.specs.Rules.{Standing, Out, IsEntered};
+ghost use Rattle.joint_rule.specs.Views.{other};
+ghost use Rattle.unit_rule.specs.Rule.{Started};
+ghost use Rattle.unit_rule.specs.Marks.{Holds};
+ghost use Rattle.device_steps.specs.Rule.{Both, opened, number_of, card_seen, CardHolds, IsKeptUp, IsRowTaken};
+
+use tach_media::{Failed, Medium};
+use tacho_types::FullCardNumber;
+use trace_model::Card;
+use unit_journal::Journal;
+
+/// Begins the row of a card that was inserted, whose session began then. The row of the other card's number is spared.
+///
+/// # Errors
+///
+/// `Failed` where the unit failed; then the row may be begun or not.
+pub fn begin<M: Medium, C: Medium, D: Medium>(
+    unit: &mut M,
+    journal: &mut Journal,
+    mine: &C,
+    others: &D,
+    which: Card,
+    number: &FullCardNumber,
+    session: u32,
+    spared: Option<&FullCardNumber>,
+) -> Result<(), Failed>
+    requires unit { IsUnit (M.state unit.old) }
+    requires agrees { IfSome (M.state unit.old).image (Agrees journal.old) }
+    requires session { 0 < session }
+    ensures unit { IsUnit (M.state unit.new) }
+    ensures same { journal.new ≡ journal.old }
+    ensures agrees { OnOk result (IfSome (M.state unit.new).image (Agrees journal.old)) }
+    ensures row { OnOk result (IfSome (M.state unit.new).image (HasRow (card_number_bytes number.now))) }
+    ensures spares { (n : List ℕ) → option_map (λ s. card_number_bytes s.now) spared.entry ≡ Some n → n ≢ card_number_bytes number.now → IfSome (M.state unit.old).image (HasRow n) → OnOk result (IfSome (M.state unit.new).image (HasRow n)) }
+    ensures holds { (s : Started) (due : ℕ) (b : Book) (marks : List Mark) → Holds s due b marks (M.state unit.old) → Holds s due b marks (M.state unit.new) }
+    ensures mine { (r : Both) (s : Started) (due : ℕ) (b : Book) (marks : List Mark) (newest : ℕ) → card_number_bytes number.now ≡ number_of r which → option_map (λ s. card_number_bytes s.now) spared.entry ≡ Some (number_of r (other which))
+        → Holds s due b marks (M.state unit.old) → due ≤ session / 60 → CardHolds r which b Out [] [] (M.state unit.old) (C.state mine.now) → IsEntered (opened r which).start (opened r which).began session newest (card_seen (C.state mine.now))
+        → IsRowTaken r which b session newest (is_err result) (M.state unit.new) (C.state mine.now) }
+    ensures other { (r : Both) (s : Started) (due : ℕ) (b : Book) (marks : List Mark) (z : Standing) (m d : List Entry) → card_number_bytes number.now ≡ number_of r which → option_map (λ s. card_number_bytes s.now) spared.entry ≡ Some (number_of r (other which))
+        → CardHolds r (other which) b z m d (M.state unit.old) (D.state others.now) → IsKeptUp r (other which) b z m d (is_err result) (M.state unit.new) (D.state others.now) }
+    ensures clock { (M.state unit.old).clock ≤ (M.state unit.new).clock }
+    ensures tells { is_some (M.state unit.new).image ≡ is_some (M.state unit.old).image }
+    ensures cause { HasCause (M.state unit.old) (M.state unit.new) (is_err result) }
+{
+    journal.begin_owed(unit, number, session, spared)
+}
