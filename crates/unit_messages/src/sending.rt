@@ -1,6 +1,6 @@
 //! The messages of a unit's image, piece after piece, of a unit that is judged first (Annex IB, Appendix 7, 2.2.6).
 ghost use Rattle.unit_model.specs.declared.layout.TheConstants.{IMAGE_SIZE};
-ghost use Rattle.std.specs.Prelude.{◌≡◌, ◌≤◌, ◌<◌, ◌+◌, IfOk, IfErr, OnOk, IfSome, Some, option_map};
+ghost use Rattle.std.specs.Prelude.{◌≡◌, ◌≤◌, ◌<◌, ◌+◌, IfOk, IfErr, OnOk, IfSome, Some, option_map, ◌++◌};
 ghost use Rattle.tach_media.specs.Medium.{Reads};
 ghost use Rattle.unit_model.specs.Decoding.{Decodes, first_bad_place};
 ghost use Rattle.unit_messages.specs.Faults.{IfBadPiece, piece_failed, IfBadMessage, message_failed};
