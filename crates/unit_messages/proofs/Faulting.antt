@@ -1,6 +1,6 @@
 -- What is said of an answer whose faults are known.
-use Rattle.std.proofs.Common.{◌≡◌, ℕ, Result, Ok, Err, sym, subst}
-use Rattle.std.specs.Prelude.{OnOk, IfErr}
+use Rattle.std.proofs.Common.{◌≡◌, ℕ, Option, Some, None, true, Result, Ok, Err, sym, subst}
+use Rattle.std.specs.Prelude.{OnOk, IfOk, IfErr, IfNone, is_some}
 use Rattle.unit_messages.specs.declared.sending.PieceFault.{PieceFault}
 use Rattle.unit_messages.specs.declared.sending.PieceFault.TheVariants.{Failed}
 use Rattle.unit_messages.specs.declared.sending.MessageFault.{MessageFault}
@@ -21,3 +21,9 @@ never_bad_message (Ok x) P never = tt
 never_bad_message (Err MessageFailed) P never = tt
 never_bad_message (Err MessageMemory) P never = tt
 never_bad_message (Err (MessageBad p)) P never = absurd never
+
+-- where there always is one, nothing is said of none
+pub never_none : {T E P : Type 0} (r : Result (Option T) E) → IfOk r (λ found. is_some found ≡ true) → IfOk r (λ found. IfNone found P)
+never_none (Ok (Some x)) some = tt
+never_none (Ok None) some = absurd (cc)
+never_none (Err e) some = tt

@@ -1,6 +1,6 @@
 //! The messages of a unit's image, piece after piece, of a unit that is judged first (Annex IB, Appendix 7, 2.2.6).
 ghost use Rattle.unit_model.specs.declared.layout.TheConstants.{IMAGE_SIZE};
-ghost use Rattle.std.specs.Prelude.{◌≡◌, ◌≤◌, ◌<◌, ◌+◌, IfOk, IfErr, OnOk, IfSome, Some, option_map, ◌++◌};
+ghost use Rattle.std.specs.Prelude.{◌≡◌, ◌≤◌, ◌<◌, ◌+◌, IfOk, IfErr, IfNone, OnOk, IfSome, Some, is_some, true, option_map, ◌++◌};
 ghost use Rattle.tach_media.specs.Medium.{Reads};
 ghost use Rattle.unit_model.specs.Decoding.{Decodes, first_bad_place};
 ghost use Rattle.unit_messages.specs.Faults.{IfBadPiece, piece_failed, IfBadMessage, message_failed};
@@ -102,6 +102,7 @@ pub fn piece<M: Medium>(
 ) -> Result<Option<u32>, PieceFault>
     requires { (M.state unit.old).size ≡ IMAGE_SIZE }
     ensures piece { IfOk result (λ found. IfSome (M.state unit.old).image (λ x. IsPiece x request.now from found out.new.items)) }
+    ensures none { IfOk result (λ found. IfNone found (out.new ≡ out.old)) }
     ensures decodes { OnOk result (IfSome (M.state unit.old).image Decodes) }
     ensures bad { IfErr result (λ fault. IfBadPiece fault (λ p. IfSome (M.state unit.old).image (λ x. first_bad_place x ≡ Some p))) }
     ensures reads { Reads (M.state unit.old) (M.state unit.new) (piece_failed result) }
@@ -124,6 +125,7 @@ fn piece_of<M: Medium>(
     requires unit { (M.state unit.old).size ≡ IMAGE_SIZE }
     requires outlines { IfSome (M.state unit.old).image (Outlines outline.now) }
     ensures piece { IfOk result (λ found. IfSome (M.state unit.old).image (λ x. IsPiece x (asked outline.now) from found out.new.items)) }
+    ensures some { IfOk result (λ found. is_some found ≡ true) }
     ensures failed { IfErr result (λ fault. fault ≡ PieceFault.Failed) }
     ensures reads { ReadsIfAny (M.state unit.old) (M.state unit.new) (piece_failed result) }
 {

@@ -1,4 +1,4 @@
-use Rattle.std.proofs.Common.{◌≡◌, ◌*◌, Some, List, [], ℕ, sym, arith, rules, Bool, false, subst}
+use Rattle.std.proofs.Common.{◌≡◌, ◌∙◌, ◌*◌, ◌++◌, Some, List, [], ℕ, sym, ap, arith, rules, Bool, false, subst}
 use Rattle.tach_media.proofs.Runs.{both_told}
 use Rattle.unit_memory.proofs.Told.{told_all, carried}
 use Rattle.unit_journal.proofs.IfAny.{read_same}
@@ -22,10 +22,11 @@ pub loop-turn-preserved : goal.loop-turn-preserved
 loop-turn-preserved g c =
     let o = c.args.outline.now in
     let was = c.loop-turn.invariant in
+    let joined : c.append.new.bytes.items ≡ c.loop-turn.bytes.items ++ c.read.new.out.items = c.in_ok-append.ensures.items ∙ ap (λ (l : List ℕ). c.loop-turn.bytes.items ++ l) c.as_slice.ensures.value in
     let here = carried (λ x. IsPiece x (asked o) (c.loop-turn.turn * 252) (Some (length_of o)) c.read.new.out.items) (read_same was.reads) c.in_ok-read.ensures.piece in
     record {
       passed = both_told (g.M.Medium.state c.args.unit.now).image _ was.passed here (λ x told before it b sent.
-          piece_more x (asked o) c.loop-turn.bytes.items c.read.new.out.items c.append.new.bytes.items c.loop-turn.turn (length_of o) b sent (before b sent) it (search rules));
+          piece_more x (asked o) c.loop-turn.bytes.items c.read.new.out.items c.append.new.bytes.items c.loop-turn.turn (length_of o) b sent (before b sent) it joined);
       reads = any_then was.reads c.in_ok-read.ensures.reads;
     }
 
