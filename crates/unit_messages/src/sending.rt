@@ -174,7 +174,8 @@ fn whole<M: Medium>(
 {
     let mut bytes = Vec::new(alloc);
     let mut piece = ArrayVec::new();
-    let turns = outline.len() / ROOM as u32 + 1;
+    let len = outline.len();
+    let turns = len / ROOM as u32 + 1;
     for turn in 0..turns {
         let from = turn * ROOM as u32;
         outline.read(unit, from, &mut piece)?;

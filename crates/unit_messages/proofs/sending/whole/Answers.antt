@@ -34,13 +34,13 @@ pub returns-clause-message : goal.returns-clause-message
 returns-clause-message g c =
     let o = c.args.outline.now in
     both_told (g.M.Medium.state c.args.unit.now).image _ c.requires.outlines c.loop-turn.invariant.passed (λ x told known before.
-    whole_is o x c.loop-turn.bytes.items c.loop-turn.turn (omega (arith, c.requires.unit, (g.met.M.Medium.coherent c.args.unit.now).sized x told)) known (omega (arith, c.len.ensures.len)) before)
+    whole_is o x c.loop-turn.bytes.items c.loop-turn.turn (omega (arith, c.requires.unit, (g.met.M.Medium.coherent c.args.unit.now).sized x told)) known (omega (arith, c.len-len.ensures.len)) before)
 
 pub returns-clause-reads : goal.returns-clause-reads
 returns-clause-reads g c = c.loop-turn.invariant.reads
 
 pub returns-in_err-read-clause-reads : goal.returns-in_err-read-clause-reads
-returns-in_err-read-clause-reads g c = any_failed (message_failed c.from_residual-in_err-read.result) (search rules) (any_then c.loop-turn.invariant.reads c.in_err-read.ensures.reads)
+returns-in_err-read-clause-reads g c = any_failed (message_failed c.from_residual.result) (search rules) (any_then c.loop-turn.invariant.reads c.in_err-read.ensures.reads)
 
 pub returns-in_err-append-clause-reads : goal.returns-in_err-append-clause-reads
 returns-in_err-append-clause-reads g c =
