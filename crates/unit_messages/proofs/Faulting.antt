@@ -23,7 +23,7 @@ never_bad_message (Err MessageMemory) P never = tt
 never_bad_message (Err (MessageBad p)) P never = absurd never
 
 -- where there always is one, nothing is said of none
-pub never_none : {T E P : Type 0} (r : Result (Option T) E) → IfOk r (λ found. is_some found ≡ true) → IfOk r (λ found. IfNone found P)
-never_none (Ok (Some x)) some = tt
-never_none (Ok None) some = absurd (cc)
-never_none (Err e) some = tt
+pub never_none : {T E : Type 0} (P : Type 0) (r : Result (Option T) E) → IfOk r (λ found. is_some found ≡ true) → IfOk r (λ found. IfNone found P)
+never_none P (Ok (Some x)) some = tt
+never_none P (Ok None) some = absurd (cc)
+never_none P (Err e) some = tt

@@ -48,7 +48,7 @@ returns-in-Some-clause-piece g c =
     (λ found it. carried (λ x. IsPiece x c.args.request.now c.args.from found items) same (subst (λ (q : Request). IfSome after (λ x. IsPiece x q c.args.from found items)) request it)) c.piece_of.ensures.piece
 
 pub returns-in-Some-clause-none : goal.returns-in-Some-clause-none
-returns-in-Some-clause-none g c = never_none c.piece_of.result c.piece_of.ensures.some
+returns-in-Some-clause-none g c = never_none _ c.piece_of.result c.piece_of.ensures.some
 
 pub returns-in-Some-clause-decodes : goal.returns-in-Some-clause-decodes
 returns-in-Some-clause-decodes g c = ok_always c.piece_of.result c.in_ok-journal.ensures.decodes
