@@ -10,8 +10,8 @@ use Rattle.unit_messages.proofs.entries.Entries.pass_block.Goals as goal
 pub loop-turn-init : goal.loop-turn-init
 loop-turn-init c = λ x index read. sym (passed_none c.args.window.now)
 
-pub entry_in-requires-clause-inside : goal.entry_in-requires-clause-inside
-entry_in-requires-clause-inside c = omega (arith, entry_inside c.args.self.now.width c.loop-turn.turn c.args.count (omega arith), c.requires.whole)
+pub entry_in-entry-requires-clause-inside : goal.entry_in-entry-requires-clause-inside
+entry_in-entry-requires-clause-inside c = omega (arith, entry_inside c.args.self.now.width c.loop-turn.turn c.args.count (omega arith), c.requires.whole)
 
 pub loop-turn-preserved : goal.loop-turn-preserved
 loop-turn-preserved c = λ x index read.
