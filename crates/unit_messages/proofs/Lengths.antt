@@ -1,6 +1,8 @@
 -- How many bytes each message has.
-use Rattle.std.proofs.Common.{◌≡◌, ℕ, ◌+◌, ◌-◌, ◌*◌, ◌<◌, ◌≤◌, min, Option, Some, IfSome, List, [], ◌∷◌, ◌++◌, length, take, drop, filter, replicate, refl, sym, ◌∙◌, ap, subst, arith, length-append}
-use Rattle.std.proofs.lemmas.List.{length-take, length-drop}
+use Rattle.std.proofs.Common.{◌≡◌, ℕ, ◌+◌, ◌-◌, ◌*◌, ◌/◌, ◌<◌, ◌≤◌, min, Option, Some, IfSome, List, [], ◌∷◌, ◌++◌, length, take, drop, filter, replicate, refl, sym, ◌∙◌, ap, subst, arith, length-append}
+use Rattle.std.proofs.lemmas.List.{length-take, length-drop, take_all}
+use Rattle.std.proofs.Math.Seq.{take-add}
+use Rattle.link_model.specs.declared.request.Request.{Request}
 use Rattle.byteorder.specs.Endian.{big_bytes}
 use Rattle.byteorder.specs.Numbers.{length-bytes_high_first}
 use Rattle.byte_fields.specs.Fields.{joined}
@@ -134,3 +136,24 @@ piece_is o x from due start w items long known begun has is same =
     let held : w.held ≡ take 252 (drop from bytes) = ap (λ (s : Sight). s.held) has.2 ∙ ap (λ (s : Sight). (passed s bytes).held) begun in
     let many : length w.held ≡ due = omega (arith, ap length held, length-take 252 (drop from bytes), length-drop from bytes, len, is) in
     (bytes, has.1, len, same many ∙ held)
+
+-- the bytes of a message piece after piece
+pub piece_more : (x : List ℕ) (q : Request) (old items new : List ℕ) (turn len : ℕ) (b : List ℕ) → bytes_sent x q ≡ Some b → old ≡ take (turn * 252) b → IsPiece x q (turn * 252) (Some len) items → new ≡ old ++ items
+    → new ≡ take ((turn + 1) * 252) b
+piece_more x q old items new turn len b sent before it after =
+    let same : it.0 ≡ b = let both : Some it.0 ≡ Some b = sym it.1 ∙ sent in cc in
+    let items_are : items ≡ take 252 (drop (turn * 252) b) = it.3 ∙ ap (λ (l : List ℕ). take 252 (drop (turn * 252) l)) same in
+    after ∙ (λ t. before t ++ items_are t) ∙ sym (take-add (turn * 252) 252 b) ∙ ap (λ (n : ℕ). take n b) (let e : turn * 252 + 252 ≡ (turn + 1) * 252 = omega arith in e)
+
+sent_some : (o : Plan) (x : List ℕ) → IMAGE_SIZE ≤ length x → Outlines o x → (b : List ℕ) × (bytes_sent x (asked o) ≡ Some b) × (length_of o ≡ length b)
+sent_some (Overview t) x long is = (overview_parts x t, overview_sent x t is, overview_long x t long)
+sent_some (Day d) x long is = (day_parts x d, day_sent_as x d is, day_long x d long is)
+sent_some (Events e) x long is = (event_parts x e, event_sent x e is, events_long x e long is)
+sent_some Technical x long is = (technical_parts x, technical_sent x, technical_long x long)
+
+pub whole_is : (o : Plan) (x items : List ℕ) (turns : ℕ) → IMAGE_SIZE ≤ length x → Outlines o x → turns ≡ length_of o / 252 + 1 → ((b : List ℕ) → bytes_sent x (asked o) ≡ Some b → items ≡ take (turns * 252) b)
+    → Some items ≡ bytes_sent x (asked o)
+whole_is o x items turns long known is told =
+    let sent = sent_some o x long known in
+    let all : length sent.0 ≤ turns * 252 = omega (arith, sent.2, is) in
+    ap Some (told sent.0 sent.1 ∙ take_all (turns * 252) sent.0 all) ∙ sym sent.1

@@ -1,7 +1,8 @@
-//! The entries of the unit's memory that a message has, read one after the other in the order of their ring.
+//! The entries of the unit's memory that a message has, read in blocks in the order of their ring.
 ghost use Rattle.unit_model.specs.declared.layout.TheConstants.{IMAGE_SIZE};
-ghost use Rattle.std.specs.Prelude.{◌≡◌, ◌≤◌, ◌<◌, ◌+◌, ◌*◌, ◌-◌, IfOk, OnOk, IfSome, [], ◌∷◌, length, is_err};
+ghost use Rattle.std.specs.Prelude.{◌≡◌, ◌≤◌, ◌<◌, ◌+◌, ◌*◌, ◌-◌, ℕ, List, IfOk, OnOk, IfSome, length, is_err};
 ghost use Rattle.std.specs.List.{range_with_len};
+ghost use Rattle.byte_fields.specs.Images.{bytes_at};
 ghost use Rattle.byte_fields.specs.Fields.{joined};
 ghost use Rattle.tach_media.specs.Medium.{Reads};
 ghost use Rattle.gated_ring.specs.Ring.{order};
@@ -10,7 +11,7 @@ ghost use Rattle.message_model.specs.Sending.{is_in_day};
 ghost use Rattle.unit_messages.specs.Windows.{passed};
 ghost use Rattle.unit_messages.specs.Chosen.{chosen, room_of, chosen_at, shape_of, is_meant, meant, AreEntries};
 
-use crate::parts::four_in;
+use crate::parts::{cut, four_in};
 use crate::window::Window;
 use tach_media::{Failed, Medium};
 
@@ -33,14 +34,27 @@ pub struct Entries {
     pub choice: Choice,
 }
 
-// The widest entry, an insertion.
-const WIDEST: usize = 129;
+// How many entries are read at once.
+const AT_ONCE: u32 = 31;
+
+// The room for them, where they are of the widest, as an insertion is.
+const BLOCK: usize = 3999;
 
 // Whether a second lies in the day that begins at another.
 fn is_in_day(date: u32, second: u32) -> bool
     ensures { result ≡ is_in_day date second }
 {
     second / 86400 * 86400 == date
+}
+
+// How many of the entries that are left are read at once.
+fn at_once(left: u32) -> u32
+    requires { 0 < left }
+    ensures some { 0 < result }
+    ensures few { result ≤ AT_ONCE }
+    ensures within { result ≤ left }
+{
+    left.min(AT_ONCE)
 }
 
 impl Choice {
@@ -60,14 +74,24 @@ impl Choice {
 }
 
 impl Entries {
-    // Where the entry at an index begins.
-    fn place_of(&self, index: u32) -> u32
+    // Where the entry at an index begins, of so many that are read at once.
+    fn place_of(&self, index: u32, count: u32) -> u32
         requires entries { AreEntries self.now }
-        requires index { index < self.now.count }
+        requires inside { index + count ≤ self.now.count }
         ensures place { result ≡ self.now.base + index * self.now.width }
-        ensures inside { result + self.now.width ≤ IMAGE_SIZE }
+        ensures inside { result + count * self.now.width ≤ IMAGE_SIZE }
     {
         self.base + index * self.width
+    }
+
+    // How many bytes so many entries have.
+    fn bytes_of(&self, count: u32) -> u32
+        requires entries { AreEntries self.now }
+        requires few { count ≤ AT_ONCE }
+        ensures bytes { result ≡ count * self.now.width }
+        ensures few { result ≤ BLOCK }
+    {
+        count * self.width
     }
 
     // Whether an entry is there and meant.
@@ -96,24 +120,52 @@ impl Entries {
         window.pass(entry);
     }
 
-    // The entry at an index passes by, where it is there and meant.
-    fn pass_one<M: Medium>(
+    // An entry of some that were read at once.
+    fn entry_in<'a>(&self, block: &'a [u8], turn: u32) -> &'a [u8]
+        requires entries { AreEntries self.now }
+        requires few { turn < AT_ONCE }
+        requires inside { turn * self.now.width + self.now.width ≤ length block.now }
+        ensures bytes { result.now ≡ bytes_at block.now (turn * self.now.width) self.now.width }
+        ensures whole { length result.now ≡ self.now.width }
+    {
+        let place = self.bytes_of(turn);
+        cut(block, place as usize, self.width as usize)
+    }
+
+    // Entries that were read at once pass by, those that are there and meant.
+    fn pass_block(&self, block: &[u8], count: u32, window: &mut Window)
+        requires entries { AreEntries self.now }
+        requires few { count ≤ AT_ONCE }
+        requires whole { length block.now ≡ count * self.now.width }
+        ensures { (x : List ℕ) (index : ℕ) → block.now ≡ bytes_at x (self.now.base + index * self.now.width) (count * self.now.width) → window.new ≡ passed window.old (joined (chosen_at (shape_of self.now) self.now.choice x (range_with_len index count))) }
+    {
+        for turn in 0..count {
+            let entry = self.entry_in(block, turn);
+            self.pass_read(entry, window);
+        }
+    }
+
+    // So many entries from an index on are read at once, and pass by.
+    fn pass_some<M: Medium>(
         &self,
         unit: &mut M,
         index: u32,
+        count: u32,
         window: &mut Window,
     ) -> Result<(), Failed>
         requires unit { (M.state unit.old).size ≡ IMAGE_SIZE }
         requires entries { AreEntries self.now }
-        requires index { index < self.now.count }
-        ensures passed { OnOk result (IfSome (M.state unit.old).image (λ x. window.new ≡ passed window.old (joined (chosen_at (shape_of self.now) self.now.choice x (index ∷ []))))) }
+        requires few { count ≤ AT_ONCE }
+        requires inside { index + count ≤ self.now.count }
+        ensures passed { OnOk result (IfSome (M.state unit.old).image (λ x. window.new ≡ passed window.old (joined (chosen_at (shape_of self.now) self.now.choice x (range_with_len index count))))) }
         ensures reads { Reads (M.state unit.old) (M.state unit.new) (is_err result) }
     {
-        let mut room = [0u8; WIDEST];
-        let entry = &mut room[..self.width as usize];
-        let place = self.place_of(index);
-        unit.read_at(place, entry)?;
-        self.pass_read(entry, window);
+        let mut room = [0u8; BLOCK];
+        let len = self.bytes_of(count);
+        let block = &mut room[..len as usize];
+        let place = self.place_of(index, count);
+        unit.read_at(place, block)?;
+        self.pass_block(block, count, window);
         Ok(())
     }
 
@@ -132,18 +184,21 @@ impl Entries {
         ensures passed { OnOk result (IfSome (M.state unit.old).image (λ x. window.new ≡ passed window.old (joined (chosen_at (shape_of self.now) self.now.choice x (range_with_len from (to - from)))))) }
         ensures reads { ReadsIfAny (M.state unit.old) (M.state unit.new) (is_err result) }
     {
-        for index in from..to {
+        let mut index = from;
+        while index < to {
             let full = window.is_full();
             if full {
                 return Ok(());
             }
-            self.pass_one(unit, index, window)?;
+            let count = at_once(to - index);
+            self.pass_some(unit, index, count, window)?;
+            index += count;
         }
         Ok(())
     }
 
-    /// The entries that are there and meant pass by, from the one at an index on and round the end. No more are read than the
-    /// window takes.
+    /// The entries that are there and meant pass by, from the one at an index on and round the end. None is read where the
+    /// window is full.
     pub fn pass<M: Medium>(
         &self,
         unit: &mut M,

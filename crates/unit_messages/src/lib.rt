@@ -14,7 +14,7 @@ pub use joining::{JoinFault, Joiner, split_at};
 pub use link_model::Request;
 pub use outline::{Outline, find_outline};
 pub use reading::{BadMessage, MessageRead, OverviewRead, day_words, overview, read_message};
-pub use sending::{PieceFault, piece};
+pub use sending::{MessageFault, PieceFault, message, piece};
 
 #[cfg(test)]
 mod tests;

@@ -13,7 +13,7 @@ use Rattle.unit_messages.specs.Sent.{IsPiece}
 use Rattle.unit_messages.specs.Faults.{piece_failed, IfBadPiece}
 use Rattle.unit_messages.proofs.Calls.{any_then, reads_any}
 use Rattle.unit_messages.proofs.Joints.{at_told}
-use Rattle.unit_messages.proofs.Faulting.{ok_always, never_bad, as_none}
+use Rattle.unit_messages.proofs.Faulting.{ok_always, never_bad, never_none}
 use Rattle.unit_messages.proofs.sending.piece.Goals as goal
 
 pub find_outline-requires-clause-right : goal.find_outline-requires-clause-right
@@ -48,8 +48,7 @@ returns-in-Some-clause-piece g c =
     (λ found it. carried (λ x. IsPiece x c.args.request.now c.args.from found items) same (subst (λ (q : Request). IfSome after (λ x. IsPiece x q c.args.from found items)) request it)) c.piece_of.ensures.piece
 
 pub returns-in-Some-clause-none : goal.returns-in-Some-clause-none
-returns-in-Some-clause-none g c =
-    IfOk-weaker c.piece_of.result (λ found. IfNone found ⊥) (λ found. IfNone found (c.piece_of.new.out ≡ c.args.out.now)) (λ found it. as_none _ found it) c.piece_of.ensures.some
+returns-in-Some-clause-none g c = never_none _ c.piece_of.result c.piece_of.ensures.some
 
 pub returns-in-Some-clause-decodes : goal.returns-in-Some-clause-decodes
 returns-in-Some-clause-decodes g c = ok_always c.piece_of.result c.in_ok-journal.ensures.decodes

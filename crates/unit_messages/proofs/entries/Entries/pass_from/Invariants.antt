@@ -1,4 +1,4 @@
-use Rattle.std.proofs.Common.{◌≡◌, ◌-◌, false}
+use Rattle.std.proofs.Common.{◌≡◌, ◌≤◌, ◌-◌, false}
 use Rattle.std.specs.Prelude.{IfSome}
 use Rattle.std.specs.List.{range_with_len}
 use Rattle.byte_fields.specs.Fields.{joined}
@@ -12,6 +12,11 @@ invariant-loop-index g l =
     let before = g.M.Medium.state l.initial.unit in
     let now = g.M.Medium.state l.unit in
     record {
+      low : l.from ≤ l.index;
+      high : l.index ≤ l.to;
       passed : IfSome before.image (λ x. l.window ≡ passed l.initial.window (joined (chosen_at (shape_of l.self) l.self.choice x (range_with_len l.from (l.index - l.from)))));
       reads : ReadsIfAny before now false;
     }
+
+abbrev pub decreases-loop-index : goal.decreases-loop-index
+decreases-loop-index g l = l.to - l.index
