@@ -1,3 +1,5 @@
 pub mod Moments
 pub mod Stated
 pub mod Begun
+pub mod Again
+pub mod OnBegun

@@ -30,12 +30,12 @@ use Rattle.card_session.proofs.Preparing.{used_at}
 use Rattle.card_session.proofs.Stopping.{asked_at, days_there, book_days, mark_at, before_use, keep_leaves, keep_shows}
 use Rattle.card_session.proofs.Committed.{keep_commits, keep_silent}
 use Rattle.card_session.proofs.NewestStays.{newest_before, newest_after}
-use Rattle.card_steps.proofs.Begun.{Stops, none_gone, stops, begun_lives, begun_shows}
+use Rattle.card_steps.proofs.Begun.{Stopping as Begins, was_newest, stops, begun_lives, begun_shows}
 use Rattle.card_steps.specs.Carried.{Goes, BrokeOf, BegunOf, IsFresh}
 use Rattle.card_steps.specs.Shows.{IsStopped, IsDone, IsKeepShown}
 
 -- no entry is behind the new mark
-until_more : (mark : ℕ) (e : Entry) → mark ≤ e.minute → (all : List Entry) → AllUpTo mark all → AllUpTo e.minute (all ++ e ∷ [])
+pub until_more : (mark : ℕ) (e : Entry) → mark ≤ e.minute → (all : List Entry) → AllUpTo mark all → AllUpTo e.minute (all ++ e ∷ [])
 until_more mark e le [] up = (omega arith, tt)
 until_more mark e le (x ∷ all) up = (omega (arith, le, up.0), until_more mark e le all up.1)
 
@@ -48,7 +48,7 @@ same_day e f (d ∷ []) tells at = same (d.date / 86400) (f.minute / 1440) (omeg
     same m n is = grind (arith, nat_tests)
 same_day e f (d ∷ g ∷ days) tells at = same_day e f (g ∷ days) tells at
 
-later_day : (e f : Entry) (days : List Day) → Tells e days → e.minute < f.minute → is_newest (f.minute / 1440) (sizes days) ≡ false → e.minute / 1440 < f.minute / 1440
+pub later_day : (e f : Entry) (days : List Day) → Tells e days → e.minute < f.minute → is_newest (f.minute / 1440) (sizes days) ≡ false → e.minute / 1440 < f.minute / 1440
 later_day e f days tells lt other = ⊎_elim
     (λ less. less)
     (λ le. absurd (apart (sym (same_day e f days tells (omega (arith, le, lt))) ∙ other)))
@@ -57,7 +57,7 @@ later_day e f days tells lt other = ⊎_elim
     apart : true ≡ false → ⊥
     apart is = cc
 
-view_newest : (app : Application) (x : List ℕ) → (card_view app x).newest ≡ newest_minute (end_mark app x) (trimmed (end_mark app x) (card_days app x))
+pub view_newest : (app : Application) (x : List ℕ) → (card_view app x).newest ≡ newest_minute (end_mark app x) (trimmed (end_mark app x) (card_days app x))
 unfolding card_view
 view_newest app x = refl
 
@@ -145,7 +145,7 @@ module _ (s : Session) (e : Entry) (odometer : ℕ) (x y : List ℕ) (slack : Bo
     empty_there = subst (λ (n : ℕ). entries_in (begun_on (n / 1440) ∷ []) all ≡ []) told fresh.1
 
     abbrev Stopping : List Day → Type 0
-    Stopping kept = Stops app.activity slack covered from c all b lives_there until_there lists_there sound.string_least least e before later here_there other_there fresh_there empty_there kept
+    Stopping kept = Begins app.activity slack covered from c all b lives_there until_there lists_there sound.string_least least e before later here_there other_there fresh_there empty_there kept
 
     begun_stopped : end_mark app y ≡ end_mark app x → Stopping (book_of s.application y).days → IsStopped app slack covered c all e x y
     begun_stopped at k =
@@ -163,7 +163,7 @@ module _ (s : Session) (e : Entry) (odometer : ℕ) (x y : List ℕ) (slack : Bo
         was : newest_minute (end_mark app x) (trimmed (end_mark app x) (card_days app x)) ≡ end_mark app x
         was = subst (λ (n : ℕ). newest_minute n (trimmed n (card_days app x)) ≡ n) (sym told)
             (subst (λ (ds : List Day). newest_minute (mark_of (book_of s.application x)) (trimmed (mark_of (book_of s.application x)) ds) ≡ mark_of (book_of s.application x)) (book_days app x)
-            (none_gone app.activity slack covered from c all b lives_there until_there lists_there sound.string_least least e before later here_there other_there fresh_there empty_there).newest)
+            (was_newest app.activity slack covered from c all b lives_there until_there lists_there sound.string_least least e before later here_there other_there fresh_there empty_there))
 
     stops_at : (kept : List Day) → IsBeforeMark app.activity b (book_with app.activity s.registration odometer (grown s.odometer odometer) b e) e kept → Stopping kept
     stops_at kept moment = stops app.activity slack covered from c all b lives_there until_there lists_there sound.string_least least e before later here_there other_there fresh_there empty_there s.registration odometer (grown s.odometer odometer) kept moment

@@ -2,9 +2,10 @@ ghost use Rattle.std.specs.Prelude.{◌≡◌, ◌⊎◌, ℕ, ◌/◌, ◌<◌,
 ghost use Rattle.activity_codec.specs.declared.entries.Entry.{Entry};
 ghost use Rattle.card_layout.specs.declared.files.Application.{Application};
 ghost use Rattle.card_layout.specs.Application.{IsApplication};
+ghost use Rattle.card_model.specs.Changes.{trimmed};
 ghost use Rattle.card_retention.specs.Expected.{Counted};
 ghost use Rattle.card_retention.specs.Shown.{Bound};
-ghost use Rattle.card_image.specs.Fields.{end_mark, session_time};
+ghost use Rattle.card_image.specs.Fields.{card_days, end_mark, session_time};
 ghost use Rattle.card_session.specs.Sessions.{Session, IsSession};
 ghost use Rattle.card_session.specs.Cards.{IsCardKeeping};
 ghost use Rattle.card_session.specs.Overwriting.{BeginsBehind};
@@ -19,6 +20,18 @@ pub fn a_keep_is_shown()
         (all : List Entry) →
         IsApplication s.application → from ≤ e.minute → s.minute < e.minute → 16 ≤ slack.bytes → IsSession s x →
         Goes s.application slack covered from c all x → BeginsBehind s.application e x ⊎ IsFresh s.application c all x → IsCardKeeping s e odometer x y →
+        IsKeepShown s.application slack covered c all e x y }
+{}
+
+/// Of a card whose day of the end mark was begun, and that a repair has cut to it, the first keep goes on so too, where its entry lies
+/// on that day.
+pub fn a_begun_day_is_kept()
+    ensures { (s : Session) (e : Entry) (odometer : ℕ) (x y : List ℕ) (slack : Bound) (covered from : ℕ) (c : Counted)
+        (all : List Entry) →
+        IsApplication s.application → from ≤ e.minute → s.minute < e.minute → 16 ≤ slack.bytes → IsSession s x →
+        Begun s.application slack covered from c all x →
+        trimmed (end_mark s.application x) (card_days s.application x) ≡ card_days s.application x →
+        e.minute / 1440 ≡ end_mark s.application x / 1440 → IsCardKeeping s e odometer x y →
         IsKeepShown s.application slack covered c all e x y }
 {}
 
