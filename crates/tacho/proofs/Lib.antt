@@ -9,3 +9,4 @@ pub mod Formats
 pub mod WordRows
 pub mod Lines
 pub mod Recordings
+pub mod Services

@@ -7,5 +7,6 @@ pub mod Reading
 pub mod Minutes
 pub mod Recorded
 pub mod Formatting
+pub mod Serving
 pub mod View
 pub mod Program

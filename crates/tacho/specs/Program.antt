@@ -1,5 +1,5 @@
 -- THE PROGRAM: how its one call ends, and what it leaves untouched (profile). What each form promises stands in the form's own
--- file: Minutes, Recorded, View, Formatting.
+-- file: Minutes, Recorded, Serving, View, Formatting.
 use Rattle.std.specs.Prelude.{◌≡◌, ◌↔◌, ◌≤◌, Option, Some, None, IfSome}
 use Rattle.tach_media.specs.Medium.{State, Rose}
 use Rattle.trace_model.specs.declared.Card.TheVariants.{A, B}
@@ -11,11 +11,12 @@ use Rattle.tacho.specs.declared.end.Fault.TheVariants.{Done, Usage, ReadFault, W
 use Rattle.tacho.specs.declared.end.Ended.{Ended}
 use Rattle.recorder.specs.declared.outcome.Outcome.{Outcome}
 use Rattle.tacho.specs.declared.forms.Form.{Form}
-use Rattle.tacho.specs.declared.forms.Form.TheVariants.{Minutes, Record, FormatCard, FormatUnit, View}
+use Rattle.tacho.specs.declared.forms.Form.TheVariants.{Minutes, Record, FormatCard, FormatUnit, Serve, View}
 use Rattle.tacho.specs.End.{status_of, IsBeforeDevices}
 use Rattle.tacho.specs.Outside.{Outside, memory_of}
 use Rattle.tacho.specs.Minutes.{EndsMinutes}
 use Rattle.tacho.specs.Recorded.{EndsRecord, IsEmpty}
+use Rattle.tacho.specs.Serving.{EndsServe}
 use Rattle.tacho.specs.View.{EndsView}
 use Rattle.tacho.specs.Formatting.{IsCard, EndsIssue, EndsMaking}
 
@@ -32,6 +33,7 @@ EndsForm Record old new ended = EndsRecord old new ended.outcome ended.fault
 EndsForm (FormatCard A identity) old new ended = EndsIssue CardA identity old.card_a new.card_a old.sink new.sink ended.fault
 EndsForm (FormatCard B identity) old new ended = EndsIssue CardB identity old.card_b new.card_b old.sink new.sink ended.fault
 EndsForm (FormatUnit identity) old new ended = EndsMaking identity old.unit new.unit old.sink new.sink ended.fault
+EndsForm Serve old new ended = EndsServe old new ended.fault
 EndsForm (View last) old new ended = EndsView last old new ended.fault
 
 -- but for `record` there is no outcome
@@ -47,6 +49,7 @@ LeavesOthers (Some Record) source unit card_a card_b = card_a × card_b
 LeavesOthers (Some (FormatCard A identity)) source unit card_a card_b = source × unit × card_b
 LeavesOthers (Some (FormatCard B identity)) source unit card_a card_b = source × unit × card_a
 LeavesOthers (Some (FormatUnit identity)) source unit card_a card_b = source × card_a × card_b
+LeavesOthers (Some Serve) source unit card_a card_b = card_a × card_b
 LeavesOthers (Some (View last)) source unit card_a card_b = unit × card_a × card_b
 
 -- a stream or a device that is told to have failed has failed, and no count of a stream falls
@@ -66,10 +69,15 @@ pub record Ends (asked : Option Form) (old new : Outside) (ended : Ended) : Type
   pub unrecorded : IsUnrecorded asked ended.outcome
   pub causes : HasCauses old new ended.fault
 
+-- what reads all of its source before it uses a device or prints: each form but `serve`, which answers as it reads
+abbrev pub ReadsFirst : Option Form → Type 0
+ReadsFirst (Some Serve) = ⊥
+ReadsFirst asked = Unit {0}
+
 -- WHAT IT LEAVES UNTOUCHED. Each argument says that one of what it is handed is as it was.
 pub record Spares (asked : Option Form) (fault : Fault) (source sink unit card_a card_b : Type 0) : Type 0 where
   pub others : LeavesOthers asked source unit card_a card_b
   -- Where no trace was read the devices are as they were; and memory runs out only before the first call on them.
-  pub before : IsBeforeDevices fault → unit × card_a × card_b
+  pub before : ReadsFirst asked → IsBeforeDevices fault → unit × card_a × card_b
   -- But at Done and at a write fault the sink is as it was.
-  pub nothing : (fault ≡ Done → ⊥) → (fault ≡ WriteFault → ⊥) → sink
+  pub nothing : ReadsFirst asked → (fault ≡ Done → ⊥) → (fault ≡ WriteFault → ⊥) → sink

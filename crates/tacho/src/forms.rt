@@ -49,6 +49,8 @@ pub enum Form {
     FormatCard { card: Card, identity: CardIdentity },
     /// `format unit N PLATE VIN LIMIT`: the unit is made new, of this identity.
     FormatUnit { identity: Identity },
+    /// `serve`: the unit answers the frames among the bytes of the source.
+    Serve,
     /// `view`: a unit file or a card file is printed; `view last N`: its last so many days, from 1 to 366.
     View { last: Option<u32> },
 }
@@ -78,6 +80,9 @@ fn form_of_one(word: &str) -> Option<Form>
     }
     if is_text(word, "record") {
         return Some(Form::Record);
+    }
+    if is_text(word, "serve") {
+        return Some(Form::Serve);
     }
     if is_text(word, "view") {
         return Some(Form::View { last: None });

@@ -9,6 +9,7 @@ mod minutes;
 mod minutes_command;
 mod outcome_text;
 mod record_command;
+mod serve_command;
 mod top;
 mod view_command;
 mod words;

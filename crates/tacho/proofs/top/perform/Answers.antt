@@ -1,4 +1,5 @@
 use Rattle.tacho.proofs.Endings.{ends-minutes, minutes-ends, ends-view, view-ends}
+use Rattle.tacho.proofs.Services.{serve-ends}
 use Rattle.tacho.proofs.top.perform.Goals as goal
 
 pub returns-in-Minutes-clause-ends : goal.returns-in-Minutes-clause-ends
@@ -8,6 +9,12 @@ returns-in-Minutes-clause-ends g c =
     (minutes-ends _ _ c.print_minutes.result
     (ends-minutes _ _ c.print_minutes.result e.printed e.read e.bad_trace e.too_long e.read_fault e.write_fault e.prints e.finds_bad_trace e.finds_too_long e.front e.other)
     e.read_fault e.write_fault e.counts c.nothing-nothing.result c.nothing-nothing.ensures)
+
+pub returns-in-Serve-clause-ends : goal.returns-in-Serve-clause-ends
+returns-in-Serve-clause-ends g c =
+    let e = c.serve.ensures in
+    rw (c.in-Serve.is, c.of.ensures, c.service_end.ensures)
+    (serve-ends _ _ c.serve.result e.served e.end e.cause e.unit e.counts c.nothing-nothing.result c.nothing-nothing.ensures)
 
 pub returns-in-View-clause-ends : goal.returns-in-View-clause-ends
 returns-in-View-clause-ends g c =
