@@ -1,3 +1,4 @@
+use Rattle.std.proofs.Common.{refl}
 use Rattle.tacho.proofs.Endings.{ends-minutes, minutes-ends, ends-view, view-ends}
 use Rattle.tacho.proofs.Services.{serve-ends}
 use Rattle.tacho.proofs.top.perform.Goals as goal
@@ -15,6 +16,9 @@ returns-in-Serve-clause-ends g c =
     let e = c.serve.ensures in
     rw (c.in-Serve.is, c.of.ensures, c.service_end.ensures)
     (serve-ends _ _ c.serve.result e.served e.end e.cause e.unit e.counts c.nothing-nothing.result c.nothing-nothing.ensures)
+
+pub returns-in-Serve-clause-spares : goal.returns-in-Serve-clause-spares
+returns-in-Serve-clause-spares g c = rw c.in-Serve.is (record { others = (refl, refl); before = λ none. absurd none; nothing = λ none. absurd none })
 
 pub returns-in-View-clause-ends : goal.returns-in-View-clause-ends
 returns-in-View-clause-ends g c =
