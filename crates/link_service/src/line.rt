@@ -9,28 +9,41 @@ ghost use Rattle.message_model.specs.Sending.{content_sent};
 ghost use Rattle.unit_model.specs.Decoding.{first_bad_place};
 ghost use Rattle.unit_journal.specs.Reading.{ReadsIfAny};
 ghost use Rattle.transfer_session.specs.Told.{Knows, fresh};
-ghost use Rattle.link_service.specs.Lines.{listening, IsAnswered};
+ghost use Rattle.std.specs.Io.KnownBytes.{Appends};
+ghost use Rattle.tach_media.specs.Streams.{AppendsFront};
+ghost use Rattle.link_service.specs.Lines.{listening, spelled, IsAnswered};
 ghost use Rattle.link_service.specs.Served.{Stops, StopsWithin, has_failed, IsCaused};
 
 use crate::fault::ServeFault;
-use link_frames::{End, Scanner, Seen, write_frame};
-use tach_media::{Medium, Sink, put_all};
+use hex_lines::write_line;
+use link_frames::{End, Frame, Scanner, Seen, write_frame};
+use tach_media::{Failed, Medium, Sink, put_all};
 use transfer_session::Session;
 
-/// A unit on the link: what it hears, and where it stands.
+/// How the answers go to the sink: byte for byte, or each as a line of hexadecimal digits.
+#[derive(Clone, Copy, Debug, PartialEq, Eq)]
+pub enum Spelling {
+    Bytes,
+    HexLines,
+}
+
+/// A unit on the link: what it hears, where it stands, and how its answers are spelled.
 #[derive(Drop)]
 pub struct Line {
+    pub spelling: Spelling,
     pub scanner: Scanner,
     pub session: Session,
 }
 
 impl Line {
     /// Nothing has come yet.
-    pub fn new() -> Line
+    pub fn new(spelling: Spelling) -> Line
+        ensures spelling { result.spelling ≡ spelling }
         ensures scanner { result.scanner ≡ listening [] }
         ensures session { result.session ≡ fresh Idle }
     {
         Line {
+            spelling,
             scanner: Scanner::new(End::Unit),
             session: Session::new(),
         }
@@ -46,12 +59,13 @@ impl Line {
         requires unit { (U.state unit.old).size ≡ IMAGE_SIZE }
         requires listens { self.old.scanner ≡ listening self.old.scanner.kept }
         requires knows { IfSome (U.state unit.old).image (Knows self.old.session) }
+        ensures spelling { self.new.spelling ≡ self.old.spelling }
         ensures kept { OnOk result (self.new.scanner ≡ listening (kept_after side.Unit self.old.scanner.kept bytes.now)) }
         ensures answered { OnOk result (IfSome (U.state unit.old).image (λ x.
-            IsAnswered (content_sent x) self.old.session.state (heard_in side.Unit self.old.scanner.kept bytes.now) self.new.session.state (K.held sink.old) (K.held sink.new))) }
+            IsAnswered self.old.spelling (content_sent x) self.old.session.state (heard_in side.Unit self.old.scanner.kept bytes.now) self.new.session.state (K.held sink.old) (K.held sink.new))) }
         ensures knows { OnOk result (IfSome (U.state unit.old).image (Knows self.new.session)) }
         ensures stops { IfErr result (λ fault. IfSome (U.state unit.old).image (λ x.
-            Stops fault (content_sent x) self.old.session.state (heard_in side.Unit self.old.scanner.kept bytes.now) (K.held sink.old) (K.held sink.new))) }
+            Stops self.old.spelling fault (content_sent x) self.old.session.state (heard_in side.Unit self.old.scanner.kept bytes.now) (K.held sink.old) (K.held sink.new))) }
         ensures cause { IfErr result (λ fault. IsCaused fault ⊥ (Rose (K.faults sink.old) (K.faults sink.new)) (λ p. IfSome (U.state unit.old).image (λ x. first_bad_place x ≡ Some p))) }
         ensures counts { K.faults sink.old ≤ K.faults sink.new }
         ensures unit { ReadsIfAny (U.state unit.old) (U.state unit.new) (has_failed result) }
@@ -75,12 +89,13 @@ impl Line {
         requires listens { self.old.scanner ≡ listening self.old.scanner.kept }
         requires knows { IfSome (U.state unit.old).image (Knows self.old.session) }
         ensures few { OnOk result (length bytes.now ≤ left) }
+        ensures spelling { self.new.spelling ≡ self.old.spelling }
         ensures kept { OnOk result (self.new.scanner ≡ listening (kept_after side.Unit self.old.scanner.kept bytes.now)) }
         ensures answered { OnOk result (IfSome (U.state unit.old).image (λ x.
-            IsAnswered (content_sent x) self.old.session.state (heard_in side.Unit self.old.scanner.kept bytes.now) self.new.session.state (K.held sink.old) (K.held sink.new))) }
+            IsAnswered self.old.spelling (content_sent x) self.old.session.state (heard_in side.Unit self.old.scanner.kept bytes.now) self.new.session.state (K.held sink.old) (K.held sink.new))) }
         ensures knows { OnOk result (IfSome (U.state unit.old).image (Knows self.new.session)) }
         ensures stops { IfErr result (λ fault. IfSome (U.state unit.old).image (λ x.
-            StopsWithin fault (content_sent x) self.old.session.state self.old.scanner.kept left bytes.now (K.held sink.old) (K.held sink.new))) }
+            StopsWithin self.old.spelling fault (content_sent x) self.old.session.state self.old.scanner.kept left bytes.now (K.held sink.old) (K.held sink.new))) }
         ensures cause { IfErr result (λ fault. IsCaused fault ⊥ (Rose (K.faults sink.old) (K.faults sink.new)) (λ p. IfSome (U.state unit.old).image (λ x. first_bad_place x ≡ Some p))) }
         ensures counts { K.faults sink.old ≤ K.faults sink.new }
         ensures unit { ReadsIfAny (U.state unit.old) (U.state unit.new) (has_failed result) }
@@ -104,12 +119,13 @@ impl Line {
         requires listens { self.old.scanner ≡ listening self.old.scanner.kept }
         requires knows { IfSome (U.state unit.old).image (Knows self.old.session) }
         ensures taken { IfOk result (λ n. (0 < n) × (n ≤ length bytes.now)) }
+        ensures spelling { self.new.spelling ≡ self.old.spelling }
         ensures kept { IfOk result (λ n. self.new.scanner ≡ listening (kept_after side.Unit self.old.scanner.kept (take n bytes.now))) }
         ensures answered { IfOk result (λ n. IfSome (U.state unit.old).image (λ x.
-            IsAnswered (content_sent x) self.old.session.state (heard_in side.Unit self.old.scanner.kept (take n bytes.now)) self.new.session.state (K.held sink.old) (K.held sink.new))) }
+            IsAnswered self.old.spelling (content_sent x) self.old.session.state (heard_in side.Unit self.old.scanner.kept (take n bytes.now)) self.new.session.state (K.held sink.old) (K.held sink.new))) }
         ensures knows { OnOk result (IfSome (U.state unit.old).image (Knows self.new.session)) }
         ensures stops { IfErr result (λ fault. IfSome (U.state unit.old).image (λ x.
-            Stops fault (content_sent x) self.old.session.state (heard_in side.Unit self.old.scanner.kept bytes.now) (K.held sink.old) (K.held sink.new))) }
+            Stops self.old.spelling fault (content_sent x) self.old.session.state (heard_in side.Unit self.old.scanner.kept bytes.now) (K.held sink.old) (K.held sink.new))) }
         ensures cause { IfErr result (λ fault. IsCaused fault ⊥ (Rose (K.faults sink.old) (K.faults sink.new)) (λ p. IfSome (U.state unit.old).image (λ x. first_bad_place x ≡ Some p))) }
         ensures counts { K.faults sink.old ≤ K.faults sink.new }
         ensures unit { ReadsIfAny (U.state unit.old) (U.state unit.new) (has_failed result) }
@@ -118,13 +134,14 @@ impl Line {
         let Some(seen) = heard else {
             return Ok(taken);
         };
-        answer_frame(&mut self.session, &seen, sink, unit)?;
+        answer_frame(self.spelling, &mut self.session, &seen, sink, unit)?;
         Ok(taken)
     }
 }
 
 // Answers a frame, if there is an answer to it.
 fn answer_frame<K: Sink, U: Medium>(
+    spelling: Spelling,
     session: &mut Session,
     seen: &Seen,
     sink: &mut K,
@@ -133,10 +150,10 @@ fn answer_frame<K: Sink, U: Medium>(
     requires unit { (U.state unit.old).size ≡ IMAGE_SIZE }
     requires knows { IfSome (U.state unit.old).image (Knows session.old) }
     ensures answered { OnOk result (IfSome (U.state unit.old).image (λ x.
-        IsAnswered (content_sent x) session.old.state (meant seen.now ∷ []) session.new.state (K.held sink.old) (K.held sink.new))) }
+        IsAnswered spelling (content_sent x) session.old.state (meant seen.now ∷ []) session.new.state (K.held sink.old) (K.held sink.new))) }
     ensures knows { OnOk result (IfSome (U.state unit.old).image (Knows session.new)) }
     ensures stops { IfErr result (λ fault. IfSome (U.state unit.old).image (λ x.
-        Stops fault (content_sent x) session.old.state (meant seen.now ∷ []) (K.held sink.old) (K.held sink.new))) }
+        Stops spelling fault (content_sent x) session.old.state (meant seen.now ∷ []) (K.held sink.old) (K.held sink.new))) }
     ensures cause { IfErr result (λ fault. IsCaused fault ⊥ (Rose (K.faults sink.old) (K.faults sink.new)) (λ p. IfSome (U.state unit.old).image (λ x. first_bad_place x ≡ Some p))) }
     ensures counts { K.faults sink.old ≤ K.faults sink.new }
     ensures unit { ReadsIfAny (U.state unit.old) (U.state unit.new) (has_failed result) }
@@ -145,9 +162,22 @@ fn answer_frame<K: Sink, U: Medium>(
     let Some(frame) = answer else {
         return Ok(());
     };
-    let bytes = write_frame(End::Unit, &frame);
-    match put_all(sink, bytes.as_slice()) {
+    match put_frame(spelling, &frame, sink) {
         Ok(()) => Ok(()),
         Err(_) => Err(ServeFault::WriteFault),
+    }
+}
+
+// Puts a frame into the sink, so spelled.
+fn put_frame<K: Sink>(spelling: Spelling, frame: &Frame, sink: &mut K) -> Result<(), Failed>
+    ensures ok { OnOk result (Appends (K.held sink.old) (K.held sink.new) (spelled spelling frame.now)) }
+    ensures err { OnErr result (AppendsFront (K.held sink.old) (K.held sink.new) (spelled spelling frame.now)) }
+    ensures cause { OnErr result (Rose (K.faults sink.old) (K.faults sink.new)) }
+    ensures counts { K.faults sink.old ≤ K.faults sink.new }
+{
+    let bytes = write_frame(End::Unit, frame);
+    match spelling {
+        Spelling::Bytes => put_all(sink, bytes.as_slice()),
+        Spelling::HexLines => put_all(sink, write_line(bytes.as_slice()).as_slice()),
     }
 }

@@ -8,7 +8,7 @@ ghost use Rattle.unit_journal.specs.Reading.{ReadsIfAny};
 ghost use Rattle.link_service.specs.Served.{IsServed, has_failed, IsCaused};
 
 use crate::fault::ServeFault;
-use crate::line::Line;
+use crate::line::{Line, Spelling};
 use tach_media::{Medium, Sink, Source};
 
 /// The most bytes that a service answers.
@@ -36,7 +36,7 @@ pub fn serve<S: Source, K: Sink, U: Medium>(
     ensures counts { (S.faults source.old ≤ S.faults source.new) × (K.faults sink.old ≤ K.faults sink.new) }
     ensures unit { ReadsIfAny (U.state unit.old) (U.state unit.new) (has_failed result) }
 {
-    let mut line = Line::new();
+    let mut line = Line::new(Spelling::Bytes);
     let mut left = MOST as usize;
     let mut block = [0u8; 4096];
     for _turn in 0..MOST as u64 + 1 {
