@@ -15,38 +15,39 @@ use Rattle.link_model.specs.Answers.{LinkState, run_from}
 use Rattle.answer_table.specs.Asking.{asks_unit}
 use Rattle.answer_table.specs.Running.{state_after}
 use Rattle.answer_table.proofs.Runs.{run_append, after_append}
-use Rattle.link_service.specs.Lines.{bytes_of, IsAnswered, StopsAsking}
+use Rattle.link_service.specs.declared.line.Spelling.{Spelling}
+use Rattle.link_service.specs.Lines.{bytes_of, spelled, IsAnswered, StopsAsking}
 use Rattle.link_service.specs.Served.{Stops}
 use Rattle.link_service.specs.declared.fault.ServeFault.{ServeFault}
 use Rattle.link_service.specs.declared.fault.ServeFault.TheVariants.{ReadFault, WriteFault, Failed, BadUnit, TooLong}
 
-bytes_append : (a b : List (List ℕ)) → bytes_of (a ++ b) ≡ bytes_of a ++ bytes_of b
-bytes_append a b = ap (λ (l : List (List ℕ)). concat l) (map-append (written_to side.Loader) a b) ∙ concat-append (map (written_to side.Loader) a) (map (written_to side.Loader) b)
+bytes_append : (spelling : Spelling) (a b : List (List ℕ)) → bytes_of spelling (a ++ b) ≡ bytes_of spelling a ++ bytes_of spelling b
+bytes_append spelling a b = ap (λ (l : List (List ℕ)). concat l) (map-append (spelled spelling) a b) ∙ concat-append (map (spelled spelling) a) (map (spelled spelling) b)
 
 -- the answers to what was heard, and to more from where the unit stands then
-answers_append : (messages : Request → Option (List ℕ)) (a b : LinkState) (seen more : List Heard) → b ≡ state_after messages a seen
-    → bytes_of (run_from messages a seen) ++ bytes_of (run_from messages b more) ≡ bytes_of (run_from messages a (seen ++ more))
-answers_append messages a b seen more stands =
-    ap (λ (s : LinkState). bytes_of (run_from messages a seen) ++ bytes_of (run_from messages s more)) stands
-    ∙ sym (ap (λ (l : List (List ℕ)). bytes_of l) (run_append messages a seen more) ∙ bytes_append (run_from messages a seen) (run_from messages (state_after messages a seen) more))
+answers_append : (spelling : Spelling) (messages : Request → Option (List ℕ)) (a b : LinkState) (seen more : List Heard) → b ≡ state_after messages a seen
+    → bytes_of spelling (run_from messages a seen) ++ bytes_of spelling (run_from messages b more) ≡ bytes_of spelling (run_from messages a (seen ++ more))
+answers_append spelling messages a b seen more stands =
+    ap (λ (s : LinkState). bytes_of spelling (run_from messages a seen) ++ bytes_of spelling (run_from messages s more)) stands
+    ∙ sym (ap (λ (l : List (List ℕ)). bytes_of spelling l) (run_append messages a seen more) ∙ bytes_append spelling (run_from messages a seen) (run_from messages (state_after messages a seen) more))
 
 -- more was answered
-pub sent_on : (messages : Request → Option (List ℕ)) (a b : LinkState) (seen more : List Heard) (h k l : Option (List ℕ)) → IsAnswered messages a seen b h k
-    → Appends k l (bytes_of (run_from messages b more)) → Appends h l (bytes_of (run_from messages a (seen ++ more)))
-sent_on messages a b seen more h k l f sent =
-    subst (λ (o : List ℕ). Appends h l o) (answers_append messages a b seen more f.stands)
-    (Appends-trans h k l (bytes_of (run_from messages a seen)) (bytes_of (run_from messages b more)) f.sent sent)
+pub sent_on : (spelling : Spelling) (messages : Request → Option (List ℕ)) (a b : LinkState) (seen more : List Heard) (h k l : Option (List ℕ)) → IsAnswered spelling messages a seen b h k
+    → Appends k l (bytes_of spelling (run_from messages b more)) → Appends h l (bytes_of spelling (run_from messages a (seen ++ more)))
+sent_on spelling messages a b seen more h k l f sent =
+    subst (λ (o : List ℕ). Appends h l o) (answers_append spelling messages a b seen more f.stands)
+    (Appends-trans h k l (bytes_of spelling (run_from messages a seen)) (bytes_of spelling (run_from messages b more)) f.sent sent)
 
-pub answered_on : (messages : Request → Option (List ℕ)) (a b c : LinkState) (seen more : List Heard) (h k l : Option (List ℕ)) → IsAnswered messages a seen b h k
-    → IsAnswered messages b more c k l → IsAnswered messages a (seen ++ more) c h l
-answered_on messages a b c seen more h k l f g = record {
+pub answered_on : (spelling : Spelling) (messages : Request → Option (List ℕ)) (a b c : LinkState) (seen more : List Heard) (h k l : Option (List ℕ)) → IsAnswered spelling messages a seen b h k
+    → IsAnswered spelling messages b more c k l → IsAnswered spelling messages a (seen ++ more) c h l
+answered_on spelling messages a b c seen more h k l f g = record {
   stands = g.stands ∙ ap (λ (s : LinkState). state_after messages s more) f.stands ∙ sym (after_append messages a seen more);
-  sent = sent_on messages a b seen more h k l f g.sent;
+  sent = sent_on spelling messages a b seen more h k l f g.sent;
 }
 
 -- nothing was heard yet
-pub none_answered : (messages : Request → Option (List ℕ)) (state : LinkState) (h : Option (List ℕ)) → IsAnswered messages state [] state h h
-none_answered messages state h = record { stands = refl; sent = Appends-nil h }
+pub none_answered : (spelling : Spelling) (messages : Request → Option (List ℕ)) (state : LinkState) (h : Option (List ℕ)) → IsAnswered spelling messages state [] state h h
+none_answered spelling messages state h = record { stands = refl; sent = Appends-nil h }
 
 -- a front of bytes is a front of more
 front_more : (h k : Option (List ℕ)) (xs ys : List ℕ) → AppendsFront h k xs → AppendsFront h k (xs ++ ys)
@@ -59,8 +60,8 @@ front_behind : (h k l : Option (List ℕ)) (xs ys : List ℕ) → Appends h k xs
 front_behind h k l xs ys a f =
     (length xs + f.0, subst (λ (o : List ℕ). Appends h l o) (sym (take-append-add xs ys f.0)) (Appends-trans h k l xs (take f.0 ys) a f.1))
 
-asking_more : (messages : Request → Option (List ℕ)) (state : LinkState) (seen more : List Heard) (h k : Option (List ℕ)) → StopsAsking messages state seen h k → StopsAsking messages state (seen ++ more) h k
-asking_more messages state seen more h k a = record {
+asking_more : (spelling : Spelling) (messages : Request → Option (List ℕ)) (state : LinkState) (seen more : List Heard) (h k : Option (List ℕ)) → StopsAsking spelling messages state seen h k → StopsAsking spelling messages state (seen ++ more) h k
+asking_more spelling messages state seen more h k a = record {
   before = a.before;
   asking = a.asking;
   behind = a.behind ++ more;
@@ -69,35 +70,35 @@ asking_more messages state seen more h k a = record {
   sent = a.sent;
 }
 
-asking_behind : (messages : Request → Option (List ℕ)) (a b : LinkState) (seen more : List Heard) (h k l : Option (List ℕ)) → IsAnswered messages a seen b h k
-    → StopsAsking messages b more k l → StopsAsking messages a (seen ++ more) h l
-asking_behind messages a b seen more h k l f g = record {
+asking_behind : (spelling : Spelling) (messages : Request → Option (List ℕ)) (a b : LinkState) (seen more : List Heard) (h k l : Option (List ℕ)) → IsAnswered spelling messages a seen b h k
+    → StopsAsking spelling messages b more k l → StopsAsking spelling messages a (seen ++ more) h l
+asking_behind spelling messages a b seen more h k l f g = record {
   before = seen ++ g.before;
   asking = g.asking;
   behind = g.behind;
   seen_are = ap (λ (l : List Heard). seen ++ l) g.seen_are ∙ sym (append_assoc seen g.before (g.asking ∷ g.behind));
   asks = ap (λ (s : LinkState). asks_unit s g.asking) (after_append messages a seen g.before ∙ ap (λ (s : LinkState). state_after messages s g.before) (sym f.stands)) ∙ g.asks;
-  sent = sent_on messages a b seen g.before h k l f g.sent;
+  sent = sent_on spelling messages a b seen g.before h k l f g.sent;
 }
 
 -- what ended the answers to what was heard ends those to more
-pub stops_more : (fault : ServeFault) (messages : Request → Option (List ℕ)) (state : LinkState) (seen more : List Heard) (h k : Option (List ℕ))
-    → Stops fault messages state seen h k → Stops fault messages state (seen ++ more) h k
-stops_more ReadFault messages state seen more h k p = absurd p
-stops_more WriteFault messages state seen more h k p =
-    subst (λ (o : List ℕ). AppendsFront h k o) (answers_append messages state (state_after messages state seen) seen more refl)
-    (front_more h k (bytes_of (run_from messages state seen)) (bytes_of (run_from messages (state_after messages state seen) more)) p)
-stops_more Failed messages state seen more h k p = asking_more messages state seen more h k p
-stops_more (BadUnit place) messages state seen more h k p = asking_more messages state seen more h k p
-stops_more TooLong messages state seen more h k p = absurd p
+pub stops_more : (spelling : Spelling) (fault : ServeFault) (messages : Request → Option (List ℕ)) (state : LinkState) (seen more : List Heard) (h k : Option (List ℕ))
+    → Stops spelling fault messages state seen h k → Stops spelling fault messages state (seen ++ more) h k
+stops_more spelling ReadFault messages state seen more h k p = absurd p
+stops_more spelling WriteFault messages state seen more h k p =
+    subst (λ (o : List ℕ). AppendsFront h k o) (answers_append spelling messages state (state_after messages state seen) seen more refl)
+    (front_more h k (bytes_of spelling (run_from messages state seen)) (bytes_of spelling (run_from messages (state_after messages state seen) more)) p)
+stops_more spelling Failed messages state seen more h k p = asking_more spelling messages state seen more h k p
+stops_more spelling (BadUnit place) messages state seen more h k p = asking_more spelling messages state seen more h k p
+stops_more spelling TooLong messages state seen more h k p = absurd p
 
 -- the answers end behind those that were given
-pub stops_behind : (fault : ServeFault) (messages : Request → Option (List ℕ)) (a b : LinkState) (seen more : List Heard) (h k l : Option (List ℕ)) → IsAnswered messages a seen b h k
-    → Stops fault messages b more k l → Stops fault messages a (seen ++ more) h l
-stops_behind ReadFault messages a b seen more h k l f p = absurd p
-stops_behind WriteFault messages a b seen more h k l f p =
-    subst (λ (o : List ℕ). AppendsFront h l o) (answers_append messages a b seen more f.stands)
-    (front_behind h k l (bytes_of (run_from messages a seen)) (bytes_of (run_from messages b more)) f.sent p)
-stops_behind Failed messages a b seen more h k l f p = asking_behind messages a b seen more h k l f p
-stops_behind (BadUnit place) messages a b seen more h k l f p = asking_behind messages a b seen more h k l f p
-stops_behind TooLong messages a b seen more h k l f p = absurd p
+pub stops_behind : (spelling : Spelling) (fault : ServeFault) (messages : Request → Option (List ℕ)) (a b : LinkState) (seen more : List Heard) (h k l : Option (List ℕ)) → IsAnswered spelling messages a seen b h k
+    → Stops spelling fault messages b more k l → Stops spelling fault messages a (seen ++ more) h l
+stops_behind spelling ReadFault messages a b seen more h k l f p = absurd p
+stops_behind spelling WriteFault messages a b seen more h k l f p =
+    subst (λ (o : List ℕ). AppendsFront h l o) (answers_append spelling messages a b seen more f.stands)
+    (front_behind h k l (bytes_of spelling (run_from messages a seen)) (bytes_of spelling (run_from messages b more)) f.sent p)
+stops_behind spelling Failed messages a b seen more h k l f p = asking_behind spelling messages a b seen more h k l f p
+stops_behind spelling (BadUnit place) messages a b seen more h k l f p = asking_behind spelling messages a b seen more h k l f p
+stops_behind spelling TooLong messages a b seen more h k l f p = absurd p

@@ -27,23 +27,20 @@ pub enum Spelling {
     HexLines,
 }
 
-/// A unit on the link: what it hears, where it stands, and how its answers are spelled.
+/// A unit on the link: what it hears, and where it stands.
 #[derive(Drop)]
 pub struct Line {
-    pub spelling: Spelling,
     pub scanner: Scanner,
     pub session: Session,
 }
 
 impl Line {
     /// Nothing has come yet.
-    pub fn new(spelling: Spelling) -> Line
-        ensures spelling { result.spelling ≡ spelling }
+    pub fn new() -> Line
         ensures scanner { result.scanner ≡ listening [] }
         ensures session { result.session ≡ fresh Idle }
     {
         Line {
-            spelling,
             scanner: Scanner::new(End::Unit),
             session: Session::new(),
         }
@@ -52,6 +49,7 @@ impl Line {
     /// Answers the frames that end in these bytes.
     pub fn answer<K: Sink, U: Medium>(
         &mut self,
+        spelling: Spelling,
         bytes: &[u8],
         sink: &mut K,
         unit: &mut U,
@@ -59,20 +57,19 @@ impl Line {
         requires unit { (U.state unit.old).size ≡ IMAGE_SIZE }
         requires listens { self.old.scanner ≡ listening self.old.scanner.kept }
         requires knows { IfSome (U.state unit.old).image (Knows self.old.session) }
-        ensures spelling { self.new.spelling ≡ self.old.spelling }
         ensures kept { OnOk result (self.new.scanner ≡ listening (kept_after side.Unit self.old.scanner.kept bytes.now)) }
         ensures answered { OnOk result (IfSome (U.state unit.old).image (λ x.
-            IsAnswered self.old.spelling (content_sent x) self.old.session.state (heard_in side.Unit self.old.scanner.kept bytes.now) self.new.session.state (K.held sink.old) (K.held sink.new))) }
+            IsAnswered spelling (content_sent x) self.old.session.state (heard_in side.Unit self.old.scanner.kept bytes.now) self.new.session.state (K.held sink.old) (K.held sink.new))) }
         ensures knows { OnOk result (IfSome (U.state unit.old).image (Knows self.new.session)) }
         ensures stops { IfErr result (λ fault. IfSome (U.state unit.old).image (λ x.
-            Stops self.old.spelling fault (content_sent x) self.old.session.state (heard_in side.Unit self.old.scanner.kept bytes.now) (K.held sink.old) (K.held sink.new))) }
+            Stops spelling fault (content_sent x) self.old.session.state (heard_in side.Unit self.old.scanner.kept bytes.now) (K.held sink.old) (K.held sink.new))) }
         ensures cause { IfErr result (λ fault. IsCaused fault ⊥ (Rose (K.faults sink.old) (K.faults sink.new)) (λ p. IfSome (U.state unit.old).image (λ x. first_bad_place x ≡ Some p))) }
         ensures counts { K.faults sink.old ≤ K.faults sink.new }
         ensures unit { ReadsIfAny (U.state unit.old) (U.state unit.new) (has_failed result) }
     {
         let mut done = 0usize;
         while done < bytes.len() {
-            done += self.answer_next(&bytes[done..], sink, unit)?;
+            done += self.answer_next(spelling, &bytes[done..], sink, unit)?;
         }
         Ok(())
     }
@@ -80,6 +77,7 @@ impl Line {
     /// Answers the frames that end in these bytes, of which so many may come; where more come, those in the first.
     pub fn answer_within<K: Sink, U: Medium>(
         &mut self,
+        spelling: Spelling,
         bytes: &[u8],
         left: usize,
         sink: &mut K,
@@ -89,27 +87,27 @@ impl Line {
         requires listens { self.old.scanner ≡ listening self.old.scanner.kept }
         requires knows { IfSome (U.state unit.old).image (Knows self.old.session) }
         ensures few { OnOk result (length bytes.now ≤ left) }
-        ensures spelling { self.new.spelling ≡ self.old.spelling }
         ensures kept { OnOk result (self.new.scanner ≡ listening (kept_after side.Unit self.old.scanner.kept bytes.now)) }
         ensures answered { OnOk result (IfSome (U.state unit.old).image (λ x.
-            IsAnswered self.old.spelling (content_sent x) self.old.session.state (heard_in side.Unit self.old.scanner.kept bytes.now) self.new.session.state (K.held sink.old) (K.held sink.new))) }
+            IsAnswered spelling (content_sent x) self.old.session.state (heard_in side.Unit self.old.scanner.kept bytes.now) self.new.session.state (K.held sink.old) (K.held sink.new))) }
         ensures knows { OnOk result (IfSome (U.state unit.old).image (Knows self.new.session)) }
         ensures stops { IfErr result (λ fault. IfSome (U.state unit.old).image (λ x.
-            StopsWithin self.old.spelling fault (content_sent x) self.old.session.state self.old.scanner.kept left bytes.now (K.held sink.old) (K.held sink.new))) }
+            StopsWithin spelling fault (content_sent x) self.old.session.state self.old.scanner.kept left bytes.now (K.held sink.old) (K.held sink.new))) }
         ensures cause { IfErr result (λ fault. IsCaused fault ⊥ (Rose (K.faults sink.old) (K.faults sink.new)) (λ p. IfSome (U.state unit.old).image (λ x. first_bad_place x ≡ Some p))) }
         ensures counts { K.faults sink.old ≤ K.faults sink.new }
         ensures unit { ReadsIfAny (U.state unit.old) (U.state unit.new) (has_failed result) }
     {
         if bytes.len() <= left {
-            return self.answer(bytes, sink, unit);
+            return self.answer(spelling, bytes, sink, unit);
         }
-        self.answer(&bytes[..left], sink, unit)?;
+        self.answer(spelling, &bytes[..left], sink, unit)?;
         Err(ServeFault::TooLong)
     }
 
     // Takes bytes up to the end of the next frame, or all of them, answers the frame, and says how many it took.
     fn answer_next<K: Sink, U: Medium>(
         &mut self,
+        spelling: Spelling,
         bytes: &[u8],
         sink: &mut K,
         unit: &mut U,
@@ -119,13 +117,12 @@ impl Line {
         requires listens { self.old.scanner ≡ listening self.old.scanner.kept }
         requires knows { IfSome (U.state unit.old).image (Knows self.old.session) }
         ensures taken { IfOk result (λ n. (0 < n) × (n ≤ length bytes.now)) }
-        ensures spelling { self.new.spelling ≡ self.old.spelling }
         ensures kept { IfOk result (λ n. self.new.scanner ≡ listening (kept_after side.Unit self.old.scanner.kept (take n bytes.now))) }
         ensures answered { IfOk result (λ n. IfSome (U.state unit.old).image (λ x.
-            IsAnswered self.old.spelling (content_sent x) self.old.session.state (heard_in side.Unit self.old.scanner.kept (take n bytes.now)) self.new.session.state (K.held sink.old) (K.held sink.new))) }
+            IsAnswered spelling (content_sent x) self.old.session.state (heard_in side.Unit self.old.scanner.kept (take n bytes.now)) self.new.session.state (K.held sink.old) (K.held sink.new))) }
         ensures knows { OnOk result (IfSome (U.state unit.old).image (Knows self.new.session)) }
         ensures stops { IfErr result (λ fault. IfSome (U.state unit.old).image (λ x.
-            Stops self.old.spelling fault (content_sent x) self.old.session.state (heard_in side.Unit self.old.scanner.kept bytes.now) (K.held sink.old) (K.held sink.new))) }
+            Stops spelling fault (content_sent x) self.old.session.state (heard_in side.Unit self.old.scanner.kept bytes.now) (K.held sink.old) (K.held sink.new))) }
         ensures cause { IfErr result (λ fault. IsCaused fault ⊥ (Rose (K.faults sink.old) (K.faults sink.new)) (λ p. IfSome (U.state unit.old).image (λ x. first_bad_place x ≡ Some p))) }
         ensures counts { K.faults sink.old ≤ K.faults sink.new }
         ensures unit { ReadsIfAny (U.state unit.old) (U.state unit.new) (has_failed result) }
@@ -134,7 +131,7 @@ impl Line {
         let Some(seen) = heard else {
             return Ok(taken);
         };
-        answer_frame(self.spelling, &mut self.session, &seen, sink, unit)?;
+        answer_frame(spelling, &mut self.session, &seen, sink, unit)?;
         Ok(taken)
     }
 }

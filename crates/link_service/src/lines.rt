@@ -29,7 +29,7 @@ impl Lines {
     fn new(alloc: Global) -> Lines {
         Lines {
             alloc,
-            line: Line::new(Spelling::HexLines),
+            line: Line::new(),
             text: Vec::new(alloc),
             whole: 0,
         }
@@ -56,7 +56,8 @@ impl Lines {
             Err(LineFault::Memory) => return Err(LinesFault::Memory),
         };
         self.text.clear();
-        self.line.answer(bytes.as_slice(), sink, unit)?;
+        self.line
+            .answer(Spelling::HexLines, bytes.as_slice(), sink, unit)?;
         Ok(())
     }
 

@@ -36,7 +36,7 @@ pub fn serve<S: Source, K: Sink, U: Medium>(
     ensures counts { (S.faults source.old ≤ S.faults source.new) × (K.faults sink.old ≤ K.faults sink.new) }
     ensures unit { ReadsIfAny (U.state unit.old) (U.state unit.new) (has_failed result) }
 {
-    let mut line = Line::new(Spelling::Bytes);
+    let mut line = Line::new();
     let mut left = MOST as usize;
     let mut block = [0u8; 4096];
     for _turn in 0..MOST as u64 + 1 {
@@ -46,7 +46,7 @@ pub fn serve<S: Source, K: Sink, U: Medium>(
         if count == 0 {
             return Ok(());
         }
-        line.answer_within(&block[..count], left, sink, unit)?;
+        line.answer_within(Spelling::Bytes, &block[..count], left, sink, unit)?;
         left -= count;
     }
     unreachable!()
