@@ -54,12 +54,13 @@ StandsFrom start oldest days = (d : WordDay) → Contains (own_view start).held.
 
 -- Of these entries, which begin with its own, a card whose image was this at the start keeps all but those of whole days at the old
 -- end, where the next one is not earlier than a minute; the newest of these days, those that are there and 16 bytes together exceed
--- its string.
+-- its string. A day that was begun on that of its end mark, and has no entry yet, may be there with its first word.
 pub record KeepsFrom (start : List ℕ) (from : ℕ) (all : List Entry) (held : Held) : Type 0 where
   pub more : List Entry
   pub begins : all ≡ (own_view start).held.entries ++ more
   pub keeps : (next : ℕ) → from ≤ next →
-      (r : CardRetains (own_sizes start).activity 16 (days_with start next more) all held.days held.entries)
+      (r : CardRetains (own_sizes start).activity 16 ((own_view start).mark / 1440) (days_with start next more) all
+      held.days held.entries)
       × StandsFrom start r.oldest held.days
 
 -- And where it is late enough, so that behind the last entry its closing word counts.

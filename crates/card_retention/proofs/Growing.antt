@@ -156,7 +156,7 @@ shows_word length slack k expected (d ∷ ds) rising a b s =
     }
 
 -- A NEW DAY of both
-covers_day : (ws ds : List WordDay) (v d : WordDay) → Takes v d → Covers ws ds → Covers (ws ++ v ∷ []) (ds ++ d ∷ [])
+pub covers_day : (ws ds : List WordDay) (v d : WordDay) → Takes v d → Covers ws ds → Covers (ws ++ v ∷ []) (ds ++ d ∷ [])
 covers_day [] [] v d t c = inl (t, tt)
 covers_day [] (e ∷ ds) v d t c = absurd c
 covers_day (w ∷ ws) [] v d t c = inr (covers_day ws [] v d t (covers_none ws))

@@ -19,7 +19,7 @@ use Rattle.card_model.proofs.Trims.{Behind}
 abbrev pub Lists : (mark : ℕ) → List Entry → List Day → Type 0
 Lists mark all days = entries_up_to mark days ≡ entries_in (sizes days) all
 
-append_in : (ws : List WordDay) (es fs : List Entry) → entries_in ws (es ++ fs) ≡ entries_in ws es ++ entries_in ws fs
+pub append_in : (ws : List WordDay) (es fs : List Entry) → entries_in ws (es ++ fs) ≡ entries_in ws es ++ entries_in ws fs
 append_in ws [] fs = refl
 append_in ws (e ∷ es) fs = by (is_day (e.minute / 1440) ws) (append_in ws es fs)
   where

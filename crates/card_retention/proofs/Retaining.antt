@@ -18,7 +18,7 @@ not_le m n lt = grind (arith, nat_tests)
 le_of : (m n : ℕ) → nat_le m n ≡ true → m ≤ n
 le_of m n is = grind (arith, nat_tests)
 
-covers_from : (o : ℕ) (ws ds : List WordDay) → AllFrom o ws → Covers ws ds → AllFrom o ds
+pub covers_from : (o : ℕ) (ws ds : List WordDay) → AllFrom o ws → Covers ws ds → AllFrom o ds
 covers_from o ws [] f c = tt
 covers_from o [] (d ∷ ds) f c = absurd c
 covers_from o (w ∷ ws) (d ∷ ds) f c = ⊎_elim (λ m. (omega (arith, f.0, m.0.day), covers_from o ws ds f.1 m.1)) (λ m. covers_from o ws (d ∷ ds) f.1 m) c
@@ -45,19 +45,19 @@ day_low k o (d ∷ ds) f is = by (nat_eq d.day k) refl is (day_low k o ds f.1)
     by true same is rest = omega (arith, f.0, eq d.day k same)
     by false same is rest = rest is
 
-is_day_more : (k : ℕ) (ds : List WordDay) → is_day k (more ds) ≡ is_day k ds
+pub is_day_more : (k : ℕ) (ds : List WordDay) → is_day k (more ds) ≡ is_day k ds
 is_day_more k [] = refl
 is_day_more k (d ∷ []) = refl
 is_day_more k (d ∷ e ∷ ds) = ap (λ (b : Bool). nat_eq d.day k || b) (is_day_more k (e ∷ ds))
 
-is_day_owing : (n mark k : ℕ) (ds : List Day) → is_day k (owing n mark ds) ≡ is_day k (sizes ds)
+pub is_day_owing : (n mark k : ℕ) (ds : List Day) → is_day k (owing n mark ds) ≡ is_day k (sizes ds)
 is_day_owing n mark k ds = by (is_open mark ds && nat_lt (suc mark) n)
   where
     by : (b : Bool) → is_day k (cond b (more (sizes ds)) (sizes ds)) ≡ is_day k (sizes ds)
     by true = is_day_more k (sizes ds)
     by false = refl
 
-same_entries : (o : ℕ) (all : List Entry) (shown days : List WordDay) → AllIn o all shown → AllFrom o shown → ((k : ℕ) → is_day k shown ≡ is_day k days) → entries_in days all ≡ entries_from o all
+pub same_entries : (o : ℕ) (all : List Entry) (shown days : List WordDay) → AllIn o all shown → AllFrom o shown → ((k : ℕ) → is_day k shown ≡ is_day k days) → entries_in days all ≡ entries_from o all
 same_entries o [] shown days w f s = refl
 same_entries o (e ∷ all) shown days w f s = by (nat_le o (e.minute / 1440)) refl (is_day (e.minute / 1440) days) refl (same_entries o all shown days w.1 f s)
   where
@@ -76,15 +76,15 @@ same_entries o (e ∷ all) shown days w f s = by (nat_le o (e.minute / 1440)) re
 
 -- THE RULE AS STATED: the string has no more than its days and the word that is owed to them, and shows those entries of all whose
 -- day it has; so it keeps the rule.
-pub retains : (size : ℕ) (slack : Bound) (covered from mark : ℕ) (c : Counted) (days : List Day) → Rests size slack covered from mark c days → (n : ℕ) → from ≤ n
-    → (held : List WordDay) → Grows held (owing n mark days) → (shown : List Entry) → shown ≡ entries_in (sizes days) slack.all → CardRetains size slack.bytes (expected_days covered n c) slack.all held shown
-retains size slack covered from mark c days r n le held grows shown is =
+pub retains : (size marked : ℕ) (slack : Bound) (covered from mark : ℕ) (c : Counted) (days : List Day) → Rests size slack covered from mark c days → (n : ℕ) → from ≤ n
+    → (held : List WordDay) → Grows held (owing n mark days) → (shown : List Entry) → shown ≡ entries_in (sizes days) slack.all → CardRetains size slack.bytes marked (expected_days covered n c) slack.all held shown
+retains size marked slack covered from mark c days r n le held grows shown is =
     let s = r.shows n le in
     record {
       gone = s.gone;
       there = s.there;
       split = s.split;
-      covers = covers_fewer s.there held (owing n mark days) grows s.covers;
+      covers = inl (covers_fewer s.there held (owing n mark days) grows s.covers);
       full = s.full;
       some = s.some;
       oldest = s.oldest;

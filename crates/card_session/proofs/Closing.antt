@@ -1,4 +1,4 @@
--- The closing of a withdrawal: the word, the end mark at it, and behind them the session time.
+-- The closing word and the end mark at it; and of a withdrawal, behind them, the session time.
 use Rattle.std.proofs.Common.{◌≡◌, inl, inr, ⊎_elim, ℕ, suc, ◌+◌, ◌-◌, ◌*◌, ◌/◌, ◌≤◌, Bool, true, false, cond, List, [], ◌∷◌, length, Option, Some, None, option_map, IfSome, refl, sym, ◌∙◌, ap, subst, arith}
 use Rattle.std.specs.Prelude.{◌⊎◌}
 use Rattle.byte_fields.proofs.Images.{outside_same}
@@ -25,6 +25,7 @@ use Rattle.card_session.specs.Parts.{DoesPart, IsPartDone, IsPartMoment, TakesSo
 use Rattle.card_session.proofs.Composing.{part_as, part_failed, part_none, part_of, then_part, card_as}
 use Rattle.card_session.proofs.OnCard.{newest_told}
 use Rattle.card_session.proofs.Following.{takes_closing, closing_told}
+use Rattle.card_session.proofs.InsertingDays.{still_card}
 
 -- the days with the word, and then the end mark at it
 abbrev pub worded : (size : ℕ) → Activity → Book → Book
@@ -87,13 +88,11 @@ module _ (s : Session) (value : IsValue s) (act : Activity) (mark : ℕ) (mark_i
       by true is one = (is, some_same (word_at (book x)) w one)
       by false is one = absurd (cc)
 
-  pub none_closes : closing_at mark act tail ≡ None → (state : State) → DoesPart state state false (ClosesWords s act) (IsPartMoment s IsOpenBook (IsCloseMoment size act))
-  none_closes none state = part_none state (λ x was knows ready. record {
-    outside = outside_same (day_string s.application).base (days_and_vehicles s.application) x;
-    holds = subst (λ (q : StringShape). Holds q x (book x).days) value.days knows.days.holds;
-    points = knows.points;
-    told = subst (λ (c : Book). IsBook c (book x).days (book x).vehicle) (sym (closed_shut size act (book x) (shut x knows none))) (refl, refl);
-  })
+  pub none_shut : closing_at mark act tail ≡ None → (state : State) → DoesPart state state false (IsPartDone s s IsOpenBook (closed size act)) (IsPartMoment s IsOpenBook (IsCloseMoment size act))
+  none_shut none state = part_none state (λ x was knows ready. (
+    subst (λ (c : Book). IsCard s.application (IsBook c) x x) (sym (closed_shut size act (book x) (shut x knows none))) (still_card s value x knows),
+    knows,
+  ))
 
   module _ (w : ℕ) (some : closing_at mark act tail ≡ Some w) (t : Session) where
     pub worded_part : {old new : State} {failed : Bool} → DoesPart old new failed (IsPartDone s t (TakesSome (Some w)) (with_some size (Some w))) (IsPartMoment s (TakesSome (Some w)) (IsAdding size (Some w)))
@@ -111,23 +110,29 @@ module _ (s : Session) (value : IsValue s) (act : Activity) (mark : ℕ) (mark_i
             let o = opened x knows w some in
             ap (λ (n : ℕ). with_change size n (book x).days) o.1 ∙ sym (days_open size act (book x) o.0)
 
-    pub word_failed : {old new : State} {failed : Bool} → DoesPart old new true (IsPartDone s t IsOpenBook (worded size act)) (IsPartMoment s IsOpenBook (IsWording size act)) → failed ≡ true
-        → DoesPart old new failed (ClosesWords s act) (IsPartMoment s IsOpenBook (IsCloseMoment size act))
-    word_failed part is = part_failed part is (λ x c was one knows ready. card_as s.application (IsWording size act (book x)) (IsCloseMoment size act (book x)) x c (λ ds v q. inl (q.1, q.0)) (one knows ready))
+    pub word_failed : {old new : State} {failed : Bool} (u : Session) → DoesPart old new true (IsPartDone s t IsOpenBook (worded size act)) (IsPartMoment s IsOpenBook (IsWording size act)) → failed ≡ true
+        → DoesPart old new failed (IsPartDone s u IsOpenBook (closed size act)) (IsPartMoment s IsOpenBook (IsCloseMoment size act))
+    word_failed u part is = part_failed part is (λ x c was one knows ready. card_as s.application (IsWording size act (book x)) (IsCloseMoment size act (book x)) x c (λ ds v q. inl (q.1, q.0)) (one knows ready))
 
     -- without a vehicle entry nothing else
-    pub word_alone : {old new : State} → DoesPart old new false (IsPartDone s t IsOpenBook (worded size act)) (IsPartMoment s IsOpenBook (IsWording size act)) → s.newest ≡ None
-        → DoesPart old new false (ClosesWords s act) (IsPartMoment s IsOpenBook (IsCloseMoment size act))
+    pub word_alone : {old new : State} → DoesPart old new false (IsPartDone s t IsOpenBook (worded size act)) (IsPartMoment s IsOpenBook (IsWording size act)) → (s.newest ≡ None) ⊎ (s.vehicle ≡ None)
+        → DoesPart old new false (IsPartDone s t IsOpenBook (closed size act)) (IsPartMoment s IsOpenBook (IsCloseMoment size act))
     word_alone part none =
         part_as part
-        (λ x y was one knows ready. subst (λ (c : Book). IsCard s.application (IsBook c) x y) (sym (closed_open size act (book x) (opened x knows w some).0 ∙ no_mark x knows)) (one knows ready).0)
+        (λ x y was one knows ready.
+        let a = one knows ready in
+        (subst (λ (c : Book). IsCard s.application (IsBook c) x y) (sym (closed_open size act (book x) (opened x knows w some).0 ∙ no_mark x knows)) a.0, a.1))
         (λ x c was one knows ready. card_as s.application (IsWording size act (book x)) (IsCloseMoment size act (book x)) x c (λ ds v q. inl (q.1, q.0)) (one knows ready))
       where
+        no_vehicle : (x : List ℕ) → KnowsCard s x → (book x).vehicle ≡ None
+        no_vehicle x knows = ⊎_elim
+            (λ newest. newest_told s.application x None (subst (λ (o : Option ℕ). IsNewest (vehicle_ring s.application) x o) newest knows.newest))
+            (λ vehicle. sym knows.vehicle ∙ vehicle) none
+
         no_mark : (x : List ℕ) → KnowsCard s x → marked size act (book x) ≡ worded size act (book x)
         no_mark x knows =
-            let no : (book x).vehicle ≡ None = newest_told s.application x None (subst (λ (o : Option ℕ). IsNewest (vehicle_ring s.application) x o) none knows.newest) in
             ap (λ (o : Option Vehicle). let c : Book = record { days = closed_days size (mark_of (book x)) act (book x).days; vehicle = o } in c)
-            (ap (last_used (60 * suc (mark_of (book x)))) no ∙ sym no)
+            (ap (last_used (60 * suc (mark_of (book x)))) (no_vehicle x knows) ∙ sym (no_vehicle x knows))
 
     -- with one, its last use
     module _ (seconds : ℕ) (seconds_are : seconds ≡ 60 * suc mark) where
@@ -152,16 +157,21 @@ module _ (s : Session) (value : IsValue s) (act : Activity) (mark : ℕ) (mark_i
           (λ set. inr (mark.0 ∙ days_at x knows, set ∙ vehicle_at x knows))
           mark.1
 
-      pub mark_then : {old mid new : State} {failed : Bool} → t.application ≡ s.application
+      pub mark_then : {old mid new : State} {failed : Bool} (u : Session) → t.application ≡ s.application
           → DoesPart old mid false (IsPartDone s t IsOpenBook (worded size act)) (IsPartMoment s IsOpenBook (IsWording size act))
-          → DoesPart mid new failed (IsPartDone t (used_session seconds t) AnyBook (with_last_use seconds)) (IsPartMoment t AnyBook (IsSettingUse seconds))
-          → DoesPart old new failed (ClosesWords s act) (IsPartMoment s IsOpenBook (IsCloseMoment size act))
-      mark_then app first next =
+          → DoesPart mid new failed (IsPartDone t u AnyBook (with_last_use seconds)) (IsPartMoment t AnyBook (IsSettingUse seconds))
+          → DoesPart old new failed (IsPartDone s u IsOpenBook (closed size act)) (IsPartMoment s IsOpenBook (IsCloseMoment size act))
+      mark_then u app first next =
           part_as
-          (then_part s t (used_session seconds t) IsOpenBook AnyBook (worded size act) (with_last_use seconds) (IsWording size act) (IsSettingUse seconds) IsMarking app first next (λ x y knows ready then. tt)
+          (then_part s t u IsOpenBook AnyBook (worded size act) (with_last_use seconds) (IsWording size act) (IsSettingUse seconds) IsMarking app first next (λ x y knows ready then. tt)
           (λ b ds v ready q. inl q) (λ b ds v ready q. inr q))
-          (λ x y was one knows ready. subst (λ (c : Book). IsCard s.application (IsBook c) x y) (marked_at x knows) (one knows ready).0)
+          (λ x y was one knows ready. let a = one knows ready in (subst (λ (c : Book). IsCard s.application (IsBook c) x y) (marked_at x knows) a.0, a.1))
           (λ x c was one knows ready. card_as s.application (IsMarking (book x)) (IsCloseMoment size act (book x)) x c (moment x knows) (one knows ready))
+
+-- beside what the session then knows
+pub closes : {old new : State} {failed : Bool} (s u : Session) (act : Activity) → DoesPart old new failed (IsPartDone s u IsOpenBook (closed s.application.activity act)) (IsPartMoment s IsOpenBook (IsCloseMoment s.application.activity act))
+    → DoesPart old new failed (ClosesWords s act) (IsPartMoment s IsOpenBook (IsCloseMoment s.application.activity act))
+closes s u act part = part_as part (λ x y was one knows ready. (one knows ready).0) (λ x c was one. one)
 
 -- ---- the end of the session
 

@@ -1,4 +1,4 @@
--- A keep whose end mark has moved shows its entry behind those of before, where no word stood behind the old end mark.
+-- A keep whose end mark has moved shows its entry behind those of before, where no minute behind the old end mark told one.
 use Rattle.std.proofs.Common.{◌≡◌, inl, inr, ⊎_elim, ℕ, zero, suc, ◌+◌, ◌-◌, ◌*◌, ◌/◌, ◌%◌, ◌<◌, ◌≤◌, max, Bool, true, false, cond, ◌&&◌, not, Option, Some, None, List, [], ◌∷◌, ◌++◌, length, refl, sym, ◌∙◌, ap, subst, arith}
 use Rattle.std.specs.Prelude.{◌⊎◌, ◌||◌, nat_eq, nat_lt, nat_le}
 use Rattle.std.proofs.lemmas.Bool.Decides.{nat_tests}
@@ -28,11 +28,11 @@ use Rattle.card_session.specs.Sessions.{book_of}
 use Rattle.card_session.specs.Moments.{IsBook, IsKeepMoment, IsCloseMoment}
 use Rattle.card_session.specs.Cards.{IsCard, ended}
 use Rattle.card_session.specs.Parts.{IsBeforeGapOf}
-use Rattle.card_session.specs.Overwriting.{ShowsEntries, BeginsBehind}
-use Rattle.card_session.proofs.Following.{closing_minute, entry_minute, both_true, differ, same_is}
+use Rattle.card_session.specs.Overwriting.{ShowsEntries, IsSilentBehind, TellsNoLater, BeginsBehind}
+use Rattle.card_session.proofs.Following.{closing_minute, entry_minute, differ, same_is}
 use Rattle.card_session.proofs.Preparing.{gap_are, gap_ready, words_last, open_date}
 use Rattle.card_session.proofs.Lasting.{entered_as}
-use Rattle.card_session.proofs.Alike.{alike_km, are_bare, entries_alike, sizes_alike}
+use Rattle.card_session.proofs.Alike.{alike_km, are_bare, entries_alike, sizes_alike, word_alike}
 use Rattle.card_session.proofs.Marks.{mark_told}
 use Rattle.card_session.proofs.Surviving.{entered_survives, closing_survives, lists_survive, newest_gapped}
 use Rattle.card_session.proofs.Stopping.{closing_absent, book_days, mark_at, before_use, mark_moves, ended_days, ended_mark}
@@ -103,6 +103,27 @@ quiet_end mark next date d (e ∷ ds) are low shut = quiet_end mark next d.date 
 quiet_days : (mark next : ℕ) (ds : List Day) → AreDays 0 ds → newest_word ds ≤ mark → is_open mark ds && nat_lt (suc mark) next ≡ false → Quiet mark next ds
 quiet_days mark next [] are low shut = tt
 quiet_days mark next (d ∷ ds) are low shut = quiet mark next 0 (d ∷ ds) are (quiet_end mark next 0 d ds are low shut)
+
+-- the same for each entry that may come
+silent_all : (mark : ℕ) (ds : List Day) → ((next : ℕ) → Quiet mark next ds) → IsSilentBehind mark ds
+silent_all mark [] q = tt
+silent_all mark (d ∷ ds) q = (λ t low behind. (q (suc (d.date / 60 + t))).0 t low behind (omega arith), silent_all mark ds (λ next. (q next).1))
+
+pub silent_end : (mark : ℕ) (ds : List Day) → AreDays 0 ds → newest_word ds ≤ mark → is_open mark ds ≡ false → IsSilentBehind mark ds
+silent_end mark ds are low shut = silent_all mark ds (λ next. quiet_days mark next ds are low (none (is_open mark ds) (nat_lt (suc mark) next) shut))
+  where
+    none : (o g : Bool) → o ≡ false → o && g ≡ false
+    none false g is = refl
+    none true g is = absurd (cc)
+
+silent_quiet : (mark next : ℕ) (ds : List Day) → IsSilentBehind mark ds → Quiet mark next ds
+silent_quiet mark next [] s = tt
+silent_quiet mark next (d ∷ ds) s = (λ t low behind before. s.0 t low behind, silent_quiet mark next ds s.1)
+
+-- no minute lies between
+none_between : (mark next : ℕ) (ds : List Day) → next ≤ suc mark → Quiet mark next ds
+none_between mark next [] le = tt
+none_between mark next (d ∷ ds) le = (λ t low behind before. absurd (omega (arith, le, behind, before)), none_between mark next ds le)
 
 -- ---- the newest day tells the entry
 
@@ -218,7 +239,7 @@ lists_then mark e all ds tells more is =
 
 -- ---- a keep
 
-module _ (size : ℕ) (long : 5544 ≤ size) (b : Book) (ordered : AreDays 0 b.days) (e : Entry) (before : IsBeforeGapOf e.minute b) (low : newest_word b.days ≤ mark_of b) where
+module _ (size : ℕ) (long : 5544 ≤ size) (b : Book) (ordered : AreDays 0 b.days) (e : Entry) (before : IsBeforeGapOf e.minute b) (silent : is_open (mark_of b) b.days ≡ false → IsSilentBehind (mark_of b) b.days) where
   abbrev gapped : List Day
   gapped = gap_closed size (mark_of b) e.minute b.days
 
@@ -229,12 +250,16 @@ module _ (size : ℕ) (long : 5544 ≤ size) (b : Book) (ordered : AreDays 0 b.d
   are = gap_are size long b ordered e.minute before
 
   quiet_gap : Quiet (mark_of b) e.minute gapped
-  quiet_gap = by (is_open (mark_of b) b.days && nat_lt (suc (mark_of b)) e.minute) refl are
+  quiet_gap = by (is_open (mark_of b) b.days) (nat_lt (suc (mark_of b)) e.minute) refl refl are
     where
-      by : (g : Bool) → is_open (mark_of b) b.days && nat_lt (suc (mark_of b)) e.minute ≡ g → AreDays 0 (cond g (with_newest (with_word w) (fitting (size - 2) b.days)) b.days)
-          → Quiet (mark_of b) e.minute (cond g (with_newest (with_word w) (fitting (size - 2) b.days)) b.days)
-      by false shut are = quiet_days (mark_of b) e.minute b.days ordered low shut
-      by true gap are =
+      not_less : (m n : ℕ) → nat_lt m n ≡ false → n ≤ m
+      not_less m n is = grind (arith, nat_tests)
+
+      by : (o g : Bool) → is_open (mark_of b) b.days ≡ o → nat_lt (suc (mark_of b)) e.minute ≡ g → AreDays 0 (cond (o && g) (with_newest (with_word w) (fitting (size - 2) b.days)) b.days)
+          → Quiet (mark_of b) e.minute (cond (o && g) (with_newest (with_word w) (fitting (size - 2) b.days)) b.days)
+      by false g shut gap are = silent_quiet (mark_of b) e.minute b.days (silent shut)
+      by true false is gap are = none_between (mark_of b) e.minute b.days (not_less (suc (mark_of b)) e.minute gap)
+      by true true is gap are =
           quiet (mark_of b) e.minute 0 (with_newest (with_word w) (fitting (size - 2) b.days)) are
           (on_word (λ d. d.date ≡ date_of (suc (mark_of b))) (QuietEnd (mark_of b) e.minute) w (fitting (size - 2) b.days)
           (λ d date. record {
@@ -242,8 +267,7 @@ module _ (size : ℕ) (long : 5544 ≤ size) (b : Book) (ordered : AreDays 0 b.d
             last = omega (arith, date, ap word_minute (last_append d.words w), closing_minute (suc (mark_of b)) Rest (latest_of b.days));
             ends = inl (ap word_absent (last_append d.words w) ∙ closing_absent (suc (mark_of b)) Rest (latest_of b.days));
           })
-          (remain_some (λ d. d.date ≡ date_of (suc (mark_of b))) (size - 2) 0 b.days (fitting (size - 2) b.days) (omega (arith, long)) ordered (remain_fitting (size - 2) b.days)
-          (open_date (mark_of b) b.days (both_true (is_open (mark_of b) b.days) (nat_lt (suc (mark_of b)) e.minute) gap).0)))
+          (remain_some (λ d. d.date ≡ date_of (suc (mark_of b))) (size - 2) 0 b.days (fitting (size - 2) b.days) (omega (arith, long)) ordered (remain_fitting (size - 2) b.days) (open_date (mark_of b) b.days is)))
 
   pub commit_shows : (all : List Entry) → AllUpTo (mark_of b) all → Lists (mark_of b) all b.days → (is_newest (e.minute / 1440) (sizes gapped) ≡ false → mark_of b / 1440 < e.minute / 1440) → (more : ℕ) → AreDays 0 (travelled more (entered_days size e gapped))
       → Lists e.minute (all ++ e ∷ []) (travelled more (entered_days size e gapped))
@@ -326,6 +350,34 @@ shown_at : (app : Application) (y : List ℕ) (m : ℕ) (all : List Entry) → e
 shown_at app y m all at lists =
     subst (λ (ds : List Day). Lists (end_mark app y) all ds) (book_days app y) (subst (λ (n : ℕ). Lists n all (book_of app y).days) (sym at) lists)
 
+-- behind the new end mark no minute tells one
+module _ (app : Application) (sound : IsApplication app) (x : List ℕ) (ordered : AreDays 0 (book_of app x).days) where
+  pub keep_silent : (registration : Registration) (odometer more : ℕ) (e : Entry) (y : List ℕ) → IsBeforeGapOf e.minute (book_of app x) → IsCard app (IsKeepMoment app.activity registration odometer more e (book_of app x)) x y → end_mark app y ≡ e.minute → TellsNoLater app y
+  keep_silent registration odometer more e y before card at = ⊎_elim
+      (λ old. absurd (omega (arith, before.1, at, mark_at app (book_of app x) y old.0)))
+      (λ new. ⊎_elim
+      (λ unused. absurd (omega (arith, before.1, at, mark_told app y, before_use registration odometer e.minute (book_of app x).vehicle (book_of app y).vehicle unused)))
+      (λ after. told (silent_end e.minute (book_of app y).days card.holds.ordered (low new.0)))
+      new.1)
+      card.told
+    where
+      gapped : List Day
+      gapped = gap_closed app.activity (mark_of (book_of app x)) e.minute (book_of app x).days
+
+      are : AreDays 0 gapped
+      are = gap_are app.activity sound.string_least (book_of app x) ordered e.minute before
+
+      low : (book_of app y).days ≡ travelled more (entered_days app.activity e gapped) → newest_word (book_of app y).days ≤ e.minute
+      low is =
+          let last = words_last app.activity sound.string_least (record { days = gapped; vehicle = (book_of app x).vehicle }) are e (gap_ready app.activity sound.string_least (book_of app x) ordered e.minute before e refl) in
+          let same : newest_word (book_of app y).days ≡ newest_word (entered_days app.activity e gapped) = ap newest_word is ∙ word_alike (entered_days app.activity e gapped) (travelled more (entered_days app.activity e gapped)) (alike_km more (entered_days app.activity e gapped)) in
+          omega (arith, same, last.0)
+
+      told : (is_open e.minute (book_of app y).days ≡ false → IsSilentBehind e.minute (book_of app y).days) → TellsNoLater app y
+      told silent =
+          subst (λ (ds : List Day). is_open (end_mark app y) ds ≡ false → IsSilentBehind (end_mark app y) ds) (book_days app y)
+          (subst (λ (n : ℕ). is_open n (book_of app y).days ≡ false → IsSilentBehind n (book_of app y).days) (sym at) silent)
+
 module _ (app : Application) (sound : IsApplication app) (x : List ℕ) (ordered : AreDays 0 (book_of app x).days) (all : List Entry) (up : AllUpTo (end_mark app x) all) (shown : ShowsEntries app all x) where
   abbrev b : Book
   b = book_of app x
@@ -338,20 +390,22 @@ module _ (app : Application) (sound : IsApplication app) (x : List ℕ) (ordered
   up_at : AllUpTo (mark_of b) all
   up_at = subst (λ (n : ℕ). AllUpTo n all) (mark_told app x) up
 
-  pub keep_commits : (registration : Registration) (odometer more : ℕ) (e : Entry) (y : List ℕ) → IsBeforeGapOf e.minute (book_of app x) → BeginsBehind app e x → newest_word (card_days app x) ≤ end_mark app x
+  pub keep_commits : (registration : Registration) (odometer more : ℕ) (e : Entry) (y : List ℕ) → IsBeforeGapOf e.minute (book_of app x) → BeginsBehind app e x → TellsNoLater app x
       → IsCard app (IsKeepMoment app.activity registration odometer more e (book_of app x)) x y → end_mark app y ≡ e.minute → ShowsEntries app (all ++ e ∷ []) y
-  keep_commits registration odometer more e y before clear low card at = ⊎_elim
+  keep_commits registration odometer more e y before clear silent card at = ⊎_elim
       (λ old. absurd (omega (arith, before.1, at, mark_at app b y old.0)))
       (λ new. ⊎_elim
       (λ unused. absurd (omega (arith, before.1, at, mark_told app y, before_use registration odometer e.minute b.vehicle (book_of app y).vehicle unused)))
       (λ after. shown_at app y e.minute (all ++ e ∷ []) at
       (subst (λ (ds : List Day). Lists e.minute (all ++ e ∷ []) ds) (sym new.0)
-      (commit_shows app.activity sound.string_least b ordered e before low_at all up_at listed clear_at more (subst (λ (ds : List Day). AreDays 0 ds) new.0 card.holds.ordered))))
+      (commit_shows app.activity sound.string_least b ordered e before silent_at all up_at listed clear_at more (subst (λ (ds : List Day). AreDays 0 ds) new.0 card.holds.ordered))))
       new.1)
       card.told
     where
-      low_at : newest_word (book_of app x).days ≤ mark_of (book_of app x)
-      low_at = subst (λ (ds : List Day). newest_word ds ≤ mark_of (book_of app x)) (sym (book_days app x)) (subst (λ (n : ℕ). newest_word (card_days app x) ≤ n) (mark_told app x) low)
+      silent_at : is_open (mark_of (book_of app x)) (book_of app x).days ≡ false → IsSilentBehind (mark_of (book_of app x)) (book_of app x).days
+      silent_at =
+          subst (λ (ds : List Day). is_open (mark_of (book_of app x)) ds ≡ false → IsSilentBehind (mark_of (book_of app x)) ds) (sym (book_days app x))
+          (subst (λ (n : ℕ). is_open n (card_days app x) ≡ false → IsSilentBehind n (card_days app x)) (mark_told app x) silent)
 
       clear_at : is_newest (e.minute / 1440) (sizes (gap_closed app.activity (mark_of (book_of app x)) e.minute (book_of app x).days)) ≡ false → mark_of (book_of app x) / 1440 < e.minute / 1440
       clear_at other =

@@ -55,13 +55,13 @@ module _ (s t : Session) (value : IsValue s) (same : HasSame s t) (old new : Sta
   fits x was = omega (arith, card.fits, whole.sized x was)
 
   -- a moment of a call on the days, by the list that is held
-  written : (Q : List Day → Option Vehicle → Type 0) (x c : List ℕ) → old.image ≡ Some x → KnowsCard s x → SameOutside s.days.shape.base (4 + s.days.shape.size) x c
+  pub written : (Q : List Day → Option Vehicle → Type 0) (x c : List ℕ) → old.image ≡ Some x → KnowsCard s x → SameOutside s.days.shape.base (4 + s.days.shape.size) x c
       → (kept : List Day) → Holds r c kept → Q kept (book_of app x).vehicle → IsCard app Q x c
   written Q x c was knows outside kept holds is =
       days_written app value.sizes x (fits x was) c knows.points (subst (λ (q : StringShape). SameOutside q.base (4 + q.size) x c) value.days outside) Q kept holds is
 
   -- and what is known after it
-  known : (x y : List ℕ) → old.image ≡ Some x → KnowsCard s x → SameOutside s.days.shape.base (4 + s.days.shape.size) x y → (after : List Day) → Knows t.days y after → t.days.shape ≡ s.days.shape
+  pub known : (x y : List ℕ) → old.image ≡ Some x → KnowsCard s x → SameOutside s.days.shape.base (4 + s.days.shape.size) x y → (after : List Day) → Knows t.days y after → t.days.shape ≡ s.days.shape
       → (Holds r y after) × KnowsCard t y
   known x y was knows outside after told shape =
       let beside : SameOutside r.base (4 + r.size) x y = subst (λ (q : StringShape). SameOutside q.base (4 + q.size) x y) value.days outside in

@@ -50,13 +50,13 @@ on_as P Q (d ∷ []) weaker on = weaker d on
 on_as P Q (d ∷ e ∷ ds) weaker on = on_as P Q (e ∷ ds) weaker on
 
 -- the days with it are days
-are_with : (w date : ℕ) (ds : List Day) → AreDays date ds → OnNewest (TakesWord w) ds → AreDays date (with_newest (with_word w) ds)
+pub are_with : (w date : ℕ) (ds : List Day) → AreDays date ds → OnNewest (TakesWord w) ds → AreDays date (with_newest (with_word w) ds)
 are_with w date [] are takes = absurd takes
 are_with w date (d ∷ []) are takes = (are.0, longer_day w d are.1 takes, tt)
 are_with w date (d ∷ e ∷ ds) are takes = (are.0, are.1, are_with w d.date (e ∷ ds) are.2 takes)
 
 -- no word behind a minute is the latest, where none stands there
-ends_by : (m : ℕ) (ds : List Day) → newest_word ds ≤ m → EndsBy m ds
+pub ends_by : (m : ℕ) (ds : List Day) → newest_word ds ≤ m → EndsBy m ds
 ends_by m [] low = tt
 ends_by m (d ∷ []) low = λ entry. low
 ends_by m (d ∷ e ∷ ds) low = ends_by m (e ∷ ds) low

@@ -9,18 +9,18 @@ use Rattle.card_model.specs.Days.{Day}
 use Rattle.card_session.specs.Books.{Book, with_entry, closed}
 
 -- the first minute of 2010-03-01
-abbrev midnight : ℕ
+abbrev pub midnight : ℕ
 midnight = 21123360
 
 -- that day, with this counter, these km and these words
-abbrev day : (km : ℕ) → List ℕ → Day
+abbrev pub day : (km : ℕ) → List ℕ → Day
 day km words = record { date = 1267401600; counter = 1; km = km; words = words }
 
-abbrev this_vehicle : Registration
+abbrev pub this_vehicle : Registration
 this_vehicle = record { 0 = 13 ∷ 1 ∷ 68 ∷ 69 ∷ 77 ∷ 79 ∷ 32 ∷ 32 ∷ 32 ∷ 32 ∷ 32 ∷ 32 ∷ 32 ∷ 32 ∷ 32 ∷ [] }
 
 -- used from minute 600 of the day on, with the counter 1
-abbrev using : (odometer minute : ℕ) → Option Vehicle
+abbrev pub using : (odometer minute : ℕ) → Option Vehicle
 using odometer minute =
     Some (record {
       odometer_begin = record { 0 = 100 };
@@ -32,14 +32,14 @@ using odometer minute =
     })
 
 -- work in the driver's slot
-abbrev work : ℕ → Entry
+abbrev pub work : ℕ → Entry
 work minute = record { minute = midnight + minute; slot = Driver; crew = false; act = Work }
 
 -- a new card, then its first minute: a day, the word before the first entry and that of the entry, and a vehicle entry
 abbrev start : Book
 start = record { days = []; vehicle = None }
 
-abbrev first : Book
+abbrev pub first : Book
 first = record { days = day 0 (0x2000 ∷ 0x1258 ∷ []) ∷ []; vehicle = using 100 600 }
 
 first_minute : with_entry 5544 this_vehicle 100 0 start (work 600) ≡ first

@@ -60,7 +60,7 @@ remain_all room [] = refl
 remain_all room (d ∷ ds) = inl refl
 
 -- a later bound
-lives_later : (size : ℕ) (slack : Bound) (covered from to mark : ℕ) (c : Counted) (days : List Day) → from ≤ to → Lives size slack covered from mark c days → Lives size slack covered to mark c days
+pub lives_later : (size : ℕ) (slack : Bound) (covered from to mark : ℕ) (c : Counted) (days : List Day) → from ≤ to → Lives size slack covered from mark c days → Lives size slack covered to mark c days
 lives_later size slack covered from to mark c days le l = record {
   rests = record {
     ordered = l.rests.ordered;
@@ -137,7 +137,7 @@ module _ (size : ℕ) (slack : Bound) (covered from : ℕ) (c : Counted) (b : Bo
           (trimmed_alike (mark_of b) (entered_days size e gapped) (travelled more (entered_days size e gapped)) (alike_km more (entered_days size e gapped)))
           (are_trimmed (mark_of b) 0 (travelled more (entered_days size e gapped)) ordered) word_stop
 
-      before_stop : (registration : Registration) (odometer more : ℕ) (kept : List Day) → AreDays 0 kept → IsBeforeMark size b (with_entry size registration odometer more b e) e kept → Stopped kept
+      pub before_stop : (registration : Registration) (odometer more : ℕ) (kept : List Day) → AreDays 0 kept → IsBeforeMark size b (with_entry size registration odometer more b e) e kept → Stopped kept
       before_stop registration odometer more kept ordered moment = ⊎_elim
           (λ gap. gap_stop kept gap)
           (λ rest. ⊎_elim
@@ -147,7 +147,7 @@ module _ (size : ℕ) (slack : Bound) (covered from : ℕ) (c : Counted) (b : Bo
           (λ km. subst Stopped (sym km) (km_stop more (subst (λ (ds : List Day). AreDays 0 ds) km ordered)))
           last) rest) moment
 
-    goes_on : (more : ℕ) → AreDays 0 (travelled more (entered_days size e gapped)) → Lives size (and_entry slack e) covered (suc e.minute) e.minute (counted_with covered c e) (travelled more (entered_days size e gapped))
+    pub goes_on : (more : ℕ) → AreDays 0 (travelled more (entered_days size e gapped)) → Lives size (and_entry slack e) covered (suc e.minute) e.minute (counted_with covered c e) (travelled more (entered_days size e gapped))
     goes_on more ordered =
         lives_alike size (and_entry slack e) covered (suc e.minute) e.minute (counted_with covered c e) (entered_days size e gapped) (travelled more (entered_days size e gapped))
         (alike_km more (entered_days size e gapped)) ordered
@@ -261,7 +261,7 @@ module _ (app : Application) (sound : IsApplication app) (k : List ℕ) (fits : 
       (part_before (place_of app (file 0x0507)) 4 (vehicle_ring app).base (ring_size (vehicle_ring app)) k (ended app k) ended_outside (omega (arith, use_behind app))))
 
 -- the session time is what its four bytes tell
-session_told : (app : Application) (y : List ℕ) → session_time app y ≡ big_number 4 (bytes_at y (place_of app (file 0x0507)) 4)
+pub session_told : (app : Application) (y : List ℕ) → session_time app y ≡ big_number 4 (bytes_at y (place_of app (file 0x0507)) 4)
 unfolding current_use files_of current_use_of
 session_told app y = ap (big_number 4) (part_in y (place_of app (file 0x0507)) 19 0 4 (omega arith) ∙ at_front)
   where
@@ -344,7 +344,7 @@ module _ (app : Application) (sound : IsApplication app) (x : List ℕ) (slack :
       subst (λ (ds : List Day). newest_minute (mark_of b) ds < next) (sym (book_days app x)) (subst (λ (n : ℕ). newest_minute n (card_days app x) < next) (mark_told app x) before)
 
   -- with the closing word, and the end mark at it
-  closed_leaves : (act : Activity) (next : ℕ) (y : List ℕ) → from ≤ next → newest_minute (end_mark app x) (card_days app x) < next → AreDays 0 (book_of app y).days
+  pub closed_leaves : (act : Activity) (next : ℕ) (y : List ℕ) → from ≤ next → newest_minute (end_mark app x) (card_days app x) < next → AreDays 0 (book_of app y).days
       → IsBook (closed app.activity act b) (book_of app y).days (book_of app y).vehicle → GoesOn app slack covered next c y
   closed_leaves act next y later before ordered book =
       goes_at app slack covered next c y (mark_of (closed app.activity act b)) (mark_at app (closed app.activity act b) y book.1)

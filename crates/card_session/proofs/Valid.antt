@@ -52,7 +52,7 @@ rising_more size oldest so_far date w (v ∷ ws) up =
     ap (λ (t : Bool). cond t (first_failing (rising_checks (words_placed size oldest (so_far + 2) date (v ∷ ws)))) (Some (file_place size oldest (so_far + 2)))) (less_is (word_minute w) (word_minute v) up.0)
     ∙ rising_more size oldest (so_far + 2) date v ws up.2
 
-strict_passes : (size oldest so_far : ℕ) (ds : List Day) → EndsStrictly ds → first_failing (newest_rises size oldest so_far ds) ≡ None
+pub strict_passes : (size oldest so_far : ℕ) (ds : List Day) → EndsStrictly ds → first_failing (newest_rises size oldest so_far ds) ≡ None
 strict_passes size oldest so_far [] strict = refl
 strict_passes size oldest so_far (d ∷ []) strict = by d.words strict
   where
@@ -71,7 +71,7 @@ more_rising size oldest so_far date w (v ∷ ws) up pass =
     let both = split_pass (nat_lt (word_minute w) (word_minute v)) (first_failing (rising_checks (words_placed size oldest (so_far + 2) date (v ∷ ws)))) (file_place size oldest (so_far + 2)) pass in
     (is_less (word_minute w) (word_minute v) both.0, up.1, more_rising size oldest (so_far + 2) date v ws up.2 both.1)
 
-passes_strict : (size oldest so_far date : ℕ) (ds : List Day) → AreDays date ds → first_failing (newest_rises size oldest so_far ds) ≡ None → EndsStrictly ds
+pub passes_strict : (size oldest so_far date : ℕ) (ds : List Day) → AreDays date ds → first_failing (newest_rises size oldest so_far ds) ≡ None → EndsStrictly ds
 passes_strict size oldest so_far date [] are pass = tt
 passes_strict size oldest so_far date (d ∷ []) are pass = by d.words are.1.ordered pass
   where
@@ -81,7 +81,7 @@ passes_strict size oldest so_far date (d ∷ []) are pass = by d.words are.1.ord
 passes_strict size oldest so_far date (d ∷ e ∷ ds) are pass = passes_strict size oldest (so_far + len_of d) d.date (e ∷ ds) are.2 pass
 
 -- of an open session nothing else is asked of the words
-words_open : (size oldest mark session : ℕ) (ds : List Day) → nat_eq session 0 ≡ false → first_failing (word_checks size oldest mark session ds) ≡ first_failing (newest_rises size oldest 0 (trimmed mark ds))
+pub words_open : (size oldest mark session : ℕ) (ds : List Day) → nat_eq session 0 ≡ false → first_failing (word_checks size oldest mark session ds) ≡ first_failing (newest_rises size oldest 0 (trimmed mark ds))
 words_open size oldest mark session ds shut =
     ap (λ (t : Bool). first_failing (cond t (words_behind_mark mark (days_placed size oldest 0 ds)) [] ++ (newest_rises size oldest 0 (trimmed mark ds) ++ cond t (newest_rises size oldest 0 ds) []))) shut
     ∙ ap first_failing (append-nil (newest_rises size oldest 0 (trimmed mark ds)))
@@ -105,7 +105,7 @@ passes None None None (Some p) e is = absurd (cc)
 passes None None None None (Some p) is = absurd (cc)
 passes None None None None None is = (refl, refl, refl)
 
-abbrev words_of : Application → List ℕ → Option ℕ
+abbrev pub words_of : Application → List ℕ → Option ℕ
 words_of app x = first_failing (word_checks app.activity (oldest_pointer (day_string app) x) (end_mark app x) (session_time app x) (card_days app x))
 
 told : (app : Application) (x : List ℕ) → first_bad_file app x
@@ -125,6 +125,17 @@ module _ (app : Application) (x : List ℕ) (valid : IsValid app x) where
       passes_strict app.activity (oldest_pointer (day_string app) x) 0 0 (trimmed (end_mark app x) (card_days app x)) (are_trimmed (end_mark app x) 0 (card_days app x) are)
       (sym (words_open app.activity (oldest_pointer (day_string app) x) (end_mark app x) (session_time app x) (card_days app x) open_) ∙ parts.2)
 
+  -- another with the same sizes, and the same pointer of places
+  pub valid_by : (y : List ℕ) → HaveSameSizes app x y → HaveSamePlacePointer app x y → first_bad (day_string app) y ≡ None → PointsInside (vehicle_ring app) y → words_of app y ≡ None → IsValid app y
+  valid_by y sizes places days points words =
+      told app y
+      ∙ all_pass (option_map place_of_field (first_bad_field (file_bytes app 0x0501 y))) (first_bad (day_string app) y) (pointer_bad (vehicle_ring app) y) (pointer_bad (place_ring app) y) (words_of app y)
+      (ap (λ (l : List ℕ). option_map place_of_field (first_bad_field l)) sizes ∙ parts.0)
+      days
+      (ap (λ (t : Bool). cond t None (Some 0)) (less_is (pointer (vehicle_ring app) y) (vehicle_ring app).count points))
+      (ap (λ (l : List ℕ). cond (nat_lt (big_number 1 l) app.places) None (Some 0)) places ∙ parts.1)
+      words
+
   module _ (sound : IsApplication app) (fits : image_size_of app ≤ length x) (y : List ℕ) (P : List Day → Option Vehicle → Type 0) (card : IsCard app P x y) where
     places_still : HaveSamePlacePointer app x y
     unfolding files_of
@@ -132,12 +143,9 @@ module _ (app : Application) (x : List ℕ) (valid : IsValid app x) where
 
     pub valid_open : nat_eq (session_time app x) 0 ≡ false → EndsStrictly (trimmed (end_mark app y) (card_days app y)) → IsValid app y
     valid_open open_ strict =
-        told app y
-        ∙ all_pass (option_map place_of_field (first_bad_field (file_bytes app 0x0501 y))) (first_bad (day_string app) y) (pointer_bad (vehicle_ring app) y) (pointer_bad (place_ring app) y) (words_of app y)
-        (ap (λ (l : List ℕ). option_map place_of_field (first_bad_field l)) (sizes_still app P x y card) ∙ parts.0)
+        valid_by y (sizes_still app P x y card) places_still
         (holds_passes (day_string app) (string_shape app sound) y (omega (arith, card.outside.same_length, fits, ring_behind app, ring_inside app)) (book_of app y).days card.holds)
-        (ap (λ (t : Bool). cond t None (Some 0)) (less_is (pointer (vehicle_ring app) y) (vehicle_ring app).count card.points))
-        (ap (λ (l : List ℕ). cond (nat_lt (big_number 1 l) app.places) None (Some 0)) places_still ∙ parts.1)
+        card.points
         (words_open app.activity (oldest_pointer (day_string app) y) (end_mark app y) (session_time app y) (card_days app y) (ap (λ (n : ℕ). nat_eq n 0) (session_same app P x y card) ∙ open_)
         ∙ strict_passes app.activity (oldest_pointer (day_string app) y) 0 (trimmed (end_mark app y) (card_days app y)) strict)
 
@@ -154,9 +162,91 @@ flat_of m date (d ∷ ds) are low = flat_newest m date (d ∷ ds) are (up date d
     }
     up date d (e ∷ ds) are low = up d.date e ds are.2 low
 
+-- ---- at each moment of a keep, of its days
+
+at_mark : (ds : List Day) (v : Option Vehicle) (m : ℕ) → last_use_of v / 60 ≡ m → EndsStrictly (trimmed m ds) → EndsStrictly (trimmed (last_use_of v / 60) ds)
+at_mark ds v m is strict = subst (λ (n : ℕ). EndsStrictly (trimmed n ds)) (sym is) strict
+
+module _ (size : ℕ) (long : 5544 ≤ size) (b : Book) (are : AreDays 0 b.days) (strict : EndsStrictly (trimmed (mark_of b) b.days)) (e : Entry) (before : IsBeforeGapOf e.minute b)
+    (registration : Registration) (odometer more : ℕ) where
+  abbrev after : Book
+  after = with_entry size registration odometer more b e
+
+  pub after_strict : AreDays 0 after.days → EndsStrictly (trimmed (mark_of after) after.days)
+  after_strict ordered =
+      let last = entry_last size long registration odometer more e b are before in
+      subst EndsStrictly (sym (flat_of (mark_of after) 0 after.days ordered (omega (arith, last.1, last.2)))) last.0.strict
+
+  module _ (clear : is_newest (e.minute / 1440) (sizes b.days) ≡ false → mark_of b / 1440 < e.minute / 1440) where
+    before_strict : (kept : List Day) → IsBeforeMark size b after e kept → EndsStrictly (trimmed (mark_of b) kept)
+    before_strict kept moment =
+        keep_survives size long b are (λ ds. EndsStrictly (trimmed (mark_of b) ds)) (λ ds. EndsStrictly (trimmed (mark_of b) ds)) (strict_survives (mark_of b)) strict e before
+        (λ other. clear (sym (newest_gapped size long b are e.minute (e.minute / 1440)) ∙ other)) registration odometer more kept moment
+
+    pub keep_strict : (ds : List Day) (v : Option Vehicle) → AreDays 0 ds → IsKeepMoment size registration odometer more e b ds v → EndsStrictly (trimmed (last_use_of v / 60) ds)
+    keep_strict ds v ordered (inl old) = at_mark ds v (mark_of b) (ap (λ (o : Option Vehicle). last_use_of o / 60) old.0) (before_strict ds old.1)
+    keep_strict ds v ordered (inr new) = ⊎_elim
+        (λ unused. at_mark ds v (mark_of b) (before_use registration odometer e.minute b.vehicle v unused) (before_strict ds (inr (inr (inr new.0)))))
+        (λ used.
+        at_mark ds v (mark_of after) (ap (λ (o : Option Vehicle). last_use_of o / 60) used)
+        (subst (λ (l : List Day). EndsStrictly (trimmed (mark_of after) l)) (sym new.0) (after_strict (subst (λ (l : List Day). AreDays 0 l) new.0 ordered))))
+        new.1
+
+-- ---- and of a closing word
+
+module _ (size : ℕ) (long : 5544 ≤ size) (b : Book) (are : AreDays 0 b.days) (act : Activity) (may : IsOpenBook b) where
+  abbrev marked : Book
+  marked = record { days = closed_days size (mark_of b) act b.days; vehicle = last_used (60 * suc (mark_of b)) b.vehicle }
+
+  abbrev v : ℕ
+  v = closing_word (suc (mark_of b)) act (latest_of b.days)
+
+  changed : is_open (mark_of b) b.days ≡ true → closed_days size (mark_of b) act b.days ≡ with_change size v b.days
+  changed is = ap (λ (o : Bool). cond o (with_change size v b.days) b.days) is
+
+  takes : is_open (mark_of b) b.days ≡ true → OnNewest (TakesWord v) (fitting (size - 2) b.days)
+  takes is =
+      remain_some (TakesWord v) (size - 2) 0 b.days (fitting (size - 2) b.days) (omega (arith, long)) are (remain_fitting (size - 2) b.days)
+      (takes_closing (mark_of b) act b.days may.ends may.strict is)
+
+  word : is_open (mark_of b) b.days ≡ true → newest_word (with_change size v b.days) ≡ suc (mark_of b)
+  word is =
+      newest_with v (suc (mark_of b)) (fitting (size - 2) b.days)
+      (on_as (λ d. d.date ≡ date_of (suc (mark_of b))) (λ d. d.date / 60 + word_minute v ≡ suc (mark_of b)) (fitting (size - 2) b.days) (λ d date. omega (arith, date, closing_minute (suc (mark_of b)) act (latest_of b.days)))
+      (remain_some (λ d. d.date ≡ date_of (suc (mark_of b))) (size - 2) 0 b.days (fitting (size - 2) b.days) (omega (arith, long)) are (remain_fitting (size - 2) b.days)
+      (open_date (mark_of b) b.days is)))
+
+  -- no word stands behind the end mark then, where none did
+  pub closed_low : newest_word b.days ≤ mark_of b → newest_word (closed size act b).days ≤ mark_of (closed size act b)
+  closed_low low = by (is_open (mark_of b) b.days) refl
+    where
+      by : (o : Bool) → is_open (mark_of b) b.days ≡ o → newest_word (cond o marked b).days ≤ mark_of (cond o marked b)
+      by false is = low
+      by true is = omega (arith, ap (λ (ds : List Day). newest_word ds) (changed is), word is, mark_moves b are is)
+
+  module _ (strict : EndsStrictly (trimmed (mark_of b) b.days)) where
+    closed_strict : AreDays 0 (closed size act b).days → EndsStrictly (trimmed (mark_of (closed size act b)) (closed size act b).days)
+    closed_strict ordered = by (is_open (mark_of b) b.days) refl ordered
+      where
+        by : (o : Bool) → is_open (mark_of b) b.days ≡ o → AreDays 0 (cond o marked b).days → EndsStrictly (trimmed (mark_of (cond o marked b)) (cond o marked b).days)
+        by false is ordered = strict
+        by true is ordered =
+            let at : mark_of marked ≡ suc (mark_of b) = mark_moves b are is in
+            subst (λ (n : ℕ). EndsStrictly (trimmed n marked.days)) (sym at)
+            (subst (λ (ds : List Day). EndsStrictly (trimmed (suc (mark_of b)) ds)) (sym (changed is))
+            (subst EndsStrictly (sym (flat_of (suc (mark_of b)) 0 (with_change size v b.days) (subst (λ (ds : List Day). AreDays 0 ds) (changed is) ordered) (omega (arith, word is)))) (strict_with v (fitting (size - 2) b.days) (takes is))))
+
+    pub close_strict : (ds : List Day) (o : Option Vehicle) → AreDays 0 ds → IsCloseMoment size act b ds o → EndsStrictly (trimmed (last_use_of o / 60) ds)
+    close_strict ds o ordered (inl old) =
+        at_mark ds o (mark_of b) (ap (λ (u : Option Vehicle). last_use_of u / 60) old.0)
+        (closing_survives size long b are (λ ds. EndsStrictly (trimmed (mark_of b) ds)) (λ ds. EndsStrictly (trimmed (mark_of b) ds)) (strict_survives (mark_of b)) strict act ds old.1)
+    close_strict ds o ordered (inr book) =
+        at_mark ds o (mark_of (closed size act b)) (ap (λ (u : Option Vehicle). last_use_of u / 60) book.1)
+        (subst (λ (l : List Day). EndsStrictly (trimmed (mark_of (closed size act b)) l)) (sym book.0) (closed_strict (subst (λ (l : List Day). AreDays 0 l) book.0 ordered)))
+
 -- ---- at each moment
 
-above_zero : (n : ℕ) → 0 < n → nat_eq n 0 ≡ false
+pub above_zero : (n : ℕ) → 0 < n → nat_eq n 0 ≡ false
 above_zero n some = grind (arith, nat_tests)
 
 module _ (app : Application) (sound : IsApplication app) (x : List ℕ) (fits : image_size_of app ≤ length x) (valid : IsValid app x) (session : 0 < session_time app x) (ordered : AreDays 0 (book_of app x).days) where
@@ -180,64 +270,15 @@ module _ (app : Application) (sound : IsApplication app) (x : List ℕ) (fits : 
   pub keep_valid : (registration : Registration) (odometer more : ℕ) (e : Entry) (y : List ℕ) → IsBeforeGapOf e.minute (book_of app x) → BeginsBehind app e x
       → IsCard app (IsKeepMoment app.activity registration odometer more e (book_of app x)) x y → IsValid app y
   keep_valid registration odometer more e y before clear card =
-      valid_open app x valid sound fits y (IsKeepMoment app.activity registration odometer more e b) card open_session (⊎_elim
-      (λ old. strict_at y (mark_of b) (mark_at app b y old.0) (survives (book_of app y).days old.1))
-      (λ new. ⊎_elim
-      (λ unused. strict_at y (mark_of b) (mark_told app y ∙ before_use registration odometer e.minute b.vehicle (book_of app y).vehicle unused) (survives (book_of app y).days (inr (inr (inr new.0)))))
-      (λ after. strict_at y (mark_of (with_entry app.activity registration odometer more b e)) (mark_at app (with_entry app.activity registration odometer more b e) y after)
-      (subst (λ (ds : List Day). EndsStrictly (trimmed (mark_of (with_entry app.activity registration odometer more b e)) ds)) (sym new.0)
-      (subst EndsStrictly (sym (flat_of (mark_of (with_entry app.activity registration odometer more b e)) 0 (with_entry app.activity registration odometer more b e).days (subst (λ (ds : List Day). AreDays 0 ds) new.0 card.holds.ordered) (omega (arith, last.1, last.2)))) last.0.strict)))
-      new.1)
-      card.told)
+      valid_open app x valid sound fits y (IsKeepMoment app.activity registration odometer more e b) card open_session
+      (strict_at y (last_use_of (book_of app y).vehicle / 60) (mark_told app y)
+      (keep_strict app.activity sound.string_least b ordered strict_there e before registration odometer more clear_at (book_of app y).days (book_of app y).vehicle card.holds.ordered card.told))
     where
-      last : IsOpenBook (with_entry app.activity registration odometer more (book_of app x) e) × (newest_in (with_entry app.activity registration odometer more (book_of app x) e) ≡ e.minute) × (mark_of (with_entry app.activity registration odometer more (book_of app x) e) ≡ e.minute)
-      last = entry_last app.activity sound.string_least registration odometer more e (book_of app x) ordered before
-
       clear_at : is_newest (e.minute / 1440) (sizes (book_of app x).days) ≡ false → mark_of (book_of app x) / 1440 < e.minute / 1440
       clear_at other = subst (λ (n : ℕ). n / 1440 < e.minute / 1440) (mark_told app x) (clear (ap (λ (ds : List Day). is_newest (e.minute / 1440) (sizes ds)) (sym (book_days app x)) ∙ other))
 
-      survives : (kept : List Day) → IsBeforeMark app.activity (book_of app x) (with_entry app.activity registration odometer more (book_of app x) e) e kept → EndsStrictly (trimmed (mark_of (book_of app x)) kept)
-      survives kept moment =
-          keep_survives app.activity sound.string_least (book_of app x) ordered (λ ds. EndsStrictly (trimmed (mark_of (book_of app x)) ds)) (λ ds. EndsStrictly (trimmed (mark_of (book_of app x)) ds)) (strict_survives (mark_of (book_of app x))) strict_there e before
-          (λ other. clear_at (sym (newest_gapped app.activity sound.string_least (book_of app x) ordered e.minute (e.minute / 1440)) ∙ other)) registration odometer more kept moment
-
-  module _ (act : Activity) where
-    abbrev marked : Book
-    marked = record { days = closed_days app.activity (mark_of (book_of app x)) act (book_of app x).days; vehicle = last_used (60 * suc (mark_of (book_of app x))) (book_of app x).vehicle }
-
-    abbrev v : ℕ
-    v = closing_word (suc (mark_of (book_of app x))) act (latest_of (book_of app x).days)
-
-    pub close_valid : (y : List ℕ) → IsOpenBook (book_of app x) → IsCard app (IsCloseMoment app.activity act (book_of app x)) x y → IsValid app y
-    close_valid y may card =
-        valid_open app x valid sound fits y (IsCloseMoment app.activity act b) card open_session (⊎_elim
-        (λ old. strict_at y (mark_of b) (mark_at app b y old.0) (closing_survives app.activity sound.string_least b ordered (λ ds. EndsStrictly (trimmed (mark_of b) ds)) (λ ds. EndsStrictly (trimmed (mark_of b) ds)) (strict_survives (mark_of b)) strict_there act (book_of app y).days old.1))
-        (λ book. strict_at y (mark_of (closed app.activity act b)) (mark_at app (closed app.activity act b) y book.1)
-        (subst (λ (ds : List Day). EndsStrictly (trimmed (mark_of (closed app.activity act b)) ds)) (sym book.0) (closed_strict (subst (λ (ds : List Day). AreDays 0 ds) book.0 card.holds.ordered))))
-        card.told)
-      where
-        changed : is_open (mark_of (book_of app x)) (book_of app x).days ≡ true → closed_days app.activity (mark_of (book_of app x)) act (book_of app x).days ≡ with_change app.activity v (book_of app x).days
-        changed is = ap (λ (o : Bool). cond o (with_change app.activity v (book_of app x).days) (book_of app x).days) is
-
-        takes : is_open (mark_of (book_of app x)) (book_of app x).days ≡ true → OnNewest (TakesWord v) (fitting (app.activity - 2) (book_of app x).days)
-        takes is =
-            remain_some (TakesWord v) (app.activity - 2) 0 (book_of app x).days (fitting (app.activity - 2) (book_of app x).days) (omega (arith, sound.string_least)) ordered (remain_fitting (app.activity - 2) (book_of app x).days)
-            (takes_closing (mark_of (book_of app x)) act (book_of app x).days may.ends may.strict is)
-
-        word : is_open (mark_of (book_of app x)) (book_of app x).days ≡ true → newest_word (with_change app.activity v (book_of app x).days) ≡ suc (mark_of (book_of app x))
-        word is =
-            newest_with v (suc (mark_of (book_of app x))) (fitting (app.activity - 2) (book_of app x).days)
-            (on_as (λ d. d.date ≡ date_of (suc (mark_of (book_of app x)))) (λ d. d.date / 60 + word_minute v ≡ suc (mark_of (book_of app x))) (fitting (app.activity - 2) (book_of app x).days) (λ d date. omega (arith, date, closing_minute (suc (mark_of (book_of app x))) act (latest_of (book_of app x).days)))
-            (remain_some (λ d. d.date ≡ date_of (suc (mark_of (book_of app x)))) (app.activity - 2) 0 (book_of app x).days (fitting (app.activity - 2) (book_of app x).days) (omega (arith, sound.string_least)) ordered (remain_fitting (app.activity - 2) (book_of app x).days)
-            (open_date (mark_of (book_of app x)) (book_of app x).days is)))
-
-        closed_strict : AreDays 0 (closed app.activity act (book_of app x)).days → EndsStrictly (trimmed (mark_of (closed app.activity act (book_of app x))) (closed app.activity act (book_of app x)).days)
-        closed_strict are = by (is_open (mark_of (book_of app x)) (book_of app x).days) refl are
-          where
-            by : (o : Bool) → is_open (mark_of (book_of app x)) (book_of app x).days ≡ o → AreDays 0 (cond o marked (book_of app x)).days → EndsStrictly (trimmed (mark_of (cond o marked (book_of app x))) (cond o marked (book_of app x)).days)
-            by false is are = strict_there
-            by true is are =
-                let at : mark_of marked ≡ suc (mark_of (book_of app x)) = mark_moves (book_of app x) ordered is in
-                subst (λ (n : ℕ). EndsStrictly (trimmed n marked.days)) (sym at)
-                (subst (λ (ds : List Day). EndsStrictly (trimmed (suc (mark_of (book_of app x))) ds)) (sym (changed is))
-                (subst EndsStrictly (sym (flat_of (suc (mark_of (book_of app x))) 0 (with_change app.activity v (book_of app x).days) (subst (λ (ds : List Day). AreDays 0 ds) (changed is) are) (omega (arith, word is)))) (strict_with v (fitting (app.activity - 2) (book_of app x).days) (takes is))))
+  pub close_valid : (act : Activity) (y : List ℕ) → IsOpenBook (book_of app x) → IsCard app (IsCloseMoment app.activity act (book_of app x)) x y → IsValid app y
+  close_valid act y may card =
+      valid_open app x valid sound fits y (IsCloseMoment app.activity act b) card open_session
+      (strict_at y (last_use_of (book_of app y).vehicle / 60) (mark_told app y)
+      (close_strict app.activity sound.string_least b ordered act may strict_there (book_of app y).days (book_of app y).vehicle card.holds.ordered card.told))

@@ -4,4 +4,6 @@ pub mod Sessions
 pub mod Moments
 pub mod Cards
 pub mod Parts
+pub mod Inserting
 pub mod Overwriting
+pub mod Repairs

@@ -1,11 +1,12 @@
 -- What a card shows of all the entries that it has had, by the stated overwriting.
-use Rattle.std.specs.Prelude.{◌≡◌, ℕ, ◌/◌, ◌<◌, false, List, ◌∷◌, [], ◌++◌}
+use Rattle.std.specs.Prelude.{◌≡◌, ℕ, ◌+◌, ◌/◌, ◌<◌, false, None, List, ◌∷◌, [], ◌++◌}
 use Rattle.activity_codec.specs.declared.entries.Entry.{Entry}
 use Rattle.card_layout.specs.declared.files.Application.{Application}
+use Rattle.card_model.specs.Days.{Day}
 use Rattle.card_model.specs.Changes.{trimmed}
 use Rattle.card_retention.specs.Expected.{Counted, is_newest}
-use Rattle.card_retention.specs.Shown.{Bound, Rests, Lives, sizes}
-use Rattle.card_retention.specs.Entries.{entries_up_to}
+use Rattle.card_retention.specs.Shown.{Bound, Rests, Lives, sizes, is_open}
+use Rattle.card_retention.specs.Entries.{latest, told_by, entries_up_to}
 use Rattle.card_retention.specs.Retains.{entries_in}
 use Rattle.card_image.specs.Fields.{card_days, end_mark}
 
@@ -21,6 +22,16 @@ IsRepairable app slack covered from c x = Rests app.activity slack covered from 
 -- the entries up to the end mark are those of all whose day is there
 abbrev pub ShowsEntries : Application → List Entry → List ℕ → Type 0
 ShowsEntries app all x = entries_up_to (end_mark app x) (card_days app x) ≡ entries_in (sizes (card_days app x)) all
+
+-- no minute behind a mark tells an entry
+abbrev pub IsSilentBehind : (mark : ℕ) → List Day → Type 0
+IsSilentBehind mark [] = Unit {0}
+IsSilentBehind mark (d ∷ ds) =
+    ((t : ℕ) → t < 1440 → mark < d.date / 60 + t → told_by (d.date / 60 + t) (latest d.words t) ≡ None) × IsSilentBehind mark ds
+
+-- Behind the end mark no minute tells an entry, but where the closing word behind the last one is still to come.
+abbrev pub TellsNoLater : Application → List ℕ → Type 0
+TellsNoLater app x = is_open (end_mark app x) (card_days app x) ≡ false → IsSilentBehind (end_mark app x) (card_days app x)
 
 -- with one entry more
 abbrev pub and_entry : Bound → Entry → Bound

@@ -1,17 +1,22 @@
-ghost use Rattle.std.specs.Prelude.{◌≡◌, ◌⊎◌, ℕ, suc, ◌<◌, ◌≤◌, max, Some, List, [], ◌∷◌, ◌++◌, length};
+ghost use Rattle.std.specs.Prelude.{◌≡◌, ◌⊎◌, ℕ, suc, ◌<◌, ◌≤◌, ◌^◌, max, false, Some, List, [], ◌∷◌, ◌++◌, length};
 ghost use Rattle.activity_codec.specs.declared.entries.Entry.{Entry};
 ghost use Rattle.activity_codec.specs.declared.values.Activity.{Activity};
+ghost use Rattle.tacho_types.specs.declared.texts.Registration.{Registration};
+ghost use Rattle.card_layout.specs.declared.files.Application.{Application};
 ghost use Rattle.card_layout.specs.Application.{IsApplication};
 ghost use Rattle.card_layout.specs.Files.{image_size_of};
+ghost use Rattle.card_model.specs.Changes.{trimmed};
 ghost use Rattle.card_retention.specs.Expected.{Counted, with_entry};
-ghost use Rattle.card_retention.specs.Shown.{Bound, AllUpTo};
+ghost use Rattle.card_retention.specs.Shown.{Bound, AllUpTo, is_open};
 ghost use Rattle.card_retention.specs.Entries.{newest_minute, newest_word, closed_at};
 ghost use Rattle.card_image.specs.Fields.{file_bytes, card_days, card_number, end_mark, session_time};
 ghost use Rattle.card_image.specs.Judging.{IsValid};
 ghost use Rattle.card_image.specs.View.{card_view};
 ghost use Rattle.card_session.specs.Sessions.{Session, IsSession};
 ghost use Rattle.card_session.specs.Cards.{IsCardKeeping, IsCardClosed, IsCardClosing};
-ghost use Rattle.card_session.specs.Overwriting.{GoesOn, IsRepairable, ShowsEntries, BeginsBehind, and_entry};
+ghost use Rattle.card_session.specs.Inserting.{AreOwed, IsCardInserted, IsCardInserting};
+ghost use Rattle.card_session.specs.Repairs.{first_minute, mark_behind, BeginsLater, lacked_by, ShowsFirst, ShowsOwed};
+ghost use Rattle.card_session.specs.Overwriting.{GoesOn, IsRepairable, ShowsEntries, TellsNoLater, BeginsBehind, and_entry};
 
 /// A stop in a keep leaves the session time, the events and the number of a card.
 pub fn a_keep_leaves_the_session()
@@ -58,10 +63,12 @@ pub fn a_keep_shows_the_entries_of_before()
         (all : List Entry) → AllUpTo (end_mark s.application x) all → ShowsEntries s.application all x → IsCardKeeping s e odometer x y → end_mark s.application y ≡ end_mark s.application x → ShowsEntries s.application all y }
 {}
 
-/// Once it is the entry's minute, the card shows that entry behind them too, where no word stood behind the old end mark.
+/// Once it is the entry's minute, the card shows that entry behind them too, where no minute behind the old end mark told one; and none
+/// behind the new one does.
 pub fn a_keep_shows_its_entry()
-    ensures { (s : Session) (e : Entry) (odometer : ℕ) (x y : List ℕ) → IsApplication s.application → IsSession s x → s.minute < e.minute → BeginsBehind s.application e x → newest_word (card_days s.application x) ≤ end_mark s.application x →
+    ensures entry { (s : Session) (e : Entry) (odometer : ℕ) (x y : List ℕ) → IsApplication s.application → IsSession s x → s.minute < e.minute → BeginsBehind s.application e x → TellsNoLater s.application x →
         (all : List Entry) → AllUpTo (end_mark s.application x) all → ShowsEntries s.application all x → IsCardKeeping s e odometer x y → end_mark s.application y ≡ e.minute → ShowsEntries s.application (all ++ e ∷ []) y }
+    ensures silent { (s : Session) (e : Entry) (odometer : ℕ) (x y : List ℕ) → IsApplication s.application → IsSession s x → s.minute < e.minute → IsCardKeeping s e odometer x y → end_mark s.application y ≡ e.minute → TellsNoLater s.application y }
 {}
 
 /// At each moment of a withdrawal a card shows the entries of before whose day is there, and no other.
@@ -85,4 +92,50 @@ pub fn a_stop_leaves_a_valid_card()
         IsSession s x → s.minute < e.minute → BeginsBehind s.application e x → IsCardKeeping s e odometer x y → IsValid s.application y }
     ensures withdrawal { (s : Session) (act : Activity) (x y : List ℕ) → IsApplication s.application → image_size_of s.application ≤ length x → 0 < session_time s.application x → IsValid s.application x →
         IsSession s x → IsCardClosing s act x y → 0 < session_time s.application y → IsValid s.application y }
+{}
+
+/// A stop in an insertion leaves the sizes, the length and the number of a card, so that the card may be inserted again.
+pub fn an_insertion_leaves_the_number()
+    ensures sizes { (app : Application) (registration : Registration) (odometer now : ℕ) (owed : List Entry) (x y : List ℕ) → image_size_of app ≤ length x → length registration.0 ≡ 15 → IsCardInserting app registration odometer owed now x y →
+        file_bytes app 0x0501 y ≡ file_bytes app 0x0501 x }
+    ensures long { (app : Application) (registration : Registration) (odometer now : ℕ) (owed : List Entry) (x y : List ℕ) → image_size_of app ≤ length x → length registration.0 ≡ 15 → IsCardInserting app registration odometer owed now x y →
+        length y ≡ length x }
+    ensures number { (app : Application) (registration : Registration) (odometer now : ℕ) (owed : List Entry) (x y : List ℕ) → image_size_of app ≤ length x → length registration.0 ≡ 15 → IsCardInserting app registration odometer owed now x y →
+        card_number app y ≡ card_number app x }
+{}
+
+/// A stop in an insertion of a card whose session was left open leaves that session, and of the owed entries that the card lacked the
+/// first ones, with the end mark at the last of them, so that the rest is what it lacks then; or all of them, whatever is kept next. By
+/// the stated overwriting, with what a repair would leave. Of a card without a session, whose words are closed, it leaves the entries.
+pub fn a_stop_in_an_insertion_leaves_the_entries()
+    ensures open { (app : Application) (registration : Registration) (odometer now : ℕ) (owed : List Entry) (x y : List ℕ) → IsApplication app → image_size_of app ≤ length x → length registration.0 ≡ 15 → AreOwed now owed → IsValid app x → 0 < session_time app x →
+        (slack : Bound) (covered from next : ℕ) (c : Counted) → 16 ≤ slack.bytes → IsRepairable app slack covered from c x → from ≤ first_minute next (lacked_by app x owed) → suc (mark_behind (end_mark app x) (lacked_by app x owed)) < next →
+        BeginsLater (end_mark app x) (lacked_by app x owed) (trimmed (end_mark app x) (card_days app x)) → IsCardInserting app registration odometer owed now x y →
+        ((session_time app y ≡ session_time app x) × ShowsFirst app slack covered next c owed x y) ⊎ ShowsOwed app slack covered next c owed x y }
+    ensures rest { (app : Application) (now : ℕ) (owed : List Entry) (x y : List ℕ) → AreOwed now owed → (slack : Bound) (covered next : ℕ) (c : Counted) → (first : ShowsFirst app slack covered next c owed x y) → lacked_by app y owed ≡ first.rest }
+    ensures shut { (app : Application) (registration : Registration) (odometer now : ℕ) (owed : List Entry) (x y : List ℕ) → IsApplication app → image_size_of app ≤ length x → length registration.0 ≡ 15 → session_time app x ≡ 0 → is_open (end_mark app x) (card_days app x) ≡ false →
+        (slack : Bound) (covered from : ℕ) (c : Counted) → GoesOn app slack covered from c x → IsCardInserting app registration odometer owed now x y → GoesOn app slack covered from c y }
+{}
+
+/// At its end all owed entries that the card lacked are on it.
+pub fn an_insertion_leaves_the_entries()
+    ensures open { (app : Application) (registration : Registration) (odometer now : ℕ) (owed : List Entry) (x y : List ℕ) → IsApplication app → image_size_of app ≤ length x → length registration.0 ≡ 15 → AreOwed now owed → IsValid app x → 0 < session_time app x →
+        (slack : Bound) (covered from next : ℕ) (c : Counted) → 16 ≤ slack.bytes → IsRepairable app slack covered from c x → from ≤ first_minute next (lacked_by app x owed) → suc (mark_behind (end_mark app x) (lacked_by app x owed)) < next →
+        BeginsLater (end_mark app x) (lacked_by app x owed) (trimmed (end_mark app x) (card_days app x)) → IsCardInserted app registration odometer owed now x y → ShowsOwed app slack covered next c owed x y }
+    ensures shut { (app : Application) (registration : Registration) (odometer now : ℕ) (owed : List Entry) (x y : List ℕ) → IsApplication app → image_size_of app ≤ length x → length registration.0 ≡ 15 → session_time app x ≡ 0 → is_open (end_mark app x) (card_days app x) ≡ false →
+        (slack : Bound) (covered from : ℕ) (c : Counted) → GoesOn app slack covered from c x → IsCardInserted app registration odometer owed now x y → GoesOn app slack covered from c y }
+{}
+
+/// A stop in an insertion leaves a card valid whose session was left open, whatever its session time is then.
+pub fn a_stop_in_an_insertion_leaves_a_valid_card()
+    ensures { (app : Application) (registration : Registration) (odometer now : ℕ) (owed : List Entry) (x y : List ℕ) → IsApplication app → image_size_of app ≤ length x → length registration.0 ≡ 15 → AreOwed now owed → IsValid app x → 0 < session_time app x →
+        BeginsLater (end_mark app x) (lacked_by app x owed) (trimmed (end_mark app x) (card_days app x)) → IsCardInserting app registration odometer owed now x y → IsValid app y }
+{}
+
+/// A stop in an insertion leaves the session time, 0, or that of now, which it is at its end.
+pub fn an_insertion_opens_a_session()
+    ensures moments { (app : Application) (registration : Registration) (odometer now : ℕ) (owed : List Entry) (x y : List ℕ) → image_size_of app ≤ length x → length registration.0 ≡ 15 → now < 2 ^ 32 → IsCardInserting app registration odometer owed now x y →
+        (session_time app y ≡ session_time app x) ⊎ ((session_time app y ≡ 0) ⊎ (session_time app y ≡ now)) }
+    ensures inserted { (app : Application) (registration : Registration) (odometer now : ℕ) (owed : List Entry) (x y : List ℕ) → image_size_of app ≤ length x → length registration.0 ≡ 15 → now < 2 ^ 32 → IsCardInserted app registration odometer owed now x y →
+        session_time app y ≡ now }
 {}

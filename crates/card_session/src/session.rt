@@ -42,16 +42,16 @@ pub struct Kept {
 /// its newest vehicle entry.
 #[derive(Drop)]
 pub struct CardSession {
-    application: Application,
-    days: Days,
-    vehicles: Ring,
-    newest: Option<u32>,
-    vehicle: Option<Vehicle>,
-    registration: Registration,
+    pub(crate) application: Application,
+    pub(crate) days: Days,
+    pub(crate) vehicles: Ring,
+    pub(crate) newest: Option<u32>,
+    pub(crate) vehicle: Option<Vehicle>,
+    pub(crate) registration: Registration,
     // the newest minute of the card
-    minute: u32,
+    pub(crate) minute: u32,
     // at the session's last keep
-    odometer: Option<Odometer>,
+    pub(crate) odometer: Option<Odometer>,
 }
 
 impl Model for CardSession {
@@ -108,7 +108,7 @@ impl CardSession {
     }
 
     // The minute up to which the card's minutes count.
-    fn mark(&self) -> u32
+    pub(crate) fn mark(&self) -> u32
         ensures mark { result ≡ last_use_of self.now.vehicle / 60 }
         ensures most { result ≤ LATEST_MINUTE }
     {
@@ -116,7 +116,7 @@ impl CardSession {
     }
 
     // Adds a word to the newest day, where there is one to be added.
-    fn add<M: Medium>(&mut self, port: &mut M, word: Option<u16>) -> Result<(), Failed>
+    pub(crate) fn add<M: Medium>(&mut self, port: &mut M, word: Option<u16>) -> Result<(), Failed>
         requires card { MayKeep self.old.application (M.state port.old) }
         ensures same { HasSame self.old self.new }
         ensures part { DoesPart (M.state port.old) (M.state port.new) (is_err result) (IsPartDone self.old self.new (TakesSome word) (with_some self.old.application.activity word)) (IsPartMoment self.old (TakesSome word) (IsAdding self.old.application.activity word)) }
@@ -275,7 +275,7 @@ impl CardSession {
     }
 
     // Writes the last use of the newest vehicle entry, which has this index.
-    fn set_last_use<M: Medium>(
+    pub(crate) fn set_last_use<M: Medium>(
         &mut self,
         port: &mut M,
         index: u32,
@@ -323,7 +323,12 @@ impl CardSession {
     }
 
     // Keeps a minute, so many km behind the one before.
-    fn enter<M: Medium>(&mut self, port: &mut M, kept: &Kept, km: u32) -> Result<(), Failed>
+    pub(crate) fn enter<M: Medium>(
+        &mut self,
+        port: &mut M,
+        kept: &Kept,
+        km: u32,
+    ) -> Result<(), Failed>
         requires card { MayKeep self.old.application (M.state port.old) }
         requires first { 1440 ≤ kept.now.entry.minute }
         requires last { kept.now.entry.minute ≤ LATEST_MINUTE }
@@ -418,7 +423,7 @@ impl CardSession {
 }
 
 // Where the session time stands, first in its file.
-fn session_place(app: &Application) -> u32
+pub(crate) fn session_place(app: &Application) -> u32
     ensures { result ≡ place_of app.now (file 0x0507) }
 {
     match file_range(app, Fid::CURRENT_USE) {
@@ -428,7 +433,7 @@ fn session_place(app: &Application) -> u32
 }
 
 // The newest minute of a card: the later of its end mark and of its newest word's minute.
-fn newest_minute(vehicle: &Option<Vehicle>, tail: Option<Tail>) -> u32
+pub(crate) fn newest_minute(vehicle: &Option<Vehicle>, tail: Option<Tail>) -> u32
     ensures { result ≡ max (last_use_of vehicle.now / 60) (minute_told tail) }
 {
     let mark = last_use(vehicle) / 60;

@@ -1,15 +1,16 @@
 //! The files of a card file that its view needs.
-ghost use Rattle.std.specs.Prelude.{◌≡◌, ◌+◌, ◌*◌, ◌≤◌, ◌-◌, ◌%◌, true, false, ◌<◌, ◌^◌, ◌++◌, ◌∷◌, ◌&&◌, not, is_some, List, [], Some, None, length, IfOk, IfErr, IfSome, IfNone};
+ghost use Rattle.std.specs.Prelude.{◌≡◌, ◌+◌, ◌≤◌, ◌-◌, ◌%◌, true, false, ◌<◌, ◌^◌, ◌++◌, ◌∷◌, ◌&&◌, not, is_some, List, [], Some, None, length, IfOk, IfErr, IfSome, IfNone};
 ghost use Rattle.std.specs.Bool.{OnTrue};
 ghost use Rattle.std.specs.Option.{ForSome};
 ghost use Rattle.card_layout.specs.Application.{IsApplication, application_of};
+ghost use Rattle.card_model.specs.declared.lengths.TheConstants.{STRING_LEAST, STRING_MOST};
 ghost use Rattle.card_model.specs.Checks.{first_bad};
 ghost use Rattle.card_model.specs.Image.{IsStringShape};
 ghost use Rattle.card_model.specs.Walk.{days_of};
 ghost use Rattle.cyclic_days.specs.Held.{Knows};
 ghost use Rattle.card_image.specs.CardFile.{FileEntry};
 ghost use Rattle.history_view.specs.CardFiles.{may_follow, lacks, are_sizes, are_days, are_vehicles, IsBadCardFile};
-ghost use Rattle.history_view.specs.Reading.{Stands, told_at, value_at, AreParts, ArePartsOf};
+ghost use Rattle.history_view.specs.Reading.{Stands, told_at, value_at, days_size, vehicles_size, AreParts, ArePartsOf};
 
 use crate::entry::{EntryAt, part};
 use byteorder::{BigEndian, ByteOrder};
@@ -171,14 +172,14 @@ impl Found {
 
 /// How many bytes the string of days has behind its pointers, with them.
 pub fn days_len(app: Application) -> usize
-    ensures value { result ≡ 4 + app.activity }
+    ensures value { result ≡ days_size app }
 {
     4 + app.activity as usize
 }
 
 /// How many bytes the vehicle entries have, with their pointer.
 pub fn vehicles_len(app: Application) -> usize
-    ensures value { result ≡ 2 + 31 * app.vehicles }
+    ensures value { result ≡ vehicles_size app }
 {
     2 + Vehicle::SIZE * app.vehicles as usize
 }
@@ -198,8 +199,8 @@ fn are_days(app: Application, value: &[u8]) -> bool
 /// The days of a string that stands alone.
 pub fn load_days(value: &[u8]) -> Option<Days>
     requires even { length value.now % 2 ≡ 0 }
-    requires low { 5548 ≤ length value.now }
-    requires high { length value.now ≤ 13780 }
+    requires low { 4 + STRING_LEAST ≤ length value.now }
+    requires high { length value.now ≤ 4 + STRING_MOST }
     ensures shape { IfSome result (λ days. IsStringShape days.shape) }
     ensures some { IfSome result (λ days. (days.shape ≡ record { base = 0; size = length value.now - 4 }) × Knows days value.now (days_of (record { base = 0; size = length value.now - 4 }) value.now)) }
     ensures none { IfNone result (is_some (first_bad (record { base = 0; size = length value.now - 4 }) value.now) ≡ true) }

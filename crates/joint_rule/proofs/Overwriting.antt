@@ -36,8 +36,8 @@ module _ (image : List ℕ) where
       record {
         more = kept.more;
         begins = ap (λ (zs : List Entry). start.entries ++ zs) (append-nil more) ∙ kept.begins;
-        keeps = λ n le. subst (λ (zs : List Entry). (r : CardRetains (own_sizes image).activity 16 (days_with image n kept.more) (start.entries ++ zs) x.days (x.entries ++ [])) × StandsFrom image r.oldest x.days) (sym (append-nil more))
-            (subst (λ (zs : List Entry). (r : CardRetains (own_sizes image).activity 16 (days_with image n kept.more) (start.entries ++ more) x.days zs) × StandsFrom image r.oldest x.days) (sym (append-nil x.entries)) (kept.keeps n le));
+        keeps = λ n le. subst (λ (zs : List Entry). (r : CardRetains (own_sizes image).activity 16 ((own_view image).mark / 1440) (days_with image n kept.more) (start.entries ++ zs) x.days (x.entries ++ [])) × StandsFrom image r.oldest x.days) (sym (append-nil more))
+            (subst (λ (zs : List Entry). (r : CardRetains (own_sizes image).activity 16 ((own_view image).mark / 1440) (days_with image n kept.more) (start.entries ++ more) x.days zs) × StandsFrom image r.oldest x.days) (sym (append-nil x.entries)) (kept.keeps n le));
       },
     )
     owed-entries_count next marked more (e ∷ es) x low had above late rise kept = (
@@ -45,8 +45,8 @@ module _ (image : List ℕ) where
       record {
         more = kept.more ++ e ∷ es;
         begins = whole ∙ ap (λ (zs : List Entry). zs ++ e ∷ es) kept.begins ∙ append_assoc (own_view image).held.entries kept.more (e ∷ es);
-        keeps = λ n le. subst (λ (zs : List Entry). (r : CardRetains (own_sizes image).activity 16 (days_with image n (kept.more ++ e ∷ es)) zs x.days (x.entries ++ e ∷ es)) × StandsFrom image r.oldest x.days) (sym whole)
-            (subst (λ (days : List WordDay). (r : CardRetains (own_sizes image).activity 16 days ((start.entries ++ more) ++ e ∷ es) x.days (x.entries ++ e ∷ es)) × StandsFrom image r.oldest x.days)
+        keeps = λ n le. subst (λ (zs : List Entry). (r : CardRetains (own_sizes image).activity 16 ((own_view image).mark / 1440) (days_with image n (kept.more ++ e ∷ es)) zs x.days (x.entries ++ e ∷ es)) × StandsFrom image r.oldest x.days) (sym whole)
+            (subst (λ (days : List WordDay). (r : CardRetains (own_sizes image).activity 16 ((own_view image).mark / 1440) days ((start.entries ++ more) ++ e ∷ es) x.days (x.entries ++ e ∷ es)) × StandsFrom image r.oldest x.days)
             (sym (days-due n (kept.more ++ e ∷ es) ∙ ap (λ (c : Counted). expected_days (own_covered image) n c) (counted_then (own_covered image) (counted_view (own_view image)) kept.more (e ∷ es))))
             ((with-due n).0, subst (λ (o : ℕ). StandsFrom image o x.days) (sym (with-due n).1) first.1));
       },
@@ -66,9 +66,12 @@ module _ (image : List ℕ) where
         before = before_counted (suc (e.minute / 1440)) (own_covered image) (counted_view (own_view image)) kept.more
             (days-before e.minute are (omega (arith, mark, low, behind)) (omega (arith, word, All-head (λ (d : Entry). start.word < d.minute) e es late))) each
 
-        first : (r : CardRetains (own_sizes image).activity 16 (expected_days (own_covered image) e.minute (counted (own_covered image) (counted_view (own_view image)) kept.more)) (start.entries ++ more) x.days x.entries) × StandsFrom image r.oldest x.days
-        first = subst (λ (days : List WordDay). (r : CardRetains (own_sizes image).activity 16 days (start.entries ++ more) x.days x.entries) × StandsFrom image r.oldest x.days) (days-due e.minute kept.more) (kept.keeps e.minute (omega arith))
+        from_mark : (own_view image).mark / 1440 ≤ e.minute / 1440
+        from_mark = omega (arith, mark, low, behind)
 
-        with-due : (n : ℕ) → (k : CardRetains (own_sizes image).activity 16 (expected_days (own_covered image) n (counted (own_covered image) (counted (own_covered image) (counted_view (own_view image)) kept.more) (e ∷ es))) ((start.entries ++ more) ++ e ∷ es) x.days (x.entries ++ e ∷ es))
+        first : (r : CardRetains (own_sizes image).activity 16 ((own_view image).mark / 1440) (expected_days (own_covered image) e.minute (counted (own_covered image) (counted_view (own_view image)) kept.more)) (start.entries ++ more) x.days x.entries) × StandsFrom image r.oldest x.days
+        first = subst (λ (days : List WordDay). (r : CardRetains (own_sizes image).activity 16 ((own_view image).mark / 1440) days (start.entries ++ more) x.days x.entries) × StandsFrom image r.oldest x.days) (days-due e.minute kept.more) (kept.keeps e.minute (omega arith))
+
+        with-due : (n : ℕ) → (k : CardRetains (own_sizes image).activity 16 ((own_view image).mark / 1440) (expected_days (own_covered image) n (counted (own_covered image) (counted (own_covered image) (counted_view (own_view image)) kept.more) (e ∷ es))) ((start.entries ++ more) ++ e ∷ es) x.days (x.entries ++ e ∷ es))
             × (k.oldest ≡ first.0.oldest)
-        with-due n = retains_due (own_sizes image).activity 16 (own_covered image) n (counted (own_covered image) (counted_view (own_view image)) kept.more) (start.entries ++ more) e es x.days x.entries rise before first.0
+        with-due n = retains_due (own_sizes image).activity 16 ((own_view image).mark / 1440) (own_covered image) n (counted (own_covered image) (counted_view (own_view image)) kept.more) (start.entries ++ more) e es x.days x.entries rise before from_mark first.0

@@ -61,17 +61,15 @@ fn listed(alloc: Global, numbers: &[u64]) -> Result<Vec<u64>, AllocError> {
 }
 
 #[test]
-fn answers_in_any_pieces(rt: HostRuntime) {
+fn answers_in_any_pieces(rt: HostRuntime) -> Result<(), Fail> {
     for piece in [1, 2, 7, 255] {
         let mut unit = AbsentMedium::new(IMAGE_SIZE);
         let mut source = Pieces { piece, at: 0 };
-        let mut sink = MemSink::new(
-            Vec::with_capacity(rt.alloc(), 100).unwrap(),
-            Vec::new(rt.alloc()),
-        );
+        let mut sink = MemSink::new(Vec::with_capacity(rt.alloc(), 100)?, Vec::new(rt.alloc()));
         assert_eq!(rt; serve(&mut source, &mut sink, &mut unit), Ok(()));
         assert_eq!(rt; sink.held(), &ANSWERED[..]);
     }
+    Ok(())
 }
 
 /// A service of these bytes, over a unit that is not there: how it ends, and what the sink holds. These calls of the source and of the
@@ -91,46 +89,49 @@ fn served(
 }
 
 #[test]
-fn serves_a_source_to_its_end(rt: HostRuntime) {
-    let (ended, sink) = served(rt.alloc(), &HEARD, &[], &[], 100).unwrap();
+fn serves_a_source_to_its_end(rt: HostRuntime) -> Result<(), Fail> {
+    let (ended, sink) = served(rt.alloc(), &HEARD, &[], &[], 100)?;
     assert_eq!(rt; ended, Ok(()));
     assert_eq!(rt; sink.held(), &ANSWERED[..]);
+    Ok(())
 }
 
 #[test]
-fn a_full_sink_ends_the_service(rt: HostRuntime) {
-    let (ended, sink) = served(rt.alloc(), &HEARD, &[], &[], 10).unwrap();
+fn a_full_sink_ends_the_service(rt: HostRuntime) -> Result<(), Fail> {
+    let (ended, sink) = served(rt.alloc(), &HEARD, &[], &[], 10)?;
     assert_eq!(rt; ended, Err(ServeFault::WriteFault));
     assert_eq!(rt; sink.held(), &ANSWERED[..10]);
+    Ok(())
 }
 
 /// The third answer fails: the two before it were written.
 #[test]
-fn a_failed_sink_ends_the_service(rt: HostRuntime) {
-    let (ended, sink) = served(rt.alloc(), &HEARD, &[], &[2], 100).unwrap();
+fn a_failed_sink_ends_the_service(rt: HostRuntime) -> Result<(), Fail> {
+    let (ended, sink) = served(rt.alloc(), &HEARD, &[], &[2], 100)?;
     assert_eq!(rt; ended, Err(ServeFault::WriteFault));
     assert_eq!(rt; sink.held(), &ANSWERED[..16]);
+    Ok(())
 }
 
 /// What came before the source failed is answered.
 #[test]
-fn a_failed_source_ends_the_service(rt: HostRuntime) {
-    let (ended, sink) = served(rt.alloc(), &HEARD, &[1], &[], 100).unwrap();
+fn a_failed_source_ends_the_service(rt: HostRuntime) -> Result<(), Fail> {
+    let (ended, sink) = served(rt.alloc(), &HEARD, &[1], &[], 100)?;
     assert_eq!(rt; ended, Err(ServeFault::ReadFault));
     assert_eq!(rt; sink.held(), &ANSWERED[..]);
-    let (ended, sink) = served(rt.alloc(), &HEARD, &[0], &[], 100).unwrap();
+    let (ended, sink) = served(rt.alloc(), &HEARD, &[0], &[], 100)?;
     assert_eq!(rt; ended, Err(ServeFault::ReadFault));
     assert_eq!(rt; sink.held(), &[][..]);
+    Ok(())
 }
 
 /// A request of the overview behind the first frames: the unit is called at it and not before, and it is not there.
 #[test]
-fn a_unit_is_called_where_it_is_asked(rt: HostRuntime) {
-    let mut bytes = copied(rt.alloc(), &HEARD[..34]).unwrap();
-    bytes
-        .extend_from_slice(&[0x80, 0xEE, 0xF0, 0x02, 0x36, 0x01, 0x97])
-        .unwrap();
-    let (ended, sink) = served(rt.alloc(), bytes.as_slice(), &[], &[], 100).unwrap();
+fn a_unit_is_called_where_it_is_asked(rt: HostRuntime) -> Result<(), Fail> {
+    let mut bytes = copied(rt.alloc(), &HEARD[..34])?;
+    bytes.extend_from_slice(&[0x80, 0xEE, 0xF0, 0x02, 0x36, 0x01, 0x97])?;
+    let (ended, sink) = served(rt.alloc(), bytes.as_slice(), &[], &[], 100)?;
     assert_eq!(rt; ended, Err(ServeFault::Failed));
     assert_eq!(rt; sink.held(), &ANSWERED[..31]);
+    Ok(())
 }

@@ -1,6 +1,6 @@
 //! The messages of a unit's image, piece after piece, of a unit that is judged first (Annex IB, Appendix 7, 2.2.6).
 ghost use Rattle.unit_model.specs.declared.layout.TheConstants.{IMAGE_SIZE};
-ghost use Rattle.std.specs.Prelude.{◌≡◌, ◌≤◌, ◌<◌, ◌+◌, IfOk, IfErr, OnOk, IfSome, Some};
+ghost use Rattle.std.specs.Prelude.{◌≡◌, ◌-◌, IfOk, IfErr, OnOk, IfSome, IfNone, min, length};
 ghost use Rattle.tach_media.specs.Medium.{Reads};
 ghost use Rattle.unit_model.specs.Decoding.{Decodes, first_bad_place};
 ghost use Rattle.unit_messages.specs.Faults.{IfBadPiece, piece_failed};
@@ -52,7 +52,8 @@ impl From<UnitFault> for PieceFault {
 
 /// Reads at most 252 bytes of the message that answers a request, from a place on, and tells the message's length; at its end
 /// and behind it there are none. `None` exactly where there is no such message: for a day that is not recorded, and for
-/// detailed speed. Then `out` is as it was. The unit is judged first; nothing is written to it.
+/// detailed speed. Then `out` is as it was. The unit is judged first; nothing is written to it. Of a unit that tells nothing
+/// there are as many bytes as the length that is told says.
 ///
 /// # Errors
 ///
@@ -65,6 +66,8 @@ pub fn piece<M: Medium>(
 ) -> Result<Option<u32>, PieceFault>
     requires { (M.state unit.old).size ≡ IMAGE_SIZE }
     ensures piece { IfOk result (λ found. IfSome (M.state unit.old).image (λ x. IsPiece x request.now from found out.new.items)) }
+    ensures fits { IfOk result (λ found. IfSome found (λ len. length out.new.items ≡ min 252 (len - from))) }
+    ensures none { IfOk result (λ found. IfNone found (out.new ≡ out.old)) }
     ensures decodes { OnOk result (IfSome (M.state unit.old).image Decodes) }
     ensures bad { IfErr result (λ fault. IfBadPiece fault (λ p. IfSome (M.state unit.old).image (λ x. first_bad_place x ≡ Some p))) }
     ensures reads { Reads (M.state unit.old) (M.state unit.new) (piece_failed result) }
@@ -87,6 +90,8 @@ fn piece_of<M: Medium>(
     requires unit { (M.state unit.old).size ≡ IMAGE_SIZE }
     requires outlines { IfSome (M.state unit.old).image (Outlines outline.now) }
     ensures piece { IfOk result (λ found. IfSome (M.state unit.old).image (λ x. IsPiece x (asked outline.now) from found out.new.items)) }
+    ensures fits { IfOk result (λ found. IfSome found (λ len. length out.new.items ≡ min 252 (len - from))) }
+    ensures some { IfOk result (λ found. IfNone found ⊥) }
     ensures failed { IfErr result (λ fault. fault ≡ PieceFault.Failed) }
     ensures reads { ReadsIfAny (M.state unit.old) (M.state unit.new) (piece_failed result) }
 {

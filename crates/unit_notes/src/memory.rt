@@ -58,7 +58,7 @@ pub trait UnitNotes {
         requires odometer { entry.now.odometer.0 < 2 ^ 24 }
         requires out_odometer { entry.now.out_odometer.0 < 2 ^ 24 }
         ensures index { IfOk result (λ index. IfSome (M.state unit.old).image (λ x. PointsInside insertion_ring x → index ≡ taken insertion_ring x)) }
-        ensures below { IfOk result (λ index. index < 2048) }
+        ensures below { IfOk result (λ index. index < insertion_ring.count) }
         ensures noted { OnOk result (IfSome (M.state unit.old).image (λ x. IfSome (M.state unit.new).image (IsAdded insertion_ring (insertion_bytes entry.now) x))) }
         ensures moments { LeavesOnly (M.state unit.old) (M.state unit.new) (IsAdding insertion_ring (insertion_bytes entry.now)) }
         ensures journal { LeavesOnly (M.state unit.old) (M.state unit.new) LeavesJournal }
@@ -82,7 +82,7 @@ pub trait UnitNotes {
         odometer: Odometer,
     ) -> Result<(), Failed>
         requires unit { IsUnit (M.state unit.old) }
-        requires index { index < 2048 }
+        requires index { index < insertion_ring.count }
         requires odometer { odometer.0 < 2 ^ 24 }
         ensures noted { OnOk result (IfSome (M.state unit.old).image (λ x. IfSome (M.state unit.new).image (IsWithdrawn index time odometer x))) }
         ensures moments { LeavesOnly (M.state unit.old) (M.state unit.new) (IsWithdrawing index time odometer) }

@@ -3,6 +3,7 @@ ghost use Rattle.std.specs.Prelude.{◌≡◌, ◌≢◌, ◌≤◌, ◌<◌, �
 ghost use Rattle.byte_fields.specs.Fields.{total_width};
 ghost use Rattle.tach_media.specs.Medium.{Reads, LeavesOnly, HasCause, IsSettled, StaysSettled, last_count};
 ghost use Rattle.unit_model.specs.Image.{IsUnit};
+ghost use Rattle.event_model.specs.declared.kinds.TheConstants.{CARD_FAULT, OVER_SPEEDING};
 ghost use Rattle.event_model.specs.Kinds.{purpose_of, purpose_number, is_event, places_of};
 ghost use Rattle.event_model.specs.Places.{place_of, day_place, similar_after};
 ghost use Rattle.gated_ring.specs.Change.{IsReplaced, IsReplacingEntry, IsSet, OrUnwritten};
@@ -166,7 +167,7 @@ fn count_on_day<M: Medium>(
 /// `Failed` where the medium failed.
 pub fn note_event<M: Medium>(unit: &mut M, event: &UnitEvent) -> Result<(), Failed>
     requires unit { IsUnit (M.state unit.old) }
-    requires kind { IsTrue (is_event event.now.kind && not (event.now.kind == 7)) }
+    requires kind { IsTrue (is_event event.now.kind && not (event.now.kind == OVER_SPEEDING)) }
     requires purpose { event.now.purpose ≡ purpose_number (purpose_of event.now.kind) }
     requires begin { event.now.begin.0 ≢ 0 }
     ensures noted { OnOk result (IfSome (M.state unit.old).image (λ x. IfSome (M.state unit.new).image (IsEventNoted event.now.kind (fault_bytes event.now) x))) }
@@ -188,7 +189,7 @@ pub fn note_event<M: Medium>(unit: &mut M, event: &UnitEvent) -> Result<(), Fail
 /// `Failed` where the medium failed.
 pub fn note_fault<M: Medium>(unit: &mut M, event: &UnitEvent) -> Result<(), Failed>
     requires unit { IsUnit (M.state unit.old) }
-    requires kind { event.now.kind ≡ 64 }
+    requires kind { event.now.kind ≡ CARD_FAULT }
     requires purpose { event.now.purpose ≡ purpose_number (purpose_of event.now.kind) }
     requires begin { event.now.begin.0 ≢ 0 }
     ensures noted { OnOk result (IfSome (M.state unit.old).image (λ x. IfSome (M.state unit.new).image (IsEventNoted event.now.kind (fault_bytes event.now) x))) }

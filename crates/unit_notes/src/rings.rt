@@ -42,7 +42,7 @@ const PLACE_SIZE: usize = FullCardNumber::SIZE + PlaceEntry::SIZE;
 fn ring_at(base: u32, width: u32, count: u32, gate: u32) -> Ring
     requires inside { base + (4 + count * width) ≤ IMAGE_SIZE }
     requires some { 0 < count }
-    requires few { count ≤ 2048 }
+    requires few { count ≤ insertion_ring.count }
     requires gate { gate + 4 ≤ width }
     ensures { result ≡ record { base = base; width = width; count = count; pointer_width = 4; gate = gate } }
 {
@@ -88,7 +88,7 @@ pub fn note_insertion<M: Medium>(unit: &mut M, entry: &Insertion) -> Result<u32,
     requires odometer { entry.now.odometer.0 < 2 ^ 24 }
     requires out_odometer { entry.now.out_odometer.0 < 2 ^ 24 }
     ensures index { IfOk result (λ index. IfSome (M.state unit.old).image (λ x. PointsInside insertion_ring x → index ≡ taken insertion_ring x)) }
-    ensures below { IfOk result (λ index. index < 2048) }
+    ensures below { IfOk result (λ index. index < insertion_ring.count) }
     ensures noted { OnOk result (IfSome (M.state unit.old).image (λ x. IfSome (M.state unit.new).image (IsAdded insertion_ring (insertion_bytes entry.now) x))) }
     ensures moments { LeavesOnly (M.state unit.old) (M.state unit.new) (IsAdding insertion_ring (insertion_bytes entry.now)) }
     ensures settled { OnOk result ((M.state unit.new).clock < last_count → IsSettled (M.state unit.new)) }
@@ -115,7 +115,7 @@ pub fn note_withdrawal<M: Medium>(
     odometer: Odometer,
 ) -> Result<(), Failed>
     requires unit { IsUnit (M.state unit.old) }
-    requires index { index < 2048 }
+    requires index { index < insertion_ring.count }
     requires odometer { odometer.0 < 2 ^ 24 }
     ensures noted { OnOk result (IfSome (M.state unit.old).image (λ x. IfSome (M.state unit.new).image (IsWithdrawn index time odometer x))) }
     ensures moments { LeavesOnly (M.state unit.old) (M.state unit.new) (IsWithdrawing index time odometer) }
@@ -135,7 +135,7 @@ pub fn note_withdrawal<M: Medium>(
 // Writes a few bytes of an insertion behind its time.
 fn set_part<M: Medium>(unit: &mut M, index: u32, offset: u32, bytes: &[u8]) -> Result<(), Failed>
     requires unit { IsUnit (M.state unit.old) }
-    requires index { index < 2048 }
+    requires index { index < insertion_ring.count }
     requires behind { 98 ≤ offset }
     requires inside { offset + length bytes.now ≤ 129 }
     requires some { 0 < length bytes.now }

@@ -1,6 +1,6 @@
 //! The places of the events and faults of a type.
 ghost use Rattle.std.specs.Prelude.{◌≡◌, ◌≤◌, ◌<◌, ◌+◌, ◌*◌, length, map, IfSome};
-ghost use Rattle.unit_model.specs.declared.layout.TheConstants.{IMAGE_SIZE};
+ghost use Rattle.unit_model.specs.declared.layout.TheConstants.{IMAGE_SIZE, EVENTS, FAULTS};
 ghost use Rattle.byte_fields.specs.Fields.{total_width};
 ghost use Rattle.event_model.specs.Kinds.{places_of};
 ghost use Rattle.side_model.specs.Tables as side;
@@ -80,8 +80,8 @@ fn order_of(kind: u8) -> u32
 // Where the places of a type begin.
 pub fn base_of(kind: u8) -> u32
     ensures base { result ≡ side.base_of kind }
-    ensures inside { result + places_of kind * total_width (widths_of kind) ≤ 2393642 }
-    ensures behind { 2386384 ≤ result }
+    ensures inside { result + places_of kind * total_width (widths_of kind) ≤ FAULTS.place + FAULTS.size }
+    ensures behind { EVENTS.place ≤ result }
 {
     match kind {
         OVER_SPEEDING => OVERS.place,

@@ -1,5 +1,5 @@
 use Rattle.std.proofs.Common.{◌≡◌, ◌∙◌, Option, Some, None, IfSome, sym, subst, refl, inl, rules}
-use Rattle.std.specs.Prelude.{IfOk, IfErr, OnOk}
+use Rattle.std.specs.Prelude.{IfOk, IfErr, IfNone, OnOk}
 use Rattle.std.proofs.lemmas.Result.{IfOk-weaker}
 use Rattle.unit_model.specs.Decoding.{Decodes, first_bad_place}
 use Rattle.unit_memory.proofs.Told.{told_all, one_told, carried}
@@ -13,7 +13,7 @@ use Rattle.unit_messages.specs.Sent.{IsPiece}
 use Rattle.unit_messages.specs.Faults.{piece_failed, IfBadPiece}
 use Rattle.unit_messages.proofs.Calls.{any_then, reads_any}
 use Rattle.unit_messages.proofs.Joints.{at_told}
-use Rattle.unit_messages.proofs.Faulting.{ok_always, never_bad}
+use Rattle.unit_messages.proofs.Faulting.{ok_always, never_bad, as_none}
 use Rattle.unit_messages.proofs.sending.piece.Goals as goal
 
 pub find_outline-requires-clause-right : goal.find_outline-requires-clause-right
@@ -46,6 +46,10 @@ returns-in-Some-clause-piece g c =
     let same : after ≡ before = read_same c.in_ok-found.ensures.reads ∙ c.in_ok-journal.ensures.reads.same refl in
     IfOk-weaker c.piece_of.result (λ found. IfSome after (λ x. IsPiece x (asked c.in-Some.outline) c.args.from found items)) (λ found. IfSome before (λ x. IsPiece x c.args.request.now c.args.from found items))
     (λ found it. carried (λ x. IsPiece x c.args.request.now c.args.from found items) same (subst (λ (q : Request). IfSome after (λ x. IsPiece x q c.args.from found items)) request it)) c.piece_of.ensures.piece
+
+pub returns-in-Some-clause-none : goal.returns-in-Some-clause-none
+returns-in-Some-clause-none g c =
+    IfOk-weaker c.piece_of.result (λ found. IfNone found ⊥) (λ found. IfNone found (c.piece_of.new.out ≡ c.args.out.now)) (λ found it. as_none _ found it) c.piece_of.ensures.some
 
 pub returns-in-Some-clause-decodes : goal.returns-in-Some-clause-decodes
 returns-in-Some-clause-decodes g c = ok_always c.piece_of.result c.in_ok-journal.ensures.decodes

@@ -1,4 +1,4 @@
-use Rattle.std.proofs.Common.{◌≡◌, ◌∙◌, Some, ap, rules, true}
+use Rattle.std.proofs.Common.{◌≡◌, ◌∙◌, ◌-◌, ℕ, Some, ap, length, min, rules, subst, sym, true}
 use Rattle.unit_memory.proofs.Told.{one_told}
 use Rattle.unit_messages.specs.Outlines.{asked}
 use Rattle.unit_messages.specs.Sent.{IsPiece}
@@ -13,3 +13,6 @@ returns-clause-piece g c =
 
 pub returns-in_err-read-clause-reads : goal.returns-in_err-read-clause-reads
 returns-in_err-read-clause-reads g c = any_failed (piece_failed c.from_residual.result) (search rules) c.in_err-read.ensures.reads
+
+pub returns-clause-fits : goal.returns-clause-fits
+returns-clause-fits g c = subst (λ (len : ℕ). length c.read.new.out.items ≡ min 252 (len - c.args.from)) (sym c.len-len.ensures.len) c.in_ok-read.ensures.fits

@@ -1,0 +1,237 @@
+-- What an insertion makes of a card, and what is left of it at each moment (profile).
+use Rattle.std.specs.Prelude.{◌≡◌, ◌≢◌, ◌⊎◌, ℕ, suc, ◌+◌, ◌/◌, ◌<◌, ◌≤◌, Option, List, [], ◌∷◌, length, nat_eq, nat_lt, All, if◌then◌else◌}
+use Rattle.activity_codec.specs.declared.values.Activity.TheVariants.{Rest}
+use Rattle.activity_codec.specs.declared.entries.Entry.{Entry}
+use Rattle.card_layout.specs.declared.files.Application.{Application}
+use Rattle.card_layout.specs.Files.{place_of, size_of}
+use Rattle.tach_media.specs.Medium.{State, LiesInside, IsPartlyWritten, put}
+use Rattle.tacho_types.specs.declared.texts.Registration.{Registration}
+use Rattle.tacho_types.specs.Numbers.{time_bytes}
+use Rattle.card_records.specs.declared.vehicle.Vehicle.{Vehicle}
+use Rattle.card_records.specs.declared.card_event.CardEvent.{CardEvent}
+use Rattle.card_records.specs.declared.current_use.CurrentUse.{CurrentUse}
+use Rattle.card_records.specs.Noting.{HoldsEvent, IsNotingEvent, IsEventNoted}
+use Rattle.card_model.specs.Days.{Day}
+use Rattle.card_model.specs.Changes.{Shorter, date_of, trimmed}
+use Rattle.card_image.specs.Fields.{file, current_use, session_time}
+use Rattle.card_session.specs.declared.words.TheConstants.{LATEST_MINUTE}
+use Rattle.card_session.specs.Books.{Book, mark_of, with_entry, closed}
+use Rattle.card_session.specs.Sessions.{Session, KnowsCard, IsSession, IsOpenBook, EndsStrictly, MayKeep, newest_in, book_of}
+use Rattle.card_session.specs.Moments.{IsBook, IsKeepMoment, IsCloseMoment}
+use Rattle.card_session.specs.Cards.{IsCard, ended}
+
+-- ---- what is handed to it
+
+-- each entry comes after a minute and after the entry before it
+abbrev pub Follow : (minute : ℕ) → List Entry → Type 0
+Follow minute [] = Unit {0}
+Follow minute (e ∷ es) = (minute < e.minute) × Follow e.minute es
+
+-- owed entries: their minutes increase, none is of the first day, and all are before the minute of now
+abbrev pub AreOwed : (now : ℕ) → List Entry → Type 0
+AreOwed now owed = Follow 1439 owed × All (λ e. e.minute < now / 60) owed
+
+-- the files that an insertion writes lie in the medium, and may be written
+pub record MayInsert (app : Application) (s : State) : Type 0 where
+  pub keep : MayKeep app s
+  pub events : LiesInside s.writable (place_of app (file 0x0502)) (size_of app (file 0x0502))
+  pub current : LiesInside s.writable (place_of app (file 0x0507)) 19
+
+-- the owed entries that a card lacks: from the first on that is later than its end mark
+abbrev pub lacked : (mark : ℕ) → List Entry → List Entry
+lacked mark [] = []
+lacked mark (e ∷ es) = if nat_lt mark e.minute then e ∷ es else lacked mark es
+
+-- how many of them a card lacks with this session time and this end mark: none where no session is open
+abbrev pub replayed_count : (session mark : ℕ) → List Entry → ℕ
+replayed_count session mark owed = if nat_eq session 0 then 0 else length (lacked mark owed)
+
+-- ---- of the days and the newest vehicle entry
+
+-- THE CUT behind the end mark
+abbrev pub with_cut : (minute : ℕ) → Book → Book
+with_cut minute b = record { days = trimmed minute b.days; vehicle = b.vehicle }
+
+-- a moment of it: of the days only some of those later than the minute's day are gone
+abbrev pub IsCutting : (minute : ℕ) → Book → List Day → Option Vehicle → Type 0
+IsCutting minute b days vehicle = (Shorter (date_of minute) b.days days ⊎ (days ≡ trimmed minute b.days)) × (vehicle ≡ b.vehicle)
+
+-- ENTRIES in their order, none of which adds a distance
+abbrev pub with_owed : (size : ℕ) → Registration → (odometer : ℕ) → List Entry → Book → Book
+with_owed size registration odometer [] b = b
+with_owed size registration odometer (e ∷ es) b = with_owed size registration odometer es (with_entry size registration odometer 0 b e)
+
+-- no word and no mark reaches the first of them
+abbrev pub IsBeforeAll : List Entry → Book → Type 0
+IsBeforeAll es b = IsOpenBook b × Follow (newest_in b) es
+
+-- a moment of them: the first few are on the card, and it is a moment of the keep of the next
+abbrev pub IsReplaying : (size : ℕ) → Registration → (odometer : ℕ) → List Entry → Book → List Day → Option Vehicle → Type 0
+IsReplaying size registration odometer [] b days vehicle = IsBook b days vehicle
+IsReplaying size registration odometer (e ∷ es) b days vehicle =
+    IsKeepMoment size registration odometer 0 e b days vehicle ⊎ IsReplaying size registration odometer es (with_entry size registration odometer 0 b e) days vehicle
+
+-- the words of the newest day that a cut at the end mark leaves increase
+abbrev pub EndsCut : Book → Type 0
+EndsCut b = EndsStrictly (trimmed (mark_of b) b.days)
+
+-- THE REPAIR: the cut at the end mark, and the entries that the card lacks
+abbrev pub repaired : (size : ℕ) → Registration → (odometer : ℕ) → (owed : List Entry) → Book → Book
+repaired size registration odometer owed b = with_owed size registration odometer (lacked (mark_of b) owed) (with_cut (mark_of b) b)
+
+abbrev pub IsMending : (size : ℕ) → Registration → (odometer : ℕ) → (owed : List Entry) → Book → List Day → Option Vehicle → Type 0
+IsMending size registration odometer owed b days vehicle =
+    IsCutting (mark_of b) b days vehicle ⊎ IsReplaying size registration odometer (lacked (mark_of b) owed) (with_cut (mark_of b) b) days vehicle
+
+-- ---- of a card: its steps, each as it is done and at its moments
+
+-- two steps, one after the other
+abbrev pub Both : (S S' : List ℕ → List ℕ → Type 0) → List ℕ → List ℕ → Type 0
+Both S S' x z = (y : List ℕ) × S x y × S' y z
+
+-- a moment of two steps: one of the first, or the first is done and it is one of the second
+abbrev pub During : (R S R' : List ℕ → List ℕ → Type 0) → List ℕ → List ℕ → Type 0
+During R S R' x c = R x c ⊎ Both S R' x c
+
+-- a drop that was cut short is ended: the days and the vehicle entries stay
+abbrev pub IsStill : Application → List ℕ → List ℕ → Type 0
+IsStill app x c = IsCard app (IsBook (book_of app x)) x c
+
+abbrev pub IsRepaired : Application → Registration → (odometer : ℕ) → (owed : List Entry) → List ℕ → List ℕ → Type 0
+IsRepaired app registration odometer owed x y = IsCard app (IsBook (repaired app.activity registration odometer owed (book_of app x))) x y
+
+abbrev pub IsRepairing : Application → Registration → (odometer : ℕ) → (owed : List Entry) → List ℕ → List ℕ → Type 0
+IsRepairing app registration odometer owed x c = IsCard app (IsMending app.activity registration odometer owed (book_of app x)) x c
+
+-- The event of a session that was not closed (Appendix 1, EventFaultType 06): from that session's begin to now, with its vehicle.
+abbrev pub unclosed : CurrentUse → (now : ℕ) → CardEvent
+unclosed current now = record { kind = 6; begin = current.session; end = record { 0 = now }; registration = current.registration }
+
+-- it is noted unless one with that begin is there
+abbrev pub HoldsUnclosed : Application → List ℕ → Type 0
+HoldsUnclosed app x = HoldsEvent app 6 (session_time app x) x
+
+abbrev pub IsNoted : Application → (now : ℕ) → List ℕ → List ℕ → Type 0
+IsNoted app now x y = (HoldsUnclosed app x × (y ≡ x)) ⊎ ((HoldsUnclosed app x → ⊥) × IsEventNoted app (unclosed (current_use app x) now) x y)
+
+abbrev pub IsNoting : Application → (now : ℕ) → List ℕ → List ℕ → Type 0
+IsNoting app now x c = (HoldsUnclosed app x → ⊥) × IsNotingEvent app (unclosed (current_use app x) now) x c
+
+-- a word may follow, and a minute the end mark
+abbrev pub MayShut : Book → Type 0
+MayShut b = IsOpenBook b × (mark_of b < LATEST_MINUTE)
+
+-- the closing word, rest, and the end mark at it
+abbrev pub IsShut : Application → List ℕ → List ℕ → Type 0
+IsShut app x y = IsCard app (IsBook (closed app.activity Rest (book_of app x))) x y
+
+abbrev pub IsShutting : Application → List ℕ → List ℕ → Type 0
+IsShutting app x c = IsCard app (IsCloseMoment app.activity Rest (book_of app x)) x c
+
+-- the session time, at the front of its file, and the registration behind it
+abbrev pub timed : Application → (seconds : ℕ) → List ℕ → List ℕ
+timed app seconds x = put (place_of app (file 0x0507)) (time_bytes (record { 0 = seconds })) x
+
+abbrev pub registered : Application → Registration → List ℕ → List ℕ
+registered app registration x = put (place_of app (file 0x0507) + 4) registration.0 x
+
+-- the session time is 0
+abbrev pub IsEnded : Application → List ℕ → List ℕ → Type 0
+IsEnded app x y = y ≡ timed app 0 x
+
+abbrev pub IsEnding : Application → List ℕ → List ℕ → Type 0
+IsEnding app x c = (c ≡ x) ⊎ IsEnded app x c
+
+-- the new session: the registration, and behind it the session time
+abbrev pub IsOpened : Application → Registration → (now : ℕ) → List ℕ → List ℕ → Type 0
+IsOpened app registration now x y = y ≡ timed app now (registered app registration x)
+
+abbrev pub IsOpening : Application → Registration → (now : ℕ) → List ℕ → List ℕ → Type 0
+IsOpening app registration now x c =
+    IsPartlyWritten (place_of app (file 0x0507) + 4) registration.0 x c ⊎ ((c ≡ registered app registration x) ⊎ IsOpened app registration now x c)
+
+-- ---- parts of it, of a card that a session knows
+
+-- a card whose session was left open: this was its current use
+pub record Mends (s : Session) (current : CurrentUse) (x : List ℕ) : Type 0 where
+  pub knows : KnowsCard s x
+  pub current_is : current ≡ current_use s.application x
+  pub strict : EndsCut (book_of s.application x)
+  pub mark : mark_of (book_of s.application x) < LATEST_MINUTE
+
+-- it is repaired, the event is noted, and a closing word may follow
+abbrev pub IsMended : (s next : Session) → CurrentUse → (odometer : ℕ) → (owed : List Entry) → (now : ℕ) → List ℕ → List ℕ → Type 0
+IsMended s next current odometer owed now x y = Mends s current x
+    → Both (IsStill s.application) (Both (IsRepaired s.application s.registration odometer owed) (IsNoted s.application now)) x y × KnowsCard next y × MayShut (book_of next.application y)
+
+abbrev pub IsMendMoment : Session → CurrentUse → (odometer : ℕ) → (owed : List Entry) → (now : ℕ) → List ℕ → List ℕ → Type 0
+IsMendMoment s current odometer owed now x c = Mends s current x
+    → During (IsStill s.application) (IsStill s.application) (During (IsRepairing s.application s.registration odometer owed) (IsRepaired s.application s.registration odometer owed) (IsNoting s.application now)) x c
+
+-- the closing word is written where it must be, and then one of these is done; the session knows the card, and a word may follow
+abbrev pub IsShutThen : (s next : Session) → (S : List ℕ → List ℕ → Type 0) → List ℕ → List ℕ → Type 0
+IsShutThen s next S x y = KnowsCard s x → MayShut (book_of s.application x) → Both (IsShut s.application) S x y × KnowsCard next y × IsOpenBook (book_of next.application y)
+
+abbrev pub IsShutThenMoment : Session → (R : List ℕ → List ℕ → Type 0) → List ℕ → List ℕ → Type 0
+IsShutThenMoment s R x c = KnowsCard s x → MayShut (book_of s.application x) → During (IsShutting s.application) (IsShut s.application) R x c
+
+-- the session that was left open is ended, and another opened
+abbrev pub IsReopened : Application → Registration → (now : ℕ) → List ℕ → List ℕ → Type 0
+IsReopened app registration now = Both (IsEnded app) (IsOpened app registration now)
+
+abbrev pub IsReopening : Application → Registration → (now : ℕ) → List ℕ → List ℕ → Type 0
+IsReopening app registration now = During (IsEnding app) (IsEnded app) (IsOpening app registration now)
+
+-- the same of a card without a session, whose drop is ended first
+abbrev pub IsStarted : (s next : Session) → (now : ℕ) → List ℕ → List ℕ → Type 0
+IsStarted s next now x y = KnowsCard s x → MayShut (book_of s.application x)
+    → Both (IsStill s.application) (Both (IsShut s.application) (IsOpened s.application s.registration now)) x y × KnowsCard next y × IsOpenBook (book_of next.application y)
+
+abbrev pub IsStartMoment : Session → (now : ℕ) → List ℕ → List ℕ → Type 0
+IsStartMoment s now x c = KnowsCard s x → MayShut (book_of s.application x)
+    → During (IsStill s.application) (IsStill s.application) (During (IsShutting s.application) (IsShut s.application) (IsOpening s.application s.registration now)) x c
+
+-- ---- an insertion, whole
+
+-- of a card whose session was closed
+abbrev pub InsertsClosed : Application → Registration → (now : ℕ) → List ℕ → List ℕ → Type 0
+InsertsClosed app registration now = Both (IsStill app) (Both (IsShut app) (IsOpened app registration now))
+
+abbrev pub InsertingClosed : Application → Registration → (now : ℕ) → List ℕ → List ℕ → Type 0
+InsertingClosed app registration now = During (IsStill app) (IsStill app) (During (IsShutting app) (IsShut app) (IsOpening app registration now))
+
+-- of one whose session was left open: the session time stays until all entries that it lacked are on it
+abbrev pub InsertsOpen : Application → Registration → (odometer : ℕ) → (owed : List Entry) → (now : ℕ) → List ℕ → List ℕ → Type 0
+InsertsOpen app registration odometer owed now =
+    Both (IsStill app) (Both (IsRepaired app registration odometer owed) (Both (IsNoted app now) (Both (IsShut app) (Both (IsEnded app) (IsOpened app registration now)))))
+
+abbrev pub InsertingOpen : Application → Registration → (odometer : ℕ) → (owed : List Entry) → (now : ℕ) → List ℕ → List ℕ → Type 0
+InsertingOpen app registration odometer owed now =
+    During (IsStill app) (IsStill app)
+    (During (IsRepairing app registration odometer owed) (IsRepaired app registration odometer owed)
+    (During (IsNoting app now) (IsNoted app now)
+    (During (IsShutting app) (IsShut app) (During (IsEnding app) (IsEnded app) (IsOpening app registration now)))))
+
+-- what an insertion leaves of a card
+abbrev pub IsCardInserted : Application → Registration → (odometer : ℕ) → (owed : List Entry) → (now : ℕ) → List ℕ → List ℕ → Type 0
+IsCardInserted app registration odometer owed now x y =
+    ((session_time app x ≡ 0) × InsertsClosed app registration now x y) ⊎ ((session_time app x ≢ 0) × InsertsOpen app registration odometer owed now x y)
+
+-- and a moment of it
+abbrev pub IsCardInserting : Application → Registration → (odometer : ℕ) → (owed : List Entry) → (now : ℕ) → List ℕ → List ℕ → Type 0
+IsCardInserting app registration odometer owed now x c =
+    ((session_time app x ≡ 0) × InsertingClosed app registration now x c) ⊎ ((session_time app x ≢ 0) × InsertingOpen app registration odometer owed now x c)
+
+-- a card that is accepted, as a session over it knows it: of this current use
+pub record Takes (s : Session) (current : CurrentUse) (x : List ℕ) : Type 0 where
+  pub knows : KnowsCard s x
+  pub current_is : current ≡ current_use s.application x
+  pub mark : mark_of (book_of s.application x) < LATEST_MINUTE
+  pub ready : session_time s.application x ≡ 0 → IsOpenBook (book_of s.application x)
+  pub strict : session_time s.application x ≢ 0 → EndsCut (book_of s.application x)
+
+abbrev pub IsTaken : (s next : Session) → CurrentUse → (odometer : ℕ) → (owed : List Entry) → (now : ℕ) → List ℕ → List ℕ → Type 0
+IsTaken s next current odometer owed now x y = Takes s current x → IsCardInserted s.application s.registration odometer owed now x y × IsSession next y
+
+abbrev pub IsTaking : Session → CurrentUse → (odometer : ℕ) → (owed : List Entry) → (now : ℕ) → List ℕ → List ℕ → Type 0
+IsTaking s current odometer owed now x c = Takes s current x → IsCardInserting s.application s.registration odometer owed now x c

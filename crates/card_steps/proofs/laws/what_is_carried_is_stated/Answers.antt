@@ -1,0 +1,8 @@
+use Rattle.card_steps.proofs.Stated.{goes_stated, broke_stated}
+use Rattle.card_steps.proofs.laws.what_is_carried_is_stated.Goals as goal
+
+pub returns-clause-goes : goal.returns-clause-goes
+returns-clause-goes c = λ app slack covered from marked counted first all x sound least is g n le. goes_stated app slack covered from marked counted first all x sound least is g n le
+
+pub returns-clause-broke : goal.returns-clause-broke
+returns-clause-broke c = λ app slack covered from marked counted first all x begun is b n le. broke_stated app slack covered from marked counted first all x begun is b n le

@@ -1,0 +1,3 @@
+pub mod EntryOwed
+pub mod MinuteKept
+pub mod OnCard

@@ -1,0 +1,85 @@
+-- The unit keeps a minute: its own rule, and that of each card.
+use Rattle.std.proofs.Common.{◌≡◌, ℕ, ◌<◌, ◌≤◌, Bool, true, false, Option, Some, None, is_some, List, [], ◌∷◌, ◌++◌, All, IfSome, refl, ap, subst, ◌∙◌, sym, arith}
+use Rattle.std.specs.Prelude.{OnOk, Result, Ok, Err}
+use Rattle.activity_codec.specs.declared.entries.Entry.{Entry}
+use Rattle.trace_model.specs.declared.Card.{Card}
+use Rattle.trace_model.specs.declared.Card.TheVariants.{A, B}
+use Rattle.run_model.specs.declared.Device.TheVariants.{Unit as Recorder}
+use Rattle.byte_fields.proofs.Images.{part_in}
+use Rattle.tach_media.specs.Medium.{State, IsCoherent, IsSettled, LeavesOnly, bytes_at, last_count}
+use Rattle.unit_model.specs.Days.{UnitMinute}
+use Rattle.owed_model.specs.Owed.{rows_in, row_index}
+use Rattle.owed_model.specs.Rows.{HasRow}
+use Rattle.unit_journal.specs.declared.kept.KeptMinute.{KeptMinute}
+use Rattle.unit_journal.specs.Kept.{kept_minute}
+use Rattle.unit_journal.specs.Image as journal
+use Rattle.log_model.specs.declared.lines.Mark.{Mark}
+use Rattle.history_model.specs.Minutes.{HistoryMinute, on_card}
+use Rattle.history_model.specs.Book.{Book}
+use Rattle.history_model.proofs.Books.{mark-earlier}
+use Rattle.card_image.specs.View.{Held}
+use Rattle.joint_rule.specs.Views.{UnitView, unit_view}
+use Rattle.joint_rule.specs.Device.{LeavesViews}
+use Rattle.joint_rule.specs.Steps.{IsKeeping, IsKept}
+use Rattle.joint_rule.specs.Filling.{seen_by_unit, KeepsMinute, GivesUpDay}
+use Rattle.joint_rule.specs.Rules.{Standing, Fits}
+use Rattle.joint_rule.proofs.Viewed.{seen-run}
+use Rattle.joint_rule.proofs.KeepLaws.{keep-card, keep-dark}
+use Rattle.joint_steps.proofs.Keeping.{keeping_view, kept_view}
+use Rattle.unit_rule.specs.Rule.{Started}
+use Rattle.unit_rule.specs.Marks.{Holds}
+use Rattle.unit_rule.proofs.Moves.{ended}
+use Rattle.unit_rule.proofs.Marking.{holds-kept, holds-broken}
+use Rattle.device_steps.specs.Rule.{Both, opened, number_of, unit_seen, AnyString, CardHolds, IsCommitted, IsHeldUp}
+
+-- the owed rows stay, which lie between the odometer and the days
+rows-same : (x y : List ℕ) → journal.SameBesides x y → rows_in y ≡ rows_in x
+rows-same x y s = sym (part_in y 572 452 52 384 (omega arith)) ∙ ap (λ (l : List ℕ). bytes_at l 52 384) s.between ∙ part_in x 572 452 52 384 (omega arith)
+
+-- so each number has its row still
+pub rows-kept : {T E : Type 0} (result : Result T E) (o p : Option (List ℕ)) (k : UnitMinute) → is_some p ≡ is_some o → OnOk result (IfSome o (λ x. IfSome p (journal.IsKept k x))) → (n : List ℕ) → IfSome o (HasRow n) → OnOk result (IfSome p (HasRow n))
+rows-kept (Ok t) (Some x) (Some y) k same said n has = (has.0, ap (λ (rows : List ℕ). row_index n rows) (rows-same x y said.outside) ∙ has.1)
+rows-kept (Ok t) None (Some y) k same said n has = absurd (cc)
+rows-kept (Ok t) o None k same said n has = tt
+rows-kept (Err f) o p k same said n has = tt
+
+pub same_minute : (k : KeptMinute) (i : HistoryMinute) → kept_minute k ≡ seen_by_unit i → 1440 ≤ k.minute → 1440 ≤ i.minute
+same_minute k i is low = let same : k.minute ≡ i.minute = ap (λ (m : UnitMinute). m.minute) is in omega (arith, low, same)
+
+any-later : (next n : ℕ) (full : List Entry) (h : Held) → next ≤ n → AnyString next full h → AnyString n full h
+any-later next n full h le is = tt
+
+module _ {U V : State} (k : UnitMinute) (odometer : ℕ) (i : HistoryMinute) (is : k ≡ seen_by_unit i) (whole : IsCoherent U) (run : LeavesOnly U V (journal.IsKeeping k odometer)) (s : Started) (due : ℕ) (b : Book) (marks : List Mark) (h : Holds s due b marks U) (none : b.maybe ≡ None) (late : due ≤ i.minute) where
+  keeping : LeavesOnly U V (journal.IsKeeping (seen_by_unit i) odometer)
+  keeping = subst (λ (m : UnitMinute). LeavesOnly U V (journal.IsKeeping m odometer)) is run
+
+  -- what ends well ends with the minute
+  ends-with : IsCoherent V → V.works ≡ true → IfSome U.image (λ x. IfSome V.image (journal.IsKept k x)) → (c : List ℕ) → V.may_leave c → (x : List ℕ) × U.may_leave x × journal.IsKept (seen_by_unit i) x c
+  ends-with after works said c left = subst (λ (m : UnitMinute). (x : List ℕ) × U.may_leave x × journal.IsKept m x c) is (ended (journal.IsKept k) whole after works run said c left)
+
+  pub committed-unit : (failed : Bool) → IsCoherent V → (failed ≡ false → V.works ≡ true) → (failed ≡ false → IfSome U.image (λ x. IfSome V.image (journal.IsKept k x))) → (failed ≡ false → V.clock < last_count → IsSettled V) → IsHeldUp s b marks i failed V
+  committed-unit failed after works said settled = record {
+    lit = λ well below. holds-kept s due b marks h whole i odometer none late keeping (record { device = Recorder; minute = i.minute; clock = V.clock }) refl refl refl after (settled well below) (ends-with after (works well) (said well));
+    dark = holds-broken s due b marks h whole i odometer none late keeping;
+  }
+
+  module _ (r : Both) (c : Card) (X : State) (z : Standing) (day : 1440 ≤ i.minute) (rule : CardHolds r c b z (on_card c i) [] U X) (fits : Fits c (opened r c).start z i) where
+    keeps : LeavesViews (unit_seen r U) (unit_seen r V) (IsKeeping KeepsMinute GivesUpDay i)
+    keeps = seen-run (unit_view (number_of r A) (number_of r B)) (journal.IsKeeping (seen_by_unit i) odometer) (IsKeeping KeepsMinute GivesUpDay i) U V whole keeping (keeping_view (number_of r A) (number_of r B) i odometer)
+
+    sure : (u : UnitView) → (unit_seen r U).may_leave u → All (λ j. j.minute ≤ u.last) b.sure
+    sure u on = ((h.unit_holds (number_of r A) (number_of r B)).now u on).sure
+
+    early : (u : UnitView) → (unit_seen r U).may_leave u → u.last < i.minute
+    early u on = let held = h.unit_holds (number_of r A) (number_of r B) in omega (arith, late, mark-earlier s.first due b u.last held.order (held.now u on).mark)
+
+    pub committed-card : (failed : Bool) → IsCoherent V → (failed ≡ false → V.works ≡ true) → (failed ≡ false → IfSome U.image (λ x. IfSome V.image (journal.IsKept k x))) → IsCommitted r c b i z failed V X
+    committed-card failed after works said = record {
+      lit = λ well. keep-card c (opened r c).start AnyString (opened r c).began b KeepsMinute GivesUpDay any-later z i none sure early day rule fits keeps
+          (record {
+            works = works well;
+            now = λ v on. let was = ends-with after (works well) (said well) on.0 on.1 in
+                (unit_view (number_of r A) (number_of r B) was.0, (was.0, was.1, refl), subst (IsKept KeepsMinute i (unit_view (number_of r A) (number_of r B) was.0)) on.2 (kept_view (number_of r A) (number_of r B) i was.0 on.0 was.2));
+          });
+      dark = keep-dark c (opened r c).start AnyString (opened r c).began b KeepsMinute GivesUpDay any-later z i none sure early day rule fits keeps;
+    }

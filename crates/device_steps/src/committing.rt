@@ -1,0 +1,56 @@
+//! The unit keeps a minute.
+ghost use Rattle.std.specs.Prelude.{◌≡◌, ◌≤◌, ◌<◌, ℕ, None, List, [], OnOk, OnErr, IfSome, is_some, is_err};
+ghost use Rattle.trace_model.specs.declared.Card.{Card};
+ghost use Rattle.tach_media.specs.Medium.{HasCause};
+ghost use Rattle.unit_model.specs.declared.layout.TheConstants.{HIGHEST_ODOMETER, LAST_MINUTE};
+ghost use Rattle.unit_model.specs.Image.{IsUnit};
+ghost use Rattle.owed_model.specs.Rows.{HasRow};
+ghost use Rattle.unit_journal.specs.Image.{Agrees};
+ghost use Rattle.unit_journal.specs.Kept.{kept_minute};
+ghost use Rattle.log_model.specs.declared.lines.Mark.{Mark};
+ghost use Rattle.history_model.specs.Minutes.{HistoryMinute, on_card};
+ghost use Rattle.history_model.specs.Book.{Book};
+ghost use Rattle.joint_rule.specs.Filling.{seen_by_unit};
+ghost use Rattle.joint_rule.specs.Rules.{Standing, Fits};
+ghost use Rattle.unit_rule.specs.Rule.{Started};
+ghost use Rattle.unit_rule.specs.Marks.{Holds};
+ghost use Rattle.device_steps.specs.Rule.{Both, opened, CardHolds, IsCommitted, IsHeldUp};
+
+use tach_media::{Failed, Medium};
+use unit_journal::{Journal, KeptMinute};
+
+/// The unit keeps a minute of the history, whose entries are put among those owed to its cards.
+///
+/// # Errors
+///
+/// `Failed` where the unit failed; then the minute may be there or not.
+pub fn commit<M: Medium, C: Medium, D: Medium>(
+    unit: &mut M,
+    journal: &mut Journal,
+    first: &C,
+    second: &D,
+    kept: &KeptMinute,
+) -> Result<(), Failed>
+    requires unit { IsUnit (M.state unit.old) }
+    requires agrees { IfSome (M.state unit.old).image (Agrees journal.old) }
+    requires low { 1440 ≤ kept.now.minute }
+    requires later { journal.old.kept < kept.now.minute }
+    requires small { kept.now.minute ≤ LAST_MINUTE }
+    requires odometer { kept.now.odometer.0 ≤ HIGHEST_ODOMETER }
+    ensures unit { IsUnit (M.state unit.new) }
+    ensures notes { OnOk result ((journal.new.kept ≡ kept.now.minute) × (journal.new.odometer ≡ kept.now.odometer.0)) }
+    ensures same { OnErr result (journal.new ≡ journal.old) }
+    ensures agrees { OnOk result (IfSome (M.state unit.new).image (Agrees journal.new)) }
+    ensures holds { (s : Started) (due : ℕ) (b : Book) (marks : List Mark) (i : HistoryMinute) → kept_minute kept.now ≡ seen_by_unit i → Holds s due b marks (M.state unit.old) → b.maybe ≡ None → due ≤ i.minute
+        → IsHeldUp s b marks i (is_err result) (M.state unit.new) }
+    ensures first { (r : Both) (c : Card) (s : Started) (due : ℕ) (b : Book) (marks : List Mark) (i : HistoryMinute) (z : Standing) → kept_minute kept.now ≡ seen_by_unit i → Holds s due b marks (M.state unit.old) → b.maybe ≡ None → due ≤ i.minute
+        → CardHolds r c b z (on_card c i) [] (M.state unit.old) (C.state first.now) → Fits c (opened r c).start z i → IsCommitted r c b i z (is_err result) (M.state unit.new) (C.state first.now) }
+    ensures second { (r : Both) (c : Card) (s : Started) (due : ℕ) (b : Book) (marks : List Mark) (i : HistoryMinute) (z : Standing) → kept_minute kept.now ≡ seen_by_unit i → Holds s due b marks (M.state unit.old) → b.maybe ≡ None → due ≤ i.minute
+        → CardHolds r c b z (on_card c i) [] (M.state unit.old) (D.state second.now) → Fits c (opened r c).start z i → IsCommitted r c b i z (is_err result) (M.state unit.new) (D.state second.now) }
+    ensures rows { (n : List ℕ) → IfSome (M.state unit.old).image (HasRow n) → OnOk result (IfSome (M.state unit.new).image (HasRow n)) }
+    ensures clock { (M.state unit.old).clock ≤ (M.state unit.new).clock }
+    ensures tells { is_some (M.state unit.new).image ≡ is_some (M.state unit.old).image }
+    ensures cause { HasCause (M.state unit.old) (M.state unit.new) (is_err result) }
+{
+    journal.keep(unit, kept)
+}

@@ -1,0 +1,56 @@
+//! The entry of a minute is put among those owed to its card.
+ghost use Rattle.std.specs.Prelude.{◌≡◌, ◌≤◌, ℕ, None, List, [], ◌∷◌, OnOk, IfSome, is_some, is_err};
+ghost use Rattle.tach_media.specs.Medium.{HasCause};
+ghost use Rattle.tacho_types.specs.CardNumber.{card_number_bytes};
+ghost use Rattle.unit_model.specs.Image.{IsUnit};
+ghost use Rattle.unit_journal.specs.Image.{Agrees};
+ghost use Rattle.owed_model.specs.Rows.{HasRow};
+ghost use Rattle.log_model.specs.declared.lines.Mark.{Mark};
+ghost use Rattle.history_model.specs.Book.{Book};
+ghost use Rattle.joint_rule.specs.Rules.{Standing, IsPresent};
+ghost use Rattle.joint_rule.specs.Views.{other};
+ghost use Rattle.unit_rule.specs.Rule.{Started};
+ghost use Rattle.unit_rule.specs.Marks.{Holds};
+ghost use Rattle.device_steps.specs.Rule.{Both, opened, number_of, CardHolds, IsKeptUp};
+
+use activity_codec::Entry;
+use tach_media::{Failed, Medium};
+use tacho_types::FullCardNumber;
+use trace_model::Card;
+use unit_journal::Journal;
+
+/// Puts the entry of the minute that comes next among those that are owed to a card which was accepted, in the slot or torn out
+/// since. Its number has a row.
+///
+/// # Errors
+///
+/// `Failed` where the unit failed; then the entry may be there or not.
+pub fn owe<M: Medium, C: Medium, D: Medium>(
+    unit: &mut M,
+    journal: &mut Journal,
+    mine: &C,
+    others: &D,
+    which: Card,
+    number: &FullCardNumber,
+    entry: &Entry,
+) -> Result<(), Failed>
+    requires unit { IsUnit (M.state unit.old) }
+    requires agrees { IfSome (M.state unit.old).image (Agrees journal.old) }
+    requires row { IfSome (M.state unit.old).image (HasRow (card_number_bytes number.now)) }
+    ensures unit { IsUnit (M.state unit.new) }
+    ensures same { journal.new ≡ journal.old }
+    ensures agrees { OnOk result (IfSome (M.state unit.new).image (Agrees journal.old)) }
+    ensures holds { (s : Started) (due : ℕ) (b : Book) (marks : List Mark) → Holds s due b marks (M.state unit.old) → Holds s due b marks (M.state unit.new) }
+    ensures mine { (r : Both) (s : Started) (due : ℕ) (b : Book) (marks : List Mark) (z : Standing) → card_number_bytes number.now ≡ number_of r which → Holds s due b marks (M.state unit.old)
+        → due ≤ entry.now.minute → 1440 ≤ entry.now.minute → IsPresent (opened r which).start z entry.now.minute → CardHolds r which b z [] [] (M.state unit.old) (C.state mine.now)
+        → IsKeptUp r which b z (entry.now ∷ []) [] (is_err result) (M.state unit.new) (C.state mine.now) }
+    ensures other { (r : Both) (s : Started) (due : ℕ) (b : Book) (marks : List Mark) (y z : Standing) (m d : List Entry) → card_number_bytes number.now ≡ number_of r which → Holds s due b marks (M.state unit.old)
+        → due ≤ entry.now.minute → 1440 ≤ entry.now.minute → CardHolds r which b y [] [] (M.state unit.old) (C.state mine.now) → CardHolds r (other which) b z m d (M.state unit.old) (D.state others.now)
+        → IsKeptUp r (other which) b z m d (is_err result) (M.state unit.new) (D.state others.now) }
+    ensures rows { (n : List ℕ) → IfSome (M.state unit.old).image (HasRow n) → OnOk result (IfSome (M.state unit.new).image (HasRow n)) }
+    ensures clock { (M.state unit.old).clock ≤ (M.state unit.new).clock }
+    ensures tells { is_some (M.state unit.new).image ≡ is_some (M.state unit.old).image }
+    ensures cause { HasCause (M.state unit.old) (M.state unit.new) (is_err result) }
+{
+    journal.put_owed(unit, number, entry)
+}
