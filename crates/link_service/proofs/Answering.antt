@@ -21,7 +21,7 @@ use Rattle.link_service.specs.Served.{Stops, StopsWithin}
 use Rattle.link_service.specs.declared.fault.ServeFault.{ServeFault}
 use Rattle.link_service.specs.declared.fault.ServeFault.TheVariants.{ReadFault, WriteFault, Failed, BadUnit, TooLong}
 use Rattle.link_service.specs.declared.line.Line.{Line}
-use Rattle.link_service.proofs.Lines.{none_answered, answered_on, stops_behind}
+use Rattle.link_service.proofs.Joined.{none_answered, answered_on, stops_behind}
 use Rattle.link_service.proofs.Streams.{from, heard_next, heard_all, kept_next}
 
 -- So many of these bytes were taken, and what was heard in them was answered.

@@ -16,7 +16,7 @@ use Rattle.link_service.specs.Lines.{listening, IsAnswered}
 use Rattle.link_service.specs.Served.{Stops}
 use Rattle.link_service.specs.declared.fault.ServeFault.{ServeFault}
 use Rattle.link_service.specs.declared.line.Line.{Line}
-use Rattle.link_service.proofs.Lines.{stops_more}
+use Rattle.link_service.proofs.Joined.{stops_more}
 use Rattle.link_service.proofs.Streams.{heard_split}
 
 abbrev scan_of : End → List ℕ → Scan

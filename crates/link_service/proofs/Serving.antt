@@ -24,7 +24,7 @@ use Rattle.link_service.specs.declared.fault.ServeFault.{ServeFault}
 use Rattle.link_service.specs.declared.fault.ServeFault.TheVariants.{ReadFault}
 use Rattle.link_service.specs.declared.line.Line.{Line}
 use Rattle.link_service.specs.declared.service.TheConstants.{MOST}
-use Rattle.link_service.proofs.Lines.{none_answered, answered_on}
+use Rattle.link_service.proofs.Joined.{none_answered, answered_on}
 use Rattle.link_service.proofs.Streams.{ends}
 use Rattle.link_service.proofs.Faults.{err_is}
 

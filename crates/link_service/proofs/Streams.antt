@@ -15,7 +15,7 @@ use Rattle.link_service.specs.Served.{Stops, StopsWithin, Sends}
 use Rattle.link_service.specs.declared.fault.ServeFault.{ServeFault}
 use Rattle.link_service.specs.declared.fault.ServeFault.TheVariants.{ReadFault, WriteFault, Failed, BadUnit, TooLong}
 use Rattle.link_service.specs.declared.service.TheConstants.{MOST}
-use Rattle.link_service.proofs.Lines.{sent_on, stops_behind}
+use Rattle.link_service.proofs.Joined.{sent_on, stops_behind}
 
 -- the bytes from a place on, as a slice names them
 abbrev pub from : ℕ → List ℕ → List ℕ

@@ -1,18 +1,21 @@
 -- How a service of lines ends.
-use Rattle.std.specs.Prelude.{◌≡◌, ◌≢◌, ◌⊎◌, ℕ, ◌+◌, ◌<◌, ◌≤◌, Bool, true, false, Option, Some, None, List, [], ◌∷◌, ◌++◌, length, take, Result, Ok, Err}
+use Rattle.std.specs.Prelude.{◌≡◌, ◌≢◌, ◌⊎◌, ℕ, ◌+◌, ◌<◌, ◌≤◌, Bool, true, false, Option, Some, None, IfSome, List, [], ◌∷◌, ◌++◌, length, take, Result, Ok, Err}
 use Rattle.std.specs.Io.KnownBytes.{Appends, Consumes, IsAtEnd}
 use Rattle.text_fields.specs.Pieces.{pieces}
 use Rattle.hex_lines.specs.Lines.{line_bytes}
 use Rattle.link_model.specs.declared.request.Request.{Request}
 use Rattle.link_model.specs.declared.side.End.TheVariants as side
-use Rattle.link_model.specs.Hearing.{heard_in}
-use Rattle.link_model.specs.Answers.{Idle, run_from}
+use Rattle.link_model.specs.Hearing.{heard_in, kept_after}
+use Rattle.link_model.specs.Answers.{LinkState, Idle, run_from}
+use Rattle.link_frames.specs.Scanning.{Scan}
+use Rattle.message_model.specs.Sending.{content_sent}
 use Rattle.link_service.specs.declared.line.Spelling.TheVariants.{HexLines}
+use Rattle.link_service.specs.declared.fault.ServeFault.{ServeFault}
 use Rattle.link_service.specs.declared.fault.ServeFault.TheVariants.{ReadFault, WriteFault, Failed, BadUnit, TooLong}
 use Rattle.link_service.specs.declared.fault.LinesFault.{LinesFault}
 use Rattle.link_service.specs.declared.fault.LinesFault.TheVariants.{Ended, BadLine, Memory}
 use Rattle.link_service.specs.declared.service.TheConstants.{MOST}
-use Rattle.link_service.specs.Lines.{bytes_of}
+use Rattle.link_service.specs.Lines.{listening, bytes_of, IsAnswered}
 use Rattle.link_service.specs.Served.{Stops}
 
 -- two texts' bytes one after the other, where both spell some
@@ -107,3 +110,53 @@ AreCaused Memory read wrote Bad = Unit {0}
 abbrev pub have_failed : {T : Type 0} → Result T LinesFault → Bool
 have_failed (Err (Ended Failed)) = true
 have_failed _ = false
+
+-- From where the unit stood these lines have ended, of which so many were whole before: they spell bytes, the frames in them were
+-- answered, this stands behind them, and these lines behind that.
+pub record AreHeard (all rest : List (List ℕ)) (whole : ℕ) (kept : List ℕ) (state : LinkState) (text : List ℕ) (reached : ℕ) (scanner : Scan) (after : LinkState) (image held sunk : Option (List ℕ)) : Type 0 where
+  pub ended : List (List ℕ)
+  pub bytes : List ℕ
+  pub stands : all ≡ ended ++ text ∷ rest
+  pub spell : bytes_in ended ≡ Some bytes
+  pub count : reached ≡ whole + length ended
+  pub hears : scanner ≡ listening (kept_after side.Unit kept bytes)
+  pub answered : IfSome image (λ x. IsAnswered HexLines (content_sent x) state (heard_in side.Unit kept bytes) after held sunk)
+
+-- a line spells bytes, and the frames in them were answered
+pub record IsHeard (line kept : List ℕ) (state : LinkState) (scanner : Scan) (after : LinkState) (image held sunk : Option (List ℕ)) : Type 0 where
+  pub bytes : List ℕ
+  pub spell : line_bytes line ≡ Some bytes
+  pub hears : scanner ≡ listening (kept_after side.Unit kept bytes)
+  pub answered : IfSome image (λ x. IsAnswered HexLines (content_sent x) state (heard_in side.Unit kept bytes) after held sunk)
+
+-- a line spells bytes, and the sink or the unit ended the service at the frames in them
+pub record StopsInLine (fault : ServeFault) (messages : Request → Option (List ℕ)) (state : LinkState) (kept line : List ℕ) (held sunk : Option (List ℕ)) : Type 0 where
+  pub bytes : List ℕ
+  pub spell : line_bytes line ≡ Some bytes
+  pub stops : Stops HexLines fault messages state (heard_in side.Unit kept bytes) held sunk
+
+-- why a service ends at a line of this number
+abbrev pub StopsAt : LinesFault → (Request → Option (List ℕ)) → LinkState → (kept line : List ℕ) → (number : ℕ) → (held sunk : Option (List ℕ)) → Type 0
+StopsAt (Ended fault) messages state kept line number held sunk = StopsInLine fault messages state kept line held sunk
+StopsAt (BadLine found) messages state kept line number held sunk = (found ≡ number) × (line_bytes line ≡ None) × (sunk ≡ held)
+StopsAt Memory messages state kept line number held sunk = sunk ≡ held
+
+-- where it ends for its spelling, the line has ended
+abbrev pub EndedWhere : LinesFault → Type 0 → Type 0
+EndedWhere (Ended fault) P = Unit {0}
+EndedWhere (BadLine found) P = P
+EndedWhere Memory P = Unit {0}
+
+-- From where the unit stood a service ended at one of these lines: those before it spell bytes, and the frames in them were answered.
+pub record StopsAmong (fault : LinesFault) (source : Type 0) (all : List (List ℕ)) (messages : Request → Option (List ℕ)) (whole : ℕ) (kept : List ℕ) (state : LinkState) (held sunk : Option (List ℕ)) : Type 0 where
+  pub before : List (List ℕ)
+  pub line : List ℕ
+  pub behind : List (List ℕ)
+  pub bytes : List ℕ
+  pub reached : LinkState
+  pub mid : Option (List ℕ)
+  pub stands : all ≡ before ++ line ∷ behind
+  pub ended : EndedWhere fault ((behind ≢ []) ⊎ source)
+  pub spell : bytes_in before ≡ Some bytes
+  pub answered : IsAnswered HexLines messages state (heard_in side.Unit kept bytes) reached held mid
+  pub stops : StopsAt fault messages reached (kept_after side.Unit kept bytes) line (whole + length before + 1) mid sunk

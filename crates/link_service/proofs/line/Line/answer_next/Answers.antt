@@ -4,7 +4,7 @@ use Rattle.link_model.specs.Frames.{Heard}
 use Rattle.link_frames.specs.Seen.{meant}
 use Rattle.message_model.specs.Sending.{content_sent}
 use Rattle.link_service.specs.Lines.{IsAnswered}
-use Rattle.link_service.proofs.Lines.{none_answered}
+use Rattle.link_service.proofs.Joined.{none_answered}
 use Rattle.link_service.proofs.Feeding.{kept_by, heard_none, heard_one, none_is, some_taken, stopped_at, answered_at}
 use Rattle.link_service.proofs.Faults.{passed}
 use Rattle.link_service.proofs.line.Line.answer_next.Goals as goal
