@@ -39,31 +39,31 @@ lines-done (Err (lines.BadLine number)) is p = absurd (cc)
 lines-done (Err lines.Memory) is p = absurd (cc)
 
 -- a fault's cause, as of a service of bytes
-ended-cause : {read wrote : Type 0} {Bad : ℕ → Type 0} (fault : ServeFault) → AreCaused (lines.Ended fault) read wrote Bad → IsCaused fault read wrote Bad
-ended-cause service.ReadFault cause = cause
-ended-cause service.WriteFault cause = cause
-ended-cause service.Failed cause = cause
-ended-cause (service.BadUnit place) cause = cause
-ended-cause service.TooLong cause = cause
+ended-cause : (read wrote : Type 0) (Bad : ℕ → Type 0) (fault : ServeFault) → AreCaused (lines.Ended fault) read wrote Bad → IsCaused fault read wrote Bad
+ended-cause read wrote Bad service.ReadFault cause = cause
+ended-cause read wrote Bad service.WriteFault cause = cause
+ended-cause read wrote Bad service.Failed cause = cause
+ended-cause read wrote Bad (service.BadUnit place) cause = cause
+ended-cause read wrote Bad service.TooLong cause = cause
 
 abbrev LinesCause : (read wrote : Type 0) (Bad : ℕ → Type 0) → Result (Unit {0}) LinesFault → Type 0
 LinesCause read wrote Bad r = IfErr r (λ fault. AreCaused fault read wrote Bad)
 
 lines-read : (read wrote : Type 0) (Bad : ℕ → Type 0) (r : Result (Unit {0}) LinesFault) → end_of_lines r ≡ ReadFault → LinesCause read wrote Bad r → read
 lines-read read wrote Bad (Ok done) is cause = absurd (cc)
-lines-read read wrote Bad (Err (lines.Ended fault)) is cause = of-read read wrote Bad (Err fault) is (ended-cause {read = read} {wrote = wrote} {Bad = Bad} fault cause)
+lines-read read wrote Bad (Err (lines.Ended fault)) is cause = of-read read wrote Bad (Err fault) is (ended-cause read wrote Bad fault cause)
 lines-read read wrote Bad (Err (lines.BadLine number)) is cause = absurd (cc)
 lines-read read wrote Bad (Err lines.Memory) is cause = absurd (cc)
 
 lines-write : (read wrote : Type 0) (Bad : ℕ → Type 0) (r : Result (Unit {0}) LinesFault) → end_of_lines r ≡ WriteFault → LinesCause read wrote Bad r → wrote
 lines-write read wrote Bad (Ok done) is cause = absurd (cc)
-lines-write read wrote Bad (Err (lines.Ended fault)) is cause = of-write read wrote Bad (Err fault) is (ended-cause {read = read} {wrote = wrote} {Bad = Bad} fault cause)
+lines-write read wrote Bad (Err (lines.Ended fault)) is cause = of-write read wrote Bad (Err fault) is (ended-cause read wrote Bad fault cause)
 lines-write read wrote Bad (Err (lines.BadLine number)) is cause = absurd (cc)
 lines-write read wrote Bad (Err lines.Memory) is cause = absurd (cc)
 
 lines-bad : (read wrote : Type 0) (Bad : ℕ → Type 0) (r : Result (Unit {0}) LinesFault) (place : ℕ) → end_of_lines r ≡ BadUnit place → LinesCause read wrote Bad r → Bad place
 lines-bad read wrote Bad (Ok done) place is cause = absurd (cc)
-lines-bad read wrote Bad (Err (lines.Ended fault)) place is cause = of-bad read wrote Bad (Err fault) place is (ended-cause {read = read} {wrote = wrote} {Bad = Bad} fault cause)
+lines-bad read wrote Bad (Err (lines.Ended fault)) place is cause = of-bad read wrote Bad (Err fault) place is (ended-cause read wrote Bad fault cause)
 lines-bad read wrote Bad (Err (lines.BadLine number)) place is cause = absurd (cc)
 lines-bad read wrote Bad (Err lines.Memory) place is cause = absurd (cc)
 
