@@ -11,11 +11,12 @@ use Rattle.link_frames.specs.Seen.{meant}
 use Rattle.link_frames.specs.Scanning.{Scan}
 use Rattle.message_model.specs.Sending.{content_sent}
 use Rattle.link_model.specs.Answers.{LinkState}
+use Rattle.link_service.specs.declared.line.Spelling.{Spelling}
 use Rattle.link_service.specs.Lines.{listening, IsAnswered}
 use Rattle.link_service.specs.Served.{Stops}
 use Rattle.link_service.specs.declared.fault.ServeFault.{ServeFault}
 use Rattle.link_service.specs.declared.line.Line.{Line}
-use Rattle.link_service.proofs.Lines.{stops_more}
+use Rattle.link_service.proofs.Joined.{stops_more}
 use Rattle.link_service.proofs.Streams.{heard_split}
 
 abbrev scan_of : End → List ℕ → Scan
@@ -47,17 +48,17 @@ some_taken zero kept bytes heard is = absurd (cc)
 some_taken (suc n) kept bytes heard is = omega arith
 
 -- the answers end at the first frame in the bytes
-pub stopped_at : (o : Option (List ℕ)) (fault : ServeFault) (line : Line) (bytes : List ℕ) (n : ℕ) (heard : Heard) (h k : Option (List ℕ)) → heard_in side.Unit line.scanner.kept (take n bytes) ≡ heard ∷ []
-    → IfSome o (λ x. Stops fault (content_sent x) line.session.state (heard ∷ []) h k)
-    → IfSome o (λ x. Stops fault (content_sent x) line.session.state (heard_in side.Unit line.scanner.kept bytes) h k)
-stopped_at o fault line bytes n heard h k is stops =
+pub stopped_at : (spelling : Spelling) (o : Option (List ℕ)) (fault : ServeFault) (line : Line) (bytes : List ℕ) (n : ℕ) (heard : Heard) (h k : Option (List ℕ)) → heard_in side.Unit line.scanner.kept (take n bytes) ≡ heard ∷ []
+    → IfSome o (λ x. Stops spelling fault (content_sent x) line.session.state (heard ∷ []) h k)
+    → IfSome o (λ x. Stops spelling fault (content_sent x) line.session.state (heard_in side.Unit line.scanner.kept bytes) h k)
+stopped_at spelling o fault line bytes n heard h k is stops =
     let kept : List ℕ = line.scanner.kept in
     let more : List Heard = heard_in side.Unit (kept_after side.Unit kept (take n bytes)) (drop n bytes) in
     let all : (heard ∷ []) ++ more ≡ heard_in side.Unit kept bytes = ap (λ (l : List Heard). l ++ more) (sym is) ∙ heard_split kept bytes n in
-    one_told o _ stops (λ x p. subst (λ (seen : List Heard). Stops fault (content_sent x) line.session.state seen h k) all
-    (stops_more fault (content_sent x) line.session.state (heard ∷ []) more h k p))
+    one_told o _ stops (λ x p. subst (λ (seen : List Heard). Stops spelling fault (content_sent x) line.session.state seen h k) all
+    (stops_more spelling fault (content_sent x) line.session.state (heard ∷ []) more h k p))
 
 -- what was answered, by another name of what was heard
-pub answered_at : (o : Option (List ℕ)) (before after : LinkState) (seen heard : List Heard) (h k : Option (List ℕ)) → seen ≡ heard
-    → IfSome o (λ x. IsAnswered (content_sent x) before seen after h k) → IfSome o (λ x. IsAnswered (content_sent x) before heard after h k)
-answered_at o before after seen heard h k is answered = subst (λ (l : List Heard). IfSome o (λ x. IsAnswered (content_sent x) before l after h k)) is answered
+pub answered_at : (spelling : Spelling) (o : Option (List ℕ)) (before after : LinkState) (seen heard : List Heard) (h k : Option (List ℕ)) → seen ≡ heard
+    → IfSome o (λ x. IsAnswered spelling (content_sent x) before seen after h k) → IfSome o (λ x. IsAnswered spelling (content_sent x) before heard after h k)
+answered_at spelling o before after seen heard h k is answered = subst (λ (l : List Heard). IfSome o (λ x. IsAnswered spelling (content_sent x) before l after h k)) is answered

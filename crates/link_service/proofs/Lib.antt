@@ -1,7 +1,12 @@
-pub mod Lines
+pub mod Joined
 pub mod Frames
 pub mod Streams
 pub mod Serving
 pub mod Answering
 pub mod Faults
 pub mod Feeding
+pub mod Pieces
+pub mod Heard
+pub mod Taking
+pub mod ServingLines
+pub mod LinesFaults

@@ -17,13 +17,14 @@ use Rattle.unit_journal.specs.Reading.{ReadsIfAny}
 use Rattle.unit_journal.proofs.IfAny.{read_same}
 use Rattle.transfer_session.specs.Told.{SessionView, Knows, fresh}
 use Rattle.unit_messages.proofs.Calls.{no_call, any_then}
+use Rattle.link_service.specs.declared.line.Spelling.TheVariants.{Bytes}
 use Rattle.link_service.specs.Lines.{listening, IsAnswered}
 use Rattle.link_service.specs.Served.{StopsWithin, IsServed}
 use Rattle.link_service.specs.declared.fault.ServeFault.{ServeFault}
 use Rattle.link_service.specs.declared.fault.ServeFault.TheVariants.{ReadFault}
 use Rattle.link_service.specs.declared.line.Line.{Line}
 use Rattle.link_service.specs.declared.service.TheConstants.{MOST}
-use Rattle.link_service.proofs.Lines.{none_answered, answered_on}
+use Rattle.link_service.proofs.Joined.{none_answered, answered_on}
 use Rattle.link_service.proofs.Streams.{ends}
 use Rattle.link_service.proofs.Faults.{err_is}
 
@@ -34,7 +35,7 @@ pub record IsServing (turn left : ℕ) (before unread : Option (List ℕ)) (line
   pub count : length came + left ≡ MOST
   pub consumed : Consumes before unread came
   pub scanner : line.scanner ≡ listening (kept_after side.Unit [] came)
-  pub answered : IfSome old.image (λ x. IsAnswered (content_sent x) Idle (heard_in side.Unit [] came) line.session.state held sunk)
+  pub answered : IfSome old.image (λ x. IsAnswered Bytes (content_sent x) Idle (heard_in side.Unit [] came) line.session.state held sunk)
   pub knows : IfSome old.image (Knows line.session)
   pub reads : ReadsIfAny old new false
 
@@ -49,7 +50,7 @@ serving_none before held line s scanner session = record {
   count = refl;
   consumed = Consumes-nil before;
   scanner = scanner;
-  answered = told_all s.image _ (λ x is. subst (λ (t : LinkState). IsAnswered (content_sent x) Idle [] t held held) (sym (ap (λ (v : SessionView). v.state) session)) (none_answered (content_sent x) Idle held));
+  answered = told_all s.image _ (λ x is. subst (λ (t : LinkState). IsAnswered Bytes (content_sent x) Idle [] t held held) (sym (ap (λ (v : SessionView). v.state) session)) (none_answered Bytes (content_sent x) Idle held));
   knows = told_all s.image _ (λ x is. subst (λ (v : SessionView). Knows v x) (sym session) (fresh_knows Idle x));
   reads = no_call s;
 }
@@ -71,7 +72,7 @@ still_known {turn} {left} {a} {b} {line} {old} {mid} {h} {k} s = carried (Knows 
 pub serving_on : {turn left : ℕ} {a b : Option (List ℕ)} {line : Line} {old mid : State} {h k : Option (List ℕ)} (c : Option (List ℕ)) (next : Line) (new : State) (l : Option (List ℕ)) (bytes : List ℕ) (n : ℕ)
     → IsServing turn left a b line old mid h k → length bytes ≡ n → 0 < n → length bytes ≤ left → Consumes b c bytes
     → next.scanner ≡ listening (kept_after side.Unit line.scanner.kept bytes)
-    → IfSome mid.image (λ x. IsAnswered (content_sent x) line.session.state (heard_in side.Unit line.scanner.kept bytes) next.session.state k l)
+    → IfSome mid.image (λ x. IsAnswered Bytes (content_sent x) line.session.state (heard_in side.Unit line.scanner.kept bytes) next.session.state k l)
     → IfSome mid.image (Knows next.session) → ReadsIfAny mid new false → IsServing (turn + 1) (left - n) a c next old new h l
 serving_on {turn} {left} {a} {b} {line} {old} {mid} {h} {k} c next new l bytes n s long some few consumed scanner answered knows reads =
     let same = read_same s.reads in
@@ -82,9 +83,9 @@ serving_on {turn} {left} {a} {b} {line} {old} {mid} {h} {k} c next new l bytes n
       consumed = Consumes-trans a b c s.came bytes s.consumed consumed;
       scanner = scanner ∙ ap (λ (scan : Scan). listening (kept_after side.Unit scan.kept bytes)) s.scanner ∙ ap (λ (kept : List ℕ). listening kept) (sym (kept_append side.Unit [] s.came bytes));
       answered = both_told old.image _ s.answered
-          (carried (λ x. IsAnswered (content_sent x) line.session.state (heard_in side.Unit line.scanner.kept bytes) next.session.state k l) same answered)
-          (λ x is f g. subst (λ (seen : List Heard). IsAnswered (content_sent x) Idle seen next.session.state h l) (next_heard line.scanner s.came bytes s.scanner)
-          (answered_on (content_sent x) Idle line.session.state next.session.state (heard_in side.Unit [] s.came) (heard_in side.Unit line.scanner.kept bytes) h k l f g));
+          (carried (λ x. IsAnswered Bytes (content_sent x) line.session.state (heard_in side.Unit line.scanner.kept bytes) next.session.state k l) same answered)
+          (λ x is f g. subst (λ (seen : List Heard). IsAnswered Bytes (content_sent x) Idle seen next.session.state h l) (next_heard line.scanner s.came bytes s.scanner)
+          (answered_on Bytes (content_sent x) Idle line.session.state next.session.state (heard_in side.Unit [] s.came) (heard_in side.Unit line.scanner.kept bytes) h k l f g));
       knows = carried (Knows next.session) same knows;
       reads = any_then s.reads reads;
     }
@@ -92,21 +93,21 @@ serving_on {turn} {left} {a} {b} {line} {old} {mid} {h} {k} c next new l bytes n
 -- the service ends by the next bytes
 ends_so : (T : Type 0) {turn left : ℕ} {a b : Option (List ℕ)} {line : Line} {old mid : State} {h k : Option (List ℕ)} (c l : Option (List ℕ)) (bytes : List ℕ) (fault : ServeFault)
     → IsServing turn left a b line old mid h k → Consumes b c bytes
-    → IfSome mid.image (λ x. StopsWithin fault (content_sent x) line.session.state line.scanner.kept left bytes k l)
+    → IfSome mid.image (λ x. StopsWithin Bytes fault (content_sent x) line.session.state line.scanner.kept left bytes k l)
     → IfSome old.image (λ x. IsServed {T = T} (Err fault) (content_sent x) a c h l)
 ends_so T {turn} {left} {a} {b} {line} {old} {mid} {h} {k} c l bytes fault s consumed stops =
     both_told old.image _ s.answered
-    (carried (λ x. StopsWithin fault (content_sent x) line.session.state line.scanner.kept left bytes k l) (read_same s.reads) stops)
+    (carried (λ x. StopsWithin Bytes fault (content_sent x) line.session.state line.scanner.kept left bytes k l) (read_same s.reads) stops)
     (λ x is f g. record {
       came = s.came ++ bytes;
       consumed = Consumes-trans a b c s.came bytes s.consumed consumed;
       sends = ends T fault (content_sent x) line.session.state s.came bytes left h k l s.count f
-          (subst (λ (scan : Scan). StopsWithin fault (content_sent x) line.session.state scan.kept left bytes k l) s.scanner g);
+          (subst (λ (scan : Scan). StopsWithin Bytes fault (content_sent x) line.session.state scan.kept left bytes k l) s.scanner g);
     })
 
 pub serving_ends : {T : Type 0} (r : Result T ServeFault) {turn left : ℕ} {a b : Option (List ℕ)} {line : Line} {old mid : State} {h k : Option (List ℕ)} (c l : Option (List ℕ)) (bytes : List ℕ)
     (fault : ServeFault) → IsErrAnd r (λ e. e ≡ fault) → IsServing turn left a b line old mid h k → Consumes b c bytes
-    → IfSome mid.image (λ x. StopsWithin fault (content_sent x) line.session.state line.scanner.kept left bytes k l)
+    → IfSome mid.image (λ x. StopsWithin Bytes fault (content_sent x) line.session.state line.scanner.kept left bytes k l)
     → IfSome old.image (λ x. IsServed r (content_sent x) a c h l)
 serving_ends {T} r {turn} {left} {a} {b} {line} {old} {mid} {h} {k} c l bytes fault is s consumed stops =
     subst (λ (q : Result T ServeFault). IfSome old.image (λ x. IsServed q (content_sent x) a c h l)) (sym (err_is r fault is)) (ends_so T c l bytes fault s consumed stops)

@@ -9,12 +9,13 @@ use Rattle.link_model.specs.Frames.{Heard}
 use Rattle.link_model.specs.Hearing.{heard_in, kept_after}
 use Rattle.link_model.specs.Answers.{LinkState, Idle, run_from}
 use Rattle.link_model.proofs.Runs.{heard_append, kept_append}
+use Rattle.link_service.specs.declared.line.Spelling.TheVariants.{Bytes}
 use Rattle.link_service.specs.Lines.{bytes_of, IsAnswered}
 use Rattle.link_service.specs.Served.{Stops, StopsWithin, Sends}
 use Rattle.link_service.specs.declared.fault.ServeFault.{ServeFault}
 use Rattle.link_service.specs.declared.fault.ServeFault.TheVariants.{ReadFault, WriteFault, Failed, BadUnit, TooLong}
 use Rattle.link_service.specs.declared.service.TheConstants.{MOST}
-use Rattle.link_service.proofs.Lines.{sent_on, stops_behind}
+use Rattle.link_service.proofs.Joined.{sent_on, stops_behind}
 
 -- the bytes from a place on, as a slice names them
 abbrev pub from : ℕ → List ℕ → List ℕ
@@ -52,19 +53,19 @@ first_heard came bytes left count = sym (heard_append side.Unit [] came (take le
 
 -- how a service ends by the next bytes
 pub ends : (T : Type 0) (fault : ServeFault) (messages : Request → Option (List ℕ)) (state : LinkState) (came bytes : List ℕ) (left : ℕ) (h k l : Option (List ℕ)) → length came + left ≡ MOST
-    → IsAnswered messages Idle (heard_in side.Unit [] came) state h k → StopsWithin fault messages state (kept_after side.Unit [] came) left bytes k l → Sends {T = T} (Err fault) messages (came ++ bytes) h l
+    → IsAnswered Bytes messages Idle (heard_in side.Unit [] came) state h k → StopsWithin Bytes fault messages state (kept_after side.Unit [] came) left bytes k l → Sends {T = T} (Err fault) messages (came ++ bytes) h l
 ends T ReadFault messages state came bytes left h k l count f p = absurd p
 ends T WriteFault messages state came bytes left h k l count f p =
-    subst (λ (seen : List Heard). Stops WriteFault messages Idle seen h l) (first_heard came bytes left count)
-    (stops_behind WriteFault messages Idle state (heard_in side.Unit [] came) (heard_in side.Unit (kept_after side.Unit [] came) (take left bytes)) h k l f p)
+    subst (λ (seen : List Heard). Stops Bytes WriteFault messages Idle seen h l) (first_heard came bytes left count)
+    (stops_behind Bytes WriteFault messages Idle state (heard_in side.Unit [] came) (heard_in side.Unit (kept_after side.Unit [] came) (take left bytes)) h k l f p)
 ends T Failed messages state came bytes left h k l count f p =
-    subst (λ (seen : List Heard). Stops Failed messages Idle seen h l) (first_heard came bytes left count)
-    (stops_behind Failed messages Idle state (heard_in side.Unit [] came) (heard_in side.Unit (kept_after side.Unit [] came) (take left bytes)) h k l f p)
+    subst (λ (seen : List Heard). Stops Bytes Failed messages Idle seen h l) (first_heard came bytes left count)
+    (stops_behind Bytes Failed messages Idle state (heard_in side.Unit [] came) (heard_in side.Unit (kept_after side.Unit [] came) (take left bytes)) h k l f p)
 ends T (BadUnit place) messages state came bytes left h k l count f p =
-    subst (λ (seen : List Heard). Stops (BadUnit place) messages Idle seen h l) (first_heard came bytes left count)
-    (stops_behind (BadUnit place) messages Idle state (heard_in side.Unit [] came) (heard_in side.Unit (kept_after side.Unit [] came) (take left bytes)) h k l f p)
+    subst (λ (seen : List Heard). Stops Bytes (BadUnit place) messages Idle seen h l) (first_heard came bytes left count)
+    (stops_behind Bytes (BadUnit place) messages Idle state (heard_in side.Unit [] came) (heard_in side.Unit (kept_after side.Unit [] came) (take left bytes)) h k l f p)
 ends T TooLong messages state came bytes left h k l count f p = (
   omega (arith, length-append came bytes, p.0),
-  subst (λ (seen : List Heard). Appends h l (bytes_of (run_from messages Idle seen))) (first_heard came bytes left count)
-      (sent_on messages Idle state (heard_in side.Unit [] came) (heard_in side.Unit (kept_after side.Unit [] came) (take left bytes)) h k l f p.1),
+  subst (λ (seen : List Heard). Appends h l (bytes_of Bytes (run_from messages Idle seen))) (first_heard came bytes left count)
+      (sent_on Bytes messages Idle state (heard_in side.Unit [] came) (heard_in side.Unit (kept_after side.Unit [] came) (take left bytes)) h k l f p.1),
 )

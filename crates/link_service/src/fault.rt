@@ -15,6 +15,28 @@ pub enum ServeFault {
     TooLong,
 }
 
+/// Why a service of lines ended before its source.
+#[derive(Clone, Copy, Debug, PartialEq, Eq)]
+pub enum LinesFault {
+    /// As a service of bytes ends.
+    Ended(ServeFault),
+    /// This line, from 1, spells no bytes.
+    BadLine(u32),
+    /// Out of memory.
+    Memory,
+}
+
+impl From<ServeFault> for LinesFault {
+    ghost use Rattle.std.specs.Prelude.{◌≡◌};
+    ghost use Rattle.link_service.specs.declared.fault.LinesFault.{LinesFault};
+
+    ghost from_gives = { λ fault made. made ≡ LinesFault.Ended fault };
+
+    fn from(fault: ServeFault) -> LinesFault {
+        LinesFault::Ended(fault)
+    }
+}
+
 impl From<AnswerFault> for ServeFault {
     ghost use Rattle.std.specs.Prelude.{◌≡◌};
     ghost use Rattle.link_service.specs.Served.{fault_of};

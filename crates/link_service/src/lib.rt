@@ -1,12 +1,15 @@
 //! The service of a unit on the link (Annex IB, Appendix 7): bytes come from a source in any pieces, each frame among them is
-//! answered by a session, and the answers go to a sink. It takes no memory from the heap.
+//! answered by a session, and the answers go to a sink. It takes no memory from the heap; but for a service of lines of hexadecimal
+//! digits, which keeps a line until it ends.
 #![tactic(auto)]
 
 mod fault;
 mod line;
+mod lines;
 mod service;
 
-pub use fault::ServeFault;
+pub use fault::{LinesFault, ServeFault};
+pub use lines::serve_lines;
 pub use service::{MOST, serve};
 
 #[cfg(test)]

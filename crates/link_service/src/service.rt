@@ -8,7 +8,7 @@ ghost use Rattle.unit_journal.specs.Reading.{ReadsIfAny};
 ghost use Rattle.link_service.specs.Served.{IsServed, has_failed, IsCaused};
 
 use crate::fault::ServeFault;
-use crate::line::Line;
+use crate::line::{Line, Spelling};
 use tach_media::{Medium, Sink, Source};
 
 /// The most bytes that a service answers.
@@ -46,7 +46,7 @@ pub fn serve<S: Source, K: Sink, U: Medium>(
         if count == 0 {
             return Ok(());
         }
-        line.answer_within(&block[..count], left, sink, unit)?;
+        line.answer_within(Spelling::Bytes, &block[..count], left, sink, unit)?;
         left -= count;
     }
     unreachable!()

@@ -10,3 +10,4 @@ pub mod WordRows
 pub mod Lines
 pub mod Recordings
 pub mod Services
+pub mod LineServices

@@ -22,7 +22,7 @@ use Rattle.tacho.specs.Serving.{end_of_service, EndsServe}
 use Rattle.tacho.specs.Program.{Ends}
 
 -- a service never ends for words in no form
-not-usage : (r : Result (Unit {0}) ServeFault) → end_of_service r ≡ Usage → ⊥
+pub not-usage : (r : Result (Unit {0}) ServeFault) → end_of_service r ≡ Usage → ⊥
 not-usage (Ok done) is = cc
 not-usage (Err service.ReadFault) is = cc
 not-usage (Err service.WriteFault) is = cc
@@ -31,7 +31,7 @@ not-usage (Err (service.BadUnit place)) is = cc
 not-usage (Err service.TooLong) is = cc
 
 -- what holds where all was answered
-of-done : {P : Type 0} (r : Result (Unit {0}) ServeFault) → end_of_service r ≡ Done → OnOk r P → P
+pub of-done : {P : Type 0} (r : Result (Unit {0}) ServeFault) → end_of_service r ≡ Done → OnOk r P → P
 of-done (Ok done) is p = p
 of-done (Err service.ReadFault) is p = absurd (cc)
 of-done (Err service.WriteFault) is p = absurd (cc)
@@ -40,10 +40,10 @@ of-done (Err (service.BadUnit place)) is p = absurd (cc)
 of-done (Err service.TooLong) is p = absurd (cc)
 
 -- a fault's cause
-abbrev Cause : (read wrote : Type 0) (Bad : ℕ → Type 0) → Result (Unit {0}) ServeFault → Type 0
+abbrev pub Cause : (read wrote : Type 0) (Bad : ℕ → Type 0) → Result (Unit {0}) ServeFault → Type 0
 Cause read wrote Bad r = IfErr r (λ fault. IsCaused fault read wrote Bad)
 
-of-read : (read wrote : Type 0) (Bad : ℕ → Type 0) (r : Result (Unit {0}) ServeFault) → end_of_service r ≡ ReadFault → Cause read wrote Bad r → read
+pub of-read : (read wrote : Type 0) (Bad : ℕ → Type 0) (r : Result (Unit {0}) ServeFault) → end_of_service r ≡ ReadFault → Cause read wrote Bad r → read
 of-read read wrote Bad (Err service.ReadFault) is cause = cause
 of-read read wrote Bad (Ok done) is cause = absurd (cc)
 of-read read wrote Bad (Err service.WriteFault) is cause = absurd (cc)
@@ -51,7 +51,7 @@ of-read read wrote Bad (Err service.Failed) is cause = absurd (cc)
 of-read read wrote Bad (Err (service.BadUnit place)) is cause = absurd (cc)
 of-read read wrote Bad (Err service.TooLong) is cause = absurd (cc)
 
-of-write : (read wrote : Type 0) (Bad : ℕ → Type 0) (r : Result (Unit {0}) ServeFault) → end_of_service r ≡ WriteFault → Cause read wrote Bad r → wrote
+pub of-write : (read wrote : Type 0) (Bad : ℕ → Type 0) (r : Result (Unit {0}) ServeFault) → end_of_service r ≡ WriteFault → Cause read wrote Bad r → wrote
 of-write read wrote Bad (Err service.WriteFault) is cause = cause
 of-write read wrote Bad (Ok done) is cause = absurd (cc)
 of-write read wrote Bad (Err service.ReadFault) is cause = absurd (cc)
@@ -59,7 +59,7 @@ of-write read wrote Bad (Err service.Failed) is cause = absurd (cc)
 of-write read wrote Bad (Err (service.BadUnit place)) is cause = absurd (cc)
 of-write read wrote Bad (Err service.TooLong) is cause = absurd (cc)
 
-of-bad : (read wrote : Type 0) (Bad : ℕ → Type 0) (r : Result (Unit {0}) ServeFault) (place : ℕ) → end_of_service r ≡ BadUnit place → Cause read wrote Bad r → Bad place
+pub of-bad : (read wrote : Type 0) (Bad : ℕ → Type 0) (r : Result (Unit {0}) ServeFault) (place : ℕ) → end_of_service r ≡ BadUnit place → Cause read wrote Bad r → Bad place
 of-bad read wrote Bad (Err (service.BadUnit found)) place is cause = let same : found ≡ place = cc in subst Bad same cause
 of-bad read wrote Bad (Ok done) place is cause = absurd (cc)
 of-bad read wrote Bad (Err service.ReadFault) place is cause = absurd (cc)
@@ -81,7 +81,7 @@ reads-rose : {old new : State} → ReadsIfAny old new true → Rose old.faults n
 reads-rose (inl none) = absurd (cc)
 reads-rose (inr reads) = reads.cause.fault refl
 
-of-unit : (old new : Outside) (r : Result (Unit {0}) ServeFault) (device : Device) → end_of_service r ≡ MediumFault device → ReadsIfAny old.unit new.unit (has_failed r)
+pub of-unit : (old new : Outside) (r : Result (Unit {0}) ServeFault) (device : Device) → end_of_service r ≡ MediumFault device → ReadsIfAny old.unit new.unit (has_failed r)
     → Rose (memory_of device old).faults (memory_of device new).faults
 of-unit old new (Err service.Failed) device is reads =
     let same : OfUnit ≡ device = cc in
@@ -93,7 +93,7 @@ of-unit old new (Err (service.BadUnit place)) device is reads = absurd (cc)
 of-unit old new (Err service.TooLong) device is reads = absurd (cc)
 
 -- the unit is bad at a place
-abbrev IsBadAt : Outside → ℕ → Type 0
+abbrev pub IsBadAt : Outside → ℕ → Type 0
 IsBadAt old place = IfSome old.unit.image (λ x. first_bad_place x ≡ Some place)
 
 -- so the call ends that was asked for it

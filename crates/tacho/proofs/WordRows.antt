@@ -1,7 +1,7 @@
 -- Words and what they ask for, computed.
 use Rattle.std.specs.Prelude.{◌≡◌, Some, None, [], ◌∷◌, ◌++◌, codes, replicate, refl}
 use Rattle.trace_model.specs.declared.Card.TheVariants.{B}
-use Rattle.tacho.specs.declared.forms.Form.TheVariants.{Minutes, Serve, View}
+use Rattle.tacho.specs.declared.forms.Form.TheVariants.{Minutes, Serve, ServeHex, View}
 use Rattle.tacho.specs.declared.forms.TheConstants.{PLATE}
 use Rattle.tacho.specs.Texts.{word_in}
 use Rattle.trace_model.specs.Names.{card_named}
@@ -18,6 +18,14 @@ misspelled-row = refl
 serve-row : form_of (codes "serve" ∷ []) ≡ Some Serve
 unfolding form_of
 serve-row = refl
+
+hex-row : form_of (codes "serve" ∷ codes "--hex" ∷ []) ≡ Some ServeHex
+unfolding form_of
+hex-row = refl
+
+other-dash-row : form_of (codes "serve" ∷ codes "-hex" ∷ []) ≡ None
+unfolding form_of
+other-dash-row = refl
 
 view-row : form_of (codes "view" ∷ []) ≡ Some (View None)
 unfolding form_of

@@ -1,12 +1,12 @@
 -- The forms of words that the program knows (profile).
-use Rattle.std.specs.Prelude.{ℕ, if◌then◌else◌, Option, Some, None, option_map, List, [], ◌∷◌, codes, bytes_eq}
+use Rattle.std.specs.Prelude.{ℕ, ◌&&◌, if◌then◌else◌, Option, Some, None, option_map, List, [], ◌∷◌, codes, bytes_eq}
 use Rattle.trace_model.specs.Names.{card_named}
 use Rattle.tacho_types.specs.declared.texts.Name36.{Name36}
 use Rattle.tacho_types.specs.declared.texts.Registration.{Registration}
 use Rattle.card_files.specs.declared.new_card.CardIdentity.{CardIdentity}
 use Rattle.unit_memory.specs.declared.format.Identity.{Identity}
 use Rattle.tacho.specs.declared.forms.Form.{Form}
-use Rattle.tacho.specs.declared.forms.Form.TheVariants.{Minutes, Record, FormatCard, FormatUnit, Serve, View}
+use Rattle.tacho.specs.declared.forms.Form.TheVariants.{Minutes, Record, FormatCard, FormatUnit, Serve, ServeHex, View}
 use Rattle.tacho.specs.declared.forms.TheConstants.{CARD_NUMBER, NAME, PLATE, VIN, NATION_MOST, LIMIT_LEAST, LIMIT_MOST, LAST_LEAST, LAST_MOST}
 use Rattle.tacho.specs.Texts.{word_in, number_in, padded}
 
@@ -53,6 +53,10 @@ form_of_one word =
     else (if bytes_eq word (codes "serve") then Some Serve
     else (if bytes_eq word (codes "view") then Some (View None) else None)))
 
+-- `serve --hex`; no other word begins with `-`
+abbrev pub form_of_two : (command option : List ℕ) → Option Form
+form_of_two command option = if bytes_eq command (codes "serve") && bytes_eq option (codes "--hex") then Some ServeHex else None
+
 -- `unit N PLATE VIN LIMIT`
 abbrev pub unit_form : (nation plate vin limit : List ℕ) → Option Form
 unit_form nation plate vin limit = do
@@ -91,6 +95,7 @@ form_of_three command which count = if bytes_eq command (codes "view") then view
 -- what the words ask for; nothing where they are in no form
 unfoldable pub form_of : List (List ℕ) → Option Form
 form_of (word ∷ []) = form_of_one word
+form_of (command ∷ option ∷ []) = form_of_two command option
 form_of (command ∷ which ∷ count ∷ []) = form_of_three command which count
 form_of (command ∷ what ∷ first ∷ second ∷ third ∷ fourth ∷ []) = form_of_six command what first second third fourth
 form_of _ = None

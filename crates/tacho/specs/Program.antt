@@ -11,12 +11,12 @@ use Rattle.tacho.specs.declared.end.Fault.TheVariants.{Done, Usage, ReadFault, W
 use Rattle.tacho.specs.declared.end.Ended.{Ended}
 use Rattle.recorder.specs.declared.outcome.Outcome.{Outcome}
 use Rattle.tacho.specs.declared.forms.Form.{Form}
-use Rattle.tacho.specs.declared.forms.Form.TheVariants.{Minutes, Record, FormatCard, FormatUnit, Serve, View}
+use Rattle.tacho.specs.declared.forms.Form.TheVariants.{Minutes, Record, FormatCard, FormatUnit, Serve, ServeHex, View}
 use Rattle.tacho.specs.End.{status_of, IsBeforeDevices}
 use Rattle.tacho.specs.Outside.{Outside, memory_of}
 use Rattle.tacho.specs.Minutes.{EndsMinutes}
 use Rattle.tacho.specs.Recorded.{EndsRecord, IsEmpty}
-use Rattle.tacho.specs.Serving.{EndsServe}
+use Rattle.tacho.specs.Serving.{EndsServe, EndsServeHex}
 use Rattle.tacho.specs.View.{EndsView}
 use Rattle.tacho.specs.Formatting.{IsCard, EndsIssue, EndsMaking}
 
@@ -34,6 +34,7 @@ EndsForm (FormatCard A identity) old new ended = EndsIssue CardA identity old.ca
 EndsForm (FormatCard B identity) old new ended = EndsIssue CardB identity old.card_b new.card_b old.sink new.sink ended.fault
 EndsForm (FormatUnit identity) old new ended = EndsMaking identity old.unit new.unit old.sink new.sink ended.fault
 EndsForm Serve old new ended = EndsServe old new ended.fault
+EndsForm ServeHex old new ended = EndsServeHex old new ended.fault
 EndsForm (View last) old new ended = EndsView last old new ended.fault
 
 -- but for `record` there is no outcome
@@ -50,6 +51,7 @@ LeavesOthers (Some (FormatCard A identity)) source unit card_a card_b = source �
 LeavesOthers (Some (FormatCard B identity)) source unit card_a card_b = source × unit × card_a
 LeavesOthers (Some (FormatUnit identity)) source unit card_a card_b = source × card_a × card_b
 LeavesOthers (Some Serve) source unit card_a card_b = card_a × card_b
+LeavesOthers (Some ServeHex) source unit card_a card_b = card_a × card_b
 LeavesOthers (Some (View last)) source unit card_a card_b = unit × card_a × card_b
 
 -- a stream or a device that is told to have failed has failed, and no count of a stream falls
@@ -69,9 +71,10 @@ pub record Ends (asked : Option Form) (old new : Outside) (ended : Ended) : Type
   pub unrecorded : IsUnrecorded asked ended.outcome
   pub causes : HasCauses old new ended.fault
 
--- what reads all of its source before it uses a device or prints: each form but `serve`, which answers as it reads
+-- what reads all of its source before it uses a device or prints: each form but `serve` and `serve --hex`, which answer as they read
 abbrev pub ReadsFirst : Option Form → Type 0
 ReadsFirst (Some Serve) = ⊥
+ReadsFirst (Some ServeHex) = ⊥
 ReadsFirst asked = Unit {0}
 
 -- WHAT IT LEAVES UNTOUCHED. Each argument says that one of what it is handed is as it was.

@@ -1,4 +1,4 @@
--- What the command `serve` does: the unit answers the bytes of the source on the link.
+-- What the commands `serve` and `serve --hex` do: the unit answers the bytes of the source on the link, or those that its lines spell.
 use Rattle.std.specs.Prelude.{◌≡◌, ℕ, Some, IfSome, Result, Ok, Err}
 use Rattle.std.specs.Io.KnownBytes.{IsAtEnd}
 use Rattle.run_model.specs.declared.Device.TheVariants.{Unit as OfUnit}
@@ -7,20 +7,34 @@ use Rattle.unit_model.specs.Decoding.{first_bad_place}
 use Rattle.unit_journal.specs.Reading.{ReadsIfAny}
 use Rattle.link_service.specs.declared.fault.ServeFault.{ServeFault}
 use Rattle.link_service.specs.declared.fault.ServeFault.TheVariants as service
+use Rattle.link_service.specs.declared.fault.LinesFault.{LinesFault}
+use Rattle.link_service.specs.declared.fault.LinesFault.TheVariants as lines
 use Rattle.link_service.specs.Served.{IsServed}
+use Rattle.link_service.specs.ServedLines.{AreServed}
 use Rattle.tacho.specs.declared.end.Fault.{Fault}
-use Rattle.tacho.specs.declared.end.Fault.TheVariants.{Done, TooLong, BadUnit, ReadFault, WriteFault, MediumFault}
+use Rattle.tacho.specs.declared.end.Fault.TheVariants.{Done, BadTrace, TooLong, BadUnit, ReadFault, WriteFault, MediumFault, Memory}
 use Rattle.tacho.specs.End.{is_medium_fault}
 use Rattle.tacho.specs.Outside.{Outside}
+
+-- the end where a service of the link ended before its source
+abbrev pub serve_refusal_of : ServeFault → Fault
+serve_refusal_of service.ReadFault = ReadFault
+serve_refusal_of service.WriteFault = WriteFault
+serve_refusal_of service.Failed = MediumFault OfUnit
+serve_refusal_of (service.BadUnit place) = BadUnit place
+serve_refusal_of service.TooLong = TooLong 0
 
 -- the end by what a service of the link answers; it takes no memory, so none ends by want of it
 abbrev pub end_of_service : Result (Unit {0}) ServeFault → Fault
 end_of_service (Ok done) = Done
-end_of_service (Err service.ReadFault) = ReadFault
-end_of_service (Err service.WriteFault) = WriteFault
-end_of_service (Err service.Failed) = MediumFault OfUnit
-end_of_service (Err (service.BadUnit place)) = BadUnit place
-end_of_service (Err service.TooLong) = TooLong 0
+end_of_service (Err fault) = serve_refusal_of fault
+
+-- the end by what a service of lines answers
+abbrev pub end_of_lines : Result (Unit {0}) LinesFault → Fault
+end_of_lines (Ok done) = Done
+end_of_lines (Err (lines.Ended fault)) = serve_refusal_of fault
+end_of_lines (Err (lines.BadLine number)) = BadTrace number
+end_of_lines (Err lines.Memory) = Memory
 
 -- HOW `serve` ENDS.
 pub record EndsServe (old new : Outside) (fault : Fault) : Type 0 where
@@ -35,4 +49,14 @@ pub record EndsServe (old new : Outside) (fault : Fault) : Type 0 where
   -- A unit is bad at the first place of its image that fails.
   pub bad_unit : (place : ℕ) → fault ≡ BadUnit place → IfSome old.unit.image (λ x. first_bad_place x ≡ Some place)
   -- The unit is read, if at all, and never written.
+  pub unit : ReadsIfAny old.unit new.unit (is_medium_fault fault)
+
+-- HOW `serve --hex` ENDS: as `serve`, of the bytes that the source's lines spell, each answer as a line; a line that spells none is
+-- refused by its number, from 1, and memory may run out behind answers.
+pub record EndsServeHex (old new : Outside) (fault : Fault) : Type 0 where
+  pub ended : Result (Unit {0}) LinesFault
+  pub ends : fault ≡ end_of_lines ended
+  pub served : IfSome old.unit.image (λ x. AreServed ended (content_sent x) old.source.left new.source.left old.sink.held new.sink.held)
+  pub read : fault ≡ Done → IsAtEnd new.source.left
+  pub bad_unit : (place : ℕ) → fault ≡ BadUnit place → IfSome old.unit.image (λ x. first_bad_place x ≡ Some place)
   pub unit : ReadsIfAny old.unit new.unit (is_medium_fault fault)

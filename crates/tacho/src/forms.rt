@@ -2,7 +2,7 @@
 ghost use Rattle.std.specs.Prelude.{◌≡◌, ◌∷◌, ◌+◌, ◌-◌, ◌≤◌, IfSome, length, bytes_eq};
 ghost use Rattle.std.specs.List.{list_all};
 ghost use Rattle.tacho.specs.Texts.{is_character, is_word, begins_with_dash, word_in, number_in, padded};
-ghost use Rattle.tacho.specs.Forms.{name_in, card_in, registration_in, unit_in, form_of_one, view_of, form_of_three, format_of, form_of_six, form_of};
+ghost use Rattle.tacho.specs.Forms.{name_in, card_in, registration_in, unit_in, form_of_one, form_of_two, view_of, form_of_three, format_of, form_of_six, form_of};
 
 use crate::words::Words;
 use card_files::CardIdentity;
@@ -51,6 +51,8 @@ pub enum Form {
     FormatUnit { identity: Identity },
     /// `serve`: the unit answers the frames among the bytes of the source.
     Serve,
+    /// `serve --hex`: the same of lines of hexadecimal digits, each answer as a line.
+    ServeHex,
     /// `view`: a unit file or a card file is printed; `view last N`: its last so many days, from 1 to 366.
     View { last: Option<u32> },
 }
@@ -61,6 +63,9 @@ pub fn form_of(words: &Words) -> Option<Form>
 {
     if let Some(word) = words.one() {
         return form_of_one(word);
+    }
+    if let Some((command, option)) = words.two() {
+        return form_of_two(command, option);
     }
     if let Some((command, which, count)) = words.three() {
         return form_of_three(command, which, count);
@@ -86,6 +91,16 @@ fn form_of_one(word: &str) -> Option<Form>
     }
     if is_text(word, "view") {
         return Some(Form::View { last: None });
+    }
+    None
+}
+
+/// The form of two words. The second is the only one that may begin with `-`.
+fn form_of_two(command: &str, option: &str) -> Option<Form>
+    ensures { result ≡ form_of_two command.now option.now }
+{
+    if is_text(command, "serve") && is_text(option, "--hex") {
+        return Some(Form::ServeHex);
     }
     None
 }

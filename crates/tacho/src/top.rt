@@ -12,10 +12,10 @@ use crate::format_command::{format_card, make_unit};
 use crate::forms::{Form, form_of};
 use crate::minutes_command::print_minutes;
 use crate::record_command::record;
-use crate::serve_command::service_end;
+use crate::serve_command::{lines_end, service_end};
 use crate::view_command::print_view;
 use crate::words::Words;
-use link_service::serve;
+use link_service::{serve, serve_lines};
 use recorder::Outcome;
 use run_model::{Card, Device};
 use std::alloc::Global;
@@ -25,7 +25,8 @@ use tach_media::{Chip, Medium, Sink, Source};
 ///
 /// `minutes` reads a trace from the source, and writes the view text of its decided minutes, no card present, to the sink.
 /// `record` reads a trace that no card bears on, records it on the unit, and writes five lines of counts to the sink.
-/// `serve` answers the frames among the bytes of the source by the messages of the unit, and writes the answers to the sink.
+/// `serve` answers the frames among the bytes of the source by the messages of the unit, and writes the answers to the sink;
+/// `serve --hex` the same of lines of hexadecimal digits.
 /// `view` reads a unit file or a card file from the source, and writes the view text of its minutes or entries to the sink.
 /// `format a` and `format b` issue the card anew, of the largest sizes, `format unit` makes the unit new; they write
 /// `formatted` to the sink. No other device is used than the form's.
@@ -47,7 +48,7 @@ pub fn tacho<S: Source, K: Sink, U: Medium, C: Chip>(
         (outside S.left S.faults K.held K.faults U.state C.state C.card source.new sink.new unit.new card_a.new card_b.new) result }
 
     // What the form does not name is as it was; so are the devices where memory ran out, and the sink where nothing is to be
-    // printed, but for `serve`, which answers as it reads.
+    // printed, but for `serve` and `serve --hex`, which answer as they read.
     ensures spares { Spares (form_of words.now) result.fault
         (source.new ≡ source.old) (sink.new ≡ sink.old) (unit.new ≡ unit.old) (card_a.new ≡ card_a.old) (card_b.new ≡ card_b.old) }
 {
@@ -94,6 +95,7 @@ fn perform<S: Source, K: Sink, U: Medium, C: Chip>(
         ),
         Form::FormatUnit { identity } => Ended::after(nothing, make_unit(&identity, unit, sink)),
         Form::Serve => Ended::of(nothing, service_end(serve(source, sink, unit))),
+        Form::ServeHex => { Ended::of(nothing, lines_end(serve_lines(alloc, source, sink, unit))) }
         Form::View { last } => Ended::after(nothing, print_view(alloc, last, source, sink)),
     }
 }

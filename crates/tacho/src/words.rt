@@ -76,6 +76,17 @@ impl Words {
         Some(self.get(0))
     }
 
+    /// The words, where there are two.
+    pub fn two(&self) -> Option<(&str, &str)>
+        ensures found { IfSome result (λ w. self.now ≡ w.0.now ∷ w.1.now ∷ []) }
+        ensures none { IfNone result (length self.now ≡ 2 → ⊥) }
+    {
+        if self.len() != 2 {
+            return None;
+        }
+        Some((self.get(0), self.get(1)))
+    }
+
     /// The words, where there are three.
     pub fn three(&self) -> Option<(&str, &str, &str)>
         ensures found { IfSome result (λ w. self.now ≡ w.0.now ∷ w.1.now ∷ w.2.now ∷ []) }

@@ -1,6 +1,7 @@
 use Rattle.std.proofs.Common.{refl}
 use Rattle.tacho.proofs.Endings.{ends-minutes, minutes-ends, ends-view, view-ends}
 use Rattle.tacho.proofs.Services.{serve-ends}
+use Rattle.tacho.proofs.LineServices.{serve-hex-ends}
 use Rattle.tacho.proofs.top.perform.Goals as goal
 
 pub returns-in-Minutes-clause-ends : goal.returns-in-Minutes-clause-ends
@@ -19,6 +20,15 @@ returns-in-Serve-clause-ends g c =
 
 pub returns-in-Serve-clause-spares : goal.returns-in-Serve-clause-spares
 returns-in-Serve-clause-spares g c = rw c.in-Serve.is (record { others = (refl, refl); before = λ none. absurd none; nothing = λ none. absurd none })
+
+pub returns-in-ServeHex-clause-ends : goal.returns-in-ServeHex-clause-ends
+returns-in-ServeHex-clause-ends g c =
+    let e = c.serve_lines.ensures in
+    rw (c.in-ServeHex.is, c.of-in-ServeHex.ensures, c.lines_end.ensures)
+    (serve-hex-ends _ _ c.serve_lines.result e.served e.end e.cause e.unit e.counts c.nothing-nothing.result c.nothing-nothing.ensures)
+
+pub returns-in-ServeHex-clause-spares : goal.returns-in-ServeHex-clause-spares
+returns-in-ServeHex-clause-spares g c = rw c.in-ServeHex.is (record { others = (refl, refl); before = λ none. absurd none; nothing = λ none. absurd none })
 
 pub returns-in-View-clause-ends : goal.returns-in-View-clause-ends
 returns-in-View-clause-ends g c =

@@ -8,7 +8,7 @@ use Rattle.link_service.proofs.line.Line.answer.Goals as goal
 
 pub loop-done-init : goal.loop-done-init
 loop-done-init g c =
-    (answering_none c.args.bytes.now c.args.self.now (g.U.Medium.state c.args.unit.now) (g.K.Sink.held c.args.sink.now) c.requires.listens c.requires.knows, omega arith)
+    (answering_none c.args.spelling c.args.bytes.now c.args.self.now (g.U.Medium.state c.args.unit.now) (g.K.Sink.held c.args.sink.now) c.requires.listens c.requires.knows, omega arith)
 
 pub answer_next-requires-clause-some : goal.answer_next-requires-clause-some
 answer_next-requires-clause-some g c = grind (arith, length-take, length-drop)

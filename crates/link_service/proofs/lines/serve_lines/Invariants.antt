@@ -1,0 +1,10 @@
+use Rattle.std.proofs.Common.{◌≤◌}
+use Rattle.link_service.proofs.ServingLines.{IsServingLines}
+use Rattle.link_service.proofs.lines.serve_lines.Given as goal
+
+-- the text so far was heard
+abbrev pub invariant-loop-turn : goal.invariant-loop-turn
+invariant-loop-turn g l =
+    IsServingLines l._turn l.left (g.S.Source.left l.initial.source) (g.S.Source.left l.source) l.lines
+    (g.U.Medium.state l.initial.unit) (g.U.Medium.state l.unit) (g.K.Sink.held l.initial.sink) (g.K.Sink.held l.sink)
+    × (g.S.Source.faults l.initial.source ≤ g.S.Source.faults l.source) × (g.K.Sink.faults l.initial.sink ≤ g.K.Sink.faults l.sink)
