@@ -1,7 +1,7 @@
 use Rattle.std.proofs.Common.{rules, ◌≡◌, ◌≤◌, ◌<◌, ℕ, List, length, take, ap, arith}
 use Rattle.std.proofs.lemmas.List.{length-take-le}
 use Rattle.unit_messages.proofs.Calls.{any_then}
-use Rattle.link_service.proofs.ServingLines.{lines_none, lines_one, lines_on, lines_end, lines_too_long, lines_done, part_is, part_all}
+use Rattle.link_service.proofs.ServingLines.{lines_none, lines_one, lines_on, lines_end, lines_too_long, lines_broken, lines_done, part_is, part_all}
 use Rattle.link_service.proofs.LinesFaults.{lines_reads}
 use Rattle.link_service.proofs.lines.serve_lines.Goals as goal
 
@@ -57,3 +57,9 @@ returns-then-left-count-clause-served g c =
     let long : length (take n block) ≡ n = length-take-le n block within in
     lines_too_long (Unit {0}) (g.S.Source.left c.read.new.self) c.take.new.self (g.K.Sink.held c.take.new.sink) (take n block) (take c.min-taken.result block)
     c.loop-turn.invariant.0 c.in-Ok.ensures.bytes.0 (part_is c.min-taken.result n c.loop-turn.left block c.min-taken.ensures) (omega (arith, long)) c.in_ok-take.ensures.heard
+
+pub returns-then-left-count-clause-unit : goal.returns-then-left-count-clause-unit
+returns-then-left-count-clause-unit g c = any_then c.loop-turn.invariant.0.reads c.in_ok-take.ensures.unit
+
+pub returns-in_default-clause-served : goal.returns-in_default-clause-served
+returns-in_default-clause-served g c = lines_broken (Unit {0}) (g.S.Source.left c.read.new.self) c.loop-turn.invariant.0 c.in_default.ensures.bytes
