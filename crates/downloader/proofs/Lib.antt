@@ -5,4 +5,10 @@ pub mod Closing
 pub mod Exact
 mod Rows
 pub mod OneWay
+pub mod Rest
+pub mod Answered
+pub mod Transfers
+pub mod Together
+pub mod Downloading
 pub mod Taking
+pub mod Short

@@ -1,3 +1,4 @@
 pub mod Stages
 pub mod Coming
 pub mod Loading
+pub mod Talking

@@ -11,7 +11,7 @@ mod stage;
 
 pub use downloader::Downloader;
 pub use fault::LoadFault;
-pub use laws::a_frame_is_taken_in_one_way;
+pub use laws::{a_finished_download_is_the_units_file, a_frame_is_taken_in_one_way};
 
 #[cfg(test)]
 mod tests;
