@@ -16,15 +16,31 @@ ghost use Rattle.recorder.specs.declared.run.Power.TheVariants.{Lit, Due, Lost};
 use crate::lines::Lines;
 use crate::opening::{RunFault, judge_clock, load};
 use crate::run::{Power, Run};
+use event_notes::note_gap;
+use event_rules::{NoCardRun, Overspeed};
 use log_model::Break;
 use minute_rules::{Minutes, Rule};
-use tach_media::Medium;
+use tach_media::{Failed, Medium};
 use unit_journal::{Journal, UnitFault};
 
 impl Run {
     ghost use Rattle.recorder.specs.Power.{is_lit, has_power};
     ghost use Rattle.recorder.specs.Power.{off_cut, IsAsLate, IsFresh, IsCutOnce};
     ghost use Rattle.recorder.specs.Lines.{cut_at};
+    ghost use Rattle.std.specs.Prelude.{IfSome, OnErr, is_err};
+    ghost use Rattle.tach_media.specs.Medium.{HasCause};
+    ghost use Rattle.unit_journal.specs.Image.{Agrees};
+    ghost use Rattle.unit_journal.specs.Mends.{notes_mended};
+    ghost use Rattle.minute_model.specs.declared.Rule.TheVariants.{Original};
+    ghost use Rattle.minute_model.specs.Span.{begin};
+    ghost use Rattle.minute_rules.specs.Kept.{StandsFor};
+    ghost use Rattle.event_rules.specs.Bare.{StandsFor as StandsForBare};
+    ghost use Rattle.event_rules.specs.Speeding.{StandsFor as StandsForOver};
+    ghost use Rattle.log_model.specs.Log.{RunLog};
+    ghost use Rattle.event_course.specs.Noted.{Lists, no_events, AllLead, StayFailed};
+    ghost use Rattle.event_course.specs.Shown.{HasNoted};
+    ghost use Rattle.event_notes.specs.Noting.{AreUnsure};
+    ghost use Rattle.recorder.specs.Watching.{gap_resumed};
 
     /// Whether the unit has power.
     pub fn is_lit(&self) -> bool
@@ -171,14 +187,63 @@ impl Run {
         breaks.find(self.unfound, kept);
         self.unfound = breaks.len();
         judge_clock(kept, self.next)?;
-        if journal.mend(unit).is_err() {
+        let is_first = breaks.is_empty();
+        if self.resume(&mut journal, is_first, unit).is_err() {
             self.cut(self.next, true, 0, breaks);
             return Ok(());
         }
+        self.begin_span(journal);
+        Ok(())
+    }
+
+    /// The unit is mended, and the interruption that ends now is noted, if a power-on came before this one.
+    fn resume<M: Medium>(
+        &self,
+        journal: &mut Journal,
+        is_first: bool,
+        unit: &mut M,
+    ) -> Result<(), Failed>
+        requires unit { IsUnit (M.state unit.old) }
+        requires loaded { IsLoaded (M.state unit.old) journal.old }
+        requires later { journal.old.kept < self.now.next / 60 }
+        ensures unit { IsUnit (M.state unit.new) }
+        ensures notes { OnOk result (journal.new ≡ notes_mended journal.old) }
+        ensures agrees { OnOk result (IfSome (M.state unit.new).image (Agrees journal.new)) }
+        ensures noted { (start : List ℕ) (log later : RunLog) (l now : Lists) → HasNoted start log l (M.state unit.old) → StayFailed log later →
+            OnOk result (AllLead log l (gap_resumed is_first journal.old.kept self.now.next) later now → HasNoted start later now (M.state unit.new)) }
+        ensures broken { (start : List ℕ) (log later : RunLog) (l now : Lists) → HasNoted start log l (M.state unit.old) → StayFailed log later →
+            OnErr result (AllLead log l no_events later now → AreUnsure later now (gap_resumed is_first journal.old.kept self.now.next) → HasNoted start later now (M.state unit.new)) }
+        ensures goes_on { GoesOn (M.state unit.old) (M.state unit.new) }
+        ensures cause { HasCause (M.state unit.old) (M.state unit.new) (is_err result) }
+        ensures stands { (s : Began) (due : ℕ) (b : Book) (g : Travel) (marks : List Mark) → Stands s due b g marks (M.state unit.old) → Stands s due b g marks (M.state unit.new) }
+    {
+        let kept = journal.last_kept();
+        journal.mend(unit)?;
+        if is_first {
+            return Ok(());
+        }
+        note_gap(&self.memory, kept, self.next, unit)
+    }
+
+    /// A span begins with the next second.
+    fn begin_span(&mut self, journal: Journal)
+        ensures power { self.new.power ≡ Lit }
+        ensures next { self.new.next ≡ self.old.next }
+        ensures begun { self.new.begun ≡ self.old.begun }
+        ensures unfound { self.new.unfound ≡ self.old.unfound }
+        ensures journal { self.new.journal ≡ journal }
+        ensures odometer { self.new.odometer ≡ journal.odometer }
+        ensures memory { self.new.memory ≡ self.old.memory }
+        ensures minutes { StandsFor self.new.minutes (begin Original self.old.next) }
+        ensures bare { StandsForBare self.new.bare [] }
+        ensures over { StandsForOver self.new.over [] }
+        ensures limit { self.new.over.limit ≡ self.old.memory.limit }
+    {
         self.odometer = journal.odometer().0;
         self.journal = journal;
         self.minutes = Minutes::new(Rule::Original, self.next);
+        self.bare = NoCardRun::new();
+        self.over = Overspeed::new(self.memory.identity().limit);
         self.power = Power::Lit;
-        Ok(())
     }
 }

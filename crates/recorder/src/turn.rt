@@ -10,7 +10,8 @@ use crate::opening::RunFault;
 use crate::outcome::Outcome;
 use crate::run::Run;
 use activity_codec::Steps;
-use log_model::{Refused, SlotFault};
+use event_notes::note_ended;
+use log_model::{Break, Refused, SlotFault};
 use minute_rules::{Decided, Minutes};
 use std::marker::Brand;
 use std::sync::ledger::{Blank, Ledger};
@@ -77,7 +78,11 @@ impl Run {
     ghost use Rattle.history_model.specs.Presence.{Start};
     ghost use Rattle.recorder.specs.declared.run.Power.TheVariants.{Lit};
     ghost use Rattle.history_model.specs.Book.{Book};
-    ghost use Rattle.recorder.specs.Standing.{Began, Travel};
+    ghost use Rattle.recorder.specs.Standing.{Began, Travel, Stands};
+    ghost use Rattle.log_model.specs.declared.lines.Mark.{Mark};
+    ghost use Rattle.event_rules.specs.Bare.{IsNext as IsNextBare};
+    ghost use Rattle.event_rules.specs.Speeding.{IsNext as IsNextOver};
+    ghost use Rattle.recorder.specs.Watching.{IsWatchedBy};
     ghost use Rattle.tach_media.specs.Medium.{last_count};
 
     /// So many seconds at one speed, from 1 on, with the actions among the items from one index to another at their beginning.
@@ -256,6 +261,9 @@ impl Run {
             return;
         }
         self.lit_turn(n, speed, begun, unit, outcome);
+        if self.is_lit() {
+            self.watch(n, speed, unit, &mut outcome.breaks);
+        }
     }
 
     /// The same with power. Where the keeping fails, the power is lost in the last of the seconds.
@@ -300,6 +308,34 @@ impl Run {
                 self.cut(self.next + n - 1, true, begun, &mut outcome.breaks);
                 self.pass(n, begun);
             }
+        }
+    }
+
+    /// The last so many seconds, as events see them: what has ended with the second before them is noted, which is nothing unless
+    /// they are one. Where that fails, the power is lost in the last of them, behind its actions and its keeping.
+    fn watch<M: Medium>(&mut self, n: u32, speed: u8, unit: &mut M, breaks: &mut Lines<Break>)
+        requires lit { self.old.power ≡ Lit }
+        requires going { IsGoing self.old (M.state unit.old) }
+        requires some { 0 < n }
+        requires most { n ≤ self.old.next }
+        requires bare { IsNextBare self.old.bare (self.old.next - n) }
+        requires over { IsNextOver self.old.over.run (self.old.next - n) }
+        requires room { length breaks.old.items < breaks.old.room }
+        ensures watched { IsWatchedBy self.old self.new n speed breaks.old.items breaks.new.items (M.state unit.old) (M.state unit.new) }
+        ensures bare { IsNextBare self.new.bare self.new.next }
+        ensures over { IsNextOver self.new.over.run self.new.next }
+        ensures room { breaks.new.room ≡ breaks.old.room }
+        ensures unit { IsUnit (M.state unit.new) }
+        ensures goes_on { GoesOn (M.state unit.old) (M.state unit.new) }
+        ensures broke { BreaksDown breaks.old.items breaks.new.items (M.state unit.old) (M.state unit.new) }
+        ensures stands { (s : Began) (due : ℕ) (b : Book) (g : Travel) (marks : List Mark) → Stands s due b g marks (M.state unit.old) → Stands s due b g marks (M.state unit.new) }
+    {
+        let first = self.next - n;
+        let bare = self.bare.feed_run(first, n, speed > 0);
+        let over = self.over.feed_run(first, n, speed);
+        if note_ended(&self.memory, bare, over, unit).is_err() {
+            let begun = self.begun;
+            self.cut(self.next - 1, true, begun, breaks);
         }
     }
 

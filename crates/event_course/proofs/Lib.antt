@@ -1,0 +1,10 @@
+pub mod Bridge
+pub mod Failing
+pub mod Grown
+pub mod Knowing
+pub mod Steps
+pub mod Breaking
+pub mod Shows
+pub mod Frames
+pub mod Ending
+pub mod Rows

@@ -1,0 +1,4 @@
+pub mod Plain
+pub mod Noted
+pub mod Gaps
+pub mod Shown
