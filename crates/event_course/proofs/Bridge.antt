@@ -145,7 +145,7 @@ seen-one log h before s slots each =
     let t = told-bare log h before s slots each in
     record { itself = course-empty log h before s slots each (length s.actions); powered = course-empty log h before s slots each 0; found = t.found; torn = t.torn }
 
-each-push : {T : Type 0} (P : T → Type 0) (xs : List T) (x : T) → AllByRecursion P xs → P x → AllByRecursion P (xs ++ x ∷ [])
+pub each-push : {T : Type 0} (P : T → Type 0) (xs : List T) (x : T) → AllByRecursion P xs → P x → AllByRecursion P (xs ++ x ∷ [])
 each-push P [] x h is = (is, tt)
 each-push P (y ∷ xs) x h is = (h.0, each-push P xs x h.1 is)
 

@@ -123,25 +123,25 @@ module _ (limit number : ℕ) (breaks : List Break) (refused : List Refused) (ss
 
   -- behind a second with power, or without it
   lists-plain : (kind : ℕ) (supply : Supply) (next : ℕ) → IsNotDue supply → of_kind kind (lists_of limit (log_of breaks) spans supply next) ≡ plain_events kind limit (log_of breaks) spans
-  lists-plain kind supply next no =
+  lists-plain kind supply next on =
       ap (λ (gaps : List Event). cond (kind == DRIVING_WITHOUT_CARD) (flat_map bares_in spans) (cond (kind == OVER_SPEEDING) (flat_map (overs_in limit) spans) (cond (kind == POWER_INTERRUPTION) gaps [])))
-      (ap (λ (es : List Event). gaps_in (log_of breaks) spans ++ es) (none supply no) ∙ append-nil (gaps_in (log_of breaks) spans))
+      (ap (λ (es : List Event). gaps_in (log_of breaks) spans ++ es) (none supply on) ∙ append-nil (gaps_in (log_of breaks) spans))
     where
       none : (s : Supply) → IsNotDue s → due_gap (log_of breaks) spans s next ≡ []
-      none (Lit []) no = absurd no
-      none (Lit (t ∷ span)) no = refl
-      none Due no = refl
-      none Lost no = refl
+      none (Lit []) on = absurd on
+      none (Lit (t ∷ span)) on = refl
+      none Due on = refl
+      none Lost on = refl
 
   pub shows-run : (start x : List ℕ) (supply : Supply) (next : ℕ) → number_of start SPEED_LIMIT ≡ limit → IsNotDue supply → ShowsEvents start (log_of breaks) (lists_of limit (log_of breaks) spans supply next) x →
       (numbers : Card → List ℕ) (sessions : ℕ → Card → ℕ) → ShowsRun numbers start (logged breaks refused) ss sessions x
-  shows-run start x supply next limit_is no s numbers sessions =
+  shows-run start x supply next limit_is on s numbers sessions =
       let l : Lists = lists_of limit (log_of breaks) spans supply next in
       let is : (kind : ℕ) → of_kind kind l ≡ events_of kind (number_of start SPEED_LIMIT) sessions (logged breaks refused) ss =
-      λ kind. lists-plain kind supply next no ∙ sym (plain-logged kind sessions) ∙ ap (λ (n : ℕ). events_of kind n sessions (logged breaks refused) ss) (sym limit_is) in
+      λ kind. lists-plain kind supply next on ∙ sym (plain-logged kind sessions) ∙ ap (λ (n : ℕ). events_of kind n sessions (logged breaks refused) ss) (sym limit_is) in
       record {
         events = λ kind there sure.
-            let empty : AreEmpty (of_kind kind l) = subst AreEmpty (sym (lists-plain kind supply next no)) (empty-events kind limit (log_of breaks) spans) in
+            let empty : AreEmpty (of_kind kind l) = subst AreEmpty (sym (lists-plain kind supply next on)) (empty-events kind limit (log_of breaks) spans) in
             subst (λ (es : List Event). AreNoted numbers (table_in kind start) es (table_in kind x)) (is kind)
             (all-any numbers (table_in kind start) (table_in kind x) (of_kind kind l) empty (s.tables kind there (ap (are_sure (log_of breaks)) (is kind) ∙ sure)));
         first_over = λ sure. s.first_over (ap (are_sure (log_of breaks)) (is OVER_SPEEDING) ∙ sure) ∙ ap (first_on (number_of start FIRST_OVER)) (is OVER_SPEEDING);

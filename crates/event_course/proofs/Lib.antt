@@ -4,6 +4,7 @@ pub mod Grown
 pub mod Knowing
 pub mod Steps
 pub mod Breaking
+pub mod Late
 pub mod Shows
 pub mod Frames
 pub mod Ending

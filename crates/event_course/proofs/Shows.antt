@@ -125,15 +125,15 @@ itself-more later now x = same-more later now x x (λ kind there sure. refl) (λ
 -- a stop at a moment of some calls, behind which nothing more is shown
 pub noted-aside : (start : List ℕ) (log later : RunLog) (l now : Lists) {U V : State} → HasNoted start log l U → IsCoherent U → AllLead log l no_events later now → (R : List ℕ → List ℕ → Type 0) → LeavesOnly U V R →
     ((x c : List ℕ) → R x c → ShowsMore later now no_events x c) → HasNoted start later now V
-noted-aside start log later l now {U} {V} h whole lead R run each =
-    noted-then start log later l no_events now {U} {V} h lead
+noted-aside start log later l now {U = U} {V = V} h whole lead R run each =
+    noted-then start log later l no_events now {U = U} {V = V} h lead
     (λ c left. ⊎_elim (λ old. (c, old, itself-more later now c)) (λ here. (here.0, whole.is_left here.0 here.1, each here.0 c here.2)) (run.now c left))
 
 -- some calls that were answered, on a unit that works: what is shown more is told of the images before and after
 pub noted-after : (start : List ℕ) (log later : RunLog) (l more now : Lists) {U V : State} → HasNoted start log l U → IsCoherent U → IsCoherent V → V.works ≡ true → is_some V.image ≡ is_some U.image → AllLead log l more later now →
     (R : List ℕ → List ℕ → Type 0) → IfSome U.image (λ x. IfSome V.image (R x)) → ((x c : List ℕ) → U.image ≡ Some x → R x c → ShowsMore later now more x c) → HasNoted start later now V
-noted-after start log later l more now {U} {V} h whole after works tells lead R said each =
-    noted-then start log later l more now {U} {V} h lead (λ c left. by U.image refl c (after.only c works left))
+noted-after start log later l more now {U = U} {V = V} h whole after works tells lead R said each =
+    noted-then start log later l more now {U = U} {V = V} h lead (λ c left. by U.image refl c (after.only c works left))
   where
     at : (x c : List ℕ) → U.image ≡ Some x → V.image ≡ Some c → R x c
     at x c was is = subst (λ (o : Option (List ℕ)). IfSome o (R x)) is (subst (λ (o : Option (List ℕ)). IfSome o (λ y. IfSome V.image (R y))) was said)

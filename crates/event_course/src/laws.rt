@@ -1,8 +1,8 @@
-ghost use Rattle.std.specs.Prelude.{◌≡◌, ◌⊎◌, ◌+◌, ◌-◌, ◌<◌, ◌≤◌, ◌%◌, suc, true, ℕ, Bool, Option, Some, None, List, [], ◌∷◌, ◌++◌, length, map, nat_lt, option_to_list};
+ghost use Rattle.std.specs.Prelude.{◌≡◌, ◌+◌, ◌-◌, ◌≤◌, ◌%◌, suc, true, ℕ, Bool, Option, List, [], ◌∷◌, ◌++◌, length, map, nat_lt, option_to_list};
 ghost use Rattle.std.specs.List.{AllByRecursion};
 ghost use Rattle.trace_model.specs.declared.Action.{Action};
 ghost use Rattle.trace_model.specs.declared.Card.{Card};
-ghost use Rattle.trace_model.specs.Trace.{TraceSecond, driven, dark};
+ghost use Rattle.trace_model.specs.Trace.{TraceSecond, driven};
 ghost use Rattle.minute_model.specs.declared.Rule.{Rule};
 ghost use Rattle.run_model.specs.Span.{picks_of};
 ghost use Rattle.log_model.specs.declared.lines.Break.{Break};
@@ -21,7 +21,7 @@ ghost use Rattle.unit_model.specs.declared.layout.TheConstants.{SPEED_LIMIT};
 ghost use Rattle.unit_model.specs.Image.{number_of};
 ghost use Rattle.unit_course.specs.Turn.{IsSelection, lit_seconds, begins_with};
 ghost use Rattle.unit_course.specs.Lines.{log_of, cut_at, found_from, IsCutBefore};
-ghost use Rattle.unit_course.specs.Followed.{Supply, Progress, Lit, Due, Lost, Followed, MayPower, MayFail, IsDark};
+ghost use Rattle.unit_course.specs.Followed.{Supply, Progress, Lit, Due, Lost, Followed, MayPower, MayFail};
 ghost use Rattle.event_course.specs.Plain.{driver_seconds, speed_seconds, bare_event, over_event, gap_found, plain_events, IsWithoutCards, OnlySelect};
 ghost use Rattle.event_course.specs.Noted.{Lists, no_events, lists_of, lists_at, AllLead, IsNotDue};
 ghost use Rattle.event_course.specs.Gaps.{HasGaps};
@@ -30,7 +30,7 @@ ghost use Rattle.event_course.specs.Shown.{ShowsEvents, ShowsMore, ShowsRun};
 /// Where no card bears on a run, its events are those that its power spans tell by themselves: runs of moving seconds, runs above
 /// the limit, and what was found kept between two spans.
 pub fn the_events_of_a_run_without_cards()
-    ensures { (log : RunLog) (ss : List TraceSecond) → IsWithoutCards log → OnlySelect ss → (kind limit : ℕ) (sessions : ℕ → Card → ℕ) →
+    ensures { (log : RunLog) → IsWithoutCards log → (ss : List TraceSecond) → OnlySelect ss → (kind limit : ℕ) (sessions : ℕ → Card → ℕ) →
         events_of kind limit sessions log ss ≡ plain_events kind limit log (spans_of (went log ss).told) }
 {}
 

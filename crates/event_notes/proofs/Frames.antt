@@ -89,7 +89,7 @@ module _ (noted : ℕ) (apart : AreApart noted) (x c : List ℕ) (same : SameOut
 
     pub table-more : (more : Lists) → of_kind noted more ≡ e ∷ [] → ((kind : ℕ) → kind ≢ noted → of_kind kind more ≡ []) → (kind : ℕ) → Contains all_kinds kind →
         AreNoted no_number (table_in kind x) (of_kind kind more) (table_in kind c)
-    table-more more one none kind there = by (nat_eq kind noted) refl
+    table-more more one else_none kind there = by (nat_eq kind noted) refl
       where
         by : (b : Bool) → nat_eq kind noted ≡ b → AreNoted no_number (table_in kind x) (of_kind kind more) (table_in kind c)
         by true is =
@@ -98,7 +98,7 @@ module _ (noted : ℕ) (apart : AreApart noted) (x c : List ℕ) (same : SameOut
             subst (λ (k : ℕ). AreNoted no_number (table_in k x) (of_kind k more) (table_in k c)) (sym (eqb-true kind noted is)) here
         by false is =
             let ne = eqb-false kind noted is in
-            subst (λ (es : List Event). AreNoted no_number (table_in kind x) es (table_in kind c)) (sym (none kind ne)) (others-same kind there ne)
+            subst (λ (es : List Event). AreNoted no_number (table_in kind x) es (table_in kind c)) (sym (else_none kind ne)) (others-same kind there ne)
 
 -- one event of a type
 none-else : (b c : Bool) → cond {A = List Event} b [] (cond c [] []) ≡ []

@@ -33,12 +33,13 @@ still-unit run unit = record { sized = run.size ∙ unit.sized; behind = run.beh
 
 -- an event that came is none that did not
 unsure-of : {P : Type 0} (e : Event) (events : List Event) → (e ∷ events ≡ []) ⊎ (P → ⊥) → P → ⊥
-unsure-of e events h = ⊎_elim (λ none. absurd (cc)) (λ no. no) h
+unsure-of e events (inl gone) = absurd (cc)
+unsure-of e events (inr never) = never
 
 -- NOTHING was noted
 pub none-by : (U : State) → AreNotedBy false no_events U U
 none-by U = record {
-  noted = λ fine start log later l now h stay lead. noted-then start log later l no_events now {U} {U} h lead (λ c left. (c, left, itself-more later now c));
+  noted = λ fine start log later l now h stay lead. noted-then start log later l no_events now {U = U} {V = U} h lead (λ c left. (c, left, itself-more later now c));
   broken = λ fails. absurd (cc);
 }
 
@@ -47,11 +48,11 @@ pub bare-by : {U V : State} (failed : Bool) (s : Span) (v : UnitEvent) → IsCoh
     (failed ≡ false → IfSome U.image (λ x. IfSome V.image (IsEventNoted 0x04 (fault_bytes v) x))) → LeavesOnly U V (IsNotingEvent 0x04 (fault_bytes v)) → AreNotedBy failed (ended_in (Some s) None) U V
 bare-by {U} {V} failed s v before after unit is small_begin small_end cause noted moments = record {
   noted = λ fine start log later l now h stay lead.
-      noted-after start log later l (one_bare (bare_event s)) now {U} {V} h before after (cause.works ∙ ap not fine) moments.tells lead (IsEventNoted 0x04 (fault_bytes v)) (noted fine)
+      noted-after start log later l (one_bare (bare_event s)) now {U = U} {V = V} h before after (cause.works ∙ ap not fine) moments.tells lead (IsEventNoted 0x04 (fault_bytes v)) (noted fine)
       (λ x c was done. bare-noted later now (bare_event s) (fault_bytes v) x c refl (unit_sized before unit x was)
-      (event_front_of no_number (bare_event s) v (λ card. refl) (λ e. omega (arith, e)) small_begin small_end is) done);
+      (event_front_of no_number (bare_event s) v (λ card. refl) (λ e. let no : 4 ≡ 7 = e in omega (arith, no)) small_begin small_end is) done);
   broken = λ fails start log later l now h stay lead unsure.
-      noted-aside start log later l now {U} {V} h before lead (IsNotingEvent 0x04 (fault_bytes v)) moments
+      noted-aside start log later l now {U = U} {V = V} h before lead (IsNotingEvent 0x04 (fault_bytes v)) moments
       (λ x c moment. noting-more 0x04 bares-apart x c moment.outside later now (unsure-of (bare_event s) [] unsure.bares));
 }
 
@@ -60,24 +61,24 @@ pub gap-by : {U V : State} (failed : Bool) (s : Span) (v : UnitEvent) → IsCohe
     (failed ≡ false → IfSome U.image (λ x. IfSome V.image (IsEventNoted 0x08 (fault_bytes v) x))) → LeavesOnly U V (IsNotingEvent 0x08 (fault_bytes v)) → AreNotedBy failed (one_gap (gap_event s)) U V
 gap-by {U} {V} failed s v before after unit is small_begin small_end cause noted moments = record {
   noted = λ fine start log later l now h stay lead.
-      noted-after start log later l (one_gap (gap_event s)) now {U} {V} h before after (cause.works ∙ ap not fine) moments.tells lead (IsEventNoted 0x08 (fault_bytes v)) (noted fine)
+      noted-after start log later l (one_gap (gap_event s)) now {U = U} {V = V} h before after (cause.works ∙ ap not fine) moments.tells lead (IsEventNoted 0x08 (fault_bytes v)) (noted fine)
       (λ x c was done. gap-noted later now (gap_event s) (fault_bytes v) x c refl (unit_sized before unit x was)
-      (event_front_of no_number (gap_event s) v (λ card. refl) (λ e. omega (arith, e)) small_begin small_end is) done);
+      (event_front_of no_number (gap_event s) v (λ card. refl) (λ e. let no : 8 ≡ 7 = e in omega (arith, no)) small_begin small_end is) done);
   broken = λ fails start log later l now h stay lead unsure.
-      noted-aside start log later l now {U} {V} h before lead (IsNotingEvent 0x08 (fault_bytes v)) moments
+      noted-aside start log later l now {U = U} {V = V} h before lead (IsNotingEvent 0x08 (fault_bytes v)) moments
       (λ x c moment. noting-more 0x08 gaps-apart x c moment.outside later now (unsure-of (gap_event s) [] unsure.gaps));
 }
 
 -- AN OVER SPEEDING
 pub over-by : {U V : State} (failed : Bool) (o : Over) (card : FullCardNumber) → IsCoherent U → IsCoherent V → IsUnit U → card_number_bytes card ≡ replicate 18 0 → 0 < o.begin → o.begin < 2 ^ 32 → o.end < 2 ^ 32 → HasCause U V failed →
     (failed ≡ false → IfSome U.image (λ x. IfSome V.image (IsOverNoted o.begin (over_bytes o card) x))) → LeavesOnly U V (IsNotingOver o.begin (over_bytes o card)) → AreNotedBy failed (ended_in None (Some o)) U V
-over-by {U} {V} failed o card before after unit none some small_begin small_end cause noted moments = record {
+over-by {U} {V} failed o card before after unit blank some small_begin small_end cause noted moments = record {
   noted = λ fine start log later l now h stay lead.
-      noted-after start log later l (one_over (over_event o)) now {U} {V} h before after (cause.works ∙ ap not fine) moments.tells lead (IsOverNoted o.begin (over_bytes o card)) (noted fine)
+      noted-after start log later l (one_over (over_event o)) now {U = U} {V = V} h before after (cause.works ∙ ap not fine) moments.tells lead (IsOverNoted o.begin (over_bytes o card)) (noted fine)
       (λ x c was done. over-noted later now (over_event o) o.begin (over_bytes o card) x (unit_sized before unit x was) c refl refl some small_begin
-      (over_front_of no_number (over_event o) o card (λ c. refl) small_begin small_end (record { kind = refl; begin = refl; end = refl; most = refl; average = refl; driver = none })) done);
+      (over_front_of no_number (over_event o) o card (λ c. refl) small_begin small_end (record { kind = refl; begin = refl; end = refl; most = refl; average = refl; driver = blank })) done);
   broken = λ fails start log later l now h stay lead unsure.
-      noted-then start log later l no_events now {U} {V} h lead
+      noted-then start log later l no_events now {U = U} {V = V} h lead
       (λ c left. ⊎_elim (λ was. (c, was, itself-more later now c))
       (λ here. (here.0, before.is_left here.0 here.1, over-noting later now (over_event o) o.begin (over_bytes o card) here.0 (unit_sized before unit here.0 here.1) c (unsure-of (over_event o) [] unsure.overs) here.2)) (moments.now c left));
 }
@@ -106,7 +107,7 @@ lead-second log later l now bare over lead = record {
 -- where what was noted first is not sure in the end
 lead-unsure : (log later : RunLog) (l now : Lists) (bare : Option Span) (over : Option Over) → AllLead log l no_events later now → AreUnsure later now (ended_in bare over) → AllLead log l (ended_in bare None) later now
 lead-unsure log later l now bare over lead unsure = record {
-  bares = ⊎_elim (λ none. subst (λ (es : List Event). Leads log l.bares es later now.bares) (sym none) lead.bares) (λ no. (λ sure. absurd (no sure))) unsure.bares;
+  bares = ⊎_elim (λ gone. subst (λ (es : List Event). Leads log l.bares es later now.bares) (sym gone) lead.bares) (λ never. (λ sure. absurd (never sure))) unsure.bares;
   overs = lead.overs;
   gaps = lead.gaps;
 }
@@ -130,7 +131,7 @@ both-by {U} {M} {V} failed bare over first second = record {
 
 -- THE INTERRUPTION that a power-on ends, if there is one
 pub gap-none : (kept now : ℕ) → gap_of kept now ≡ None → gap_in kept now ≡ no_events
-gap-none kept now none = ap (λ (o : Option Span). record { bares = []; overs = []; gaps = map gap_event (option_to_list o) }) none
+gap-none kept now gone = ap (λ (o : Option Span). record { bares = []; overs = []; gaps = map gap_event (option_to_list o) }) gone
 
 pub gap-some : (kept now : ℕ) (s : Span) → gap_of kept now ≡ Some s → gap_in kept now ≡ one_gap (gap_event s)
 gap-some kept now s some = ap (λ (o : Option Span). record { bares = []; overs = []; gaps = map gap_event (option_to_list o) }) some

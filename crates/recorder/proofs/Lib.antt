@@ -3,6 +3,7 @@ pub mod Actions
 pub mod Beginning
 pub mod Broken
 pub mod Due
+pub mod Events
 pub mod Items
 pub mod Keep
 pub mod Opened

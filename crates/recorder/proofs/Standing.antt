@@ -15,6 +15,9 @@ use Rattle.unit_rule.proofs.Found.{found-holds, holds-later}
 use Rattle.unit_rule.proofs.Marking.{holds-aside, holds-read}
 use Rattle.unit_rule.proofs.Mending.{mending-aside, mending-odometer}
 use Rattle.unit_rule.proofs.Travelling.{travelled-aside, travelled-read, travelled-found}
+use Rattle.unit_rule.proofs.Elsewhere.{holds-elsewhere, travelled-elsewhere}
+use Rattle.unit_notes.specs.Journal.{LeavesJournal}
+use Rattle.unit_notes.proofs.Journals.{same_journal}
 use Rattle.unit_rule.specs.Odometer.{ShowsOdometer}
 use Rattle.recorder.specs.Standing.{Began, Travel, travelled, resumed, all_travelled, Stands}
 
@@ -37,6 +40,13 @@ module _ (s : Began) (due : ℕ) (b : Book) (g : Travel) (marks : List Mark) {U 
   stands-found k x after run works is last =
       let on = travelled-found s.odometer b g h.travels before k x after run works is in
       (on.0, record { holds = found-holds s.opened due b marks h.holds before after run works x is k last; travels = on.1 })
+
+  -- notes leave the bytes of the journal alone
+  pub stands-noted : LeavesOnly U V LeavesJournal → Stands s due b g marks V
+  stands-noted run = record {
+    holds = holds-elsewhere s.opened due b marks h.holds before LeavesJournal run (λ x c same. (same_journal x c same.keeps, same.decodes));
+    travels = travelled-elsewhere s.odometer b g h.travels before LeavesJournal run (λ x c same. same_journal x c same.keeps);
+  }
 
 -- an image that a stop may leave shows what the book says
 pub may-show : (s : Began) (due : ℕ) (b : Book) (g : Travel) (marks : List Mark) (unit : State) → Stands s due b g marks unit → (y : List ℕ) → unit.may_leave y → (shown : ShowsOdometer s.odometer b g y) → MayShow s.opened.first b g (last_kept y) shown.leg

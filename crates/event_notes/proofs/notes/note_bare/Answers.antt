@@ -21,7 +21,7 @@ pub note_event-requires-clause-begin : goal.note_event-requires-clause-begin
 note_event-requires-clause-begin g c =
     let some : 0 < c.in-Some.span.begin = subst (λ (o : Option Span). IfSome o (λ s. 0 < s.begin)) c.in-Some.is c.requires.begin in
     let is = c.bare.ensures.begin in
-    λ none. omega (arith, some, is, none)
+    λ gone. omega (arith, some, is, gone)
 
 pub returns-in-Some-clause-noted : goal.returns-in-Some-clause-noted
 returns-in-Some-clause-noted g c =

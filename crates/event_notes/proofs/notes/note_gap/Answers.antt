@@ -21,7 +21,7 @@ pub note_event-requires-clause-begin : goal.note_event-requires-clause-begin
 note_event-requires-clause-begin g c =
     let some = gap-begins c.args.kept c.args.now c.in-Some.span (sym c.power_gap.ensures ∙ c.in-Some.is) in
     let is = c.gap.ensures.begin in
-    λ none. omega (arith, some, is, none)
+    λ gone. omega (arith, some, is, gone)
 
 pub returns-in-Some-clause-noted : goal.returns-in-Some-clause-noted
 returns-in-Some-clause-noted g c =

@@ -10,7 +10,7 @@ use Rattle.event_notes.proofs.notes.note_over.Goals as goal
 pub note_over-requires-clause-begin : goal.note_over-requires-clause-begin
 note_over-requires-clause-begin g c =
     let some : 0 < c.in-Some.over.begin = subst (λ (o : Option Over). IfSome o (λ o. 0 < o.begin)) c.in-Some.is c.requires.begin in
-    λ none. omega (arith, some, none)
+    λ gone. omega (arith, some, gone)
 
 pub returns-in-Some-clause-noted : goal.returns-in-Some-clause-noted
 returns-in-Some-clause-noted g c =
