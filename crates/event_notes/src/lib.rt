@@ -4,5 +4,7 @@
 
 mod entries;
 mod notes;
+mod watch;
 
 pub use notes::{note_ended, note_gap};
+pub use watch::Watch;

@@ -1,9 +1,6 @@
 -- What is known of a run between two calls, whatever its unit tells (profile).
 use Rattle.std.specs.Prelude.{◌≡◌, ℕ, ◌+◌, ◌-◌, ◌/◌, ◌<◌, ◌≤◌, ◌^◌, true, IfSome, List, length}
-use Rattle.std.specs.List.{AllByRecursion}
-use Rattle.event_model.specs.Spans.{DriverSecond, SpeedSecond}
-use Rattle.event_rules.specs.Bare.{StandsFor as StandsForBare, IsNext as IsNextBare}
-use Rattle.event_rules.specs.Speeding.{StandsFor as StandsForOver, IsNext as IsNextOver}
+use Rattle.event_notes.specs.Watching.{Watches}
 use Rattle.tach_media.specs.Medium.{State}
 use Rattle.minute_model.specs.Span.{Span, end_of, ungiven_of}
 use Rattle.minute_rules.specs.Kept.{StandsFor}
@@ -38,15 +35,8 @@ pub record IsLit (run : Run) (unit : State) : Type 0 where
   pub next : end_of span ≡ run.next
   pub low : first_second ≤ span.first
   pub later : run.journal.kept < ungiven_of span
-  -- the feeds of events stand for seconds of the span, up to the next second
-  pub drivers : List DriverSecond
-  pub bare : StandsForBare run.bare drivers
-  pub bare_next : IsNextBare run.bare run.next
-  pub drivers_late : AllByRecursion (λ (s : DriverSecond). first_second ≤ s.number) drivers
-  pub speeds : List SpeedSecond
-  pub over : StandsForOver run.over speeds
-  pub over_next : IsNextOver run.over.run run.next
-  pub speeds_late : AllByRecursion (λ (s : SpeedSecond). first_second ≤ s.number) speeds
+  -- its events are watched up to the next second
+  pub watches : Watches run.watch run.next
 
 -- a run between two calls
 pub record IsGoing (run : Run) (unit : State) : Type 0 where

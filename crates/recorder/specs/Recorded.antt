@@ -18,8 +18,7 @@ use Rattle.unit_course.specs.Turn.{span_at}
 use Rattle.unit_course.specs.Travelled.{HasLegs}
 use Rattle.unit_model.specs.declared.layout.TheConstants.{SPEED_LIMIT}
 use Rattle.unit_model.specs.Image.{number_of}
-use Rattle.event_rules.specs.Bare.{StandsFor as StandsForBare}
-use Rattle.event_rules.specs.Speeding.{StandsFor as StandsForOver}
+use Rattle.event_notes.specs.Watching.{Stand}
 use Rattle.event_course.specs.Plain.{driver_seconds, speed_seconds}
 use Rattle.event_course.specs.Noted.{lists_at}
 use Rattle.event_course.specs.Gaps.{HasGaps}
@@ -50,9 +49,8 @@ progress breaks unfound next begun supply book =
 
 -- the feeds of events stand for the seconds of a span
 pub record IsWatched (run : Run) (limit : ℕ) (span : List Told) : Type 0 where
-  pub bare : StandsForBare run.bare (driver_seconds span)
-  pub over : StandsForOver run.over (speed_seconds span)
-  pub limit_is : run.over.limit ≡ limit
+  pub stand : Stand run.watch (driver_seconds span) (speed_seconds span)
+  pub limit_is : run.watch.over.limit ≡ limit
 
 -- Between two seconds, behind these seconds of the trace: the unit and its marks are as the book says, and the book follows the
 -- history of the seconds by the breaks. While there is power, the minutes stand for the seconds of the span.

@@ -16,8 +16,7 @@ ghost use Rattle.recorder.specs.declared.run.Power.TheVariants.{Lit, Due, Lost};
 use crate::lines::Lines;
 use crate::opening::{RunFault, judge_clock, load};
 use crate::run::{Power, Run};
-use event_notes::note_gap;
-use event_rules::{NoCardRun, Overspeed};
+use event_notes::{Watch, note_gap};
 use log_model::Break;
 use minute_rules::{Minutes, Rule};
 use tach_media::{Failed, Medium};
@@ -34,8 +33,7 @@ impl Run {
     ghost use Rattle.minute_model.specs.declared.Rule.TheVariants.{Original};
     ghost use Rattle.minute_model.specs.Span.{begin};
     ghost use Rattle.minute_rules.specs.Kept.{StandsFor};
-    ghost use Rattle.event_rules.specs.Bare.{StandsFor as StandsForBare};
-    ghost use Rattle.event_rules.specs.Speeding.{StandsFor as StandsForOver};
+    ghost use Rattle.event_notes.specs.Watching.{Stand};
     ghost use Rattle.log_model.specs.Log.{RunLog};
     ghost use Rattle.event_course.specs.Noted.{Lists, no_events, AllLead, StayFailed};
     ghost use Rattle.event_course.specs.Shown.{HasNoted};
@@ -235,15 +233,13 @@ impl Run {
         ensures odometer { self.new.odometer ≡ journal.odometer }
         ensures memory { self.new.memory ≡ self.old.memory }
         ensures minutes { StandsFor self.new.minutes (begin Original self.old.next) }
-        ensures bare { StandsForBare self.new.bare [] }
-        ensures over { StandsForOver self.new.over [] }
-        ensures limit { self.new.over.limit ≡ self.old.memory.limit }
+        ensures watch { Stand self.new.watch [] [] }
+        ensures limit { self.new.watch.over.limit ≡ self.old.memory.limit }
     {
         self.odometer = journal.odometer().0;
         self.journal = journal;
         self.minutes = Minutes::new(Rule::Original, self.next);
-        self.bare = NoCardRun::new();
-        self.over = Overspeed::new(self.memory.identity().limit);
+        self.watch = Watch::new(self.memory.identity().limit);
         self.power = Power::Lit;
     }
 }

@@ -19,7 +19,7 @@ ghost use Rattle.recorder.specs.Room.{first_waiting};
 
 use crate::opening::{Opened, RunFault, judge};
 use crate::outcome::Outcome;
-use event_rules::{NoCardRun, Overspeed};
+use event_notes::Watch;
 use minute_rules::{Minutes, Rule};
 use tach_media::{Chip, Medium};
 use trace_text::{Action, Item, Items, Trace};
@@ -55,10 +55,8 @@ pub struct Run {
     pub odometer: u32,
     /// What the unit was told of the vehicle.
     pub memory: UnitMemory,
-    /// The run without a card of the span that goes on, while the unit has power.
-    pub bare: NoCardRun,
-    /// The over speeding of the span that goes on, while the unit has power.
-    pub over: Overspeed,
+    /// The events of the span that goes on, while the unit has power.
+    pub watch: Watch,
 }
 
 /// Records a trace on the unit. The cards stay untouched.
@@ -182,8 +180,7 @@ impl Run {
             odometer,
             journal: opened.journal,
             memory: opened.memory,
-            bare: NoCardRun::new(),
-            over: Overspeed::new(limit),
+            watch: Watch::new(limit),
         }
     }
 

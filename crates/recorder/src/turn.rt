@@ -10,7 +10,6 @@ use crate::opening::RunFault;
 use crate::outcome::Outcome;
 use crate::run::Run;
 use activity_codec::Steps;
-use event_notes::note_ended;
 use log_model::{Break, Refused, SlotFault};
 use minute_rules::{Decided, Minutes};
 use std::marker::Brand;
@@ -80,8 +79,7 @@ impl Run {
     ghost use Rattle.history_model.specs.Book.{Book};
     ghost use Rattle.recorder.specs.Standing.{Began, Travel, Stands};
     ghost use Rattle.log_model.specs.declared.lines.Mark.{Mark};
-    ghost use Rattle.event_rules.specs.Bare.{IsNext as IsNextBare};
-    ghost use Rattle.event_rules.specs.Speeding.{IsNext as IsNextOver};
+    ghost use Rattle.event_notes.specs.Watching.{Watches};
     ghost use Rattle.recorder.specs.Watching.{IsWatchedBy};
     ghost use Rattle.tach_media.specs.Medium.{last_count};
 
@@ -318,12 +316,10 @@ impl Run {
         requires going { IsGoing self.old (M.state unit.old) }
         requires some { 0 < n }
         requires most { n ≤ self.old.next }
-        requires bare { IsNextBare self.old.bare (self.old.next - n) }
-        requires over { IsNextOver self.old.over.run (self.old.next - n) }
+        requires watches { Watches self.old.watch (self.old.next - n) }
         requires room { length breaks.old.items < breaks.old.room }
         ensures watched { IsWatchedBy self.old self.new n speed breaks.old.items breaks.new.items (M.state unit.old) (M.state unit.new) }
-        ensures bare { IsNextBare self.new.bare self.new.next }
-        ensures over { IsNextOver self.new.over.run self.new.next }
+        ensures watches { Watches self.new.watch self.new.next }
         ensures room { breaks.new.room ≡ breaks.old.room }
         ensures unit { IsUnit (M.state unit.new) }
         ensures goes_on { GoesOn (M.state unit.old) (M.state unit.new) }
@@ -331,9 +327,11 @@ impl Run {
         ensures stands { (s : Began) (due : ℕ) (b : Book) (g : Travel) (marks : List Mark) → Stands s due b g marks (M.state unit.old) → Stands s due b g marks (M.state unit.new) }
     {
         let first = self.next - n;
-        let bare = self.bare.feed_run(first, n, speed > 0);
-        let over = self.over.feed_run(first, n, speed);
-        if note_ended(&self.memory, bare, over, unit).is_err() {
+        if self
+            .watch
+            .turn(&self.memory, first, n, speed, unit)
+            .is_err()
+        {
             let begun = self.begun;
             self.cut(self.next - 1, true, begun, breaks);
         }
