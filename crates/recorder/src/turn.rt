@@ -10,11 +10,11 @@ use crate::opening::RunFault;
 use crate::outcome::Outcome;
 use crate::run::Run;
 use activity_codec::Steps;
-use log_model::{Break, Refused, SlotFault};
-use minute_rules::{Decided, Minutes};
+use log_model::{Mark, Refused, SlotFault};
+use minute_rules::{Decided, Minute, Minutes};
 use std::marker::Brand;
 use std::sync::ledger::{Blank, Ledger};
-use tach_media::Medium;
+use tach_media::{Failed, Medium};
 use trace_text::{Action, Item, Items};
 
 /// How many seconds a turn takes: the first of a minute alone, and then up to the minute's end.
@@ -78,9 +78,14 @@ impl Run {
     ghost use Rattle.recorder.specs.declared.run.Power.TheVariants.{Lit};
     ghost use Rattle.history_model.specs.Book.{Book};
     ghost use Rattle.recorder.specs.Standing.{Began, Travel, Stands};
-    ghost use Rattle.log_model.specs.declared.lines.Mark.{Mark};
+    ghost use Rattle.std.specs.Prelude.{IfSome, OnErr, None, is_err};
+    ghost use Rattle.tach_media.specs.Medium.{HasCause};
+    ghost use Rattle.unit_model.specs.declared.layout.TheConstants.{HIGHEST_ODOMETER};
+    ghost use Rattle.unit_journal.specs.Image.{Agrees};
+    ghost use Rattle.recorder.specs.Standing.{odometer_after, all_travelled};
+    ghost use Rattle.recorder.specs.Keeping.{AreDue, kept_after, AreFrom, due_after, kept_all, MarksStay, AreAllMarked};
     ghost use Rattle.event_notes.specs.Watching.{Watches};
-    ghost use Rattle.recorder.specs.Watching.{IsWatchedBy};
+    ghost use Rattle.recorder.specs.Watching.{IsTurnBrokenOff, IsTurnWatched};
     ghost use Rattle.tach_media.specs.Medium.{last_count};
 
     /// So many seconds at one speed, from 1 on, with the actions among the items from one index to another at their beginning.
@@ -259,9 +264,6 @@ impl Run {
             return;
         }
         self.lit_turn(n, speed, begun, unit, outcome);
-        if self.is_lit() {
-            self.watch(n, speed, unit, &mut outcome.breaks);
-        }
     }
 
     /// The same with power. Where the keeping fails, the power is lost in the last of the seconds.
@@ -293,14 +295,7 @@ impl Run {
             → IsLitTurn s self.old self.new outcome.old.breaks.items outcome.new.breaks.items n speed begun b g outcome.old.marks.items outcome.new.marks.items (M.state unit.new) }
     {
         let decided = feed(&mut self.minutes, n, speed);
-        let odometer = self.odometer;
-        match keep_all(
-            &mut self.journal,
-            decided.as_slice(),
-            odometer,
-            unit,
-            &mut outcome.marks,
-        ) {
+        match self.keep_turn(decided.as_slice(), n, speed, unit, &mut outcome.marks) {
             Ok(()) => self.pass(n, begun),
             Err(_) => {
                 self.cut(self.next + n - 1, true, begun, &mut outcome.breaks);
@@ -309,32 +304,53 @@ impl Run {
         }
     }
 
-    /// The last so many seconds, as events see them: what has ended with the second before them is noted, which is nothing unless
-    /// they are one. Where that fails, the power is lost in the last of them, behind its actions and its keeping.
-    fn watch<M: Medium>(&mut self, n: u32, speed: u8, unit: &mut M, breaks: &mut Lines<Break>)
-        requires lit { self.old.power ≡ Lit }
-        requires going { IsGoing self.old (M.state unit.old) }
+    /// Keeps the minutes that so many seconds have decided, and then notes what has ended with the second before them: nothing
+    /// has unless they are one.
+    ///
+    /// # Errors
+    ///
+    /// `Failed` where the unit failed: some of the minutes are kept then, and the next one may be; or all are, and what ended may
+    /// be noted or not.
+    fn keep_turn<M: Medium>(
+        &mut self,
+        decided: &[Minute],
+        n: u32,
+        speed: u8,
+        unit: &mut M,
+        marks: &mut Lines<Mark>,
+    ) -> Result<(), Failed>
+        requires works { (M.state unit.old).works ≡ true }
+        requires unit { IsUnit (M.state unit.old) }
+        requires agrees { IfSome (M.state unit.old).image (Agrees self.old.journal) }
+        requires due { AreDue self.old.journal.kept decided.now }
+        requires odometer { self.old.odometer ≤ HIGHEST_ODOMETER }
+        requires room { length marks.old.items + length decided.now ≤ marks.old.room }
         requires some { 0 < n }
-        requires most { n ≤ self.old.next }
-        requires watches { Watches self.old.watch (self.old.next - n) }
-        requires room { length breaks.old.items < breaks.old.room }
-        ensures watched { IsWatchedBy self.old self.new n speed breaks.old.items breaks.new.items (M.state unit.old) (M.state unit.new) }
-        ensures watches { Watches self.new.watch self.new.next }
-        ensures room { breaks.new.room ≡ breaks.old.room }
+        requires low { 0 < self.old.next }
+        requires small { self.old.next + n ≤ end_of_seconds }
+        requires watches { Watches self.old.watch self.old.next }
+        ensures only { self.new ≡ record self.old { journal = self.new.journal; watch = self.new.watch } }
         ensures unit { IsUnit (M.state unit.new) }
-        ensures goes_on { GoesOn (M.state unit.old) (M.state unit.new) }
-        ensures broke { BreaksDown breaks.old.items breaks.new.items (M.state unit.old) (M.state unit.new) }
-        ensures stands { (s : Began) (due : ℕ) (b : Book) (g : Travel) (marks : List Mark) → Stands s due b g marks (M.state unit.old) → Stands s due b g marks (M.state unit.new) }
+        ensures agrees { OnOk result (IfSome (M.state unit.new).image (Agrees self.new.journal)) }
+        ensures kept { OnOk result (self.new.journal.kept ≡ kept_after self.old.journal.kept decided.now) }
+        ensures room { marks.new.room ≡ marks.old.room }
+        ensures few { length marks.new.items ≤ length marks.old.items + length decided.now }
+        ensures stay { MarksStay marks.old.items marks.new.items }
+        ensures each { OnOk result (AreAllMarked decided.now marks.new.items) }
+        ensures marked { (s : Began) (due : ℕ) (b : Book) (g : Travel) → Stands s due b g marks.old.items (M.state unit.old) → b.maybe ≡ None → self.old.odometer ≡ odometer_after s.odometer g.before → AreFrom due decided.now → (M.state unit.new).clock < last_count
+            → OnOk result (Stands s (due_after due decided.now) (kept_all decided.now b) (all_travelled decided.now g) marks.new.items (M.state unit.new)) }
+        ensures broken { (s : Began) (due : ℕ) (b : Book) (g : Travel) → Stands s due b g marks.old.items (M.state unit.old) → b.maybe ≡ None → self.old.odometer ≡ odometer_after s.odometer g.before → AreFrom due decided.now → (M.state unit.new).clock < last_count
+            → OnErr result (IsTurnBrokenOff s due b g decided.now marks.new.items (M.state unit.new)) }
+        ensures watches { OnOk result (Watches self.new.watch (self.old.next + n)) }
+        ensures watched { IsTurnWatched (is_err result) self.old.watch self.new.watch self.old.next n speed (M.state unit.old) (M.state unit.new) }
+        ensures clock { (M.state unit.old).clock ≤ (M.state unit.new).clock }
+        ensures tells { is_some (M.state unit.new).image ≡ is_some (M.state unit.old).image }
+        ensures cause { HasCause (M.state unit.old) (M.state unit.new) (is_err result) }
     {
-        let first = self.next - n;
-        if self
-            .watch
-            .turn(&self.memory, first, n, speed, unit)
-            .is_err()
-        {
-            let begun = self.begun;
-            self.cut(self.next - 1, true, begun, breaks);
-        }
+        let odometer = self.odometer;
+        keep_all(&mut self.journal, decided, odometer, unit, marks)?;
+        let first = self.next;
+        self.watch.turn(&self.memory, first, n, speed, unit)
     }
 
     /// So many seconds are over, the last of which had so many actions.
