@@ -1,3 +1,3 @@
 pub mod Frames
-pub mod Notes
+pub mod Calling
 pub mod Watching

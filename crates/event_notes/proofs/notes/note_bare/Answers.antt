@@ -8,7 +8,7 @@ use Rattle.unit_notes.specs.Journal.{LeavesJournal}
 use Rattle.unit_notes.specs.Noting.{IsNotingEvent, IsEventNoted}
 use Rattle.tach_media.specs.Medium.{LeavesOnly}
 use Rattle.event_notes.specs.Noting.{ended_in, AreNotedBy}
-use Rattle.event_notes.proofs.Notes.{still-unit, none-by, bare-by}
+use Rattle.event_notes.proofs.Calling.{still-unit, none-by, bare-by}
 use Rattle.event_notes.proofs.notes.note_bare.Goals as goal
 
 pub note_event-requires-clause-kind : goal.note_event-requires-clause-kind

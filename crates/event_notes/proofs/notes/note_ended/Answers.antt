@@ -1,6 +1,6 @@
 use Rattle.std.specs.Prelude.{is_err}
 use Rattle.tach_media.proofs.Runs.{cause_after}
-use Rattle.event_notes.proofs.Notes.{first-by, both-by, journal-then}
+use Rattle.event_notes.proofs.Calling.{first-by, both-by, journal-then}
 use Rattle.event_notes.proofs.notes.note_ended.Goals as goal
 
 pub note_over-requires-clause-works : goal.note_over-requires-clause-works

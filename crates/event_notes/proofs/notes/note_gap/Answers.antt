@@ -8,7 +8,7 @@ use Rattle.unit_notes.specs.Noting.{IsNotingEvent, IsEventNoted}
 use Rattle.tach_media.specs.Medium.{LeavesOnly}
 use Rattle.event_course.specs.Noted.{Lists}
 use Rattle.event_notes.specs.Noting.{AreNotedBy}
-use Rattle.event_notes.proofs.Notes.{still-unit, none-by, gap-by, gap-none, gap-some, gap-begins}
+use Rattle.event_notes.proofs.Calling.{still-unit, none-by, gap-by, gap-none, gap-some, gap-begins}
 use Rattle.event_notes.proofs.notes.note_gap.Goals as goal
 
 pub note_event-requires-clause-kind : goal.note_event-requires-clause-kind

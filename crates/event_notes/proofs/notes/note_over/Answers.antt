@@ -4,7 +4,7 @@ use Rattle.tach_media.proofs.Runs.{starts, no_reads, ok_gives}
 use Rattle.event_model.specs.declared.entries.Over.{Over}
 use Rattle.unit_notes.specs.Journal.{LeavesJournal}
 use Rattle.event_notes.specs.Noting.{ended_in, AreNotedBy}
-use Rattle.event_notes.proofs.Notes.{still-unit, none-by, over-by}
+use Rattle.event_notes.proofs.Calling.{still-unit, none-by, over-by}
 use Rattle.event_notes.proofs.notes.note_over.Goals as goal
 
 pub note_over-requires-clause-begin : goal.note_over-requires-clause-begin

@@ -3,6 +3,12 @@ use Rattle.std.proofs.Common.{ℕ, ◌<◌, List, ◌++◌}
 use Rattle.event_notes.proofs.Watching.{each-append, bare-row, speed-row, bare-some, over-some}
 use Rattle.event_notes.proofs.watch.Watch.turn.Goals as goal
 
+pub feed_run-bare-requires-clause-next : goal.feed_run-bare-requires-clause-next
+feed_run-bare-requires-clause-next g c = c.requires.watches.bare_next
+
+pub feed_run-over-requires-clause-next : goal.feed_run-over-requires-clause-next
+feed_run-over-requires-clause-next g c = c.requires.watches.over_next
+
 pub note_ended-requires-clause-bare : goal.note_ended-requires-clause-bare
 note_ended-requires-clause-bare g c =
     let w = c.requires.watches in
