@@ -12,7 +12,7 @@ use Rattle.event_notes.proofs.Calling.{still-unit, none-by, gap-by, gap-none, ga
 use Rattle.event_notes.proofs.notes.note_gap.Goals as goal
 
 pub note_event-requires-clause-kind : goal.note_event-requires-clause-kind
-note_event-requires-clause-kind g c = subst (λ (k : ℕ). IsTrue (is_event k && not (k == 7))) (sym c.gap.ensures.kind) tt
+note_event-requires-clause-kind g c = subst (λ (k : ℕ). IsTrue (is_event k && not (k == 7))) (sym c.gap.ensures.kind) refl
 
 pub note_event-requires-clause-purpose : goal.note_event-requires-clause-purpose
 note_event-requires-clause-purpose g c = c.gap.ensures.purpose ∙ ap (λ (k : ℕ). purpose_number (purpose_of k)) (sym c.gap.ensures.kind)
