@@ -36,3 +36,4 @@ pub mod Replaying
 pub mod Repairing
 pub mod Revalid
 pub mod InsertingSession
+pub mod Memory
