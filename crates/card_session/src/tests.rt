@@ -56,6 +56,9 @@ const BEGIN: u32 = 1267437600;
 
 fn new_card(alloc: Global) -> Result<MemMedium, Memory> {
     let image = blank_card(alloc, &IDENTITY, &SMALLEST)?;
+    if image.len() > SIZE {
+        return Err(Memory);
+    }
     MemMedium::new(alloc, image, 64, 1024, Vec::new(alloc))
 }
 

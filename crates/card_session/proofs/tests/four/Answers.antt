@@ -7,8 +7,8 @@ use Rattle.card_session.proofs.tests.four.Goals as goal
 -- four entries of the day, one after the other
 owed : (now : ℕ) (a b c d : Entry) → a.minute ≡ 21123959 → b.minute ≡ 21123960 → c.minute ≡ 21123961 → d.minute ≡ 21123963 → 21123963 < now / 60 → AreOwed now (a ∷ b ∷ c ∷ d ∷ [])
 owed now a b c d first second third last late = (
-  (omega (arith, first), omega (arith, first, second), omega (arith, second, third), omega (arith, third, last), tt),
-  All-from_recursion (λ e. e.minute < now / 60) (a ∷ b ∷ c ∷ d ∷ []) (omega (arith, first, late), omega (arith, second, late), omega (arith, third, late), omega (arith, last, late), tt),
+  (omega (arith, first), (omega (arith, first, second), (omega (arith, second, third), (omega (arith, third, last), tt)))),
+  All-from_recursion (λ e. e.minute < now / 60) (a ∷ b ∷ c ∷ d ∷ []) (omega (arith, first, late), (omega (arith, second, late), (omega (arith, third, late), (omega (arith, last, late), tt)))),
 )
 
 pub returns : goal.returns

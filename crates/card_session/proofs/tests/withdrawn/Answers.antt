@@ -5,7 +5,8 @@ use Rattle.card_session.specs.Sessions.{Session, MayClose}
 use Rattle.card_session.proofs.Memory.{may_close}
 use Rattle.card_session.proofs.tests.withdrawn.Goals as goal
 
-pub close-requires-clause-card : goal.close-requires-clause-card
-close-requires-clause-card c =
-    subst (λ (p : Application). MayClose p (memory_state c.args.card.now.log c.args.card.now.counts)) (ap (λ (s : Session). s.application) c.session.view_is)
-    (may_close c.session.inside.application c.args.card.now.log c.args.card.now.counts (omega (arith, c.image_size-least.ensures, c.size-held.ensures, c.if-held-least.false)))
+pub close-requires : goal.close-requires
+close-requires c = record {
+  card = subst (λ (p : Application). MayClose p (memory_state c.args.card.now.log c.args.card.now.counts)) (ap (λ (s : Session). s.application) c.session.view_is)
+      (may_close c.session.inside.application c.args.card.now.log c.args.card.now.counts (omega (arith, c.image_size-least.ensures, c.size-held.ensures, c.if-held-least.false)));
+}
