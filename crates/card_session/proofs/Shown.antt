@@ -37,7 +37,7 @@ use Rattle.card_session.proofs.Composing.{told_book}
 use Rattle.card_session.proofs.Preparing.{used_at}
 use Rattle.card_session.proofs.Surviving.{newest_gapped, keep_survives, lists_survive}
 use Rattle.card_session.proofs.Stopping.{before_use}
-use Rattle.card_session.proofs.Committed.{commit_shows, close_shows}
+use Rattle.card_session.proofs.Committed.{silent_end, commit_shows, close_shows}
 use Rattle.card_session.proofs.Marks.{mark_told}
 use Rattle.card_session.proofs.Revalid.{book_are, days_are, cut_strict, begins_told, full_is, noted_fine, noted_low, noted_fits}
 use Rattle.card_session.proofs.InsertingBooks.{lacked_follow, cut_ready, trimmed_low}
@@ -107,7 +107,7 @@ module _ (size : ℕ) (long : 5544 ≤ size) (registration : Registration) (odom
 
     next_shown : Lists e.minute (all ++ e ∷ []) (with_entry size registration odometer 0 b e).days
     next_shown =
-        commit_shows size long b are e gap low all up listed (λ other. begins (sym (newest_gapped size long b are e.minute (e.minute / 1440)) ∙ other)) 0 next_are
+        commit_shows size long b are e gap (silent_end (mark_of b) b.days are low) all up listed (λ other. begins (sym (newest_gapped size long b are e.minute (e.minute / 1440)) ∙ other)) 0 next_are
 
     next_listed : Lists (mark_of (with_entry size registration odometer 0 b e)) (all ++ e ∷ []) (with_entry size registration odometer 0 b e).days
     next_listed = subst (λ (n : ℕ). Lists n (all ++ e ∷ []) (with_entry size registration odometer 0 b e).days) (sym (used_at registration odometer e.minute b.vehicle)) next_shown
