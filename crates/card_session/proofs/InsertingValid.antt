@@ -22,7 +22,7 @@ use Rattle.card_session.proofs.Valid.{passes_strict}
 
 -- ---- a check that passes
 
-passes : (b : Bool) (p : ℕ) (cs : List Check) → first_failing (check b p ∷ cs) ≡ None → (b ≡ true) × (first_failing cs ≡ None)
+pub passes : (b : Bool) (p : ℕ) (cs : List Check) → first_failing (check b p ∷ cs) ≡ None → (b ≡ true) × (first_failing cs ≡ None)
 passes true p cs is = (refl, is)
 passes false p cs is = absurd (cc)
 
@@ -89,7 +89,7 @@ last_none None None (Some p) d is = absurd (cc)
 last_none None None None (Some p) is = absurd (cc)
 last_none None None None None is = refl
 
-first_none : (a b : Option ℕ) → first_of a b ≡ None → (a ≡ None) × (b ≡ None)
+pub first_none : (a b : Option ℕ) → first_of a b ≡ None → (a ≡ None) × (b ≡ None)
 first_none None None is = (refl, refl)
 first_none None (Some p) is = absurd (cc)
 first_none (Some p) b is = absurd (cc)

@@ -37,3 +37,5 @@ pub mod Repairing
 pub mod Revalid
 pub mod InsertingSession
 pub mod Memory
+pub mod Shown
+pub mod ShutValid

@@ -55,7 +55,7 @@ up_to m next (e ∷ es) follow low =
     let later = up_to e.minute next es follow.1 low in
     ((later.1, later.0), omega (arith, follow.0, later.1))
 
-owed_at : (size : ℕ) (registration : Registration) (odometer : ℕ) (es : List Entry) (b : Book) → mark_of (with_owed size registration odometer es b) ≡ mark_behind (mark_of b) es
+pub owed_at : (size : ℕ) (registration : Registration) (odometer : ℕ) (es : List Entry) (b : Book) → mark_of (with_owed size registration odometer es b) ≡ mark_behind (mark_of b) es
 owed_at size registration odometer [] b = refl
 owed_at size registration odometer (e ∷ es) b = owed_at size registration odometer es _ ∙ ap (λ (m : ℕ). mark_behind m es) (used_at registration odometer e.minute b.vehicle)
 
@@ -359,7 +359,7 @@ module _ (app : Application) (sound : IsApplication app) (x : List ℕ) (fits : 
 
 -- ---- a card without a session, whose words are closed
 
-closed_still : (size : ℕ) (b : Book) → is_open (mark_of b) b.days ≡ false → (ds : List Day) (v : Option Vehicle) → IsCloseMoment size Rest b ds v → IsBook b ds v
+pub closed_still : (size : ℕ) (b : Book) → is_open (mark_of b) b.days ≡ false → (ds : List Day) (v : Option Vehicle) → IsCloseMoment size Rest b ds v → IsBook b ds v
 closed_still size b shut ds v (inl old) = (⊎_elim (λ same. same) (λ opened. let no : true ≡ false = sym opened.0 ∙ shut in absurd (cc)) old.1, old.0)
 closed_still size b shut ds v (inr book) =
     subst (λ (k : Book). IsBook k ds v) (ap (λ (o : Bool). cond o (let c : Book = record { days = closed_days size (mark_of b) Rest b.days; vehicle = last_used (60 * suc (mark_of b)) b.vehicle } in c) b) shut) book

@@ -119,7 +119,7 @@ module _ (app : Application) (x y : List ℕ) (valid : IsValid app x) (sizes : H
   abbrev count : Option ℕ
   count = first_failing (newest_rises app.activity oldest 0 (card_days app y))
 
-  fine_open : nat_eq (session_time app y) 0 ≡ false → IsValid app y
+  pub fine_open : nat_eq (session_time app y) 0 ≡ false → IsValid app y
   fine_open open_ =
       valid_by app x valid y sizes places fine.days fine.points
       (checks_open app.activity oldest (end_mark app y) (session_time app y) (card_days app y) open_ ∙ strict_passes app.activity oldest 0 (trimmed (end_mark app y) (card_days app y)) fine.strict)
@@ -140,7 +140,7 @@ module _ (app : Application) (x y : List ℕ) (valid : IsValid app x) (sizes : H
       by true is = fine_shut low is
 
 module _ (app : Application) (sound : IsApplication app) where
-  card_fine : (P : List Day → Option Vehicle → Type 0) (z y : List ℕ) → image_size_of app ≤ length z → IsCard app P z y → EndsStrictly (trimmed (mark_of (book_of app y)) (book_of app y).days) → Fine app y
+  pub card_fine : (P : List Day → Option Vehicle → Type 0) (z y : List ℕ) → image_size_of app ≤ length z → IsCard app P z y → EndsStrictly (trimmed (mark_of (book_of app y)) (book_of app y).days) → Fine app y
   unfolding book_of
   card_fine P z y fits card strict = record {
     days = holds_passes (day_string app) (string_shape app sound) y (omega (arith, card.outside.same_length, fits, ring_behind app, ring_inside app)) (book_of app y).days card.holds;
@@ -150,7 +150,7 @@ module _ (app : Application) (sound : IsApplication app) where
   }
 
   module _ (z y : List ℕ) (days : HaveSameDays app z y) (vehicles : HaveSameVehicles app z y) (fine : Fine app z) where
-    beside_fine : Fine app y
+    pub beside_fine : Fine app y
     beside_fine = record {
       days = bad_elsewhere (day_string app) z y days ∙ fine.days;
       points = points_elsewhere (vehicle_ring app) (ring_shape app sound) z y vehicles fine.points;
@@ -165,7 +165,7 @@ module _ (app : Application) (sound : IsApplication app) where
         (subst (λ (n : ℕ). newest_word (card_days app z) ≤ n) (sym (mark_beside app sound z y days vehicles fine.points)) low)
 
 -- by its book
-strict_told : (app : Application) (y : List ℕ) (b : Book) → book_of app y ≡ b → EndsStrictly (trimmed (mark_of b) b.days) → EndsStrictly (trimmed (mark_of (book_of app y)) (book_of app y).days)
+pub strict_told : (app : Application) (y : List ℕ) (b : Book) → book_of app y ≡ b → EndsStrictly (trimmed (mark_of b) b.days) → EndsStrictly (trimmed (mark_of (book_of app y)) (book_of app y).days)
 strict_told app y b is strict = subst (λ (k : Book). EndsStrictly (trimmed (mark_of k) k.days)) (sym is) strict
 
 low_told : (app : Application) (y : List ℕ) (b : Book) → book_of app y ≡ b → newest_word b.days ≤ mark_of b → Low app y
@@ -175,7 +175,7 @@ low_told app y b is low = subst (λ (k : Book). newest_word k.days ≤ mark_of k
 -- ---- a closing word, where no word stands behind the end mark
 
 module _ (app : Application) (sound : IsApplication app) (z : List ℕ) (fine : Fine app z) (low : Low app z) where
-  book_are : AreDays 0 (book_of app z).days
+  pub book_are : AreDays 0 (book_of app z).days
   unfolding book_of
   book_are = fine.ordered
 
@@ -259,15 +259,15 @@ module _ (app : Application) (sound : IsApplication app) (x : List ℕ) (fits : 
   abbrev Stands : List ℕ → Type 0
   Stands y = Fine app y × ((session_time app y ≡ session_time app x) ⊎ Low app y)
 
-  begins_told : BeginsLater (mark_of (book_of app x)) (lacked (mark_of (book_of app x)) owed) (trimmed (mark_of (book_of app x)) (book_of app x).days)
+  pub begins_told : BeginsLater (mark_of (book_of app x)) (lacked (mark_of (book_of app x)) owed) (trimmed (mark_of (book_of app x)) (book_of app x).days)
   unfolding book_of
   begins_told = begins
 
   module _ (y : List ℕ) (still : IsStill app x y) where
-    days_are : AreDays 0 (book_of app x).days
+    pub days_are : AreDays 0 (book_of app x).days
     days_are = subst (λ (ds : List Day). AreDays 0 ds) still.told.0 still.holds.ordered
 
-    cut_strict : EndsCut (book_of app x)
+    pub cut_strict : EndsCut (book_of app x)
     unfolding book_of
     cut_strict = valid_strict app x valid days_are open_
 
@@ -284,7 +284,7 @@ module _ (app : Application) (sound : IsApplication app) (x : List ℕ) (fits : 
         (subst (λ (k : Book). IsMending app.activity registration odometer owed k (book_of app z).days (book_of app z).vehicle) (told_book app (book_of app x) x y still) card.told))
 
     module _ (z : List ℕ) (card : IsRepaired app registration odometer owed y z) where
-      full_is : book_of app z ≡ full
+      pub full_is : book_of app z ≡ full
       full_is = told_book app (repaired app.activity registration odometer owed (book_of app y)) y z card ∙ ap (repaired app.activity registration odometer owed) (told_book app (book_of app x) x y still)
 
       full_fits : image_size_of app ≤ length z
@@ -308,13 +308,13 @@ module _ (app : Application) (sound : IsApplication app) (x : List ℕ) (fits : 
           (beside_fine app sound z c side.0 side.1 full_fine, inl (session_beside app z c side.2 ∙ full_session))
 
       module _ (c : List ℕ) (noted : IsNoted app now z c) where
-        noted_fine : Fine app c
+        pub noted_fine : Fine app c
         noted_fine = let side = noted_same app now z c noted in beside_fine app sound z c side.0 side.1 full_fine
 
-        noted_low : Low app c
+        pub noted_low : Low app c
         noted_low = let side = noted_same app now z c noted in beside_low app sound z c side.0 side.1 full_fine full_low
 
-        noted_fits : image_size_of app ≤ length c
+        pub noted_fits : image_size_of app ≤ length c
         noted_fits = omega (arith, full_fits, (noted_keeps app now z c (omega (arith, use_inside app, full_fits)) noted).1)
 
         shutting_stands : (w : List ℕ) → IsShutting app c w → Stands w

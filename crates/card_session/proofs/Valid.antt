@@ -119,6 +119,9 @@ module _ (app : Application) (x : List ℕ) (valid : IsValid app x) where
       passes (option_map place_of_field (first_bad_field (file_bytes app 0x0501 x))) (first_bad (day_string app) x) (pointer_bad (vehicle_ring app) x) (pointer_bad (place_ring app) x) (words_of app x)
       (sym (told app x) ∙ valid)
 
+  pub valid_words : words_of app x ≡ None
+  valid_words = parts.2
+
   -- the words of the newest day up to the mark
   pub valid_strict : AreDays 0 (card_days app x) → nat_eq (session_time app x) 0 ≡ false → EndsStrictly (trimmed (end_mark app x) (card_days app x))
   valid_strict are open_ =

@@ -6,6 +6,8 @@ use Rattle.card_model.specs.Days.{Day}
 use Rattle.card_model.specs.Changes.{trimmed}
 use Rattle.card_retention.specs.Expected.{Counted, is_newest, with_entry}
 use Rattle.card_retention.specs.Shown.{Bound, Rests, sizes}
+use Rattle.card_retention.specs.Entries.{entries_up_to}
+use Rattle.card_retention.specs.Retains.{entries_in}
 use Rattle.card_image.specs.Fields.{card_days, end_mark}
 use Rattle.card_session.specs.Inserting.{lacked}
 use Rattle.card_session.specs.Overwriting.{GoesOn, and_entry}
@@ -54,3 +56,15 @@ ShowsFirst app slack covered next c owed x y = HasFirst app.activity slack cover
 -- or all of them, whatever is kept next
 abbrev pub ShowsOwed : Application → (slack : Bound) → (covered next : ℕ) → Counted → (owed : List Entry) → List ℕ → List ℕ → Type 0
 ShowsOwed app slack covered next c owed x y = GoesOn app (and_entries slack (lacked_by app x owed)) covered next (with_entries covered c (lacked_by app x owed)) y
+
+-- Days with an end mark show, behind the entries of before, the first of those that were lacked behind another, and the mark is that of
+-- the last of these.
+pub record HasShown (mark : ℕ) (all es : List Entry) (now : ℕ) (days : List Day) : Type 0 where
+  pub done : List Entry
+  pub rest : List Entry
+  pub split : es ≡ done ++ rest
+  pub behind : now ≡ mark_behind mark done
+  pub shows : entries_up_to now days ≡ entries_in (sizes days) (all ++ done)
+
+abbrev pub ShowsMore : Application → (all owed : List Entry) → List ℕ → List ℕ → Type 0
+ShowsMore app all owed x y = HasShown (end_mark app x) all (lacked_by app x owed) (end_mark app y) (card_days app y)

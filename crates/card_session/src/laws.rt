@@ -15,7 +15,7 @@ ghost use Rattle.card_image.specs.View.{card_view};
 ghost use Rattle.card_session.specs.Sessions.{Session, IsSession};
 ghost use Rattle.card_session.specs.Cards.{IsCardKeeping, IsCardClosed, IsCardClosing};
 ghost use Rattle.card_session.specs.Inserting.{AreOwed, IsCardInserted, IsCardInserting};
-ghost use Rattle.card_session.specs.Repairs.{first_minute, mark_behind, BeginsLater, lacked_by, ShowsFirst, ShowsOwed};
+ghost use Rattle.card_session.specs.Repairs.{first_minute, mark_behind, BeginsLater, lacked_by, ShowsFirst, ShowsOwed, ShowsMore};
 ghost use Rattle.card_session.specs.Overwriting.{GoesOn, IsRepairable, ShowsEntries, TellsNoLater, BeginsBehind, and_entry};
 
 /// A stop in a keep leaves the session time, the events and the number of a card.
@@ -126,10 +126,13 @@ pub fn an_insertion_leaves_the_entries()
         (slack : Bound) (covered from : ℕ) (c : Counted) → GoesOn app slack covered from c x → IsCardInserted app registration odometer owed now x y → GoesOn app slack covered from c y }
 {}
 
-/// A stop in an insertion leaves a card valid whose session was left open, whatever its session time is then.
+/// A stop in an insertion leaves a card valid whose session was left open, or which has none and whose words are closed, whatever its
+/// session time is then.
 pub fn a_stop_in_an_insertion_leaves_a_valid_card()
-    ensures { (app : Application) (registration : Registration) (odometer now : ℕ) (owed : List Entry) (x y : List ℕ) → IsApplication app → image_size_of app ≤ length x → length registration.0 ≡ 15 → AreOwed now owed → IsValid app x → 0 < session_time app x →
+    ensures open { (app : Application) (registration : Registration) (odometer now : ℕ) (owed : List Entry) (x y : List ℕ) → IsApplication app → image_size_of app ≤ length x → length registration.0 ≡ 15 → AreOwed now owed → IsValid app x → 0 < session_time app x →
         BeginsLater (end_mark app x) (lacked_by app x owed) (trimmed (end_mark app x) (card_days app x)) → IsCardInserting app registration odometer owed now x y → IsValid app y }
+    ensures shut { (app : Application) (registration : Registration) (odometer now : ℕ) (owed : List Entry) (x y : List ℕ) → IsApplication app → image_size_of app ≤ length x → length registration.0 ≡ 15 → IsValid app x → session_time app x ≡ 0 →
+        is_open (end_mark app x) (card_days app x) ≡ false → IsCardInserting app registration odometer owed now x y → IsValid app y }
 {}
 
 /// A stop in an insertion leaves the session time, 0, or that of now, which it is at its end.
@@ -138,4 +141,17 @@ pub fn an_insertion_opens_a_session()
         (session_time app y ≡ session_time app x) ⊎ ((session_time app y ≡ 0) ⊎ (session_time app y ≡ now)) }
     ensures inserted { (app : Application) (registration : Registration) (odometer now : ℕ) (owed : List Entry) (x y : List ℕ) → image_size_of app ≤ length x → length registration.0 ≡ 15 → now < 2 ^ 32 → IsCardInserted app registration odometer owed now x y →
         session_time app y ≡ now }
+{}
+
+/// A stop in an insertion leaves a card that shows the entries of before whose day is there, and behind them the first of the owed ones
+/// that it lacked where its session was left open, with the end mark at the last of these; or all of them, as at its end.
+pub fn an_insertion_shows_the_entries()
+    ensures open { (app : Application) (registration : Registration) (odometer now : ℕ) (owed : List Entry) (x y : List ℕ) → IsApplication app → image_size_of app ≤ length x → length registration.0 ≡ 15 → AreOwed now owed → IsValid app x → 0 < session_time app x →
+        BeginsLater (end_mark app x) (lacked_by app x owed) (trimmed (end_mark app x) (card_days app x)) → (all : List Entry) → AllUpTo (end_mark app x) all → ShowsEntries app all x → IsCardInserting app registration odometer owed now x y →
+        ShowsMore app all owed x y ⊎ ShowsEntries app (all ++ lacked_by app x owed) y }
+    ensures ended { (app : Application) (registration : Registration) (odometer now : ℕ) (owed : List Entry) (x y : List ℕ) → IsApplication app → image_size_of app ≤ length x → length registration.0 ≡ 15 → AreOwed now owed → IsValid app x → 0 < session_time app x →
+        BeginsLater (end_mark app x) (lacked_by app x owed) (trimmed (end_mark app x) (card_days app x)) → (all : List Entry) → AllUpTo (end_mark app x) all → ShowsEntries app all x → IsCardInserted app registration odometer owed now x y →
+        ShowsEntries app (all ++ lacked_by app x owed) y }
+    ensures shut { (app : Application) (registration : Registration) (odometer now : ℕ) (owed : List Entry) (x y : List ℕ) → IsApplication app → image_size_of app ≤ length x → length registration.0 ≡ 15 → session_time app x ≡ 0 →
+        (all : List Entry) → AllUpTo (end_mark app x) all → ShowsEntries app all x → IsCardInserting app registration odometer owed now x y → ShowsEntries app all y }
 {}

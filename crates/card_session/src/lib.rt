@@ -16,6 +16,7 @@ pub use laws::{
     a_stop_leaves_a_valid_card, a_stop_leaves_an_end_mark, a_withdrawal_ends_the_session,
     a_withdrawal_leaves_the_entries, a_withdrawal_shows_the_entries,
     an_insertion_leaves_the_entries, an_insertion_leaves_the_number, an_insertion_opens_a_session,
+    an_insertion_shows_the_entries,
 };
 pub use session::{CardSession, Kept};
 pub use words::LATEST_MINUTE;
