@@ -5,7 +5,7 @@ ghost use Rattle.card_layout.specs.Application.{application_bytes, IsApplication
 ghost use Rattle.card_files.specs.Reading.{IsReading};
 
 use byteorder::{BigEndian, ByteOrder};
-use card_layout::Application;
+use card_layout::{Application, STRING_LEAST, STRING_MOST};
 
 /// The number, from 1, of the first field of Application_Identification that is out of its range: card type 1;
 /// events of each type 3; faults of each type 4; length of the string of days 5; vehicle entries 6; place entries 7.
@@ -55,7 +55,7 @@ fn judged(b: &[u8]) -> Result<Application, BadApplication>
     if app.faults < 12 || app.faults > 24 {
         return Err(BadApplication(4));
     }
-    if app.activity < 5544 || app.activity > 13776 || app.activity % 2 != 0 {
+    if app.activity < STRING_LEAST || app.activity > STRING_MOST || app.activity % 2 != 0 {
         return Err(BadApplication(5));
     }
     if app.vehicles < 84 || app.vehicles > 200 {

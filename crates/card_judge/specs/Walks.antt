@@ -3,7 +3,7 @@ use Rattle.std.specs.Prelude.{◌≡◌, ℕ, ◌+◌, ◌<◌, ◌≤◌, ◌^�
 use Rattle.card_model.specs.Days.{Day, total}
 use Rattle.card_model.specs.Image.{StringShape, IsStringShape, Holds, IsAt}
 use Rattle.card_model.specs.Walk.{days_of}
-use Rattle.card_model.specs.declared.lengths.TheConstants.{STRING_MOST}
+use Rattle.card_layout.specs.declared.files.TheConstants.{STRING_MOST}
 use Rattle.cyclic_days.specs.declared.head.DayHead.{DayHead}
 use Rattle.cyclic_days.specs.Heads.{heads_from}
 use Rattle.card_judge.specs.declared.walk.Met.{Met}

@@ -6,7 +6,7 @@ ghost use Rattle.card_model.specs.Walk.{days_of};
 ghost use Rattle.card_image.specs.Judging.{PlacedWord, words_placed};
 ghost use Rattle.card_judge.specs.Walks.{IsInMemory, IsMet};
 ghost use Rattle.card_judge.specs.Words.{IsBehind, HasMet};
-ghost use Rattle.card_model.specs.declared.lengths.TheConstants.{STRING_MOST};
+ghost use Rattle.card_layout.specs.declared.files.TheConstants.{STRING_MOST};
 ghost use Rattle.card_judge.specs.declared.behind.TheConstants.{LAST_MINUTE};
 
 use crate::behind::{Behind, is_later_day};

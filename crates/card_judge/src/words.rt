@@ -8,7 +8,7 @@ ghost use Rattle.card_model.specs.Walk.{days_of};
 ghost use Rattle.card_image.specs.Judging.{words_placed, rising_checks, newest_rises, word_checks};
 ghost use Rattle.card_judge.specs.Words.{passes_after, first_of, limit_of};
 ghost use Rattle.card_judge.specs.Walks.{IsInMemory, IsMet, IsLastOf};
-ghost use Rattle.card_model.specs.declared.lengths.TheConstants.{STRING_MOST};
+ghost use Rattle.card_layout.specs.declared.files.TheConstants.{STRING_MOST};
 ghost use Rattle.card_judge.specs.declared.behind.TheConstants.{LAST_MINUTE};
 
 use crate::behind::date_of;

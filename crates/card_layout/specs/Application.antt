@@ -4,7 +4,7 @@ use Rattle.byteorder.specs.Endian.{big_number}
 use Rattle.byte_fields.specs.Fields.{number_in, numbers_written}
 use Rattle.byte_fields.specs.Images.{bytes_at}
 use Rattle.card_layout.specs.declared.files.Application.{Application}
-use Rattle.card_layout.specs.declared.files.TheConstants.{APPLICATION_RANGE}
+use Rattle.card_layout.specs.declared.files.TheConstants.{APPLICATION_RANGE, STRING_LEAST, STRING_MOST}
 
 -- a field of so many bytes, and the numbers that it may hold
 pub record Field : Type 0 where
@@ -24,7 +24,7 @@ application_fields =
     ∷ field 2 (λ _. true)
     ∷ field 1 (is_between 6 12)
     ∷ field 1 (is_between 12 24)
-    ∷ field 2 (λ n. is_between 5544 13776 n && n % 2 == 0)
+    ∷ field 2 (λ n. is_between STRING_LEAST STRING_MOST n && n % 2 == 0)
     ∷ field 2 (is_between 84 200)
     ∷ field 1 (is_between 84 112)
     ∷ []
@@ -74,8 +74,8 @@ pub record IsApplication (app : Application) : Type 0 where
   pub events_most : app.events ≤ 12
   pub faults_least : 12 ≤ app.faults
   pub faults_most : app.faults ≤ 24
-  pub string_least : 5544 ≤ app.activity
-  pub string_most : app.activity ≤ 13776
+  pub string_least : STRING_LEAST ≤ app.activity
+  pub string_most : app.activity ≤ STRING_MOST
   pub string_even : app.activity % 2 ≡ 0
   pub vehicles_least : 84 ≤ app.vehicles
   pub vehicles_most : app.vehicles ≤ 200

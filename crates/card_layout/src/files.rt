@@ -63,7 +63,7 @@ pub struct Application {
     pub events: u8,
     /// Faults of each type, 12 to 24.
     pub faults: u8,
-    /// The length of the string of days in bytes, even, 5544 to 13776.
+    /// The length of the string of days in bytes, even, `STRING_LEAST` to `STRING_MOST`.
     pub activity: u16,
     /// Vehicle entries, 84 to 200.
     pub vehicles: u16,
@@ -71,12 +71,18 @@ pub struct Application {
     pub places: u8,
 }
 
+/// The least length of a string of days, in bytes (Appendix 1, CardActivityLengthRange).
+pub const STRING_LEAST: u16 = 5544;
+
+/// The most that it has.
+pub const STRING_MOST: u16 = 13776;
+
 /// The largest sizes that a driver card may have.
 pub const LARGEST: Application = Application {
     structure: 0,
     events: 12,
     faults: 24,
-    activity: 13776,
+    activity: STRING_MOST,
     vehicles: 200,
     places: 112,
 };

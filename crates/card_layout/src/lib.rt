@@ -5,4 +5,7 @@
 
 mod files;
 
-pub use files::{APPLICATION_RANGE, Application, CardFile, Fid, LARGEST, LARGEST_IMAGE, Range};
+pub use files::{
+    APPLICATION_RANGE, Application, CardFile, Fid, LARGEST, LARGEST_IMAGE, Range, STRING_LEAST,
+    STRING_MOST,
+};

@@ -1,6 +1,6 @@
 -- The days that a card's flat image holds: in the file of days two pointers, and a circle of bytes.
 use Rattle.std.specs.Prelude.{◌≡◌, ◌⊎◌, ℕ, ◌+◌, ◌-◌, ◌%◌, ◌<◌, ◌≤◌, ◌^◌, List, [], ◌∷◌, ◌++◌, take, drop, nat_lt, if◌then◌else◌}
-use Rattle.card_model.specs.declared.lengths.TheConstants.{STRING_LEAST, STRING_MOST}
+use Rattle.card_layout.specs.declared.files.TheConstants.{STRING_LEAST, STRING_MOST}
 use Rattle.tach_media.specs.Medium.{bytes_at}
 use Rattle.card_model.specs.Bytes.{number}
 use Rattle.card_model.specs.Days.{Day, total, far, records, AreDays}

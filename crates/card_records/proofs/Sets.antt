@@ -13,12 +13,13 @@ use Rattle.tach_media.proofs.Ranges.{lies_still}
 use Rattle.tacho_types.specs.declared.places.PlaceEntry.{PlaceEntry}
 use Rattle.tacho_types.specs.Places.{place_bytes}
 use Rattle.gated_ring.specs.Ring.{Shape, entry_at, gate_of, place_of, size_of as ring_size}
+use Rattle.gated_ring.specs.Earliest.{IsEarliest}
 use Rattle.gated_ring.specs.Change.{IsReplaced, IsReplacingEntry, IsAdding}
 use Rattle.gated_ring.proofs.Places.{place_high}
 use Rattle.card_records.specs.declared.card_event.CardEvent.{CardEvent}
 use Rattle.card_records.specs.Events.{event_bytes, event_of}
 use Rattle.card_records.specs.Rings.{file, event_ring, place_ring, set_of}
-use Rattle.card_records.specs.Noting.{IsEvent, HoldsEvent, IsEarliest, TakesPlace, IsNotingPlace}
+use Rattle.card_records.specs.Noting.{IsEvent, HoldsEvent, TakesPlace, IsNotingPlace}
 
 pub event_file : (app : Application) → size_of app (file 0x0502) ≡ 144 * app.events
 unfolding files_of

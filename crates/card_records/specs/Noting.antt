@@ -1,9 +1,10 @@
 -- What a card holds of events and places, and what the calls leave that note one.
-use Rattle.std.specs.Prelude.{◌≡◌, ◌≢◌, ℕ, ◌<◌, ◌≤◌, List}
+use Rattle.std.specs.Prelude.{◌≡◌, ◌≢◌, ℕ, ◌<◌, List}
 use Rattle.card_layout.specs.declared.files.Application.{Application}
 use Rattle.tacho_types.specs.declared.places.PlaceEntry.{PlaceEntry}
 use Rattle.tacho_types.specs.Places.{place_bytes}
 use Rattle.gated_ring.specs.Ring.{Shape, gate_of, entry_at, number_at}
+use Rattle.gated_ring.specs.Earliest.{IsEarliest}
 use Rattle.gated_ring.specs.Change.{IsReplaced, IsReplacingEntry, IsAdding, IsAdded}
 use Rattle.card_records.specs.declared.card_event.CardEvent.{CardEvent}
 use Rattle.card_records.specs.Events.{event_bytes, event_of}
@@ -18,12 +19,6 @@ pub record IsEvent (kind begin : ℕ) (bytes : List ℕ) : Type 0 where
 -- an event of this type with this begin stands in the set of its type
 abbrev pub HoldsEvent : Application → (kind begin : ℕ) → List ℕ → Type 0
 HoldsEvent app kind begin x = (i : ℕ) × (i < app.events) × IsEvent kind begin (entry_at (event_ring app kind) x i)
-
--- Of so many numbers the first of the least.
-pub record IsEarliest (count : ℕ) (number : ℕ → ℕ) (i : ℕ) : Type 0 where
-  pub below : i < count
-  pub least : (j : ℕ) → j < count → number i ≤ number j
-  pub first : (j : ℕ) → j < i → number i < number j
 
 -- The place that a new entry takes in a ring without a pointer: an empty one, of which the gate is 0, else that of the earliest
 -- entry; of several the lowest.

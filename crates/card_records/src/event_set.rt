@@ -2,7 +2,8 @@
 ghost use Rattle.std.specs.Prelude.{◌≡◌, ◌≢◌, ◌↔◌, ◌<◌, ◌≤◌, ◌+◌, ◌*◌, ℕ, length, IsTrue};
 ghost use Rattle.tach_media.specs.Medium.{bytes_at};
 ghost use Rattle.gated_ring.specs.Ring.{number_at};
-ghost use Rattle.card_records.specs.Noting.{IsEvent, IsEarliest};
+ghost use Rattle.card_records.specs.Noting.{IsEvent};
+ghost use Rattle.gated_ring.specs.Earliest.{IsEarliest};
 
 use crate::{CardEvent, read_event};
 use byteorder::{BigEndian, ByteOrder};

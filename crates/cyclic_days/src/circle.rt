@@ -1,5 +1,6 @@
 ghost use Rattle.std.specs.Prelude.{◌≡◌, ◌≤◌, ◌<◌, ◌+◌, ◌%◌, ℕ, length, slice_index, IfOk, OnOk, IfSome, is_err, option_map, take, Some, None, []};
-ghost use Rattle.card_model.specs.declared.lengths.TheConstants.{DAY_MOST, STRING_MOST};
+ghost use Rattle.card_model.specs.declared.lengths.TheConstants.{DAY_MOST};
+ghost use Rattle.card_layout.specs.declared.files.TheConstants.{STRING_MOST};
 ghost use Rattle.tach_media.specs.Medium.{LeavesOnly, Reads, HasCause, LiesInside, IsPartlyWritten, IsSettled, last_count, put, bytes_at};
 ghost use Rattle.card_model.specs.Days.{Day};
 ghost use Rattle.card_model.specs.Bytes.{number, two_bytes};

@@ -1,5 +1,5 @@
 ghost use Rattle.std.specs.Prelude.{◌≡◌, ◌≢◌, ◌≤◌, ◌<◌, ◌+◌, ◌*◌, ◌%◌, ℕ, List, [], length, slice_get, slice_index, None, IfOk, IfErr, OnOk, IfSome, is_err};
-ghost use Rattle.card_model.specs.declared.lengths.TheConstants.{STRING_LEAST, STRING_MOST};
+ghost use Rattle.card_layout.specs.declared.files.TheConstants.{STRING_LEAST, STRING_MOST};
 ghost use Rattle.std.specs.List.{last_or};
 ghost use Rattle.tach_media.specs.Medium.{LeavesOnly, Reads, HasCause, LiesInside, IsSettled, last_count};
 ghost use Rattle.card_model.specs.Checks.{first_bad};

@@ -1,5 +1,6 @@
 ghost use Rattle.std.specs.Prelude.{◌≡◌, ◌≤◌, ◌<◌, ◌+◌, ◌*◌, ◌%◌, Some, None, true, drop, IfOk, IfErr, IfSome, IfNone, OnOk, is_err, ◌&&◌, nat_le, nat_lt};
-ghost use Rattle.card_model.specs.declared.lengths.TheConstants.{DAY_LEAST, DAY_MOST, DAYS_MOST, STRING_LEAST, STRING_MOST};
+ghost use Rattle.card_model.specs.declared.lengths.TheConstants.{DAY_LEAST, DAY_MOST, DAYS_MOST};
+ghost use Rattle.card_layout.specs.declared.files.TheConstants.{STRING_LEAST, STRING_MOST};
 ghost use Rattle.tach_media.specs.Medium.{Reads};
 ghost use Rattle.card_model.specs.Image.{StringShape, IsStringShape, IsPointer, Holds, spot, turned, string_of, oldest_pointer, newest_pointer, circle_of, IsPlace};
 ghost use Rattle.card_model.specs.Walk.{words_of, days_of};

@@ -1,4 +1,5 @@
 pub mod Change
+pub mod Earliest
 pub mod Loading
 pub mod Plans
 pub mod Ring

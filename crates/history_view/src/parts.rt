@@ -3,7 +3,7 @@ ghost use Rattle.std.specs.Prelude.{◌≡◌, ◌+◌, ◌≤◌, ◌-◌, ◌%
 ghost use Rattle.std.specs.Bool.{OnTrue};
 ghost use Rattle.std.specs.Option.{ForSome};
 ghost use Rattle.card_layout.specs.Application.{IsApplication, application_of};
-ghost use Rattle.card_model.specs.declared.lengths.TheConstants.{STRING_LEAST, STRING_MOST};
+ghost use Rattle.card_layout.specs.declared.files.TheConstants.{STRING_LEAST, STRING_MOST};
 ghost use Rattle.card_model.specs.Checks.{first_bad};
 ghost use Rattle.card_model.specs.Image.{IsStringShape};
 ghost use Rattle.card_model.specs.Walk.{days_of};

@@ -1,6 +1,7 @@
 -- What a unit's days are to show of the history (profile).
-use Rattle.std.specs.Prelude.{◌≡◌, ◌/◌, ◌<◌, Option, List, map, length, is_some, option_to_list}
+use Rattle.std.specs.Prelude.{◌≡◌, ◌-◌, ◌/◌, ◌<◌, Option, List, map, length, is_some, option_to_list}
 use Rattle.view_model.specs.declared.State.{State}
+use Rattle.unit_model.specs.declared.layout.TheConstants.{DAY_SLOTS}
 use Rattle.unit_model.specs.Days.{Day, UnitMinute, filled_all, newest_of}
 use Rattle.unit_model.specs.Retention.{UnitRetains, retained, last_day}
 use Rattle.history_model.specs.Minutes.{HistoryMinute, Seat, is_crew}
@@ -27,6 +28,6 @@ KeepsMinute i old new = new ≡ retained old (seen_by_unit i)
 
 -- before a minute is kept that begins a further day, the oldest of 366 is given up
 pub record GivesUpDay (i : HistoryMinute) (old new : List Day) : Type 0 where
-  pub full : length old ≡ 366
+  pub full : length old ≡ DAY_SLOTS
   pub further : last_day old < i.minute / 1440
-  pub given : new ≡ newest_of 365 old
+  pub given : new ≡ newest_of (DAY_SLOTS - 1) old

@@ -2,7 +2,7 @@
 use Rattle.std.specs.Prelude.{ℕ, List, [], ◌∷◌}
 use Rattle.byte_fields.specs.Fields.{total_width, place_in, number_in}
 use Rattle.gated_ring.specs.Ring.{Shape}
-use Rattle.unit_model.specs.declared.layout.TheConstants.{INSERTIONS, PLACES}
+use Rattle.unit_model.specs.declared.layout.TheConstants.{INSERTIONS, INSERTION_SLOTS, PLACES, PLACE_SLOTS}
 
 -- an insertion: surname, first names, card number, expiry, time, odometer, slot, withdrawal time and odometer, the previous vehicle and the
 -- time of the withdrawal from it, the manual flag
@@ -15,11 +15,11 @@ place_widths = 18 ∷ 4 ∷ 1 ∷ 1 ∷ 1 ∷ 3 ∷ []
 
 -- the insertions of a unit's image: one is there where its time is not 0
 abbrev pub insertion_ring : Shape
-insertion_ring = record { base = INSERTIONS.place; width = total_width insertion_widths; count = 2048; pointer_width = 4; gate = place_in insertion_widths 4 }
+insertion_ring = record { base = INSERTIONS.place; width = total_width insertion_widths; count = INSERTION_SLOTS; pointer_width = 4; gate = place_in insertion_widths 4 }
 
 -- its places, likewise
 abbrev pub unit_place_ring : Shape
-unit_place_ring = record { base = PLACES.place; width = total_width place_widths; count = 255; pointer_width = 4; gate = place_in place_widths 1 }
+unit_place_ring = record { base = PLACES.place; width = total_width place_widths; count = PLACE_SLOTS; pointer_width = 4; gate = place_in place_widths 1 }
 
 -- when a card was inserted, and when it was withdrawn, 0 where it was not
 abbrev pub insertion_time : List ℕ → ℕ

@@ -6,6 +6,7 @@ use Rattle.activity_codec.specs.declared.values.Activity.{Activity}
 use Rattle.activity_codec.specs.declared.values.Pick.{Pick}
 use Rattle.activity_codec.specs.declared.values.Slot.{Slot}
 use Rattle.activity_codec.specs.declared.values.Slot.TheVariants.{Driver, CoDriver}
+use Rattle.minute_model.specs.declared.TheConstants.{WAIT}
 use Rattle.minute_model.specs.Second.{Second}
 
 -- not moving
@@ -38,7 +39,7 @@ last_pick none (pick ∷ picks) = last_pick (activity_of pick) picks
 
 -- rest or availability may still be selected for the stop that these seconds end with
 abbrev pub waits : List Second → Bool
-waits seconds = not (all_still seconds) && not (list_any is_rest_or_available (driver_picks (last_still seconds))) && nat_le (length (last_still seconds)) 120
+waits seconds = not (all_still seconds) && not (list_any is_rest_or_available (driver_picks (last_still seconds))) && nat_le (length (last_still seconds)) WAIT
 
 -- the driver's seconds for which it may
 abbrev pub open_of : List Second → List Second

@@ -3,6 +3,7 @@ use Rattle.std.specs.Prelude.{ℕ, ◌+◌, ◌-◌, ◌*◌, ◌≤◌, if◌th
 use Rattle.activity_codec.specs.Activity.{is_driving}
 use Rattle.activity_codec.specs.declared.values.Activity.{Activity}
 use Rattle.activity_codec.specs.declared.values.Activity.TheVariants.{Available, Work, Driving}
+use Rattle.minute_model.specs.declared.TheConstants.{WAIT}
 use Rattle.minute_model.specs.declared.Rule.{Rule}
 use Rattle.minute_model.specs.declared.Rule.TheVariants.{Original, Amended}
 use Rattle.minute_model.specs.Second.{Second}
@@ -63,18 +64,18 @@ moved n speed counted = record {
 abbrev pub waited : Option ℕ → Activity → ℕ → Counted → Counted
 waited None act n counted = with_driver act n counted
 waited (Some count) act n counted =
-    if nat_le n (120 - count) then opened n counted
-    else with_driver act (n - (120 - count)) (closed Work (opened (120 - count) counted))
+    if nat_le n (WAIT - count) then opened n counted
+    else with_driver act (n - (WAIT - count)) (closed Work (opened (WAIT - count) counted))
 
 -- how long the driver has waited after so many more seconds at speed 0
 abbrev pub waits_on : Option ℕ → ℕ → Option ℕ
 waits_on None n = None
-waits_on (Some count) n = if nat_le n (120 - count) then Some (count + n) else None
+waits_on (Some count) n = if nat_le n (WAIT - count) then Some (count + n) else None
 
 -- the minutes before: their open seconds get WORK where the wait ends
 abbrev pub past_waited : Option ℕ → ℕ → List Counted → List Counted
 past_waited None n past = past
-past_waited (Some count) n past = if nat_le n (120 - count) then past else map (closed Work) past
+past_waited (Some count) n past = if nat_le n (WAIT - count) then past else map (closed Work) past
 
 -- the driver's longest activity, where open seconds count as WORK
 abbrev pub drivers_longest : Counted → Activity

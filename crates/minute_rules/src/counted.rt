@@ -7,14 +7,11 @@ ghost use Rattle.minute_rules.specs.Counted.{Fits, closed, opened, with_driver, 
 use crate::tally::Tally;
 use activity_codec::{Activity, Steps};
 use arrayvec::ArrayVec;
-use minute_model::Rule;
+use minute_model::{Rule, WAIT};
 use std::sync::ledger::Ledger;
 
 /// How many minutes before that of the next second are kept: as many as may be undecided, and one more.
 pub const PAST: usize = 5;
-
-/// How long after a stop rest or availability may still be selected for it, in seconds.
-const WAIT: u32 = 120;
 
 /// What is counted of one minute.
 #[derive(Clone, Copy, Debug, Default, PartialEq, Eq)]

@@ -84,7 +84,7 @@ IsPuttingCell e old new =
 
 -- a moment of a `put_owed`: nothing but the number's row changes, and it is as it was, or without the cell, or with the entry
 pub record IsPutting (number : List ℕ) (e : Entry) (x c : List ℕ) : Type 0 where
-  pub outside : SameOutside 624 384 x c
+  pub outside : SameOutside OWED.place OWED.size x c
   pub indices : (n : List ℕ) → row_index n (rows_in c) ≡ row_index n (rows_in x)
   pub rows : (s : ℕ) → s < 8 → row_index number (rows_in x) ≢ Some s → (number_in (rows_in c) s ≡ number_in (rows_in x) s) × (row_in (rows_in c) s ≡ row_in (rows_in x) s)
   pub others : (n : List ℕ) → n ≢ number → row_of n c ≡ row_of n x
@@ -111,7 +111,7 @@ pub record IsTaken (number : List ℕ) (session r : ℕ) (x y : List ℕ) : Type
 
 -- a moment of a `begin_owed`: nothing but one row changes, which is not the spared number's; it is as it was, or has session 0, or is begun
 pub record IsRowBeginning (number : List ℕ) (session : ℕ) (spared : Option (List ℕ)) (x c : List ℕ) : Type 0 where
-  pub outside : SameOutside 624 384 x c
+  pub outside : SameOutside OWED.place OWED.size x c
   pub rows : (s : ℕ) → s < 8 → begun_index number spared (rows_in x) ≢ Some s → (number_in (rows_in c) s ≡ number_in (rows_in x) s) × (row_in (rows_in c) s ≡ row_in (rows_in x) s)
   pub others : (n : List ℕ) → n ≢ number → row_index n (rows_in x) ≢ begun_index number spared (rows_in x) → row_of n c ≡ row_of n x
   pub spares : (n : List ℕ) → n ≢ number → spared ≡ Some n → row_of n c ≡ row_of n x

@@ -1,6 +1,7 @@
 -- The days as they are written, with one minute more.
-use Rattle.std.specs.Prelude.{◌≡◌, ◌⊎◌, ℕ, ◌+◌, ◌*◌, ◌/◌, ◌%◌, ◌<◌, List, [], ◌∷◌, ◌++◌, ◌==◌, if◌then◌else◌, replicate, false}
+use Rattle.std.specs.Prelude.{◌≡◌, ◌⊎◌, ℕ, ◌+◌, ◌-◌, ◌*◌, ◌/◌, ◌%◌, ◌<◌, List, [], ◌∷◌, ◌++◌, ◌==◌, if◌then◌else◌, replicate, false}
 use Rattle.gated_ring.specs.Ring.{pointer, taken, is_there, newest_of}
+use Rattle.unit_model.specs.declared.layout.TheConstants.{DAY_SLOTS}
 use Rattle.unit_model.specs.Days.{StoredDay, day_of, state_at}
 use Rattle.unit_model.specs.Image.{day_ring, last_kept, unit_days, spare_bytes}
 use Rattle.unit_model.specs.Changes.{new_words, closing_words, first_states, further_words}
@@ -42,20 +43,20 @@ opened_day minute driver codriver odometer = record { date = 86400 * (minute / 1
 abbrev pub AreTurning : (kept minute driver codriver odometer : ℕ) → (days now : List StoredDay) → Type 0
 AreTurning kept minute driver codriver odometer days now =
     (now ≡ closed_days kept days)
-    ⊎ ((now ≡ newest_of 365 (closed_days kept days)) ⊎ (now ≡ newest_of 366 (closed_days kept days ++ opened_day minute driver codriver odometer ∷ [])))
+    ⊎ ((now ≡ newest_of (DAY_SLOTS - 1) (closed_days kept days)) ⊎ (now ≡ newest_of DAY_SLOTS (closed_days kept days ++ opened_day minute driver codriver odometer ∷ [])))
 
 -- The day slots at a moment of a `keep`. The days are as they were, or those with the minute, or between them where a further
 -- day begins. Spare bytes stay, but of the slot that this day takes: until it is there, and then they are zeros.
 pub record AreBetween (minute driver codriver odometer : ℕ) (x c : List ℕ) : Type 0 where
   pub days : (unit_days c ≡ unit_days x)
-      ⊎ ((unit_days c ≡ newest_of 366 (days_with (last_kept x) minute driver codriver odometer (unit_days x)))
+      ⊎ ((unit_days c ≡ newest_of DAY_SLOTS (days_with (last_kept x) minute driver codriver odometer (unit_days x)))
       ⊎ ((last_kept x / 1440 < minute / 1440) × AreTurning (last_kept x) minute driver codriver odometer (unit_days x) (unit_days c)))
-  pub spare : (i : ℕ) → i < 366 → (spare_bytes c i ≡ spare_bytes x i)
+  pub spare : (i : ℕ) → i < DAY_SLOTS → (spare_bytes c i ≡ spare_bytes x i)
       ⊎ ((last_kept x / 1440 < minute / 1440) × (i ≡ taken day_ring x) × ((is_there day_ring c i ≡ false) ⊎ (spare_bytes c i ≡ replicate 6 0)))
 
 -- What a `keep` leaves in the day slots: the newest 366 of the days with the minute, and the spare bytes of each slot as
 -- they were, or zeros in the slot of a day that is begun.
 pub record HasDays (minute driver codriver odometer : ℕ) (x y : List ℕ) : Type 0 where
-  pub days : unit_days y ≡ newest_of 366 (days_with (last_kept x) minute driver codriver odometer (unit_days x))
-  pub spare : (i : ℕ) → i < 366 → (spare_bytes y i ≡ spare_bytes x i)
+  pub days : unit_days y ≡ newest_of DAY_SLOTS (days_with (last_kept x) minute driver codriver odometer (unit_days x))
+  pub spare : (i : ℕ) → i < DAY_SLOTS → (spare_bytes y i ≡ spare_bytes x i)
       ⊎ ((last_kept x / 1440 < minute / 1440) × (i ≡ pointer day_ring y) × (spare_bytes y i ≡ replicate 6 0))

@@ -5,6 +5,7 @@ use Rattle.std.specs.Int.{to_be_bytes, w16, w32}
 pub use Rattle.unit_journal.specs.declared.notes.Notes.{Notes}
 use Rattle.tach_media.specs.Medium.{bytes_at}
 use Rattle.gated_ring.specs.Ring.{Shape, pointer, entry_at, next, taken, newest_of}
+use Rattle.unit_model.specs.declared.layout.TheConstants.{DAY_SLOTS, DAY_WORD_LIMIT, LAST_KEPT, FIRST_OVER, DAYS, INSERTIONS, LAST_MINUTE, HIGHEST_ODOMETER}
 use Rattle.unit_model.specs.Days.{word_minute, state_at, UnitMinute, day_of, word_of, Each}
 use Rattle.unit_model.specs.Retention.{retained, begins_day}
 use Rattle.unit_model.specs.Decoding.{Decodes}
@@ -16,14 +17,14 @@ use Rattle.unit_model.specs.Image.{stray_list}
 -- the later day's index is one, and of the last-kept minute's day there is a word for each slot and minute at most;
 -- before the first minute no day is recorded
 pub record IsNotes (j : Notes) : Type 0 where
-  pub kept : j.kept ≤ 71582788
-  pub odometer : j.odometer ≤ 9999999
-  pub index : j.index < 366
+  pub kept : j.kept ≤ LAST_MINUTE
+  pub odometer : j.odometer ≤ HIGHEST_ODOMETER
+  pub index : j.index < DAY_SLOTS
   pub count : j.count ≤ 2 * (j.kept % 1440 + 1)
   pub driver : j.driver < 16
   pub codriver : j.codriver < 16
-  pub stray : ForSome j.stray (λ s. s < 366)
-  pub day_count : j.day_count ≤ 366
+  pub stray : ForSome j.stray (λ s. s < DAY_SLOTS)
+  pub day_count : j.day_count ≤ DAY_SLOTS
   pub no_day : j.kept ≡ 0 → j.day_count ≡ 0
 
 -- The newest slot is that of the last-kept minute's day, behind these others, and the notes on it are right.
@@ -31,12 +32,12 @@ pub record IsNewestDay (j : Notes) (x older : List ℕ) : Type 0 where
   pub order_is : indices x ≡ older ++ j.index ∷ []
   -- the next day takes the index behind it, and the slots that are there stand close together
   pub next_is : taken day_ring x ≡ next day_ring j.index
-  pub dense : (missing : ℕ) × (missing ≤ 365) × (older ≡ drop missing (behind_index j.index))
-  pub others : Each (λ i. (i < 366) × (i ≢ j.index)) older
+  pub dense : (missing : ℕ) × (missing ≤ DAY_SLOTS - 1) × (older ≡ drop missing (behind_index j.index))
+  pub others : Each (λ i. (i < DAY_SLOTS) × (i ≢ j.index)) older
   pub days : suc (length older) ≡ j.day_count
   pub earlier : Each (λ d. day_of d < j.kept / 1440) (map (λ i. unit_day (entry_at day_ring x i)) older)
   pub date : slot_date x j.index ≡ 86400 * (j.kept / 1440)
-  pub few : j.count ≤ 2880
+  pub few : j.count ≤ DAY_WORD_LIMIT
   pub count : slot_count x j.index ≡ j.count
   pub low : Each (λ w. word_minute w ≤ j.kept % 1440) (slot_words x j.index j.count)
   pub driver : state_at 0 (j.kept % 1440) (slot_words x j.index j.count) ≡ j.driver
@@ -46,22 +47,22 @@ pub record IsNewestDay (j : Notes) (x older : List ℕ) : Type 0 where
 pub record Agrees (j : Notes) (x : List ℕ) : Type 0 where
   pub kept : last_kept x ≡ j.kept
   pub odometer : odometer_at x ≡ j.odometer
-  pub pointer : pointer day_ring x < 366
+  pub pointer : pointer day_ring x < DAY_SLOTS
   pub none : j.kept ≡ 0 → indices x ≡ []
   pub newest : 0 < j.kept → (older : List ℕ) × IsNewestDay j x older
 
 -- nothing but the last-kept minute, the odometer and the days may have changed
 pub record SameBesides (x c : List ℕ) : Type 0 where
-  pub before : take 564 c ≡ take 564 x
-  pub between : bytes_at c 572 452 ≡ bytes_at x 572 452
-  pub after : drop 2115044 c ≡ drop 2115044 x
+  pub before : take LAST_KEPT.place c ≡ take LAST_KEPT.place x
+  pub between : bytes_at c FIRST_OVER.place (DAYS.place - FIRST_OVER.place) ≡ bytes_at x FIRST_OVER.place (DAYS.place - FIRST_OVER.place)
+  pub after : drop INSERTIONS.place c ≡ drop INSERTIONS.place x
   pub same_length : length c ≡ length x
 
 -- The oldest of 366 days is gone before a minute that begins a further one.
 pub record IsGivenUp (k : UnitMinute) (x c : List ℕ) : Type 0 where
-  pub full : length (recorded x) ≡ 366
+  pub full : length (recorded x) ≡ DAY_SLOTS
   pub begins : IsTrue (begins_day (k.minute ∷ []) (recorded x))
-  pub newest : recorded c ≡ newest_of 365 (recorded x)
+  pub newest : recorded c ≡ newest_of (DAY_SLOTS - 1) (recorded x)
 
 -- A moment before the mark is written: the last-kept minute is the old one, and so are the recorded days, their oldest gone
 -- where it makes room.
@@ -130,11 +131,11 @@ notes_begun index days minute driver codriver odometer = notes_by index days min
 abbrev pub notes_after : Notes → (minute driver codriver odometer : ℕ) → (x : List ℕ) → Notes
 notes_after j minute driver codriver odometer x =
     if minute / 1440 == j.kept / 1440 then notes_on j minute driver codriver odometer
-    else notes_begun (taken day_ring x) (min (j.day_count + 1) 366) minute driver codriver odometer
+    else notes_begun (taken day_ring x) (min (j.day_count + 1) DAY_SLOTS) minute driver codriver odometer
 
 -- that day stands at the pointer, where the next day would
 pub record IsStray (j : Notes) (x : List ℕ) (s : ℕ) : Type 0 where
-  pub below : s < 366
+  pub below : s < DAY_SLOTS
   pub at_pointer : pointer day_ring x ≡ s
   pub later : j.kept / 1440 < day_of (unit_day (entry_at day_ring x s))
 
@@ -142,14 +143,14 @@ pub record IsStray (j : Notes) (x : List ℕ) (s : ℕ) : Type 0 where
 pub record IsFoundDay (j : Notes) (stray : Option ℕ) (stored : ℕ) (x older : List ℕ) : Type 0 where
   pub order_is : indices x ≡ (older ++ j.index ∷ []) ++ stray_list stray
   pub next_is : MatchOption stray (taken day_ring x ≡ next day_ring j.index) (λ s. s ≡ next day_ring j.index)
-  pub dense : (missing : ℕ) × (missing ≤ 365) × (older ≡ drop missing (behind_index j.index))
-  pub others : Each (λ i. (i < 366) × (i ≢ j.index)) older
+  pub dense : (missing : ℕ) × (missing ≤ DAY_SLOTS - 1) × (older ≡ drop missing (behind_index j.index))
+  pub others : Each (λ i. (i < DAY_SLOTS) × (i ≢ j.index)) older
   pub days : suc (length older) ≡ j.day_count
   pub earlier : Each (λ d. day_of d < j.kept / 1440) (map (λ i. unit_day (entry_at day_ring x i)) older)
   pub date : slot_date x j.index ≡ 86400 * (j.kept / 1440)
   pub count : slot_count x j.index ≡ stored
   pub cut : j.count ≤ stored
-  pub stored_few : stored ≤ 2880
+  pub stored_few : stored ≤ DAY_WORD_LIMIT
   pub low : Each (λ w. word_minute w ≤ j.kept % 1440) (slot_words x j.index j.count)
   pub late : Each (λ w. j.kept % 1440 < word_minute w) (words_at x (free_place j.index j.count) (stored - j.count))
   pub driver : state_at 0 (j.kept % 1440) (slot_words x j.index j.count) ≡ j.driver
@@ -159,7 +160,7 @@ pub record IsFoundDay (j : Notes) (stray : Option ℕ) (stored : ℕ) (x older :
 pub record IsFound (j : Notes) (stray : Option ℕ) (stored : ℕ) (x : List ℕ) : Type 0 where
   pub kept : last_kept x ≡ j.kept
   pub odometer : odometer_at x ≡ j.odometer
-  pub pointer : pointer day_ring x < 366
+  pub pointer : pointer day_ring x < DAY_SLOTS
   pub none : j.kept ≡ 0 → indices x ≡ stray_list stray
   pub newest : 0 < j.kept → (older : List ℕ) × IsFoundDay j stray stored x older
   pub apart : MatchOption stray (Unit {0}) (λ s. IsStray j x s)

@@ -1,6 +1,7 @@
 -- What a mending at power-on leaves of an image: later cells emptied, a later day's gate shut, later words cut off (profile).
-use Rattle.std.specs.Prelude.{◌≡◌, ◌⊎◌, ℕ, ◌<◌, ◌≤◌, ◌==◌, if◌then◌else◌, List, take, drop, length, replicate, Option, Some, None}
+use Rattle.std.specs.Prelude.{◌≡◌, ◌⊎◌, ℕ, ◌+◌, ◌<◌, ◌≤◌, ◌==◌, if◌then◌else◌, List, take, drop, length, replicate, Option, Some, None}
 use Rattle.tach_media.specs.Medium.{put, bytes_at}
+use Rattle.unit_model.specs.declared.layout.TheConstants.{OWED, SPARE_ROWS, INSERTIONS}
 use Rattle.unit_model.specs.Decoding.{Decodes, cell_minute, cell_word}
 use Rattle.unit_model.specs.Image.{slot_place, last_kept, unit_days, recorded}
 use Rattle.unit_journal.specs.Image.{Notes, IsFound, IsFoundBy}
@@ -10,9 +11,9 @@ use Rattle.unit_model.specs.Cells.{row_head, minute_kept, cells_emptied, IsEmpty
 
 -- nothing but the owed rows and the day slots may have changed
 pub record SameButRowsAndSlots (x c : List ℕ) : Type 0 where
-  pub before : take 624 c ≡ take 624 x
-  pub between : bytes_at c 1008 20 ≡ bytes_at x 1008 20
-  pub after : drop 2115044 c ≡ drop 2115044 x
+  pub before : take OWED.place c ≡ take OWED.place x
+  pub between : bytes_at c SPARE_ROWS.place (SPARE_ROWS.size + 4) ≡ bytes_at x SPARE_ROWS.place (SPARE_ROWS.size + 4)
+  pub after : drop INSERTIONS.place c ≡ drop INSERTIONS.place x
   pub same_length : length c ≡ length x
 
 -- in the owed rows nothing but the minutes of cells may have changed

@@ -4,6 +4,7 @@ use Rattle.std.specs.Int.{to_be_bytes, w16, w32}
 use Rattle.write_plan.specs.Plan.{Piece, piece}
 use Rattle.gated_ring.specs.declared.room.Room.{Room}
 use Rattle.gated_ring.specs.Plans.{placing_pieces, room_in}
+use Rattle.unit_model.specs.declared.layout.TheConstants.{DAY_COUNT, LAST_KEPT, ODOMETER}
 use Rattle.unit_model.specs.Days.{bare}
 use Rattle.unit_model.specs.Image.{day_ring, slot_place}
 use Rattle.unit_model.specs.Changes.{changes}
@@ -17,16 +18,16 @@ word_pieces place (w ∷ ws) = piece place (to_be_bytes w16 w) ∷ word_pieces (
 
 -- words behind those of a slot, and then its count
 abbrev pub counted : (index count : ℕ) → List ℕ → List Piece
-counted i count ws = word_pieces (free_place i count) ws ++ piece (slot_place i + 8) (to_be_bytes w16 (count + length ws)) ∷ []
+counted i count ws = word_pieces (free_place i count) ws ++ piece (slot_place i + DAY_COUNT.place) (to_be_bytes w16 (count + length ws)) ∷ []
 
 -- the last-kept minute
 abbrev pub mark : ℕ → List Piece
-mark minute = piece 564 (to_be_bytes w32 minute) ∷ []
+mark minute = piece LAST_KEPT.place (to_be_bytes w32 minute) ∷ []
 
 -- a minute on the day of the last-kept one: the odometer, the words and their count, and the mark
 abbrev pub going : Notes → (minute driver codriver odometer : ℕ) → List Piece
 going j minute driver codriver odometer =
-    piece 568 (to_be_bytes w32 odometer) ∷ (counted j.index j.count (words_on j minute driver codriver) ++ mark minute)
+    piece ODOMETER.place (to_be_bytes w32 odometer) ∷ (counted j.index j.count (words_on j minute driver codriver) ++ mark minute)
 
 -- the end of the day of the last-kept minute
 abbrev pub closing : Notes → List Piece
@@ -34,7 +35,7 @@ closing j = if j.kept == 0 then [] else (if j.kept % 1440 + 1 == 1440 then [] el
 
 -- before a new day: the odometer, and the end of that day
 abbrev pub turning : Notes → (odometer : ℕ) → List Piece
-turning j odometer = piece 568 (to_be_bytes w32 odometer) ∷ closing j
+turning j odometer = piece ODOMETER.place (to_be_bytes w32 odometer) ∷ closing j
 
 -- a new day behind its `add`: further words and their count, and the mark
 abbrev pub beginning : (index minute : ℕ) → (ws : List ℕ) → List Piece

@@ -2,7 +2,7 @@
 use Rattle.std.specs.Prelude.{◌≡◌, ℕ, ◌+◌, ◌-◌, ◌/◌, ◌%◌, max, Bool, true, false, ◌&&◌, ◌||◌, ◌==◌, Option, Some, None, Result, Ok, Err, List, [], ◌∷◌, ◌++◌, nat_le, nat_lt, if◌then◌else◌}
 use Rattle.std.specs.List.{range_with_len}
 use Rattle.gated_ring.specs.Ring.{pointer}
-use Rattle.unit_model.specs.declared.layout.TheConstants.{VERSION, LAST_KEPT, ODOMETER, OVER_COUNT, DAY_DATE, DAY_ODOMETER, DAY_COUNT, DAY_WORDS, DAY_WORD_LIMIT, DAY_SLOTS, INSERTIONS, PLACES, LAST_MINUTE, HIGHEST_ODOMETER}
+use Rattle.unit_model.specs.declared.layout.TheConstants.{VERSION, LAST_KEPT, ODOMETER, OVER_COUNT, DAY_DATE, DAY_ODOMETER, DAY_COUNT, DAY_WORDS, DAY_WORD_LIMIT, DAY_SLOTS, INSERTIONS, INSERTION_SLOTS, PLACES, PLACE_SLOTS, MOST_OVERS, LAST_MINUTE, HIGHEST_ODOMETER}
 use Rattle.unit_model.specs.Image.{number_of, last_kept, odometer_at, day_ring, slot_place, slot_date, slot_odometer, slot_count, slot_words}
 use Rattle.unit_model.specs.Decoding.{Check, check, word_checks, first_bad_place}
 use Rattle.unit_memory.specs.Walks.{walk_start, walk_from}
@@ -19,7 +19,7 @@ front_of version kept has_today odometer overs =
     check VERSION.place (version == 1)
     ∷ check LAST_KEPT.place (nat_le kept LAST_MINUTE && (kept == 0 || has_today))
     ∷ check ODOMETER.place (nat_le odometer HIGHEST_ODOMETER)
-    ∷ check OVER_COUNT.place (nat_le overs 255)
+    ∷ check OVER_COUNT.place (nat_le overs MOST_OVERS)
     ∷ []
 
 abbrev pub front_by : (kept : ℕ) → (has_today : Bool) → List ℕ → List Check
@@ -27,7 +27,7 @@ front_by kept has_today image = front_of (number_of image VERSION) kept has_toda
 
 -- the pointers of insertions and places
 abbrev pub rings_of : (insertion place : ℕ) → List Check
-rings_of insertion place = check INSERTIONS.place (nat_lt insertion 2048) ∷ check PLACES.place (nat_lt place 255) ∷ []
+rings_of insertion place = check INSERTIONS.place (nat_lt insertion INSERTION_SLOTS) ∷ check PLACES.place (nat_lt place PLACE_SLOTS) ∷ []
 
 -- the place of the first word that may not stand there
 abbrev pub failed_of : Result Scan ℕ → Option ℕ
@@ -86,7 +86,7 @@ turn_at p = if nat_lt p DAY_SLOTS then p + 1 else DAY_SLOTS
 
 -- the slots from the oldest place to the end, and then from the front on
 abbrev pub walk_round : (day turn : ℕ) → List ℕ → Walk
-walk_round day turn image = walk_from day image (walk_from day image walk_start (range_with_len turn (366 - turn))) (range_with_len 0 turn)
+walk_round day turn image = walk_from day image (walk_from day image walk_start (range_with_len turn (DAY_SLOTS - turn))) (range_with_len 0 turn)
 
 -- what judging an image tells
 pub record IsJudged (j : Judged) (image : List ℕ) : Type 0 where

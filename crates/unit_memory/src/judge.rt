@@ -10,8 +10,9 @@ use crate::slots::{judge_slots, or_else};
 use crate::walk::{Density, Walk};
 use tach_media::{Failed, Medium, read_number};
 use unit_model::layout::{
-    CELL_WORD, CELLS, DAY_SLOTS, DAYS, HIGHEST_ODOMETER, INSERTIONS, LAST_KEPT, LAST_MINUTE,
-    ODOMETER, OVER_COUNT, OWED_ROWS, PLACES, VERSION, cell_place,
+    CELL_WORD, CELLS, DAY_SLOTS, DAYS, HIGHEST_ODOMETER, INSERTION_SLOTS, INSERTIONS, LAST_KEPT,
+    LAST_MINUTE, MOST_OVERS, ODOMETER, OVER_COUNT, OWED_ROWS, PLACE_SLOTS, PLACES, VERSION,
+    cell_place,
 };
 
 /// What judging an image tells: the place of the first field that fails, the last-kept minute, the pointer of the days, and
@@ -58,7 +59,7 @@ fn front_place(version: u32, kept: u32, has_today: bool, odometer: u32, overs: u
     if odometer > HIGHEST_ODOMETER {
         return Some(ODOMETER.place);
     }
-    if overs > 255 {
+    if overs > MOST_OVERS {
         return Some(OVER_COUNT.place);
     }
     None
@@ -101,10 +102,10 @@ fn bad_ring<M: Medium>(unit: &mut M) -> Result<Option<u32>, Failed>
 fn ring_place(insertion: u32, place: u32) -> Option<u32>
     ensures { result ≡ first_failing (rings_of insertion place) }
 {
-    if insertion >= 2048 {
+    if insertion >= INSERTION_SLOTS {
         return Some(INSERTIONS.place);
     }
-    if place >= 255 {
+    if place >= PLACE_SLOTS {
         return Some(PLACES.place);
     }
     None

@@ -4,14 +4,14 @@ use Rattle.std.specs.List.{range_with_len}
 use Rattle.tach_media.specs.Medium.{State, LiesInside, bytes_at}
 use Rattle.gated_ring.specs.Ring.{Shape, number_at, ring_list, indices as ring_indices}
 use Rattle.unit_model.specs.declared.layout.Field.{Field}
-use Rattle.unit_model.specs.declared.layout.TheConstants.{DAYS, DAY_SLOTS, DAY_SLOT_SIZE, DAY_DATE, DAY_ODOMETER, DAY_COUNT, DAY_SPARE, DAY_WORDS, LAST_KEPT, ODOMETER}
+use Rattle.unit_model.specs.declared.layout.TheConstants.{IMAGE_SIZE, DAYS, DAY_SLOTS, DAY_SLOT_SIZE, DAY_DATE, DAY_ODOMETER, DAY_COUNT, DAY_SPARE, DAY_WORDS, DAY_WORD_LIMIT, LAST_KEPT, ODOMETER}
 use Rattle.unit_model.specs.Days.{StoredDay, Day, UnitMinute, word_minute, days_shown, minutes_of}
 
 -- a medium that is a unit's: it has its size, and all of it may be written
 pub record IsUnit (s : State) : Type 0 where
-  pub sized : s.size ≡ 2485808
+  pub sized : s.size ≡ IMAGE_SIZE
   pub behind : s.behind ≡ 0
-  pub writable : LiesInside s.writable 0 2485808
+  pub writable : LiesInside s.writable 0 IMAGE_SIZE
 
 -- the number in a field
 abbrev pub number_of : List ℕ → Field → ℕ
@@ -80,7 +80,7 @@ recorded_indices x = filter (λ i. nat_le (slot_date x i / 86400) (last_kept x /
 
 -- the words that a slot's count covers; it has room for 2880
 abbrev pub covered_words : List ℕ → ℕ → List ℕ
-covered_words x i = slot_words x i (min (slot_count x i) 2880)
+covered_words x i = slot_words x i (min (slot_count x i) DAY_WORD_LIMIT)
 
 -- the words of a recorded day: of the last-kept minute's day those that are not later
 abbrev pub recorded_words : List ℕ → ℕ → List ℕ

@@ -1,11 +1,12 @@
 -- Which of the recorded days a unit retains: the newest 366 (profile).
-use Rattle.std.specs.Prelude.{◌≡◌, ◌⊎◌, ℕ, ◌/◌, Bool, ◌&&◌, List, [], ◌∷◌, length, nat_le, nat_lt, IsTrue}
+use Rattle.std.specs.Prelude.{◌≡◌, ◌⊎◌, ℕ, ◌-◌, ◌/◌, Bool, ◌&&◌, List, [], ◌∷◌, length, nat_le, nat_lt, IsTrue}
 use Rattle.std.specs.List.{list_any}
+use Rattle.unit_model.specs.declared.layout.TheConstants.{DAY_SLOTS}
 use Rattle.unit_model.specs.Days.{UnitMinute, Day, filled, newest_of}
 
 -- the days with one minute more, of which the newest 366 are retained
 abbrev pub retained : List Day → UnitMinute → List Day
-retained days k = newest_of 366 (filled days k)
+retained days k = newest_of DAY_SLOTS (filled days k)
 
 -- the day of the last of these days, 0 where there is none
 abbrev pub last_day : List Day → ℕ
@@ -20,4 +21,4 @@ begins_day next days = list_any (λ m. nat_lt (last_day days) (m / 1440)) next
 -- A unit shows these days of all, where these minutes may come next: the newest 366, or 365 of 366 and more where a further day may have been begun.
 abbrev pub UnitRetains : List Day → List ℕ → List Day → Type 0
 UnitRetains all next shown =
-    (shown ≡ newest_of 366 all) ⊎ (IsTrue (begins_day next all && nat_le 366 (length all)) × (shown ≡ newest_of 365 all))
+    (shown ≡ newest_of DAY_SLOTS all) ⊎ (IsTrue (begins_day next all && nat_le DAY_SLOTS (length all)) × (shown ≡ newest_of (DAY_SLOTS - 1) all))

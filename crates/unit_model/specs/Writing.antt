@@ -3,11 +3,12 @@ use Rattle.std.specs.Prelude.{ℕ, ◌+◌, ◌-◌, ◌*◌, List, [], ◌∷�
 use Rattle.std.specs.List.{range_with_len}
 use Rattle.std.specs.Int.{to_be_bytes, w16, w32}
 use Rattle.tach_media.specs.Medium.{put, SameOutside}
+use Rattle.unit_model.specs.declared.layout.TheConstants.{DAY_SLOTS, DAY_COUNT, DAY_WORDS, LAST_KEPT, ODOMETER}
 use Rattle.unit_model.specs.Image.{slot_place}
 
 -- the indices behind one, round to it
 abbrev pub behind_index : ℕ → List ℕ
-behind_index i = range_with_len (i + 1) (366 - (i + 1)) ++ range_with_len 0 i
+behind_index i = range_with_len (i + 1) (DAY_SLOTS - (i + 1)) ++ range_with_len 0 i
 
 -- an image with words from a place on
 abbrev pub written : ℕ → List ℕ → List ℕ → List ℕ
@@ -16,21 +17,21 @@ written place (w ∷ ws) image = written (place + 2) ws (put place (to_be_bytes 
 
 -- the room behind the words of a slot that its count covers
 abbrev pub free_place : (index count : ℕ) → ℕ
-free_place i count = slot_place i + 16 + 2 * count
+free_place i count = slot_place i + DAY_WORDS.place + 2 * count
 
 -- images that differ in that room alone
 abbrev pub DiffersBehind : (index count : ℕ) → List ℕ → List ℕ → Type 0
-DiffersBehind i count x c = SameOutside (free_place i count) (5760 - 2 * count) x c
+DiffersBehind i count x c = SameOutside (free_place i count) (DAY_WORDS.size - 2 * count) x c
 
 -- an image with another odometer, another count of a slot, another last-kept minute, and more words of a slot with their count
 abbrev pub with_odometer : ℕ → List ℕ → List ℕ
-with_odometer odometer x = put 568 (to_be_bytes w32 odometer) x
+with_odometer odometer x = put ODOMETER.place (to_be_bytes w32 odometer) x
 
 abbrev pub with_count : (index count : ℕ) → List ℕ → List ℕ
-with_count i count x = put (slot_place i + 8) (to_be_bytes w16 count) x
+with_count i count x = put (slot_place i + DAY_COUNT.place) (to_be_bytes w16 count) x
 
 abbrev pub with_kept : ℕ → List ℕ → List ℕ
-with_kept minute x = put 564 (to_be_bytes w32 minute) x
+with_kept minute x = put LAST_KEPT.place (to_be_bytes w32 minute) x
 
 abbrev pub with_words : (index count : ℕ) → List ℕ → List ℕ → List ℕ
 with_words i count ws x = with_count i (count + length ws) (written (free_place i count) ws x)

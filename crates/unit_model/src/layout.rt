@@ -127,6 +127,13 @@ pub const SPEEDS: Field = Field {
     size: 92_164,
 };
 
+/// How many insertions and how many places there is room for.
+pub const INSERTION_SLOTS: u32 = 2048;
+
+pub const PLACE_SLOTS: u32 = 255;
+/// The most over speedings that are counted.
+pub const MOST_OVERS: u32 = 255;
+
 /// How many day slots there are, and how many bytes each has.
 pub const DAY_SLOTS: u32 = 366;
 

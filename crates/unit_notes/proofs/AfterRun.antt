@@ -22,7 +22,8 @@ use Rattle.event_model.proofs.Retaining.{and-first, and-second, stored-none}
 use Rattle.event_model.proofs.Similar.{recent_all, days_all, similar_counted}
 use Rattle.event_model.specs.Events.{Event}
 use Rattle.side_model.specs.Tables.{over_widths, widths_of, held_in, held_of, similar_field, similar_at, CountsSimilar, HasRest, IsEntry, HasOneMore, IsNotedAt, IsNoted, AreNoted}
-use Rattle.unit_notes.specs.Retention.{IsOfType, held_rows, similar_of, counted_row, counted_rows, CountsOnce, KeepsThese, IsStart, IsAfter, IsFirstOfLeast}
+use Rattle.gated_ring.specs.Earliest.{IsEarliest}
+use Rattle.unit_notes.specs.Retention.{IsOfType, held_rows, similar_of, counted_row, counted_rows, CountsOnce, KeepsThese, IsStart, IsAfter}
 use Rattle.unit_notes.proofs.Types.{held_is, width_is}
 use Rattle.unit_notes.proofs.Placing.{day_below}
 use Rattle.unit_notes.proofs.Journals.{part_of}
@@ -333,7 +334,7 @@ less_all (x ∷ xs) b c le all =
     let here : b ≤ x = leb-true b x (and-first (nat_le b x) (list_all (λ y. nat_le b y) xs) all) in
     rw (le-leb c x (omega (arith, le, here))) (less_all xs b c le (and-second (nat_le b x) (list_all (λ y. nat_le b y) xs) all))
 
-pub first_of_least : (begins : List ℕ) (i : ℕ) → earliest (λ (b : ℕ). b) begins ≡ Some i → IsFirstOfLeast begins i
+pub first_of_least : (begins : List ℕ) (i : ℕ) → earliest (λ (b : ℕ). b) begins ≡ Some i → IsEarliest (length begins) (λ j. slice_index_or begins j 0) i
 first_of_least begins i is =
     let found = position-Some (λ (x : ℕ). list_all (λ y. nat_le x y) begins) begins i 0 is in
     record {

@@ -1,5 +1,5 @@
 -- Which events the places of a type hold after a run, and how many similar ones each counts (Annex IB, section III.12).
-use Rattle.std.specs.Prelude.{◌≡◌, ◌≢◌, ◌⊎◌, ℕ, ◌<◌, ◌≤◌, true, false, Option, Some, None, List, ◌++◌, length, map, nat_eq, slice_index_or, All, if◌then◌else◌}
+use Rattle.std.specs.Prelude.{◌≡◌, ◌≢◌, ◌⊎◌, ℕ, ◌<◌, ◌≤◌, true, false, Option, Some, None, List, ◌++◌, length, map, nat_eq, All, if◌then◌else◌}
 use Rattle.byte_fields.specs.Fields.{number_in}
 use Rattle.event_model.specs.declared.kinds.TheConstants.{OVER_SPEEDING, CARD_FAULT}
 use Rattle.event_model.specs.declared.entries.Held.{Held}
@@ -53,9 +53,3 @@ pub record IsAfter (kind : ℕ) (start : List (List ℕ)) (events : List Held) (
   pub keeps : KeepsThese kind (stored (held_rows kind start) ++ events) rows
   pub once : is_by_day (purpose_of kind) ≡ false → kind ≢ CARD_FAULT → CountsOnce (counted_rows kind start) (counted_rows kind rows)
   pub similar : is_by_day (purpose_of kind) ≡ true → CountsDays (counted_rows kind start) events (counted_rows kind rows)
-
--- of these begins the first of the least: on a card each event takes this place
-pub record IsFirstOfLeast (begins : List ℕ) (i : ℕ) : Type 0 where
-  pub below : i < length begins
-  pub least : (j : ℕ) → j < length begins → slice_index_or begins i 0 ≤ slice_index_or begins j 0
-  pub first : (j : ℕ) → j < i → slice_index_or begins i 0 < slice_index_or begins j 0

@@ -9,14 +9,11 @@ ghost use Rattle.unit_notes.specs.Noting.{OrTurned, with_first, with_one_more};
 use event_model::{OVER_SPEEDING, Over};
 use tach_media::{Failed, Medium, read_number};
 use tacho_types::{FullCardNumber, TimeReal, write_card_number, write_time};
-use unit_model::layout::{FIRST_OVER, OVER_COUNT};
+use unit_model::layout::{FIRST_OVER, MOST_OVERS, OVER_COUNT};
 
 /// Why an over speeding is recorded: the highest average speed of one of the last ten days of occurrence (Appendix 1,
 /// EventFaultRecordPurpose).
 const PURPOSE: u8 = 4;
-
-/// The most over speedings that are counted.
-const MOST: u32 = 255;
 
 // Writes an over speeding but its number of similar events into 30 bytes.
 #[tactic(auto, unfolding(crate::specs::Entries::over_bytes))]
@@ -62,7 +59,7 @@ pub fn count_one<M: Medium>(unit: &mut M) -> Result<(), Failed>
     ensures most { (M.state unit.new).clock ≤ (M.state unit.old).clock + 1 }
 {
     let count = read_number(unit, OVER_COUNT.place, OVER_COUNT.size)?;
-    if count < MOST {
+    if count < MOST_OVERS {
         unit.write_at(OVER_COUNT.place, &(count + 1).to_be_bytes())?;
     }
     Ok(())

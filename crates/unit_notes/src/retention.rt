@@ -1,4 +1,5 @@
-ghost use Rattle.std.specs.Prelude.{◌≡◌, ℕ, ◌≤◌, false, Some, List, length, map, All};
+ghost use Rattle.std.specs.Prelude.{◌≡◌, ℕ, ◌≤◌, false, Some, List, length, map, slice_index_or, All};
+ghost use Rattle.gated_ring.specs.Earliest.{IsEarliest};
 ghost use Rattle.trace_model.specs.declared.Card.{Card};
 ghost use Rattle.event_model.specs.declared.entries.Held.{Held};
 ghost use Rattle.event_model.specs.Kinds.{purpose_of, is_by_day, places_of};
@@ -6,7 +7,7 @@ ghost use Rattle.event_model.specs.Places.{earliest, noted};
 ghost use Rattle.event_model.specs.Kept.{all_noted};
 ghost use Rattle.event_model.specs.Events.{Event};
 ghost use Rattle.side_model.specs.Tables.{held_in, held_of, AreNoted};
-ghost use Rattle.unit_notes.specs.Retention.{IsOfType, held_rows, counted_rows, IsStart, IsAfter, IsFirstOfLeast};
+ghost use Rattle.unit_notes.specs.Retention.{IsOfType, held_rows, counted_rows, IsStart, IsAfter};
 
 /// Where the events of a run were noted one after another, the places of their type hold what is to be kept of the events that they
 /// held at the start, followed by those of the run, with the numbers of similar events.
@@ -30,7 +31,8 @@ pub fn empty_places_are_a_start()
     ensures { (kind : ℕ) (rows : List (List ℕ)) → length rows ≡ places_of kind → All (λ e. (held_in kind e).begin ≡ 0) rows → All (λ c. c.similar ≤ 255) (counted_rows kind rows) → IsStart kind rows }
 {}
 
-/// The place of the earliest is the first of those with the least begin; an empty one has the begin 0.
+/// The place of the earliest is the first of those with the least begin; an empty one has the begin 0. On a card each
+/// event takes this place.
 pub fn the_earliest_place_is_the_first_of_the_least()
-    ensures { (begins : List ℕ) (i : ℕ) → earliest (λ b. b) begins ≡ Some i → IsFirstOfLeast begins i }
+    ensures { (begins : List ℕ) (i : ℕ) → earliest (λ b. b) begins ≡ Some i → IsEarliest (length begins) (λ j. slice_index_or begins j 0) i }
 {}

@@ -13,13 +13,9 @@ use crate::zeros::Zeros;
 use gated_ring::Ring;
 use tach_media::{Failed, Medium};
 use tacho_types::{FullCardNumber, PlaceEntry, write_card_number, write_place};
-use unit_model::layout::{IMAGE_SIZE, INSERTIONS, PLACES};
+use unit_model::layout::{IMAGE_SIZE, INSERTION_SLOTS, INSERTIONS, PLACE_SLOTS, PLACES};
 
-/// How many insertions and places a unit holds, and the width of the pointers before them.
-const INSERTION_PLACES: u32 = 2048;
-
-const PLACE_PLACES: u32 = 255;
-
+/// The width of the pointers before the insertions and the places.
 const POINTER: u8 = 4;
 
 /// Where an insertion has its time, the time of its withdrawal, and the odometer then.
@@ -51,7 +47,7 @@ pub fn insertions() -> Ring
     ring_at(
         INSERTIONS.place,
         Insertion::SIZE as u32,
-        INSERTION_PLACES,
+        INSERTION_SLOTS,
         TIME,
     )
 }
@@ -63,7 +59,7 @@ pub fn places() -> Ring
     ring_at(
         PLACES.place,
         PLACE_SIZE as u32,
-        PLACE_PLACES,
+        PLACE_SLOTS,
         FullCardNumber::SIZE as u32,
     )
 }

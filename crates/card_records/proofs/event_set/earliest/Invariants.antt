@@ -1,6 +1,6 @@
 use Rattle.std.proofs.Common.{◌≡◌, ◌+◌, ◌*◌}
 use Rattle.gated_ring.specs.Ring.{number_at}
-use Rattle.card_records.specs.Noting.{IsEarliest}
+use Rattle.gated_ring.specs.Earliest.{IsEarliest}
 use Rattle.card_records.proofs.event_set.earliest.Given as goal
 
 abbrev pub invariant-loop-index : goal.invariant-loop-index
