@@ -132,9 +132,9 @@ both-by {U} {M} {V} failed bare over first second = record {
 }
 
 -- THE ORDER: what a note of driving without a card has done, and what stays beside it
-pub bare-done : {U V : State} (s : Span) (v : UnitEvent) → IsCoherent U → IsUnit U → IsEventOf no_number (bare_event s) v → s.begin < 2 ^ 32 → s.end < 2 ^ 32
+pub bare-done : {U : State} (V : State) (s : Span) (v : UnitEvent) → IsCoherent U → IsUnit U → IsEventOf no_number (bare_event s) v → s.begin < 2 ^ 32 → s.end < 2 ^ 32
     → IfSome U.image (λ x. IfSome V.image (IsEventNoted 0x04 (fault_bytes v) x)) → IfSome U.image (λ x. IfSome V.image (λ y. HasBare (Some s) x y))
-bare-done {U} {V} s v before unit is small_begin small_end noted = where_told U.image V.image (λ x y. HasBare (Some s) x y) (λ x y was now.
+bare-done {U} V s v before unit is small_begin small_end noted = where_told U.image V.image (λ x y. HasBare (Some s) x y) (λ x y was now.
     is_noted no_number (bare_event s) (fault_bytes v) x y (unit_sized before unit x was)
     (event_front_of no_number (bare_event s) v (λ card. refl) (λ e. let no : 4 ≡ 7 = e in omega (arith, no)) small_begin small_end is)
     (at_image (IsEventNoted 0x04 (fault_bytes v) x) now (at_image (λ (x : List ℕ). IfSome V.image (IsEventNoted 0x04 (fault_bytes v) x)) was noted)))

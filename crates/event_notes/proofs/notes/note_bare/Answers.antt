@@ -48,7 +48,7 @@ pub returns-in-Some-clause-bare : goal.returns-in-Some-clause-bare
 returns-in-Some-clause-bare g c =
     let v = c.bare.result in
     subst (λ (o : Option Span). OnOk c.note_event.result (IfSome (g.M.Medium.state c.args.unit.now).image (λ x. IfSome (g.M.Medium.state c.note_event.new.unit).image (λ y. HasBare o x y)))) (sym c.in-Some.is)
-    (on_ok c.note_event.result (λ fine. bare-done c.in-Some.span v (g.met.M.Medium.coherent c.args.unit.now) c.requires.unit c.bare.ensures.event c.bare.ensures.begin_fits c.bare.ensures.end_fits
+    (on_ok c.note_event.result (λ fine. bare-done (g.M.Medium.state c.note_event.new.unit) c.in-Some.span v (g.met.M.Medium.coherent c.args.unit.now) c.requires.unit c.bare.ensures.event c.bare.ensures.begin_fits c.bare.ensures.end_fits
     (subst (λ (k : ℕ). IfSome (g.M.Medium.state c.args.unit.now).image (λ x. IfSome (g.M.Medium.state c.note_event.new.unit).image (IsEventNoted k (fault_bytes v) x))) c.bare.ensures.kind (ok_gives c.note_event.result c.note_event.ensures.noted fine))))
 
 pub returns-in-Some-clause-aside : goal.returns-in-Some-clause-aside
