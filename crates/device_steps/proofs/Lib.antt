@@ -4,3 +4,6 @@ pub mod OnCard
 pub mod MinuteSaid
 pub mod RowBegun
 pub mod PowerBack
+pub mod PutIn
+pub mod Ported
+pub mod Noted

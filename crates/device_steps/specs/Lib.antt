@@ -1,3 +1,4 @@
 pub mod Rule
 pub mod OnCard
 pub mod Minute
+pub mod Entering

@@ -1,5 +1,5 @@
--- A minute is kept by the unit and by a card in its slot (profile): what is carried from one minute to the next.
-use Rattle.std.specs.Prelude.{◌≡◌, ◌⊎◌, ℕ, suc, ◌<◌, ◌≤◌, Bool, true, None, is_some, IfSome, List, [], ◌∷◌, ◌++◌}
+-- A minute is kept by the unit and both cards (profile): what is carried from one minute to the next, and what a minute says.
+use Rattle.std.specs.Prelude.{◌≡◌, ◌⊎◌, ℕ, suc, ◌<◌, ◌≤◌, Option, None, IfSome, List, [], ◌∷◌, ◌++◌, option_to_list}
 use Rattle.activity_codec.specs.declared.entries.Entry.{Entry}
 use Rattle.trace_model.specs.declared.Card.{Card}
 use Rattle.run_model.specs.declared.Device.TheVariants.{Unit as Recorder}
@@ -16,33 +16,72 @@ use Rattle.history_model.specs.Minutes.{HistoryMinute, on_card}
 use Rattle.history_model.specs.Book.{Book, kept, broken}
 use Rattle.joint_rule.specs.Filling.{seen_by_unit}
 use Rattle.joint_rule.specs.Views.{other}
-use Rattle.joint_rule.specs.Rules.{Standing, In, IsPresent}
+use Rattle.joint_rule.specs.Rules.{Standing, Out, In, Torn, IsPresent}
 use Rattle.unit_rule.specs.Rule.{Started}
 use Rattle.unit_rule.specs.Marks.{Holds}
 use Rattle.device_steps.specs.Rule.{Both, opened, number_of, CardHolds, CardRests}
-use Rattle.device_steps.specs.OnCard.{IsCarried, IsOnItsCard}
+use Rattle.device_steps.specs.OnCard.{IsCarried}
 
--- What minutes are kept over: how it all began, from where on a minute may come, the history, the marks, the session of the card, and
--- how the other card stands.
-pub record Given : Type 0 where
+-- What minutes are kept over: how it all began, from where on a minute may come, the history, and the marks.
+pub record Known : Type 0 where
   pub both : Both
   pub started : Started
   pub due : ℕ
   pub book : Book
   pub marks : List Mark
-  pub time : ℕ
-  pub others : Standing
 
 -- after a minute that the unit kept, and acknowledged at this clock
-abbrev pub after : Given → HistoryMinute → (clock : ℕ) → Given
-after g i clock =
-    record g {
+abbrev pub known_after : Known → HistoryMinute → (clock : ℕ) → Known
+known_after k i clock =
+    record {
+      both = k.both;
+      started = k.started;
       due = suc i.minute;
-      book = kept i g.book;
-      marks = g.marks ++ record { device = Recorder; minute = i.minute; clock = clock } ∷ [];
+      book = kept i k.book;
+      marks = k.marks ++ record { device = Recorder; minute = i.minute; clock = clock } ∷ [];
     }
 
--- what is carried of the card's string (card_steps, `Goes`)
+-- BETWEEN TWO MINUTES, while the unit has power: nothing is owed to a card that is accepted and in its slot, and each card stands as it
+-- does.
+pub record AreBetween (k : Known) (c d : Card) (number_c number_d : List ℕ) (y z : Standing) (unit first second : State) : Type 0 where
+  pub holds : Holds k.started k.due k.book k.marks unit
+  pub none : k.book.maybe ≡ None
+  pub two : d ≡ other c
+  pub named_first : number_c ≡ number_of k.both c
+  pub named_second : number_d ≡ number_of k.both d
+  pub one_rule : CardHolds k.both c k.book y [] [] unit first
+  pub other_rule : CardHolds k.both d k.book z [] [] unit second
+
+-- A minute may come next, and says these entries on the cards: one on a card only where that is present.
+pub record SaysBoth (k : Known) (c d : Card) (i : HistoryMinute) (m : KeptMinute) (e f : Option Entry) (y z : Standing) : Type 0 where
+  pub same : kept_minute m ≡ seen_by_unit i
+  pub late : k.due ≤ i.minute
+  pub first : on_card c i ≡ option_to_list e
+  pub second : on_card d i ≡ option_to_list f
+  pub first_present : IfSome e (λ e. IsPresent (opened k.both c).start y e.minute)
+  pub second_present : IfSome f (λ f. IsPresent (opened k.both d).start z f.minute)
+
+-- The unit has the minute, and these entries of it are owed to the cards.
+pub record AreOwed (k : Known) (c d : Card) (e f : Option Entry) (y z : Standing) (unit first second : State) : Type 0 where
+  pub holds : Holds k.started k.due k.book k.marks unit
+  pub none : k.book.maybe ≡ None
+  pub one_rule : CardHolds k.both c k.book y [] (option_to_list e) unit first
+  pub other_rule : CardHolds k.both d k.book z [] (option_to_list f) unit second
+
+-- all of them where the unit failed, while this is the history
+pub record AreDark (k : Known) (c d : Card) (y z : Standing) (due : ℕ) (b : Book) (unit first second : State) : Type 0 where
+  pub holds : Holds k.started due b k.marks unit
+  pub one_rule : CardRests k.both c b y unit first
+  pub other_rule : CardRests k.both d b z unit second
+
+-- the minute was not begun, or was
+abbrev pub AreCutOff : Known → (c d : Card) → HistoryMinute → (y z : Standing) → (unit first second : State) → Type 0
+AreCutOff k c d i y z unit first second =
+    AreDark k c d y z k.due k.book unit first second ⊎ AreDark k c d y z (suc i.minute) (broken i k.book) unit first second
+
+-- ---- a card that sits in its slot
+
+-- what is carried of its string (card_steps, `Goes`)
 pub record Carry : Type 0 where
   pub slack : Bound
   pub covered : ℕ
@@ -65,40 +104,14 @@ and_kept w e =
 abbrev pub IsClear : Session → Carry → List ℕ → Type 0
 IsClear t w x = (e : Entry) → t.minute < e.minute → BeginsBehind t.application e x ⊎ IsFresh t.application w.counted w.all x
 
--- BETWEEN TWO MINUTES, while the unit has power and tells its image: the card is accepted and sits in its slot, and nothing is owed to
--- it; the other card stands as it does.
-pub record IsBetween (g : Given) (c : Card) (number : List ℕ) (t : Session) (w : Carry) (unit card others : State) : Type 0 where
-  pub tells : is_some unit.image ≡ true
-  pub holds : Holds g.started g.due g.book g.marks unit
-  pub none : g.book.maybe ≡ None
-  pub named : number ≡ number_of g.both c
+-- The card is in its slot with this session, and its string is carried so.
+pub record IsSitting (t : Session) (w : Carry) (card : State) : Type 0 where
   pub from : w.from ≤ suc t.minute
   pub carried : IfSome card.image (IsCarried t w.slack w.covered w.from w.counted w.all)
   pub clear : IfSome card.image (IsClear t w)
-  pub mine_rule : CardHolds g.both c g.book (In g.time t.minute) [] [] unit card
-  pub other_rule : CardHolds g.both (other c) g.book g.others [] [] unit others
 
--- A minute may come next; it says this entry on the card, and nothing on the other one.
-pub record IsNext (g : Given) (c : Card) (i : HistoryMinute) (k : KeptMinute) (e : Entry) (newest : ℕ) : Type 0 where
-  pub same : kept_minute k ≡ seen_by_unit i
-  pub late : g.due ≤ i.minute
-  pub says : e ∷ [] ≡ on_card c i
-  pub silent : on_card (other c) i ≡ []
-  pub present : IsPresent (opened g.both c).start (In g.time newest) e.minute
-
--- The unit has the minute, and it is marked; the card has its entry, or was torn out and it is owed to it.
-pub record IsMinuteKept (g : Given) (c : Card) (e : Entry) (torn : Bool) (unit card others : State) : Type 0 where
-  pub holds : Holds g.started g.due g.book g.marks unit
-  pub mine_rule : IsOnItsCard g.both c g.book g.time e torn unit card
-  pub other_rule : CardHolds g.both (other c) g.book g.others [] [] unit others
-
--- all of them where the unit failed, while this is the history
-pub record IsDark (g : Given) (c : Card) (newest due : ℕ) (b : Book) (unit card others : State) : Type 0 where
-  pub holds : Holds g.started due b g.marks unit
-  pub mine_rule : CardRests g.both c b (In g.time newest) unit card
-  pub other_rule : CardRests g.both (other c) b g.others unit others
-
--- the minute was not begun, or was
-abbrev pub IsCutOff : Given → Card → HistoryMinute → (newest : ℕ) → (unit card others : State) → Type 0
-IsCutOff g c i newest unit card others =
-    IsDark g c newest g.due g.book unit card others ⊎ IsDark g c newest (suc i.minute) (broken i g.book) unit card others
+-- a card that is not in its slot, accepted
+abbrev pub IsNotIn : Standing → Type 0
+IsNotIn Out = Unit {0}
+IsNotIn (In session newest) = ⊥
+IsNotIn (Torn session newest floor) = Unit {0}

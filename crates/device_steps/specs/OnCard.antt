@@ -35,3 +35,7 @@ pub record IsOnItsCard (r : Both) (which : Card) (b : Book) (session : ℕ) (e :
     (unit card : State) : Type 0 where
   pub kept : failed ≡ false → CardHolds r which b (In session e.minute) [] [] unit card
   pub torn : failed ≡ true → CardHolds r which b (Torn session e.minute e.minute) [] [] unit card
+
+-- a call says nothing of the images that it leaves
+abbrev pub Anything : List ℕ → List ℕ → Type 0
+Anything x y = Unit {0}

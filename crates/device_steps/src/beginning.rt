@@ -14,7 +14,7 @@ ghost use Rattle.unit_rule.specs.Rule.{Started};
 ghost use Rattle.unit_rule.specs.Marks.{Holds};
 ghost use Rattle.device_steps.specs.Rule.{Both, opened, number_of, card_seen, CardHolds, IsKeptUp, IsRowTaken};
 
-use tach_media::{Failed, Medium};
+use tach_media::{Chip, Failed, Medium};
 use tacho_types::FullCardNumber;
 use trace_model::Card;
 use unit_journal::Journal;
@@ -24,7 +24,7 @@ use unit_journal::Journal;
 /// # Errors
 ///
 /// `Failed` where the unit failed; then the row may be begun or not.
-pub fn begin<M: Medium, C: Medium, D: Medium>(
+pub fn begin<M: Medium, C: Chip, D: Chip>(
     unit: &mut M,
     journal: &mut Journal,
     mine: &C,

@@ -16,7 +16,7 @@ ghost use Rattle.unit_rule.specs.Rule.{Started};
 ghost use Rattle.unit_rule.specs.Marks.{Holds};
 ghost use Rattle.device_steps.specs.Rule.{Both, opened, CardHolds, IsCommitted, IsHeldUp};
 
-use tach_media::{Failed, Medium};
+use tach_media::{Chip, Failed, Medium};
 use unit_journal::{Journal, KeptMinute};
 
 /// The unit keeps a minute of the history, whose entries are put among those owed to its cards.
@@ -24,7 +24,7 @@ use unit_journal::{Journal, KeptMinute};
 /// # Errors
 ///
 /// `Failed` where the unit failed; then the minute may be there or not.
-pub fn commit<M: Medium, C: Medium, D: Medium>(
+pub fn commit<M: Medium, C: Chip, D: Chip>(
     unit: &mut M,
     journal: &mut Journal,
     first: &C,

@@ -4,18 +4,23 @@
 
 mod beginning;
 mod committing;
-mod keeping;
+mod entering;
 mod laws;
+mod leaving;
 mod mending;
 mod on_card;
+mod on_unit;
 mod owing;
 
 pub use beginning::begin;
 pub use committing::commit;
-pub use keeping::keep_minute;
+pub use entering::{Entered, NotEntered, enter};
 pub use laws::{
-    a_card_that_was_read_rests, a_torn_card_stands, a_unit_that_is_found_leaves_the_cards,
+    a_card_out_of_its_slot_stands, a_card_sits_on, a_card_that_was_read_rests,
+    a_note_on_the_unit_leaves_the_rules, a_torn_card_stands, a_unit_that_is_found_leaves_the_cards,
 };
+pub use leaving::leave;
 pub use mending::mend;
 pub use on_card::keep_on_card;
+pub use on_unit::keep_on_unit;
 pub use owing::owe;

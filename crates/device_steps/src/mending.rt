@@ -12,7 +12,7 @@ ghost use Rattle.unit_rule.specs.Rule.{Started};
 ghost use Rattle.unit_rule.specs.Marks.{Holds};
 ghost use Rattle.device_steps.specs.Rule.{Both, CardRests, IsTakenUp};
 
-use tach_media::{Failed, Medium};
+use tach_media::{Chip, Failed, Medium};
 use unit_journal::Journal;
 
 /// Mends a unit that was found at a power-on. No card is accepted any more.
@@ -20,7 +20,7 @@ use unit_journal::Journal;
 /// # Errors
 ///
 /// `Failed` where the unit failed; then the cards stand as they did.
-pub fn mend<M: Medium, C: Medium, D: Medium>(
+pub fn mend<M: Medium, C: Chip, D: Chip>(
     unit: &mut M,
     journal: &mut Journal,
     first: &C,

@@ -12,10 +12,10 @@ returns-clause-spares g c = row-spared c.begin_owed.result _ _ _ _ _ c.begin_owe
 
 pub returns-clause-mine : goal.returns-clause-mine
 returns-clause-mine g c = λ r s due b marks newest named others h late rule entered.
-    taken-mine r c.args.which _ named _ others c.args.session (g.met.M.Medium.coherent c.args.unit.now) _ c.requires.agrees c.begin_owed.ensures.moments (g.C.Medium.state c.args.mine.now) s due b marks h late c.requires.session newest rule entered _
+    taken-mine r c.args.which _ named _ others c.args.session (g.met.M.Medium.coherent c.args.unit.now) _ c.requires.agrees c.begin_owed.ensures.moments (g.C.Chip.state c.args.mine.now) s due b marks h late c.requires.session newest rule entered _
     (λ well. ends r c.args.which _ named _ others c.args.session (g.met.M.Medium.coherent c.args.unit.now) _ c.requires.agrees c.begin_owed.ensures.moments (g.met.M.Medium.coherent c.begin_owed.new.unit) (worked well c.begin_owed.ensures.cause).0 (ok_gives _ c.begin_owed.ensures.begun well)
     (worked well c.begin_owed.ensures.cause).1)
 
 pub returns-clause-other : goal.returns-clause-other
 returns-clause-other g c = λ r s due b marks z m d named others rule.
-    taken-other r c.args.which _ named _ others c.args.session (g.met.M.Medium.coherent c.args.unit.now) _ c.requires.agrees c.begin_owed.ensures.moments (g.D.Medium.state c.args.others.now) b z m d _ rule
+    taken-other r c.args.which _ named _ others c.args.session (g.met.M.Medium.coherent c.args.unit.now) _ c.requires.agrees c.begin_owed.ensures.moments (g.D.Chip.state c.args.others.now) b z m d _ rule

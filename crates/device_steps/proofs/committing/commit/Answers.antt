@@ -11,12 +11,12 @@ returns-clause-holds g c = λ s due b marks i is h none late.
 
 pub returns-clause-first : goal.returns-clause-first
 returns-clause-first g c = λ r card s due b marks i z is h none late rule fits.
-    committed-card _ c.args.kept.now.odometer.0 i is (g.met.M.Medium.coherent c.args.unit.now) c.keep.ensures.moments s due b marks h none late r card (g.C.Medium.state c.args.first.now) z (same_minute c.args.kept.now i is c.requires.low) rule fits _ (g.met.M.Medium.coherent c.keep.new.unit)
+    committed-card _ c.args.kept.now.odometer.0 i is (g.met.M.Medium.coherent c.args.unit.now) c.keep.ensures.moments s due b marks h none late r card (g.C.Chip.state c.args.first.now) z (same_minute c.args.kept.now i is c.requires.low) rule fits _ (g.met.M.Medium.coherent c.keep.new.unit)
     (λ well. (worked well c.keep.ensures.cause).0) (λ well. ok_gives _ c.keep.ensures.kept well)
 
 pub returns-clause-second : goal.returns-clause-second
 returns-clause-second g c = λ r card s due b marks i z is h none late rule fits.
-    committed-card _ c.args.kept.now.odometer.0 i is (g.met.M.Medium.coherent c.args.unit.now) c.keep.ensures.moments s due b marks h none late r card (g.D.Medium.state c.args.second.now) z (same_minute c.args.kept.now i is c.requires.low) rule fits _ (g.met.M.Medium.coherent c.keep.new.unit)
+    committed-card _ c.args.kept.now.odometer.0 i is (g.met.M.Medium.coherent c.args.unit.now) c.keep.ensures.moments s due b marks h none late r card (g.D.Chip.state c.args.second.now) z (same_minute c.args.kept.now i is c.requires.low) rule fits _ (g.met.M.Medium.coherent c.keep.new.unit)
     (λ well. (worked well c.keep.ensures.cause).0) (λ well. ok_gives _ c.keep.ensures.kept well)
 
 pub returns-clause-rows : goal.returns-clause-rows

@@ -9,10 +9,10 @@ returns-clause-holds g c = λ s due b marks h. mended-holds s due b marks _ (g.m
 
 pub returns-clause-first : goal.returns-clause-first
 returns-clause-first g c = λ r card b z rests.
-    taken-up r card b z (g.C.Medium.state c.args.first.now) _ (g.met.M.Medium.coherent c.args.unit.now) c.mend.ensures.moments rests _ (g.met.M.Medium.coherent c.mend.new.unit)
+    taken-up r card b z (g.C.Chip.state c.args.first.now) _ (g.met.M.Medium.coherent c.args.unit.now) c.mend.ensures.moments rests _ (g.met.M.Medium.coherent c.mend.new.unit)
     (λ well. (worked well c.mend.ensures.cause).0) (λ well. ok_gives _ c.mend.ensures.mended well)
 
 pub returns-clause-second : goal.returns-clause-second
 returns-clause-second g c = λ r card b z rests.
-    taken-up r card b z (g.D.Medium.state c.args.second.now) _ (g.met.M.Medium.coherent c.args.unit.now) c.mend.ensures.moments rests _ (g.met.M.Medium.coherent c.mend.new.unit)
+    taken-up r card b z (g.D.Chip.state c.args.second.now) _ (g.met.M.Medium.coherent c.args.unit.now) c.mend.ensures.moments rests _ (g.met.M.Medium.coherent c.mend.new.unit)
     (λ well. (worked well c.mend.ensures.cause).0) (λ well. ok_gives _ c.mend.ensures.mended well)

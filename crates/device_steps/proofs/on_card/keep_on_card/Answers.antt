@@ -1,23 +1,47 @@
-use Rattle.std.proofs.Common.{◌≡◌, IfSome, inl, inr}
-use Rattle.tach_media.proofs.Runs.{ok_gives, weaken}
-use Rattle.card_session.proofs.OnCard.{may_still}
-use Rattle.device_steps.proofs.EntryOwed.{worked}
-use Rattle.device_steps.proofs.OnCard.{shown, kept-torn, ends-on_card, all-done}
+use Rattle.std.proofs.Common.{rules, ◌≡◌, List, [], ◌∷◌, IfSome, sym, ◌∙◌, subst}
+use Rattle.card_layout.specs.declared.files.Application.{Application}
+use Rattle.tach_media.specs.Medium.{State, LeavesOnly, lent}
+use Rattle.card_commands.specs.Ports.{port_state}
+use Rattle.card_session.specs.Sessions.{MayKeep}
+use Rattle.card_steps.specs.Shows.{IsKeepShown}
+use Rattle.joint_rule.specs.Rules.{In}
+use Rattle.device_steps.specs.OnCard.{IsReady}
+use Rattle.device_steps.specs.Rule.{CardHolds}
+use Rattle.device_steps.proofs.Ported.{may_keep_port, port_same, port_leaves, port_on}
 use Rattle.device_steps.proofs.on_card.keep_on_card.Goals as goal
+
+pub keep_by-requires-clause-card : goal.keep_by-requires-clause-card
+keep_by-requires-clause-card g c =
+    subst (λ (a : Application). MayKeep a (port_state c.resume-port.result.application (lent c.resume-port.result.chip.ghost_name (g.C.Chip.state c.resume-port.result.chip.now)))) (c.resume-port.ensures.sizes ∙ sym c.requires.sizes)
+    (may_keep_port c.resume-port.result.sound)
 
 pub returns-clause-shown : goal.returns-clause-shown
 returns-clause-shown g c = λ slack covered from count all.
-    weaken c.keep.ensures.moments (λ x y told k ready. shown _ slack covered from count all c.args.kept.now.entry c.args.kept.now.odometer.0 c.requires.later x y ready (k ready.carried.session))
+    let name = c.resume-port.result.chip.ghost_name in
+    let after = c.keep_by.new.card.chip.ghost_name in
+    let X = g.C.Chip.state c.resume-port.result.chip.now in
+    let Y = g.C.Chip.state c.keep_by.new.card.chip.now in
+    let was : g.C.Chip.state c.resume-port.result.chip.now ≡ g.C.Chip.state c.args.card.now = search rules in
+    let same = port_same c.resume-port.result.application c.keep_by.new.card.application name after X Y c.keep_by.ensures.leaves in
+    let run = port_leaves c.resume-port.result.application c.keep_by.new.card.application name after X Y same (c.keep_by.ensures.shown slack covered from count all) in
+    let shown = subst (λ (s : State). LeavesOnly s (g.C.Chip.state c.keep_by.new.card.chip.now)
+    (λ x y. IsReady c.args.session.now slack covered from count all c.args.kept.now.entry x → IsKeepShown c.args.session.now.application slack covered count all c.args.kept.now.entry x y)) was run in
+    search (rules, shown)
 
 pub returns-clause-done : goal.returns-clause-done
 returns-clause-done g c = λ slack covered from count all.
-    all-done _ _ slack covered from count all c.args.kept.now.entry c.args.kept.now.odometer.0 c.requires.later c.keep.ensures.same.0 _ _ _ c.keep.ensures.kept
+    let done = c.keep_by.ensures.done slack covered from count all in
+    search (rules, done)
 
 pub returns-clause-rule : goal.returns-clause-rule
 returns-clause-rule g c = λ r s due b marks time slack covered from count all tells h none rule fresh ready.
-    kept-torn r c.args.which s due b marks time _ slack covered from count all c.args.kept.now.entry c.args.kept.now.odometer.0 c.requires.later (g.met.M.Medium.coherent c.args.unit.now) tells (g.met.C.Medium.coherent c.args.card.now) h none rule fresh ready c.keep.ensures.moments _
-    (λ well. ends-on_card r c.args.which s due b marks time _ slack covered from count all c.args.kept.now.entry c.args.kept.now.odometer.0 c.requires.later (g.met.M.Medium.coherent c.args.unit.now) tells (g.met.C.Medium.coherent c.args.card.now) h none rule fresh ready c.keep.ensures.moments
-    _ (g.met.C.Medium.coherent c.keep.new.port) (worked well c.keep.ensures.cause).0 (worked well c.keep.ensures.cause).1 c.keep.ensures.same.0 (ok_gives _ c.keep.ensures.last well).0 (ok_gives _ c.keep.ensures.kept well))
-
-pub returns-clause-may : goal.returns-clause-may
-returns-clause-may g c = may_still _ _ c.keep.ensures.moments c.keep.ensures.same.0 c.requires.card
+    let name = c.resume-port.result.chip.ghost_name in
+    let after = c.keep_by.new.card.chip.ghost_name in
+    let X = g.C.Chip.state c.resume-port.result.chip.now in
+    let Y = g.C.Chip.state c.keep_by.new.card.chip.now in
+    let was : g.C.Chip.state c.resume-port.result.chip.now ≡ g.C.Chip.state c.args.card.now = search rules in
+    let before = subst (λ (k : State). CardHolds r c.args.which b (In time c.args.session.now.minute) [] (c.args.kept.now.entry ∷ []) (g.M.Medium.state c.args.unit.now) k) (sym was) rule in
+    let able = subst (λ (k : State). IfSome k.image (IsReady c.args.session.now slack covered from count all c.args.kept.now.entry)) (sym was) ready in
+    let on = port_on c.resume-port.result.application c.keep_by.new.card.application name after X Y r c.args.which b time c.args.kept.now.entry _ (g.M.Medium.state c.args.unit.now)
+    (c.keep_by.ensures.rule r s due b marks time slack covered from count all tells h none before fresh able) in
+    search (rules, on)

@@ -8,13 +8,13 @@ returns-clause-holds g c = λ s due b marks h. owed-holds s due b marks _ _ (g.m
 
 pub returns-clause-mine : goal.returns-clause-mine
 returns-clause-mine g c = λ r s due b marks z named h late some present rule.
-    owed-mine r c.args.which _ named c.args.entry.now some (g.met.M.Medium.coherent c.args.unit.now) _ c.requires.agrees s due b marks h late c.put_owed.ensures.moments (g.C.Medium.state c.args.mine.now) z rule _ present
-    (λ well. put r c.args.which _ named c.args.entry.now some (g.met.M.Medium.coherent c.args.unit.now) _ c.requires.agrees s due b marks h late c.put_owed.ensures.moments (g.C.Medium.state c.args.mine.now) z rule
+    owed-mine r c.args.which _ named c.args.entry.now some (g.met.M.Medium.coherent c.args.unit.now) _ c.requires.agrees s due b marks h late c.put_owed.ensures.moments (g.C.Chip.state c.args.mine.now) z rule _ present
+    (λ well. put r c.args.which _ named c.args.entry.now some (g.met.M.Medium.coherent c.args.unit.now) _ c.requires.agrees s due b marks h late c.put_owed.ensures.moments (g.C.Chip.state c.args.mine.now) z rule
     (g.met.M.Medium.coherent c.put_owed.new.unit) (worked well c.put_owed.ensures.cause).0 c.requires.row (ok_gives _ c.put_owed.ensures.put well) (worked well c.put_owed.ensures.cause).1)
 
 pub returns-clause-other : goal.returns-clause-other
 returns-clause-other g c = λ r s due b marks y z m d named h late some rule others.
-    owed-other r c.args.which _ named c.args.entry.now some (g.met.M.Medium.coherent c.args.unit.now) _ c.requires.agrees s due b marks h late c.put_owed.ensures.moments (g.C.Medium.state c.args.mine.now) y rule (g.D.Medium.state c.args.others.now) _ z m d others
+    owed-other r c.args.which _ named c.args.entry.now some (g.met.M.Medium.coherent c.args.unit.now) _ c.requires.agrees s due b marks h late c.put_owed.ensures.moments (g.C.Chip.state c.args.mine.now) y rule (g.D.Chip.state c.args.others.now) _ z m d others
 
 pub returns-clause-rows : goal.returns-clause-rows
 returns-clause-rows g c = row-still c.put_owed.result _ _ _ c.args.entry.now c.put_owed.ensures.moments.tells c.put_owed.ensures.put

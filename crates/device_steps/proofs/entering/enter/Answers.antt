@@ -1,0 +1,25 @@
+use Rattle.std.proofs.Common.{rules, ◌≡◌, sym, ◌∙◌, subst}
+use Rattle.card_layout.specs.declared.files.Application.{Application}
+use Rattle.tach_media.specs.Medium.{State, lent}
+use Rattle.card_commands.specs.Ports.{port_state}
+use Rattle.card_session.specs.Inserting.{MayInsert}
+use Rattle.device_steps.specs.Entering.{IsEntering}
+use Rattle.device_steps.proofs.Ported.{may_insert_port, port_same, port_enters}
+use Rattle.device_steps.proofs.entering.enter.Goals as goal
+
+pub enter_by-requires-clause-card : goal.enter_by-requires-clause-card
+enter_by-requires-clause-card g c =
+    subst (λ (a : Application). MayInsert a (port_state c.resume-port.result.application (lent c.resume-port.result.chip.ghost_name (g.C.Chip.state c.resume-port.result.chip.now)))) c.resume-port.ensures.sizes (may_insert_port c.resume-port.result.sound)
+
+pub returns-clause-enters : goal.returns-clause-enters
+returns-clause-enters g c =
+    let name = c.resume-port.result.chip.ghost_name in
+    let after = c.enter_by.new.card.chip.ghost_name in
+    let X = g.C.Chip.state c.resume-port.result.chip.now in
+    let Y = g.C.Chip.state c.enter_by.new.card.chip.now in
+    let was : g.C.Chip.state c.resume-port.result.chip.now ≡ g.C.Chip.state c.args.card.now = search rules in
+    let same = port_same c.resume-port.result.application c.enter_by.new.card.application name after X Y c.enter_by.ensures.leaves in
+    let enters = port_enters c.resume-port.result.application c.enter_by.new.card.application name after X Y c.args.app c.args.registration.now c.args.odometer.0 c.args.now.0 (g.M.Medium.state c.args.unit.now) (g.M.Medium.state c.enter_by.new.unit) same
+    c.enter_by.result c.enter_by.ensures.enters in
+    let moved = subst (λ (k : State). IsEntering c.args.app c.args.registration.now c.args.odometer.0 c.args.now.0 (g.M.Medium.state c.args.unit.now) (g.M.Medium.state c.enter_by.new.unit) k (g.C.Chip.state c.enter_by.new.card.chip.now) c.enter_by.result) was enters in
+    search (rules, moved)

@@ -1,0 +1,182 @@
+//! A card is put into a slot.
+ghost use Rattle.std.specs.Prelude.{◌≡◌, ◌<◌, ◌≤◌, ◌+◌, ◌/◌, ◌^◌, true, IfSome};
+ghost use Rattle.tach_media.specs.Medium.{LeavesOnly};
+ghost use Rattle.card_commands.specs.Ports.{IsPort};
+ghost use Rattle.card_layout.specs.Application.{IsApplication};
+ghost use Rattle.card_model.specs.declared.lengths.TheConstants.{DAYS_MOST};
+ghost use Rattle.card_judge.specs.Judged.{TellsSizes, IsLook};
+ghost use Rattle.card_session.specs.declared.words.TheConstants.{LATEST_MINUTE};
+ghost use Rattle.card_session.specs.Inserting.{MayInsert, AreOwed};
+ghost use Rattle.unit_model.specs.Image.{IsUnit};
+ghost use Rattle.unit_journal.specs.Image.{Agrees};
+ghost use Rattle.device_steps.specs.OnCard.{Anything};
+ghost use Rattle.device_steps.specs.Entering.{of_card, IsEntering, IsInsertedWith};
+
+use activity_codec::Owed;
+use card_commands::Port;
+use card_judge::{CardLook, InsertFault, look};
+use card_layout::{Application, Fid};
+use card_session::CardSession;
+use tach_media::{Chip, Failed, Medium};
+use tacho_types::{Odometer, Registration, TimeReal};
+use trace_model::Card;
+use unit_journal::Journal;
+
+/// A card that was put in and is accepted: what it told before, the entries that were owed to it, its session, and how many of these
+/// entries were put on it, which are the last ones.
+#[derive(Drop)]
+pub struct Entered {
+    pub look: CardLook,
+    pub owed: Owed,
+    pub session: CardSession,
+    pub replayed: u8,
+}
+
+/// Why a card that was put in is not accepted.
+#[derive(Clone, Copy, Debug, PartialEq, Eq)]
+pub enum NotEntered {
+    /// A call on the unit failed, which is a cut. The card was only read.
+    UnitFailed,
+    /// A call on the card failed, which is a tear.
+    CardFailed,
+    /// The card is not valid: the file that first fails in the order of judging, with the place in it.
+    NotValid { fid: Fid, place: u32 },
+    /// The card is valid, and its stored time is later than now, both in seconds since 1970-01-01.
+    TimeOverlap { stored: u32, now: u32 },
+}
+
+// Why a card is not accepted, as the insertion of a session tells it.
+fn refused_by(fault: InsertFault) -> NotEntered
+    ensures { result ≡ of_card fault }
+{
+    match fault {
+        InsertFault::Failed => NotEntered::CardFailed,
+        InsertFault::NotValid { fid, place } => NotEntered::NotValid { fid, place },
+        InsertFault::TimeOverlap { stored, now } => NotEntered::TimeOverlap { stored, now },
+    }
+}
+
+// A card that told this gets the entries that it is owed, and a session.
+fn insert_by<C: Medium>(
+    card: &mut C,
+    app: &Application,
+    now: TimeReal,
+    registration: &Registration,
+    odometer: Odometer,
+    look: CardLook,
+    owed: Owed,
+) -> Result<Entered, NotEntered>
+    requires sizes { IsApplication app.now }
+    requires card { MayInsert app.now (C.state card.old) }
+    requires told { IfSome (C.state card.old).image (TellsSizes app.now) }
+    requires some { 1 ≤ now.0 }
+    requires last { now.0 / 60 < LATEST_MINUTE }
+    requires fits { odometer.0 < 2 ^ 24 }
+    requires owed { AreOwed now.0 owed.items }
+    ensures inserted { IsInsertedWith app.now registration.now odometer.0 now.0 owed.items look (C.state card.old) (C.state card.new) result }
+    ensures leaves { LeavesOnly (C.state card.old) (C.state card.new) Anything }
+    ensures most { (C.state card.new).clock ≤ (C.state card.old).clock + (DAYS_MOST + 84) }
+{
+    match CardSession::insert(card, app, now, registration, odometer, &owed) {
+        Ok(inserted) => Ok(Entered {
+            look,
+            owed,
+            session: inserted.session,
+            replayed: inserted.replayed,
+        }),
+        Err(fault) => Err(refused_by(fault)),
+    }
+}
+
+// The same, once the unit tells which entries these are.
+fn enter_as<M: Medium, C: Medium>(
+    unit: &mut M,
+    journal: &Journal,
+    card: &mut C,
+    app: &Application,
+    now: TimeReal,
+    registration: &Registration,
+    odometer: Odometer,
+    look: CardLook,
+) -> Result<Entered, NotEntered>
+    requires unit { IsUnit (M.state unit.old) }
+    requires agrees { IfSome (M.state unit.old).image (Agrees journal.now) }
+    requires late { journal.now.kept < now.0 / 60 }
+    requires sizes { IsApplication app.now }
+    requires card { MayInsert app.now (C.state card.old) }
+    requires told { IfSome (C.state card.old).image (TellsSizes app.now) }
+    requires looked { IfSome (C.state card.old).image (λ x. IsLook app.now x look) }
+    requires works { (C.state card.old).works ≡ true }
+    requires last { now.0 / 60 < LATEST_MINUTE }
+    requires fits { odometer.0 < 2 ^ 24 }
+    ensures enters { IsEntering app.now registration.now odometer.0 now.0 (M.state unit.old) (M.state unit.new) (C.state card.old) (C.state card.new) result }
+    ensures leaves { LeavesOnly (C.state card.old) (C.state card.new) Anything }
+    ensures most { (C.state card.new).clock ≤ (C.state card.old).clock + (DAYS_MOST + 84) }
+{
+    match journal.owed(unit, &look.number, look.session, look.newest_minute) {
+        Ok(owed) => insert_by(card, app, now, registration, odometer, look, owed),
+        Err(Failed) => Err(NotEntered::UnitFailed),
+    }
+}
+
+// The same, of a card behind a port, once it is judged.
+fn enter_by<M: Medium, C: Medium>(
+    unit: &mut M,
+    journal: &Journal,
+    card: &mut C,
+    app: &Application,
+    now: TimeReal,
+    registration: &Registration,
+    odometer: Odometer,
+) -> Result<Entered, NotEntered>
+    requires unit { IsUnit (M.state unit.old) }
+    requires agrees { IfSome (M.state unit.old).image (Agrees journal.now) }
+    requires late { journal.now.kept < now.0 / 60 }
+    requires sizes { IsApplication app.now }
+    requires card { MayInsert app.now (C.state card.old) }
+    requires told { IfSome (C.state card.old).image (TellsSizes app.now) }
+    requires last { now.0 / 60 < LATEST_MINUTE }
+    requires fits { odometer.0 < 2 ^ 24 }
+    ensures enters { IsEntering app.now registration.now odometer.0 now.0 (M.state unit.old) (M.state unit.new) (C.state card.old) (C.state card.new) result }
+    ensures leaves { LeavesOnly (C.state card.old) (C.state card.new) Anything }
+    ensures most { (C.state card.new).clock ≤ (C.state card.old).clock + (DAYS_MOST + 84) }
+{
+    match look(card, app) {
+        Ok(look) => enter_as(unit, journal, card, app, now, registration, odometer, look),
+        Err(fault) => Err(refused_by(fault)),
+    }
+}
+
+/// Puts in a card of these sizes: it is judged, the entries that the unit owes to it are put on it, and a session is opened. The
+/// row of its number is not begun yet: that comes behind the note of the insertion (`begin`).
+///
+/// # Errors
+///
+/// 1. `NotValid` exactly where the card is not valid, and `TimeOverlap` exactly where it is valid and its stored time is later
+///    than now. Nothing was written then.
+/// 2. `UnitFailed` and `CardFailed` where a call on that device failed.
+pub fn enter<M: Medium, C: Chip, D: Chip>(
+    unit: &mut M,
+    journal: &Journal,
+    card: &mut C,
+    others: &D,
+    which: Card,
+    app: Application,
+    now: TimeReal,
+    registration: &Registration,
+    odometer: Odometer,
+) -> Result<Entered, NotEntered>
+    requires unit { IsUnit (M.state unit.old) }
+    requires agrees { IfSome (M.state unit.old).image (Agrees journal.now) }
+    requires late { journal.now.kept < now.0 / 60 }
+    requires port { IsPort app None (C.card card.old) (C.state card.old) }
+    requires told { IfSome (C.state card.old).image (TellsSizes app) }
+    requires last { now.0 / 60 < LATEST_MINUTE }
+    requires fits { odometer.0 < 2 ^ 24 }
+    ensures enters { IsEntering app registration.now odometer.0 now.0 (M.state unit.old) (M.state unit.new) (C.state card.old) (C.state card.new) result }
+    ensures port { IsPort app None (C.card card.new) (C.state card.new) }
+    ensures most { (C.state card.new).clock ≤ (C.state card.old).clock + (DAYS_MOST + 84) }
+{
+    let mut port = Port::resume(&mut *card, app);
+    enter_by(unit, journal, &mut port, &app, now, registration, odometer)
+}
