@@ -8,7 +8,7 @@ pub mod Calls
 mod Choosing
 mod Passing
 mod Counting
-mod SentDays
+pub mod SentDays
 mod Joints
 mod Rings
 mod Contents

@@ -89,7 +89,7 @@ impl Joiner {
         ensures broken { (IsErrOf result (JoinFault.Broken (wanted self.old) (counter_in frame.now))) ↔ (counter_in frame.now ≢ wanted self.old) }
         ensures fault { IfErr result (IsFaultOf (wanted self.old) (counter_in frame.now)) }
         ensures room { self.old.room ≤ self.new.room }
-        ensures enough { IsErrOf result JoinFault.Memory → self.old.room + 2 < length self.old.bytes + length frame.now }
+        ensures enough { IsErrOf result JoinFault.Memory → self.old.room < length (with_piece self.old frame.now) }
     {
         let piece = frame.bytes();
         let counter = two_in(piece, 2);
