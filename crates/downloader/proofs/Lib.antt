@@ -12,3 +12,6 @@ pub mod Together
 pub mod Downloading
 pub mod Taking
 pub mod Short
+pub mod ImageParts
+pub mod ImageDays
+pub mod ImageMessages

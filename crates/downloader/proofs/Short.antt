@@ -1,6 +1,5 @@
 -- The pieces of a message of the grammar can be counted.
-use Rattle.std.proofs.Common.{◌≡◌, ◌∙◌, ℕ, suc, ◌+◌, ◌*◌, ◌<◌, ◌^◌, List, [], ◌∷◌, ◌++◌, length, map, All, ap, arith, length-append}
-use Rattle.std.proofs.lemmas.List.{length-map}
+use Rattle.std.proofs.Common.{◌≡◌, ◌∙◌, ℕ, suc, ◌+◌, ◌*◌, ◌<◌, List, [], ◌∷◌, length, arith, length-append}
 use Rattle.std.specs.List.{AllByRecursion}
 use Rattle.std.proofs.lemmas.List.Elements.{recursion_from_All}
 use Rattle.byteorder.specs.Endian.{big_bytes}
@@ -29,8 +28,8 @@ word_count_long : (words : List ℕ) → length (counted 2 (word_bytes words)) �
 word_count_long words =
     length-append (big_bytes 2 (length (word_bytes words))) (joined (word_bytes words)) ∙ (λ t. length-bytes_high_first 2 (length (word_bytes words)) t + words_long words t)
 
-overview_short : (m : Overview) → IsOverview m → length (overview_bytes m) < 251 * 65534
-overview_short m is =
+pub overview_few : (m : Overview) → IsOverview m → length (overview_bytes m) < 100000
+overview_few m is =
     let locks = counted_long 1 98 m.locks is.locks in
     let controls = counted_long 1 31 m.controls is.controls in
     let now = length-bytes_high_first 4 m.now in
@@ -41,22 +40,26 @@ overview_short m is =
     let more : length m.controls < 256 = is.controls.few in
     simp length-append (omega (arith, is.certificates.0, is.certificates.1, is.vehicle.0, is.vehicle.1, now, begin, end, status, is.last, locks, controls, few, more, is.signed))
 
-day_short : (m : DayMessage) → IsDayMessage m → length (day_bytes m) < 251 * 65534
-day_short m is =
+pub day_long : (m : DayMessage) → IsDayMessage m → length (day_bytes m) ≡ 142 + 129 * length m.insertions + 2 * length m.words + 28 * length m.places + 5 * length m.conditions
+day_long m is =
     let date = length-bytes_high_first 4 m.date in
     let odometer = length-bytes_high_first 3 m.odometer in
     let insertions = counted_long 2 129 m.insertions is.insertions in
     let words = word_count_long m.words in
     let places = counted_long 1 28 m.places is.places in
     let conditions = counted_long 2 5 m.conditions is.conditions in
+    simp length-append (omega (arith, date, odometer, insertions, words, places, conditions, is.signed))
+
+day_short : (m : DayMessage) → IsDayMessage m → length (day_bytes m) < 251 * 65534
+day_short m is =
     let few : length m.insertions < 65536 = is.insertions.few in
     let word_few : length m.words < 65536 = is.few in
     let place_few : length m.places < 256 = is.places.few in
     let condition_few : length m.conditions < 65536 = is.conditions.few in
-    simp length-append (omega (arith, date, odometer, insertions, words, places, conditions, few, word_few, place_few, condition_few, is.signed))
+    omega (arith, day_long m is, few, word_few, place_few, condition_few)
 
-event_short : (m : EventMessage) → IsEventMessage m → length (event_bytes m) < 251 * 65534
-event_short m is =
+pub event_few : (m : EventMessage) → IsEventMessage m → length (event_bytes m) < 100000
+event_few m is =
     let faults = counted_long 1 82 m.faults is.faults in
     let events = counted_long 1 83 m.events is.events in
     let control = length-bytes_high_first 4 m.last_control in
@@ -76,15 +79,15 @@ speed_short m is =
     let few : length m.blocks < 65536 = is.blocks.few in
     simp length-append (omega (arith, blocks, few, is.signed))
 
-technical_short : (m : TechnicalMessage) → IsTechnicalMessage m → length (technical_bytes m) < 251 * 65534
-technical_short m is =
+pub technical_few : (m : TechnicalMessage) → IsTechnicalMessage m → length (technical_bytes m) < 100000
+technical_few m is =
     let calibrations = counted_long 1 167 m.calibrations is.calibrations in
     let few : length m.calibrations < 256 = is.calibrations.few in
     simp length-append (omega (arith, is.unit.0, is.unit.1, calibrations, few, is.signed))
 
 pub message_short : (m : Message) → IsMessage m → length (content_of m) < 251 * 65534
-message_short (AnOverview m) is = overview_short m is
+message_short (AnOverview m) is = omega (arith, overview_few m is)
 message_short (ADay m) is = day_short m is
-message_short (AnEventList m) is = event_short m is
+message_short (AnEventList m) is = omega (arith, event_few m is)
 message_short (ASpeedList m) is = speed_short m is
-message_short (ATechnical m) is = technical_short m is
+message_short (ATechnical m) is = omega (arith, technical_few m is)

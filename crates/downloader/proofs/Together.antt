@@ -8,14 +8,14 @@ use Rattle.link_model.specs.declared.request.Request.{Request}
 use Rattle.link_model.specs.declared.request.Request.TheVariants.{Overview as AskOverview, Day as AskDay, Events as AskEvents, Speed as AskSpeed, Technical as AskTechnical}
 use Rattle.link_model.specs.Answers.{LinkState, is_upload}
 use Rattle.link_model.specs.Answers as states
-use Rattle.message_model.specs.Messages.{Message, AnOverview, ADay, AnEventList, ASpeedList, ATechnical, IsMessage, message_bytes, content_of}
+use Rattle.message_model.specs.Messages.{Message, AnOverview, AnEventList, ATechnical, message_bytes, content_of}
 use Rattle.message_model.specs.Sending.{Follow, sent_days, day_at, period_of, overview_of, day_message_of, event_message_of, technical_message_of, message_of}
 use Rattle.unit_messages.specs.Reading.{request_of}
 use Rattle.downloader.specs.declared.stage.Stage.{Stage}
 use Rattle.downloader.specs.declared.stage.Stage.TheVariants.{Start, Diagnostic, Upload, Asked, Acknowledged, Exit, Stop, Finished}
 use Rattle.downloader.specs.Stages.{first_day, next_day, behind_message, end_told}
 use Rattle.downloader.specs.Talking.{AreDays, CanBeLoaded}
-use Rattle.downloader.proofs.Rest.{from_day, day_found, day_lost, none_left, all_left, told, technical_left, events_left, days_left, left_at, left, file_spelled}
+use Rattle.downloader.proofs.Rest.{from_day, day_found, day_lost, none_left, all_left, told, technical_left, days_left, left_at, left, file_spelled}
 use Rattle.downloader.proofs.Transfers.{came}
 
 above_none : (n : ℕ) → 0 < n → (n == 0) ≡ false
@@ -48,13 +48,13 @@ module _ (x : List ℕ) where
     pub asked : IsAsked end request
 
   abbrev pub Together : LinkState → (end : ℕ) → List ℕ → Stage → Type 0
-  Together unit end bytes Start = unit ≡ states.Idle
-  Together unit end bytes Diagnostic = unit ≡ states.Started
-  Together unit end bytes Upload = unit ≡ states.Diagnostic
+  Together unit end bytes Start = (unit ≡ states.Idle) × (bytes ≡ [])
+  Together unit end bytes Diagnostic = (unit ≡ states.Started) × (bytes ≡ [])
+  Together unit end bytes Upload = (unit ≡ states.Diagnostic) × (bytes ≡ [])
   Together unit end bytes (Asked request) = (is_upload unit ≡ true) × IsAsked end request × (bytes ≡ [])
   Together unit end bytes (Acknowledged request counter) = IsSending unit end bytes request counter
-  Together unit end bytes Exit = is_upload unit ≡ true
-  Together unit end bytes Stop = unit ≡ states.Diagnostic
+  Together unit end bytes Exit = (is_upload unit ≡ true) × (bytes ≡ [])
+  Together unit end bytes Stop = (unit ≡ states.Diagnostic) × (bytes ≡ [])
   Together unit end bytes Finished = Unit {0}
 
   -- at a stage this is left, and the unit stands right for it
@@ -151,4 +151,4 @@ module _ (x : List ℕ) (can : CanBeLoaded x) (unit : LinkState) (up : is_upload
   sent_behind (AskDay second) end m asked is = day_behind second end (day_at second (sent_days x)) m asked refl is
   sent_behind AskEvents end m asked is = fixed AskEvents end (AnEventList (event_message_of x)) m is (record { asked = refl; rest = technical_left x; spelled = refl; goes = record { together = (up, tt, refl); left_is = refl } })
   sent_behind AskSpeed end m asked is = absurd (cc)
-  sent_behind AskTechnical end m asked is = fixed AskTechnical end (ATechnical (technical_message_of x)) m is (record { asked = refl; rest = []; spelled = refl; goes = record { together = up; left_is = refl } })
+  sent_behind AskTechnical end m asked is = fixed AskTechnical end (ATechnical (technical_message_of x)) m is (record { asked = refl; rest = []; spelled = refl; goes = record { together = (up, refl); left_is = refl } })

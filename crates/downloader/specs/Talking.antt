@@ -1,12 +1,16 @@
 -- A loader and a unit on a link: what both do, frame after frame.
-use Rattle.std.specs.Prelude.{◌≡◌, ℕ, ◌*◌, ◌%◌, ◌<◌, ◌≤◌, ◌^◌, List, [], ◌∷◌, ◌++◌, Option, Some, None, IfSome}
+use Rattle.std.specs.Prelude.{◌≡◌, ℕ, ◌*◌, ◌%◌, ◌<◌, ◌≤◌, ◌^◌, List, [], ◌∷◌, ◌++◌, length, Option, Some, IfSome}
+use Rattle.byte_fields.specs.Fields.{IsBytes}
 use Rattle.link_model.specs.declared.request.Request.{Request}
 use Rattle.link_model.specs.Frames.{Right}
 use Rattle.link_model.specs.Answers.{LinkState, Idle, answered}
+use Rattle.unit_model.specs.declared.layout.TheConstants.{IMAGE_SIZE}
 use Rattle.unit_model.specs.Days.{StoredDay}
 use Rattle.unit_model.specs.Image.{last_kept}
-use Rattle.message_model.specs.Messages.{IsMessage}
+use Rattle.unit_model.specs.Decoding.{Decodes}
+use Rattle.message_model.specs.Messages.{IsMessage, message_bytes}
 use Rattle.message_model.specs.Sending.{Follow, sent_days, message_of}
+use Rattle.unit_messages.specs.declared.joining.TheConstants.{LONGEST}
 use Rattle.downloader.specs.Stages.{sent_at}
 use Rattle.downloader.specs.Loading.{Loading, begun, Takes}
 
@@ -38,10 +42,17 @@ abbrev pub AreDays : (end : ℕ) → List StoredDay → Type 0
 AreDays end [] = Unit {0}
 AreDays end (d ∷ ds) = (d.date % 86400 ≡ 0) × (d.date ≤ end) × AreDays end ds
 
+-- the image of a unit: as many bytes as a unit has, and it decodes
+pub record IsUnitImage (x : List ℕ) : Type 0 where
+  pub sized : length x ≡ IMAGE_SIZE
+  pub bytes : IsBytes x
+  pub decodes : Decodes x
+
 -- What a download needs of an image: its days follow one another, begin at a day's first second and by the unit's time, which four
--- bytes hold; and its messages are of the grammar.
+-- bytes hold; its messages are of the grammar, and none is longer than the longest of a unit.
 pub record CanBeLoaded (x : List ℕ) : Type 0 where
   pub follow : Follow 0 (sent_days x)
   pub days : AreDays (60 * last_kept x) (sent_days x)
   pub time : 60 * last_kept x < 2 ^ 32
   pub grammar : (request : Request) → IfSome (message_of x request) IsMessage
+  pub room : (request : Request) → IfSome (message_of x request) (λ m. length (message_bytes m) ≤ LONGEST)

@@ -87,8 +87,8 @@ impl Downloader {
         ensures later { K.faults sink.old ≤ K.faults sink.new }
         ensures cause { IsErrOf result LoadFault.WriteFault → Rose (K.faults sink.old) (K.faults sink.new) }
         ensures room { self.old.room ≤ self.new.room }
-        // Memory is wanted only where there is no room for the piece.
-        ensures enough { IsErrOf result LoadFault.Memory → self.old.room + 2 < length self.old.loading.bytes + length frame.now }
+        // Memory is wanted only where there is no room for the bytes with the piece.
+        ensures enough { IsErrOf result LoadFault.Memory → self.old.room < length (with_piece self.old.loading.bytes frame.now) }
         // Exactly where such a frame comes, but for want of memory at a piece.
         ensures negative { (service code : ℕ) → (IsErrOf result (LoadFault.Negative service code))
             ↔ ((kind_of self.old.loading.stage frame.now ≡ Kind.Negative service code) × (passed_over self.old.loading.end self.old.loading.stage service code ≡ None)) }
@@ -116,7 +116,7 @@ impl Downloader {
         ensures later { K.faults sink.old ≤ K.faults sink.new }
         ensures cause { IsErrOf result LoadFault.WriteFault → Rose (K.faults sink.old) (K.faults sink.new) }
         ensures room { self.old.room ≤ self.new.room }
-        ensures enough { IsErrOf result LoadFault.Memory → self.old.room + 2 < length self.old.loading.bytes + length frame.now }
+        ensures enough { IsErrOf result LoadFault.Memory → self.old.room < length (with_piece self.old.loading.bytes frame.now) }
     {
         match kind {
             Kind::Negative(service, code) => self.pass_over(service, code),
@@ -185,7 +185,7 @@ impl Downloader {
         ensures later { K.faults sink.old ≤ K.faults sink.new }
         ensures cause { IsErrOf result LoadFault.WriteFault → Rose (K.faults sink.old) (K.faults sink.new) }
         ensures room { self.old.room ≤ self.new.room }
-        ensures enough { IsErrOf result LoadFault.Memory → self.old.room + 2 < length self.old.loading.bytes + length frame.now }
+        ensures enough { IsErrOf result LoadFault.Memory → self.old.room < length (with_piece self.old.loading.bytes frame.now) }
     {
         match self.add_piece(request, frame) {
             Ok(_) => {
@@ -205,7 +205,7 @@ impl Downloader {
         ensures joined { OnOk result (self.new.loading ≡ continued self.old.loading request frame.now) }
         ensures same { OnErr result (self.new ≡ self.old) }
         ensures room { self.old.room ≤ self.new.room }
-        ensures enough { OnErr result (self.old.room + 2 < length self.old.loading.bytes + length frame.now) }
+        ensures enough { OnErr result (self.old.room < length (with_piece self.old.loading.bytes frame.now)) }
     {
         let wanted = counter_at(self.stage);
         join_piece(&mut self.joiner, frame)?;
@@ -274,7 +274,7 @@ fn join_piece(joiner: &mut Joiner, frame: &Frame) -> Result<(), Memory>
     ensures bytes { OnOk result (joiner.new.bytes ≡ with_piece joiner.old.bytes frame.now) }
     ensures same { OnErr result (joiner.new ≡ joiner.old) }
     ensures room { joiner.old.room ≤ joiner.new.room }
-    ensures enough { OnErr result (joiner.old.room + 2 < length joiner.old.bytes + length frame.now) }
+    ensures enough { OnErr result (joiner.old.room < length (with_piece joiner.old.bytes frame.now)) }
 {
     match joiner.take(frame) {
         Ok(_) => Ok(()),

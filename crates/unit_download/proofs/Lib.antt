@@ -1,0 +1,7 @@
+pub mod Linked
+pub mod Refused
+pub mod Opening
+pub mod Fronts
+pub mod Told
+pub mod Faults
+pub mod Talking
