@@ -1,0 +1,4 @@
+pub mod Faults
+pub mod Copied
+pub mod Written
+pub mod Readable
