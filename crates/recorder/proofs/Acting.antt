@@ -39,6 +39,7 @@ module _ (old new : Run) (unit : State) (picks : List (Slot × Pick)) (only : On
       next = l.next;
       low = l.low;
       later = l.later;
+      watches = l.watches;
     };
   })
 

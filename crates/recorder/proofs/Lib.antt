@@ -3,14 +3,17 @@ pub mod Actions
 pub mod Beginning
 pub mod Broken
 pub mod Due
+pub mod Events
 pub mod Items
 pub mod Keep
 pub mod Opened
 pub mod Recording
 pub mod Seams
+pub mod Showing
 pub mod Standing
 pub mod Staying
 pub mod Stepping
 pub mod Courses
 pub mod Turning
 pub mod Waiting
+pub mod Watching

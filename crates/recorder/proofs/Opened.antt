@@ -1,11 +1,18 @@
 -- A run begins: what holds behind its opening.
-use Rattle.unit_model.specs.declared.layout.TheConstants.{HIGHEST_ODOMETER}
-use Rattle.std.proofs.Common.{◌≡◌, inl, ⊎_elim, ℕ, ◌+◌, ◌-◌, ◌/◌, ◌<◌, ◌≤◌, true, Option, Some, None, List, [], length, drop, is_some, refl, ap, sym, subst, ◌∙◌, arith}
+use Rattle.unit_model.specs.declared.layout.TheConstants.{HIGHEST_ODOMETER, SPEED_LIMIT}
+use Rattle.unit_memory.specs.declared.format.Identity.{Identity}
+use Rattle.unit_memory.specs.Identified.{IsIdentity}
+use Rattle.unit_journal.proofs.Beside.{passes_beside}
+use Rattle.unit_course.specs.Lines.{log_of}
+use Rattle.event_course.specs.Noted.{no_events}
+use Rattle.event_course.specs.Shown.{HasNoted}
+use Rattle.event_course.proofs.Shows.{noted-begins}
+use Rattle.std.proofs.Common.{◌≡◌, inl, ⊎_elim, ℕ, ◌+◌, ◌-◌, ◌/◌, ◌<◌, ◌≤◌, true, Option, Some, None, List, [], length, drop, is_some, IfSome, refl, ap, sym, subst, ◌∙◌, arith}
 use Rattle.tach_media.specs.Medium.{State, IsCoherent, LeavesOnly, Unchanged}
 use Rattle.tach_media.proofs.Runs.{at_image}
 use Rattle.unit_model.specs.Days.{Day, newest_of}
 use Rattle.unit_model.specs.Decoding.{Decodes}
-use Rattle.unit_model.specs.Image.{last_kept, odometer_at, recorded}
+use Rattle.unit_model.specs.Image.{last_kept, odometer_at, recorded, number_of}
 use Rattle.unit_journal.specs.declared.notes.Notes.{Notes}
 use Rattle.unit_journal.specs.Image.{IsFoundBy}
 use Rattle.unit_journal.proofs.Besides.{few_days}
@@ -56,6 +63,14 @@ module _ (x : List ℕ) (U V : State) (starts : StartsAs x U) (before : IsCohere
 
   pub decodes-is : Decodes x
   decodes-is = at_image Decodes image-is loaded.decodes
+
+  -- nothing is noted yet
+  pub opened-noted : HasNoted x (log_of []) no_events V
+  opened-noted = noted-begins x (log_of []) {U = V} now-one (passes_beside x decodes-is).overs
+
+  -- the limit of the vehicle
+  pub opened-limit : (i : Identity) → IfSome V.image (IsIdentity i) → i.limit ≡ number_of x SPEED_LIMIT
+  opened-limit i said = let is = (at_image (IsIdentity i) image-is said).limit in omega (arith, is)
 
 -- what is found later is the unit's, and so is what the opening finds
 pub later-is-units : (U V : State) (fault : RunFault) → IsFoundLater fault → IsUnitFault U V fault

@@ -1,7 +1,7 @@
 -- A step of the recorder, by the seconds of the trace.
 use Rattle.std.proofs.Common.{◌≡◌, inl, inr, ⊎_elim, ℕ, zero, suc, ◌+◌, ◌-◌, ◌/◌, ◌%◌, ◌<◌, ◌≤◌, Bool, true, false, Option, Some, None, List, [], ◌∷◌, ◌++◌, length, map, refl, ap, sym, subst, ◌∙◌, arith}
 use Rattle.std.specs.List.{AllByRecursion}
-use Rattle.std.specs.Prelude.{◌==◌, ◌&&◌}
+use Rattle.std.specs.Prelude.{◌==◌, ◌&&◌, nat_lt, option_map, option_to_list}
 use Rattle.std.proofs.lemmas.List.{append-nil, map-append}
 use Rattle.std.proofs.lemmas.Bool.Decides.{nat_tests}
 use Rattle.tach_media.specs.Medium.{State}
@@ -22,14 +22,28 @@ use Rattle.log_model.specs.declared.lines.SlotFault.{SlotFault}
 use Rattle.log_model.specs.declared.lines.SlotFault.TheVariants.{NoPower}
 use Rattle.log_model.specs.declared.lines.Break.{Break}
 use Rattle.log_model.specs.declared.lines.Mark.{Mark}
-use Rattle.history_model.specs.Book.{Book, found, broken}
+use Rattle.history_model.specs.Book.{Book, found}
 use Rattle.history_model.specs.Growth.{picking}
 use Rattle.history_model.specs.Presence.{Start}
 use Rattle.unit_course.specs.Lines.{log_of, cut_at, found_from}
-use Rattle.unit_course.specs.Keeping.{plain, kept_all}
+use Rattle.unit_course.specs.Keeping.{plain, kept_all, broken_at}
+use Rattle.unit_course.specs.Legs.{stranded_at}
 use Rattle.unit_course.specs.Turn.{IsSelection, span_at, lit_seconds, begins_with, actions_of_last}
 use Rattle.unit_course.specs.Followed.{Supply, Lit as On, Due as Awaited, Lost as Gone, Progress, Followed, going_on}
-use Rattle.recorder.specs.Standing.{Began, Travel, resumed, stranded, all_travelled}
+use Rattle.unit_model.specs.declared.layout.TheConstants.{SPEED_LIMIT}
+use Rattle.unit_model.specs.Image.{number_of}
+use Rattle.unit_memory.specs.declared.format.Identity.{Identity}
+use Rattle.event_model.specs.Spans.{DriverSecond, SpeedSecond, overs_of, all_bare, at_speed}
+use Rattle.event_course.specs.Plain.{driver_seconds, speed_seconds}
+use Rattle.event_course.specs.Noted.{lists_at}
+use Rattle.event_course.specs.Gaps.{HasGaps}
+use Rattle.event_course.specs.Shown.{HasNoted}
+use Rattle.event_course.proofs.Grown.{driver-turn, speed-turn}
+use Rattle.event_notes.specs.Watching.{Stand}
+use Rattle.event_notes.specs.declared.watch.Watch.{Watch}
+use Rattle.recorder.specs.Watching.{IsTurnWatched}
+use Rattle.recorder.proofs.Showing.{turned_gap, turned_noted, broken_gap, broken_noted, found_gap, found_noted, failed_gap, failed_noted, refound_noted, stays_gap, stays_noted, off_gap, off_noted, cut_off_gap, cut_off_noted, gaps-as, noted-as}
+use Rattle.recorder.specs.Standing.{Began, Travel, resumed, all_travelled}
 use Rattle.recorder.specs.declared.run.Run.{Run}
 use Rattle.recorder.specs.declared.run.Power.{Power}
 use Rattle.recorder.specs.declared.run.Power.TheVariants.{Lit, Due, Lost}
@@ -38,11 +52,34 @@ use Rattle.recorder.specs.Turn.{OnlyMinutes}
 use Rattle.recorder.specs.Acting.{picks_in, refused_in, with_picks}
 use Rattle.recorder.specs.Booked.{Booked, due_of}
 use Rattle.recorder.specs.Going.{waiting}
-use Rattle.recorder.specs.Recorded.{power_of, HasSecond, progress, Recorded}
+use Rattle.recorder.specs.Recorded.{power_of, HasSecond, progress, IsWatched, Recorded}
 use Rattle.recorder.specs.Steps.{IsSecondBegun, IsNotPoweredOn, IsPoweredOn, IsFoundOn, IsTurn, IsLitTurn, AreDecided}
+use Rattle.recorder.proofs.Watching.{noted-then-still}
 use Rattle.recorder.proofs.Turning.{lit-is, booked-at}
 use Rattle.recorder.proofs.Courses.{MayPower, MayFail, powered, powers_not, turned, breaks_off, stays_dark, goes_off, cut_off, rules_see_the_turn, powered_done, turned_done, broken_done, failed_done, dark_done, off_done, cut_off_done, why-by, powered_why, powers_not_why, turned_why, breaks_off_why, stays_dark_why, goes_off_why, cut_off_why, powered_leg, powers_not_leg, turned_leg, breaks_off_leg, stays_dark_leg, goes_off_leg, cut_off_leg}
 use Rattle.minute_model.specs.declared.Minute.{Minute}
+
+-- the limit of the vehicle, by the image at the start
+abbrev limit_in : Began → ℕ
+limit_in s = number_of s.image SPEED_LIMIT
+
+-- behind these seconds every image shows the events so far
+abbrev HasEvents : Began → List TraceSecond → Progress → State → Type 0
+HasEvents s done p unit = HasNoted s.image (log_of p.breaks) (lists_at (limit_in s) done p) unit
+
+-- what a turn ends above the limit, by the limit of the vehicle
+ends-by : {old new : Watch} {failed : Bool} {n next speed : ℕ} {was unit : State} (limit : ℕ) (span : List Told) (w : IsTurnWatched failed old new next n speed was unit) → Stand old (driver_seconds span) (speed_seconds span) → old.over.limit ≡ limit →
+    overs_of limit (speed_seconds span ++ at_speed next n speed) ≡ overs_of limit (speed_seconds span) ++ option_to_list w.over
+ends-by {old} {new} {failed} {n} {next} {speed} {was} {unit} limit span w stand is =
+    subst (λ (m : ℕ). overs_of m (speed_seconds span ++ at_speed next n speed) ≡ overs_of m (speed_seconds span) ++ option_to_list w.over) is (w.overs (speed_seconds span) stand.over)
+
+-- the feeds stand for the longer span
+stand-turn : (w : Watch) (span : List Told) (n next speed : ℕ) (picks : List (Slot × Pick)) (starts : Bool) →
+    Stand w (driver_seconds span ++ all_bare next n (nat_lt 0 speed)) (speed_seconds span ++ at_speed next n speed) →
+    Stand w (driver_seconds (span ++ lit_seconds n next speed picks starts)) (speed_seconds (span ++ lit_seconds n next speed picks starts))
+stand-turn w span n next speed picks starts h =
+    subst (λ (ds : List DriverSecond). Stand w ds (speed_seconds (span ++ lit_seconds n next speed picks starts))) (sym (driver-turn span n next speed picks starts))
+    (subst (λ (ss : List SpeedSecond). Stand w (driver_seconds span ++ all_bare next n (nat_lt 0 speed)) ss) (sym (speed-turn span n next speed picks starts)) h)
 
 -- power by its supply
 lit-supply : (supply : Supply) (p : Power) → power_of supply ≡ p → is_lit p ≡ true → (span : List Told) × (supply ≡ On span)
@@ -106,12 +143,13 @@ module _ (start : Start) (s : Began) (from : ℕ) (done : List TraceSecond) (n s
   marked-as ss marks is m = subst (λ (bs : List Break). AreMarked Original (went (log_of bs) ss).told marks) is m
 
   -- with power, from a run whose span is this
-  lit-stepped : (act new : Run) (mids after : List Break) (prior marks : List Mark) (unit : State) (b : Book) (t : Travel) (span : List Told) → length (actions_of_last n actions) ≡ begun → act.next % 60 + n ≤ 60 →
+  lit-stepped : (act new : Run) (mids after : List Break) (prior marks : List Mark) (was unit : State) (b : Book) (t : Travel) (span : List Told) → length (actions_of_last n actions) ≡ begun → act.next % 60 + n ≤ 60 →
       Followed Original start from s.opened.first done (progress mids act.unfound act.next act.begun (On span) b) → HasLegs Original s.opened.first done (progress mids act.unfound act.next act.begun (On span) b) t → AreMarked Original (went (log_of mids) done).told prior →
       (refused : List Refused) → WellCaused done (progress mids act.unfound act.next act.begun (On span) b) refused →
       StandsFor act.minutes (picking (picks_of actions) (span_at Original act.next span)) →
-      IsLitTurn s act new mids after n speed begun b t prior marks unit → Recorded start s from (done ++ driven n act.next speed actions) new after marks refused unit
-  lit-stepped act new mids after prior marks unit b t span had fits f l old refused why stands turn = ⊎_elim
+      HasGaps done (progress mids act.unfound act.next act.begun (On span) b) → HasEvents s done (progress mids act.unfound act.next act.begun (On span) b) was → act.memory.limit ≡ limit_in s → IsWatched act (limit_in s) span →
+      IsLitTurn s act new mids after n speed begun b t prior marks was unit → Recorded start s from (done ++ driven n act.next speed actions) new after marks refused unit
+  lit-stepped act new mids after prior marks was unit b t span had fits f l old refused why stands gaps events vehicle watched turn = ⊎_elim
       (λ all. record {
         book = kept_all all.items b;
         travel = all_travelled all.items t;
@@ -134,27 +172,48 @@ module _ (start : Start) (s : Began) (from : ℕ) (done : List TraceSecond) (n s
         minutes = λ lit. subst (λ (m : ℕ). StandsFor new.minutes (span_at Original m (span ++ lit_seconds n act.next speed (picks_of actions) (begins_with span)))) (sym all.next)
             (subst (StandsFor new.minutes) (sym (rules_see_the_turn Original start from s.opened.first done mids act.unfound act.next act.begun (On span) b f span refl n speed actions some))
             (all.fed (picking (picks_of actions) (span_at Original act.next span)) stands));
+        gaps = gaps-as (done ++ driven n act.next speed actions) (On (span ++ lit_seconds n act.next speed (picks_of actions) (begins_with span))) (kept_all all.items b) (sym all.breaks) (sym all.unfound) (sym all.next) (sym all.begun_is)
+            (turned_gap start from s.opened.first done s.image (limit_in s) mids act.unfound act.next act.begun span b f gaps n speed actions begun some each (kept_all all.items b));
+        noted = noted-as s.image (limit_in s) (done ++ driven n act.next speed actions) (On (span ++ lit_seconds n act.next speed (picks_of actions) (begins_with span))) (kept_all all.items b) unit (sym all.breaks) (sym all.unfound) (sym all.next) (sym all.begun_is)
+            (turned_noted start from s.opened.first done s.image (limit_in s) mids act.unfound act.next act.begun span b f gaps {U = was} {V = unit} n speed actions begun some each (kept_all all.items b) all.watched.bare all.watched.over
+            (all.watched.bares (driver_seconds span) watched.stand.bare) (ends-by (limit_in s) span all.watched watched.stand watched.limit_is) events all.watched.noted);
+        vehicle = ap (λ (i : Identity). i.limit) all.memory ∙ vehicle;
+        watched = λ lit. record {
+          stand = stand-turn new.watch span n act.next speed (picks_of actions) (begins_with span) (all.watched.stands refl (driver_seconds span) (speed_seconds span) watched.stand);
+          limit_is = all.watched.limit refl ∙ watched.limit_is;
+        };
       })
       (λ off. record {
-        book = broken (plain off.d) (kept_all off.front b);
-        travel = stranded off.d.travelled (all_travelled off.front t);
+        book = broken_at (option_map {T = Minute} plain off.d) (kept_all off.front b);
+        travel = stranded_at off.d (all_travelled off.front t);
         booked = off.booked;
         supply = Gone;
         power = sym off.power;
         second = tt;
-        followed = followed-as start from s.opened.first (done ++ driven n act.next speed actions) Gone (broken (plain off.d) (kept_all off.front b)) (sym off.breaks) (sym off.unfound) (sym off.next) (sym off.begun_is)
+        followed = followed-as start from s.opened.first (done ++ driven n act.next speed actions) Gone (broken_at (option_map {T = Minute} plain off.d) (kept_all off.front b)) (sym off.breaks) (sym off.unfound) (sym off.next) (sym off.begun_is)
             (breaks_off Original start from s.opened.first done mids act.unfound act.next act.begun (On span) b f span refl n speed actions begun some each had off.items
-            (off.decided.given (picking (picks_of actions) (span_at Original act.next span)) stands) off.front (Some off.d) off.rest off.are true);
-        legs = legs-as s.opened.first (done ++ driven n act.next speed actions) Gone (broken (plain off.d) (kept_all off.front b)) (stranded off.d.travelled (all_travelled off.front t)) (sym off.breaks) (sym off.unfound) (sym off.next) (sym off.begun_is)
+            (off.decided.given (picking (picks_of actions) (span_at Original act.next span)) stands) off.front off.d off.rest off.are true);
+        legs = legs-as s.opened.first (done ++ driven n act.next speed actions) Gone (broken_at (option_map {T = Minute} plain off.d) (kept_all off.front b)) (stranded_at off.d (all_travelled off.front t)) (sym off.breaks) (sym off.unfound) (sym off.next) (sym off.begun_is)
             (breaks_off_leg Original start from s.opened.first done mids act.unfound act.next act.begun (On span) b f t l span refl n speed actions begun some each had off.items
-            (off.decided.given (picking (picks_of actions) (span_at Original act.next span)) stands) off.front (Some off.d) off.rest off.are true);
+            (off.decided.given (picking (picks_of actions) (span_at Original act.next span)) stands) off.front off.d off.rest off.are true);
         complete = marked-as (done ++ driven n act.next speed actions) marks (sym off.breaks)
             (broken_done Original start from s.opened.first done mids act.unfound act.next act.begun (On span) b f prior old span refl n speed actions begun some each fits had off.items
             (off.decided.given (picking (picks_of actions) (span_at Original act.next span)) stands) marks off.stay);
         caused = breaks_off_why Original start from s.opened.first done mids act.unfound act.next act.begun (On span) b f refused why span refl n speed actions begun some each had off.items
             (off.decided.given (picking (picks_of actions) (span_at Original act.next span)) stands)
-            (progress after new.unfound new.next new.begun Gone (broken (plain off.d) (kept_all off.front b))) off.breaks;
+            (progress after new.unfound new.next new.begun Gone (broken_at (option_map {T = Minute} plain off.d) (kept_all off.front b))) off.breaks;
         minutes = λ lit. absurd (let no : Lost ≡ Lit = sym off.power ∙ lit in cc);
+        gaps = gaps-as (done ++ driven n act.next speed actions) Gone (broken_at (option_map {T = Minute} plain off.d) (kept_all off.front b)) (sym off.breaks) (sym off.unfound) (sym off.next) (sym off.begun_is)
+            (broken_gap start from s.opened.first done s.image (limit_in s) mids act.unfound act.next act.begun span b f gaps n speed actions begun some each (kept_all off.items b)
+            (turned Original start from s.opened.first done mids act.unfound act.next act.begun (On span) b f span refl n speed actions begun some each had off.items
+            (off.decided.given (picking (picks_of actions) (span_at Original act.next span)) stands)) (broken_at (option_map {T = Minute} plain off.d) (kept_all off.front b)));
+        noted = noted-as s.image (limit_in s) (done ++ driven n act.next speed actions) Gone (broken_at (option_map {T = Minute} plain off.d) (kept_all off.front b)) unit (sym off.breaks) (sym off.unfound) (sym off.next) (sym off.begun_is)
+            (broken_noted start from s.opened.first done s.image (limit_in s) mids act.unfound act.next act.begun span b f gaps n speed actions begun some each (kept_all off.items b)
+            (turned Original start from s.opened.first done mids act.unfound act.next act.begun (On span) b f span refl n speed actions begun some each had off.items
+            (off.decided.given (picking (picks_of actions) (span_at Original act.next span)) stands)) {U = was} {V = unit} (broken_at (option_map {T = Minute} plain off.d) (kept_all off.front b)) off.watched.bare off.watched.over
+            (off.watched.bares (driver_seconds span) watched.stand.bare) (ends-by (limit_in s) span off.watched watched.stand watched.limit_is) off.watched.bare_ends off.watched.over_ends off.watched.one events off.watched.noted);
+        vehicle = ap (λ (i : Identity). i.limit) off.memory ∙ vehicle;
+        watched = λ lit. absurd (let no : Lost ≡ Lit = sym off.power ∙ lit in cc);
       })
       turn
 
@@ -163,30 +222,35 @@ module _ (start : Start) (s : Began) (from : ℕ) (done : List TraceSecond) (n s
       Followed Original start from s.opened.first done (progress before unfound old.next old.begun supply b) → HasLegs Original s.opened.first done (progress before unfound old.next old.begun supply b) t → AreMarked Original (went (log_of before) done).told marks →
       (refused : List Refused) → WellCaused done (progress before unfound old.next old.begun supply b) refused → MayFail supply old.next → old.next % 60 + n ≤ 60 →
       act.power ≡ Lost → act.next ≡ old.next → act.unfound ≡ unfound → mids ≡ before ++ cut_at old.next true 0 ∷ [] →
-      (new ≡ record act { next = act.next + n; begun = begun }) → after ≡ mids → Booked s new b t marks unit → Recorded start s from (done ++ driven n old.next speed actions) new after marks refused unit
-  failed-stepped old act new mids after marks unit b t before unfound supply f l old_marks refused why may fits lost next found cut run same booked = record {
+      (new ≡ record act { next = act.next + n; begun = begun }) → after ≡ mids → Booked s new b t marks unit →
+      HasGaps (done ++ driven n old.next speed actions) (progress (before ++ cut_at old.next true 0 ∷ []) unfound (old.next + n) begun Gone b) → HasEvents s (done ++ driven n old.next speed actions) (progress (before ++ cut_at old.next true 0 ∷ []) unfound (old.next + n) begun Gone b) unit → act.memory.limit ≡ limit_in s → Recorded start s from (done ++ driven n old.next speed actions) new after marks refused unit
+  failed-stepped old act new mids after marks unit b t before unfound supply f l old_marks refused why may fits lost next foundat cut run same booked gaps events vehicle = record {
     book = b;
     travel = t;
     booked = booked;
     supply = Gone;
     power = sym (ap (λ (r : Run). r.power) run ∙ lost);
     second = tt;
-    followed = followed-as start from s.opened.first (done ++ driven n old.next speed actions) Gone b (sym (same ∙ cut)) (sym (ap (λ (r : Run). r.unfound) run ∙ found)) (sym (ap (λ (r : Run). r.next) run ∙ ap (λ (m : ℕ). m + n) next)) (sym (ap (λ (r : Run). r.begun) run))
+    followed = followed-as start from s.opened.first (done ++ driven n old.next speed actions) Gone b (sym (same ∙ cut)) (sym (ap (λ (r : Run). r.unfound) run ∙ foundat)) (sym (ap (λ (r : Run). r.next) run ∙ ap (λ (m : ℕ). m + n) next)) (sym (ap (λ (r : Run). r.begun) run))
         (powers_not Original start from s.opened.first done before unfound old.next old.begun supply b f may n speed actions some fits each begun);
-    legs = legs-as s.opened.first (done ++ driven n old.next speed actions) Gone b t (sym (same ∙ cut)) (sym (ap (λ (r : Run). r.unfound) run ∙ found)) (sym (ap (λ (r : Run). r.next) run ∙ ap (λ (m : ℕ). m + n) next)) (sym (ap (λ (r : Run). r.begun) run))
+    legs = legs-as s.opened.first (done ++ driven n old.next speed actions) Gone b t (sym (same ∙ cut)) (sym (ap (λ (r : Run). r.unfound) run ∙ foundat)) (sym (ap (λ (r : Run). r.next) run ∙ ap (λ (m : ℕ). m + n) next)) (sym (ap (λ (r : Run). r.begun) run))
         (powers_not_leg Original start from s.opened.first done before unfound old.next old.begun supply b f t l may n speed actions some fits each begun);
     complete = marked-as (done ++ driven n old.next speed actions) marks (sym (same ∙ cut)) (failed_done Original start from s.opened.first done before unfound old.next old.begun supply b f marks old_marks may n speed actions some fits each);
     caused = powers_not_why Original start from s.opened.first done before unfound old.next old.begun supply b f refused why may n speed actions some fits each
         (progress after new.unfound new.next new.begun Gone b) (same ∙ cut);
     minutes = λ lit. absurd (let no : Lost ≡ Lit = sym (ap (λ (r : Run). r.power) run ∙ lost) ∙ lit in cc);
+    gaps = gaps-as (done ++ driven n old.next speed actions) Gone b (sym (same ∙ cut)) (sym (ap (λ (r : Run). r.unfound) run ∙ foundat)) (sym (ap (λ (r : Run). r.next) run ∙ ap (λ (m : ℕ). m + n) next)) (sym (ap (λ (r : Run). r.begun) run)) gaps;
+    noted = noted-as s.image (limit_in s) (done ++ driven n old.next speed actions) Gone b unit (sym (same ∙ cut)) (sym (ap (λ (r : Run). r.unfound) run ∙ foundat)) (sym (ap (λ (r : Run). r.next) run ∙ ap (λ (m : ℕ). m + n) next)) (sym (ap (λ (r : Run). r.begun) run)) events;
+    vehicle = ap (λ (r : Run). r.memory.limit) run ∙ vehicle;
+    watched = λ lit. absurd (let no : Lost ≡ Lit = sym (ap (λ (r : Run). r.power) run ∙ lost) ∙ lit in cc);
   }
 
   pub stepped : (old mid act new : Run) (before mids after : List Break) (marks later : List Mark) (refused told : List Refused) (unit0 unit1 unit2 : State) (r : Recorded start s from done old before marks refused unit0) →
       length (actions_of_last n actions) ≡ begun → old.next % 60 + n ≤ 60 →
       told ≡ refused ++ refused_in (has_power old.power old.next) old.next actions →
-      IsSecondBegun s old mid before mids r.book r.travel marks unit1 → OnlyMinutes mid act →
+      IsSecondBegun s old mid before mids r.book r.travel marks unit0 unit1 → OnlyMinutes mid act →
       ((span : Span) → StandsFor mid.minutes span → StandsFor act.minutes (with_picks (picks_in (has_power old.power old.next && is_lit mid.power) actions) span)) →
-      ((b : Book) (t : Travel) → Booked s mid b t marks unit1 → IsTurn s act new mids after n speed begun b t marks later unit2) →
+      ((b : Book) (t : Travel) → Booked s mid b t marks unit1 → IsTurn s act new mids after n speed begun b t marks later unit1 unit2) →
       Recorded start s from (done ++ driven n old.next speed actions) new after later told unit2
   stepped old mid act new before mids after marks later refused told unit0 unit1 unit2 r had fits adds begins only picked turn = ⊎_elim none on begins
     where
@@ -201,6 +265,12 @@ module _ (start : Start) (s : Began) (from : ℕ) (done : List TraceSecond) (n s
 
       acted : act.begun ≡ mid.begun
       acted = ap (λ (m : Run). m.begun) only
+
+      watch : act.watch ≡ mid.watch
+      watch = ap (λ (m : Run). m.watch) only
+
+      memory : act.memory ≡ mid.memory
+      memory = ap (λ (m : Run). m.memory) only
 
       -- with power nothing is refused
       none-refused : has_power old.power old.next ≡ true → told ≡ refused
@@ -220,29 +290,39 @@ module _ (start : Start) (s : Began) (from : ℕ) (done : List TraceSecond) (n s
       lit : (span : List Told) (b : Book) (t : Travel) → has_power old.power old.next ≡ true → mid.power ≡ Lit → mid.next ≡ old.next →
           Followed Original start from s.opened.first done (progress mids mid.unfound mid.next mid.begun (On span) b) → HasLegs Original s.opened.first done (progress mids mid.unfound mid.next mid.begun (On span) b) t → AreMarked Original (went (log_of mids) done).told marks →
           WellCaused done (progress mids mid.unfound mid.next mid.begun (On span) b) told → StandsFor mid.minutes (span_at Original old.next span) → Booked s mid b t marks unit1 →
+          HasGaps done (progress mids mid.unfound mid.next mid.begun (On span) b) → HasEvents s done (progress mids mid.unfound mid.next mid.begun (On span) b) unit1 → mid.memory.limit ≡ limit_in s → IsWatched mid (limit_in s) span →
           Recorded start s from (done ++ driven n old.next speed actions) new after later told unit2
-      lit span b t some is same f l old_marks well stands booked = ⊎_elim
+      lit span b t power_is is same f l old_marks well stands booked gaps events vehicle watched = ⊎_elim
           (λ passed. absurd (let no = ap is_lit (power ∙ is) in let dark = passed.dark in cc))
           (λ turn. subst (λ (m : ℕ). Recorded start s from (done ++ driven n m speed actions) new after later told unit2) (next ∙ same)
-          (lit-stepped act new mids after marks later unit2 b t span had (let at = next in omega (arith, fits, at, same))
+          (lit-stepped act new mids after marks later unit1 unit2 b t span had (let at = next in omega (arith, fits, at, same))
           (followed-as start from s.opened.first done (On span) b refl (sym unfound) (sym next) (sym acted) f) (legs-as s.opened.first done (On span) b t refl (sym unfound) (sym next) (sym acted) l) old_marks
           told (why-by done (progress mids mid.unfound mid.next mid.begun (On span) b) (progress mids act.unfound act.next act.begun (On span) b) told refl refl well)
           (subst (λ (m : ℕ). StandsFor act.minutes (picking (picks_of actions) (span_at Original m span))) (sym (next ∙ same))
-          (subst (StandsFor act.minutes) (ap (λ (t : Bool). with_picks (picks_in t actions) (span_at Original old.next span)) (ap (λ (t : Bool). t && is_lit mid.power) some ∙ ap is_lit is) ∙ with-at old.next span (picks_of actions))
+          (subst (StandsFor act.minutes) (ap (λ (t : Bool). with_picks (picks_in t actions) (span_at Original old.next span)) (ap (λ (t : Bool). t && is_lit mid.power) power_is ∙ ap is_lit is) ∙ with-at old.next span (picks_of actions))
           (picked (span_at Original old.next span) stands)))
+          (gaps-as done (On span) b refl (sym unfound) (sym next) (sym acted) gaps) (noted-as s.image (limit_in s) done (On span) b unit1 refl (sym unfound) (sym next) (sym acted) events) (ap (λ (i : Identity). i.limit) memory ∙ vehicle)
+          (record {
+            stand = subst (λ (w : Watch). Stand w (driver_seconds span) (speed_seconds span)) (sym watch) watched.stand;
+            limit_is = ap (λ (w : Watch). w.over.limit) watch ∙ watched.limit_is;
+          })
           turn))
           (turn b t booked)
 
       -- without power, behind a failed power-on
       failed : (b : Book) (t : Travel) (breaks : List Break) (from_ : ℕ) (supply : Supply) → Followed Original start from s.opened.first done (progress breaks from_ old.next old.begun supply b) → HasLegs Original s.opened.first done (progress breaks from_ old.next old.begun supply b) t → AreMarked Original (went (log_of breaks) done).told marks →
           WellCaused done (progress breaks from_ old.next old.begun supply b) told → MayFail supply old.next →
-          mid.power ≡ Lost → mid.next ≡ old.next → mid.unfound ≡ from_ → mids ≡ breaks ++ cut_at old.next true 0 ∷ [] → Booked s mid b t marks unit1 → Recorded start s from (done ++ driven n old.next speed actions) new after later told unit2
-      failed b t breaks from_ supply f l old_marks well may lost same found cut booked = ⊎_elim
-          (λ passed. failed-stepped old act new mids after later unit2 b t breaks from_ supply f l (subst (λ (ms : List Mark). AreMarked Original (went (log_of breaks) done).told ms) (sym passed.same) old_marks) told well may fits (power ∙ lost) (next ∙ same) (unfound ∙ found) cut passed.run passed.breaks passed.booked)
+          mid.power ≡ Lost → mid.next ≡ old.next → mid.unfound ≡ from_ → mids ≡ breaks ++ cut_at old.next true 0 ∷ [] → Booked s mid b t marks unit1 →
+          HasGaps (done ++ driven n old.next speed actions) (progress (breaks ++ cut_at old.next true 0 ∷ []) from_ (old.next + n) begun Gone b) →
+          HasEvents s (done ++ driven n old.next speed actions) (progress (breaks ++ cut_at old.next true 0 ∷ []) from_ (old.next + n) begun Gone b) unit1 → mid.memory.limit ≡ limit_in s → Recorded start s from (done ++ driven n old.next speed actions) new after later told unit2
+      failed b t breaks from_ supply f l old_marks well may lost same foundat cut booked gaps events vehicle = ⊎_elim
+          (λ passed. failed-stepped old act new mids after later unit2 b t breaks from_ supply f l (subst (λ (ms : List Mark). AreMarked Original (went (log_of breaks) done).told ms) (sym passed.same) old_marks) told well may fits (power ∙ lost) (next ∙ same) (unfound ∙ foundat) cut passed.run passed.breaks passed.booked gaps
+          (passed.noted s.image (log_of (breaks ++ cut_at old.next true 0 ∷ [])) (lists_at (limit_in s) (done ++ driven n old.next speed actions) (progress (breaks ++ cut_at old.next true 0 ∷ []) from_ (old.next + n) begun Gone b)) events)
+          (ap (λ (i : Identity). i.limit) memory ∙ vehicle))
           (λ turn. absurd (let no = ap is_lit (power ∙ lost) in let yes : is_lit act.power ≡ true = ⊎_elim (λ all. all.lit) (λ off. off.lit) turn in cc))
           (turn b t booked)
 
-      none : IsNotPoweredOn s old mid before mids r.book r.travel marks unit1 → Recorded start s from (done ++ driven n old.next speed actions) new after later told unit2
+      none : IsNotPoweredOn s old mid before mids r.book r.travel marks unit0 unit1 → Recorded start s from (done ++ driven n old.next speed actions) new after later told unit2
       none h = ⊎_elim dark going h.why
         where
           same : act.power ≡ old.power
@@ -273,6 +353,15 @@ module _ (start : Start) (s : Began) (from : ℕ) (done : List TraceSecond) (n s
                 caused = stays_dark_why Original start from s.opened.first done before old.unfound old.next old.begun r.supply r.book r.followed refused r.caused gone.0 n speed actions some gone.1 fits told (all-refused without)
                     (progress after new.unfound new.next new.begun r.supply r.book) (passed.breaks ∙ h.breaks);
                 minutes = λ is. absurd (let no : Lost ≡ Lit = sym p ∙ is in cc);
+                gaps = gaps-as (done ++ driven n old.next speed actions) r.supply r.book (sym (passed.breaks ∙ h.breaks)) (sym (ap (λ (m : Run). m.unfound) passed.run ∙ unfound ∙ ap (λ (m : Run). m.unfound) h.run))
+                    (sym (ap (λ (m : Run). m.next) passed.run ∙ ap (λ (x : ℕ). x + n) (next ∙ ap (λ (m : Run). m.next) h.run))) (sym (ap (λ (m : Run). m.begun) passed.run))
+                    (stays_gap start from s.opened.first done s.image (limit_in s) before old.unfound old.next old.begun r.supply r.book r.followed r.gaps gone.0 n speed actions gone.1 fits begun);
+                noted = noted-as s.image (limit_in s) (done ++ driven n old.next speed actions) r.supply r.book unit2 (sym (passed.breaks ∙ h.breaks)) (sym (ap (λ (m : Run). m.unfound) passed.run ∙ unfound ∙ ap (λ (m : Run). m.unfound) h.run))
+                    (sym (ap (λ (m : Run). m.next) passed.run ∙ ap (λ (x : ℕ). x + n) (next ∙ ap (λ (m : Run). m.next) h.run))) (sym (ap (λ (m : Run). m.begun) passed.run))
+                    (stays_noted start from s.opened.first done s.image (limit_in s) before old.unfound old.next old.begun r.supply r.book r.followed r.gaps {U = unit0} {V = unit2} gone.0 n speed actions gone.1 fits begun r.noted
+                    (noted-then-still {U = unit0} {M = unit1} {V = unit2} h.noted passed.noted));
+                vehicle = ap (λ (m : Run). m.memory.limit) passed.run ∙ ap (λ (i : Identity). i.limit) memory ∙ ap (λ (m : Run). m.memory.limit) h.run ∙ r.vehicle;
+                watched = λ is. absurd (let no : Lost ≡ Lit = sym p ∙ is in cc);
               })
               (λ turn. absurd (let no = ap is_lit lost in let yes : is_lit act.power ≡ true = ⊎_elim (λ all. all.lit) (λ off. off.lit) turn in cc))
               (turn r.book r.travel h.booked)
@@ -292,27 +381,45 @@ module _ (start : Start) (s : Began) (from : ℕ) (done : List TraceSecond) (n s
               (subst (λ (m : Run). StandsFor m.minutes (span_at Original old.next is.0)) (sym h.run)
               (subst (λ (x : Supply). StandsFor old.minutes (span_at Original old.next (going_on x))) is.1 (r.minutes here)))
               h.booked
+              (gaps-as done (On is.0) r.book (sym h.breaks) (sym (ap (λ (m : Run). m.unfound) h.run)) (sym (ap (λ (m : Run). m.next) h.run)) (sym (ap (λ (m : Run). m.begun) h.run)) (subst (λ (x : Supply). HasGaps done (progress before old.unfound old.next old.begun x r.book)) is.1 r.gaps))
+              (noted-as s.image (limit_in s) done (On is.0) r.book unit1 (sym h.breaks) (sym (ap (λ (m : Run). m.unfound) h.run)) (sym (ap (λ (m : Run). m.next) h.run)) (sym (ap (λ (m : Run). m.begun) h.run))
+              (h.noted s.image (log_of before) (lists_at (limit_in s) done (progress before old.unfound old.next old.begun (On is.0) r.book))
+              (subst (λ (x : Supply). HasEvents s done (progress before old.unfound old.next old.begun x r.book) unit0) is.1 r.noted)))
+              (ap (λ (m : Run). m.memory.limit) h.run ∙ r.vehicle)
+              (subst (λ (m : Run). IsWatched m (limit_in s) is.0) (sym h.run) (subst (λ (x : Supply). IsWatched old (limit_in s) (going_on x)) is.1 (r.watched here)))
 
-      on : (has_power old.power old.next ≡ true) × (is_lit old.power ≡ false) × IsPoweredOn s old mid before mids r.book r.travel marks unit1 → Recorded start s from (done ++ driven n old.next speed actions) new after later told unit2
+      on : (has_power old.power old.next ≡ true) × (is_lit old.power ≡ false) × IsPoweredOn s old mid before mids r.book r.travel marks unit0 unit1 → Recorded start s from (done ++ driven n old.next speed actions) new after later told unit2
       on h = ⊎_elim
-          (λ lost. failed r.book r.travel before old.unfound r.supply r.followed r.legs r.complete (why h.0) (may-fail r.supply old.next may) (ap (λ (m : Run). m.power) lost.run) (ap (λ (m : Run). m.next) lost.run) (ap (λ (m : Run). m.unfound) lost.run) lost.breaks lost.booked)
+          (λ lost. failed r.book r.travel before old.unfound r.supply r.followed r.legs r.complete (why h.0) (may-fail r.supply old.next may) (ap (λ (m : Run). m.power) lost.run) (ap (λ (m : Run). m.next) lost.run) (ap (λ (m : Run). m.unfound) lost.run) lost.breaks lost.booked
+          (failed_gap start from s.opened.first done s.image (limit_in s) before old.unfound old.next old.begun r.supply r.book r.followed r.gaps (may-fail r.supply old.next may) n speed actions some fits each begun r.book)
+          (failed_noted start from s.opened.first done s.image (limit_in s) before old.unfound old.next old.begun r.supply r.book r.followed r.gaps {U = unit0} {V = unit1} (may-fail r.supply old.next may) n speed actions some fits each begun r.book r.noted lost.noted)
+          (ap (λ (m : Run). m.memory.limit) lost.run ∙ r.vehicle))
           loaded h.2
         where
           may : MayPower r.supply old.next
           may = may-power r.supply old.power old.next r.power h.0 h.1
 
-          loaded : IsFoundOn s old mid before mids r.book r.travel marks unit1 → Recorded start s from (done ++ driven n old.next speed actions) new after later told unit2
+          loaded : IsFoundOn s old mid before mids r.book r.travel marks unit0 unit1 → Recorded start s from (done ++ driven n old.next speed actions) new after later told unit2
           loaded fo =
               let breaks : List Break = found_from old.unfound fo.kept before in
               let p = powered Original start from s.opened.first done before old.unfound old.next old.begun r.supply r.book r.followed may fo.kept fo.shown.mark fo.shown.low in
               let l = powered_leg Original start from s.opened.first done before old.unfound old.next old.begun r.supply r.book r.followed r.travel r.legs may fo.kept fo.leg fo.shown in
               let m = powered_done Original start from s.opened.first done before old.unfound old.next old.begun r.supply r.book r.followed marks r.complete may fo.kept in
+              let gap = found_gap start from s.opened.first done s.image (limit_in s) before old.unfound old.next old.begun r.supply r.book r.followed r.gaps may fo.kept (found fo.kept r.book) in
+              let vehicle : mid.memory.limit ≡ limit_in s = ap (λ (i : Identity). i.limit) fo.on.memory ∙ r.vehicle in
               let w = powered_why Original start from s.opened.first done before old.unfound old.next old.begun r.supply r.book r.followed told (why h.0) may fo.kept in
               ⊎_elim
               (λ back. lit [] (found fo.kept r.book) (resumed fo.leg r.travel) h.0 back.0 fo.on.next
               (followed-as start from s.opened.first done (On []) (found fo.kept r.book) (sym back.1) (sym fo.on.unfound) (sym fo.on.next) (sym fo.on.begun) p) (legs-as s.opened.first done (On []) (found fo.kept r.book) (resumed fo.leg r.travel) (sym back.1) (sym fo.on.unfound) (sym fo.on.next) (sym fo.on.begun) l) (marked-as done marks (sym back.1) m)
-              (w (progress mids mid.unfound mid.next mid.begun (On []) (found fo.kept r.book)) back.1 refl) back.2 fo.on.booked)
-              (λ lost. failed (found fo.kept r.book) (resumed fo.leg r.travel) breaks (length breaks) (On []) p l m (w (progress breaks (length breaks) old.next old.begun (On []) (found fo.kept r.book)) refl refl) tt lost.0 fo.on.next fo.on.unfound lost.1 fo.on.booked)
+              (w (progress mids mid.unfound mid.next mid.begun (On []) (found fo.kept r.book)) back.1 refl) back.2 fo.on.booked
+              (gaps-as done (On []) (found fo.kept r.book) (sym back.1) (sym fo.on.unfound) (sym fo.on.next) (sym fo.on.begun) gap)
+              (noted-as s.image (limit_in s) done (On []) (found fo.kept r.book) unit1 (sym back.1) (sym fo.on.unfound) (sym fo.on.next) (sym fo.on.begun)
+              (found_noted start from s.opened.first done s.image (limit_in s) before old.unfound old.next old.begun r.supply r.book r.followed r.gaps {U = unit0} {V = unit1} may fo.kept old.begun (found fo.kept r.book) r.noted back.4))
+              vehicle (record { stand = back.3.stand; limit_is = back.3.limit ∙ vehicle }))
+              (λ lost. failed (found fo.kept r.book) (resumed fo.leg r.travel) breaks (length breaks) (On []) p l m (w (progress breaks (length breaks) old.next old.begun (On []) (found fo.kept r.book)) refl refl) tt lost.0 fo.on.next fo.on.unfound lost.1 fo.on.booked
+              (failed_gap start from s.opened.first done s.image (limit_in s) breaks (length breaks) old.next old.begun (On []) (found fo.kept r.book) p gap tt n speed actions some fits each begun (found fo.kept r.book))
+              (refound_noted start from s.opened.first done s.image (limit_in s) before old.unfound old.next old.begun r.supply r.book r.followed r.gaps may fo.kept (found fo.kept r.book) p {U = unit0} {V = unit1} n speed actions some fits each begun (found fo.kept r.book) r.noted lost.2)
+              vehicle)
               fo.on.side
 
 -- AN OFF LINE
@@ -368,6 +475,25 @@ module _ (start : Start) (s : Began) (from : ℕ) (done : List TraceSecond) wher
   off-legs before unfound next begun b n some Gone second f t l =
       legs-as s.opened.first (done ++ dark n next) Awaited b t (sym (append-nil before)) refl refl refl (goes_off_leg Original start from s.opened.first done before unfound next begun Gone b f t l tt n some)
 
+  off-gaps : (before : List Break) (unfound next begun : ℕ) (b : Book) (n : ℕ) → 0 < n → (supply : Supply) → HasSecond supply → Followed Original start from s.opened.first done (progress before unfound next begun supply b) →
+      HasGaps done (progress before unfound next begun supply b) → HasGaps (done ++ dark n next) (progress (before ++ off_cut (is_lit (power_of supply)) (next - 1) begun) unfound (next + n) 0 Awaited b)
+  off-gaps before unfound next begun b n some (On []) second f g = absurd second
+  off-gaps before unfound next begun b n some (On (t ∷ span)) second f g = cut_off_gap start from s.opened.first done s.image (limit_in s) before unfound next begun t span b f g n some
+  off-gaps before unfound next begun b n some Awaited second f g =
+      gaps-as (done ++ dark n next) Awaited b (sym (append-nil before)) refl refl refl (off_gap start from s.opened.first done s.image (limit_in s) before unfound next begun Awaited b f g tt n some)
+  off-gaps before unfound next begun b n some Gone second f g =
+      gaps-as (done ++ dark n next) Awaited b (sym (append-nil before)) refl refl refl (off_gap start from s.opened.first done s.image (limit_in s) before unfound next begun Gone b f g tt n some)
+
+  off-noted : (before : List Break) (unfound next begun : ℕ) (b : Book) (n : ℕ) → 0 < n → (supply : Supply) → HasSecond supply → Followed Original start from s.opened.first done (progress before unfound next begun supply b) →
+      HasGaps done (progress before unfound next begun supply b) → (unit : State) → HasEvents s done (progress before unfound next begun supply b) unit →
+      HasEvents s (done ++ dark n next) (progress (before ++ off_cut (is_lit (power_of supply)) (next - 1) begun) unfound (next + n) 0 Awaited b) unit
+  off-noted before unfound next begun b n some (On []) second f g unit h = absurd second
+  off-noted before unfound next begun b n some (On (t ∷ span)) second f g unit h = cut_off_noted start from s.opened.first done s.image (limit_in s) before unfound next begun t span b f g {U = unit} n some h
+  off-noted before unfound next begun b n some Awaited second f g unit h =
+      noted-as s.image (limit_in s) (done ++ dark n next) Awaited b unit {u = unfound} {n = next + n} {g = 0} (sym (append-nil before)) refl refl refl (off_noted start from s.opened.first done s.image (limit_in s) before unfound next begun Awaited b f g {U = unit} tt n some h)
+  off-noted before unfound next begun b n some Gone second f g unit h =
+      noted-as s.image (limit_in s) (done ++ dark n next) Awaited b unit {u = unfound} {n = next + n} {g = 0} (sym (append-nil before)) refl refl refl (off_noted start from s.opened.first done s.image (limit_in s) before unfound next begun Gone b f g {U = unit} tt n some h)
+
   pub off-recorded : (old new : Run) (before after : List Break) (marks : List Mark) (refused : List Refused) (unit : State) (n : ℕ) → 0 < n → new ≡ record old { power = Due; next = old.next + n; begun = 0 } →
       after ≡ before ++ off_cut (is_lit old.power) (old.next - 1) old.begun → Recorded start s from done old before marks refused unit → Recorded start s from (done ++ dark n old.next) new after marks refused unit
   off-recorded old new before after marks refused unit n some is breaks r = record {
@@ -388,6 +514,12 @@ module _ (start : Start) (s : Began) (from : ℕ) (done : List TraceSecond) wher
     caused = off-why before old.unfound old.next old.begun r.book n some r.supply r.second r.followed refused r.caused (progress after new.unfound new.next new.begun Awaited r.book)
         (breaks ∙ sym (ap (λ (p : Power). before ++ off_cut (is_lit p) (old.next - 1) old.begun) r.power));
     minutes = λ lit. absurd (let no : Due ≡ Lit = sym (ap (λ (m : Run). m.power) is) ∙ lit in cc);
+    gaps = gaps-as (done ++ dark n old.next) Awaited r.book (ap (λ (p : Power). before ++ off_cut (is_lit p) (old.next - 1) old.begun) r.power ∙ sym breaks) (sym (ap (λ (m : Run). m.unfound) is)) (sym (ap (λ (m : Run). m.next) is)) (sym (ap (λ (m : Run). m.begun) is))
+        (off-gaps before old.unfound old.next old.begun r.book n some r.supply r.second r.followed r.gaps);
+    noted = noted-as s.image (limit_in s) (done ++ dark n old.next) Awaited r.book unit (ap (λ (p : Power). before ++ off_cut (is_lit p) (old.next - 1) old.begun) r.power ∙ sym breaks) (sym (ap (λ (m : Run). m.unfound) is)) (sym (ap (λ (m : Run). m.next) is)) (sym (ap (λ (m : Run). m.begun) is))
+        (off-noted before old.unfound old.next old.begun r.book n some r.supply r.second r.followed r.gaps unit r.noted);
+    vehicle = ap (λ (m : Run). m.memory.limit) is ∙ r.vehicle;
+    watched = λ lit. absurd (let no : Due ≡ Lit = sym (ap (λ (m : Run). m.power) is) ∙ lit in cc);
   }
 
 -- seconds without actions, one after another

@@ -1,8 +1,11 @@
 -- How the unit stands, over each kind of step.
-use Rattle.std.proofs.Common.{◌≡◌, ℕ, suc, ◌≤◌, true, None, Some, List, [], ◌∷◌, ◌++◌, refl, All, subst}
+use Rattle.std.proofs.Common.{◌≡◌, ⊎_elim, IfSome, ℕ, suc, ◌≤◌, true, None, Some, List, [], ◌∷◌, ◌++◌, refl, All, subst}
 use Rattle.tach_media.specs.Medium.{State, IsCoherent, LeavesOnly, Unchanged}
 use Rattle.unit_model.specs.Image.{last_kept}
+use Rattle.tach_media.proofs.Runs.{at_image, if_told}
 use Rattle.unit_journal.specs.declared.notes.Notes.{Notes}
+use Rattle.unit_journal.specs.Image.{Agrees}
+use Rattle.unit_journal.proofs.Beside.{agrees_beside}
 use Rattle.unit_journal.specs.Mends.{IsMending}
 use Rattle.minute_model.specs.declared.Minute.{Minute}
 use Rattle.log_model.specs.declared.lines.Mark.{Mark}
@@ -15,6 +18,9 @@ use Rattle.unit_rule.proofs.Found.{found-holds, holds-later}
 use Rattle.unit_rule.proofs.Marking.{holds-aside, holds-read}
 use Rattle.unit_rule.proofs.Mending.{mending-aside, mending-odometer}
 use Rattle.unit_rule.proofs.Travelling.{travelled-aside, travelled-read, travelled-found}
+use Rattle.unit_rule.proofs.Elsewhere.{holds-elsewhere, travelled-elsewhere}
+use Rattle.unit_notes.specs.Journal.{LeavesJournal}
+use Rattle.unit_notes.proofs.Journals.{same_journal}
 use Rattle.unit_rule.specs.Odometer.{ShowsOdometer}
 use Rattle.recorder.specs.Standing.{Began, Travel, travelled, resumed, all_travelled, Stands}
 
@@ -37,6 +43,21 @@ module _ (s : Began) (due : ℕ) (b : Book) (g : Travel) (marks : List Mark) {U 
   stands-found k x after run works is last =
       let on = travelled-found s.odometer b g h.travels before k x after run works is in
       (on.0, record { holds = found-holds s.opened due b marks h.holds before after run works x is k last; travels = on.1 })
+
+  -- notes leave the bytes of the journal alone
+  pub stands-noted : LeavesOnly U V LeavesJournal → Stands s due b g marks V
+  stands-noted run = record {
+    holds = holds-elsewhere s.opened due b marks h.holds before LeavesJournal run (λ x c same. (same_journal x c same.keeps, same.decodes));
+    travels = travelled-elsewhere s.odometer b g h.travels before LeavesJournal run (λ x c same. same_journal x c same.keeps);
+  }
+
+-- and what a journal knows is so still
+pub agrees-noted : {U V : State} → IsCoherent U → IsCoherent V → U.works ≡ true → LeavesOnly U V LeavesJournal → (j : Notes) → IfSome U.image (Agrees j) → IfSome V.image (Agrees j)
+agrees-noted {U} {V} before after works run j said =
+    if_told V.image (Agrees j)
+    (λ c is. ⊎_elim
+    (λ old. at_image (Agrees j) (before.only c works old) said)
+    (λ here. agrees_beside here.0 c (same_journal here.0 c here.2.keeps) j (at_image (Agrees j) here.1 said)) (run.now c (after.is_left c is)))
 
 -- an image that a stop may leave shows what the book says
 pub may-show : (s : Began) (due : ℕ) (b : Book) (g : Travel) (marks : List Mark) (unit : State) → Stands s due b g marks unit → (y : List ℕ) → unit.may_leave y → (shown : ShowsOdometer s.odometer b g y) → MayShow s.opened.first b g (last_kept y) shown.leg

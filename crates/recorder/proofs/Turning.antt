@@ -171,6 +171,14 @@ module _ (run : Run) (unit : State) (is : run.power ≡ Lit) (lit : IsLit run un
         omega (arith, among, d, m, w, next))
         (λ p. absurd (let no : Lost ≡ Lit = sym power ∙ p in cc)) (λ p. absurd (let no : Lost ≡ Lit = sym power ∙ p in cc)) h.stands
 
+    -- all were kept, and power was lost behind them
+    pub turn-unnoted : (new : Run) (later : List Mark) (after : State) → new.power ≡ Lost → new.next ≡ run.next + n →
+        Stands s (due_after (ungiven_of lit.span) items) (kept_all items b) (all_travelled items g) later after → Booked s new (kept_all items b) (all_travelled items g) later after
+    turn-unnoted new later after power next h =
+        booked-at s new (kept_all items b) (all_travelled items g) later after (due_after (ungiven_of lit.span) items)
+        (let d = turn-decides.next in let m = turn-most in let w = waiting-lost new.power new.minutes.owing power in omega (arith, d, m, w, next))
+        (λ p. absurd (let no : Lost ≡ Lit = sym power ∙ p in cc)) (λ p. absurd (let no : Lost ≡ Lit = sym power ∙ p in cc)) h
+
 -- a run goes on behind an `off` line
 pub off-going : (old new : Run) (unit : State) (n : ℕ) → new ≡ record old { power = Due; next = old.next + n; begun = 0 } → old.next + n ≤ end_of_seconds → IsGoing old unit → IsGoing new unit
 off-going old new unit n is small h = subst (λ (r : Run). IsGoing r unit) (sym is) (record {

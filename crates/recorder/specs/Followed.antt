@@ -23,6 +23,7 @@ use Rattle.unit_rule.specs.Marks.{Holds}
 use Rattle.unit_rule.specs.Odometer.{OdometerSafe}
 use Rattle.unit_model.specs.Image.{odometer_at}
 use Rattle.recorder.specs.declared.outcome.Outcome.{Outcome}
+use Rattle.event_course.specs.Shown.{ShowsRun}
 use Rattle.recorder.specs.Recorded.{progress}
 
 -- the run log of an outcome
@@ -59,6 +60,9 @@ pub record IsFollowed (start : Start) (x : List ℕ) (origin : ℕ) (items : Lis
   pub holds : Holds (started x clock) due book o.marks.items unit
   -- the odometer of each image that a stop may leave is the start's and the whole kilometres of each span
   pub odometer : (y : List ℕ) → unit.may_leave y → OdometerSafe Original (run_log o) (told_of o origin items) (odometer_at x) y
+  -- of each type of event none of which was noted in a second in which a call on the unit failed, each image that a stop may leave
+  -- holds those of the run; so it is with the first over speeding and their number
+  pub events : (number : Card → List ℕ) (sessions : ℕ → Card → ℕ) (y : List ℕ) → unit.may_leave y → ShowsRun number x (run_log o) (seconds_of origin items) sessions y
   pub follows : Follows (history_of start o origin items) (lost_of start o origin items) book
   pub supply : Supply
   pub unfound : ℕ

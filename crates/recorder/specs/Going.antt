@@ -1,5 +1,6 @@
 -- What is known of a run between two calls, whatever its unit tells (profile).
 use Rattle.std.specs.Prelude.{◌≡◌, ℕ, ◌+◌, ◌-◌, ◌/◌, ◌<◌, ◌≤◌, ◌^◌, true, IfSome, List, length}
+use Rattle.event_notes.specs.Watching.{Watches}
 use Rattle.tach_media.specs.Medium.{State}
 use Rattle.minute_model.specs.Span.{Span, end_of, ungiven_of}
 use Rattle.minute_rules.specs.Kept.{StandsFor}
@@ -34,6 +35,8 @@ pub record IsLit (run : Run) (unit : State) : Type 0 where
   pub next : end_of span ≡ run.next
   pub low : first_second ≤ span.first
   pub later : run.journal.kept < ungiven_of span
+  -- its events are watched up to the next second
+  pub watches : Watches run.watch run.next
 
 -- a run between two calls
 pub record IsGoing (run : Run) (unit : State) : Type 0 where

@@ -14,3 +14,4 @@ pub mod Standing
 pub mod Steps
 pub mod Trace
 pub mod Turn
+pub mod Watching

@@ -8,6 +8,7 @@ ghost use Rattle.unit_journal.specs.Kept.{kept_minute};
 ghost use Rattle.recorder.specs.Keeping.{odometer_by, seen_plain, AreDue, kept_after, plain, AreFrom, due_after, kept_all, IsBrokenOff, MarksStay, AreAllMarked};
 ghost use Rattle.history_model.specs.Book.{Book, kept as with_kept, broken};
 ghost use Rattle.recorder.specs.Standing.{Began, Travel, travelled, stranded, odometer_after, all_travelled, Stands};
+ghost use Rattle.recorder.specs.Watching.{StaysNoted};
 ghost use Rattle.run_model.specs.declared.Device.TheVariants.{Unit as Recorder};
 
 use crate::lines::Lines;
@@ -85,6 +86,7 @@ fn keep<M: Medium>(
         → OnErr result (Stands s (suc minute.now.minute) (broken (plain minute.now) b) (stranded minute.now.travelled g) marks.new.items (M.state unit.new)) }
     ensures clock { (M.state unit.old).clock ≤ (M.state unit.new).clock }
     ensures tells { is_some (M.state unit.new).image ≡ is_some (M.state unit.old).image }
+    ensures noted { StaysNoted (M.state unit.old) (M.state unit.new) }
     ensures cause { HasCause (M.state unit.old) (M.state unit.new) (is_err result) }
 {
     let kept = kept_of(minute, stored);
@@ -128,6 +130,7 @@ pub fn keep_all<M: Medium>(
         → OnErr result (IsBrokenOff s b g decided.now marks.new.items (M.state unit.new)) }
     ensures clock { (M.state unit.old).clock ≤ (M.state unit.new).clock }
     ensures tells { is_some (M.state unit.new).image ≡ is_some (M.state unit.old).image }
+    ensures noted { StaysNoted (M.state unit.old) (M.state unit.new) }
     ensures cause { HasCause (M.state unit.old) (M.state unit.new) (is_err result) }
 {
     for minute in decided {

@@ -5,6 +5,7 @@ ghost use Rattle.unit_model.specs.Decoding.{Decodes, first_bad_place};
 ghost use Rattle.unit_model.specs.declared.layout.TheConstants.{IMAGE_SIZE};
 ghost use Rattle.unit_model.specs.Image.{IsUnit};
 ghost use Rattle.unit_memory.specs.Fault.{IfBadUnit};
+ghost use Rattle.unit_memory.specs.Identified.{IsIdentity};
 ghost use Rattle.unit_journal.specs.Image.{IsFoundBy};
 ghost use Rattle.recorder.specs.Opening.{IsLoaded, IsNotLoaded, IsRefused, IsClockBack, opening_fault};
 ghost use Rattle.recorder.specs.Broken.{HasBrokenDown};
@@ -13,6 +14,7 @@ use run_model::Device;
 use tach_media::Medium;
 use tacho_types::FullCardNumber;
 use unit_journal::{Journal, UnitFault};
+use unit_memory::UnitMemory;
 
 /// Why a run is not recorded.
 #[derive(Clone, Copy, Debug, PartialEq, Eq)]
@@ -25,6 +27,13 @@ pub enum RunFault {
     ClockBack(u32, u32),
     /// Both cards are valid and have this number.
     SameCard(FullCardNumber),
+}
+
+/// What the opening finds of a unit: its journal, and what it was told of the vehicle.
+#[derive(Drop)]
+pub struct Opened {
+    pub journal: Journal,
+    pub memory: UnitMemory,
 }
 
 /// Revives the unit and judges it; it writes nothing.
@@ -44,6 +53,23 @@ pub fn load<M: Medium>(unit: &mut M) -> Result<Journal, UnitFault>
     Ok(journal)
 }
 
+/// Revives the unit, judges it, and reads what it was told of the vehicle; it writes nothing.
+fn open<M: Medium>(unit: &mut M) -> Result<Opened, UnitFault>
+    requires unit { (M.state unit.old).size ≡ IMAGE_SIZE }
+    ensures loaded { IfOk result (λ opened. IsLoaded (M.state unit.new) opened.journal) }
+    ensures identity { IfOk result (λ opened. IfSome (M.state unit.new).image (IsIdentity opened.memory)) }
+    ensures bad { IfErr result (IsNotLoaded (M.state unit.old) (M.state unit.new)) }
+    ensures unit { IsUnit (M.state unit.old) → IsUnit (M.state unit.new) }
+    ensures leaves { LeavesOnly (M.state unit.old) (M.state unit.new) Unchanged }
+    ensures clock { (M.state unit.new).clock ≡ (M.state unit.old).clock }
+    ensures faults { (M.state unit.old).faults ≤ (M.state unit.new).faults }
+    ensures breakdowns { (M.state unit.old).breakdowns ≤ (M.state unit.new).breakdowns }
+{
+    let journal = load(unit)?;
+    let memory = UnitMemory::read(unit)?;
+    Ok(Opened { journal, memory })
+}
+
 /// That the minute of a second is later than the last-kept one.
 pub fn judge_clock(kept: u32, second: u32) -> Result<(), RunFault>
     ensures later { OnOk result (kept < second / 60) }
@@ -56,10 +82,11 @@ pub fn judge_clock(kept: u32, second: u32) -> Result<(), RunFault>
 }
 
 /// Judges the unit, and the clock of a run that begins at this second.
-pub fn judge<M: Medium>(unit: &mut M, start: u32) -> Result<Journal, RunFault>
+pub fn judge<M: Medium>(unit: &mut M, start: u32) -> Result<Opened, RunFault>
     requires unit { (M.state unit.old).size ≡ IMAGE_SIZE }
-    ensures loaded { IfOk result (IsLoaded (M.state unit.new)) }
-    ensures later { IfOk result (λ journal. journal.kept < start / 60) }
+    ensures loaded { IfOk result (λ opened. IsLoaded (M.state unit.new) opened.journal) }
+    ensures identity { IfOk result (λ opened. IfSome (M.state unit.new).image (IsIdentity opened.memory)) }
+    ensures later { IfOk result (λ opened. opened.journal.kept < start / 60) }
     ensures refused { IfErr result (IsRefused start (M.state unit.old) (M.state unit.new)) }
     ensures unit { IsUnit (M.state unit.old) → IsUnit (M.state unit.new) }
     ensures leaves { LeavesOnly (M.state unit.old) (M.state unit.new) Unchanged }
@@ -67,10 +94,10 @@ pub fn judge<M: Medium>(unit: &mut M, start: u32) -> Result<Journal, RunFault>
     ensures faults { (M.state unit.old).faults ≤ (M.state unit.new).faults }
     ensures breakdowns { (M.state unit.old).breakdowns ≤ (M.state unit.new).breakdowns }
 {
-    match load(unit) {
-        Ok(journal) => {
-            judge_clock(journal.last_kept(), start)?;
-            Ok(journal)
+    match open(unit) {
+        Ok(opened) => {
+            judge_clock(opened.journal.last_kept(), start)?;
+            Ok(opened)
         }
         Err(fault) => Err(opening_fault(fault)),
     }

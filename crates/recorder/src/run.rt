@@ -17,12 +17,14 @@ ghost use Rattle.trace_text.specs.Trace.{IsWellFormed};
 ghost use Rattle.recorder.specs.Trace.{IsForUnit, IsReserved, needs_no_card};
 ghost use Rattle.recorder.specs.Room.{first_waiting};
 
-use crate::opening::{RunFault, judge};
+use crate::opening::{Opened, RunFault, judge};
 use crate::outcome::Outcome;
+use event_notes::Watch;
 use minute_rules::{Minutes, Rule};
 use tach_media::{Chip, Medium};
 use trace_text::{Action, Item, Items, Trace};
 use unit_journal::Journal;
+use unit_memory::UnitMemory;
 
 /// Whether the unit has power.
 #[derive(Clone, Copy, Debug, PartialEq, Eq)]
@@ -51,6 +53,10 @@ pub struct Run {
     pub journal: Journal,
     /// The odometer at the last power-on, in kilometres.
     pub odometer: u32,
+    /// What the unit was told of the vehicle.
+    pub memory: UnitMemory,
+    /// The events of the span that goes on, while the unit has power.
+    pub watch: Watch,
 }
 
 /// Records a trace on the unit. The cards stay untouched.
@@ -95,8 +101,8 @@ pub fn run_trace<U: Medium, C: Chip>(
     ensures card_a { _card_a.new ≡ _card_a.old }
     ensures card_b { _card_b.new ≡ _card_b.old }
 {
-    let journal = judge(unit, trace.start)?;
-    let mut run = Run::new(trace.start, journal);
+    let opened = judge(unit, trace.start)?;
+    let mut run = Run::new(trace.start, opened);
     let mut first = 0;
     for i in 0..trace.items.len() {
         let item = *trace.items.get(i);
@@ -153,23 +159,28 @@ impl Run {
     ghost use Rattle.recorder.specs.Gone.{HasGone};
     ghost use Rattle.recorder.specs.declared.run.Power.TheVariants.{Due};
 
-    /// A run that begins at this second, of a unit with this journal.
-    pub fn new(start: u32, journal: Journal) -> Run
+    /// A run that begins at this second, of a unit that was opened so.
+    pub fn new(start: u32, opened: Opened) -> Run
         ensures power { result.power ≡ Due }
         ensures next { result.next ≡ start }
         ensures begun { result.begun ≡ 0 }
         ensures unfound { result.unfound ≡ 0 }
         ensures odometer { result.odometer ≤ HIGHEST_ODOMETER }
-        ensures stored { result.odometer ≡ journal.odometer }
+        ensures stored { result.odometer ≡ opened.journal.odometer }
+        ensures memory { result.memory ≡ opened.memory }
     {
+        let limit = opened.memory.identity().limit;
+        let odometer = opened.journal.odometer().0;
         Run {
             power: Power::Due,
             next: start,
             begun: 0,
             unfound: 0,
             minutes: Minutes::new(Rule::Original, start),
-            odometer: journal.odometer().0,
-            journal,
+            odometer,
+            journal: opened.journal,
+            memory: opened.memory,
+            watch: Watch::new(limit),
         }
     }
 

@@ -316,3 +316,96 @@ fn an_action_without_power_is_refused(rt: HostRuntime) -> Result<(), Fail> {
     assert_eq!(rt; outcome.marks.len(), 2);
     Ok(())
 }
+
+/// A new unit of a vehicle with this speed limit, in km/h, whose calls stop so.
+fn limited_unit(alloc: Global, limit: u8, stops: Vec<Stop>) -> Result<MemMedium, Memory>
+    ensures { IfOk result (λ unit. IsUnit (memory_state unit.log unit.counts)) }
+{
+    let mut image = new_image(alloc)?;
+    if image.len() > 36 {
+        image[36] = limit;
+    }
+    unit_with(alloc, image, 400000, stops)
+}
+
+/// The bytes of a unit that works again, from a place on.
+fn bytes_of<U: Medium>(
+    alloc: Global,
+    unit: &mut U,
+    place: u32,
+    len: usize,
+) -> Result<Vec<u8>, Fail> {
+    let mut bytes = vec![in alloc; 0u8; len]?;
+    if unit.revive().is_err() || unit.read_at(place, &mut bytes).is_err() {
+        return Err(Fail::from("not read"));
+    }
+    Ok(bytes)
+}
+
+/// The first entry of driving without a card, and the first over speeding.
+const FIRST_BARE: u32 = 2388044;
+
+const FIRST_OVER_SPEEDING: u32 = 2391364;
+
+/// The first entry of a power interruption.
+const FIRST_GAP: u32 = 2390534;
+
+#[test]
+fn a_fast_minute_and_a_second(rt: HostRuntime) -> Result<(), Fail> {
+    let alloc = rt.alloc();
+    let mut unit = limited_unit(alloc, 90, Vec::new(alloc))?;
+    let (ended, outcome) = record(alloc, b"start 1267401600\nrun 61 100\nrun 120 0", &mut unit)?;
+    assert_eq!(rt; ended, Ok(()));
+    assert_eq!(rt; outcome.breaks.len(), 0);
+    let over = bytes_of(alloc, &mut unit, FIRST_OVER_SPEEDING, 31)?;
+    assert!(rt;
+        over[0..12]
+            == [
+                0x07u8, 0x04, 0x4B, 0x8B, 0x03, 0x80, 0x4B, 0x8B, 0x03, 0xBC, 0x64, 0x64
+            ]
+    );
+    assert!(rt; over[12..31] == [0u8, 0, 0, 0, 0, 0, 0, 0, 0, 0, 0, 0, 0, 0, 0, 0, 0, 0, 1]);
+    let numbers = bytes_of(alloc, &mut unit, 572, 8)?;
+    assert!(rt; numbers[..] == [0x4Bu8, 0x8B, 0x03, 0x80, 0, 0, 0, 1]);
+    let bare = bytes_of(alloc, &mut unit, FIRST_BARE, 83)?;
+    assert!(rt; bare[0..10] == [0x04u8, 0x01, 0x4B, 0x8B, 0x03, 0x80, 0x4B, 0x8B, 0x03, 0xBC]);
+    assert_eq!(rt; bare[82], 1);
+    Ok(())
+}
+
+#[test]
+fn a_fast_minute_is_no_over_speeding(rt: HostRuntime) -> Result<(), Fail> {
+    let alloc = rt.alloc();
+    let mut unit = limited_unit(alloc, 90, Vec::new(alloc))?;
+    let (ended, _) = record(
+        alloc,
+        b"start 1267401600\nrun 60 100\nrun 120 0\nrun 90 100",
+        &mut unit,
+    )?;
+    assert_eq!(rt; ended, Ok(()));
+    let over = bytes_of(alloc, &mut unit, FIRST_OVER_SPEEDING, 31)?;
+    assert_eq!(rt; over[0], 0);
+    let bare = bytes_of(alloc, &mut unit, FIRST_BARE, 166)?;
+    assert!(rt; bare[0..10] == [0x04u8, 0x01, 0x4B, 0x8B, 0x03, 0x80, 0x4B, 0x8B, 0x03, 0xBB]);
+    assert_eq!(rt; bare[83], 0);
+    Ok(())
+}
+
+#[test]
+fn an_interruption_is_noted(rt: HostRuntime) -> Result<(), Fail> {
+    let alloc = rt.alloc();
+    let mut unit = limited_unit(alloc, 90, Vec::new(alloc))?;
+    let (ended, outcome) = record(
+        alloc,
+        b"start 1267401600\nrun 600 0\noff 600\nrun 600 0",
+        &mut unit,
+    )?;
+    assert_eq!(rt; ended, Ok(()));
+    assert_eq!(rt; outcome.marks.len(), 16);
+    // From the minute behind the last-kept one, number 7 of the day, to the second of the power-on.
+    let gap = bytes_of(alloc, &mut unit, FIRST_GAP, 166)?;
+    assert!(rt; gap[0..10] == [0x08u8, 0x01, 0x4B, 0x8B, 0x05, 0x60, 0x4B, 0x8B, 0x08, 0x30]);
+    assert_eq!(rt; gap[82], 1);
+    assert_eq!(rt; gap[83], 0);
+    Ok(())
+}

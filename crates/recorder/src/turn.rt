@@ -10,11 +10,11 @@ use crate::opening::RunFault;
 use crate::outcome::Outcome;
 use crate::run::Run;
 use activity_codec::Steps;
-use log_model::{Refused, SlotFault};
-use minute_rules::{Decided, Minutes};
+use log_model::{Mark, Refused, SlotFault};
+use minute_rules::{Decided, Minute, Minutes};
 use std::marker::Brand;
 use std::sync::ledger::{Blank, Ledger};
-use tach_media::Medium;
+use tach_media::{Failed, Medium};
 use trace_text::{Action, Item, Items};
 
 /// How many seconds a turn takes: the first of a minute alone, and then up to the minute's end.
@@ -77,7 +77,15 @@ impl Run {
     ghost use Rattle.history_model.specs.Presence.{Start};
     ghost use Rattle.recorder.specs.declared.run.Power.TheVariants.{Lit};
     ghost use Rattle.history_model.specs.Book.{Book};
-    ghost use Rattle.recorder.specs.Standing.{Began, Travel};
+    ghost use Rattle.recorder.specs.Standing.{Began, Travel, Stands};
+    ghost use Rattle.std.specs.Prelude.{◌⊎◌, IfSome, OnErr, None, is_err};
+    ghost use Rattle.tach_media.specs.Medium.{HasCause};
+    ghost use Rattle.unit_model.specs.declared.layout.TheConstants.{HIGHEST_ODOMETER};
+    ghost use Rattle.unit_journal.specs.Image.{Agrees};
+    ghost use Rattle.recorder.specs.Standing.{odometer_after, all_travelled};
+    ghost use Rattle.recorder.specs.Keeping.{AreDue, kept_after, AreFrom, due_after, kept_all, MarksStay, AreAllMarked};
+    ghost use Rattle.event_notes.specs.Watching.{Watches};
+    ghost use Rattle.recorder.specs.Watching.{IsTurnBrokenOff, IsTurnWatched, GoesAt, GoesOnAt, IsEven};
     ghost use Rattle.tach_media.specs.Medium.{last_count};
 
     /// So many seconds at one speed, from 1 on, with the actions among the items from one index to another at their beginning.
@@ -122,6 +130,7 @@ impl Run {
         requires small { self.old.next + seconds ≤ end_of_seconds }
         requires room { HasRoom self.old outcome.old seconds 0 0 }
         requires unfound { self.old.unfound ≤ length outcome.old.breaks.items }
+        requires even { GoesOnAt self.old speed }
         ensures gone { HasGone result seconds self.old self.new outcome.old outcome.new (M.state unit.old) (M.state unit.new) }
         ensures room { (left offs acts : ℕ) → HasRoom self.old outcome.old (seconds + left) offs acts → OnOk result (HasRoom self.new outcome.new left offs acts) }
         ensures recorded { (start : Start) (s : Began) (origin : ℕ) (done : List TraceSecond) → Recorded start s origin done self.old outcome.old.breaks.items outcome.old.marks.items outcome.old.refused.items (M.state unit.old)
@@ -151,6 +160,8 @@ impl Run {
         requires small { self.old.next + n ≤ end_of_seconds }
         requires room { HasRoom self.old outcome.old n 0 0 }
         requires unfound { self.old.unfound ≤ length outcome.old.breaks.items }
+        requires even { GoesOnAt self.old speed }
+        ensures even { OnOk result (GoesOnAt self.new speed) }
         ensures gone { HasGone result n self.old self.new outcome.old outcome.new (M.state unit.old) (M.state unit.new) }
         ensures room { (left offs acts : ℕ) → HasRoom self.old outcome.old (n + left) offs acts → OnOk result (HasRoom self.new outcome.new left offs acts) }
         ensures recorded { (start : Start) (s : Began) (origin : ℕ) (done : List TraceSecond) → Recorded start s origin done self.old outcome.old.breaks.items outcome.old.marks.items outcome.old.refused.items (M.state unit.old)
@@ -238,9 +249,11 @@ impl Run {
         requires minute { self.old.next % 60 + n ≤ 60 }
         requires small { self.old.next + n ≤ end_of_seconds }
         requires room { HasRoomWithin self.old outcome.old n 0 0 }
+        requires even { IsEven self.old n speed }
         ensures going { IsGoing self.new (M.state unit.new) }
         ensures next { self.new.next ≡ self.old.next + n }
         ensures room { (left offs acts : ℕ) → HasRoomWithin self.old outcome.old (n + left) offs acts → HasRoom self.new outcome.new left offs acts }
+        ensures even { GoesOnAt self.new speed }
         ensures unfound { self.new.unfound ≡ self.old.unfound }
         ensures breaks { length outcome.old.breaks.items ≤ length outcome.new.breaks.items }
         ensures unit { IsUnit (M.state unit.new) }
@@ -249,7 +262,7 @@ impl Run {
         ensures goes_on { GoesOn (M.state unit.old) (M.state unit.new) }
         ensures broke { BreaksDown outcome.old.breaks.items outcome.new.breaks.items (M.state unit.old) (M.state unit.new) }
         ensures booked { (s : Began) (b : Book) (g : Travel) → Booked s self.old b g outcome.old.marks.items (M.state unit.old) → (M.state unit.new).clock < last_count
-            → IsTurn s self.old self.new outcome.old.breaks.items outcome.new.breaks.items n speed begun b g outcome.old.marks.items outcome.new.marks.items (M.state unit.new) }
+            → IsTurn s self.old self.new outcome.old.breaks.items outcome.new.breaks.items n speed begun b g outcome.old.marks.items outcome.new.marks.items (M.state unit.old) (M.state unit.new) }
     {
         if !self.is_lit() {
             self.pass(n, begun);
@@ -273,9 +286,11 @@ impl Run {
         requires minute { self.old.next % 60 + n ≤ 60 }
         requires small { self.old.next + n ≤ end_of_seconds }
         requires room { HasRoomWithin self.old outcome.old n 0 0 }
+        requires even { IsEven self.old n speed }
         ensures going { IsGoing self.new (M.state unit.new) }
         ensures next { self.new.next ≡ self.old.next + n }
         ensures room { (left offs acts : ℕ) → HasRoomWithin self.old outcome.old (n + left) offs acts → HasRoom self.new outcome.new left offs acts }
+        ensures even { GoesOnAt self.new speed }
         ensures unfound { self.new.unfound ≡ self.old.unfound }
         ensures breaks { length outcome.old.breaks.items ≤ length outcome.new.breaks.items }
         ensures unit { IsUnit (M.state unit.new) }
@@ -284,23 +299,67 @@ impl Run {
         ensures goes_on { GoesOn (M.state unit.old) (M.state unit.new) }
         ensures broke { BreaksDown outcome.old.breaks.items outcome.new.breaks.items (M.state unit.old) (M.state unit.new) }
         ensures booked { (s : Began) (b : Book) (g : Travel) → Booked s self.old b g outcome.old.marks.items (M.state unit.old) → (M.state unit.new).clock < last_count
-            → IsLitTurn s self.old self.new outcome.old.breaks.items outcome.new.breaks.items n speed begun b g outcome.old.marks.items outcome.new.marks.items (M.state unit.new) }
+            → IsLitTurn s self.old self.new outcome.old.breaks.items outcome.new.breaks.items n speed begun b g outcome.old.marks.items outcome.new.marks.items (M.state unit.old) (M.state unit.new) }
     {
         let decided = feed(&mut self.minutes, n, speed);
-        let odometer = self.odometer;
-        match keep_all(
-            &mut self.journal,
-            decided.as_slice(),
-            odometer,
-            unit,
-            &mut outcome.marks,
-        ) {
+        match self.keep_turn(decided.as_slice(), n, speed, unit, &mut outcome.marks) {
             Ok(()) => self.pass(n, begun),
             Err(_) => {
                 self.cut(self.next + n - 1, true, begun, &mut outcome.breaks);
                 self.pass(n, begun);
             }
         }
+    }
+
+    /// Keeps the minutes that so many seconds have decided, and then notes what has ended with the second before them: nothing
+    /// has unless they are one.
+    ///
+    /// # Errors
+    ///
+    /// `Failed` where the unit failed: some of the minutes are kept then, and the next one may be; or all are, and what ended may
+    /// be noted or not.
+    fn keep_turn<M: Medium>(
+        &mut self,
+        decided: &[Minute],
+        n: u32,
+        speed: u8,
+        unit: &mut M,
+        marks: &mut Lines<Mark>,
+    ) -> Result<(), Failed>
+        requires works { (M.state unit.old).works ≡ true }
+        requires unit { IsUnit (M.state unit.old) }
+        requires agrees { IfSome (M.state unit.old).image (Agrees self.old.journal) }
+        requires due { AreDue self.old.journal.kept decided.now }
+        requires odometer { self.old.odometer ≤ HIGHEST_ODOMETER }
+        requires room { length marks.old.items + length decided.now ≤ marks.old.room }
+        requires some { 0 < n }
+        requires low { 0 < self.old.next }
+        requires small { self.old.next + n ≤ end_of_seconds }
+        requires watches { Watches self.old.watch self.old.next }
+        requires even { (n ≡ 1) ⊎ GoesAt self.old.watch speed }
+        ensures only { self.new ≡ record self.old { journal = self.new.journal; watch = self.new.watch } }
+        ensures unit { IsUnit (M.state unit.new) }
+        ensures agrees { OnOk result (IfSome (M.state unit.new).image (Agrees self.new.journal)) }
+        ensures kept { OnOk result (self.new.journal.kept ≡ kept_after self.old.journal.kept decided.now) }
+        ensures room { marks.new.room ≡ marks.old.room }
+        ensures few { length marks.new.items ≤ length marks.old.items + length decided.now }
+        ensures stay { MarksStay marks.old.items marks.new.items }
+        ensures each { OnOk result (AreAllMarked decided.now marks.new.items) }
+        ensures marked { (s : Began) (due : ℕ) (b : Book) (g : Travel) → Stands s due b g marks.old.items (M.state unit.old) → b.maybe ≡ None → self.old.odometer ≡ odometer_after s.odometer g.before → AreFrom due decided.now → (M.state unit.new).clock < last_count
+            → OnOk result (Stands s (due_after due decided.now) (kept_all decided.now b) (all_travelled decided.now g) marks.new.items (M.state unit.new)) }
+        ensures broken { (s : Began) (due : ℕ) (b : Book) (g : Travel) → Stands s due b g marks.old.items (M.state unit.old) → b.maybe ≡ None → self.old.odometer ≡ odometer_after s.odometer g.before → AreFrom due decided.now → (M.state unit.new).clock < last_count
+            → OnErr result (IsTurnBrokenOff s due b g decided.now marks.new.items (M.state unit.new)) }
+        ensures watches { OnOk result (Watches self.new.watch (self.old.next + n)) }
+        ensures even { OnOk result (GoesAt self.new.watch speed) }
+        ensures watched { IsTurnWatched (is_err result) self.old.watch self.new.watch self.old.next n speed (M.state unit.old) (M.state unit.new) }
+        ensures clock { (M.state unit.old).clock ≤ (M.state unit.new).clock }
+        ensures tells { is_some (M.state unit.new).image ≡ is_some (M.state unit.old).image }
+        ensures cause { HasCause (M.state unit.old) (M.state unit.new) (is_err result) }
+    {
+        let odometer = self.odometer;
+        keep_all(&mut self.journal, decided, odometer, unit, marks)?;
+        let first = self.next;
+        self.watch.turn(&self.memory, first, n, speed, unit)
     }
 
     /// So many seconds are over, the last of which had so many actions.

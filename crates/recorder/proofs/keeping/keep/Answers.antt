@@ -4,6 +4,7 @@ use Rattle.log_model.specs.declared.lines.Mark.{Mark}
 use Rattle.recorder.specs.Lines.{Listed}
 use Rattle.recorder.specs.Keeping.{odometer_by}
 use Rattle.recorder.proofs.Keep.{on_err, keep-stands, keep-strands}
+use Rattle.event_course.proofs.Frames.{noted-kept}
 use Rattle.recorder.proofs.keeping.keep.Goals as goal
 
 pub returns-in_err-keep-clause-broken : goal.returns-in_err-keep-clause-broken
@@ -22,3 +23,11 @@ returns-clause-marked g c = λ s due b t h none at late below.
 pub returns-clause-added : goal.returns-clause-added
 returns-clause-added g c = ap (λ (l : Listed Mark). l.items) c.add.ensures
     ∙ ap (λ (k : ℕ). c.args.marks.now.items ++ record { device = Device.Unit; minute = c.args.minute.now.minute; clock = k } ∷ []) c.clock.ensures
+
+pub returns-in_err-keep-clause-noted : goal.returns-in_err-keep-clause-noted
+returns-in_err-keep-clause-noted g c = λ start log l h.
+    noted-kept start log l {U = g.M.Medium.state c.args.unit.now} {V = g.M.Medium.state c.keep.new.unit} _ _ h (g.met.M.Medium.coherent c.args.unit.now) c.keep.ensures.moments
+
+pub returns-clause-noted : goal.returns-clause-noted
+returns-clause-noted g c = λ start log l h.
+    noted-kept start log l {U = g.M.Medium.state c.args.unit.now} {V = g.M.Medium.state c.keep.new.unit} _ _ h (g.met.M.Medium.coherent c.args.unit.now) c.keep.ensures.moments

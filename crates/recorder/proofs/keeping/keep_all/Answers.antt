@@ -10,6 +10,7 @@ use Rattle.log_model.specs.declared.lines.Mark.{Mark}
 use Rattle.recorder.specs.Lines.{Listed}
 use Rattle.recorder.specs.Keeping.{MarksStay, AreAllMarked}
 use Rattle.recorder.proofs.Staying.{stays-same, stays-then, stays-more, marked-none, marked-more}
+use Rattle.recorder.proofs.Watching.{still-noted, noted-then-still}
 use Rattle.recorder.proofs.keeping.keep_all.Goals as goal
 
 pub keep-requires-clause-low : goal.keep-requires-clause-low
@@ -46,6 +47,7 @@ loop-minute-init g c = record {
   stay = stays-same c.args.marks.now.items c.args.marks.now.items refl;
   each = marked-none c.args.marks.now.items;
   cause = (no_reads (g.M.Medium.state c.args.unit.now) c.requires.works).cause;
+  noted = still-noted (g.M.Medium.state c.args.unit.now);
   marked = λ s due b t h none at from below. h;
 }
 
@@ -69,6 +71,7 @@ loop-minute-preserved g c =
       stay = stays-then v.stay (stays-more c.loop-minute.marks.items c.keep.new.marks.items _ e.added);
       each = marked-more ds i low c.loop-minute.marks.items c.keep.new.marks.items _ refl refl e.added v.each;
       cause = cause_after v.cause e.cause;
+      noted = noted-then-still {U = g.M.Medium.state c.args.unit.now} {M = g.M.Medium.state c.loop-minute.unit} {V = g.M.Medium.state c.keep.new.unit} v.noted e.noted;
       marked = λ s due b t h none at from below.
           let clock = e.clock in
           let was = v.marked s due b t h none at from (omega (arith, clock, below)) in
@@ -89,3 +92,7 @@ returns-clause-each g c =
 
 pub returns-in_err-keep-clause-stay : goal.returns-in_err-keep-clause-stay
 returns-in_err-keep-clause-stay g c = stays-then c.loop-minute.invariant.stay (stays-same c.loop-minute.marks.items c.keep.new.marks.items (ap (λ (l : Listed Mark). l.items) c.in_err-keep.ensures.none))
+
+pub returns-in_err-keep-clause-noted : goal.returns-in_err-keep-clause-noted
+returns-in_err-keep-clause-noted g c =
+    noted-then-still {U = g.M.Medium.state c.args.unit.now} {M = g.M.Medium.state c.loop-minute.unit} {V = g.M.Medium.state c.keep.new.unit} c.loop-minute.invariant.noted c.in_err-keep.ensures.noted

@@ -5,6 +5,7 @@ use Rattle.unit_journal.specs.Image.{Agrees}
 use Rattle.history_model.specs.Book.{Book}
 use Rattle.recorder.specs.Standing.{Began, Travel, odometer_after, all_travelled, Stands}
 use Rattle.recorder.specs.Keeping.{AreDue, kept_after, AreFrom, due_after, kept_all, MarksStay, AreAllMarked}
+use Rattle.recorder.specs.Watching.{StaysNoted}
 use Rattle.recorder.proofs.keeping.keep_all.Given as goal
 
 abbrev pub invariant-loop-minute : goal.invariant-loop-minute
@@ -20,6 +21,7 @@ invariant-loop-minute g l = record {
   stay : MarksStay l.fn.marks.items l.marks.items;
   each : AreAllMarked (take l.minute-index l.decided) l.marks.items;
   cause : HasCause (g.M.Medium.state l.fn.unit) (g.M.Medium.state l.unit) false;
+  noted : StaysNoted (g.M.Medium.state l.fn.unit) (g.M.Medium.state l.unit);
   marked : (s : Began) (due : ℕ) (b : Book) (t : Travel) → Stands s due b t l.fn.marks.items (g.M.Medium.state l.fn.unit) → b.maybe ≡ None → l.stored ≡ odometer_after s.odometer t.before → AreFrom due l.decided →
       (g.M.Medium.state l.unit).clock < last_count →
       Stands s (due_after due (take l.minute-index l.decided)) (kept_all (take l.minute-index l.decided) b) (all_travelled (take l.minute-index l.decided) t) l.marks.items (g.M.Medium.state l.unit);

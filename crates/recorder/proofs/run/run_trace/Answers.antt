@@ -12,7 +12,14 @@ use Rattle.unit_course.specs.Complete.{AreMarked}
 use Rattle.unit_course.specs.Caused.{WellCaused}
 use Rattle.unit_course.specs.Followed.{Due as Awaited, Followed}
 use Rattle.unit_course.specs.Travelled.{HasLegs}
-use Rattle.unit_model.specs.Image.{last_kept, odometer_at}
+use Rattle.unit_model.specs.Image.{last_kept, odometer_at, number_of}
+use Rattle.unit_memory.specs.declared.format.Identity.{Identity}
+use Rattle.event_course.specs.Noted.{Lists, lists_at}
+use Rattle.event_course.specs.Gaps.{HasGaps}
+use Rattle.event_course.specs.Shown.{HasNoted, ShowsRun}
+use Rattle.event_course.proofs.Steps.{begins_gaps, begins_lists}
+use Rattle.recorder.proofs.Showing.{gaps-as, noted-as}
+use Rattle.recorder.proofs.Events.{events-shown}
 use Rattle.unit_rule.proofs.Travelling.{odometer-safe}
 use Rattle.recorder.specs.Followed.{NoVerdict, run_log, told_of, history_of, lost_of, breakdowns_of}
 use Rattle.trace_model.specs.declared.Card.{Card}
@@ -32,10 +39,10 @@ use Rattle.unit_rule.proofs.Safety.{unit-safe}
 use Rattle.recorder.specs.declared.run.Power.{Power}
 use Rattle.recorder.specs.declared.run.Power.TheVariants.{Lit, Due}
 use Rattle.recorder.specs.Lines.{Listed}
-use Rattle.unit_model.specs.declared.layout.TheConstants.{IMAGE_SIZE}
+use Rattle.unit_model.specs.declared.layout.TheConstants.{IMAGE_SIZE, SPEED_LIMIT}
 use Rattle.recorder.specs.Going.{waiting, cuts_from}
 use Rattle.recorder.specs.Booked.{StartsAs, started, due_of}
-use Rattle.recorder.proofs.Opened.{opened-stands, kept-is, decodes-is, later-is-units, refused-is-units}
+use Rattle.recorder.proofs.Opened.{opened-stands, opened-noted, opened-limit, kept-is, decodes-is, later-is-units, refused-is-units}
 use Rattle.recorder.specs.Room.{offs, off_count}
 use Rattle.recorder.specs.Turn.{HasRoom}
 use Rattle.recorder.proofs.Items.{each-at, seconds-here, offs-here, room-less, room-behind, waiting-most, total-parts}
@@ -61,7 +68,7 @@ if_err (Err e) all = all e
 pub loop-i-init : goal.loop-i-init
 loop-i-init g c =
     let q = c.requires in
-    let e = c.in_ok-journal.ensures in
+    let e = c.in_ok-opened.ensures in
     let next = c.new-run.ensures.next in
     let run = c.judge.ensures.leaves in
     let m = ap (λ (l : Listed Mark). length l.items) q.reserved.marks in
@@ -95,18 +102,18 @@ loop-i-init g c =
       began = λ x starts.
           let U = g.U.Medium.state c.args.unit.now in
           let V = g.U.Medium.state c.judge.new.unit in
-          let kept = kept-is x U V starts (g.met.U.Medium.coherent c.args.unit.now) (g.met.U.Medium.coherent c.judge.new.unit) run c.in_ok-journal.journal e.loaded in
+          let kept = kept-is x U V starts (g.met.U.Medium.coherent c.args.unit.now) (g.met.U.Medium.coherent c.judge.new.unit) run c.in_ok-opened.opened.journal e.loaded in
           let late = e.later in
-          (decodes-is x U V starts (g.met.U.Medium.coherent c.args.unit.now) (g.met.U.Medium.coherent c.judge.new.unit) run c.in_ok-journal.journal e.loaded, omega (arith, kept, late));
+          (decodes-is x U V starts (g.met.U.Medium.coherent c.args.unit.now) (g.met.U.Medium.coherent c.judge.new.unit) run c.in_ok-opened.opened.journal e.loaded, omega (arith, kept, late));
       recorded = λ start x starts below long.
           let U = g.U.Medium.state c.args.unit.now in
           let V = g.U.Medium.state c.judge.new.unit in
           let due : ℕ = c.args.trace.now.start / 60 in
-          let kept = kept-is x U V starts (g.met.U.Medium.coherent c.args.unit.now) (g.met.U.Medium.coherent c.judge.new.unit) run c.in_ok-journal.journal e.loaded in
+          let kept = kept-is x U V starts (g.met.U.Medium.coherent c.args.unit.now) (g.met.U.Medium.coherent c.judge.new.unit) run c.in_ok-opened.opened.journal e.loaded in
           let late = e.later in
           let few = c.new-run.ensures.odometer in
           let so = c.new-run.ensures.stored in
-          let h = opened-stands x U V starts (g.met.U.Medium.coherent c.args.unit.now) (g.met.U.Medium.coherent c.judge.new.unit) run c.in_ok-journal.journal e.loaded due e.later (omega (arith, few, so)) in
+          let h = opened-stands x U V starts (g.met.U.Medium.coherent c.args.unit.now) (g.met.U.Medium.coherent c.judge.new.unit) run c.in_ok-opened.opened.journal e.loaded due e.later (omega (arith, few, so)) in
           let none = ap (λ (l : Listed Break). l.items) q.reserved.breaks in
           record {
             book = not_begun;
@@ -128,6 +135,15 @@ loop-i-init g c =
                 (subst (WellCaused [] (progress c.args.outcome.now.breaks.items c.new-run.result.unfound c.new-run.result.next c.new-run.result.begun Awaited not_begun)) (sym (ap (λ (l : Listed Refused). l.items) q.reserved.refused))
                 (why-by [] (progress [] 0 c.args.trace.now.start 0 Awaited not_begun) (progress c.args.outcome.now.breaks.items c.new-run.result.unfound c.new-run.result.next c.new-run.result.begun Awaited not_begun) [] none refl (begins_why c.args.trace.now.start)));
             minutes = λ p. absurd (let no : Due ≡ Lit = sym c.new-run.ensures.power ∙ p in cc);
+            gaps = subst (λ (ss : List TraceSecond). HasGaps ss (progress c.args.outcome.now.breaks.items c.new-run.result.unfound c.new-run.result.next c.new-run.result.begun Awaited not_begun)) (sym (seconds-none c.args.trace.now.start))
+                (gaps-as [] Awaited not_begun (sym none) (sym c.new-run.ensures.unfound) (sym next) (sym c.new-run.ensures.begun) (begins_gaps c.args.trace.now.start not_begun));
+            noted = subst (λ (ss : List TraceSecond). HasNoted x (log_of c.args.outcome.now.breaks.items) (lists_at (number_of x SPEED_LIMIT) ss (progress c.args.outcome.now.breaks.items c.new-run.result.unfound c.new-run.result.next c.new-run.result.begun Awaited not_begun)) V) (sym (seconds-none c.args.trace.now.start))
+                (noted-as x (number_of x SPEED_LIMIT) [] Awaited not_begun V (sym none) (sym c.new-run.ensures.unfound) (sym next) (sym c.new-run.ensures.begun)
+                (subst (λ (l : Lists). HasNoted x (log_of []) l V) (sym (begins_lists (number_of x SPEED_LIMIT) c.args.trace.now.start not_begun))
+                (opened-noted x U V starts (g.met.U.Medium.coherent c.args.unit.now) (g.met.U.Medium.coherent c.judge.new.unit) run c.in_ok-opened.opened.journal e.loaded)));
+            vehicle = ap (λ (i : Identity). i.limit) c.new-run.ensures.memory
+                ∙ opened-limit x U V starts (g.met.U.Medium.coherent c.args.unit.now) (g.met.U.Medium.coherent c.judge.new.unit) run c.in_ok-opened.opened.journal e.loaded c.in_ok-opened.opened.memory e.identity;
+            watched = λ p. absurd (let no : Due ≡ Lit = sym c.new-run.ensures.power ∙ p in cc);
           };
       booked = λ x starts below.
           let U = g.U.Medium.state c.args.unit.now in
@@ -135,7 +151,7 @@ loop-i-init g c =
           let due : ℕ = c.args.trace.now.start / 60 in
           let few = c.new-run.ensures.odometer in
           let so = c.new-run.ensures.stored in
-          let h = opened-stands x U V starts (g.met.U.Medium.coherent c.args.unit.now) (g.met.U.Medium.coherent c.judge.new.unit) run c.in_ok-journal.journal e.loaded due e.later (omega (arith, few, so)) in (
+          let h = opened-stands x U V starts (g.met.U.Medium.coherent c.args.unit.now) (g.met.U.Medium.coherent c.judge.new.unit) run c.in_ok-opened.opened.journal e.loaded due e.later (omega (arith, few, so)) in (
             not_begun,
             not_travelled,
             booked-at (begun_with x U.clock) c.new-run.result not_begun not_travelled c.args.outcome.now.marks.items V due (omega (arith, w, next)) (λ p. refl) (λ p. absurd (let no : Due ≡ Lit = sym c.new-run.ensures.power ∙ p in cc))
@@ -236,6 +252,11 @@ returns-clause-followed g c = λ start x starts below few.
           (λ y left shown. shown_leg Original start c.args.trace.now.start (started x (g.U.Medium.state c.args.unit.now).clock).first (seconds_of c.args.trace.now.start items) c.loop-i.outcome.breaks.items c.loop-i.run.unfound c.loop-i.run.next c.loop-i.run.begun r.supply r.book f r.travel l
           (run_log c.loop-i.outcome) refl finds (last_kept y) shown.leg
           (may-show (begun_with x (g.U.Medium.state c.args.unit.now).clock) (due_of c.loop-i.run) r.book r.travel c.loop-i.outcome.marks.items (g.U.Medium.state c.loop-i.unit) r.booked.stands y left shown));
+      events = λ number sessions y left. subst (λ (fs : List Find). ShowsRun number x (record { breaks = c.loop-i.outcome.breaks.items; refused = c.loop-i.outcome.refused.items; finds = fs }) (seconds_of c.args.trace.now.start items) sessions y) (sym finds)
+          (events-shown start c.args.trace.now.start (started x (g.U.Medium.state c.args.unit.now).clock).first c.args.trace.now.start items x y c.loop-i.outcome.breaks.items c.loop-i.outcome.refused.items
+          c.loop-i.run.unfound c.loop-i.run.next c.loop-i.run.begun r.supply r.book (g.U.Medium.state c.loop-i.unit) c.requires.for_unit r.second f
+          (subst (λ (is : List Item). HasNoted x (log_of c.loop-i.outcome.breaks.items) (lists_at (number_of x SPEED_LIMIT) (seconds_of c.args.trace.now.start is)
+          (progress c.loop-i.outcome.breaks.items c.loop-i.run.unfound c.loop-i.run.next c.loop-i.run.begun r.supply r.book)) (g.U.Medium.state c.loop-i.unit)) whole r.noted) left number sessions);
       follows = follows;
       supply = r.supply;
       unfound = c.loop-i.run.unfound;
@@ -275,6 +296,6 @@ returns-in_err-item-clause-broke g c =
     let more = goes-then c.loop-i.invariant.goes_on c.in_err-item.ensures.gone.goes_on in
     broke-all (run_log c.item.new.outcome) (ap (λ (l : Listed Break). l.items) c.requires.reserved.breaks) more.faults (broke-then c.loop-i.invariant.broke c.in_err-item.ensures.gone.broke)
 
-pub returns-in_err-journal-clause-broke : goal.returns-in_err-journal-clause-broke
-returns-in_err-journal-clause-broke g c =
+pub returns-in_err-opened-clause-broke : goal.returns-in_err-opened-clause-broke
+returns-in_err-opened-clause-broke g c =
     broke-all (run_log c.args.outcome.now) (ap (λ (l : Listed Break). l.items) c.requires.reserved.breaks) c.judge.ensures.faults (broke-none c.args.outcome.now.breaks.items c.judge.ensures.breakdowns)

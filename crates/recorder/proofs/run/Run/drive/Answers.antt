@@ -1,4 +1,4 @@
-use Rattle.std.proofs.Common.{rules, ◌≡◌, ℕ, ◌+◌, ◌-◌, ◌<◌, ◌≤◌, ◌∙◌, Bool, List, [], ◌++◌, length, refl, ap, sym, subst, append_assoc, arith}
+use Rattle.std.proofs.Common.{rules, inl, ◌≡◌, ℕ, ◌+◌, ◌-◌, ◌<◌, ◌≤◌, ◌∙◌, Bool, List, [], ◌++◌, length, refl, ap, sym, subst, append_assoc, arith}
 use Rattle.trace_model.specs.Trace.{TraceSecond, driven}
 use Rattle.trace_model.specs.declared.Action.{Action}
 use Rattle.minute_rules.specs.Kept.{StandsFor}
@@ -21,6 +21,9 @@ use Rattle.recorder.proofs.run.Run.drive.Goals as goal
 
 pub turn-requires-clause-going : goal.turn-requires-clause-going
 turn-requires-clause-going g c = going-picked c.begin_second.new.self c.act_all.new.self (g.M.Medium.state c.begin_second.new.unit) (picks_in (c.in_ok-has_power.has_power && is_lit c.begin_second.new.self.power) (actions_in (between c.args.from c.args.to c.args.items.now))) c.act_all.ensures.only c.act_all.ensures.picked c.in_ok-has_power.ensures.going
+
+pub turn-requires-clause-even : goal.turn-requires-clause-even
+turn-requires-clause-even g c = inl refl
 
 pub turn-requires-clause-room : goal.turn-requires-clause-room
 turn-requires-clause-room g c = (acted-room c.begin_second.new.self c.act_all.new.self (record c.args.outcome.now { breaks = c.begin_second.new.breaks }) c.act_all.new.refused c.args.seconds 1 0 ((c.args.to - c.args.from)) 0 c.act_all.ensures.only (late-picked c.begin_second.new.self c.act_all.new.self (g.M.Medium.state c.begin_second.new.unit) (picks_in (c.in_ok-has_power.has_power && is_lit c.begin_second.new.self.power) (actions_in (between c.args.from c.args.to c.args.items.now))) c.act_all.ensures.only c.act_all.ensures.picked c.in_ok-has_power.ensures.going) c.act_all.ensures.room c.act_all.ensures.few (omega (arith, c.requires.some)) (begun-room c.args.self.now c.begin_second.new.self c.args.outcome.now c.begin_second.new.breaks c.args.seconds 0 ((c.args.to - c.args.from) + 0) (c.requires.some) c.in_ok-has_power.ensures.next c.in_ok-has_power.ensures.marks c.in_ok-has_power.ensures.room (room-less c.args.self.now c.args.outcome.now c.args.seconds c.args.seconds 0 0 ((c.args.to - c.args.from)) ((c.args.to - c.args.from) + 0) (omega arith) (omega arith) (omega arith) c.requires.room)))
@@ -46,9 +49,9 @@ returns-clause-gone g c =
       booked = λ s b t h told below.
           let clock = e.goes_on.clock in
           let begun = (c.in_ok-has_power.ensures.booked s b t c.args.outcome.now.marks.items h told).1 in
-          let on = begun-book s c.args.self.now c.begin_second.new.self c.args.outcome.now.breaks.items c.begin_second.new.breaks.items b t c.args.outcome.now.marks.items (g.M.Medium.state c.begin_second.new.unit) begun in
+          let on = begun-book s c.args.self.now c.begin_second.new.self c.args.outcome.now.breaks.items c.begin_second.new.breaks.items b t c.args.outcome.now.marks.items (g.M.Medium.state c.args.unit.now) (g.M.Medium.state c.begin_second.new.unit) begun in
           let acted = booked-picked c.begin_second.new.self c.act_all.new.self (g.M.Medium.state c.begin_second.new.unit) (picks_in (c.in_ok-has_power.has_power && is_lit c.begin_second.new.self.power) (actions_in (between c.args.from c.args.to c.args.items.now))) c.act_all.ensures.only c.act_all.ensures.picked c.in_ok-has_power.ensures.going s on.0 on.1 c.args.outcome.now.marks.items on.2 in
-          let turned = turn-book s c.act_all.new.self c.turn.new.self c.begin_second.new.breaks.items c.turn.new.outcome.breaks.items 1 c.args.speed _ on.0 on.1 c.args.outcome.now.marks.items c.turn.new.outcome.marks.items (g.M.Medium.state c.turn.new.unit) (c.turn.ensures.booked s on.0 on.1 acted (omega (arith, clock, below))) in
+          let turned = turn-book s c.act_all.new.self c.turn.new.self c.begin_second.new.breaks.items c.turn.new.outcome.breaks.items 1 c.args.speed _ on.0 on.1 c.args.outcome.now.marks.items c.turn.new.outcome.marks.items (g.M.Medium.state c.begin_second.new.unit) (g.M.Medium.state c.turn.new.unit) (c.turn.ensures.booked s on.0 on.1 acted (omega (arith, clock, below))) in
           e.booked s turned.0 turned.1 turned.2 (c.turn.ensures.goes_on.tells ∙ (c.in_ok-has_power.ensures.goes_on.tells ∙ told)) below;
     }
 

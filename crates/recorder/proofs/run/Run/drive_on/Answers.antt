@@ -24,6 +24,7 @@ loop-left-preserved g c =
       enough = room (left - n) 0 0 (subst (λ (m : ℕ). HasRoom c.loop-left.self c.loop-left.outcome m 0 0) (let is : left ≡ n + (left - n) = omega (arith, most) in is) v.enough);
       room = λ more offs acts h. room (left - n + more) offs acts (subst (λ (m : ℕ). HasRoom c.loop-left.self c.loop-left.outcome m offs acts) (let is : left + more ≡ n + (left - n + more) = omega (arith, most) in is) (v.room more offs acts h));
       unfound = e.unfound;
+      even = c.in_ok-step.ensures.even;
       goes_on = goes-then v.goes_on e.goes_on;
       broke = broke-then v.broke e.broke;
       finds = e.finds ∙ v.finds;
@@ -64,6 +65,7 @@ loop-left-init g c = record {
   enough = c.requires.room;
   room = λ left offs acts h. h;
   unfound = c.requires.unfound;
+  even = c.requires.even;
   goes_on = goes-none (g.M.Medium.state c.args.unit.now);
   broke = broke-none c.args.outcome.now.breaks.items (omega arith);
   booked = λ s b t h told below. (b, t, h);

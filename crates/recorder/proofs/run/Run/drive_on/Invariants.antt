@@ -9,6 +9,7 @@ use Rattle.recorder.specs.Turn.{HasRoom}
 use Rattle.recorder.specs.Broken.{BreaksDown}
 use Rattle.recorder.specs.Booked.{Booked, GoesOn}
 use Rattle.recorder.specs.Recorded.{Recorded}
+use Rattle.recorder.specs.Watching.{GoesOnAt}
 use Rattle.recorder.proofs.run.Run.drive_on.Given as goal
 
 abbrev pub invariant-loop-left : goal.invariant-loop-left
@@ -18,6 +19,7 @@ invariant-loop-left g l = record {
   enough : HasRoom l.self l.outcome l.left 0 0;
   room : (left offs acts : ℕ) → HasRoom l.fn.self l.fn.outcome (l.seconds + left) offs acts → HasRoom l.self l.outcome (l.left + left) offs acts;
   unfound : l.self.unfound ≤ length l.outcome.breaks.items;
+  even : GoesOnAt l.self l.speed;
   goes_on : GoesOn (g.M.Medium.state l.fn.unit) (g.M.Medium.state l.unit);
   broke : BreaksDown l.fn.outcome.breaks.items l.outcome.breaks.items (g.M.Medium.state l.fn.unit) (g.M.Medium.state l.unit);
   booked : (s : Began) (b : Book) (t : Travel) → Booked s l.fn.self b t l.fn.outcome.marks.items (g.M.Medium.state l.fn.unit) → is_some (g.M.Medium.state l.fn.unit).image ≡ true → (g.M.Medium.state l.unit).clock < last_count →

@@ -15,6 +15,8 @@ use Rattle.recorder.specs.Lines.{Listed}
 use Rattle.recorder.specs.Booked.{Booked, due_of}
 use Rattle.recorder.proofs.Turning.{lost-booked, left-decodes}
 use Rattle.recorder.proofs.Broken.{broke-none, broke-once, broke-then}
+use Rattle.recorder.specs.declared.run.Power.TheVariants.{Lit, Lost}
+use Rattle.recorder.proofs.Watching.{noted-by-reads, mended-behind, dark-goes}
 use Rattle.recorder.proofs.run.Run.power_on.Goals as goal
 
 -- an image that is told
@@ -44,7 +46,8 @@ returns-in-Ok-clause-booked g c = λ s b t marks h told.
         kept = c.in-Ok.journal.kept;
         leg = back.0.leg;
         shown = subst (λ (k : ℕ). MayShow s.opened.first b t k back.0.leg) last shown;
-        on = on.1;
+        on = mended-behind {U = g.M.Medium.state c.args.unit.now} {M = g.M.Medium.state c.load.new.unit} {V = g.M.Medium.state c.found.new.unit} s c.args.self.now c.found.new.self c.args.breaks.now.items c.found.new.breaks.items c.in-Ok.journal.kept (found c.in-Ok.journal.kept b) (resumed back.0.leg t) marks
+            (noted-by-reads {U = g.M.Medium.state c.args.unit.now} {V = g.M.Medium.state c.load.new.unit} before run) on.1;
       }),
     )
 
@@ -61,6 +64,7 @@ returns-in-Err-Failed-clause-booked g c = λ s b t marks h told.
       refl,
       inl (record {
         run = c.cut.ensures.power;
+        noted = noted-by-reads {U = g.M.Medium.state c.args.unit.now} {V = g.M.Medium.state c.load.new.unit} before c.load.ensures.leaves;
         breaks = ap (λ (l : Listed Break). l.items) c.cut.ensures.breaks;
         booked = lost-booked s c.cut.new.self b t marks (g.M.Medium.state c.load.new.unit) c.args.self.now.next (ap (λ (r : Run). r.power) c.cut.ensures.power) (ap (λ (r : Run). r.next) c.cut.ensures.power)
             (stands-read s (c.args.self.now.next / 60) b t marks (at-next s c.args.self.now b t marks (g.M.Medium.state c.args.unit.now) h) before c.load.ensures.leaves);
@@ -77,3 +81,6 @@ pub returns-in-Err-Failed-clause-broke : goal.returns-in-Err-Failed-clause-broke
 returns-in-Err-Failed-clause-broke g c =
     let rose = rw c.in-Err-Failed.field-0-is at c.in-Err-Failed.ensures.broke in
     broke-once _ _ (ap (λ (l : Listed Break). l.items) c.cut.ensures.breaks) rose
+
+pub returns-in-Err-Failed-clause-even : goal.returns-in-Err-Failed-clause-even
+returns-in-Err-Failed-clause-even g c = λ speed. dark-goes c.cut.new.self speed (λ lit. let is = ap (λ (r : Run). r.power) c.cut.ensures.power in absurd (let no : Lost ≡ Lit = sym is ∙ lit in cc))

@@ -1,4 +1,4 @@
-use Rattle.std.proofs.Common.{rules, ◌≡◌, ◌+◌, ◌<◌, List, [], ◌++◌, refl, ap, sym, subst, ◌∙◌, arith}
+use Rattle.std.proofs.Common.{rules, inr, ◌≡◌, ◌+◌, ◌<◌, List, [], ◌++◌, refl, ap, sym, subst, ◌∙◌, arith}
 use Rattle.std.specs.Prelude.{◌&&◌}
 use Rattle.std.proofs.lemmas.List.{append-nil}
 use Rattle.activity_codec.specs.declared.values.Slot.{Slot}
@@ -17,6 +17,9 @@ use Rattle.std.proofs.lemmas.Grind.{common_steps}
 use Rattle.recorder.proofs.Broken.{broke-then}
 use Rattle.recorder.proofs.Turning.{goes-then}
 use Rattle.recorder.proofs.run.Run.step.Goals as goal
+
+pub turn-requires-clause-even : goal.turn-requires-clause-even
+turn-requires-clause-even g c = inr (c.in_ok-begin_second.ensures.even c.args.speed c.requires.even)
 
 pub turn-requires-clause-room : goal.turn-requires-clause-room
 turn-requires-clause-room g c =
@@ -38,9 +41,9 @@ returns-clause-gone g c = record {
   broke = broke-then c.in_ok-begin_second.ensures.broke c.turn.ensures.broke;
   booked = λ s b t h told below.
       let begun = (c.in_ok-begin_second.ensures.booked s b t c.args.outcome.now.marks.items h told).1 in
-      let on = begun-book s c.args.self.now c.begin_second.new.self c.args.outcome.now.breaks.items c.begin_second.new.breaks.items b t c.args.outcome.now.marks.items (g.M.Medium.state c.begin_second.new.unit) begun in (
+      let on = begun-book s c.args.self.now c.begin_second.new.self c.args.outcome.now.breaks.items c.begin_second.new.breaks.items b t c.args.outcome.now.marks.items (g.M.Medium.state c.args.unit.now) (g.M.Medium.state c.begin_second.new.unit) begun in (
         refl,
-        turn-book s c.begin_second.new.self c.turn.new.self c.begin_second.new.breaks.items c.turn.new.outcome.breaks.items c.args.n c.args.speed 0 on.0 on.1 c.args.outcome.now.marks.items c.turn.new.outcome.marks.items (g.M.Medium.state c.turn.new.unit) (c.turn.ensures.booked s on.0 on.1 on.2 below),
+        turn-book s c.begin_second.new.self c.turn.new.self c.begin_second.new.breaks.items c.turn.new.outcome.breaks.items c.args.n c.args.speed 0 on.0 on.1 c.args.outcome.now.marks.items c.turn.new.outcome.marks.items (g.M.Medium.state c.begin_second.new.unit) (g.M.Medium.state c.turn.new.unit) (c.turn.ensures.booked s on.0 on.1 on.2 below),
       );
 }
 
