@@ -1,0 +1,97 @@
+-- How a download ends.
+use Rattle.std.specs.Prelude.{◌≡◌, ◌⊎◌, ℕ, ◌+◌, ◌<◌, Bool, true, false, List, [], ◌∷◌, ◌++◌, length, Option, Some, None, Result, Ok, Err}
+use Rattle.std.specs.Io.KnownBytes.{Appends, Keeps}
+use Rattle.tach_media.specs.Streams.{AppendsFront}
+use Rattle.link_model.specs.declared.request.Request.{Request}
+use Rattle.link_model.specs.Frames.{Right}
+use Rattle.link_model.specs.Answers.{LinkState}
+use Rattle.message_model.specs.Messages.{Message, message_bytes}
+use Rattle.unit_messages.specs.declared.joining.TheConstants.{LONGEST}
+use Rattle.answer_table.specs.Asking.{asks_unit}
+use Rattle.transfer_session.specs.declared.asking.AnswerFault.{AnswerFault}
+use Rattle.transfer_session.specs.declared.asking.AnswerFault.TheVariants as session
+use Rattle.downloader.specs.declared.stage.Stage.TheVariants.{Finished}
+use Rattle.downloader.specs.declared.kind.Kind.TheVariants.{Piece}
+use Rattle.downloader.specs.declared.fault.LoadFault.{LoadFault}
+use Rattle.downloader.specs.declared.fault.LoadFault.TheVariants as load
+use Rattle.downloader.specs.Stages.{sent_at}
+use Rattle.downloader.specs.Coming.{kind_of}
+use Rattle.downloader.specs.Loading.{Loading, Finishes, IsRefused}
+use Rattle.downloader.specs.Talking.{Talk, fresh_talk}
+use Rattle.unit_download.specs.declared.wire.Passed.{Passed}
+use Rattle.unit_download.specs.declared.fault.DownloadFault.{DownloadFault}
+use Rattle.unit_download.specs.declared.fault.DownloadFault.TheVariants.{Failed, BadUnit, Changed, WriteFault, Memory}
+use Rattle.unit_download.specs.Wires.{of_loader, of_unit, Replies, Runs}
+
+-- a session's fault, as the download tells it
+abbrev pub fault_of : AnswerFault → DownloadFault
+fault_of session.Failed = Failed
+fault_of (session.BadUnit place) = BadUnit place
+
+-- a fact of the place of the field that fails
+abbrev pub IfBad : DownloadFault → (ℕ → Type 0) → Type 0
+IfBad (BadUnit place) P = P place
+IfBad fault P = Unit {0}
+
+-- the answer is that the unit failed
+abbrev pub has_failed : {T : Type 0} → Result T DownloadFault → Bool
+has_failed (Err Failed) = true
+has_failed _ = false
+
+-- No answer of the unit came on the wire: the unit failed, or is bad, at a frame whose answer hangs on it; its table gives no
+-- answer; or memory ran out as a frame was to be added.
+abbrev pub IsUnanswered : (image : Option (List ℕ)) → DownloadFault → LinkState → (sent : List ℕ) → (behind : List Passed) → Type 0
+IsUnanswered image Failed state sent behind = (behind ≡ of_loader sent ∷ []) × (asks_unit state (Right sent) ≡ true)
+IsUnanswered image (BadUnit place) state sent behind = (behind ≡ of_loader sent ∷ []) × (asks_unit state (Right sent) ≡ true)
+IsUnanswered image Changed state sent behind = (behind ≡ of_loader sent ∷ []) × ((after : LinkState) × Replies image state sent (record { answer = None; state = after }))
+IsUnanswered image WriteFault state sent behind = ⊥
+IsUnanswered image Memory state sent behind = (behind ≡ []) ⊎ (behind ≡ of_loader sent ∷ [])
+
+-- the frame itself is why the loader refuses it
+abbrev pub IsOfFrame : LoadFault → Type 0
+IsOfFrame (load.Negative service code) = Unit {0}
+IsOfFrame load.Unexpected = Unit {0}
+IsOfFrame (load.Broken wanted counter) = Unit {0}
+IsOfFrame load.WriteFault = ⊥
+IsOfFrame load.Memory = ⊥
+
+-- The loader did not take the unit's answer: it is a negative one that is not passed over, a broken piece, or unexpected; the sink
+-- failed at the message that it finished, of which a front went out; or it is a piece of more than the longest message of a unit.
+abbrev pub IsUntaken : DownloadFault → Loading → (frame : List ℕ) → (held sunk : Option (List ℕ)) → Type 0
+IsUntaken Failed loader frame held sunk = ⊥
+IsUntaken (BadUnit place) loader frame held sunk = ⊥
+IsUntaken Changed loader frame held sunk = ((fault : LoadFault) × IsOfFrame fault × IsRefused loader frame fault) × Keeps held sunk
+IsUntaken WriteFault loader frame held sunk = (m : Message) × Finishes loader frame m × AppendsFront held sunk (message_bytes m)
+IsUntaken Memory loader frame held sunk =
+    ((request : Request) × (kind_of loader.stage frame ≡ Piece request)) × (LONGEST + 2 < length loader.bytes + length frame) × Keeps held sunk
+
+-- an answer of the unit that the loader did not take: both frames are on the wire
+pub record Answers (image : Option (List ℕ)) (fault : DownloadFault) (talk : Talk) (sent : List ℕ) (behind : List Passed) (held sunk : Option (List ℕ)) : Type 0 where
+  pub frame : List ℕ
+  pub after : LinkState
+  pub answers : Replies image talk.unit sent (record { answer = Some frame; state = after })
+  pub behind_is : behind ≡ of_loader sent ∷ of_unit frame ∷ []
+  pub untaken : IsUntaken fault talk.loader frame held sunk
+
+-- A download ended at an exchange: at the frame that the loader sent, or at the answer that it did not take.
+pub record StopsAt (image : Option (List ℕ)) (fault : DownloadFault) (talk : Talk) (behind : List Passed) (held sunk : Option (List ℕ)) : Type 0 where
+  pub sent : List ℕ
+  pub sends : sent_at talk.loader.stage ≡ Some sent
+  pub stops : (IsUnanswered image fault talk.unit sent behind × Keeps held sunk) ⊎ Answers image fault talk sent behind held sunk
+
+-- where exchanges have led: the download is finished, or it ended at the next exchange
+abbrev pub Ends : {T : Type 0} → Result T DownloadFault → (image : Option (List ℕ)) → Talk → (behind : List Passed) → (held sunk : Option (List ℕ)) → Type 0
+Ends (Ok done) image talk behind held sunk = (talk.loader.stage ≡ Finished) × (behind ≡ []) × Keeps held sunk
+Ends (Err fault) image talk behind held sunk = StopsAt image fault talk behind held sunk
+
+-- HOW A DOWNLOAD ENDS, whatever the unit tells: the wire is a run of both tables, and behind it what of the last exchange passed. What
+-- the loader put out has gone to the sink, behind what that held.
+pub record IsDownload {T : Type 0} (result : Result T DownloadFault) (image : Option (List ℕ)) (wire : List Passed) (held sunk : Option (List ℕ)) : Type 0 where
+  pub exchanges : List Passed
+  pub behind : List Passed
+  pub wire_is : wire ≡ exchanges ++ behind
+  pub talk : Talk
+  pub runs : Runs image exchanges fresh_talk talk
+  pub mid : Option (List ℕ)
+  pub put : Appends held mid talk.out
+  pub ends : Ends result image talk behind mid sunk

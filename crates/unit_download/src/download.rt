@@ -1,0 +1,62 @@
+ghost use Rattle.unit_model.specs.declared.layout.TheConstants.{IMAGE_SIZE};
+ghost use Rattle.std.specs.Prelude.{◌≡◌, ◌≤◌, [], OnOk, IfErr, OnErr, IfSome, IsErrOf, Some, None};
+ghost use Rattle.std.specs.Io.KnownBytes.{Appends, Keeps};
+ghost use Rattle.tach_media.specs.Medium.{Rose};
+ghost use Rattle.tach_media.specs.Streams.{AppendsFront};
+ghost use Rattle.message_model.specs.Sending.{unit_file};
+ghost use Rattle.unit_model.specs.Decoding.{Decodes, first_bad_place};
+ghost use Rattle.unit_journal.specs.Reading.{ReadsIfAny};
+ghost use Rattle.unit_download.specs.declared.fault.DownloadFault.{DownloadFault};
+ghost use Rattle.unit_download.specs.Ending.{IfBad, has_failed, IsDownload};
+
+use crate::exchange::exchange;
+use crate::fault::DownloadFault;
+use crate::wire::Wire;
+use downloader::Downloader;
+use std::alloc::Global;
+use tach_media::{Medium, Sink};
+use transfer_session::Session;
+
+/// Downloads a unit: the loader's side and the unit's run against each other until the download is finished. The finished messages
+/// go to the sink, which then has the unit's file behind what it held, and the frames that pass to the wire. The unit is read, and
+/// never written. The room for a message is taken before the first frame; behind that memory is taken for the wire alone.
+///
+/// # Errors
+///
+/// `Failed` where the unit failed, and `BadUnit` with the place of the first field of its image, in order of places, that fails:
+/// nothing has gone to the sink then. `Changed` where the unit gave no answer, or one that the loader refuses, as no unit does that
+/// keeps what it tells. `WriteFault` where the sink failed, and `Memory`. A front of the unit's file has gone to the sink.
+pub fn download<K: Sink, U: Medium>(
+    alloc: Global,
+    sink: &mut K,
+    unit: &mut U,
+    wire: &mut Wire,
+) -> Result<(), DownloadFault>
+    requires unit { (U.state unit.old).size ≡ IMAGE_SIZE }
+    requires fresh { wire.old ≡ [] }
+    // The wire is a run of the tables of both sides, up to where the download ended; and what they put out has gone to the sink.
+    ensures downloaded { IsDownload result (U.state unit.old).image wire.new (K.held sink.old) (K.held sink.new) }
+    // At the end the sink has the unit's file.
+    ensures file { OnOk result (IfSome (U.state unit.old).image (λ x. Decodes x × Appends (K.held sink.old) (K.held sink.new) (unit_file x))) }
+    // Else a front of it.
+    ensures front { OnErr result (IfSome (U.state unit.old).image (λ x. AppendsFront (K.held sink.old) (K.held sink.new) (unit_file x))) }
+    // Only a unit that does not tell its image gives no answer, or one that the loader refuses.
+    ensures changed { IsErrOf result DownloadFault.Changed → (U.state unit.old).image ≡ None }
+    ensures bad { IfErr result (λ fault. IfBad fault (λ p. IfSome (U.state unit.old).image (λ x. first_bad_place x ≡ Some p))) }
+    ensures nothing { IfErr result (λ fault. IfBad fault (λ p. Keeps (K.held sink.old) (K.held sink.new))) }
+    ensures cause { IsErrOf result DownloadFault.WriteFault → Rose (K.faults sink.old) (K.faults sink.new) }
+    ensures counts { K.faults sink.old ≤ K.faults sink.new }
+    // The unit is only read, if it is called at all.
+    ensures unit { ReadsIfAny (U.state unit.old) (U.state unit.new) (has_failed result) }
+{
+    let mut loader = Downloader::new(alloc);
+    let mut session = Session::new();
+    loader.reserve()?;
+    for _turn in 0..u64::MAX {
+        let Some(sent) = loader.next() else {
+            return Ok(());
+        };
+        exchange(&mut loader, &mut session, sent, sink, unit, wire)?;
+    }
+    unreachable!()
+}

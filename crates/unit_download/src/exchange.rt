@@ -1,0 +1,116 @@
+//! One exchange of a download: the loader's frame, and the unit's answer, which the loader takes.
+ghost use Rattle.unit_model.specs.declared.layout.TheConstants.{IMAGE_SIZE};
+ghost use Rattle.std.specs.Prelude.{◌≡◌, ◌≤◌, ◌||◌, false, [], ◌∷◌, ◌++◌, ℕ, List, Some, IfOk, OnOk, IfErr, OnErr, IfSome, IsErrOf, length};
+ghost use Rattle.std.specs.Io.KnownBytes.{Appends, Keeps};
+ghost use Rattle.tach_media.specs.Medium.{Rose};
+ghost use Rattle.link_model.specs.Frames.{Right};
+ghost use Rattle.unit_model.specs.Decoding.{first_bad_place};
+ghost use Rattle.unit_journal.specs.Reading.{ReadsIfAny};
+ghost use Rattle.unit_messages.specs.declared.joining.TheConstants.{LONGEST};
+ghost use Rattle.answer_table.specs.Asking.{asks_unit};
+ghost use Rattle.transfer_session.specs.Told.{Knows, is_judged};
+ghost use Rattle.downloader.specs.Stages.{sent_at};
+ghost use Rattle.downloader.specs.Loading.{Takes};
+ghost use Rattle.unit_download.specs.declared.wire.Passed.{Passed};
+ghost use Rattle.unit_download.specs.declared.fault.DownloadFault.{DownloadFault};
+ghost use Rattle.unit_download.specs.Wires.{of_loader, of_unit, talk_of, Replies, Exchanged};
+ghost use Rattle.unit_download.specs.Ending.{IfBad, has_failed, IsUnanswered, IsUntaken, StopsAt};
+
+use crate::fault::DownloadFault;
+use crate::wire::Wire;
+use downloader::{Downloader, LoadFault};
+use link_frames::{End, Frame, Seen};
+use tach_media::{Medium, Sink};
+use transfer_session::Session;
+
+/// The loader sends a frame, the unit answers it, and the loader takes the answer; both frames are added to the wire.
+///
+/// # Errors
+///
+/// `Failed` and `BadUnit` where the unit failed or is bad, and `Changed` where it gave no answer, or one that the loader refuses;
+/// `WriteFault` where the sink failed, and `Memory`.
+pub fn exchange<K: Sink, U: Medium>(
+    loader: &mut Downloader,
+    session: &mut Session,
+    sent: Frame,
+    sink: &mut K,
+    unit: &mut U,
+    wire: &mut Wire,
+) -> Result<(), DownloadFault>
+    requires unit { (U.state unit.old).size ≡ IMAGE_SIZE }
+    requires knows { IfSome (U.state unit.old).image (Knows session.old) }
+    requires sends { sent_at loader.old.loading.stage ≡ Some sent }
+    requires room { LONGEST ≤ loader.old.room }
+    ensures exchanged { OnOk result ((frame : List ℕ) × (put : List ℕ)
+        × Exchanged (U.state unit.old).image (talk_of session.old.state loader.old.loading []) (of_loader sent) (of_unit frame) (talk_of session.new.state loader.new.loading put)
+        × Appends (K.held sink.old) (K.held sink.new) put × (wire.new ≡ wire.old ++ of_loader sent ∷ of_unit frame ∷ [])) }
+    ensures knows { OnOk result (IfSome (U.state unit.old).image (Knows session.new)) }
+    ensures judged { OnOk result (is_judged session.new ≡ (is_judged session.old || asks_unit session.old.state (Right sent))) }
+    ensures room { loader.old.room ≤ loader.new.room }
+    ensures stops { IfErr result (λ fault. (behind : List Passed) × (wire.new ≡ wire.old ++ behind)
+        × StopsAt (U.state unit.old).image fault (talk_of session.old.state loader.old.loading []) behind (K.held sink.old) (K.held sink.new)) }
+    ensures bad { IfErr result (λ fault. IfBad fault (λ p. (is_judged session.old ≡ false) × IfSome (U.state unit.old).image (λ x. first_bad_place x ≡ Some p))) }
+    ensures cause { IsErrOf result DownloadFault.WriteFault → Rose (K.faults sink.old) (K.faults sink.new) }
+    ensures counts { K.faults sink.old ≤ K.faults sink.new }
+    ensures unit { ReadsIfAny (U.state unit.old) (U.state unit.new) (has_failed result) }
+{
+    let frame = answer_to(session, sent, unit, wire)?;
+    take(loader, &frame, sink)
+}
+
+// The unit's answer to a frame of the loader; both are added to the wire.
+fn answer_to<U: Medium>(
+    session: &mut Session,
+    sent: Frame,
+    unit: &mut U,
+    wire: &mut Wire,
+) -> Result<Frame, DownloadFault>
+    requires unit { (U.state unit.old).size ≡ IMAGE_SIZE }
+    requires knows { IfSome (U.state unit.old).image (Knows session.old) }
+    ensures answered { IfOk result (λ frame. Replies (U.state unit.old).image session.old.state sent (record { answer = Some frame; state = session.new.state })) }
+    ensures passed { IfOk result (λ frame. wire.new ≡ wire.old ++ of_loader sent ∷ of_unit frame ∷ []) }
+    ensures knows { OnOk result (IfSome (U.state unit.old).image (Knows session.new)) }
+    ensures judged { OnOk result (is_judged session.new ≡ (is_judged session.old || asks_unit session.old.state (Right sent))) }
+    ensures stops { IfErr result (λ fault. (behind : List Passed) × (wire.new ≡ wire.old ++ behind) × IsUnanswered (U.state unit.old).image fault session.old.state sent behind) }
+    ensures bad { IfErr result (λ fault. IfBad fault (λ p. (is_judged session.old ≡ false) × IfSome (U.state unit.old).image (λ x. first_bad_place x ≡ Some p))) }
+    ensures unit { ReadsIfAny (U.state unit.old) (U.state unit.new) (has_failed result) }
+{
+    let seen = Seen::Whole(copy_of(&sent));
+    wire.push(End::Loader, sent)?;
+    let answer = session.answer(unit, &seen)?;
+    let Some(frame) = answer else {
+        return Err(DownloadFault::Changed);
+    };
+    wire.push(End::Unit, copy_of(&frame))?;
+    Ok(frame)
+}
+
+// The loader takes the unit's answer.
+fn take<K: Sink>(
+    loader: &mut Downloader,
+    frame: &Frame,
+    sink: &mut K,
+) -> Result<(), DownloadFault>
+    requires room { LONGEST ≤ loader.old.room }
+    ensures taken { OnOk result ((put : List ℕ) × Takes loader.old.loading frame.now loader.new.loading put × Appends (K.held sink.old) (K.held sink.new) put) }
+    ensures room { loader.old.room ≤ loader.new.room }
+    ensures stops { IfErr result (λ fault. IsUntaken fault loader.old.loading frame.now (K.held sink.old) (K.held sink.new)) }
+    ensures cause { IsErrOf result DownloadFault.WriteFault → Rose (K.faults sink.old) (K.faults sink.new) }
+    ensures counts { K.faults sink.old ≤ K.faults sink.new }
+{
+    match loader.take(frame, sink) {
+        Ok(()) => Ok(()),
+        Err(LoadFault::WriteFault) => Err(DownloadFault::WriteFault),
+        Err(LoadFault::Memory) => Err(DownloadFault::Memory),
+        Err(LoadFault::Negative(_, _)) => Err(DownloadFault::Changed),
+        Err(LoadFault::Unexpected) => Err(DownloadFault::Changed),
+        Err(LoadFault::Broken(_, _)) => Err(DownloadFault::Changed),
+    }
+}
+
+// A frame with the same data.
+fn copy_of(frame: &Frame) -> Frame
+    ensures { result ≡ frame.now }
+{
+    Frame::new(frame.bytes())
+}

@@ -1,0 +1,15 @@
+//! A unit downloaded (Annex IB, Appendix 7): the loader's side and the unit's run against each other, and the finished messages go
+//! to a sink, which then has the unit's file. The unit is read, and never written.
+#![tactic(auto)]
+
+mod download;
+mod exchange;
+mod fault;
+mod wire;
+
+pub use download::download;
+pub use fault::DownloadFault;
+pub use wire::{Passed, Wire};
+
+#[cfg(test)]
+mod tests;

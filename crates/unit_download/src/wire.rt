@@ -1,0 +1,69 @@
+//! What passes on the link in a download.
+ghost use Rattle.std.specs.Prelude.{◌≡◌, [], ◌∷◌, ◌++◌, OnOk, OnErr, length};
+
+use link_frames::{End, Frame};
+use std::alloc::Global;
+use std::marker::Model;
+use tach_media::Memory;
+
+/// A frame that passed, with its sender.
+#[derive(Drop)]
+pub struct Passed {
+    pub from: End,
+    pub frame: Frame,
+}
+
+/// The frames that passed, in their order.
+#[derive(Drop)]
+pub struct Wire {
+    list: Vec<Passed>,
+}
+
+impl Model for Wire {
+    ghost use Rattle.std.specs.Prelude.{List};
+    ghost use Rattle.unit_download.specs.declared.wire.Passed.{Passed};
+
+    ghost Value = { List Passed };
+
+    ghost view = { λ w. w.list.items };
+}
+
+impl Wire {
+    /// Nothing has passed. It takes no memory.
+    pub fn new(alloc: Global) -> Wire
+        ensures { result ≡ [] }
+    {
+        Wire {
+            list: Vec::new(alloc),
+        }
+    }
+
+    /// The frames that passed.
+    pub fn frames(&self) -> &[Passed]
+        ensures { result.now ≡ self.now }
+    {
+        self.list.as_slice()
+    }
+
+    /// How many frames passed.
+    pub fn len(&self) -> usize
+        ensures { result ≡ length self.now }
+    {
+        self.list.len()
+    }
+
+    /// Adds a frame of this sender.
+    ///
+    /// # Errors
+    ///
+    /// `Memory`; the wire is as it was.
+    pub fn push(&mut self, from: End, frame: Frame) -> Result<(), Memory>
+        ensures ok { OnOk result (self.new ≡ self.old ++ record { from = from; frame = frame } ∷ []) }
+        ensures err { OnErr result (self.new ≡ self.old) }
+    {
+        if self.list.push(Passed { from, frame }).is_err() {
+            return Err(Memory);
+        }
+        Ok(())
+    }
+}
