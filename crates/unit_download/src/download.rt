@@ -9,7 +9,7 @@ ghost use Rattle.unit_journal.specs.Reading.{ReadsIfAny};
 ghost use Rattle.unit_download.specs.declared.fault.DownloadFault.{DownloadFault};
 ghost use Rattle.unit_download.specs.Ending.{IfBad, has_failed, IsDownload};
 
-use crate::exchange::exchange;
+use crate::exchange::{answer_to, take};
 use crate::fault::DownloadFault;
 use crate::wire::Wire;
 use downloader::Downloader;
@@ -52,11 +52,9 @@ pub fn download<K: Sink, U: Medium>(
     let mut loader = Downloader::new(alloc);
     let mut session = Session::new();
     loader.reserve()?;
-    for _turn in 0..u64::MAX {
-        let Some(sent) = loader.next() else {
-            return Ok(());
-        };
-        exchange(&mut loader, &mut session, sent, sink, unit, wire)?;
+    while let Some(sent) = loader.next() {
+        let frame = answer_to(&mut session, sent, unit, wire)?;
+        take(&mut loader, &frame, sink)?;
     }
-    unreachable!()
+    Ok(())
 }

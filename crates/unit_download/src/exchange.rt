@@ -1,20 +1,19 @@
 //! One exchange of a download: the loader's frame, and the unit's answer, which the loader takes.
 ghost use Rattle.unit_model.specs.declared.layout.TheConstants.{IMAGE_SIZE};
-ghost use Rattle.std.specs.Prelude.{◌≡◌, ◌≤◌, ◌||◌, false, [], ◌∷◌, ◌++◌, ℕ, List, Some, IfOk, OnOk, IfErr, OnErr, IfSome, IsErrOf, length};
-ghost use Rattle.std.specs.Io.KnownBytes.{Appends, Keeps};
+ghost use Rattle.std.specs.Prelude.{◌≡◌, ◌≤◌, ◌<◌, ◌^◌, ◌||◌, true, false, [], ◌∷◌, ◌++◌, ℕ, List, Some, IfOk, OnOk, IfErr, IfSome, IsErrOf, length};
+ghost use Rattle.std.specs.Io.KnownBytes.{Appends};
 ghost use Rattle.tach_media.specs.Medium.{Rose};
 ghost use Rattle.link_model.specs.Frames.{Right};
-ghost use Rattle.unit_model.specs.Decoding.{first_bad_place};
+ghost use Rattle.unit_model.specs.Decoding.{Decodes, first_bad_place};
 ghost use Rattle.unit_journal.specs.Reading.{ReadsIfAny};
 ghost use Rattle.unit_messages.specs.declared.joining.TheConstants.{LONGEST};
 ghost use Rattle.answer_table.specs.Asking.{asks_unit};
 ghost use Rattle.transfer_session.specs.Told.{Knows, is_judged};
-ghost use Rattle.downloader.specs.Stages.{sent_at};
 ghost use Rattle.downloader.specs.Loading.{Takes};
 ghost use Rattle.unit_download.specs.declared.wire.Passed.{Passed};
 ghost use Rattle.unit_download.specs.declared.fault.DownloadFault.{DownloadFault};
-ghost use Rattle.unit_download.specs.Wires.{of_loader, of_unit, talk_of, Replies, Exchanged};
-ghost use Rattle.unit_download.specs.Ending.{IfBad, has_failed, IsUnanswered, IsUntaken, StopsAt};
+ghost use Rattle.unit_download.specs.Wires.{of_loader, of_unit, Replies};
+ghost use Rattle.unit_download.specs.Ending.{IfBad, has_failed, IsUnanswered, IsUntaken};
 
 use crate::fault::DownloadFault;
 use crate::wire::Wire;
@@ -23,43 +22,12 @@ use link_frames::{End, Frame, Seen};
 use tach_media::{Medium, Sink};
 use transfer_session::Session;
 
-/// The loader sends a frame, the unit answers it, and the loader takes the answer; both frames are added to the wire.
+/// The unit's answer to a frame of the loader; both are added to the wire.
 ///
 /// # Errors
 ///
-/// `Failed` and `BadUnit` where the unit failed or is bad, and `Changed` where it gave no answer, or one that the loader refuses;
-/// `WriteFault` where the sink failed, and `Memory`.
-pub fn exchange<K: Sink, U: Medium>(
-    loader: &mut Downloader,
-    session: &mut Session,
-    sent: Frame,
-    sink: &mut K,
-    unit: &mut U,
-    wire: &mut Wire,
-) -> Result<(), DownloadFault>
-    requires unit { (U.state unit.old).size ≡ IMAGE_SIZE }
-    requires knows { IfSome (U.state unit.old).image (Knows session.old) }
-    requires sends { sent_at loader.old.loading.stage ≡ Some sent }
-    requires room { LONGEST ≤ loader.old.room }
-    ensures exchanged { OnOk result ((frame : List ℕ) × (put : List ℕ)
-        × Exchanged (U.state unit.old).image (talk_of session.old.state loader.old.loading []) (of_loader sent) (of_unit frame) (talk_of session.new.state loader.new.loading put)
-        × Appends (K.held sink.old) (K.held sink.new) put × (wire.new ≡ wire.old ++ of_loader sent ∷ of_unit frame ∷ [])) }
-    ensures knows { OnOk result (IfSome (U.state unit.old).image (Knows session.new)) }
-    ensures judged { OnOk result (is_judged session.new ≡ (is_judged session.old || asks_unit session.old.state (Right sent))) }
-    ensures room { loader.old.room ≤ loader.new.room }
-    ensures stops { IfErr result (λ fault. (behind : List Passed) × (wire.new ≡ wire.old ++ behind)
-        × StopsAt (U.state unit.old).image fault (talk_of session.old.state loader.old.loading []) behind (K.held sink.old) (K.held sink.new)) }
-    ensures bad { IfErr result (λ fault. IfBad fault (λ p. (is_judged session.old ≡ false) × IfSome (U.state unit.old).image (λ x. first_bad_place x ≡ Some p))) }
-    ensures cause { IsErrOf result DownloadFault.WriteFault → Rose (K.faults sink.old) (K.faults sink.new) }
-    ensures counts { K.faults sink.old ≤ K.faults sink.new }
-    ensures unit { ReadsIfAny (U.state unit.old) (U.state unit.new) (has_failed result) }
-{
-    let frame = answer_to(session, sent, unit, wire)?;
-    take(loader, &frame, sink)
-}
-
-// The unit's answer to a frame of the loader; both are added to the wire.
-fn answer_to<U: Medium>(
+/// `Failed` and `BadUnit` where the unit failed or is bad, `Changed` where it gives no answer, and `Memory`.
+pub fn answer_to<U: Medium>(
     session: &mut Session,
     sent: Frame,
     unit: &mut U,
@@ -71,7 +39,10 @@ fn answer_to<U: Medium>(
     ensures passed { IfOk result (λ frame. wire.new ≡ wire.old ++ of_loader sent ∷ of_unit frame ∷ []) }
     ensures knows { OnOk result (IfSome (U.state unit.old).image (Knows session.new)) }
     ensures judged { OnOk result (is_judged session.new ≡ (is_judged session.old || asks_unit session.old.state (Right sent))) }
+    ensures few { OnOk result (length wire.old < 2 ^ 64) }
     ensures stops { IfErr result (λ fault. (behind : List Passed) × (wire.new ≡ wire.old ++ behind) × IsUnanswered (U.state unit.old).image fault session.old.state sent behind) }
+    // A unit that was asked, and gives no answer, decodes.
+    ensures found { IsErrOf result DownloadFault.Changed → asks_unit session.old.state (Right sent) ≡ true → IfSome (U.state unit.old).image Decodes }
     ensures bad { IfErr result (λ fault. IfBad fault (λ p. (is_judged session.old ≡ false) × IfSome (U.state unit.old).image (λ x. first_bad_place x ≡ Some p))) }
     ensures unit { ReadsIfAny (U.state unit.old) (U.state unit.new) (has_failed result) }
 {
@@ -85,8 +56,13 @@ fn answer_to<U: Medium>(
     Ok(frame)
 }
 
-// The loader takes the unit's answer.
-fn take<K: Sink>(
+/// The loader takes the unit's answer.
+///
+/// # Errors
+///
+/// `Changed` where it refuses the frame, `WriteFault` where the sink failed, and `Memory` for a piece of a message that is longer than
+/// the longest of a unit.
+pub fn take<K: Sink>(
     loader: &mut Downloader,
     frame: &Frame,
     sink: &mut K,

@@ -1,5 +1,5 @@
 //! What passes on the link in a download.
-ghost use Rattle.std.specs.Prelude.{◌≡◌, [], ◌∷◌, ◌++◌, OnOk, OnErr, length};
+ghost use Rattle.std.specs.Prelude.{◌≡◌, ◌<◌, ◌^◌, [], ◌∷◌, ◌++◌, OnOk, OnErr, length};
 
 use link_frames::{End, Frame};
 use std::alloc::Global;
@@ -60,6 +60,8 @@ impl Wire {
     pub fn push(&mut self, from: End, frame: Frame) -> Result<(), Memory>
         ensures ok { OnOk result (self.new ≡ self.old ++ record { from = from; frame = frame } ∷ []) }
         ensures err { OnErr result (self.new ≡ self.old) }
+        // A list has fewer members than a number of 64 bits counts.
+        ensures few { OnOk result (length self.old < 2 ^ 64) }
     {
         if self.list.push(Passed { from, frame }).is_err() {
             return Err(Memory);
