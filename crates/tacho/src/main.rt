@@ -90,6 +90,8 @@ fn main(rt: HostRuntime) -> ExitCode {
 }
 
 #[cfg(test)]
+mod download_tests;
+#[cfg(test)]
 mod format_tests;
 #[cfg(test)]
 mod record_tests;

@@ -98,9 +98,19 @@ fn perform<S: Source, K: Sink, U: Medium, C: Chip>(
             nothing,
             format_card(alloc, &identity, Device::CardB, card_b, sink),
         ),
-        Form::FormatUnit { identity } => Ended::after(alloc, nothing, make_unit(&identity, unit, sink)),
+        Form::FormatUnit { identity } => Ended::after(
+            alloc,
+            nothing,
+            make_unit(&identity, unit, sink),
+        ),
         Form::Serve => Ended::of(alloc, nothing, service_end(serve(source, sink, unit))),
-        Form::ServeHex => { Ended::of(alloc, nothing, lines_end(serve_lines(alloc, source, sink, unit))) }
+        Form::ServeHex => {
+            Ended::of(
+                alloc,
+                nothing,
+                lines_end(serve_lines(alloc, source, sink, unit)),
+            )
+        }
         Form::Download => {
             let mut wire = Wire::new(alloc);
             let done = download(alloc, sink, unit, &mut wire);

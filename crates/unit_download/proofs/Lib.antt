@@ -2,7 +2,6 @@ pub mod Linked
 pub mod Refused
 pub mod Opening
 pub mod Fronts
-pub mod Loadable
 pub mod Told
 pub mod Faults
 pub mod Talking

@@ -9,7 +9,9 @@ use Rattle.link_model.specs.Answers as states
 use Rattle.message_model.specs.Sending.{content_sent}
 use Rattle.answer_table.specs.Asking.{asks_unit}
 use Rattle.downloader.specs.declared.stage.Stage.TheVariants.{Start, Diagnostic, Upload, Asked, Finished}
+use Rattle.downloader.specs.declared.kind.Kind.TheVariants.{Agreed}
 use Rattle.downloader.specs.Stages.{sent_at}
+use Rattle.downloader.specs.Coming.{kind_of}
 use Rattle.downloader.specs.Loading.{Loading, at_stage, goes_on, Takes}
 use Rattle.downloader.specs.Talking.{Talk, fresh_talk}
 use Rattle.downloader.proofs.OneWay.{taken_in_one_way}
@@ -52,6 +54,7 @@ pub record Opened (talk : Talk) (reply : Reply) : Type 0 where
   pub next : LinkState
   pub loader : Loading
   pub reply_is : reply ≡ answers frame next
+  pub agreed : kind_of talk.loader.stage frame ≡ Agreed
   pub goes : goes_on talk.loader frame ≡ Some loader
   pub begins : Begins (talk_of next loader [])
   pub none : talk.out ≡ []
@@ -73,6 +76,7 @@ module _ (image : Option (List ℕ)) (sent : List ℕ) (reply : Reply) where
         next = states.Started;
         loader = at_stage 0 Diagnostic;
         reply_is = replied image states.Idle (0x81 ∷ []) reply (answers (0xC1 ∷ 0xEA ∷ 0x8F ∷ []) states.Started) (subst (λ (s : List ℕ). Replies image states.Idle s reply) (sym same) replies) (λ messages. refl);
+        agreed = refl;
         goes = refl;
         begins = inl (inr (inl refl));
         none = refl;
@@ -86,6 +90,7 @@ module _ (image : Option (List ℕ)) (sent : List ℕ) (reply : Reply) where
         next = states.Diagnostic;
         loader = at_stage 0 Upload;
         reply_is = replied image states.Started (0x10 ∷ 0x81 ∷ []) reply (answers (0x50 ∷ 0x81 ∷ []) states.Diagnostic) (subst (λ (s : List ℕ). Replies image states.Started s reply) (sym same) replies) (λ messages. refl);
+        agreed = refl;
         goes = refl;
         begins = inl (inr (inr refl));
         none = refl;
@@ -99,6 +104,7 @@ module _ (image : Option (List ℕ)) (sent : List ℕ) (reply : Reply) where
         next = states.Upload;
         loader = at_stage 0 (Asked Overview);
         reply_is = replied image states.Diagnostic upload_request reply (answers (0x75 ∷ 0x00 ∷ 0xFF ∷ []) states.Upload) (subst (λ (s : List ℕ). Replies image states.Diagnostic s reply) (sym same) replies) (λ messages. refl);
+        agreed = refl;
         goes = refl;
         begins = inr refl;
         none = refl;

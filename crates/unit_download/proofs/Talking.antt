@@ -5,6 +5,7 @@ use Rattle.std.specs.Io.KnownBytes.{Appends, Keeps}
 use Rattle.std.proofs.KnownBytes.{Appends-nil, Appends-trans, Keeps-refl}
 use Rattle.tach_media.specs.Medium.{State}
 use Rattle.tach_media.specs.Streams.{AppendsFront}
+use Rattle.byte_fields.specs.Fields.{IsBytes}
 use Rattle.unit_memory.proofs.Told.{carried, one_told, told_all}
 use Rattle.unit_model.specs.Decoding.{Decodes}
 use Rattle.unit_journal.specs.Reading.{ReadsIfAny}
@@ -28,7 +29,7 @@ use Rattle.unit_download.specs.Ending.{IsUnanswered, IsUntaken, StopsAt, IsDownl
 use Rattle.unit_download.proofs.Linked.{runs_on}
 use Rattle.unit_download.proofs.Opening.{Opens, Begins, nothing_out, begins_next, asks_there, judged_next}
 use Rattle.unit_download.proofs.Fronts.{Keeps-nothing}
-use Rattle.unit_download.proofs.Told.{untold, whole_told, front_told, front_untaken}
+use Rattle.unit_download.proofs.Told.{Sized, untold, whole_told, front_told, front_untaken, long_told}
 use Rattle.unit_download.proofs.Faults.{err_is, passed}
 
 -- Exchanges have passed, and what they put out has gone to the sink; nothing was asked of the unit, or it was judged.
@@ -40,13 +41,14 @@ pub record IsTalking (loader : Load) (session : SessionView) (wire : List Passed
   pub judged : (is_judged session ≡ true) ⊎ Begins (talk_of session.state loader.loading out)
   pub reads : ReadsIfAny old new false
   pub room : LONGEST ≤ loader.room
+  pub sized : Sized old.image
 
 fresh_knows : (state : LinkState) (x : List ℕ) → Knows (fresh state) x
 fresh_knows state x = record { decodes = λ is. absurd (cc); notes = tt; outlines = tt }
 
-pub talking_none : (loader : Load) (session : SessionView) (wire : List Passed) (s : State) (held : Option (List ℕ)) → loader.loading ≡ begun → LONGEST ≤ loader.room → session ≡ fresh Idle → wire ≡ []
+pub talking_none : (loader : Load) (session : SessionView) (wire : List Passed) (s : State) (held : Option (List ℕ)) → loader.loading ≡ begun → LONGEST ≤ loader.room → session ≡ fresh Idle → wire ≡ [] → Sized s.image
     → IsTalking loader session wire s s held held
-talking_none loader session wire s held begins room is none =
+talking_none loader session wire s held begins room is none sized =
     let begin : talk_of session.state loader.loading [] ≡ fresh_talk =
     ap (λ (v : SessionView). talk_of v.state loader.loading []) is ∙ ap (λ (l : Loading). talk_of Idle l []) begins in
     record {
@@ -57,6 +59,7 @@ talking_none loader session wire s held begins room is none =
       judged = inr (inl (inl begin));
       reads = no_call s;
       room = room;
+      sized = sized;
     }
 
 -- the image before the exchanges is the one now
@@ -121,6 +124,7 @@ module _ {loader : Load} {session : SessionView} {wire : List Passed} {old mid :
         judged = judged_on next after frame (opens_next next new frame a) exchange;
         reads = any_then s.reads a.reads;
         room = omega (arith, full, room);
+        sized = s.sized;
       }
 
   -- No answer came.
@@ -137,9 +141,9 @@ module _ {loader : Load} {session : SessionView} {wire : List Passed} {old mid :
         (record { exchanges = wire; behind = behind; wire_is = grows; talk = here; runs = s.runs; mid = sunk; put = s.put; ends = stops_unanswered })
 
     -- over a unit that tells its image, there is an answer
-    pub unanswered_untold : (fault ≡ Changed → asks_unit session.state (Right sent) ≡ true → IfSome mid.image Decodes) → fault ≡ Changed → old.image ≡ None
+    pub unanswered_untold : (fault ≡ Changed → asks_unit session.state (Right sent) ≡ true → IfSome mid.image Decodes) → fault ≡ Changed → IfSome old.image (λ x. IsBytes x → ⊥)
     unanswered_untold found is =
-        untold old.image wire here {behind = behind} {held = sunk} {sunk = sunk} s.runs (by s.judged)
+        untold old.image wire here {behind = behind} {held = sunk} {sunk = sunk} s.sized s.runs (by s.judged)
         (subst (λ (f : DownloadFault). StopsAt old.image f here behind sunk sunk) is stops_unanswered)
       where
         by : (is_judged session ≡ true) ⊎ Begins here → IfSome old.image Decodes ⊎ Opens here
@@ -147,8 +151,8 @@ module _ {loader : Load} {session : SessionView} {wire : List Passed} {old mid :
         by (inr (inl opens)) = inr opens
         by (inr (inr at)) = inl (carried Decodes (read_same s.reads) (found is (asks_there here sent at sends)))
 
-  pub unanswered_front : IfSome old.image (λ x. AppendsFront held sunk (unit_file x))
-  unanswered_front = front_told old.image wire here held sunk s.runs (known_by old.image session here s.knows s.judged) s.put
+  pub unanswered_front : IfSome old.image (λ x. IsBytes x → AppendsFront held sunk (unit_file x))
+  unanswered_front = front_told old.image wire here held sunk s.sized s.runs (known_by old.image session here s.knows s.judged) s.put
 
   pub nothing_sunk : is_judged session ≡ false → Keeps held sunk
   nothing_sunk not = by s.judged
@@ -162,11 +166,21 @@ module _ {loader : Load} {session : SessionView} {wire : List Passed} {old mid :
     answers_before : Replies old.image session.state sent (record { answer = Some frame; state = next.state })
     answers_before = replied_before old mid session.state sent (record { answer = Some frame; state = next.state }) s.reads a.answers
 
+    opens_now : IfSome old.image Decodes ⊎ Opens here
+    opens_now = opens_by old.image next here (carried (Knows next) (read_same s.reads) a.knows) (opens_next next new frame a)
+
     stops_untaken : StopsAt old.image fault here (of_loader sent ∷ of_unit frame ∷ []) sunk filled
     stops_untaken = record {
       sent = sent;
       sends = sends;
-      stops = inr (record { frame = frame; after = next.state; answers = answers_before; behind_is = refl; untaken = untaken });
+      stops = inr (record {
+        frame = frame;
+        after = next.state;
+        answers = answers_before;
+        behind_is = refl;
+        untaken = untaken;
+        long = long_told old.image wire here sunk filled sent frame next.state fault s.sized s.runs opens_now sends answers_before untaken;
+      });
     }
 
     pub untaken_ends : {T : Type 0} (r : Result T DownloadFault) (grown : List Passed) → IsErrAnd r (λ v. v ≡ fault) → grown ≡ wire ++ of_loader sent ∷ of_unit frame ∷ [] → IsDownload r old.image grown held filled
@@ -174,29 +188,26 @@ module _ {loader : Load} {session : SessionView} {wire : List Passed} {old mid :
         subst (λ (q : Result T DownloadFault). IsDownload q old.image grown held filled) (sym (err_is r fault is))
         (record { exchanges = wire; behind = of_loader sent ∷ of_unit frame ∷ []; wire_is = grows; talk = here; runs = s.runs; mid = sunk; put = s.put; ends = stops_untaken })
 
-    opens_now : IfSome old.image Decodes ⊎ Opens here
-    opens_now = opens_by old.image next here (carried (Knows next) (read_same s.reads) a.knows) (opens_next next new frame a)
-
-    pub untaken_untold : fault ≡ Changed → old.image ≡ None
+    pub untaken_untold : fault ≡ Changed → IfSome old.image (λ x. IsBytes x → ⊥)
     untaken_untold is =
-        untold old.image wire here {behind = of_loader sent ∷ of_unit frame ∷ []} {held = sunk} {sunk = filled} s.runs opens_now
+        untold old.image wire here {behind = of_loader sent ∷ of_unit frame ∷ []} {held = sunk} {sunk = filled} s.sized s.runs opens_now
         (subst (λ (f : DownloadFault). StopsAt old.image f here (of_loader sent ∷ of_unit frame ∷ []) sunk filled) is stops_untaken)
 
-    pub untaken_front : IfSome old.image (λ x. AppendsFront held filled (unit_file x))
+    pub untaken_front : IfSome old.image (λ x. IsBytes x → AppendsFront held filled (unit_file x))
     untaken_front =
-        front_untaken old.image wire here held sunk filled sent frame next.state fault s.runs (known_by old.image session here s.knows s.judged) opens_now sends answers_before s.put untaken
+        front_untaken old.image wire here held sunk filled sent frame next.state fault s.sized s.runs (known_by old.image session here s.knows s.judged) opens_now sends answers_before s.put untaken
 
 -- The download is finished.
 pub talking_done : {T : Type 0} (done : T) {loader : Load} {session : SessionView} {wire : List Passed} {old mid : State} {held sunk : Option (List ℕ)} → IsTalking loader session wire old mid held sunk → loader.loading.stage ≡ Finished
-    → IsDownload (Ok {E = DownloadFault} done) old.image wire held sunk
+    → IsDownload {T = T} (Ok done) old.image wire held sunk
 talking_done {T} done {loader} {session} {wire} {old} {mid} {held} {sunk} s over =
     record { exchanges = wire; behind = []; wire_is = sym (append-nil wire); talk = talk_of session.state loader.loading s.out; runs = s.runs; mid = sunk; put = s.put; ends = (over, refl, Keeps-refl sunk) }
 
 pub talking_file : {loader : Load} {session : SessionView} {wire : List Passed} {old mid : State} {held sunk : Option (List ℕ)} → IsTalking loader session wire old mid held sunk → loader.loading.stage ≡ Finished
-    → IfSome old.image (λ x. Decodes x × Appends held sunk (unit_file x))
+    → IfSome old.image (λ x. Decodes x × (IsBytes x → Appends held sunk (unit_file x)))
 talking_file {loader} {session} {wire} {old} {mid} {held} {sunk} s over =
     let talk : Talk = talk_of session.state loader.loading s.out in
-    whole_told old.image wire talk held sunk s.runs (known_by old.image session talk s.knows s.judged) over s.put
+    whole_told old.image wire talk held sunk s.sized s.runs (known_by old.image session talk s.knows s.judged) over s.put
 
 -- Memory ran out before the first frame.
 pub nothing_began : {T : Type 0} (r : Result T DownloadFault) (image held : Option (List ℕ)) (wire : List Passed) → IsErrAnd r (λ v. v ≡ Memory) → wire ≡ [] → IsDownload r image wire held held
@@ -213,5 +224,5 @@ nothing_began {T} r image held wire is none =
       ends = record { sent = 0x81 ∷ []; sends = refl; stops = inl (inl refl, Keeps-refl held) };
     })
 
-pub nothing_front : (image held : Option (List ℕ)) → IfSome image (λ x. AppendsFront held held (unit_file x))
-nothing_front image held = told_all image _ (λ x told. (0, Appends-nil held))
+pub nothing_front : (image held : Option (List ℕ)) → IfSome image (λ x. IsBytes x → AppendsFront held held (unit_file x))
+nothing_front image held = told_all image _ (λ x told. λ bytes. (0, Appends-nil held))

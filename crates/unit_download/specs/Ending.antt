@@ -1,7 +1,8 @@
 -- How a download ends.
-use Rattle.std.specs.Prelude.{◌≡◌, ◌⊎◌, ℕ, ◌+◌, ◌<◌, Bool, true, false, List, [], ◌∷◌, ◌++◌, length, Option, Some, None, Result, Ok, Err}
+use Rattle.std.specs.Prelude.{◌≡◌, ◌⊎◌, ℕ, ◌<◌, Bool, true, false, List, [], ◌∷◌, ◌++◌, length, Option, Some, None, IfSome, Result, Ok, Err}
 use Rattle.std.specs.Io.KnownBytes.{Appends, Keeps}
 use Rattle.tach_media.specs.Streams.{AppendsFront}
+use Rattle.byte_fields.specs.Fields.{IsBytes}
 use Rattle.link_model.specs.declared.request.Request.{Request}
 use Rattle.link_model.specs.Frames.{Right}
 use Rattle.link_model.specs.Answers.{LinkState}
@@ -16,7 +17,7 @@ use Rattle.downloader.specs.declared.fault.LoadFault.{LoadFault}
 use Rattle.downloader.specs.declared.fault.LoadFault.TheVariants as load
 use Rattle.downloader.specs.Stages.{sent_at}
 use Rattle.downloader.specs.Coming.{kind_of}
-use Rattle.downloader.specs.Loading.{Loading, Finishes, IsRefused}
+use Rattle.downloader.specs.Loading.{Loading, Finishes, IsRefused, with_piece}
 use Rattle.downloader.specs.Talking.{Talk, fresh_talk}
 use Rattle.unit_download.specs.declared.wire.Passed.{Passed}
 use Rattle.unit_download.specs.declared.fault.DownloadFault.{DownloadFault}
@@ -63,15 +64,17 @@ IsUntaken (BadUnit place) loader frame held sunk = ⊥
 IsUntaken Changed loader frame held sunk = ((fault : LoadFault) × IsOfFrame fault × IsRefused loader frame fault) × Keeps held sunk
 IsUntaken WriteFault loader frame held sunk = (m : Message) × Finishes loader frame m × AppendsFront held sunk (message_bytes m)
 IsUntaken Memory loader frame held sunk =
-    ((request : Request) × (kind_of loader.stage frame ≡ Piece request)) × (LONGEST + 2 < length loader.bytes + length frame) × Keeps held sunk
+    ((request : Request) × (kind_of loader.stage frame ≡ Piece request)) × (LONGEST < length (with_piece loader.bytes frame)) × Keeps held sunk
 
--- an answer of the unit that the loader did not take: both frames are on the wire
+-- An answer of the unit that the loader did not take: both frames are on the wire. No unit that tells its image, of bytes, sends more than
+-- there is room for.
 pub record Answers (image : Option (List ℕ)) (fault : DownloadFault) (talk : Talk) (sent : List ℕ) (behind : List Passed) (held sunk : Option (List ℕ)) : Type 0 where
   pub frame : List ℕ
   pub after : LinkState
   pub answers : Replies image talk.unit sent (record { answer = Some frame; state = after })
   pub behind_is : behind ≡ of_loader sent ∷ of_unit frame ∷ []
   pub untaken : IsUntaken fault talk.loader frame held sunk
+  pub long : fault ≡ Memory → IfSome image (λ x. IsBytes x → ⊥)
 
 -- A download ended at an exchange: at the frame that the loader sent, or at the answer that it did not take.
 pub record StopsAt (image : Option (List ℕ)) (fault : DownloadFault) (talk : Talk) (behind : List Passed) (held sunk : Option (List ℕ)) : Type 0 where

@@ -1,5 +1,6 @@
-ghost use Rattle.unit_model.specs.declared.layout.TheConstants.{IMAGE_SIZE};
-ghost use Rattle.std.specs.Prelude.{◌≡◌, ◌≤◌, [], OnOk, IfErr, OnErr, IfSome, IsErrOf, Some, None};
+ghost use Rattle.byte_fields.specs.Fields.{IsBytes};
+ghost use Rattle.unit_model.specs.Image.{IsUnit};
+ghost use Rattle.std.specs.Prelude.{◌≡◌, ◌≤◌, [], OnOk, IfErr, OnErr, IfSome, IsErrOf, Some};
 ghost use Rattle.std.specs.Io.KnownBytes.{Appends, Keeps};
 ghost use Rattle.tach_media.specs.Medium.{Rose};
 ghost use Rattle.tach_media.specs.Streams.{AppendsFront};
@@ -32,16 +33,16 @@ pub fn download<K: Sink, U: Medium>(
     unit: &mut U,
     wire: &mut Wire,
 ) -> Result<(), DownloadFault>
-    requires unit { (U.state unit.old).size ≡ IMAGE_SIZE }
+    requires unit { IsUnit (U.state unit.old) }
     requires fresh { wire.old ≡ [] }
     // The wire is a run of the tables of both sides, up to where the download ended; and what they put out has gone to the sink.
     ensures downloaded { IsDownload result (U.state unit.old).image wire.new (K.held sink.old) (K.held sink.new) }
-    // At the end the sink has the unit's file.
-    ensures file { OnOk result (IfSome (U.state unit.old).image (λ x. Decodes x × Appends (K.held sink.old) (K.held sink.new) (unit_file x))) }
+    // At the end the image decodes, and of one of bytes the sink has the file.
+    ensures file { OnOk result (IfSome (U.state unit.old).image (λ x. Decodes x × (IsBytes x → Appends (K.held sink.old) (K.held sink.new) (unit_file x)))) }
     // Else a front of it.
-    ensures front { OnErr result (IfSome (U.state unit.old).image (λ x. AppendsFront (K.held sink.old) (K.held sink.new) (unit_file x))) }
-    // Only a unit that does not tell its image gives no answer, or one that the loader refuses.
-    ensures changed { IsErrOf result DownloadFault.Changed → (U.state unit.old).image ≡ None }
+    ensures front { OnErr result (IfSome (U.state unit.old).image (λ x. IsBytes x → AppendsFront (K.held sink.old) (K.held sink.new) (unit_file x))) }
+    // No unit that tells its image, of bytes, gives no answer, or one that the loader refuses.
+    ensures changed { IsErrOf result DownloadFault.Changed → IfSome (U.state unit.old).image (λ x. IsBytes x → ⊥) }
     ensures bad { IfErr result (λ fault. IfBad fault (λ p. IfSome (U.state unit.old).image (λ x. first_bad_place x ≡ Some p))) }
     ensures nothing { IfErr result (λ fault. IfBad fault (λ p. Keeps (K.held sink.old) (K.held sink.new))) }
     ensures cause { IsErrOf result DownloadFault.WriteFault → Rose (K.faults sink.old) (K.faults sink.new) }

@@ -143,14 +143,20 @@ fn downloads_a_day(rt: HostRuntime) -> Result<(), Fail> {
     let ended = downloaded(alloc, &mut unit, 2000, &[])?;
     assert_eq!(rt; ended.result, Ok(()));
     assert_eq!(rt; ended.held.len(), 623 + 152 + 143 + 267);
-    assert_eq!(rt; &ended.held[623..629], &[0x76, 2, 0x4B, 0x8B, 0x03, 0x80][..]);
+    assert_eq!(rt;
+        &ended.held[623..629],
+        &[0x76, 2, 0x4B, 0x8B, 0x03, 0x80][..]
+    );
     // start, diagnostic, upload; three pieces, a day, events, no speed, two pieces; exit, stop
     let frames = ended.wire.frames();
     assert_eq!(rt; frames.len(), 26);
     assert_eq!(rt; exchanges(frames), 12);
     assert_eq!(rt; frames[6].frame.bytes(), &[0x36, 1][..]);
     assert_eq!(rt; frames[8].frame.bytes(), &[0x83, 0x76, 0, 2][..]);
-    assert_eq!(rt; frames[12].frame.bytes(), &[0x36, 2, 0x4B, 0x8B, 0x03, 0x80][..]);
+    assert_eq!(rt;
+        frames[12].frame.bytes(),
+        &[0x36, 2, 0x4B, 0x8B, 0x03, 0x80][..]
+    );
     assert_eq!(rt; frames[17].frame.bytes(), &[0x7F, 0x36, 0xFA][..]);
     assert_eq!(rt; frames[25].frame.bytes(), &[0xC2][..]);
     // the unit is called as often as a session is that is asked by the loader's frames
