@@ -2,13 +2,13 @@
 //! to a sink, which then has the unit's file. The unit is read, and never written.
 #![tactic(auto)]
 
-mod download;
 mod exchange;
 mod fault;
+mod loading;
 mod wire;
 
-pub use download::download;
 pub use fault::DownloadFault;
+pub use loading::download;
 pub use wire::{Passed, Wire};
 
 #[cfg(test)]

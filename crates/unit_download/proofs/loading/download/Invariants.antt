@@ -1,6 +1,6 @@
 use Rattle.std.proofs.Common.{◌-◌, ◌^◌, ◌≤◌, length}
 use Rattle.unit_download.proofs.Talking.{IsTalking}
-use Rattle.unit_download.proofs.download.download.Given as goal
+use Rattle.unit_download.proofs.loading.download.Given as goal
 
 -- exchanges have passed
 abbrev pub invariant-loop-sent : goal.invariant-loop-sent
