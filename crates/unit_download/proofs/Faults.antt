@@ -1,25 +1,17 @@
 -- A fault that was passed on.
-use Rattle.std.proofs.Common.{◌≡◌, ℕ, List, [], ◌∷◌, ◌++◌, Option, Some, None, IfSome, Result, Ok, Err, true, false, refl, sym, ap, subst, inl, inr, append-nil}
-use Rattle.std.specs.Prelude.{◌⊎◌, IfErr, IsErrAnd, OnOk, is_err}
+use Rattle.std.proofs.Common.{◌≡◌, ◌∙◌, ℕ, List, Option, Some, None, IfSome, Result, Ok, Err, false, sym, ap, subst}
+use Rattle.std.specs.Prelude.{IsErrAnd, OnErr}
 use Rattle.tach_media.specs.Medium.{State}
 use Rattle.unit_journal.specs.Reading.{ReadsIfAny}
 use Rattle.link_model.specs.Frames.{Right}
 use Rattle.link_model.specs.Answers.{LinkState, Reply, answered}
 use Rattle.link_model.specs.declared.request.Request.{Request}
 use Rattle.message_model.specs.Sending.{content_sent}
-use Rattle.answer_table.specs.Asking.{asks_unit}
-use Rattle.transfer_session.specs.declared.asking.AnswerFault.{AnswerFault}
-use Rattle.transfer_session.specs.declared.asking.AnswerFault.TheVariants as session
-use Rattle.transfer_session.specs.Told.{IfBadUnit, has_failed as session_failed}
-use Rattle.unit_download.specs.declared.wire.Passed.{Passed}
+use Rattle.downloader.specs.Loading.{Loading}
 use Rattle.unit_download.specs.declared.fault.DownloadFault.{DownloadFault}
 use Rattle.unit_download.specs.declared.fault.DownloadFault.TheVariants.{Failed, BadUnit, Changed, WriteFault, Memory}
-use Rattle.unit_download.specs.Wires.{of_loader, Replies}
-use Rattle.unit_download.specs.Ending.{fault_of, IfBad, has_failed, IsUnanswered}
-
-pub passed : {T E : Type 0} (r : Result T E) (e : E) (Q : E → Type 0) → IsErrAnd r (λ v. v ≡ e) → Q e → IfErr r Q
-passed (Ok x) e Q is q = absurd is
-passed (Err v) e Q is q = subst Q (sym is) q
+use Rattle.unit_download.specs.Wires.{Replies}
+use Rattle.unit_download.specs.Ending.{has_failed, IsUntaken}
 
 pub err_is : {T E : Type 0} (r : Result T E) (e : E) → IsErrAnd r (λ v. v ≡ e) → r ≡ Err e
 err_is (Ok v) e is = absurd is
@@ -30,22 +22,38 @@ pub passed_reads : {T : Type 0} {old new : State} (r : Result T DownloadFault) (
 passed_reads (Ok x) e is reads = absurd is
 passed_reads {T} {old} {new} (Err v) e is reads = subst (λ (f : DownloadFault). ReadsIfAny old new (has_failed {T = Unit {0}} (Err f))) (sym is) reads
 
--- a session's fault: what is behind the exchanges, the place, and the unit
-pub session_stops : (image : Option (List ℕ)) (fault : AnswerFault) (state : LinkState) (sent : List ℕ) → asks_unit state (Right sent) ≡ true → IsUnanswered image (fault_of fault) state sent (of_loader sent ∷ [])
-session_stops image session.Failed state sent asks = (refl, asks)
-session_stops image (session.BadUnit place) state sent asks = (refl, asks)
+-- what holds at an error
+pub on_err : {T E P : Type 0} (r : Result T E) → P → OnErr r P
+on_err (Ok x) p = tt
+on_err (Err e) p = p
 
-pub session_bad : (fault : AnswerFault) (P : ℕ → Type 0) → IfBadUnit fault P → IfBad (fault_of fault) P
-session_bad session.Failed P is = tt
-session_bad (session.BadUnit place) P is = is
+pub fault_is : {T E : Type 0} (r : Result T E) (e f : E) → IsErrAnd r (λ v. v ≡ e) → r ≡ Err f → e ≡ f
+fault_is (Ok x) e f is same = absurd is
+fault_is (Err v) e f is same = let fault : v ≡ f = cc in sym is ∙ fault
 
-pub session_reads : {old new : State} (fault : AnswerFault) → ReadsIfAny old new (session_failed {T = Unit {0}} (Err fault)) → ReadsIfAny old new (has_failed {T = Unit {0}} (Err (fault_of fault)))
-session_reads session.Failed reads = reads
-session_reads (session.BadUnit place) reads = reads
+-- the same, whatever else the call would have answered
+pub failed_reads : (A : Type 0) {old new : State} (fault : DownloadFault) → ReadsIfAny old new (has_failed {T = A} (Err fault)) → ReadsIfAny old new (has_failed {T = Unit {0}} (Err fault))
+failed_reads A Failed reads = reads
+failed_reads A (BadUnit place) reads = reads
+failed_reads A Changed reads = reads
+failed_reads A WriteFault reads = reads
+failed_reads A Memory reads = reads
 
-pub session_not_changed : (fault : AnswerFault) → fault_of fault ≡ Changed → ⊥
-session_not_changed session.Failed is = cc
-session_not_changed (session.BadUnit place) is = cc
+-- where the loader did not take an answer the unit did not fail
+pub untaken_reads : {T : Type 0} {old new : State} (r : Result T DownloadFault) (fault : DownloadFault) (loader : Loading) (frame : List ℕ) (held sunk : Option (List ℕ)) → IsErrAnd r (λ v. v ≡ fault) → IsUntaken fault loader frame held sunk
+    → ReadsIfAny old new false → ReadsIfAny old new (has_failed r)
+untaken_reads (Ok x) fault loader frame held sunk is untaken reads = absurd is
+untaken_reads {T} {old} {new} (Err v) fault loader frame held sunk is untaken reads = by v (subst (λ (f : DownloadFault). IsUntaken f loader frame held sunk) (sym is) untaken)
+  where
+    by : (v : DownloadFault) → IsUntaken v loader frame held sunk → ReadsIfAny old new (has_failed {T = T} (Err v))
+    by Failed not = absurd not
+    by (BadUnit place) not = absurd not
+    by Changed not = reads
+    by WriteFault not = reads
+    by Memory not = reads
+
+abbrev pub reply : Option (List ℕ) → LinkState → Reply
+reply answer state = record { answer = answer; state = state }
 
 -- what the session says of its answer, whether the unit tells its image or not
 pub reply_told : (image : Option (List ℕ)) (state : LinkState) (sent : List ℕ) (reply : Reply) → IfSome image (λ x. reply ≡ answered (content_sent x) state (Right sent))

@@ -30,7 +30,7 @@ use Rattle.unit_download.proofs.Linked.{runs_on}
 use Rattle.unit_download.proofs.Opening.{Opens, Begins, nothing_out, begins_next, asks_there, judged_next}
 use Rattle.unit_download.proofs.Fronts.{Keeps-nothing}
 use Rattle.unit_download.proofs.Told.{Sized, untold, whole_told, front_told, front_untaken, long_told}
-use Rattle.unit_download.proofs.Faults.{err_is, passed}
+use Rattle.unit_download.proofs.Faults.{err_is}
 
 -- Exchanges have passed, and what they put out has gone to the sink; nothing was asked of the unit, or it was judged.
 pub record IsTalking (loader : Load) (session : SessionView) (wire : List Passed) (old new : State) (held sunk : Option (List ℕ)) : Type 0 where
