@@ -43,7 +43,7 @@ pub record IsTalking (loader : Load) (session : SessionView) (wire : List Passed
   pub room : LONGEST ≤ loader.room
   pub sized : Sized old.image
 
-fresh_knows : (state : LinkState) (x : List ℕ) → Knows (fresh state) x
+pub fresh_knows : (state : LinkState) (x : List ℕ) → Knows (fresh state) x
 fresh_knows state x = record { decodes = λ is. absurd (cc); notes = tt; outlines = tt }
 
 pub talking_none : (loader : Load) (session : SessionView) (wire : List Passed) (s : State) (held : Option (List ℕ)) → loader.loading ≡ begun → LONGEST ≤ loader.room → session ≡ fresh Idle → wire ≡ [] → Sized s.image

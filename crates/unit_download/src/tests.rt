@@ -90,24 +90,25 @@ fn answers_so<M: Medium>(unit: &mut M, frames: &[Passed]) -> bool
     let mut right = true;
     let mut wanted: Option<Frame> = None;
     for passed in frames.iter() {
-        match passed.from {
-            End::Loader => {
-                let seen = Seen::Whole(Frame::new(passed.frame.bytes()));
-                wanted = match session.answer(unit, &seen) {
-                    Ok(answer) => answer,
-                    Err(_) => None,
-                };
-            }
-            End::Unit => {
-                right = right
-                    && match &wanted {
-                        Some(frame) => frame.bytes() == passed.frame.bytes(),
-                        None => false,
-                    };
-            }
+        if passed.from == End::Unit {
+            right = right && is_frame(&wanted, &passed.frame);
+        } else {
+            let seen = Seen::Whole(Frame::new(passed.frame.bytes()));
+            let Ok(answer) = session.answer(unit, &seen) else {
+                return false;
+            };
+            wanted = answer;
         }
     }
     right
+}
+
+/// Whether this is the answer.
+fn is_frame(answer: &Option<Frame>, frame: &Frame) -> bool {
+    match answer {
+        Some(given) => given.bytes() == frame.bytes(),
+        None => false,
+    }
 }
 
 /// A day of four words, 2010-03-01, with the last-kept minute in it; what stands between the odometer and the day is zeros.
