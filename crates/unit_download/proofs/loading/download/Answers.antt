@@ -1,4 +1,4 @@
-use Rattle.std.proofs.Common.{◌∙◌, sym, ap, Err, arith}
+use Rattle.std.proofs.Common.{◌∙◌, ℕ, List, sym, ap, Err, arith}
 use Rattle.unit_messages.proofs.Calls.{any_then}
 use Rattle.unit_download.specs.declared.fault.DownloadFault.TheVariants.{Changed}
 use Rattle.unit_download.proofs.Faults.{on_err, fault_is, passed_reads, failed_reads, untaken_reads}
@@ -26,7 +26,7 @@ returns-in_err-frame-clause-changed g c = λ is.
 pub returns-in_err-frame-clause-unit : goal.returns-in_err-frame-clause-unit
 returns-in_err-frame-clause-unit g c =
     passed_reads c.from_residual-in_err-frame.result c.in_err-frame.field-0.0 c.from_residual-in_err-frame.ensures.1
-    (any_then c.loop-sent.invariant.0.reads (failed_reads _ c.in_err-frame.field-0.0 c.in_err-frame.ensures.unit))
+    (any_then c.loop-sent.invariant.0.reads (failed_reads (List ℕ) c.in_err-frame.field-0.0 c.in_err-frame.ensures.unit))
 
 pub loop-sent-preserved : goal.loop-sent-preserved
 loop-sent-preserved g c =
