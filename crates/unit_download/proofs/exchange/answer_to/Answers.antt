@@ -15,6 +15,7 @@ returns-in_default-clause-stops g c =
     let e = c.in_ok-answer.ensures in
     let silent = sym (ap (λ (o : Option (List ℕ)). reply o after) c.in_default.is) in
     let possible = e.possible in
-    let told = one_told image _ e.answered (λ x is. silent ∙ is ∙ ap (λ (s : List ℕ). answered (content_sent x) state (Right s)) c.copy_of.ensures) in
-    let some = (possible.0, silent ∙ possible.1 ∙ ap (λ (s : List ℕ). answered possible.0 state (Right s)) c.copy_of.ensures) in
-    (of_loader c.args.sent ∷ [], c.in_ok-push.ensures.ok, (refl, (after, reply_told image state c.args.sent (reply None after) told some)))
+    let replied = reply_told image state c.args.sent (reply None after)
+    (one_told image _ e.answered (λ x is. silent ∙ is ∙ ap (λ (s : List ℕ). answered (content_sent x) state (Right s)) c.copy_of.ensures))
+    (possible.0, silent ∙ possible.1 ∙ ap (λ (s : List ℕ). answered possible.0 state (Right s)) c.copy_of.ensures) in
+    (of_loader c.args.sent ∷ [], c.in_ok-push.ensures.ok, (refl, (after, replied)))
