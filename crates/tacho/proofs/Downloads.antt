@@ -1,5 +1,5 @@
 -- How `download` ends, by what the download answers.
-use Rattle.std.proofs.Common.{◌≡◌, ◌≤◌, ◌⊎◌, ℕ, Bool, true, false, inl, inr, List, Option, None, refl, ap, sym, subst, arith}
+use Rattle.std.proofs.Common.{◌≡◌, ◌≤◌, ◌⊎◌, ℕ, Bool, inl, inr, List, Option, None, refl, subst}
 use Rattle.std.specs.Prelude.{Result, Ok, Err, Some, IfSome, OnOk, OnErr, IfErr}
 use Rattle.std.specs.Io.KnownBytes.{Appends, Keeps}
 use Rattle.tach_media.specs.Medium.{State, Rose}
@@ -15,13 +15,12 @@ use Rattle.unit_download.specs.declared.fault.DownloadFault.{DownloadFault}
 use Rattle.unit_download.specs.declared.fault.DownloadFault.TheVariants as download
 use Rattle.unit_download.specs.Ending.{IsDownload, IfBad, has_failed}
 use Rattle.recorder.specs.declared.outcome.Outcome.{Outcome}
-use Rattle.tacho.specs.declared.end.Fault.{Fault}
 use Rattle.tacho.specs.declared.end.Fault.TheVariants.{Done, Usage, BadUnit, ReadFault, WriteFault, MediumFault, Memory, Changed}
 use Rattle.tacho.specs.declared.forms.Form.TheVariants.{Download}
 use Rattle.tacho.specs.End.{ended_with, is_medium_fault}
 use Rattle.tacho.specs.Outside.{Outside, SinkTold, memory_of}
 use Rattle.tacho.specs.Recorded.{IsEmpty}
-use Rattle.tacho.specs.Downloading.{end_of_download, EndsDownload}
+use Rattle.tacho.specs.Downloading.{end_of_download}
 use Rattle.tacho.specs.Program.{Ends}
 use Rattle.tacho.proofs.Services.{reads-rose}
 

@@ -1,5 +1,5 @@
 -- Exchanges one after the other.
-use Rattle.std.proofs.Common.{◌≡◌, ℕ, List, [], ◌∷◌, ◌++◌, Option, Some, refl, sym, subst}
+use Rattle.std.proofs.Common.{ℕ, List, [], ◌∷◌, ◌++◌, Option, Some, refl, sym, subst}
 use Rattle.message_model.specs.Sending.{content_sent}
 use Rattle.downloader.specs.Talking.{Talk, Exchanges, Talks}
 use Rattle.unit_download.specs.declared.wire.Passed.{Passed}

@@ -8,7 +8,7 @@ use Rattle.link_model.specs.Answers.{LinkState, Reply, answers, answered, upload
 use Rattle.link_model.specs.Answers as states
 use Rattle.message_model.specs.Sending.{content_sent}
 use Rattle.answer_table.specs.Asking.{asks_unit}
-use Rattle.downloader.specs.declared.stage.Stage.TheVariants.{Start, Diagnostic, Upload, Asked, Finished}
+use Rattle.downloader.specs.declared.stage.Stage.TheVariants.{Diagnostic, Upload, Asked, Finished}
 use Rattle.downloader.specs.declared.kind.Kind.TheVariants.{Agreed}
 use Rattle.downloader.specs.Stages.{sent_at}
 use Rattle.downloader.specs.Coming.{kind_of}

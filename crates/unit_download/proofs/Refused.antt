@@ -1,9 +1,8 @@
 -- A frame that is taken is not refused.
-use Rattle.std.proofs.Common.{◌≡◌, ◌∙◌, ℕ, true, List, Option, Some, None, ap, inl, inr}
-use Rattle.std.specs.Prelude.{◌⊎◌, is_some}
+use Rattle.std.proofs.Common.{◌≡◌, ℕ, List, Option, Some, None, ap, inl, inr}
+use Rattle.std.specs.Prelude.{is_some}
 use Rattle.link_model.specs.declared.request.Request.{Request}
 use Rattle.message_model.specs.Messages.{Message}
-use Rattle.downloader.specs.declared.kind.Kind.TheVariants.{Negative, Broken, Other}
 use Rattle.downloader.specs.declared.fault.LoadFault.{LoadFault}
 use Rattle.downloader.specs.declared.fault.LoadFault.TheVariants as load
 use Rattle.downloader.specs.Coming.{kind_of}

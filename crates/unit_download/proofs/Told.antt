@@ -28,7 +28,7 @@ use Rattle.unit_download.specs.Wires.{of_loader, of_unit, talk_of, Replies, Exch
 use Rattle.unit_download.specs.Ending.{IsUnanswered, IsUntaken, Answers, StopsAt}
 use Rattle.unit_download.proofs.Linked.{runs_on, answers_in, talks}
 use Rattle.unit_download.proofs.Refused.{going_finishes_none, taken_not_refused}
-use Rattle.unit_download.proofs.Opening.{Opens, Begins, nothing_out, not_finished, Opened, opened}
+use Rattle.unit_download.proofs.Opening.{Opens, Begins, nothing_out, not_finished, opened}
 use Rattle.unit_download.proofs.Fronts.{Appends-kept, front_of, front_cut}
 
 one_sent : (a b : List ℕ) → Some a ≡ Some b → a ≡ b

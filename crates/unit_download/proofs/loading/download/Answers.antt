@@ -2,7 +2,7 @@ use Rattle.std.proofs.Common.{◌∙◌, ℕ, List, sym, ap, Err, arith}
 use Rattle.unit_messages.proofs.Calls.{any_then}
 use Rattle.unit_download.specs.declared.fault.DownloadFault.TheVariants.{Changed}
 use Rattle.unit_download.proofs.Faults.{on_err, fault_is, passed_reads, failed_reads, untaken_reads}
-use Rattle.unit_download.proofs.Talking.{IsAnswered, talking_on, unanswered_ends, unanswered_untold, unanswered_front, untaken_ends, untaken_untold, untaken_front, talking_done, talking_file, nothing_began}
+use Rattle.unit_download.proofs.Talking.{talking_on, unanswered_ends, unanswered_untold, unanswered_front, untaken_ends, untaken_untold, untaken_front, talking_done, talking_file, nothing_began}
 use Rattle.unit_download.proofs.loading.download.Goals as goal
 
 pub returns-in_err-reserve-clause-downloaded : goal.returns-in_err-reserve-clause-downloaded
