@@ -51,8 +51,8 @@ of-done (Err download.WriteFault) is p = absurd (cc)
 of-done (Err download.Memory) is p = absurd (cc)
 
 of-not : {P : Type 0} (r : Result (Unit {0}) DownloadFault) → (end_of_download r ≡ Done → ⊥) → OnErr r P → P
-of-not (Ok done) no p = absurd (no refl)
-of-not (Err fault) no p = p
+of-not (Ok done) undone p = absurd (undone refl)
+of-not (Err fault) undone p = p
 
 -- what holds of a fault
 of-bad : (P : ℕ → Type 0) (r : Result (Unit {0}) DownloadFault) (place : ℕ) → end_of_download r ≡ BadUnit place → IfErr r (λ fault. IfBad fault P) → P place
@@ -136,7 +136,7 @@ download-ends old new wire r downloaded file front changed bad nothing write rea
     ends = refl;
     downloaded = downloaded;
     file = λ is. of-done r is file;
-    front = λ no. of-not r no front;
+    front = λ undone. of-not r undone front;
     bad_unit = λ place is. of-bad (λ p. IfSome old.unit.image (λ x. first_bad_place x ≡ Some p)) r place is bad;
     nothing = λ place is. of-bad (λ p. Keeps old.sink.held new.sink.held) r place is nothing;
     changed = λ is. changed (of-changed r is);
