@@ -3,7 +3,7 @@ use Rattle.std.specs.Prelude.{ℕ, Bool, true, false, Result, Ok, Err}
 use Rattle.trace_text.specs.declared.trace.TraceFault.{TraceFault}
 use Rattle.trace_text.specs.declared.trace.TraceFault.TheVariants as trace
 use Rattle.tacho.specs.declared.end.Fault.{Fault}
-use Rattle.tacho.specs.declared.end.Fault.TheVariants.{Done, Usage, BadTrace, TooLong, BadUnit, ClockBack, ReadFault, WriteFault, MediumFault, Memory, BadFile}
+use Rattle.tacho.specs.declared.end.Fault.TheVariants.{Done, Usage, BadTrace, TooLong, BadUnit, ClockBack, ReadFault, WriteFault, MediumFault, Memory, BadFile, BadCard}
 use Rattle.tacho.specs.declared.end.Ended.{Ended}
 use Rattle.recorder.specs.declared.outcome.Outcome.{Outcome}
 
@@ -19,6 +19,7 @@ status_of WriteFault = 8
 status_of (MediumFault device) = 9
 status_of Memory = 10
 status_of (BadFile place) = 11
+status_of (BadCard field) = 12
 
 -- the end by a fault, with an outcome
 abbrev pub ended_by : Outcome → Fault → Ended

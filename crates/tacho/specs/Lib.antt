@@ -9,4 +9,5 @@ pub mod Recorded
 pub mod Formatting
 pub mod Serving
 pub mod View
+pub mod CardFile
 pub mod Program
