@@ -1,2 +1,3 @@
 pub mod WorkedMinutes
 pub mod WorkedRuns
+mod Ports

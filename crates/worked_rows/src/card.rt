@@ -6,7 +6,7 @@ mod keeping;
 #[cfg(test)]
 mod tests;
 
-use crate::card::keeping::{Figures, card, new_day, word};
+use crate::card::keeping::{Figures, Stopped, card, new_day, word};
 use card_layout::LARGEST_IMAGE;
 use std::alloc::Global;
 use std::io;
@@ -39,7 +39,7 @@ fn show<R: Print>(
         Ok(Figures { commands, writes }) => {
             println!(rt; "{name}: {commands} commands, {writes} writes")
         }
-        Err(_) => println!(rt; "{name}: stopped"),
+        Err(Stopped) => println!(rt; "{name}: stopped"),
     }
 }
 

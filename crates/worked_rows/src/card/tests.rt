@@ -1,11 +1,13 @@
-ghost use Rattle.std.specs.Prelude.{◌≡◌, ◌≤◌, ◌+◌, ◌*◌, ◌%◌, IfOk, IfSome, vec_len};
+ghost use Rattle.std.specs.Prelude.{◌≡◌, ℕ, ◌<◌, ◌≤◌, ◌+◌, ◌*◌, ◌/◌, ◌%◌, IfOk, IfSome, vec_len};
+ghost use Rattle.card_session.specs.Inserting.{AreOwed};
 ghost use Rattle.card_layout.specs.Application.{IsApplication};
 ghost use Rattle.card_layout.specs.Files.{image_size_of};
 ghost use Rattle.card_commands.specs.Ports.{writable_of};
 ghost use Rattle.tach_media.specs.Medium.{LiesInside};
 
-use crate::card::images::{blank, full, two_days};
-use crate::card::keeping::{Figures, VEHICLE, card, new_day, word};
+use crate::card::images::{blank, full, largest, two_days};
+use crate::card::keeping::{Figures, Stopped, VEHICLE, card, insertion, new_day, word};
+use activity_codec::{Activity, Entry, Owed, Slot};
 use card_commands::{Port, SimCard};
 use card_files::file_range;
 use card_layout::{Application, Fid, LARGEST_IMAGE, Range};
@@ -130,7 +132,7 @@ fn figures(alloc: Global, image: Vec<u8>) -> Result<Figures, Fail> {
     }
     match new_day(&mut card) {
         Ok(figures) => Ok(figures),
-        Err(_) => Err(Fail::from("stopped")),
+        Err(Stopped) => Err(Fail::from("stopped")),
     }
 }
 
@@ -157,7 +159,74 @@ fn a_word_reads_nothing_where_there_is_room(rt: HostRuntime) -> Result<(), Fail>
     // the directory and the file are selected, and two writes
     match word(&mut card) {
         Ok(figures) => assert_eq!(rt; (figures.commands, figures.writes), (4, 2)),
-        Err(_) => return Err(Fail::from("stopped")),
+        Err(Stopped) => return Err(Fail::from("stopped")),
     }
+    Ok(())
+}
+
+// An insertion of the largest full card takes at most this many commands where the newest day has 721 words up to the end mark,
+// and where it has one at each minute: a cut reads them one by one.
+const MOST_AT_INSERTION: u64 = 1500;
+
+const MOST_OF_A_FULL_DAY: u64 = 1700;
+
+// The day after that of the largest card's newest day, from its first minute on: the states change.
+const AFTER: u32 = 779 * 1440;
+
+// An entry that many minutes into it.
+fn owed_at(minute: u32) -> Entry
+    requires { minute < 1440 }
+    ensures { result.minute ≡ 1121760 + minute }
+{
+    let act = if minute % 2 == 0 {
+        Activity::Work
+    } else {
+        Activity::Driving
+    };
+    Entry {
+        minute: AFTER + minute,
+        slot: Slot::Driver,
+        crew: false,
+        act,
+    }
+}
+
+// Four of them.
+fn four() -> Owed
+    ensures { (now : ℕ) → 1121764 < now / 60 → AreOwed now result.items }
+{
+    let first = owed_at(1);
+    let second = owed_at(2);
+    let third = owed_at(3);
+    let last = owed_at(4);
+    Owed::from([first, second, third, last])
+}
+
+// What an insertion takes of the largest full card whose session was left open at this second, with four owed entries.
+fn inserted(alloc: Global, last_use: u32) -> Result<Figures, Fail> {
+    let mut card = card(alloc, largest(alloc, last_use)?)?;
+    if card.size() < 24959 {
+        return Err(Fail::from("no card"));
+    }
+    let owed = four();
+    match insertion(&mut card, 60 * (AFTER + 10), &owed) {
+        Ok((figures, 4)) => Ok(figures),
+        Ok(_) => Err(Fail::from("replayed")),
+        Err(Stopped) => Err(Fail::from("stopped")),
+    }
+}
+
+#[test]
+fn an_insertion_takes_few_commands(rt: HostRuntime) -> Result<(), Fail> {
+    let alloc = rt.alloc();
+    // in the first minute of its newest day, in its middle, and in the last one
+    let newest = AFTER - 1440;
+    let early = inserted(alloc, 60 * newest)?;
+    let middle = inserted(alloc, 60 * (newest + 720))?;
+    let late = inserted(alloc, 60 * (newest + 1439))?;
+    for figures in [early, middle] {
+        assert!(rt; figures.commands <= MOST_AT_INSERTION, "{figures:?}");
+    }
+    assert!(rt; late.commands <= MOST_OF_A_FULL_DAY, "{late:?}");
     Ok(())
 }

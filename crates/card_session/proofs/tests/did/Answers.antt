@@ -3,7 +3,7 @@ use Rattle.card_layout.specs.declared.files.Application.{Application}
 use Rattle.tach_media.specs.MemMedium.{memory_state}
 use Rattle.card_session.specs.Sessions.{Session, MayKeep}
 use Rattle.card_session.proofs.Memory.{may_keep}
-use Rattle.card_session.proofs.tests.kept.Goals as goal
+use Rattle.card_session.proofs.tests.did.Goals as goal
 
 pub keep-requires-clause-card : goal.keep-requires-clause-card
 keep-requires-clause-card c =
@@ -11,10 +11,10 @@ keep-requires-clause-card c =
     (may_keep c.session.inside.application c.args.card.now.log c.args.card.now.counts (omega (arith, c.image_size-least.ensures, c.size-held.ensures, c.if-held-least.false)))
 
 pub keep-requires-clause-first : goal.keep-requires-clause-first
-keep-requires-clause-first c = omega (arith, c.work-kept.ensures.minute)
+keep-requires-clause-first c = omega (arith, c.doing-kept.ensures.minute)
 
 pub keep-requires-clause-last : goal.keep-requires-clause-last
-keep-requires-clause-last c = omega (arith, c.work-kept.ensures.minute, c.requires.minute)
+keep-requires-clause-last c = omega (arith, c.doing-kept.ensures.minute, c.requires.minute)
 
 pub keep-requires-clause-fits : goal.keep-requires-clause-fits
-keep-requires-clause-fits c = omega (arith, c.work-kept.ensures.odometer, c.requires.fits)
+keep-requires-clause-fits c = omega (arith, c.doing-kept.ensures.odometer, c.requires.fits)

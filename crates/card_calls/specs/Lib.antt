@@ -1,4 +1,0 @@
-pub mod Lending
-pub mod Sessions
-pub mod Stops
-pub mod Strings
