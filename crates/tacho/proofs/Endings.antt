@@ -1,5 +1,5 @@
 -- How `minutes` and `view` end, by what they answer.
-use Rattle.std.proofs.Common.{◌≡◌, ◌≤◌, ◌<◌, ◌⊎◌, inl, inr, refl, ℕ, List, length, Option, ap, subst, arith}
+use Rattle.std.proofs.Common.{◌≡◌, ◌≤◌, ◌<◌, ◌⊎◌, inl, inr, refl, ℕ, List, [], length, Option, ap, subst, arith}
 use Rattle.std.specs.Prelude.{Result, Ok, Err, Some, OnOk, IfErr, IsErrAnd}
 use Rattle.std.specs.Io.KnownBytes.{Appends, IsAtEnd}
 use Rattle.tach_media.specs.Medium.{Rose}
@@ -18,7 +18,7 @@ use Rattle.tacho.specs.Minutes.{PrintsMinutes, IsMinutesEnd, EndsMinutes}
 use Rattle.tacho.specs.View.{PrintsFile, IsBadFile, IsViewEnd, EndsView, most_bytes}
 use Rattle.recorder.specs.declared.outcome.Outcome.{Outcome}
 use Rattle.tacho.specs.Recorded.{IsEmpty}
-use Rattle.tacho.specs.Program.{Ends, EndsForm, IsUnrecorded}
+use Rattle.tacho.specs.Program.{Ends, EndsForm, IsUnrecorded, IsUnpassed}
 use Rattle.tacho.proofs.EndLaws.{prints-end, wanted-end, judges-trace}
 
 pub ends-minutes : {T : Type 0} (old new : Outside) (r : Result T Fault)
@@ -98,17 +98,18 @@ ends-view last old new (Err fault) printed read bad long finds_long read_fault w
 
 -- so the call ends that was asked for it, where the form uses the source and the sink alone
 streams-end : {T : Type 0} (form : Form) (old new : Outside) (outcome : Outcome) (r : Result T Fault)
-    → EndsForm form old new (ended_by outcome (end_of r)) → IsUnrecorded (Some form) outcome
+    → EndsForm form old new (ended_by outcome (end_of r)) → IsUnrecorded (Some form) outcome → IsUnpassed (Some form) []
     → (end_of r ≡ Usage → ⊥) → ((device : Device) → end_of r ≡ MediumFault device → ⊥)
     → (r ≡ Err ReadFault → Rose old.source.faults new.source.faults)
     → (r ≡ Err WriteFault → Rose old.sink.faults new.sink.faults)
     → (old.source.faults ≤ new.source.faults) × (old.sink.faults ≤ new.sink.faults)
     → Ends (Some form) old new (ended_by outcome (end_of r))
-streams-end form old new outcome (Ok u) ends none no_usage no_medium read_fault write_fault counts = record {
+streams-end form old new outcome (Ok u) ends none none_passed no_usage no_medium read_fault write_fault counts = record {
   status = refl;
   usage = (λ is. absurd (cc), λ none. absurd (cc));
   form = ends;
   unrecorded = none;
+  unpassed = none_passed;
   causes = record {
     read_fault = λ is. absurd (cc);
     write_fault = λ is. absurd (cc);
@@ -117,11 +118,12 @@ streams-end form old new outcome (Ok u) ends none no_usage no_medium read_fault 
     writes = counts.1;
   };
 }
-streams-end form old new outcome (Err fault) ends none no_usage no_medium read_fault write_fault counts = record {
+streams-end form old new outcome (Err fault) ends none none_passed no_usage no_medium read_fault write_fault counts = record {
   status = refl;
   usage = (λ is. absurd (no_usage is), λ none. absurd (cc));
   form = ends;
   unrecorded = none;
+  unpassed = none_passed;
   causes = record {
     read_fault = λ is. read_fault (ap Err is);
     write_fault = λ is. write_fault (ap Err is);
@@ -139,7 +141,7 @@ pub minutes-ends : {T : Type 0} (old new : Outside) (r : Result T Fault)
     → (outcome : Outcome) → IsEmpty outcome
     → Ends (Some Minutes) old new (ended_by outcome (end_of r))
 minutes-ends old new r ends read_fault write_fault counts outcome none =
-    streams-end Minutes old new outcome r ends none (λ is. subst IsMinutesEnd is ends.ends) (λ device is. subst IsMinutesEnd is ends.ends) read_fault write_fault counts
+    streams-end Minutes old new outcome r ends none refl (λ is. subst IsMinutesEnd is ends.ends) (λ device is. subst IsMinutesEnd is ends.ends) read_fault write_fault counts
 
 pub view-ends : {T : Type 0} (last : Option ℕ) (old new : Outside) (r : Result T Fault)
     → EndsView last old new (end_of r)
@@ -149,4 +151,4 @@ pub view-ends : {T : Type 0} (last : Option ℕ) (old new : Outside) (r : Result
     → (outcome : Outcome) → IsEmpty outcome
     → Ends (Some (View last)) old new (ended_by outcome (end_of r))
 view-ends last old new r ends read_fault write_fault counts outcome none =
-    streams-end (View last) old new outcome r ends none (λ is. subst IsViewEnd is ends.ends) (λ device is. subst IsViewEnd is ends.ends) read_fault write_fault counts
+    streams-end (View last) old new outcome r ends none refl (λ is. subst IsViewEnd is ends.ends) (λ device is. subst IsViewEnd is ends.ends) read_fault write_fault counts

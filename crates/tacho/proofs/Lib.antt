@@ -11,3 +11,4 @@ pub mod Lines
 pub mod Recordings
 pub mod Services
 pub mod LineServices
+pub mod Downloads

@@ -116,6 +116,7 @@ serve-hex-ends old new r served end cause reads counts outcome none =
         unit = subst (λ (failed : Bool). ReadsIfAny old.unit new.unit failed) (lines-failed-is r) reads;
       };
       unrecorded = none;
+      unpassed = refl;
       causes = record {
         read_fault = λ is. lines-read source_rose sink_rose (IsBadAt old) r is cause;
         write_fault = λ is. lines-write source_rose sink_rose (IsBadAt old) r is cause;

@@ -77,7 +77,7 @@ failed-is (Err (service.BadUnit place)) = refl
 failed-is (Err service.TooLong) = refl
 
 -- reading that failed raised the count
-reads-rose : {old new : State} → ReadsIfAny old new true → Rose old.faults new.faults
+pub reads-rose : {old new : State} → ReadsIfAny old new true → Rose old.faults new.faults
 reads-rose (inl none) = absurd (cc)
 reads-rose (inr reads) = reads.cause.fault refl
 
@@ -120,6 +120,7 @@ serve-ends old new r served end cause reads counts outcome none =
         unit = subst (λ (failed : Bool). ReadsIfAny old.unit new.unit failed) (failed-is r) reads;
       };
       unrecorded = none;
+      unpassed = refl;
       causes = record {
         read_fault = λ is. of-read source_rose sink_rose (IsBadAt old) r is cause;
         write_fault = λ is. of-write source_rose sink_rose (IsBadAt old) r is cause;

@@ -1,7 +1,7 @@
 -- Words and what they ask for, computed.
 use Rattle.std.specs.Prelude.{◌≡◌, Some, None, [], ◌∷◌, ◌++◌, codes, replicate, refl}
 use Rattle.trace_model.specs.declared.Card.TheVariants.{B}
-use Rattle.tacho.specs.declared.forms.Form.TheVariants.{Minutes, Serve, ServeHex, View}
+use Rattle.tacho.specs.declared.forms.Form.TheVariants.{Minutes, Serve, ServeHex, Download, View}
 use Rattle.tacho.specs.declared.forms.TheConstants.{PLATE}
 use Rattle.tacho.specs.Texts.{word_in}
 use Rattle.trace_model.specs.Names.{card_named}
@@ -26,6 +26,10 @@ hex-row = refl
 other-dash-row : form_of (codes "serve" ∷ codes "-hex" ∷ []) ≡ None
 unfolding form_of
 other-dash-row = refl
+
+download-row : form_of (codes "download" ∷ []) ≡ Some Download
+unfolding form_of
+download-row = refl
 
 view-row : form_of (codes "view" ∷ []) ≡ Some (View None)
 unfolding form_of

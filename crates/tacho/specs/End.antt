@@ -1,11 +1,12 @@
 -- Why a call ends, and its status (profile).
-use Rattle.std.specs.Prelude.{ℕ, Bool, true, false, Result, Ok, Err}
+use Rattle.std.specs.Prelude.{ℕ, List, [], Bool, true, false, Result, Ok, Err}
 use Rattle.trace_text.specs.declared.trace.TraceFault.{TraceFault}
 use Rattle.trace_text.specs.declared.trace.TraceFault.TheVariants as trace
 use Rattle.tacho.specs.declared.end.Fault.{Fault}
-use Rattle.tacho.specs.declared.end.Fault.TheVariants.{Done, Usage, BadTrace, TooLong, BadUnit, ClockBack, ReadFault, WriteFault, MediumFault, Memory, BadFile}
+use Rattle.tacho.specs.declared.end.Fault.TheVariants.{Done, Usage, BadTrace, TooLong, BadUnit, ClockBack, ReadFault, WriteFault, MediumFault, Memory, BadFile, Changed}
 use Rattle.tacho.specs.declared.end.Ended.{Ended}
 use Rattle.recorder.specs.declared.outcome.Outcome.{Outcome}
+use Rattle.unit_download.specs.declared.wire.Passed.{Passed}
 
 abbrev pub status_of : Fault → ℕ
 status_of Done = 0
@@ -19,10 +20,15 @@ status_of WriteFault = 8
 status_of (MediumFault device) = 9
 status_of Memory = 10
 status_of (BadFile place) = 11
+status_of Changed = 13
 
--- the end by a fault, with an outcome
+-- the end by a fault, with an outcome and the frames that passed
+abbrev pub ended_with : Outcome → List Passed → Fault → Ended
+ended_with outcome wire fault = record { status = status_of fault; fault = fault; outcome = outcome; wire = wire }
+
+-- the same where no frame passed
 abbrev pub ended_by : Outcome → Fault → Ended
-ended_by outcome fault = record { status = status_of fault; fault = fault; outcome = outcome }
+ended_by outcome fault = ended_with outcome [] fault
 
 -- the end where no trace was read
 abbrev pub refusal_of : TraceFault → Fault

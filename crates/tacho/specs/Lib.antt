@@ -8,5 +8,6 @@ pub mod Minutes
 pub mod Recorded
 pub mod Formatting
 pub mod Serving
+pub mod Downloading
 pub mod View
 pub mod Program

@@ -1,6 +1,6 @@
 -- THE PROGRAM: how its one call ends, and what it leaves untouched (profile). What each form promises stands in the form's own
--- file: Minutes, Recorded, Serving, View, Formatting.
-use Rattle.std.specs.Prelude.{◌≡◌, ◌↔◌, ◌≤◌, Option, Some, None, IfSome}
+-- file: Minutes, Recorded, Serving, Downloading, View, Formatting.
+use Rattle.std.specs.Prelude.{◌≡◌, ◌↔◌, ◌≤◌, List, [], Option, Some, None, IfSome}
 use Rattle.tach_media.specs.Medium.{State, Rose}
 use Rattle.trace_model.specs.declared.Card.TheVariants.{A, B}
 use Rattle.run_model.specs.declared.Device.{Device}
@@ -10,13 +10,15 @@ use Rattle.tacho.specs.declared.end.Fault.{Fault}
 use Rattle.tacho.specs.declared.end.Fault.TheVariants.{Done, Usage, ReadFault, WriteFault, MediumFault}
 use Rattle.tacho.specs.declared.end.Ended.{Ended}
 use Rattle.recorder.specs.declared.outcome.Outcome.{Outcome}
+use Rattle.unit_download.specs.declared.wire.Passed.{Passed}
 use Rattle.tacho.specs.declared.forms.Form.{Form}
-use Rattle.tacho.specs.declared.forms.Form.TheVariants.{Minutes, Record, FormatCard, FormatUnit, Serve, ServeHex, View}
+use Rattle.tacho.specs.declared.forms.Form.TheVariants.{Minutes, Record, FormatCard, FormatUnit, Serve, ServeHex, Download, View}
 use Rattle.tacho.specs.End.{status_of, IsBeforeDevices}
 use Rattle.tacho.specs.Outside.{Outside, memory_of}
 use Rattle.tacho.specs.Minutes.{EndsMinutes}
 use Rattle.tacho.specs.Recorded.{EndsRecord, IsEmpty}
 use Rattle.tacho.specs.Serving.{EndsServe, EndsServeHex}
+use Rattle.tacho.specs.Downloading.{EndsDownload}
 use Rattle.tacho.specs.View.{EndsView}
 use Rattle.tacho.specs.Formatting.{IsCard, EndsIssue, EndsMaking}
 
@@ -35,12 +37,18 @@ EndsForm (FormatCard B identity) old new ended = EndsIssue CardB identity old.ca
 EndsForm (FormatUnit identity) old new ended = EndsMaking identity old.unit new.unit old.sink new.sink ended.fault
 EndsForm Serve old new ended = EndsServe old new ended.fault
 EndsForm ServeHex old new ended = EndsServeHex old new ended.fault
+EndsForm Download old new ended = EndsDownload old new ended.wire ended.fault
 EndsForm (View last) old new ended = EndsView last old new ended.fault
 
 -- but for `record` there is no outcome
 abbrev pub IsUnrecorded : Option Form → Outcome → Type 0
 IsUnrecorded (Some Record) outcome = Unit {0}
 IsUnrecorded asked outcome = IsEmpty outcome
+
+-- but for `download` no frame passed
+abbrev pub IsUnpassed : Option Form → List Passed → Type 0
+IsUnpassed (Some Download) wire = Unit {0}
+IsUnpassed asked wire = wire ≡ []
 
 -- What a form leaves as it was: all but the sink and what it names. Each argument says that one of them is as it was.
 abbrev pub LeavesOthers : Option Form → (source unit card_a card_b : Type 0) → Type 0
@@ -52,6 +60,7 @@ LeavesOthers (Some (FormatCard B identity)) source unit card_a card_b = source �
 LeavesOthers (Some (FormatUnit identity)) source unit card_a card_b = source × card_a × card_b
 LeavesOthers (Some Serve) source unit card_a card_b = card_a × card_b
 LeavesOthers (Some ServeHex) source unit card_a card_b = card_a × card_b
+LeavesOthers (Some Download) source unit card_a card_b = source × card_a × card_b
 LeavesOthers (Some (View last)) source unit card_a card_b = unit × card_a × card_b
 
 -- a stream or a device that is told to have failed has failed, and no count of a stream falls
@@ -69,12 +78,15 @@ pub record Ends (asked : Option Form) (old new : Outside) (ended : Ended) : Type
   pub usage : (ended.fault ≡ Usage) ↔ (asked ≡ None)
   pub form : IfSome asked (λ form. EndsForm form old new ended)
   pub unrecorded : IsUnrecorded asked ended.outcome
+  pub unpassed : IsUnpassed asked ended.wire
   pub causes : HasCauses old new ended.fault
 
--- what reads all of its source before it uses a device or prints: each form but `serve` and `serve --hex`, which answer as they read
+-- what reads all of its source before it uses a device or prints: each form but `serve`, `serve --hex` and `download`, which write as
+-- they read
 abbrev pub ReadsFirst : Option Form → Type 0
 ReadsFirst (Some Serve) = ⊥
 ReadsFirst (Some ServeHex) = ⊥
+ReadsFirst (Some Download) = ⊥
 ReadsFirst asked = Unit {0}
 
 -- WHAT IT LEAVES UNTOUCHED. Each argument says that one of what it is handed is as it was.

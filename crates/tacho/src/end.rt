@@ -1,6 +1,8 @@
 //! How the top call ends.
 use recorder::Outcome;
 use run_model::Device;
+use std::alloc::Global;
+use unit_download::Wire;
 
 /// Why the call ended.
 #[derive(Clone, Copy, Debug, PartialEq, Eq)]
@@ -28,6 +30,8 @@ pub enum Fault {
     MediumFault(Device),
     /// Out of memory.
     Memory,
+    /// The unit gave no answer to a frame of the loader, or one that the loader refuses.
+    Changed,
 }
 
 /// How the call ended.
@@ -39,15 +43,17 @@ pub struct Ended {
     pub fault: Fault,
     /// What `record` recorded; no line where another form was asked for.
     pub outcome: Outcome,
+    /// The frames that passed in a `download`, in their order; none where another form was asked for.
+    pub wire: Wire,
 }
 
 impl Ended {
     ghost use Rattle.std.specs.Prelude.{◌≡◌};
-    ghost use Rattle.tacho.specs.End.{ended_by, end_of};
+    ghost use Rattle.tacho.specs.End.{ended_by, ended_with, end_of};
 
-    /// The end by this fault, with this outcome.
-    pub fn of(outcome: Outcome, fault: Fault) -> Self
-        ensures { result ≡ ended_by outcome fault }
+    /// The end by this fault, with this outcome and these frames.
+    pub fn with(outcome: Outcome, wire: Wire, fault: Fault) -> Self
+        ensures { result ≡ ended_with outcome wire fault }
     {
         let status = match fault {
             Fault::Done => 0,
@@ -61,21 +67,30 @@ impl Ended {
             Fault::MediumFault(_) => 9,
             Fault::Memory => 10,
             Fault::BadFile(_) => 11,
+            Fault::Changed => 13,
         };
         Ended {
             status,
             fault,
             outcome,
+            wire,
         }
     }
 
+    /// The end by this fault, with this outcome; no frame passed.
+    pub fn of(alloc: Global, outcome: Outcome, fault: Fault) -> Self
+        ensures { result ≡ ended_by outcome fault }
+    {
+        Ended::with(outcome, Wire::new(alloc), fault)
+    }
+
     /// The end by what a command answers.
-    pub fn after(outcome: Outcome, done: Result<(), Fault>) -> Self
+    pub fn after(alloc: Global, outcome: Outcome, done: Result<(), Fault>) -> Self
         ensures { result ≡ ended_by outcome (end_of done) }
     {
         match done {
-            Ok(()) => Ended::of(outcome, Fault::Done),
-            Err(fault) => Ended::of(outcome, fault),
+            Ok(()) => Ended::of(alloc, outcome, Fault::Done),
+            Err(fault) => Ended::of(alloc, outcome, fault),
         }
     }
 }

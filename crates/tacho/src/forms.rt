@@ -53,6 +53,8 @@ pub enum Form {
     Serve,
     /// `serve --hex`: the same of lines of hexadecimal digits, each answer as a line.
     ServeHex,
+    /// `download`: the unit's file is written.
+    Download,
     /// `view`: a unit file or a card file is printed; `view last N`: its last so many days, from 1 to 366.
     View { last: Option<u32> },
 }
@@ -88,6 +90,9 @@ fn form_of_one(word: &str) -> Option<Form>
     }
     if is_text(word, "serve") {
         return Some(Form::Serve);
+    }
+    if is_text(word, "download") {
+        return Some(Form::Download);
     }
     if is_text(word, "view") {
         return Some(Form::View { last: None });

@@ -2,6 +2,7 @@
 //! with its status.
 #![tactic(auto)]
 
+mod download_command;
 mod end;
 mod format_command;
 mod forms;
@@ -58,7 +59,7 @@ fn run(rt: &HostRuntime) -> Ended {
             &mut SimCard::new(FileMedium::new(rt, "card-a.img", LARGEST_IMAGE)),
             &mut SimCard::new(FileMedium::new(rt, "card-b.img", LARGEST_IMAGE)),
         ),
-        Err(fault) => Ended::of(nothing(rt.alloc()), fault),
+        Err(fault) => Ended::of(rt.alloc(), nothing(rt.alloc()), fault),
     }
 }
 
@@ -78,6 +79,7 @@ fn tell(rt: &HostRuntime, fault: Fault) -> io::Result<()> {
         Fault::MediumFault(Device::CardB) => eprintln!(rt; "medium fault card-b"),
         Fault::Memory => eprintln!(rt; "out of memory"),
         Fault::BadFile(place) => eprintln!(rt; "bad file at {place}"),
+        Fault::Changed => eprintln!(rt; "unit changed"),
     }
 }
 
@@ -87,6 +89,8 @@ fn main(rt: HostRuntime) -> ExitCode {
     ExitCode::from(ended.status)
 }
 
+#[cfg(test)]
+mod download_tests;
 #[cfg(test)]
 mod format_tests;
 #[cfg(test)]

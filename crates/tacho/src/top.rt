@@ -7,6 +7,7 @@ ghost use Rattle.tacho.specs.declared.forms.Form.TheVariants.{Record as FormOfRe
 ghost use Rattle.tacho.specs.Recorded.{IsEmpty};
 ghost use Rattle.tacho.specs.Program.{AreDevices, Ends, Spares};
 
+use crate::download_command::download_end;
 use crate::end::{Ended, Fault};
 use crate::format_command::{format_card, make_unit};
 use crate::forms::{Form, form_of};
@@ -20,6 +21,7 @@ use recorder::Outcome;
 use run_model::{Card, Device};
 use std::alloc::Global;
 use tach_media::{Chip, Medium, Sink, Source};
+use unit_download::{Wire, download};
 
 /// Does what the words ask for.
 ///
@@ -27,6 +29,7 @@ use tach_media::{Chip, Medium, Sink, Source};
 /// `record` reads a trace that no card bears on, records it on the unit, and writes five lines of counts to the sink.
 /// `serve` answers the frames among the bytes of the source by the messages of the unit, and writes the answers to the sink;
 /// `serve --hex` the same of lines of hexadecimal digits.
+/// `download` downloads the unit, and writes its file, message by message, to the sink.
 /// `view` reads a unit file or a card file from the source, and writes the view text of its minutes or entries to the sink.
 /// `format a` and `format b` issue the card anew, of the largest sizes, `format unit` makes the unit new; they write
 /// `formatted` to the sink. No other device is used than the form's.
@@ -48,12 +51,12 @@ pub fn tacho<S: Source, K: Sink, U: Medium, C: Chip>(
         (outside S.left S.faults K.held K.faults U.state C.state C.card source.new sink.new unit.new card_a.new card_b.new) result }
 
     // What the form does not name is as it was; so are the devices where memory ran out, and the sink where nothing is to be
-    // printed, but for `serve` and `serve --hex`, which answer as they read.
+    // printed, but for `serve`, `serve --hex` and `download`, which write as they read.
     ensures spares { Spares (form_of words.now) result.fault
         (source.new ≡ source.old) (sink.new ≡ sink.old) (unit.new ≡ unit.old) (card_a.new ≡ card_a.old) (card_b.new ≡ card_b.old) }
 {
     match form_of(words) {
-        None => Ended::of(nothing(alloc), Fault::Usage),
+        None => Ended::of(alloc, nothing(alloc), Fault::Usage),
         Some(form) => perform(alloc, form, source, sink, unit, card_a, card_b),
     }
 }
@@ -77,12 +80,13 @@ fn perform<S: Source, K: Sink, U: Medium, C: Chip>(
 {
     let nothing = nothing(alloc);
     match form {
-        Form::Minutes => Ended::after(nothing, print_minutes(alloc, source, sink)),
+        Form::Minutes => Ended::after(alloc, nothing, print_minutes(alloc, source, sink)),
         Form::Record => perform_record(alloc, source, sink, unit, card_a, card_b),
         Form::FormatCard {
             card: Card::A,
             identity,
         } => Ended::after(
+            alloc,
             nothing,
             format_card(alloc, &identity, Device::CardA, card_a, sink),
         ),
@@ -90,13 +94,29 @@ fn perform<S: Source, K: Sink, U: Medium, C: Chip>(
             card: Card::B,
             identity,
         } => Ended::after(
+            alloc,
             nothing,
             format_card(alloc, &identity, Device::CardB, card_b, sink),
         ),
-        Form::FormatUnit { identity } => Ended::after(nothing, make_unit(&identity, unit, sink)),
-        Form::Serve => Ended::of(nothing, service_end(serve(source, sink, unit))),
-        Form::ServeHex => { Ended::of(nothing, lines_end(serve_lines(alloc, source, sink, unit))) }
-        Form::View { last } => Ended::after(nothing, print_view(alloc, last, source, sink)),
+        Form::FormatUnit { identity } => Ended::after(
+            alloc,
+            nothing,
+            make_unit(&identity, unit, sink),
+        ),
+        Form::Serve => Ended::of(alloc, nothing, service_end(serve(source, sink, unit))),
+        Form::ServeHex => {
+            Ended::of(
+                alloc,
+                nothing,
+                lines_end(serve_lines(alloc, source, sink, unit)),
+            )
+        }
+        Form::Download => {
+            let mut wire = Wire::new(alloc);
+            let done = download(alloc, sink, unit, &mut wire);
+            Ended::with(nothing, wire, download_end(done))
+        }
+        Form::View { last } => Ended::after(alloc, nothing, print_view(alloc, last, source, sink)),
     }
 }
 
@@ -118,7 +138,7 @@ fn perform_record<S: Source, K: Sink, U: Medium, C: Chip>(
 {
     let mut outcome = nothing(alloc);
     let done = record(alloc, source, sink, unit, card_a, card_b, &mut outcome);
-    Ended::after(outcome, done)
+    Ended::after(alloc, outcome, done)
 }
 
 /// An outcome without a line.

@@ -1,7 +1,8 @@
-use Rattle.std.proofs.Common.{refl}
+use Rattle.std.proofs.Common.{refl, arith}
 use Rattle.tacho.proofs.Endings.{ends-minutes, minutes-ends, ends-view, view-ends}
 use Rattle.tacho.proofs.Services.{serve-ends}
 use Rattle.tacho.proofs.LineServices.{serve-hex-ends}
+use Rattle.tacho.proofs.Downloads.{download-ends}
 use Rattle.tacho.proofs.top.perform.Goals as goal
 
 pub returns-in-Minutes-clause-ends : goal.returns-in-Minutes-clause-ends
@@ -37,3 +38,12 @@ returns-in-View-clause-ends g c =
     (view-ends c.in-View.last _ _ c.print_view.result
     (ends-view c.in-View.last _ _ c.print_view.result e.printed e.read e.bad_file e.too_long e.finds_too_long e.read_fault e.write_fault e.front e.other)
     e.read_fault e.write_fault e.counts c.nothing-nothing.result c.nothing-nothing.ensures)
+
+pub returns-in-Download-clause-ends : goal.returns-in-Download-clause-ends
+returns-in-Download-clause-ends g c =
+    let e = c.download-done.ensures in
+    rw (c.in-Download.is, c.with.ensures, c.download_end.ensures)
+    (download-ends _ _ c.download-done.new.wire c.download-done.result e.downloaded e.file e.front e.changed e.bad e.nothing e.cause (omega arith) e.counts e.unit c.nothing-nothing.result c.nothing-nothing.ensures)
+
+pub returns-in-Download-clause-spares : goal.returns-in-Download-clause-spares
+returns-in-Download-clause-spares g c = rw c.in-Download.is (record { others = (refl, refl, refl); before = λ none. absurd none; nothing = λ none. absurd none })
