@@ -53,19 +53,19 @@ returns-in-Download-clause-spares g c = rw c.in-Download.is (record { others = (
 pub returns-in-CardFile-A-clause-ends : goal.returns-in-CardFile-A-clause-ends
 returns-in-CardFile-A-clause-ends g c =
     let e = c.write_card_file.ensures in
-    rw (c.in-CardFile-A.is, c.of-in-CardFile-A.ensures, c.card_end.ensures)
+    rw (c.in-CardFile-A.is, c.in-CardFile-A.card-is, c.of-in-CardFile-A.ensures, c.card_end.ensures)
     (card-a-ends _ _ c.write_card_file.result e.writes e.cause (omega arith) e.counts e.card c.nothing-nothing.result c.nothing-nothing.ensures)
 
 pub returns-in-CardFile-A-clause-spares : goal.returns-in-CardFile-A-clause-spares
-returns-in-CardFile-A-clause-spares g c = rw (c.in-CardFile-A.is, c.of-in-CardFile-A.ensures, c.card_end.ensures)
+returns-in-CardFile-A-clause-spares g c = rw (c.in-CardFile-A.is, c.in-CardFile-A.card-is, c.of-in-CardFile-A.ensures, c.card_end.ensures)
     (record { others = (refl, refl, refl); before = λ none. absurd none; nothing = λ none. absurd none; unprinted = λ named. c.write_card_file.ensures.untouched (is-bad CardA c.write_card_file.result named) })
 
 pub returns-in-CardFile-B-clause-ends : goal.returns-in-CardFile-B-clause-ends
 returns-in-CardFile-B-clause-ends g c =
     let e = c.write_card_file-in-CardFile-B.ensures in
-    rw (c.in-CardFile-B.is, c.of-in-CardFile-B.ensures, c.card_end-in-CardFile-B.ensures)
+    rw (c.in-CardFile-B.is, c.in-CardFile-B.card-is, c.of-in-CardFile-B.ensures, c.card_end-in-CardFile-B.ensures)
     (card-b-ends _ _ c.write_card_file-in-CardFile-B.result e.writes e.cause (omega arith) e.counts e.card c.nothing-nothing.result c.nothing-nothing.ensures)
 
 pub returns-in-CardFile-B-clause-spares : goal.returns-in-CardFile-B-clause-spares
-returns-in-CardFile-B-clause-spares g c = rw (c.in-CardFile-B.is, c.of-in-CardFile-B.ensures, c.card_end-in-CardFile-B.ensures)
+returns-in-CardFile-B-clause-spares g c = rw (c.in-CardFile-B.is, c.in-CardFile-B.card-is, c.of-in-CardFile-B.ensures, c.card_end-in-CardFile-B.ensures)
     (record { others = (refl, refl, refl); before = λ none. absurd none; nothing = λ none. absurd none; unprinted = λ named. c.write_card_file-in-CardFile-B.ensures.untouched (is-bad CardB c.write_card_file-in-CardFile-B.result named) })

@@ -1,4 +1,5 @@
 use Rattle.std.proofs.Common.{◌≡◌, ◌∙◌, refl, ap, subst}
+use Rattle.tach_media.specs.Medium.{lent}
 use Rattle.card_layout.specs.declared.files.Application.{Application}
 use Rattle.card_commands.specs.Ports.{port_state}
 use Rattle.card_session.specs.Inserting.{MayInsert}
@@ -7,7 +8,7 @@ use Rattle.worked_rows.proofs.card.keeping.insert.Goals as goal
 
 pub insert-requires-clause-card : goal.insert-requires-clause-card
 insert-requires-clause-card g c =
-    subst (λ (p : Application). MayInsert p (port_state c.new-port.result.application (g.C.Chip.state c.new-port.result.chip.now))) c.new-port.ensures.sizes (may_insert c.new-port.result.sound)
+    subst (λ (p : Application). MayInsert p (port_state c.new-port.result.application (lent c.new-port.result.chip.ghost_name (g.C.Chip.state c.new-port.result.chip.now)))) c.new-port.ensures.sizes (may_insert c.new-port.result.sound)
 
 pub insert-requires-clause-told : goal.insert-requires-clause-told
 insert-requires-clause-told g c =
