@@ -12,4 +12,3 @@ pub mod Recordings
 pub mod Services
 pub mod LineServices
 pub mod Downloads
-pub mod CardEnds

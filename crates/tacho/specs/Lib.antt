@@ -10,5 +10,4 @@ pub mod Formatting
 pub mod Serving
 pub mod Downloading
 pub mod View
-pub mod CardFile
 pub mod Program
