@@ -90,8 +90,6 @@ fn main(rt: HostRuntime) -> ExitCode {
 }
 
 #[cfg(test)]
-mod download_tests;
-#[cfg(test)]
 mod format_tests;
 #[cfg(test)]
 mod record_tests;

@@ -10,6 +10,3 @@ mod wire;
 pub use fault::DownloadFault;
 pub use loading::download;
 pub use wire::{Passed, Wire};
-
-#[cfg(test)]
-mod tests;
