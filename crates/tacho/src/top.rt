@@ -7,6 +7,7 @@ ghost use Rattle.tacho.specs.declared.forms.Form.TheVariants.{Record as FormOfRe
 ghost use Rattle.tacho.specs.Recorded.{IsEmpty};
 ghost use Rattle.tacho.specs.Program.{AreDevices, Ends, Spares};
 
+use crate::card_command::card_end;
 use crate::download_command::download_end;
 use crate::end::{Ended, Fault};
 use crate::format_command::{format_card, make_unit};
@@ -16,6 +17,7 @@ use crate::record_command::record;
 use crate::serve_command::{lines_end, service_end};
 use crate::view_command::print_view;
 use crate::words::Words;
+use card_download::write_card_file;
 use link_service::{serve, serve_lines};
 use recorder::Outcome;
 use run_model::{Card, Device};
@@ -31,6 +33,7 @@ use unit_download::{Wire, download};
 /// `serve --hex` the same of lines of hexadecimal digits.
 /// `download` downloads the unit, and writes its file, message by message, to the sink.
 /// `view` reads a unit file or a card file from the source, and writes the view text of its minutes or entries to the sink.
+/// `card a` and `card b` read the card by its commands, and write its card file to the sink.
 /// `format a` and `format b` issue the card anew, of the largest sizes, `format unit` makes the unit new; they write
 /// `formatted` to the sink. No other device is used than the form's.
 pub fn tacho<S: Source, K: Sink, U: Medium, C: Chip>(
@@ -117,6 +120,20 @@ fn perform<S: Source, K: Sink, U: Medium, C: Chip>(
             Ended::with(nothing, wire, download_end(done))
         }
         Form::View { last } => Ended::after(alloc, nothing, print_view(alloc, last, source, sink)),
+        Form::CardFile { card: Card::A } => {
+            Ended::of(
+                alloc,
+                nothing,
+                card_end(Device::CardA, write_card_file(card_a, sink)),
+            )
+        }
+        Form::CardFile { card: Card::B } => {
+            Ended::of(
+                alloc,
+                nothing,
+                card_end(Device::CardB, write_card_file(card_b, sink)),
+            )
+        }
     }
 }
 
