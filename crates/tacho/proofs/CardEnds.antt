@@ -1,5 +1,5 @@
 -- How `card a` and `card b` end, by what the writing of a card file answers.
-use Rattle.std.proofs.Common.{◌≡◌, ◌⊎◌, ◌≤◌, ℕ, Bool, inl, inr, refl, sym, subst, arith}
+use Rattle.std.proofs.Common.{◌≡◌, ◌⊎◌, ◌≤◌, ℕ, Bool, inl, inr, refl, subst}
 use Rattle.std.specs.Prelude.{Result, Ok, Err, Some, IfSome}
 use Rattle.tach_media.specs.Medium.{State, Reads, Rose}
 use Rattle.trace_model.specs.declared.Card.TheVariants.{A, B}
@@ -10,9 +10,7 @@ use Rattle.card_download.specs.declared.fault.CardFileFault.TheVariants as writi
 use Rattle.card_download.specs.Faults.{has_failed}
 use Rattle.card_download.specs.Written.{Writes, IsWriteFault, IsBad}
 use Rattle.recorder.specs.declared.outcome.Outcome.{Outcome}
-use Rattle.tacho.specs.declared.end.Fault.{Fault}
 use Rattle.tacho.specs.declared.end.Fault.TheVariants.{Done, Usage, ReadFault, WriteFault, MediumFault, BadCard}
-use Rattle.tacho.specs.declared.forms.Form.{Form}
 use Rattle.tacho.specs.declared.forms.Form.TheVariants.{CardFile}
 use Rattle.tacho.specs.End.{ended_by, is_medium_fault}
 use Rattle.tacho.specs.Outside.{Outside, SinkTold, CardTold, memory_of}

@@ -1,5 +1,5 @@
 -- THE PROGRAM: how its one call ends, and what it leaves untouched (profile). What each form promises stands in the form's own
--- file: Minutes, Recorded, Serving, Downloading, View, Formatting, CardFile.
+-- file: Minutes, Recorded, Serving, Downloading, View, CardFile, Formatting.
 use Rattle.std.specs.Prelude.{◌≡◌, ◌↔◌, ◌≤◌, List, [], Option, Some, None, IfSome}
 use Rattle.tach_media.specs.Medium.{State, Rose}
 use Rattle.trace_model.specs.declared.Card.TheVariants.{A, B}
@@ -86,8 +86,8 @@ pub record Ends (asked : Option Form) (old new : Outside) (ended : Ended) : Type
   pub unpassed : IsUnpassed asked ended.wire
   pub causes : HasCauses old new ended.fault
 
--- what reads all that it reads before it prints: each form but `serve`, `serve --hex`, `download`, `card a` and `card b`, which write as
--- they read
+-- what reads all of its source before it uses a device or prints: each form but `serve`, `serve --hex`, `download`, `card a` and
+-- `card b`, which write as they read
 abbrev pub ReadsFirst : Option Form → Type 0
 ReadsFirst (Some Serve) = ⊥
 ReadsFirst (Some ServeHex) = ⊥

@@ -33,7 +33,7 @@ fn new_image(alloc: Global) -> Result<Vec<u8>, Memory> {
 
 /// How a command of one word ends over this unit and this source, and what the sink holds, which has so much room.
 #[derive(Drop)]
-struct Done {
+struct Loaded {
     ended: Ended,
     held: Vec<u8>,
 }
@@ -44,7 +44,7 @@ fn done<U: Medium>(
     text: &[u8],
     unit: &mut U,
     room: usize,
-) -> Result<Done, Memory>
+) -> Result<Loaded, Memory>
     requires { IsUnit (U.state unit.old) }
 {
     let words = words_of(alloc, &[command])?;
@@ -62,7 +62,7 @@ fn done<U: Medium>(
         &mut card_b,
     );
     let held = sink.held().to_vec(alloc)?;
-    Ok(Done { ended, held })
+    Ok(Loaded { ended, held })
 }
 
 /// Ten minutes at rest, ten without power, and ten at rest again.

@@ -3,8 +3,6 @@ use Rattle.tacho.proofs.Endings.{ends-minutes, minutes-ends, ends-view, view-end
 use Rattle.tacho.proofs.Services.{serve-ends}
 use Rattle.tacho.proofs.LineServices.{serve-hex-ends}
 use Rattle.tacho.proofs.Downloads.{download-ends}
-use Rattle.tacho.proofs.CardEnds.{card-a-ends, card-b-ends, is-bad}
-use Rattle.run_model.specs.declared.Device.TheVariants.{CardA, CardB}
 use Rattle.tacho.proofs.top.perform.Goals as goal
 
 pub returns-in-Minutes-clause-ends : goal.returns-in-Minutes-clause-ends
@@ -48,24 +46,4 @@ returns-in-Download-clause-ends g c =
     (download-ends _ _ c.download-done.new.wire c.download-done.result e.downloaded e.file e.front e.changed e.bad e.nothing e.cause (omega arith) e.counts e.unit c.nothing-nothing.result c.nothing-nothing.ensures)
 
 pub returns-in-Download-clause-spares : goal.returns-in-Download-clause-spares
-returns-in-Download-clause-spares g c = rw c.in-Download.is (record { others = (refl, refl, refl); before = λ none. absurd none; nothing = λ none. absurd none; unprinted = λ named. absurd named })
-
-pub returns-in-CardFile-A-clause-ends : goal.returns-in-CardFile-A-clause-ends
-returns-in-CardFile-A-clause-ends g c =
-    let e = c.write_card_file.ensures in
-    rw (c.in-CardFile-A.is, c.in-CardFile-A.card-is, c.of-in-CardFile-A.ensures, c.card_end.ensures)
-    (card-a-ends _ _ c.write_card_file.result e.writes e.cause (omega arith) e.counts e.card c.nothing-nothing.result c.nothing-nothing.ensures)
-
-pub returns-in-CardFile-A-clause-spares : goal.returns-in-CardFile-A-clause-spares
-returns-in-CardFile-A-clause-spares g c = rw (c.in-CardFile-A.is, c.in-CardFile-A.card-is, c.of-in-CardFile-A.ensures, c.card_end.ensures)
-    (record { others = (refl, refl, refl); before = λ none. absurd none; nothing = λ none. absurd none; unprinted = λ named. c.write_card_file.ensures.untouched (is-bad CardA c.write_card_file.result named) })
-
-pub returns-in-CardFile-B-clause-ends : goal.returns-in-CardFile-B-clause-ends
-returns-in-CardFile-B-clause-ends g c =
-    let e = c.write_card_file-in-CardFile-B.ensures in
-    rw (c.in-CardFile-B.is, c.in-CardFile-B.card-is, c.of-in-CardFile-B.ensures, c.card_end-in-CardFile-B.ensures)
-    (card-b-ends _ _ c.write_card_file-in-CardFile-B.result e.writes e.cause (omega arith) e.counts e.card c.nothing-nothing.result c.nothing-nothing.ensures)
-
-pub returns-in-CardFile-B-clause-spares : goal.returns-in-CardFile-B-clause-spares
-returns-in-CardFile-B-clause-spares g c = rw (c.in-CardFile-B.is, c.in-CardFile-B.card-is, c.of-in-CardFile-B.ensures, c.card_end-in-CardFile-B.ensures)
-    (record { others = (refl, refl, refl); before = λ none. absurd none; nothing = λ none. absurd none; unprinted = λ named. c.write_card_file-in-CardFile-B.ensures.untouched (is-bad CardB c.write_card_file-in-CardFile-B.result named) })
+returns-in-Download-clause-spares g c = rw c.in-Download.is (record { others = (refl, refl, refl); before = λ none. absurd none; nothing = λ none. absurd none; unprinted = λ none. absurd none })
