@@ -12,3 +12,4 @@ pub mod Recordings
 pub mod Services
 pub mod LineServices
 pub mod Downloads
+pub mod CardEnds

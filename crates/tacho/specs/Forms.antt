@@ -6,7 +6,7 @@ use Rattle.tacho_types.specs.declared.texts.Registration.{Registration}
 use Rattle.card_files.specs.declared.new_card.CardIdentity.{CardIdentity}
 use Rattle.unit_memory.specs.declared.format.Identity.{Identity}
 use Rattle.tacho.specs.declared.forms.Form.{Form}
-use Rattle.tacho.specs.declared.forms.Form.TheVariants.{Minutes, Record, FormatCard, FormatUnit, Serve, ServeHex, Download, View}
+use Rattle.tacho.specs.declared.forms.Form.TheVariants.{Minutes, Record, FormatCard, FormatUnit, Serve, ServeHex, Download, View, CardFile}
 use Rattle.tacho.specs.declared.forms.TheConstants.{CARD_NUMBER, NAME, PLATE, VIN, NATION_MOST, LIMIT_LEAST, LIMIT_MOST, LAST_LEAST, LAST_MOST}
 use Rattle.tacho.specs.Texts.{word_in, number_in, padded}
 
@@ -54,9 +54,17 @@ form_of_one word =
     else (if bytes_eq word (codes "download") then Some Download
     else (if bytes_eq word (codes "view") then Some (View None) else None))))
 
--- `serve --hex`; no other word begins with `-`
+-- `a` and `b`
+abbrev pub file_of : (letter : List ℕ) → Option Form
+file_of letter = do
+  card ← card_named letter
+  Some (CardFile card)
+
+-- `serve --hex`, of which the second word alone begins with `-`; `card` and what follows it
 abbrev pub form_of_two : (command option : List ℕ) → Option Form
-form_of_two command option = if bytes_eq command (codes "serve") && bytes_eq option (codes "--hex") then Some ServeHex else None
+form_of_two command option =
+    if bytes_eq command (codes "serve") && bytes_eq option (codes "--hex") then Some ServeHex
+    else (if bytes_eq command (codes "card") then file_of option else None)
 
 -- `unit N PLATE VIN LIMIT`
 abbrev pub unit_form : (nation plate vin limit : List ℕ) → Option Form

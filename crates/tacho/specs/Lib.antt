@@ -10,4 +10,5 @@ pub mod Formatting
 pub mod Serving
 pub mod Downloading
 pub mod View
+pub mod CardFile
 pub mod Program

@@ -1,5 +1,5 @@
 -- THE PROGRAM: how its one call ends, and what it leaves untouched (profile). What each form promises stands in the form's own
--- file: Minutes, Recorded, Serving, Downloading, View, Formatting.
+-- file: Minutes, Recorded, Serving, Downloading, View, CardFile, Formatting.
 use Rattle.std.specs.Prelude.{◌≡◌, ◌↔◌, ◌≤◌, List, [], Option, Some, None, IfSome}
 use Rattle.tach_media.specs.Medium.{State, Rose}
 use Rattle.trace_model.specs.declared.Card.TheVariants.{A, B}
@@ -7,12 +7,12 @@ use Rattle.run_model.specs.declared.Device.{Device}
 use Rattle.run_model.specs.declared.Device.TheVariants.{CardA, CardB}
 use Rattle.unit_model.specs.Image.{IsUnit}
 use Rattle.tacho.specs.declared.end.Fault.{Fault}
-use Rattle.tacho.specs.declared.end.Fault.TheVariants.{Done, Usage, ReadFault, WriteFault, MediumFault}
+use Rattle.tacho.specs.declared.end.Fault.TheVariants.{Done, Usage, ReadFault, WriteFault, MediumFault, BadCard}
 use Rattle.tacho.specs.declared.end.Ended.{Ended}
 use Rattle.recorder.specs.declared.outcome.Outcome.{Outcome}
 use Rattle.unit_download.specs.declared.wire.Passed.{Passed}
 use Rattle.tacho.specs.declared.forms.Form.{Form}
-use Rattle.tacho.specs.declared.forms.Form.TheVariants.{Minutes, Record, FormatCard, FormatUnit, Serve, ServeHex, Download, View}
+use Rattle.tacho.specs.declared.forms.Form.TheVariants.{Minutes, Record, FormatCard, FormatUnit, Serve, ServeHex, Download, View, CardFile}
 use Rattle.tacho.specs.End.{status_of, IsBeforeDevices}
 use Rattle.tacho.specs.Outside.{Outside, memory_of}
 use Rattle.tacho.specs.Minutes.{EndsMinutes}
@@ -21,6 +21,7 @@ use Rattle.tacho.specs.Serving.{EndsServe, EndsServeHex}
 use Rattle.tacho.specs.Downloading.{EndsDownload}
 use Rattle.tacho.specs.View.{EndsView}
 use Rattle.tacho.specs.Formatting.{IsCard, EndsIssue, EndsMaking}
+use Rattle.tacho.specs.CardFile.{EndsCard}
 
 -- the devices have the sizes of a unit and of cards
 pub record AreDevices (unit card_a card_b : State) : Type 0 where
@@ -39,6 +40,8 @@ EndsForm Serve old new ended = EndsServe old new ended.fault
 EndsForm ServeHex old new ended = EndsServeHex old new ended.fault
 EndsForm Download old new ended = EndsDownload old new ended.wire ended.fault
 EndsForm (View last) old new ended = EndsView last old new ended.fault
+EndsForm (CardFile A) old new ended = EndsCard CardA old.card_a new.card_a old.sink new.sink ended.fault
+EndsForm (CardFile B) old new ended = EndsCard CardB old.card_b new.card_b old.sink new.sink ended.fault
 
 -- but for `record` there is no outcome
 abbrev pub IsUnrecorded : Option Form → Outcome → Type 0
@@ -62,6 +65,8 @@ LeavesOthers (Some Serve) source unit card_a card_b = card_a × card_b
 LeavesOthers (Some ServeHex) source unit card_a card_b = card_a × card_b
 LeavesOthers (Some Download) source unit card_a card_b = source × card_a × card_b
 LeavesOthers (Some (View last)) source unit card_a card_b = unit × card_a × card_b
+LeavesOthers (Some (CardFile A)) source unit card_a card_b = source × unit × card_b
+LeavesOthers (Some (CardFile B)) source unit card_a card_b = source × unit × card_a
 
 -- a stream or a device that is told to have failed has failed, and no count of a stream falls
 pub record HasCauses (old new : Outside) (fault : Fault) : Type 0 where
@@ -81,13 +86,19 @@ pub record Ends (asked : Option Form) (old new : Outside) (ended : Ended) : Type
   pub unpassed : IsUnpassed asked ended.wire
   pub causes : HasCauses old new ended.fault
 
--- what reads all of its source before it uses a device or prints: each form but `serve`, `serve --hex` and `download`, which write as
--- they read
+-- what reads all of its source before it uses a device or prints: each form but `serve`, `serve --hex`, `download`, `card a` and
+-- `card b`, which write as they read
 abbrev pub ReadsFirst : Option Form → Type 0
 ReadsFirst (Some Serve) = ⊥
 ReadsFirst (Some ServeHex) = ⊥
 ReadsFirst (Some Download) = ⊥
+ReadsFirst (Some (CardFile card)) = ⊥
 ReadsFirst asked = Unit {0}
+
+-- `card a` or `card b` ends with the number of a field
+abbrev pub NamesField : Option Form → Fault → Type 0
+NamesField (Some (CardFile card)) (BadCard field) = Unit {0}
+NamesField asked fault = ⊥
 
 -- WHAT IT LEAVES UNTOUCHED. Each argument says that one of what it is handed is as it was.
 pub record Spares (asked : Option Form) (fault : Fault) (source sink unit card_a card_b : Type 0) : Type 0 where
@@ -96,3 +107,5 @@ pub record Spares (asked : Option Form) (fault : Fault) (source sink unit card_a
   pub before : ReadsFirst asked → IsBeforeDevices fault → unit × card_a × card_b
   -- But at Done and at a write fault the sink is as it was.
   pub nothing : ReadsFirst asked → (fault ≡ Done → ⊥) → (fault ≡ WriteFault → ⊥) → sink
+  -- Of a card of which a field is named nothing was printed.
+  pub unprinted : NamesField asked fault → sink

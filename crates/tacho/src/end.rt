@@ -26,6 +26,8 @@ pub enum Fault {
     /// The source is no file that `view` reads: the place of the first message or entry that is not in its grammar, or the file's
     /// length where a needed entry is missing.
     BadFile(u32),
+    /// The card's Application_Identification is bad: the number, from 1, of the first field that is out of its range.
+    BadCard(u8),
     /// This device failed.
     MediumFault(Device),
     /// Out of memory.
@@ -67,6 +69,7 @@ impl Ended {
             Fault::MediumFault(_) => 9,
             Fault::Memory => 10,
             Fault::BadFile(_) => 11,
+            Fault::BadCard(_) => 12,
             Fault::Changed => 13,
         };
         Ended {

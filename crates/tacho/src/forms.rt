@@ -2,7 +2,7 @@
 ghost use Rattle.std.specs.Prelude.{◌≡◌, ◌∷◌, ◌+◌, ◌-◌, ◌≤◌, IfSome, length, bytes_eq};
 ghost use Rattle.std.specs.List.{list_all};
 ghost use Rattle.tacho.specs.Texts.{is_character, is_word, begins_with_dash, word_in, number_in, padded};
-ghost use Rattle.tacho.specs.Forms.{name_in, card_in, registration_in, unit_in, form_of_one, form_of_two, view_of, form_of_three, format_of, form_of_six, form_of};
+ghost use Rattle.tacho.specs.Forms.{name_in, card_in, registration_in, unit_in, form_of_one, form_of_two, file_of, view_of, form_of_three, format_of, form_of_six, form_of};
 
 use crate::words::Words;
 use card_files::CardIdentity;
@@ -57,6 +57,8 @@ pub enum Form {
     Download,
     /// `view`: a unit file or a card file is printed; `view last N`: its last so many days, from 1 to 366.
     View { last: Option<u32> },
+    /// `card a` and `card b`: the card's file is written.
+    CardFile { card: Card },
 }
 
 /// What the words ask for, if they are in a form that is known. The test takes no memory.
@@ -107,7 +109,20 @@ fn form_of_two(command: &str, option: &str) -> Option<Form>
     if is_text(command, "serve") && is_text(option, "--hex") {
         return Some(Form::ServeHex);
     }
+    if is_text(command, "card") {
+        return file_of(option);
+    }
     None
+}
+
+/// Which card's file is to be written.
+fn file_of(which: &str) -> Option<Form>
+    ensures { result ≡ file_of which.now }
+{
+    let Some(card) = Card::named(which.as_bytes()) else {
+        return None;
+    };
+    Some(Form::CardFile { card })
 }
 
 /// The form of three words.

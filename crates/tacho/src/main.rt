@@ -2,6 +2,7 @@
 //! with its status.
 #![tactic(auto)]
 
+mod card_command;
 mod download_command;
 mod end;
 mod format_command;
@@ -79,6 +80,7 @@ fn tell(rt: &HostRuntime, fault: Fault) -> io::Result<()> {
         Fault::MediumFault(Device::CardB) => eprintln!(rt; "medium fault card-b"),
         Fault::Memory => eprintln!(rt; "out of memory"),
         Fault::BadFile(place) => eprintln!(rt; "bad file at {place}"),
+        Fault::BadCard(field) => eprintln!(rt; "bad card field {field}"),
         Fault::Changed => eprintln!(rt; "unit changed"),
     }
 }

@@ -3,10 +3,11 @@ ghost use Rattle.std.specs.Prelude.{◌≡◌, Some};
 ghost use Rattle.tacho.specs.Forms.{form_of};
 ghost use Rattle.tacho.specs.Outside.{outside};
 ghost use Rattle.unit_model.specs.Image.{IsUnit};
-ghost use Rattle.tacho.specs.declared.forms.Form.TheVariants.{Record as FormOfRecord};
+ghost use Rattle.tacho.specs.declared.forms.Form.TheVariants.{Record as FormOfRecord, CardFile as FormOfCard};
 ghost use Rattle.tacho.specs.Recorded.{IsEmpty};
 ghost use Rattle.tacho.specs.Program.{AreDevices, Ends, Spares};
 
+use crate::card_command::card_end;
 use crate::download_command::download_end;
 use crate::end::{Ended, Fault};
 use crate::format_command::{format_card, make_unit};
@@ -16,6 +17,7 @@ use crate::record_command::record;
 use crate::serve_command::{lines_end, service_end};
 use crate::view_command::print_view;
 use crate::words::Words;
+use card_download::write_card_file;
 use link_service::{serve, serve_lines};
 use recorder::Outcome;
 use run_model::{Card, Device};
@@ -31,6 +33,7 @@ use unit_download::{Wire, download};
 /// `serve --hex` the same of lines of hexadecimal digits.
 /// `download` downloads the unit, and writes its file, message by message, to the sink.
 /// `view` reads a unit file or a card file from the source, and writes the view text of its minutes or entries to the sink.
+/// `card a` and `card b` read the card by its commands, and write its card file to the sink.
 /// `format a` and `format b` issue the card anew, of the largest sizes, `format unit` makes the unit new; they write
 /// `formatted` to the sink. No other device is used than the form's.
 pub fn tacho<S: Source, K: Sink, U: Medium, C: Chip>(
@@ -51,7 +54,8 @@ pub fn tacho<S: Source, K: Sink, U: Medium, C: Chip>(
         (outside S.left S.faults K.held K.faults U.state C.state C.card source.new sink.new unit.new card_a.new card_b.new) result }
 
     // What the form does not name is as it was; so are the devices where memory ran out, and the sink where nothing is to be
-    // printed, but for `serve`, `serve --hex` and `download`, which write as they read.
+    // printed, but for `serve`, `serve --hex` and `download`, which write as they read, and for `card a` and `card b`, which leave
+    // the sink as it was where a field is named.
     ensures spares { Spares (form_of words.now) result.fault
         (source.new ≡ source.old) (sink.new ≡ sink.old) (unit.new ≡ unit.old) (card_a.new ≡ card_a.old) (card_b.new ≡ card_b.old) }
 {
@@ -117,6 +121,7 @@ fn perform<S: Source, K: Sink, U: Medium, C: Chip>(
             Ended::with(nothing, wire, download_end(done))
         }
         Form::View { last } => Ended::after(alloc, nothing, print_view(alloc, last, source, sink)),
+        Form::CardFile { card } => perform_card(alloc, card, source, sink, unit, card_a, card_b),
     }
 }
 
@@ -139,6 +144,38 @@ fn perform_record<S: Source, K: Sink, U: Medium, C: Chip>(
     let mut outcome = nothing(alloc);
     let done = record(alloc, source, sink, unit, card_a, card_b, &mut outcome);
     Ended::after(alloc, outcome, done)
+}
+
+/// Does what `card a` or `card b` asks for; it uses the card and the sink alone.
+fn perform_card<S: Source, K: Sink, U: Medium, C: Chip>(
+    alloc: Global,
+    card: Card,
+    source: &mut S,
+    sink: &mut K,
+    unit: &mut U,
+    card_a: &mut C,
+    card_b: &mut C,
+) -> Ended
+    requires { AreDevices (U.state unit.old) (C.state card_a.old) (C.state card_b.old) }
+    ensures ends { Ends (Some (FormOfCard card))
+        (outside S.left S.faults K.held K.faults U.state C.state C.card source.old sink.old unit.old card_a.old card_b.old)
+        (outside S.left S.faults K.held K.faults U.state C.state C.card source.new sink.new unit.new card_a.new card_b.new) result }
+    ensures spares { Spares (Some (FormOfCard card)) result.fault
+        (source.new ≡ source.old) (sink.new ≡ sink.old) (unit.new ≡ unit.old) (card_a.new ≡ card_a.old) (card_b.new ≡ card_b.old) }
+{
+    let outcome = nothing(alloc);
+    match card {
+        Card::A => Ended::of(
+            alloc,
+            outcome,
+            card_end(Device::CardA, write_card_file(card_a, sink)),
+        ),
+        Card::B => Ended::of(
+            alloc,
+            outcome,
+            card_end(Device::CardB, write_card_file(card_b, sink)),
+        ),
+    }
 }
 
 /// An outcome without a line.
