@@ -33,6 +33,19 @@ failed_then (c ∷ cs) b p some = by (λ so. failed_then cs b p so) c.passes som
     by so true some = so some
     by so false some = some
 
+-- a check that passes with those behind it
+pub first_passes : (t : Bool) (p : ℕ) (cs : List Check) → first_failing (check t p ∷ cs) ≡ None → (t ≡ true) × (first_failing cs ≡ None)
+first_passes true p cs none = (refl, none)
+first_passes false p cs none = cc
+
+pub both_pass : (a b : List Check) → first_failing (a ++ b) ≡ None → (first_failing a ≡ None) × (first_failing b ≡ None)
+both_pass [] b none = (refl, none)
+both_pass (c ∷ a) b none = by (λ so. both_pass a b so) c.passes none
+  where
+    by : (first_failing (a ++ b) ≡ None → (first_failing a ≡ None) × (first_failing b ≡ None)) → (t : Bool) → cond t (first_failing (a ++ b)) (Some c.place) ≡ None → (cond t (first_failing a) (Some c.place) ≡ None) × (first_failing b ≡ None)
+    by so true none = so none
+    by so false none = cc
+
 -- the places of a record's checks
 pub placed_failing : (size o k : ℕ) (cs : List Check) → first_failing (placed_checks size o k cs) ≡ option_map (λ p. file_place size o (k + p)) (first_failing cs)
 placed_failing size o k [] = refl
@@ -48,7 +61,7 @@ both_true true b first next = next
 both_true false b first next = cc
 
 -- one check
-passes_one : (t : Bool) (p : ℕ) (cs : List Check) → t ≡ true → first_failing (check t p ∷ cs) ≡ first_failing cs
+pub passes_one : (t : Bool) (p : ℕ) (cs : List Check) → t ≡ true → first_failing (check t p ∷ cs) ≡ first_failing cs
 passes_one t p cs is = ap (λ (b : Bool). cond b (first_failing cs) (Some p)) is
 
 pub fields_pass : (size so_far before date previous len this counter : ℕ) → is_len size so_far len ≡ true → is_previous so_far before previous ≡ true → is_date date this ≡ true → is_decimal counter ≡ true

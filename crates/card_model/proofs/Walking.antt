@@ -69,17 +69,18 @@ distance_is size o n k o_below n_below k_below place = ⊎_elim
     (λ is. let once : n + size - o ≡ 1 * size + k = omega (arith, is) in ap (λ (m : ℕ). m % size) once ∙ mod-mul-add 1 size k k_below)
     (λ is. let none : n + size - o ≡ 0 * size + k = omega (arith, is) in ap (λ (m : ℕ). m % size) none ∙ mod-mul-add 0 size k k_below) place
 
+-- the newest day begins inside the string
+pub far_below : (r : StringShape) (shape : IsStringShape r) (x : List ℕ) → r.base + (4 + r.size) ≤ length x → (days : List Day) → Holds r x days → far days < r.size
+far_below r shape x inside [] h = omega (arith, shape.low)
+far_below r shape x inside (d ∷ ds) h = omega (arith, fills r shape x inside (d ∷ ds) h, last_len_is (d ∷ ds), last_least 0 d ds h.ordered)
+
 -- the walk finds the days that an image holds
 pub walked : (r : StringShape) (shape : IsStringShape r) (x : List ℕ) → r.base + (4 + r.size) ≤ length x → (days : List Day) → Holds r x days → days_of r x ≡ days
 unfolding days_of
 walked r shape x inside days h =
     let few : length days ≤ 984 = omega (arith, count_least 0 days h.ordered, fills r shape x inside days h, shape.high) in
-    ap (λ (n : ℕ). days_in 984 n (circle_of r x)) (distance_is r.size (oldest_pointer r x) (newest_pointer r x) (far days) h.oldest.below h.newest.below (far_below days h) h.distance)
+    ap (λ (n : ℕ). days_in 984 n (circle_of r x)) (distance_is r.size (oldest_pointer r x) (newest_pointer r x) (far days) h.oldest.below h.newest.below (far_below r shape x inside days h) h.distance)
     ∙ ap (λ (l : List ℕ). days_in 984 (far days) l) h.spelled ∙ walk_same 984 h.previous 0 days h.rest few h.ordered (λ none. sym (ap (λ (l : List ℕ). number (bytes_at l 2 2)) (h.spelled ∙ ap (λ (ds : List Day). records h.previous ds ++ h.rest) none)) ∙ h.empty none)
-  where
-    far_below : (days : List Day) → Holds r x days → far days < r.size
-    far_below [] h = omega (arith, shape.low)
-    far_below (d ∷ ds) h = omega (arith, fills r shape x inside (d ∷ ds) h, last_len_is (d ∷ ds), last_least 0 d ds h.ordered)
 
 -- so it holds one list at most
 pub one_list : (r : StringShape) (shape : IsStringShape r) (x : List ℕ) → r.base + (4 + r.size) ≤ length x → (days others : List Day) → Holds r x days → Holds r x others → days ≡ others
