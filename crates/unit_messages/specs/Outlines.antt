@@ -1,6 +1,6 @@
 -- What the outline of a message says of the unit's image.
 use Rattle.std.specs.Prelude.{◌≡◌, ℕ, ◌+◌, ◌*◌, ◌<◌, ◌≤◌, List, [], ◌∷◌, ◌++◌, length, filter, take, drop, Option, Some, None, option_map}
-use Rattle.unit_model.specs.declared.layout.TheConstants.{FIRST_OVER, OVER_COUNT, DAY_WORDS, DAY_WORD_LIMIT, HIGHEST_ODOMETER, IMAGE_SIZE}
+use Rattle.unit_model.specs.declared.layout.TheConstants.{FIRST_OVER, OVER_COUNT, DAY_WORDS, DAY_WORD_LIMIT, HIGHEST_ODOMETER, IMAGE_SIZE, INSERTION_SLOTS, PLACE_SLOTS}
 use Rattle.unit_model.specs.Days.{StoredDay}
 use Rattle.unit_model.specs.Image.{number_of as number_in, last_kept, words_at}
 use Rattle.gated_ring.specs.Ring.{ring_list, PointsInside}
@@ -39,8 +39,8 @@ pub record IsDayInRange (d : DayOutline) : Type 0 where
   pub odometer : d.odometer ≤ HIGHEST_ODOMETER
   pub words : d.words ≤ DAY_WORD_LIMIT
   pub place : d.words_place + DAY_WORDS.size ≤ IMAGE_SIZE
-  pub insertions : d.insertions ≤ 2048
-  pub places : d.places ≤ 255
+  pub insertions : d.insertions ≤ INSERTION_SLOTS
+  pub places : d.places ≤ PLACE_SLOTS
 
 pub record IsEventInRange (e : EventOutline) : Type 0 where
   pub faults : e.faults ≤ 24
