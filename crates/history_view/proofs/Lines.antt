@@ -4,6 +4,7 @@ use Rattle.std.specs.Prelude.{◌==◌, nat_lt, IsTrue}
 use Rattle.std.proofs.lemmas.Bool.{lt-ltb, ltb-true, and_from}
 use Rattle.std.proofs.lemmas.Bool.Decides.{nat_tests}
 use Rattle.std.specs.List.{range_with_len, list_all, AllByRecursion}
+use Rattle.activity_codec.proofs.Tests.{by_test}
 use Rattle.activity_codec.specs.declared.entries.Entry.{Entry}
 use Rattle.unit_model.specs.Days.{UnitMinute}
 use Rattle.view_model.specs.declared.UnitShown.{UnitShown}
@@ -14,7 +15,6 @@ use Rattle.view_model.specs.Lines.{day_of, goes_on, with_minute, lines_of}
 use Rattle.view_text.specs.Entries.{entry_shown}
 use Rattle.view_text.specs.Exact.{both}
 use Rattle.tacho_types.specs.declared.calendar.TheConstants.{DAYS}
-use Rattle.view_text.proofs.More.{by_test}
 use Rattle.view_text.proofs.Texts.{lines-below}
 use Rattle.history_view.specs.Histories.{minute_shown, minute_told, entry_told, line_minutes, minutes_on, AreLines}
 

@@ -5,6 +5,7 @@ use Rattle.std.proofs.lemmas.List.{map-append}
 use Rattle.std.proofs.lemmas.List.Elements.{filter-append}
 use Rattle.std.proofs.lemmas.Bool.{lt-ltb, and_from}
 use Rattle.std.proofs.lemmas.Bool.Decides.{nat_tests}
+use Rattle.activity_codec.proofs.Tests.{by_test}
 use Rattle.byteorder.specs.Endian.{big_number}
 use Rattle.byte_fields.specs.Fields.{joined}
 use Rattle.byte_fields.proofs.Numbers.{big_number-big_bytes}
@@ -14,7 +15,6 @@ use Rattle.card_layout.specs.Application.{application_of, first_bad_field}
 use Rattle.card_model.specs.Checks.{first_bad}
 use Rattle.card_image.specs.CardFile.{FileEntry, entry_bytes, IsFileEntry, is_value, values_of, string_alone, vehicles_alone, IsCardFile}
 use Rattle.gated_ring.specs.Ring.{pointer}
-use Rattle.view_text.proofs.More.{by_test}
 use Rattle.history_view.specs.CardFiles.{is_empty, are_sizes, sizes_told, are_days, are_vehicles, may_follow, lacks, IsStuck, IsBadCardFile}
 
 -- two fronts of one length
