@@ -6,10 +6,12 @@ use Rattle.unit_model.specs.Image.{number_of as number_in, last_kept, words_at}
 use Rattle.gated_ring.specs.Ring.{ring_list, PointsInside}
 use Rattle.link_model.specs.declared.request.Request.{Request}
 use Rattle.link_model.specs.declared.request.Request.TheVariants.{Overview as AskOverview, Day as AskDay, Events as AskEvents, Technical as AskTechnical}
+use Rattle.message_model.specs.declared.sizes.TheConstants.{INSERTION, PLACE, FAULT, EVENT, OVER}
 use Rattle.message_model.specs.Records.{insertion_ring, unit_place_ring}
 use Rattle.message_model.specs.Messages.{message_bytes}
 use Rattle.message_model.specs.Sending.{message_of, sent_days, day_at, period_of, entries_in, event_table, over_table, fault_table, touches_day, place_in_day}
 use Rattle.unit_messages.specs.Windows.{Sight, passed}
+use Rattle.unit_messages.specs.declared.outline.TheConstants.{OVERVIEW_LENGTH, DAY_LENGTH, EVENTS_LENGTH, TECHNICAL_LENGTH}
 use Rattle.unit_messages.specs.declared.outline.Times.{Times}
 use Rattle.unit_messages.specs.declared.outline.DayOutline.{DayOutline}
 use Rattle.unit_messages.specs.declared.outline.EventOutline.{EventOutline}
@@ -29,10 +31,10 @@ asked Technical = AskTechnical
 
 -- how many bytes the message has
 abbrev pub length_of : Plan → ℕ
-length_of (Overview times) = 623
-length_of (Day d) = 144 + 129 * d.insertions + 2 * d.words + 28 * d.places
-length_of (Events e) = 143 + 82 * e.faults + 83 * e.events + 31 * e.overs
-length_of Technical = 267
+length_of (Overview times) = OVERVIEW_LENGTH
+length_of (Day d) = DAY_LENGTH + INSERTION * d.insertions + 2 * d.words + PLACE * d.places
+length_of (Events e) = EVENTS_LENGTH + FAULT * e.faults + EVENT * e.events + OVER * e.overs
+length_of Technical = TECHNICAL_LENGTH
 
 -- the numbers of an outline have their ranges, also of a unit that tells nothing
 pub record IsDayInRange (d : DayOutline) : Type 0 where
