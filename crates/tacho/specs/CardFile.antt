@@ -1,10 +1,11 @@
 -- What the commands `card a` and `card b` do: the card is read by its commands, and its card file is written to the sink.
-use Rattle.std.specs.Prelude.{◌≡◌, ◌⊎◌, ℕ, IfSome, Result, Ok, Err}
-use Rattle.tach_media.specs.Medium.{Reads, Rose}
+use Rattle.std.specs.Prelude.{◌≡◌, ◌⊎◌, ◌≤◌, ℕ, IfSome, Result, Ok, Err}
+use Rattle.tach_media.specs.Medium.{State, Reads, Rose}
 use Rattle.run_model.specs.declared.Device.{Device}
 use Rattle.card_download.specs.declared.fault.CardFileFault.{CardFileFault}
 use Rattle.card_download.specs.declared.fault.CardFileFault.TheVariants as writing
-use Rattle.card_download.specs.Written.{Writes}
+use Rattle.card_download.specs.Faults.{has_failed}
+use Rattle.card_download.specs.Written.{Writes, IsWriteFault, IsBad}
 use Rattle.tacho.specs.declared.end.Fault.{Fault}
 use Rattle.tacho.specs.declared.end.Fault.TheVariants.{Done, WriteFault, MediumFault, BadCard}
 use Rattle.tacho.specs.End.{is_medium_fault}
@@ -16,6 +17,16 @@ end_of_card device (Ok done) = Done
 end_of_card device (Err writing.Failed) = MediumFault device
 end_of_card device (Err writing.WriteFault) = WriteFault
 end_of_card device (Err (writing.BadApplication field)) = BadCard field
+
+-- What the writing of a card's file did, by what it answered, and the end by it; `same` says that the sink is as it was.
+pub record IsFileWritten (device : Device) (old new : State) (before after : SinkTold) (same : Type 0) (fault : Fault) : Type 0 where
+  pub ended : Result (Unit {0}) CardFileFault
+  pub ends : fault ≡ end_of_card device ended
+  pub writes : IfSome old.image (λ x. Writes ended x before.held after.held)
+  pub untouched : IsBad ended → same
+  pub cause : IsWriteFault ended → Rose before.faults after.faults
+  pub counts : before.faults ≤ after.faults
+  pub card : Reads old new (has_failed ended)
 
 -- HOW `card a` AND `card b` END.
 pub record EndsCard (device : Device) (old new : CardTold) (before after : SinkTold) (fault : Fault) : Type 0 where

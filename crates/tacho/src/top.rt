@@ -7,7 +7,7 @@ ghost use Rattle.tacho.specs.declared.forms.Form.TheVariants.{Record as FormOfRe
 ghost use Rattle.tacho.specs.Recorded.{IsEmpty};
 ghost use Rattle.tacho.specs.Program.{AreDevices, Ends, Spares};
 
-use crate::card_command::card_end;
+use crate::card_command::print_card;
 use crate::download_command::download_end;
 use crate::end::{Ended, Fault};
 use crate::format_command::{format_card, make_unit};
@@ -17,7 +17,6 @@ use crate::record_command::record;
 use crate::serve_command::{lines_end, service_end};
 use crate::view_command::print_view;
 use crate::words::Words;
-use card_download::write_card_file;
 use link_service::{serve, serve_lines};
 use recorder::Outcome;
 use run_model::{Card, Device};
@@ -85,34 +84,23 @@ fn perform<S: Source, K: Sink, U: Medium, C: Chip>(
     match form {
         Form::Minutes => Ended::after(alloc, nothing, print_minutes(alloc, source, sink)),
         Form::Record => perform_record(alloc, source, sink, unit, card_a, card_b),
-        Form::FormatCard {
-            card: Card::A,
-            identity,
-        } => Ended::after(
-            alloc,
-            nothing,
-            format_card(alloc, &identity, Device::CardA, card_a, sink),
-        ),
-        Form::FormatCard {
-            card: Card::B,
-            identity,
-        } => Ended::after(
-            alloc,
-            nothing,
-            format_card(alloc, &identity, Device::CardB, card_b, sink),
-        ),
-        Form::FormatUnit { identity } => Ended::after(
-            alloc,
-            nothing,
-            make_unit(&identity, unit, sink),
-        ),
+        Form::FormatCard { card, identity } => match card {
+            Card::A => {
+                let done = format_card(alloc, &identity, Device::CardA, card_a, sink);
+                Ended::after(alloc, nothing, done)
+            }
+            Card::B => {
+                let done = format_card(alloc, &identity, Device::CardB, card_b, sink);
+                Ended::after(alloc, nothing, done)
+            }
+        },
+        Form::FormatUnit { identity } => {
+            Ended::after(alloc, nothing, make_unit(&identity, unit, sink))
+        }
         Form::Serve => Ended::of(alloc, nothing, service_end(serve(source, sink, unit))),
         Form::ServeHex => {
-            Ended::of(
-                alloc,
-                nothing,
-                lines_end(serve_lines(alloc, source, sink, unit)),
-            )
+            let done = serve_lines(alloc, source, sink, unit);
+            Ended::of(alloc, nothing, lines_end(done))
         }
         Form::Download => {
             let mut wire = Wire::new(alloc);
@@ -121,18 +109,10 @@ fn perform<S: Source, K: Sink, U: Medium, C: Chip>(
         }
         Form::View { last } => Ended::after(alloc, nothing, print_view(alloc, last, source, sink)),
         Form::CardFile { card: Card::A } => {
-            Ended::of(
-                alloc,
-                nothing,
-                card_end(Device::CardA, write_card_file(card_a, sink)),
-            )
+            Ended::of(alloc, nothing, print_card(Device::CardA, card_a, sink))
         }
         Form::CardFile { card: Card::B } => {
-            Ended::of(
-                alloc,
-                nothing,
-                card_end(Device::CardB, write_card_file(card_b, sink)),
-            )
+            Ended::of(alloc, nothing, print_card(Device::CardB, card_b, sink))
         }
     }
 }

@@ -26,9 +26,9 @@ returns-in-Serve-clause-spares g c = rw c.in-Serve.is (record { others = (refl, 
 
 pub returns-in-ServeHex-clause-ends : goal.returns-in-ServeHex-clause-ends
 returns-in-ServeHex-clause-ends g c =
-    let e = c.serve_lines.ensures in
+    let e = c.serve_lines-done.ensures in
     rw (c.in-ServeHex.is, c.of-in-ServeHex.ensures, c.lines_end.ensures)
-    (serve-hex-ends _ _ c.serve_lines.result e.served e.end e.cause e.unit e.counts c.nothing-nothing.result c.nothing-nothing.ensures)
+    (serve-hex-ends _ _ c.serve_lines-done.result e.served e.end e.cause e.unit e.counts c.nothing-nothing.result c.nothing-nothing.ensures)
 
 pub returns-in-ServeHex-clause-spares : goal.returns-in-ServeHex-clause-spares
 returns-in-ServeHex-clause-spares g c = rw c.in-ServeHex.is (record { others = (refl, refl); before = λ none. absurd none; nothing = λ none. absurd none; unprinted = λ none. absurd none })
@@ -52,20 +52,24 @@ returns-in-Download-clause-spares g c = rw c.in-Download.is (record { others = (
 
 pub returns-in-CardFile-A-clause-ends : goal.returns-in-CardFile-A-clause-ends
 returns-in-CardFile-A-clause-ends g c =
-    let e = c.write_card_file.ensures in
-    rw (c.in-CardFile-A.is, c.in-CardFile-A.card-is, c.of-in-CardFile-A.ensures, c.card_end.ensures)
-    (card-a-ends _ _ c.write_card_file.result e.writes e.cause (omega arith) e.counts e.card c.nothing-nothing.result c.nothing-nothing.ensures)
+    let e = c.print_card.ensures in
+    rw (c.in-CardFile-A.is, c.in-CardFile-A.card-is, c.of-in-CardFile-A.ensures, e.ends)
+    (card-a-ends _ _ e.ended e.writes e.cause (omega arith) e.counts e.card c.nothing-nothing.result c.nothing-nothing.ensures)
 
 pub returns-in-CardFile-A-clause-spares : goal.returns-in-CardFile-A-clause-spares
-returns-in-CardFile-A-clause-spares g c = rw (c.in-CardFile-A.is, c.in-CardFile-A.card-is, c.of-in-CardFile-A.ensures, c.card_end.ensures)
-    (record { others = (refl, refl, refl); before = λ none. absurd none; nothing = λ none. absurd none; unprinted = λ named. c.write_card_file.ensures.untouched (is-bad CardA c.write_card_file.result named) })
+returns-in-CardFile-A-clause-spares g c =
+    let e = c.print_card.ensures in
+    rw (c.in-CardFile-A.is, c.in-CardFile-A.card-is, c.of-in-CardFile-A.ensures, e.ends)
+    (record { others = (refl, refl, refl); before = λ none. absurd none; nothing = λ none. absurd none; unprinted = λ named. e.untouched (is-bad CardA e.ended named) })
 
 pub returns-in-CardFile-B-clause-ends : goal.returns-in-CardFile-B-clause-ends
 returns-in-CardFile-B-clause-ends g c =
-    let e = c.write_card_file-in-CardFile-B.ensures in
-    rw (c.in-CardFile-B.is, c.in-CardFile-B.card-is, c.of-in-CardFile-B.ensures, c.card_end-in-CardFile-B.ensures)
-    (card-b-ends _ _ c.write_card_file-in-CardFile-B.result e.writes e.cause (omega arith) e.counts e.card c.nothing-nothing.result c.nothing-nothing.ensures)
+    let e = c.print_card-in-CardFile-B.ensures in
+    rw (c.in-CardFile-B.is, c.in-CardFile-B.card-is, c.of-in-CardFile-B.ensures, e.ends)
+    (card-b-ends _ _ e.ended e.writes e.cause (omega arith) e.counts e.card c.nothing-nothing.result c.nothing-nothing.ensures)
 
 pub returns-in-CardFile-B-clause-spares : goal.returns-in-CardFile-B-clause-spares
-returns-in-CardFile-B-clause-spares g c = rw (c.in-CardFile-B.is, c.in-CardFile-B.card-is, c.of-in-CardFile-B.ensures, c.card_end-in-CardFile-B.ensures)
-    (record { others = (refl, refl, refl); before = λ none. absurd none; nothing = λ none. absurd none; unprinted = λ named. c.write_card_file-in-CardFile-B.ensures.untouched (is-bad CardB c.write_card_file-in-CardFile-B.result named) })
+returns-in-CardFile-B-clause-spares g c =
+    let e = c.print_card-in-CardFile-B.ensures in
+    rw (c.in-CardFile-B.is, c.in-CardFile-B.card-is, c.of-in-CardFile-B.ensures, e.ends)
+    (record { others = (refl, refl, refl); before = λ none. absurd none; nothing = λ none. absurd none; unprinted = λ named. e.untouched (is-bad CardB e.ended named) })
