@@ -8,7 +8,7 @@ use Rattle.card_model.specs.Walk.{days_of}
 use Rattle.card_model.specs.Changes.{date_of, until, trimmed, cut, early, with_early, with_newest}
 use Rattle.card_model.specs.Checks.{Check, check, first_failing}
 use Rattle.card_model.proofs.Judging.{passed_then, failed_then}
-use Rattle.cyclic_days.proofs.Lists.{with_last}
+use Rattle.card_model.proofs.Trims.{with_last}
 use Rattle.card_image.specs.Judging.{words_placed, rising_checks, newest_rises, words_behind_mark, days_placed, word_checks}
 use Rattle.card_judge.specs.declared.walk.Met.{Met}
 use Rattle.card_judge.specs.Words.{first_of, limit_of}

@@ -2,6 +2,7 @@
 use Rattle.std.proofs.Common.{◌≡◌, ◌≢◌, ⊎_elim, ℕ, zero, suc, ◌+◌, ◌-◌, ◌*◌, ◌/◌, ◌%◌, ◌<◌, ◌≤◌, Bool, true, false, cond, Some, None, option_map, List, [], ◌∷◌, ◌++◌, length, drop, refl, sym, ◌∙◌, ap, subst, arith, append_assoc}
 use Rattle.std.specs.Prelude.{◌&&◌, ◌||◌, nat_eq, nat_lt, nat_le}
 use Rattle.std.proofs.lemmas.Bool.Decides.{nat_tests}
+use Rattle.std.proofs.lemmas.Bool.{and_from, and_right, eq-eqb, ne_eqb}
 use Rattle.tach_media.specs.Medium.{bytes_at}
 use Rattle.card_model.specs.Bytes.{number, decimal_bytes}
 use Rattle.activity_codec.specs.Words.{word_minute}
@@ -33,6 +34,19 @@ failed_then (c ∷ cs) b p some = by (λ so. failed_then cs b p so) c.passes som
     by so true some = so some
     by so false some = some
 
+-- a check that passes with those behind it
+pub first_passes : (t : Bool) (p : ℕ) (cs : List Check) → first_failing (check t p ∷ cs) ≡ None → (t ≡ true) × (first_failing cs ≡ None)
+first_passes true p cs none = (refl, none)
+first_passes false p cs none = cc
+
+pub both_pass : (a b : List Check) → first_failing (a ++ b) ≡ None → (first_failing a ≡ None) × (first_failing b ≡ None)
+both_pass [] b none = (refl, none)
+both_pass (c ∷ a) b none = by (λ so. both_pass a b so) c.passes none
+  where
+    by : (first_failing (a ++ b) ≡ None → (first_failing a ≡ None) × (first_failing b ≡ None)) → (t : Bool) → cond t (first_failing (a ++ b)) (Some c.place) ≡ None → (cond t (first_failing a) (Some c.place) ≡ None) × (first_failing b ≡ None)
+    by so true none = so none
+    by so false none = cc
+
 -- the places of a record's checks
 pub placed_failing : (size o k : ℕ) (cs : List Check) → first_failing (placed_checks size o k cs) ≡ option_map (λ p. file_place size o (k + p)) (first_failing cs)
 placed_failing size o k [] = refl
@@ -43,12 +57,8 @@ placed_failing size o k (c ∷ cs) = by (placed_failing size o k cs) c.passes
     by so true = so
     by so false = refl
 
-pub both_true : (a b : Bool) → a ≡ true → b ≡ true → (a && b) ≡ true
-both_true true b first next = next
-both_true false b first next = cc
-
 -- one check
-passes_one : (t : Bool) (p : ℕ) (cs : List Check) → t ≡ true → first_failing (check t p ∷ cs) ≡ first_failing cs
+pub passes_one : (t : Bool) (p : ℕ) (cs : List Check) → t ≡ true → first_failing (check t p ∷ cs) ≡ first_failing cs
 passes_one t p cs is = ap (λ (b : Bool). cond b (first_failing cs) (Some p)) is
 
 pub fields_pass : (size so_far before date previous len this counter : ℕ) → is_len size so_far len ≡ true → is_previous so_far before previous ≡ true → is_date date this ≡ true → is_decimal counter ≡ true
@@ -59,7 +69,7 @@ fields_pass size so_far before date previous len this counter a b c d =
     ∙ passes_one (is_date date this) 4 (check (is_decimal counter) 8 ∷ []) c ∙ passes_one (is_decimal counter) 8 [] d
 
 in_order : (m n k : ℕ) → m ≤ n → n < k → (nat_le m n && nat_lt n k) ≡ true
-in_order m n k low high = both_true (nat_le m n) (nat_lt n k) (grind (arith, nat_tests)) (grind (arith, nat_tests))
+in_order m n k low high = and_from (nat_le m n) (nat_lt n k) (grind (arith, nat_tests)) (grind (arith, nat_tests))
 
 later_pass : (offset from : ℕ) (ws : List ℕ) → Ascend from ws → first_failing (word_checks offset from 1440 ws) ≡ None
 later_pass offset from [] up = refl
@@ -78,11 +88,11 @@ len_passes : (size so_far : ℕ) (d : Day) → IsDay d → so_far + len_of d ≤
 len_passes size so_far d is fits = by (len_of d) (len_even d) (len_least d is) (len_most d is) fits
   where
     by : (n : ℕ) → n % 2 ≡ 0 → 14 ≤ n → n ≤ 2892 → so_far + n ≤ size → is_len size so_far n ≡ true
-    by n even low high fits = both_true (nat_eq (n % 2) 0 && nat_le 14 n && nat_le n 2892) (nat_le (so_far + n) size)
-        (both_true (nat_eq (n % 2) 0 && nat_le 14 n) (nat_le n 2892) (both_true (nat_eq (n % 2) 0) (nat_le 14 n) (grind (arith, nat_tests)) (grind (arith, nat_tests))) (grind (arith, nat_tests))) (grind (arith, nat_tests))
+    by n even low high fits = and_from (nat_eq (n % 2) 0 && nat_le 14 n && nat_le n 2892) (nat_le (so_far + n) size)
+        (and_from (nat_eq (n % 2) 0 && nat_le 14 n) (nat_le n 2892) (and_from (nat_eq (n % 2) 0) (nat_le 14 n) (grind (arith, nat_tests)) (grind (arith, nat_tests))) (grind (arith, nat_tests))) (grind (arith, nat_tests))
 
 date_passes : (before date : ℕ) → date % 86400 ≡ 0 → before < date → is_date before date ≡ true
-date_passes before date midnight later = both_true (nat_eq (date % 86400) 0) (nat_lt before date) (grind (arith, nat_tests)) (grind (arith, nat_tests))
+date_passes before date midnight later = and_from (nat_eq (date % 86400) 0) (nat_lt before date) (grind (arith, nat_tests)) (grind (arith, nat_tests))
 
 digits_pass : (v a b c d : ℕ) → a < 10 → b < 10 → c < 10 → d < 10 → v ≡ 4096 * a + 256 * b + 16 * c + d → is_decimal v ≡ true
 digits_pass v a b c d a_low b_low c_low d_low is =
@@ -93,9 +103,9 @@ digits_pass v a b c d a_low b_low c_low d_low is =
     let f2 : v / 256 % 16 < 10 = omega (arith, e2, b_low) in
     let f3 : v / 16 % 16 < 10 = omega (arith, e3, c_low) in
     let f4 : v % 16 < 10 = omega (arith, is, d_low) in
-    both_true (nat_lt (v / 4096) 10 && nat_lt (v / 256 % 16) 10 && nat_lt (v / 16 % 16) 10) (nat_lt (v % 16) 10)
-    (both_true (nat_lt (v / 4096) 10 && nat_lt (v / 256 % 16) 10) (nat_lt (v / 16 % 16) 10)
-    (both_true (nat_lt (v / 4096) 10) (nat_lt (v / 256 % 16) 10) (below f1) (below f2)) (below f3)) (below f4)
+    and_from (nat_lt (v / 4096) 10 && nat_lt (v / 256 % 16) 10 && nat_lt (v / 16 % 16) 10) (nat_lt (v % 16) 10)
+    (and_from (nat_lt (v / 4096) 10 && nat_lt (v / 256 % 16) 10) (nat_lt (v / 16 % 16) 10)
+    (and_from (nat_lt (v / 4096) 10) (nat_lt (v / 256 % 16) 10) (below f1) (below f2)) (below f3)) (below f4)
   where
     below : {m : ℕ} → m < 10 → nat_lt m 10 ≡ true
     below {m} lt = grind (arith, nat_tests)
@@ -209,28 +219,18 @@ holds_passes r shape x inside days h =
     ∙ by_days days h
   where
     pointer : (p : ℕ) → IsPointer r.size p → is_pointer r.size p ≡ true
-    pointer p is = both_true (nat_lt p r.size) (nat_eq (p % 2) 0) (grind (arith, nat_tests, is.below)) (grind (arith, nat_tests, is.even))
-
-    either_false : (a b : Bool) → b ≡ false → (a && b) ≡ false
-    either_false true b is = is
-    either_false false b is = refl
-
-    equal : (m n : ℕ) → m ≡ n → nat_eq m n ≡ true
-    equal m n is = grind (arith, nat_tests)
-
-    other : (m n : ℕ) → m ≢ n → nat_eq m n ≡ false
-    other m n is = grind (arith, nat_tests)
+    pointer p is = and_from (nat_lt p r.size) (nat_eq (p % 2) 0) (grind (arith, nat_tests, is.below)) (grind (arith, nat_tests, is.even))
 
     by_days : (days : List Day) → Holds r x days → first_failing (checks_unless r x (is_empty r x)) ≡ None
     by_days [] h =
         let same : oldest_pointer r x ≡ newest_pointer r x = ⊎_elim (λ is. omega (arith, is)) (λ is. absurd (omega (arith, is, h.oldest.below))) h.distance in
-        let empty : is_empty r x ≡ true = both_true (nat_eq (oldest_pointer r x) (newest_pointer r x)) (nat_eq (number (bytes_at (circle_of r x) 2 2)) 0) (equal (oldest_pointer r x) (newest_pointer r x) same) (equal (number (bytes_at (circle_of r x) 2 2)) 0 (h.empty refl)) in
+        let empty : is_empty r x ≡ true = and_from (nat_eq (oldest_pointer r x) (newest_pointer r x)) (nat_eq (number (bytes_at (circle_of r x) 2 2)) 0) (eq-eqb (oldest_pointer r x) (newest_pointer r x) same) (eq-eqb (number (bytes_at (circle_of r x) 2 2)) 0 (h.empty refl)) in
         ap (λ (b : Bool). first_failing (checks_unless r x b)) empty
     by_days (d ∷ ds) h =
         let spelled : circle_of r x ≡ records h.previous (d ∷ ds) ++ h.rest = h.spelled in
         let len : number (bytes_at (circle_of r x) 2 2) ≡ len_of d = ap (λ (l : List ℕ). number (bytes_at l 2 2)) spelled ∙ number_two (len_of d) in
         let least : 14 ≤ len_of d = len_least d h.ordered.1 in
-        let some : is_empty r x ≡ false = either_false (nat_eq (oldest_pointer r x) (newest_pointer r x)) (nat_eq (number (bytes_at (circle_of r x) 2 2)) 0) (other (number (bytes_at (circle_of r x) 2 2)) 0 (λ none. omega (arith, none, len, least))) in
+        let some : is_empty r x ≡ false = and_right (nat_eq (oldest_pointer r x) (newest_pointer r x)) (nat_eq (number (bytes_at (circle_of r x) 2 2)) 0) (ne_eqb (number (bytes_at (circle_of r x) 2 2)) 0 (λ none. omega (arith, none, len, least))) in
         let all : total (d ∷ ds) ≤ r.size = omega (arith, fills r shape x inside (d ∷ ds) h) in
         let few : length (d ∷ ds) ≤ 984 = omega (arith, count_least 0 (d ∷ ds) h.ordered, all, shape.high) in
         let below : far (d ∷ ds) < r.size = omega (arith, all, last_len_is (d ∷ ds), last_least 0 d ds h.ordered) in

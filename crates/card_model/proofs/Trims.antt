@@ -11,6 +11,12 @@ newest_some : (f : Day → Day) (d : Day) (ds : List Day) → with_newest f (d �
 newest_some f d [] e = cc
 newest_some f d (x ∷ ds) e = cc
 
+-- the newest day in another form
+pub with_last : (f : Day → Day) (ds : List Day) (d : Day) → with_newest f (ds ++ d ∷ []) ≡ ds ++ f d ∷ []
+with_last f [] d = refl
+with_last f (e ∷ []) d = refl
+with_last f (e ∷ g ∷ ds) d = ap (λ (l : List Day). e ∷ l) (with_last f (g ∷ ds) d)
+
 -- one day in front of days that are alike
 cons_same : (f : Day → Day) (d : Day) (us vs : List Day) → with_newest f us ≡ with_newest f vs → with_newest f (d ∷ us) ≡ with_newest f (d ∷ vs)
 cons_same f d [] [] e = refl
@@ -158,7 +164,7 @@ early_ascend m low (w ∷ ws) a = by (early_ascend m (word_minute w) ws a.2) (na
     by rest true = (a.0, a.1, rest)
     by rest false = tt
 
-early_words : (m : ℕ) (ws : List ℕ) → AreWords ws → AreWords (early m ws)
+pub early_words : (m : ℕ) (ws : List ℕ) → AreWords ws → AreWords (early m ws)
 early_words m [] a = absurd a
 early_words m (w ∷ ws) a = by (nat_le (word_minute w) m) (le-leb (word_minute w) m (omega (arith, a.0)))
   where

@@ -1,6 +1,6 @@
 -- What is checked of a string of days, in order, and the place in the file of days where it first fails.
 use Rattle.std.specs.Prelude.{ℕ, zero, suc, ◌+◌, ◌-◌, ◌/◌, ◌%◌, Bool, true, false, ◌&&◌, ◌||◌, Option, Some, None, List, [], ◌∷◌, ◌++◌, map, drop, nat_eq, nat_lt, nat_le, if◌then◌else◌}
-use Rattle.card_model.specs.declared.lengths.TheConstants.{DAY_LEAST, DAY_MOST}
+use Rattle.card_model.specs.declared.lengths.TheConstants.{DAY_LEAST, DAY_MOST, DAYS_MOST}
 use Rattle.tach_media.specs.Medium.{bytes_at}
 use Rattle.activity_codec.specs.Words.{word_minute}
 use Rattle.card_model.specs.Bytes.{number}
@@ -90,7 +90,7 @@ checks_of r x =
     let o : ℕ = oldest_pointer r x in
     let n : ℕ = newest_pointer r x in
     check (is_pointer r.size o) 0 ∷ check (is_pointer r.size n) 2
-    ∷ (elim (is_empty r x) as (λ _. List Check) [ true ↦ [] | false ↦ day_checks 984 r.size o (distance_of r.size o n) 0 0 0 (circle_of r x) ])
+    ∷ (elim (is_empty r x) as (λ _. List Check) [ true ↦ [] | false ↦ day_checks DAYS_MOST r.size o (distance_of r.size o n) 0 0 0 (circle_of r x) ])
 
 -- the place in the file of days where an image first fails, if it does
 unfoldable pub first_bad : StringShape → List ℕ → Option ℕ

@@ -1,5 +1,6 @@
 -- The days of a string as a function of its bytes: a walk from the oldest to the newest by the lengths.
 use Rattle.std.specs.Prelude.{ℕ, zero, suc, ◌+◌, ◌-◌, ◌/◌, ◌%◌, List, [], ◌∷◌, length, take, drop, nat_lt, if◌then◌else◌}
+use Rattle.card_model.specs.declared.lengths.TheConstants.{DAYS_MOST}
 use Rattle.tach_media.specs.Medium.{bytes_at}
 use Rattle.card_model.specs.Bytes.{number, decimal}
 use Rattle.card_model.specs.Days.{Day}
@@ -30,4 +31,4 @@ days_in (suc most) far bytes =
 
 -- the days of an image, where it holds days
 unfoldable pub days_of : StringShape → List ℕ → List Day
-days_of r x = days_in 984 ((newest_pointer r x + r.size - oldest_pointer r x) % r.size) (circle_of r x)
+days_of r x = days_in DAYS_MOST ((newest_pointer r x + r.size - oldest_pointer r x) % r.size) (circle_of r x)

@@ -2,6 +2,7 @@
 use Rattle.std.proofs.Common.{◌≡◌, inl, inr, ⊎_elim, ℕ, zero, suc, ◌+◌, ◌-◌, ◌*◌, ◌/◌, ◌%◌, ◌<◌, ◌≤◌, max, Bool, true, false, cond, ◌&&◌, not, Option, Some, None, List, [], ◌∷◌, ◌++◌, length, refl, sym, ◌∙◌, ap, subst, arith}
 use Rattle.std.specs.Prelude.{◌⊎◌, ◌||◌, nat_eq, nat_lt, nat_le}
 use Rattle.std.proofs.lemmas.Bool.Decides.{nat_tests}
+use Rattle.std.proofs.lemmas.Bool.{eqb-false, eqb-true}
 use Rattle.activity_codec.specs.declared.values.Activity.{Activity}
 use Rattle.activity_codec.specs.declared.values.Activity.TheVariants.{Rest}
 use Rattle.activity_codec.specs.declared.entries.Entry.{Entry}
@@ -29,7 +30,7 @@ use Rattle.card_session.specs.Moments.{IsBook, IsKeepMoment, IsCloseMoment}
 use Rattle.card_session.specs.Cards.{IsCard, ended}
 use Rattle.card_session.specs.Parts.{IsBeforeGapOf}
 use Rattle.card_session.specs.Overwriting.{ShowsEntries, IsSilentBehind, TellsNoLater, BeginsBehind}
-use Rattle.card_session.proofs.Following.{closing_minute, entry_minute, differ, same_is}
+use Rattle.card_session.proofs.Following.{closing_minute, entry_minute}
 use Rattle.card_session.proofs.Preparing.{gap_are, gap_ready, words_last, open_date}
 use Rattle.card_session.proofs.Lasting.{entered_as}
 use Rattle.card_session.proofs.Alike.{alike_km, are_bare, entries_alike, sizes_alike, word_alike}
@@ -78,7 +79,7 @@ quiet_new mark e d date words t low behind before =
     early = omega (arith, date, before, entry_minute e)
 
     by : (b : Bool) → nat_eq (e.minute % 1440) 0 ≡ b → told_by (d.date / 60 + t) (latest (cond b (entry_word e ∷ []) (bare_word ∷ entry_word e ∷ [])) t) ≡ None
-    by true is = absurd (omega (arith, early, entry_minute e, same_is (e.minute % 1440) 0 is))
+    by true is = absurd (omega (arith, early, entry_minute e, eqb-true (e.minute % 1440) 0 is))
     by false is =
         ap (λ (o : Option ℕ). told_by (d.date / 60 + t) (elim o as (λ _. Option ℕ) [ Some x ↦ Some x | None ↦ cond (nat_le (word_minute bare_word) t) (Some bare_word) None ])) (latest_skip t [] (entry_word e) early)
         ∙ bare (nat_le (word_minute bare_word) t)
@@ -96,7 +97,7 @@ quiet_end mark next date d [] are low shut = record { begins = omega (arith, low
     by false same false gap here told shut = inr (inl (not_less (suc mark) next gap))
     by true true false gap here told shut = absurd (cc)
     by true false false gap here told shut =
-        let other = differ d.date (date_of (suc mark)) here in
+        let other = eqb-false d.date (date_of (suc mark)) here in
         inr (inr (omega (arith, other, low, are.1.midnight)))
 quiet_end mark next date d (e ∷ ds) are low shut = quiet_end mark next d.date e ds are.2 low shut
 

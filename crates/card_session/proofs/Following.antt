@@ -2,6 +2,7 @@
 use Rattle.std.proofs.Common.{◌≡◌, ◌≢◌, ℕ, suc, ◌+◌, ◌*◌, ◌/◌, ◌%◌, ◌<◌, ◌≤◌, Bool, true, false, cond, not, Option, Some, None, List, [], ◌∷◌, ◌++◌, refl, sym, ◌∙◌, ap, subst, arith}
 use Rattle.std.specs.Prelude.{nat_eq, nat_lt, ◌&&◌}
 use Rattle.std.proofs.lemmas.Bool.Decides.{nat_tests}
+use Rattle.std.proofs.lemmas.Bool.{eqb-true, eqb-false, and_parts, not-true}
 use Rattle.activity_codec.specs.declared.values.Activity.{Activity}
 use Rattle.activity_codec.specs.declared.values.Activity.TheVariants.{Rest, Available, Work, Driving}
 use Rattle.activity_codec.specs.declared.entries.Entry.{Entry}
@@ -40,28 +41,13 @@ entry_minute e = omega arith
 bare_minute : word_minute bare_word ≡ 0
 bare_minute = refl
 
-pub same_is : (m n : ℕ) → nat_eq m n ≡ true → m ≡ n
-same_is m n is = grind (arith, nat_tests)
-
-pub differ : (m n : ℕ) → nat_eq m n ≡ false → m ≢ n
-differ m n is = grind (arith, nat_tests)
-
-pub both_true : (a b : Bool) → (a && b) ≡ true → (a ≡ true) × (b ≡ true)
-both_true true true is = (refl, refl)
-both_true true false is = absurd cc
-both_true false b is = absurd cc
-
-pub not_true : (b : Bool) → not b ≡ true → b ≡ false
-not_true true is = absurd cc
-not_true false is = refl
-
 -- the closing word goes on with the newest day
 pub takes_closing : (mark : ℕ) (act : Activity) (days : List Day) → EndsBy mark days → EndsStrictly days → is_open mark days ≡ true → OnNewest (TakesWord (closing_word (suc mark) act (latest_of days))) days
 takes_closing mark act [] ends strict is = absurd cc
 takes_closing mark act (d ∷ []) ends strict is =
-    let both = both_true (nat_eq d.date (date_of (suc mark))) (not (word_absent (last_word d.words))) is in
-    let date : d.date ≡ date_of (suc mark) = same_is d.date (date_of (suc mark)) both.0 in
-    let low : d.date / 60 + word_minute (last_word d.words) ≤ mark = ends (not_true (word_absent (last_word d.words)) both.1) in
+    let both = and_parts (nat_eq d.date (date_of (suc mark))) (not (word_absent (last_word d.words))) is in
+    let date : d.date ≡ date_of (suc mark) = eqb-true d.date (date_of (suc mark)) both.0 in
+    let low : d.date / 60 + word_minute (last_word d.words) ≤ mark = ends (not-true (word_absent (last_word d.words)) both.1) in
     let minute = closing_minute (suc mark) act (last_word d.words) in
     strict_more d.words (closing_word (suc mark) act (last_word d.words)) strict (omega (arith, date, low, minute)) (omega (arith, minute))
 takes_closing mark act (d ∷ e ∷ ds) ends strict is = takes_closing mark act (e ∷ ds) ends strict is
@@ -70,7 +56,7 @@ takes_closing mark act (d ∷ e ∷ ds) ends strict is = takes_closing mark act 
 pub takes_entry : (date : ℕ) (e : Entry) (days : List Day) → AreDays date days → EndsStrictly days → is_newest (e.minute / 1440) (sizes days) ≡ true → newest_word days < e.minute → OnNewest (TakesWord (entry_word e)) days
 takes_entry date e [] are strict is late = absurd cc
 takes_entry date e (d ∷ []) are strict is late =
-    let day : d.date / 86400 ≡ e.minute / 1440 = same_is _ _ is in
+    let day : d.date / 86400 ≡ e.minute / 1440 = eqb-true _ _ is in
     let minute = entry_minute e in
     strict_more d.words (entry_word e) strict (omega (arith, day, late, minute, are.1.midnight)) (omega (arith, minute))
 takes_entry date e (d ∷ f ∷ ds) are strict is late = takes_entry d.date e (f ∷ ds) are.2 strict is late
@@ -78,7 +64,7 @@ takes_entry date e (d ∷ f ∷ ds) are strict is late = takes_entry d.date e (f
 -- or begins a day
 later_day : (date : ℕ) (e : Entry) (d : Day) (ds : List Day) → AreDays date (d ∷ ds) → is_newest (e.minute / 1440) (sizes (d ∷ ds)) ≡ false → newest_word (d ∷ ds) < e.minute → IsLater (date_of e.minute) (d ∷ ds)
 later_day date e d [] are is late =
-    let day : d.date / 86400 ≢ e.minute / 1440 = differ _ _ is in
+    let day : d.date / 86400 ≢ e.minute / 1440 = eqb-false _ _ is in
     omega (arith, day, late, are.1.midnight)
 later_day date e d (f ∷ ds) are is late = later_day d.date e f ds are.2 is late
 
@@ -86,9 +72,9 @@ pub words_strict : (e : Entry) → AreStrict (day_words e)
 words_strict e = by (nat_eq (e.minute % 1440) 0) refl
   where
     by : (b : Bool) → nat_eq (e.minute % 1440) 0 ≡ b → AreStrict (cond b (entry_word e ∷ []) (bare_word ∷ entry_word e ∷ []))
-    by true is = (entry_minute e ∙ same_is (e.minute % 1440) 0 is, tt)
+    by true is = (entry_minute e ∙ eqb-true (e.minute % 1440) 0 is, tt)
     by false is =
-        let some : e.minute % 1440 ≢ 0 = differ (e.minute % 1440) 0 is in
+        let some : e.minute % 1440 ≢ 0 = eqb-false (e.minute % 1440) 0 is in
         (bare_minute, (omega (arith, entry_minute e, some), omega (arith, entry_minute e), tt))
 
 -- the words of a day by whether its first entry stands at midnight
@@ -97,13 +83,13 @@ words_alone e w is zero = ap (λ (n : ℕ). n ∷ []) is ∙ by (nat_eq (e.minut
   where
     by : (b : Bool) → nat_eq (e.minute % 1440) 0 ≡ b → entry_word e ∷ [] ≡ cond b (entry_word e ∷ []) (bare_word ∷ entry_word e ∷ [])
     by true at = refl
-    by false at = absurd (differ (e.minute % 1440) 0 at zero)
+    by false at = absurd (eqb-false (e.minute % 1440) 0 at zero)
 
 pub words_behind : (e : Entry) (v w : ℕ) → v ≡ bare_word → w ≡ entry_word e → e.minute % 1440 ≢ 0 → v ∷ w ∷ [] ≡ day_words e
 words_behind e v w first is some = ap (λ (n : ℕ). n ∷ w ∷ []) first ∙ ap (λ (n : ℕ). bare_word ∷ n ∷ []) is ∙ by (nat_eq (e.minute % 1440) 0) refl
   where
     by : (b : Bool) → nat_eq (e.minute % 1440) 0 ≡ b → bare_word ∷ entry_word e ∷ [] ≡ cond b (entry_word e ∷ []) (bare_word ∷ entry_word e ∷ [])
-    by true at = absurd (some (same_is (e.minute % 1440) 0 at))
+    by true at = absurd (some (eqb-true (e.minute % 1440) 0 at))
     by false at = refl
 
 pub begins_day : (e : Entry) (days : List Day) → 1440 ≤ e.minute → AreDays 0 days → is_newest (e.minute / 1440) (sizes days) ≡ false → newest_word days < e.minute → IsNext days (date_of e.minute) (day_words e)
@@ -165,8 +151,8 @@ day_told date minute place used (d ∷ []) are =
     same : (a b : Bool) → nat_eq d.date (date_of minute) ≡ a → nat_eq (d.date / 86400) (minute / 1440) ≡ b → d.date % 86400 ≡ 0 → nat_eq d.date (date_of minute) ≡ nat_eq (d.date / 86400) (minute / 1440)
     same true true a b whole = a ∙ sym b
     same false false a b whole = a ∙ sym b
-    same true false a b whole = absurd (differ _ _ b (let is = same_is d.date (date_of minute) a in omega (arith, is)))
-    same false true a b whole = absurd (differ _ _ a (let is = same_is (d.date / 86400) (minute / 1440) b in omega (arith, is, whole)))
+    same true false a b whole = absurd (eqb-false _ _ b (let is = eqb-true d.date (date_of minute) a in omega (arith, is)))
+    same false true a b whole = absurd (eqb-false _ _ a (let is = eqb-true (d.date / 86400) (minute / 1440) b in omega (arith, is, whole)))
 day_told date minute place used (d ∷ e ∷ ds) are = day_told d.date minute place used (e ∷ ds) are.2
 
 -- the word of an entry, of a string that has a day

@@ -4,6 +4,7 @@ use Rattle.std.specs.Prelude.{nat_eq, nat_lt, ◌&&◌, All}
 use Rattle.std.specs.List.{AllByRecursion}
 use Rattle.std.proofs.lemmas.Bool.Decides.{nat_tests}
 use Rattle.std.proofs.lemmas.List.Elements.{recursion_from_All, All-from_recursion}
+use Rattle.std.proofs.lemmas.Bool.{eqb-true}
 use Rattle.activity_codec.specs.declared.values.Activity.{Activity}
 use Rattle.activity_codec.specs.declared.entries.Entry.{Entry}
 use Rattle.activity_codec.specs.Words.{word_minute, word_absent, word_slot}
@@ -23,7 +24,7 @@ use Rattle.card_retention.proofs.ListTrims.{ends_flat}
 use Rattle.card_session.specs.declared.words.TheConstants.{LATEST_MINUTE}
 use Rattle.card_session.specs.Books.{Book, mark_of, latest_of, closing_word, with_change, closed, last_used}
 use Rattle.card_session.specs.Sessions.{EndsStrictly, IsOpenBook, newest_in}
-use Rattle.card_session.proofs.Following.{takes_closing, same_is}
+use Rattle.card_session.proofs.Following.{takes_closing}
 use Rattle.card_session.proofs.Preparing.{strict_with}
 use Rattle.card_session.proofs.Stopping.{closing_absent}
 use Rattle.card_session.specs.Inserting.{AreOwed, Follow, lacked, with_cut, IsBeforeAll}
@@ -36,7 +37,7 @@ low mark date d [] are on = by (nat_eq d.date (date_of mark)) refl
     apart m n le is = grind (arith, nat_tests)
 
     by : (b : Bool) → nat_eq d.date (date_of mark) ≡ b → d.date / 60 + word_minute (last_word d.words) ≤ mark
-    by true here = let at : d.date ≡ date_of mark = same_is d.date (date_of mark) here in omega (arith, at, early_last (mark % 1440) d.words are.1.ordered (on.last at))
+    by true here = let at : d.date ≡ date_of mark = eqb-true d.date (date_of mark) here in omega (arith, at, early_last (mark % 1440) d.words are.1.ordered (on.last at))
     by false here = omega (arith, apart d.date (date_of mark) on.day here, words_below d.words are.1.ordered, are.1.midnight)
 low mark date d (e ∷ ds) are on = low mark d.date e ds are.2 on
 

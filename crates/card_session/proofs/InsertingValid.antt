@@ -3,6 +3,7 @@ use Rattle.std.proofs.Common.{◌≡◌, ◌≢◌, inl, inr, ⊎_elim, ℕ, suc
 use Rattle.std.specs.Prelude.{nat_eq, nat_le, nat_lt, ◌&&◌}
 use Rattle.std.specs.List.{AllByRecursion}
 use Rattle.std.proofs.lemmas.Bool.Decides.{nat_tests}
+use Rattle.std.proofs.lemmas.Bool.{and_parts, not-true}
 use Rattle.activity_codec.specs.Words.{word_minute, word_absent}
 use Rattle.card_layout.specs.declared.files.Application.{Application}
 use Rattle.card_model.specs.Days.{Day, AreDays, AreWords, Ascend, last_word, len_of}
@@ -17,7 +18,6 @@ use Rattle.card_judge.specs.Words.{first_of}
 use Rattle.card_judge.specs.Judged.{first_bad_behind}
 use Rattle.card_judge.proofs.Checking.{checks_open, checks_closed}
 use Rattle.card_session.specs.Sessions.{EndsStrictly}
-use Rattle.card_session.proofs.Following.{both_true, not_true}
 use Rattle.card_session.proofs.Valid.{passes_strict}
 
 -- ---- a check that passes
@@ -39,7 +39,7 @@ closing_none : (mark : ℕ) (latest : Option PlacedWord) (ws : List PlacedWord) 
 closing_none mark latest [] is = tt
 closing_none mark latest (w ∷ ws) is =
     let one = passes (tells_none w && not (leaves_gap mark latest w)) w.place (map (λ (v : PlacedWord). check (tells_none v) v.place) ws) is in
-    ((both_true (tells_none w) (not (leaves_gap mark latest w)) one.0).0, all_none ws one.1)
+    ((and_parts (tells_none w) (not (leaves_gap mark latest w)) one.0).0, all_none ws one.1)
 
 quiet : (mark : ℕ) (ws : List PlacedWord) → AllByRecursion (λ (v : PlacedWord). tells_none v ≡ true) (filter (λ (w : PlacedWord). nat_lt mark (minute_at w)) ws) → AllByRecursion (Quiet mark) ws
 quiet mark [] all = tt

@@ -1,6 +1,7 @@
 -- What a keep makes of the days is an entry's own words behind the closing word of a gap, so that the stated overwriting goes on.
 use Rattle.std.proofs.Common.{◌≡◌, ℕ, suc, ◌+◌, ◌-◌, ◌*◌, ◌/◌, ◌%◌, ◌≤◌, Bool, true, false, cond, List, [], ◌∷◌, ◌++◌, length, refl, sym, ◌∙◌, ap, subst, arith}
 use Rattle.std.specs.Prelude.{nat_eq}
+use Rattle.std.proofs.lemmas.Bool.{eqb-true, eqb-false}
 use Rattle.activity_codec.specs.declared.values.Activity.TheVariants.{Rest}
 use Rattle.activity_codec.specs.declared.entries.Entry.{Entry}
 use Rattle.activity_codec.specs.Words.{word_minute}
@@ -9,19 +10,19 @@ use Rattle.card_model.specs.Changes.{date_of}
 use Rattle.card_retention.specs.Expected.{is_newest, first_words}
 use Rattle.card_retention.specs.Shown.{sizes, entry_state, Tells, Entered, Entered.Same, Entered.Word, Entered.Begun}
 use Rattle.card_session.specs.Books.{entry_word, bare_word, day_words, tells_state, with_change, with_new_day, entered_days}
-use Rattle.card_session.proofs.Following.{same_is, differ, entry_top, entry_minute}
+use Rattle.card_session.proofs.Following.{entry_top, entry_minute}
 
 -- the newest day tells an entry's state
 tells_on : (e : Entry) (date : ℕ) (days : List Day) → AreDays date days → is_newest (e.minute / 1440) (sizes days) ≡ true → tells_state e days ≡ true → Tells e days
 tells_on e date [] are newest told = absurd (cc)
 tells_on e date (d ∷ []) are newest told =
-    let day : d.date / 86400 ≡ e.minute / 1440 = same_is _ _ newest in
-    record { date = omega (arith, day, are.1.midnight); state = same_is _ _ told }
+    let day : d.date / 86400 ≡ e.minute / 1440 = eqb-true _ _ newest in
+    record { date = omega (arith, day, are.1.midnight); state = eqb-true _ _ told }
 tells_on e date (d ∷ f ∷ ds) are newest told = tells_on e d.date (f ∷ ds) are.2 newest told
 
 tells_not : (e : Entry) (days : List Day) → tells_state e days ≡ false → Tells e days → ⊥
 tells_not e [] told tells = tells
-tells_not e (d ∷ []) told tells = differ _ _ told tells.state
+tells_not e (d ∷ []) told tells = eqb-false _ _ told tells.state
 tells_not e (d ∷ f ∷ ds) told tells = tells_not e (f ∷ ds) told tells
 
 -- the words that begin a day

@@ -1,6 +1,7 @@
 -- What a part of a keep asks of a book, once the part before it is done, and what an entry leaves.
 use Rattle.std.proofs.Common.{◌≡◌, ◌≢◌, ℕ, suc, ◌+◌, ◌-◌, ◌*◌, ◌/◌, ◌%◌, ◌<◌, ◌≤◌, max, Bool, true, false, cond, not, Option, Some, None, List, [], ◌∷◌, ◌++◌, length, refl, sym, ◌∙◌, ap, subst, inl, inr, ⊎_elim, arith}
 use Rattle.std.specs.Prelude.{nat_eq, nat_lt, ◌&&◌, ◌⊎◌}
+use Rattle.std.proofs.lemmas.Bool.{eqb-true, and_parts, not-true}
 use Rattle.activity_codec.specs.declared.values.Activity.{Activity}
 use Rattle.activity_codec.specs.declared.values.Activity.TheVariants.{Rest}
 use Rattle.activity_codec.specs.declared.entries.Entry.{Entry}
@@ -22,7 +23,7 @@ use Rattle.card_session.specs.Sessions.{EndsStrictly, IsOpenBook, newest_in}
 use Rattle.card_session.specs.Moments.{IsBeforeGap, IsBeforeWords, entry_len, is_told}
 use Rattle.card_session.specs.Parts.{TakesSome, with_some, IsAdding, IsBeforeGapOf, with_gap_closed, IsClosingGap, IsBeforeEntry, with_words, IsWriting, BeginsDay, with_day, IsBeforeDay, HasDay, entered}
 use Rattle.card_session.proofs.Composing.{book_is}
-use Rattle.card_session.proofs.Following.{same_is, both_true, not_true, closing_minute, entry_minute, takes_closing, takes_entry, begins_day, words_strict}
+use Rattle.card_session.proofs.Following.{closing_minute, entry_minute, takes_closing, takes_entry, begins_day, words_strict}
 
 -- ---- a word more on the newest day
 
@@ -41,7 +42,7 @@ newest_with w m (d ∷ e ∷ f ∷ ds) on = newest_with w m (e ∷ f ∷ ds) on
 -- the day of the minute after the mark, of an open book
 pub open_date : (mark : ℕ) (ds : List Day) → is_open mark ds ≡ true → OnNewest (λ d. d.date ≡ date_of (suc mark)) ds
 open_date mark [] is = absurd (cc)
-open_date mark (d ∷ []) is = same_is d.date (date_of (suc mark)) (both_true (nat_eq d.date (date_of (suc mark))) (not (word_absent (last_word d.words))) is).0
+open_date mark (d ∷ []) is = eqb-true d.date (date_of (suc mark)) (and_parts (nat_eq d.date (date_of (suc mark))) (not (word_absent (last_word d.words))) is).0
 open_date mark (d ∷ e ∷ ds) is = open_date mark (e ∷ ds) is
 
 pub on_as : (P Q : Day → Type 0) (ds : List Day) → ((d : Day) → P d → Q d) → OnNewest P ds → OnNewest Q ds
@@ -105,7 +106,7 @@ module _ (size : ℕ) (long : 5544 ≤ size) where
     closing = closing_word (suc (mark_of b)) Rest (latest_of b.days)
 
     gap_takes : gap ≡ true → OnNewest (TakesWord closing) b.days
-    gap_takes is = takes_closing (mark_of b) Rest b.days before.0.ends before.0.strict (both_true (is_open (mark_of b) b.days) (nat_lt (suc (mark_of b)) minute) is).0
+    gap_takes is = takes_closing (mark_of b) Rest b.days before.0.ends before.0.strict (and_parts (is_open (mark_of b) b.days) (nat_lt (suc (mark_of b)) minute) is).0
 
     pub gap_asks : (word : Option ℕ) → word ≡ cond gap (Some closing) None → TakesSome word b
     gap_asks word is = subst (λ (o : Option ℕ). TakesSome o b) (sym is) (by gap refl)
@@ -127,7 +128,7 @@ module _ (size : ℕ) (long : 5544 ≤ size) where
         by : (g : Bool) → gap ≡ g → IsAdding size (cond g (Some closing) None) b ds v
             → (IsBeforeGap size (mark_of b) minute b.days ds ⊎ (ds ≡ cond g (with_newest (with_word closing) (fitting (size - 2) b.days)) b.days)) × (v ≡ b.vehicle)
         by true is adding =
-            let both = both_true (is_open (mark_of b) b.days) (nat_lt (suc (mark_of b)) minute) is in
+            let both = and_parts (is_open (mark_of b) b.days) (nat_lt (suc (mark_of b)) minute) is in
             (⊎_elim (λ left. inl (inr (both.0, is_less (suc (mark_of b)) minute both.1, left))) (λ done. inr done) adding.0, adding.1)
         by false is adding = (inl (inl adding.0), adding.1)
 
@@ -147,7 +148,7 @@ module _ (size : ℕ) (long : 5544 ≤ size) where
       where
         by : (g : Bool) → gap ≡ g → EndsStrictly (cond g (with_newest (with_word closing) (fitting (size - 2) b.days)) b.days) × (newest_word (cond g (with_newest (with_word closing) (fitting (size - 2) b.days)) b.days) < e.minute)
         by true is =
-            let both = both_true (is_open (mark_of b) b.days) (nat_lt (suc (mark_of b)) minute) is in
+            let both = and_parts (is_open (mark_of b) b.days) (nat_lt (suc (mark_of b)) minute) is in
             let takes : OnNewest (TakesWord closing) (fitting (size - 2) b.days) = remain_some (TakesWord closing) (size - 2) 0 b.days (fitting (size - 2) b.days) (omega (arith, long)) are (remain_fitting (size - 2) b.days) (gap_takes is) in
             let dated : OnNewest (λ d. d.date ≡ date_of (suc (mark_of b))) (fitting (size - 2) b.days) = remain_some (λ d. d.date ≡ date_of (suc (mark_of b))) (size - 2) 0 b.days (fitting (size - 2) b.days) (omega (arith, long)) are (remain_fitting (size - 2) b.days) (open_date (mark_of b) b.days both.0) in
             let word : newest_word (with_newest (with_word closing) (fitting (size - 2) b.days)) ≡ suc (mark_of b) = newest_with closing (suc (mark_of b)) (fitting (size - 2) b.days) (on_as (λ d. d.date ≡ date_of (suc (mark_of b))) (λ d. d.date / 60 + word_minute closing ≡ suc (mark_of b)) (fitting (size - 2) b.days) (λ d is. omega (arith, is, closing_minute (suc (mark_of b)) Rest (latest_of b.days))) dated) in

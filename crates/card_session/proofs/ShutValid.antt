@@ -1,6 +1,7 @@
 -- A valid card without a session, whose words are closed, is valid at each moment of an insertion.
 use Rattle.std.proofs.Common.{◌≡◌, ◌≢◌, inl, inr, ⊎_elim, ℕ, suc, ◌+◌, ◌*◌, ◌/◌, ◌%◌, ◌<◌, ◌≤◌, Bool, true, false, cond, not, ◌&&◌, Option, Some, None, List, [], ◌∷◌, ◌++◌, length, map, filter, refl, sym, ◌∙◌, ap, subst, arith}
 use Rattle.std.specs.Prelude.{◌⊎◌, nat_eq, nat_lt, nat_le}
+use Rattle.std.proofs.lemmas.Bool.{eqb-true}
 use Rattle.activity_codec.specs.declared.values.Activity.TheVariants.{Rest}
 use Rattle.activity_codec.specs.declared.entries.Entry.{Entry}
 use Rattle.activity_codec.specs.Words.{word_minute, word_absent}
@@ -27,7 +28,6 @@ use Rattle.card_session.specs.Moments.{IsBook, IsCloseMoment}
 use Rattle.card_session.specs.Cards.{IsCard}
 use Rattle.card_session.specs.Inserting.{IsStill, IsShut, IsShutting, InsertingClosed}
 use Rattle.card_session.proofs.Composing.{told_book}
-use Rattle.card_session.proofs.Following.{same_is}
 use Rattle.card_session.proofs.Valid.{valid_by, valid_words, passes_strict, strict_passes}
 use Rattle.card_session.proofs.InsertingUse.{use_inside}
 use Rattle.card_session.proofs.InsertingOpen.{Same, opening_same}
@@ -177,7 +177,7 @@ module _ (app : Application) (x : List ℕ) (valid : IsValid app x) (none : sess
     same_valid sizes places = by (nat_eq (session_time app y) 0) refl
       where
         zero_is : (n : ℕ) → nat_eq n 0 ≡ true → n ≡ 0
-        zero_is n is = same_is n 0 is
+        zero_is n is = eqb-true n 0 is
 
         by : (t : Bool) → nat_eq (session_time app y) 0 ≡ t → IsValid app y
         by false is = fine_open app x y valid sizes places fine is

@@ -1,6 +1,7 @@
 -- The first keep on a day that was begun: a repair has left that day with its first word.
 use Rattle.std.proofs.Common.{◌≡◌, ◌⊎◌, inl, inr, ⊎_elim, ℕ, suc, ◌+◌, ◌-◌, ◌*◌, ◌/◌, ◌%◌, ◌<◌, ◌≤◌, Bool, true, false, cond, ◌&&◌, List, [], ◌∷◌, ◌++◌, length, refl, sym, ◌∙◌, ap, subst, arith}
 use Rattle.std.specs.Prelude.{nat_eq, nat_lt}
+use Rattle.std.proofs.lemmas.Bool.{eqb-true}
 use Rattle.activity_codec.specs.declared.entries.Entry.{Entry}
 use Rattle.activity_codec.specs.declared.values.Activity.{Activity}
 use Rattle.activity_codec.specs.declared.values.Activity.TheVariants.{Rest, Available, Work, Driving}
@@ -21,7 +22,7 @@ use Rattle.card_session.specs.Moments.{IsBeforeMark, entry_len}
 use Rattle.card_session.specs.Overwriting.{and_entry}
 use Rattle.card_session.specs.Parts.{IsBeforeGapOf}
 use Rattle.card_session.proofs.Alike.{alike_km, are_bare, lives_alike}
-use Rattle.card_session.proofs.Following.{same_is, entry_minute, entry_top}
+use Rattle.card_session.proofs.Following.{entry_minute, entry_top}
 use Rattle.card_session.proofs.Valid.{flat_of}
 use Rattle.card_steps.specs.Carried.{BegunOf}
 use Rattle.card_steps.proofs.Begun.{same, shut_first, none_day, bare_tells, entries_more, with_last, Stops, bare_stop, begun_stop, begun_lists}
@@ -87,7 +88,7 @@ untold e = by (nat_eq (bare_word / 2048) (entry_state e)) refl
 
     by : (b : Bool) → nat_eq (bare_word / 2048) (entry_state e) ≡ b → nat_eq (bare_word / 2048) (entry_state e) ≡ false
     by false is = is
-    by true is = absurd (not_it (bare_word / 2048) refl (same_is (bare_word / 2048) (entry_state e) is))
+    by true is = absurd (not_it (bare_word / 2048) refl (eqb-true (bare_word / 2048) (entry_state e) is))
 
 module _ (size : ℕ) (slack : Bound) (covered from : ℕ) (c : Counted) (all : List Entry) (b : Book) (g : BegunOf size slack covered from (mark_of b) c all b.days) (flat : trimmed (mark_of b) b.days ≡ b.days) (ordered : AreDays 0 b.days) (long : 5544 ≤ size) (least : 16 ≤ slack.bytes)
     (e : Entry) (before : IsBeforeGapOf e.minute b) (later : from ≤ e.minute) (here : e.minute / 1440 ≡ mark_of b / 1440) where

@@ -2,6 +2,7 @@
 use Rattle.std.proofs.Common.{◌≡◌, ◌⊎◌, inl, inr, ⊎_elim, ℕ, suc, ◌+◌, ◌-◌, ◌*◌, ◌/◌, ◌%◌, ◌<◌, ◌≤◌, max, Bool, true, false, cond, ◌&&◌, ◌||◌, not, Option, Some, None, List, [], ◌∷◌, ◌++◌, length, refl, sym, ◌∙◌, ap, subst, arith}
 use Rattle.std.specs.Prelude.{nat_eq, nat_lt, nat_le}
 use Rattle.std.proofs.lemmas.Bool.Decides.{nat_tests}
+use Rattle.std.proofs.lemmas.Bool.{eqb-false}
 use Rattle.activity_codec.specs.declared.entries.Entry.{Entry}
 use Rattle.activity_codec.specs.declared.values.Activity.TheVariants.{Rest}
 use Rattle.activity_codec.specs.Words.{word_minute, word_absent}
@@ -25,7 +26,7 @@ use Rattle.card_session.specs.Moments.{IsBeforeGap, IsBeforeWords, IsBeforeMark,
 use Rattle.card_session.specs.Overwriting.{and_entry}
 use Rattle.card_session.specs.Parts.{IsBeforeGapOf}
 use Rattle.card_session.proofs.Alike.{alike_km, are_bare, lives_alike}
-use Rattle.card_session.proofs.Following.{differ, entry_minute, entry_top, words_below}
+use Rattle.card_session.proofs.Following.{entry_minute, entry_top, words_below}
 use Rattle.card_session.proofs.Lasting.{entered_as}
 use Rattle.card_session.proofs.Preparing.{gap_are, open_date}
 use Rattle.card_session.proofs.Stopping.{closing_absent}
@@ -50,7 +51,7 @@ apart m n lt = grind (arith, nat_tests)
 -- where the newest day is another, and no word is as late
 all_before : (day minute date : ℕ) (ds : List Day) → AreDays date ds → newest_word ds < minute → minute / 1440 ≡ day → is_newest day (sizes ds) ≡ false → AllBefore day (sizes ds)
 all_before day minute date [] are low at other = tt
-all_before day minute date (d ∷ []) are low at other = let another = differ (d.date / 86400) day other in (omega (arith, another, low, at), tt)
+all_before day minute date (d ∷ []) are low at other = let another = eqb-false (d.date / 86400) day other in (omega (arith, another, low, at), tt)
 all_before day minute date (d ∷ f ∷ ds) are low at other = let rest = all_before day minute d.date (f ∷ ds) are.2 low at other in (omega (arith, are.2.0, rest.0), rest)
 
 pub before_left : (k room : ℕ) (ds kept : List Day) → Remain room ds kept → AllBefore k (sizes ds) → AllBefore k (sizes kept)

@@ -8,7 +8,8 @@ use Rattle.card_model.specs.Days.{Day, len_of, total, last_len, IsDay}
 use Rattle.card_model.specs.Changes.{OnNewest, with_newest, with_word, TakesWord}
 use Rattle.card_model.specs.Image.{StringShape, IsStringShape, circle_of, oldest_pointer, newest_pointer, IsPointer, IsPlace, Holds, at}
 use Rattle.card_model.proofs.Lists.{total-append, far_last, last_is, last_len_last}
-use Rattle.cyclic_days.proofs.Lists.{Split, split, newest_on, with_last, longer_day}
+use Rattle.card_model.proofs.Trims.{with_last}
+use Rattle.cyclic_days.proofs.Lists.{Split, split, newest_on, longer_day}
 use Rattle.cyclic_days.proofs.Places.{Stands, stands, stands_front}
 use Rattle.card_model.proofs.Reading.{place_then}
 use Rattle.cyclic_days.proofs.Holding.{beyond, longer}

@@ -24,7 +24,8 @@ use Rattle.cyclic_days.proofs.Counting.{drop_most}
 use Rattle.cyclic_days.proofs.Putting.{puts_told}
 use Rattle.cyclic_days.proofs.Told.{from_told}
 use Rattle.cyclic_days.proofs.Inside.{put_length, left_low, drop_inside, change_inside}
-use Rattle.cyclic_days.proofs.Lists.{Split, split, newest_on, with_last, longer_by_two, few_strict}
+use Rattle.card_model.proofs.Trims.{with_last}
+use Rattle.cyclic_days.proofs.Lists.{Split, split, newest_on, longer_by_two, few_strict}
 use Rattle.cyclic_days.proofs.Matching.{front_cleared, Matches, matches, end_is, left_is, dropped, dropping, dropped_count, dropped_cleared}
 use Rattle.card_model.proofs.Retention.{fitting_all}
 use Rattle.cyclic_days.proofs.Roomier.{fitting_once, newest_left, remain_once}

@@ -18,7 +18,8 @@ use Rattle.cyclic_days.specs.Trim.{IsTrimming, IsTrimmed, IsCutLast, IsCuttingLa
 use Rattle.cyclic_days.proofs.Cutting.{cut_last}
 use Rattle.cyclic_days.proofs.HeadLemmas.{len_is, date_is}
 use Rattle.cyclic_days.proofs.HeadWalks.{newest_here}
-use Rattle.cyclic_days.proofs.Lists.{split, some_newest, with_last}
+use Rattle.card_model.proofs.Trims.{with_last}
+use Rattle.cyclic_days.proofs.Lists.{split, some_newest}
 use Rattle.cyclic_days.proofs.LoadLemmas.{in_twelve}
 use Rattle.cyclic_days.proofs.Places.{Stands, stands}
 

@@ -10,6 +10,7 @@ use Rattle.card_model.specs.Image.{StringShape, oldest_pointer, newest_pointer, 
 use Rattle.card_model.specs.Changes.{early, with_early}
 use Rattle.card_model.proofs.Circle.{put_back}
 use Rattle.card_model.proofs.Lists.{word_bytes-append, previous_of, records_length, far_last, last_is}
+use Rattle.card_model.proofs.Trims.{early_few, early_words}
 use Rattle.cyclic_days.proofs.Lists.{days_with}
 use Rattle.cyclic_days.proofs.Places.{Stands}
 use Rattle.card_model.proofs.Reading.{spelled_at}
@@ -28,33 +29,8 @@ both_parts m (w ∷ ws) = by (both_parts m ws) (nat_le (word_minute w) m)
     by so true = ap (λ (l : List ℕ). w ∷ l) so
     by so false = refl
 
-early_short : (m : ℕ) (ws : List ℕ) → length (early m ws) ≤ length ws
-early_short m [] = omega arith
-early_short m (w ∷ ws) = by (early_short m ws) (nat_le (word_minute w) m)
-  where
-    by : length (early m ws) ≤ length ws → (b : Bool) → length (cond b (w ∷ early m ws) []) ≤ length (w ∷ ws)
-    by so true = omega (arith, so)
-    by so false = omega arith
-
-early_ascend : (n m : ℕ) (ws : List ℕ) → Ascend n ws → Ascend n (early m ws)
-early_ascend n m [] up = tt
-early_ascend n m (w ∷ ws) up = by (early_ascend (word_minute w) m ws up.2) (nat_le (word_minute w) m)
-  where
-    by : Ascend (word_minute w) (early m ws) → (b : Bool) → Ascend n (cond b (w ∷ early m ws) [])
-    by so true = (up.0, up.1, so)
-    by so false = tt
-
-early_words : (m : ℕ) (ws : List ℕ) → AreWords ws → AreWords (early m ws)
-early_words m [] are = are
-early_words m (w ∷ ws) are =
-    let test : nat_le (word_minute w) m ≡ true = passes (word_minute w) are.0 in
-    subst (λ (b : Bool). AreWords (cond b (w ∷ early m ws) [])) (sym test) (are.0, early_ascend 0 m ws are.1)
-  where
-    passes : (n : ℕ) → n ≡ 0 → nat_le n m ≡ true
-    passes n is = grind (arith, nat_tests)
-
 pub early_day : (m : ℕ) (d : Day) → IsDay d → IsDay (with_early m d)
-early_day m d is = record { midnight = is.midnight; decimal = is.decimal; most = omega (arith, early_short m d.words, is.most); ordered = early_words m d.words is.ordered }
+early_day m d is = record { midnight = is.midnight; decimal = is.decimal; most = omega (arith, early_few m d.words, is.most); ordered = early_words m d.words is.ordered }
 
 -- how many are early, by what a search finds
 pub early_is : (m : ℕ) (ws : List ℕ) (k : ℕ) → k ≤ length ws → ((j : ℕ) → j < k → word_minute (get_or ws j 0) ≤ m) → (k ≡ length ws) ⊎ (m < word_minute (get_or ws k 0)) → k ≡ length (early m ws)

@@ -8,6 +8,7 @@ use Rattle.card_model.specs.Days.{Day, len_of, total, far, IsDay, AreDays}
 use Rattle.card_model.specs.Image.{StringShape, IsStringShape, oldest_pointer, newest_pointer, IsPointer, IsPlace, spot, Holds, IsAt, at}
 use Rattle.card_model.proofs.Lists.{total-append, far_last, previous_of, previous_last, len_even, len_most, len_least, last_len_is, last_least}
 use Rattle.card_model.proofs.Numbers.{number_two}
+use Rattle.card_model.proofs.Walking.{far_below}
 use Rattle.card_model.proofs.Reading.{place_then, place_back, same_distance, same_place, field_place, fills, len_read, from_day, round_part, day_is}
 use Rattle.cyclic_days.specs.declared.head.DayHead.{DayHead}
 use Rattle.cyclic_days.specs.Heads.{day_head, heads_from, heads_of, older_heads, later_heads}
@@ -86,10 +87,6 @@ far_past : (older : List Day) (d e : Day) (es : List Day) → total older + len_
 far_past [] d e es = omega arith
 far_past (f ∷ []) d e es = omega (arith, far_past [] d e es)
 far_past (f ∷ g ∷ older) d e es = omega (arith, far_past (g ∷ older) d e es)
-
-pub far_below : (r : StringShape) (shape : IsStringShape r) (x : List ℕ) → r.base + (4 + r.size) ≤ length x → (days : List Day) → Holds r x days → far days < r.size
-far_below r shape x inside [] h = omega (arith, shape.low)
-far_below r shape x inside (d ∷ ds) h = omega (arith, fills r shape x inside (d ∷ ds) h, last_len_is (d ∷ ds), last_least 0 d ds h.ordered)
 
 module _ (r : StringShape) (shape : IsStringShape r) (x : List ℕ) (inside : r.base + (4 + r.size) ≤ length x) (p : ℕ) (d : Day) (here : IsAt r x p d) where
   pub room : total here.older + len_of d + total here.later ≤ r.size

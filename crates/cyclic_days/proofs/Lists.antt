@@ -21,11 +21,6 @@ newest_on P [] d on = on
 newest_on P (e ∷ []) d on = on
 newest_on P (e ∷ f ∷ ds) d on = newest_on P (f ∷ ds) d on
 
-pub with_last : (f : Day → Day) (ds : List Day) (d : Day) → with_newest f (ds ++ d ∷ []) ≡ ds ++ f d ∷ []
-with_last f [] d = refl
-with_last f (e ∷ []) d = refl
-with_last f (e ∷ g ∷ ds) d = ap (λ (l : List Day). e ∷ l) (with_last f (g ∷ ds) d)
-
 -- another newest day of the same date
 pub days_with : (date : ℕ) (ds : List Day) (d e : Day) → e.date ≡ d.date → IsDay e → AreDays date (ds ++ d ∷ []) → AreDays date (ds ++ e ∷ [])
 days_with date [] d e same is are = (omega (arith, are.0, same), is, tt)

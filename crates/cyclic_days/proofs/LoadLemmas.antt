@@ -1,7 +1,7 @@
 -- Records that were read and pass their checks.
 use Rattle.std.proofs.Common.{◌≡◌, ◌⊎◌, inl, inr, ℕ, zero, suc, ◌+◌, ◌-◌, ◌*◌, ◌/◌, ◌%◌, ◌<◌, ◌≤◌, Bool, true, false, cond, Some, None, List, [], ◌∷◌, ◌++◌, length, take, drop, refl, sym, ◌∙◌, ap, subst, arith, take-append-drop}
 use Rattle.std.specs.Prelude.{◌&&◌, ◌||◌, nat_eq, nat_lt, nat_le}
-use Rattle.std.proofs.lemmas.Bool.Decides.{nat_tests}
+use Rattle.std.proofs.lemmas.Bool.{and_parts, eqb-true, leb-true, ltb-true}
 use Rattle.std.proofs.lemmas.List.{drop-drop, drop-take, take-take}
 use Rattle.tach_media.specs.Medium.{bytes_at}
 use Rattle.card_model.specs.Bytes.{number, two_bytes, four_bytes, decimal_bytes, decimal}
@@ -10,7 +10,7 @@ use Rattle.card_model.specs.Days.{Day, len_of, Ascend, AreWords, word_bytes}
 use Rattle.card_model.specs.Walk.{words_of}
 use Rattle.card_model.specs.Checks.{Check, check, first_failing, is_len, is_previous, is_date, is_decimal, field_checks, word_checks, record_checks}
 use Rattle.card_model.proofs.Numbers.{number_two, number_four}
-use Rattle.card_model.proofs.Judging.{passed_then, failed_then}
+use Rattle.card_model.proofs.Judging.{passed_then, failed_then, first_passes, both_pass}
 use Rattle.cyclic_days.specs.declared.head.RecordHead.{RecordHead}
 use Rattle.cyclic_days.specs.Heads.{head_bytes}
 use Rattle.cyclic_days.specs.Loading.{ArePairs, IsRecord}
@@ -38,53 +38,27 @@ pair_step b i w read =
     let here : bytes_at (drop 12 b) (2 * i) 2 ≡ two_bytes w = ap (λ (l : List ℕ). take 2 l) (drop-drop (2 * i) 12 b ∙ ap (λ (k : ℕ). drop k b) (omega arith)) ∙ read in
     here ∙ ap two_bytes (sym (ap number here ∙ number_two w))
 
--- a check that passes with those behind it
-first_passes : (t : Bool) (p : ℕ) (cs : List Check) → first_failing (check t p ∷ cs) ≡ None → (t ≡ true) × (first_failing cs ≡ None)
-first_passes true p cs none = (refl, none)
-first_passes false p cs none = cc
-
-both_pass : (a b : List Check) → first_failing (a ++ b) ≡ None → (first_failing a ≡ None) × (first_failing b ≡ None)
-both_pass [] b none = (refl, none)
-both_pass (c ∷ a) b none = by (λ so. both_pass a b so) c.passes none
-  where
-    by : (first_failing (a ++ b) ≡ None → (first_failing a ≡ None) × (first_failing b ≡ None)) → (t : Bool) → cond t (first_failing (a ++ b)) (Some c.place) ≡ None → (cond t (first_failing a) (Some c.place) ≡ None) × (first_failing b ≡ None)
-    by so true none = so none
-    by so false none = cc
-
-pub parts_true : (a b : Bool) → (a && b) ≡ true → (a ≡ true) × (b ≡ true)
-parts_true true b is = (refl, is)
-parts_true false b is = cc
-
-pub le_from : (m n : ℕ) → nat_le m n ≡ true → m ≤ n
-le_from m n test = grind (arith, nat_tests, test)
-
-pub lt_from : (m n : ℕ) → nat_lt m n ≡ true → m < n
-lt_from m n test = grind (arith, nat_tests, test)
-
-pub eq_from : (m n : ℕ) → nat_eq m n ≡ true → m ≡ n
-eq_from m n test = grind (arith, nat_tests, test)
-
 is_previous_cases : (so_far before previous : ℕ) → is_previous so_far before previous ≡ true → (so_far ≡ 0) ⊎ (previous ≡ before)
 is_previous_cases so_far before previous test = by (nat_eq so_far 0) refl test
   where
     by : (a : Bool) → nat_eq so_far 0 ≡ a → (a || nat_eq previous before) ≡ true → (so_far ≡ 0) ⊎ (previous ≡ before)
-    by true is test = inl (eq_from so_far 0 is)
-    by false is test = inr (eq_from previous before test)
+    by true is test = inl (eqb-true so_far 0 is)
+    by false is test = inr (eqb-true previous before test)
 
 -- words that pass
 later_words : (offset from : ℕ) (ws : List ℕ) → first_failing (word_checks offset from 1440 ws) ≡ None → Ascend from ws
 later_words offset from [] none = tt
 later_words offset from (w ∷ ws) none =
     let first = first_passes (nat_le from (word_minute w) && nat_lt (word_minute w) 1440) offset (word_checks (offset + 2) (word_minute w) 1440 ws) none in
-    let tests = parts_true (nat_le from (word_minute w)) (nat_lt (word_minute w) 1440) first.0 in
-    (le_from from (word_minute w) tests.0, lt_from (word_minute w) 1440 tests.1, later_words (offset + 2) (word_minute w) ws first.1)
+    let tests = and_parts (nat_le from (word_minute w)) (nat_lt (word_minute w) 1440) first.0 in
+    (leb-true from (word_minute w) tests.0, ltb-true (word_minute w) 1440 tests.1, later_words (offset + 2) (word_minute w) ws first.1)
 
 words_are : (offset : ℕ) (ws : List ℕ) → 0 < length ws → first_failing (word_checks offset 0 1 ws) ≡ None → AreWords ws
 words_are offset [] some none = absurd (omega (arith, some))
 words_are offset (w ∷ ws) some none =
     let first = first_passes (nat_le 0 (word_minute w) && nat_lt (word_minute w) 1) offset (word_checks (offset + 2) (word_minute w) 1440 ws) none in
-    let tests = parts_true (nat_le 0 (word_minute w)) (nat_lt (word_minute w) 1) first.0 in
-    let low : word_minute w < 1 = lt_from (word_minute w) 1 tests.1 in
+    let tests = and_parts (nat_le 0 (word_minute w)) (nat_lt (word_minute w) 1) first.0 in
+    let low : word_minute w < 1 = ltb-true (word_minute w) 1 tests.1 in
     let zero_minute : word_minute w ≡ 0 = omega (arith, low) in
     (zero_minute, subst (λ (m : ℕ). Ascend m ws) zero_minute (later_words (offset + 2) (word_minute w) ws first.1))
 
@@ -110,13 +84,13 @@ words_count (suc n) l = omega (arith, words_count n (drop 2 l))
 -- four decimal digits, written again
 digits_again : (v : ℕ) → v < 65536 → is_decimal v ≡ true → decimal_bytes (decimal v) ≡ two_bytes v
 digits_again v short test =
-    let three = parts_true (nat_lt (v / 4096) 10 && nat_lt (v / 256 % 16) 10 && nat_lt (v / 16 % 16) 10) (nat_lt (v % 16) 10) test in
-    let two = parts_true (nat_lt (v / 4096) 10 && nat_lt (v / 256 % 16) 10) (nat_lt (v / 16 % 16) 10) three.0 in
-    let one = parts_true (nat_lt (v / 4096) 10) (nat_lt (v / 256 % 16) 10) two.0 in
-    let a_low : v / 4096 < 10 = lt_from (v / 4096) 10 one.0 in
-    let b_low : v / 256 % 16 < 10 = lt_from (v / 256 % 16) 10 one.1 in
-    let c_low : v / 16 % 16 < 10 = lt_from (v / 16 % 16) 10 two.1 in
-    let d_low : v % 16 < 10 = lt_from (v % 16) 10 three.1 in
+    let three = and_parts (nat_lt (v / 4096) 10 && nat_lt (v / 256 % 16) 10 && nat_lt (v / 16 % 16) 10) (nat_lt (v % 16) 10) test in
+    let two = and_parts (nat_lt (v / 4096) 10 && nat_lt (v / 256 % 16) 10) (nat_lt (v / 16 % 16) 10) three.0 in
+    let one = and_parts (nat_lt (v / 4096) 10) (nat_lt (v / 256 % 16) 10) two.0 in
+    let a_low : v / 4096 < 10 = ltb-true (v / 4096) 10 one.0 in
+    let b_low : v / 256 % 16 < 10 = ltb-true (v / 256 % 16) 10 one.1 in
+    let c_low : v / 16 % 16 < 10 = ltb-true (v / 16 % 16) 10 two.1 in
+    let d_low : v % 16 < 10 = ltb-true (v % 16) 10 three.1 in
     by (v / 4096) (v / 256 % 16) (v / 16 % 16) (v % 16) a_low b_low c_low d_low (omega (arith, a_low)) (omega arith)
   where
     by : (a b c d : ℕ) → a < 10 → b < 10 → c < 10 → d < 10 → v / 4096 % 16 ≡ a → v ≡ 4096 * a + 256 * b + 16 * c + d → decimal_bytes (1000 * (v / 4096 % 16) + 100 * b + 10 * c + d) ≡ two_bytes v
@@ -139,13 +113,13 @@ digits_again v short test =
 
 digits_small : (v : ℕ) → is_decimal v ≡ true → decimal v ≤ 9999
 digits_small v test =
-    let three = parts_true (nat_lt (v / 4096) 10 && nat_lt (v / 256 % 16) 10 && nat_lt (v / 16 % 16) 10) (nat_lt (v % 16) 10) test in
-    let two = parts_true (nat_lt (v / 4096) 10 && nat_lt (v / 256 % 16) 10) (nat_lt (v / 16 % 16) 10) three.0 in
-    let one = parts_true (nat_lt (v / 4096) 10) (nat_lt (v / 256 % 16) 10) two.0 in
-    let a_low : v / 4096 < 10 = lt_from (v / 4096) 10 one.0 in
-    let b_low : v / 256 % 16 < 10 = lt_from (v / 256 % 16) 10 one.1 in
-    let c_low : v / 16 % 16 < 10 = lt_from (v / 16 % 16) 10 two.1 in
-    let d_low : v % 16 < 10 = lt_from (v % 16) 10 three.1 in
+    let three = and_parts (nat_lt (v / 4096) 10 && nat_lt (v / 256 % 16) 10 && nat_lt (v / 16 % 16) 10) (nat_lt (v % 16) 10) test in
+    let two = and_parts (nat_lt (v / 4096) 10 && nat_lt (v / 256 % 16) 10) (nat_lt (v / 16 % 16) 10) three.0 in
+    let one = and_parts (nat_lt (v / 4096) 10) (nat_lt (v / 256 % 16) 10) two.0 in
+    let a_low : v / 4096 < 10 = ltb-true (v / 4096) 10 one.0 in
+    let b_low : v / 256 % 16 < 10 = ltb-true (v / 256 % 16) 10 one.1 in
+    let c_low : v / 16 % 16 < 10 = ltb-true (v / 16 % 16) 10 two.1 in
+    let d_low : v % 16 < 10 = ltb-true (v % 16) 10 three.1 in
     let a_same : v / 4096 % 16 ≡ v / 4096 = omega (arith, a_low) in
     omega (arith, a_same, a_low, b_low, c_low, d_low)
 
@@ -206,10 +180,10 @@ module _ (size so_far before date : ℕ) (b : List ℕ) (h : RecordHead) (same :
 
     pub len_facts : (h.len % 2 ≡ 0) × (14 ≤ h.len) × (h.len ≤ 2892) × (so_far + h.len ≤ size)
     len_facts =
-        let three = parts_true (nat_eq (h.len % 2) 0 && nat_le 14 h.len && nat_le h.len 2892) (nat_le (so_far + h.len) size) tests.0 in
-        let two = parts_true (nat_eq (h.len % 2) 0 && nat_le 14 h.len) (nat_le h.len 2892) three.0 in
-        let one = parts_true (nat_eq (h.len % 2) 0) (nat_le 14 h.len) two.0 in
-        (eq_from (h.len % 2) 0 one.0, le_from 14 h.len one.1, le_from h.len 2892 two.1, le_from (so_far + h.len) size three.1)
+        let three = and_parts (nat_eq (h.len % 2) 0 && nat_le 14 h.len && nat_le h.len 2892) (nat_le (so_far + h.len) size) tests.0 in
+        let two = and_parts (nat_eq (h.len % 2) 0 && nat_le 14 h.len) (nat_le h.len 2892) three.0 in
+        let one = and_parts (nat_eq (h.len % 2) 0) (nat_le 14 h.len) two.0 in
+        (eqb-true (h.len % 2) 0 one.0, leb-true 14 h.len one.1, leb-true h.len 2892 two.1, leb-true (so_far + h.len) size three.1)
 
     -- a record that passes
     pub record_read : h.counter < 65536 → None ≡ first_failing (word_checks 12 0 1 (words_of count (drop 12 b))) → ArePairs count (drop 12 b) → IsRecord size so_far before date b h
@@ -218,7 +192,7 @@ module _ (size so_far before date : ℕ) (b : List ℕ) (h : RecordHead) (same :
         let d : Day = record { date = h.date; counter = decimal h.counter; km = h.km; words = words_of ((h.len - 12) / 2) (drop 12 b) } in
         let long : length (words_of ((h.len - 12) / 2) (drop 12 b)) ≡ (h.len - 12) / 2 = words_count ((h.len - 12) / 2) (drop 12 b) in
         let len_same : h.len ≡ 12 + 2 * length (words_of ((h.len - 12) / 2) (drop 12 b)) = omega (arith, long, len_facts.0, len_facts.1) in
-        let dates = parts_true (nat_eq (h.date % 86400) 0) (nat_lt date h.date) tests.2 in
+        let dates = and_parts (nat_eq (h.date % 86400) 0) (nat_lt date h.date) tests.2 in
         record {
           passes = split_checks ∙ sym passed;
           day = d;
@@ -229,12 +203,12 @@ module _ (size so_far before date : ℕ) (b : List ℕ) (h : RecordHead) (same :
               ∙ ap (λ (n : ℕ). two_bytes h.previous ++ (two_bytes n ++ (four_bytes h.date ++ (two_bytes h.counter ++ (two_bytes h.km ++ (word_bytes ws ++ drop (2 * ((h.len - 12) / 2)) (drop 12 b))))))) len_same
               ∙ ap (λ (l : List ℕ). two_bytes h.previous ++ (two_bytes (len_of d) ++ (four_bytes h.date ++ (l ++ (two_bytes h.km ++ (word_bytes ws ++ drop (2 * ((h.len - 12) / 2)) (drop 12 b))))))) (sym (digits_again h.counter short tests.3));
           is = record {
-            midnight = eq_from (h.date % 86400) 0 dates.0;
+            midnight = eqb-true (h.date % 86400) 0 dates.0;
             decimal = digits_small h.counter tests.3;
             most = omega (arith, long, len_facts.2);
             ordered = words_are 12 ws (omega (arith, long, len_facts.1)) (sym passed);
           };
-          later = lt_from date h.date dates.1;
+          later = ltb-true date h.date dates.1;
           follows = is_previous_cases so_far before h.previous tests.1;
           fits = omega (arith, len_same, len_facts.3);
           len = len_same;

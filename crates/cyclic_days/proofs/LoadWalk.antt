@@ -1,6 +1,7 @@
 -- The walk of `load` from the oldest day to the newest.
 use Rattle.std.proofs.Common.{◌≡◌, ◌≢◌, ◌⊎◌, inl, inr, ⊎_elim, ℕ, zero, suc, ◌+◌, ◌*◌, ◌%◌, ◌<◌, ◌≤◌, Bool, true, false, cond, Some, List, [], ◌∷◌, ◌++◌, length, take, drop, refl, sym, ◌∙◌, ap, subst, arith, append_assoc, length-append, take-append-drop}
 use Rattle.std.specs.Prelude.{nat_eq, nat_lt}
+use Rattle.std.proofs.lemmas.Bool.{and_parts, eqb-true, ltb-true}
 use Rattle.std.proofs.lemmas.List.{take_at, take-append-le, append-nil}
 use Rattle.tach_media.specs.Medium.{bytes_at}
 use Rattle.card_model.specs.Bytes.{number}
@@ -9,13 +10,12 @@ use Rattle.card_model.specs.Image.{StringShape, IsStringShape, turned, oldest_po
 use Rattle.card_model.specs.Walk.{days_of}
 use Rattle.card_model.specs.Checks.{Check, check, first_failing, is_pointer, day_checks, distance_of, is_empty, first_bad}
 use Rattle.card_model.proofs.Numbers.{number_two, number_four}
-use Rattle.card_model.proofs.Lists.{record_length, records_length, previous_of, records-append, total-append, far_last, len_least}
+use Rattle.card_model.proofs.Lists.{record_length, records_length, previous_of, previous_last, records-append, total-append, far_last, len_least}
 use Rattle.card_model.proofs.Circle.{turned_front, turned_twice, string_length, circle_length}
 use Rattle.card_model.proofs.Walking.{walked}
-use Rattle.card_model.proofs.Judging.{day_bad, day_past, day_next, checks_unless}
+use Rattle.card_model.proofs.Judging.{passes_one, day_bad, day_past, day_next, checks_unless}
 use Rattle.cyclic_days.specs.declared.head.RecordHead.{RecordHead}
 use Rattle.cyclic_days.specs.Loading.{IsRecord, FailsAt}
-use Rattle.cyclic_days.proofs.LoadLemmas.{parts_true, lt_from, eq_from}
 use Rattle.cyclic_days.proofs.Rounds.{spot_is}
 
 -- the date of the last day, or else this one
@@ -30,10 +30,6 @@ days_more date (e ∷ ds) d are later is = (are.0, are.1, days_more e.date ds d 
 last_date_last : (date : ℕ) (ds : List Day) (d : Day) → last_date date (ds ++ d ∷ []) ≡ d.date
 last_date_last date [] d = refl
 last_date_last date (e ∷ ds) d = last_date_last e.date ds d
-
-previous_end : (q : ℕ) (ds : List Day) (d : Day) → previous_of q (ds ++ d ∷ []) ≡ len_of d
-previous_end q [] d = refl
-previous_end q (e ∷ ds) d = previous_end (len_of e) ds d
 
 not_none : (ds : List Day) (d : Day) → ds ++ d ∷ [] ≢ []
 not_none [] d none = cc
@@ -155,7 +151,7 @@ module _ (r : StringShape) (shape : IsStringShape r) (x : List ℕ) (inside : r.
           spelled = longer.2;
           sum = omega (arith, w.sum, total-append w.done (one.day ∷ []), one.len);
           ordered = days_too;
-          follows = inr (previous_end longer.0 w.done one.day ∙ sym one.len);
+          follows = inr (previous_last longer.0 w.done one.day ∙ sym one.len);
           date_is = last_date_last 0 w.done one.day ∙ sym one.date_is;
           enough = omega (arith, w.enough, more.1, one.len, len_least one.day one.is);
           checks = left ∙ day_next more.0 r.size (oldest_pointer r x) reach so_far before date bytes one.passes other (omega (arith, within, len_same))
@@ -186,13 +182,10 @@ module _ (r : StringShape) (shape : IsStringShape r) (x : List ℕ) (inside : r.
 false_first : (t : Bool) (p : ℕ) (cs : List Check) → t ≡ false → first_failing (check t p ∷ cs) ≡ Some p
 false_first t p cs is = ap (λ (b : Bool). cond b (first_failing cs) (Some p)) is
 
-true_first : (t : Bool) (p : ℕ) (cs : List Check) → t ≡ true → first_failing (check t p ∷ cs) ≡ first_failing cs
-true_first t p cs is = ap (λ (b : Bool). cond b (first_failing cs) (Some p)) is
-
 pub pointer_is : (size p : ℕ) → is_pointer size p ≡ true → IsPointer size p
 pointer_is size p test =
-    let two = parts_true (nat_lt p size) (nat_eq (p % 2) 0) test in
-    record { below = lt_from p size two.0; even = eq_from (p % 2) 0 two.1 }
+    let two = and_parts (nat_lt p size) (nat_eq (p % 2) 0) test in
+    record { below = ltb-true p size two.0; even = eqb-true (p % 2) 0 two.1 }
 
 module _ (r : StringShape) (x : List ℕ) where
   pub bad_oldest : is_pointer r.size (oldest_pointer r x) ≡ false → first_bad r x ≡ Some 0
@@ -202,21 +195,21 @@ module _ (r : StringShape) (x : List ℕ) where
   module _ (oldest : is_pointer r.size (oldest_pointer r x) ≡ true) where
     pub bad_newest : is_pointer r.size (newest_pointer r x) ≡ false → first_bad r x ≡ Some 2
     unfolding first_bad
-    bad_newest is = true_first (is_pointer r.size (oldest_pointer r x)) 0 (check (is_pointer r.size (newest_pointer r x)) 2 ∷ checks_unless r x (is_empty r x)) oldest
+    bad_newest is = passes_one (is_pointer r.size (oldest_pointer r x)) 0 (check (is_pointer r.size (newest_pointer r x)) 2 ∷ checks_unless r x (is_empty r x)) oldest
         ∙ false_first (is_pointer r.size (newest_pointer r x)) 2 (checks_unless r x (is_empty r x)) is
 
     module _ (newest : is_pointer r.size (newest_pointer r x) ≡ true) where
       -- the days' checks, where the string is not empty
       pub bad_days : is_empty r x ≡ false → first_bad r x ≡ first_failing (day_checks 984 r.size (oldest_pointer r x) (distance_of r.size (oldest_pointer r x) (newest_pointer r x)) 0 0 0 (circle_of r x))
       unfolding first_bad
-      bad_days some = true_first (is_pointer r.size (oldest_pointer r x)) 0 (check (is_pointer r.size (newest_pointer r x)) 2 ∷ checks_unless r x (is_empty r x)) oldest
-          ∙ true_first (is_pointer r.size (newest_pointer r x)) 2 (checks_unless r x (is_empty r x)) newest
+      bad_days some = passes_one (is_pointer r.size (oldest_pointer r x)) 0 (check (is_pointer r.size (newest_pointer r x)) 2 ∷ checks_unless r x (is_empty r x)) oldest
+          ∙ passes_one (is_pointer r.size (newest_pointer r x)) 2 (checks_unless r x (is_empty r x)) newest
           ∙ ap (λ (b : Bool). first_failing (checks_unless r x b)) some
 
       pub empty_holds : IsStringShape r → r.base + (4 + r.size) ≤ length x → is_empty r x ≡ true → Holds r x (days_of r x)
       empty_holds shape inside none =
-          let two = parts_true (nat_eq (oldest_pointer r x) (newest_pointer r x)) (nat_eq (number (bytes_at (circle_of r x) 2 2)) 0) none in
-          let same : oldest_pointer r x ≡ newest_pointer r x = eq_from (oldest_pointer r x) (newest_pointer r x) two.0 in
+          let two = and_parts (nat_eq (oldest_pointer r x) (newest_pointer r x)) (nat_eq (number (bytes_at (circle_of r x) 2 2)) 0) none in
+          let same : oldest_pointer r x ≡ newest_pointer r x = eqb-true (oldest_pointer r x) (newest_pointer r x) two.0 in
           let h : Holds r x [] = record {
             oldest = pointer_is r.size (oldest_pointer r x) oldest;
             newest = pointer_is r.size (newest_pointer r x) newest;
@@ -224,7 +217,7 @@ module _ (r : StringShape) (x : List ℕ) where
             previous = 0;
             rest = circle_of r x;
             spelled = refl;
-            empty = λ is. eq_from (number (bytes_at (circle_of r x) 2 2)) 0 two.1;
+            empty = λ is. eqb-true (number (bytes_at (circle_of r x) 2 2)) 0 two.1;
             ordered = tt;
           } in
           subst (λ (l : List Day). Holds r x l) (sym (walked r shape x inside [] h)) h

@@ -2,7 +2,7 @@
 use Rattle.std.proofs.Common.{◌≡◌, ◌⊎◌, inl, inr, ⊎_elim, ℕ, ◌+◌, ◌-◌, ◌*◌, ◌%◌, ◌<◌, ◌≤◌, Bool, true, false, cond, List, [], ◌∷◌, ◌++◌, length, take, refl, sym, ◌∙◌, ap, subst, arith}
 use Rattle.std.specs.Prelude.{◌==◌, nat_le, nat_eq, ◌&&◌}
 use Rattle.std.proofs.lemmas.Bool.Decides.{nat_tests}
-use Rattle.std.proofs.lemmas.Bool.{cases_lt}
+use Rattle.std.proofs.lemmas.Bool.{cases_lt, eq-eqb, le-leb, lt-leb, ne_eqb}
 use Rattle.tach_media.specs.Medium.{bytes_at}
 use Rattle.write_plan.specs.Plan.{Piece, piece, put_all, IsPartway}
 use Rattle.card_model.specs.Bytes.{number, two_bytes}
@@ -39,23 +39,11 @@ back_from size o k p j n p_below whole last =
 around : (size e u q : ℕ) → u ≤ size → IsPlace size e (size - u) q → IsPlace size q u e
 around size e u q le place = ⊎_elim (λ a. inr (omega (arith, a, le))) (λ a. inl (omega (arith, a, le))) place
 
-eq_true : (m n : ℕ) → m ≡ n → (m == n) ≡ true
-eq_true m n is = grind (arith, nat_tests)
-
-eq_false : (m n : ℕ) → n < m → (m == n) ≡ false
-eq_false m n lt = grind (arith, nat_tests)
-
-le_true : (m n : ℕ) → m ≤ n → nat_le m n ≡ true
-le_true m n le = grind (arith, nat_tests)
-
-le_false : (m n : ℕ) → n < m → nat_le m n ≡ false
-le_false m n lt = grind (arith, nat_tests)
-
 pub len_none : (v : Held) → v.tail.used ≡ 0 → newest_len v ≡ 0
-len_none v none = ap (λ (b : Bool). cond b 0 (12 + 2 * v.tail.head.words)) (eq_true v.tail.used 0 none)
+len_none v none = ap (λ (b : Bool). cond b 0 (12 + 2 * v.tail.head.words)) (eq-eqb v.tail.used 0 none)
 
 pub len_some : (v : Held) → 0 < v.tail.used → newest_len v ≡ 12 + 2 * v.tail.head.words
-len_some v some = ap (λ (b : Bool). cond b 0 (12 + 2 * v.tail.head.words)) (eq_false v.tail.used 0 some)
+len_some v some = ap (λ (b : Bool). cond b 0 (12 + 2 * v.tail.head.words)) (ne_eqb v.tail.used 0 (λ is. omega (arith, some, is)))
 
 -- what is kept tells the newest day's length
 newest_words : (v : Held) (d : Day) (ds : List Day) → IsNewestHead v.tail.head v.tail.latest (d ∷ ds) → 12 + 2 * v.tail.head.words ≡ last_len (d ∷ ds)
@@ -124,14 +112,14 @@ module _ (v : Held) (is : IsHeld v) where
       -- how many bytes are in use without the day that goes
       pub left_is : (gone kept : List Day) (u : ℕ) → Matches v y (gone ++ kept) → AreDays 0 kept → u ≡ total kept → left_in v new y u ≡ total (roomier room kept)
       left_is gone [] u m days u_is =
-          ap (λ (b : Bool). cond b u (u - dropped_len (number (bytes_at y (at r (spot r.size (oldest_at v u) 2)) 2)))) (le_true (u + new) r.size (omega (arith, u_is, few, is.shape.low))) ∙ u_is
+          ap (λ (b : Bool). cond b u (u - dropped_len (number (bytes_at y (at r (spot r.size (oldest_at v u) 2)) 2)))) (le-leb (u + new) r.size (omega (arith, u_is, few, is.shape.low))) ∙ u_is
       left_is gone (d ∷ ds) u m days u_is = ⊎_elim
           (λ lt. let read : number (bytes_at y (at r (spot r.size (oldest_at v u) 2)) 2) ≡ len_of d =
           ap (λ (k : ℕ). number (bytes_at y (at r (spot r.size (oldest_at v k) 2)) 2)) u_is ∙ len_there gone d ds m in
           let kept : dropped_len (len_of d) ≡ len_of d = takes (len_of d) (len_even d) (len_least d days.1) (len_most d days.1) in
-          ap (λ (b : Bool). cond b u (u - dropped_len (number (bytes_at y (at r (spot r.size (oldest_at v u) 2)) 2)))) (le_false (u + new) r.size (omega (arith, u_is, lt, few, is.shape.low)))
+          ap (λ (b : Bool). cond b u (u - dropped_len (number (bytes_at y (at r (spot r.size (oldest_at v u) 2)) 2)))) (lt-leb (u + new) r.size (omega (arith, u_is, lt, few, is.shape.low)))
           ∙ ap (λ (k : ℕ). u - dropped_len k) read ∙ omega (arith, kept, u_is) ∙ sym (ap total (roomier_less room d ds lt)))
-          (λ fits. ap (λ (b : Bool). cond b u (u - dropped_len (number (bytes_at y (at r (spot r.size (oldest_at v u) 2)) 2)))) (le_true (u + new) r.size (omega (arith, u_is, fits, few, is.shape.low)))
+          (λ fits. ap (λ (b : Bool). cond b u (u - dropped_len (number (bytes_at y (at r (spot r.size (oldest_at v u) 2)) 2)))) (le-leb (u + new) r.size (omega (arith, u_is, fits, few, is.shape.low)))
           ∙ u_is ∙ sym (ap total (roomier_all room (d ∷ ds) fits)))
           (cases_lt room (total (d ∷ ds)))
         where
@@ -147,13 +135,13 @@ module _ (v : Held) (is : IsHeld v) where
   -- A drop where days do not fit into the room.
   module _ (y : List ℕ) (inside : r.base + (4 + r.size) ≤ length y) (room : ℕ) (big : 2892 ≤ room) (days : List Day) (m : Matches v y days) (u left : ℕ) (u_is : u ≡ total days) (left_known : left ≡ total (roomier room days)) where
     none_pieces : total days ≤ room → drop_pieces v u left ≡ []
-    none_pieces fits = ap (λ (b : Bool). cond b [] (piece r.base (two_bytes (oldest_at v left)) ∷ piece (at r (oldest_at v left)) (two_bytes 0) ∷ [])) (eq_true u left (omega (arith, u_is, left_known, ap total (roomier_all room days fits))))
+    none_pieces fits = ap (λ (b : Bool). cond b [] (piece r.base (two_bytes (oldest_at v left)) ∷ piece (at r (oldest_at v left)) (two_bytes 0) ∷ [])) (eq-eqb u left (omega (arith, u_is, left_known, ap total (roomier_all room days fits))))
 
     abbrev both : List Piece
     both = piece r.base (two_bytes (oldest_at v left)) ∷ piece (at r (oldest_at v left)) (two_bytes 0) ∷ []
 
     some_pieces : left < u → drop_pieces v u left ≡ both
-    some_pieces lt = ap (λ (b : Bool). cond b [] both) (eq_false u left lt)
+    some_pieces lt = ap (λ (b : Bool). cond b [] both) (ne_eqb u left (λ is. omega (arith, lt, is)))
 
     -- there are two days at least where they do not fit
     several : {T : Type 0} → room < total days

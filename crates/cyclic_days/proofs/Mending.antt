@@ -9,7 +9,8 @@ use Rattle.card_model.specs.Image.{StringShape, IsStringShape, oldest_pointer, n
 use Rattle.cyclic_days.specs.Steps.{SameDays, IsMeasured, IsMeasuring}
 use Rattle.card_model.proofs.Circle.{put_back}
 use Rattle.card_model.proofs.Lists.{previous_of, records_length, total-append, far_last, last_is}
-use Rattle.cyclic_days.proofs.Lists.{days_with, split, some_newest, with_last}
+use Rattle.card_model.proofs.Trims.{with_last}
+use Rattle.cyclic_days.proofs.Lists.{days_with, split, some_newest}
 use Rattle.cyclic_days.proofs.Places.{Stands, stands}
 use Rattle.card_model.proofs.Reading.{place_then, spelled_at, fills}
 use Rattle.card_model.proofs.Lists.{len_least}

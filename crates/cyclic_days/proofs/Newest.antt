@@ -11,6 +11,7 @@ use Rattle.card_model.specs.Changes.{counter_after, next_counter, OnNewest}
 use Rattle.card_model.specs.Image.{StringShape, IsStringShape, oldest_pointer, newest_pointer, circle_of, IsPointer, IsPlace, Holds, at}
 use Rattle.card_model.proofs.Circle.{part_back}
 use Rattle.card_model.proofs.Lists.{total-append, records_length, previous_of, far_last, last_is}
+use Rattle.card_model.proofs.Walking.{far_below}
 use Rattle.cyclic_days.proofs.Lists.{split}
 use Rattle.card_model.proofs.Reading.{place_then, fills, circle_part, spelled_at}
 use Rattle.card_model.proofs.Lists.{len_least}
@@ -33,13 +34,9 @@ module _ (r : StringShape) (shape : IsStringShape r) (x : List ℕ) (inside : r.
   newest_at : (days : List Day) → Holds r x days → IsPlace r.size (oldest_pointer r x) (far days) n
   newest_at days h = subst (λ (m : ℕ). IsPlace r.size (oldest_pointer r x) (far days) m) (sym (n_is h.newest)) h.distance
 
-  far_below : (days : List Day) → Holds r x days → far days < r.size
-  far_below [] h = omega (arith, shape.low)
-  far_below (d ∷ ds) h = omega (arith, fills r shape x inside (d ∷ ds) h, last_len_is (d ∷ ds), last_least 0 d ds h.ordered)
-
   pub last_known : ((q : ℕ) → IsPlace r.size n 2 q → q < r.size → number (bytes_at x (at r q) 2) % 2 ≡ 0 → number (bytes_at x (at r q) 2) ≤ 2892 → len ≡ number (bytes_at x (at r q) 2))
       → (days : List Day) → Holds r x days → len ≡ last_len days
-  last_known len_is days h = omega (arith, used_is r shape x inside (oldest_pointer r x) n len (far days) refl n_is n_pointer len_is (newest_at days h) (far_below days h) days h, last_len_is days)
+  last_known len_is days h = omega (arith, used_is r shape x inside (oldest_pointer r x) n len (far days) refl n_is n_pointer len_is (newest_at days h) (far_below r shape x inside days h) days h, last_len_is days)
 
   -- the counter's field, where there is a newest day
   counter_at : (q : ℕ) → IsPlace r.size n 8 q → IsPointer r.size q → (older : List Day) (d : Day) → Holds r x (older ++ d ∷ []) → counter_after (decimal (number (bytes_at x (at r q) 2))) ≡ next_counter (older ++ d ∷ [])

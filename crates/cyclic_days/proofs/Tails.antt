@@ -11,7 +11,8 @@ use Rattle.cyclic_days.specs.Heads.{head_bytes, day_head_of, day_head}
 use Rattle.cyclic_days.specs.Held.{Held, Knows, IsNewestHead, tail_by, tail_in}
 use Rattle.cyclic_days.proofs.CutLast.{none_there, none_where_short, newest_read}
 use Rattle.cyclic_days.proofs.HeadLemmas.{head_is}
-use Rattle.cyclic_days.proofs.HeadWalks.{newest_here, far_below}
+use Rattle.card_model.proofs.Walking.{far_below}
+use Rattle.cyclic_days.proofs.HeadWalks.{newest_here}
 use Rattle.cyclic_days.proofs.Lists.{split, some_newest}
 
 -- what is told of the last of some days

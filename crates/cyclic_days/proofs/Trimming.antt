@@ -1,6 +1,7 @@
 -- The newest day goes.
 use Rattle.std.proofs.Common.{◌≡◌, ◌≢◌, inl, inr, ⊎_elim, ℕ, suc, ◌+◌, ◌%◌, ◌<◌, ◌≤◌, Bool, true, false, cond, List, [], ◌∷◌, ◌++◌, length, refl, sym, ◌∙◌, ap, subst, arith, lit≤, append_assoc, length-append}
 use Rattle.std.proofs.lemmas.Bool.Decides.{nat_tests}
+use Rattle.std.proofs.lemmas.Bool.{le-leb}
 use Rattle.std.proofs.lemmas.List.{append-nil}
 use Rattle.tach_media.specs.Medium.{put, bytes_at, SameOutside, IsPartlyWritten}
 use Rattle.tach_media.proofs.Images.{outside_same, outside_then, outside_wider, put_outside}
@@ -173,9 +174,6 @@ trimming_then r date i j x y c first next = record {
 pub trimming_none : (r : StringShape) (date : ℕ) (x : List ℕ) → IsTrimming r date 0 x x
 trimming_none r date x = record { outside = outside_same r.base (4 + r.size) x; list = λ days h. (days, record { less = record { gone = []; is = sym (append-nil days); later = tt }; many = lit≤ tt }, h) }
 
-at_most : (m n : ℕ) → m ≤ n → nat_le m n ≡ true
-at_most m n le = grind (arith, nat_tests)
-
 -- the first is no later than the newest
 first_low : (date last : ℕ) (k : Day) (ks gone : List Day) → AreDays last (k ∷ (ks ++ gone)) → newest_later date (k ∷ ks) ≡ false → k.date ≤ date
 first_low date last k [] gone are newest = low k.date date newest
@@ -188,9 +186,9 @@ first_low date last k (e ∷ ks) gone are newest = omega (arith, are.2.0, first_
 pub until_is : (date last : ℕ) (kept gone : List Day) → AreDays last (kept ++ gone) → AllLater date gone → newest_later date kept ≡ false → until date (kept ++ gone) ≡ kept
 until_is date last [] gone are later newest = until_none date gone later
 until_is date last (k ∷ []) gone are later newest =
-    ap (λ (b : Bool). cond b (k ∷ until date gone) []) (at_most k.date date (first_low date last k [] gone are newest)) ∙ ap (λ (l : List Day). k ∷ l) (until_none date gone later)
+    ap (λ (b : Bool). cond b (k ∷ until date gone) []) (le-leb k.date date (first_low date last k [] gone are newest)) ∙ ap (λ (l : List Day). k ∷ l) (until_none date gone later)
 until_is date last (k ∷ e ∷ ks) gone are later newest =
-    ap (λ (b : Bool). cond b (k ∷ until date ((e ∷ ks) ++ gone)) []) (at_most k.date date (first_low date last k (e ∷ ks) gone are newest)) ∙ ap (λ (l : List Day). k ∷ l) (until_is date k.date (e ∷ ks) gone are.2 later newest)
+    ap (λ (b : Bool). cond b (k ∷ until date ((e ∷ ks) ++ gone)) []) (le-leb k.date date (first_low date last k (e ∷ ks) gone are newest)) ∙ ap (λ (l : List Day). k ∷ l) (until_is date k.date (e ∷ ks) gone are.2 later newest)
 
 -- one drop of a later day
 later_is : (date : ℕ) (days : List Day) → newest_later date days ≡ true → (f : Front days) × (date < f.last.date)

@@ -16,16 +16,25 @@ pub record IfKnown (v : Held) (R : List ℕ → List ℕ → Type 0) (x c : List
   pub outside : SameOutside v.shape.base (4 + v.shape.size) x c
   pub told : (days : List Day) → Knows v x days → R x c
 
--- a moment of `add_change`: of the old days no more are gone than must be, or the new list
-pub record IsChanging (r : StringShape) (w : ℕ) (x c : List ℕ) : Type 0 where
+-- Outside the string's file nothing differs; and of days that may be changed so, there is what is said of them.
+pub record IsOfDays (r : StringShape) (May : List Day → Type 0) (Is : List Day → List ℕ → Type 0) (x c : List ℕ) : Type 0 where
   pub outside : SameOutside r.base (4 + r.size) x c
-  pub list : (days : List Day) → Holds r x days → OnNewest (TakesWord w) days
-      → ((kept : List Day) × Remain (r.size - 2) days kept × Holds r c kept) ⊎ Holds r c (with_newest (with_word w) (fitting (r.size - 2) days))
+  pub list : (days : List Day) → Holds r x days → May days → Is days c
 
--- after an `add_change`
-pub record IsChanged (r : StringShape) (w : ℕ) (x y : List ℕ) : Type 0 where
-  pub outside : SameOutside r.base (4 + r.size) x y
-  pub list : (days : List Day) → Holds r x days → OnNewest (TakesWord w) days → Holds r y (with_newest (with_word w) (fitting (r.size - 2) days))
+-- a moment of a call that makes room: of the old days no more are gone than must be, or it is done
+abbrev pub OrRemain : StringShape → (room : ℕ) → (Is : List Day → List ℕ → Type 0) → List Day → List ℕ → Type 0
+OrRemain r room Is days c = ((kept : List Day) × Remain room days kept × Holds r c kept) ⊎ Is days c
+
+-- the new list of an `add_change`
+abbrev pub HoldsChanged : StringShape → ℕ → List Day → List ℕ → Type 0
+HoldsChanged r w days y = Holds r y (with_newest (with_word w) (fitting (r.size - 2) days))
+
+-- a moment of `add_change`, and after it
+abbrev pub IsChanging : StringShape → ℕ → List ℕ → List ℕ → Type 0
+IsChanging r w x c = IsOfDays r (OnNewest (TakesWord w)) (OrRemain r (r.size - 2) (HoldsChanged r w)) x c
+
+abbrev pub IsChanged : StringShape → ℕ → List ℕ → List ℕ → Type 0
+IsChanged r w x y = IsOfDays r (OnNewest (TakesWord w)) (HoldsChanged r w) x y
 
 -- what is kept then is what the image tells then
 abbrev pub KnowsChanged : (v next : Held) → ℕ → List ℕ → List ℕ → Type 0
@@ -39,17 +48,16 @@ IsCleared r y = bytes_at y (at r (oldest_pointer r y)) 2 ≡ two_bytes 0
 abbrev pub ClearsChanged : Held → ℕ → List ℕ → List ℕ → Type 0
 ClearsChanged v w x y = (days : List Day) → Knows v x days → OnNewest (TakesWord w) days → fitting (v.shape.size - 2) days ≢ days → IsCleared v.shape y
 
--- a moment of `begin_day`: of the old days no more are gone than must be, or the new list
-pub record IsDayBeginning (r : StringShape) (date : ℕ) (words : List ℕ) (x c : List ℕ) : Type 0 where
-  pub outside : SameOutside r.base (4 + r.size) x c
-  pub list : (days : List Day) → Holds r x days → IsNext days date words
-      → ((kept : List Day) × Remain (r.size - (12 + 2 * length words)) days kept × Holds r c kept)
-      ⊎ Holds r c (fitting (r.size - (12 + 2 * length words)) days ++ new_day days date words ∷ [])
+-- the new list of a `begin_day`
+abbrev pub HoldsBegun : StringShape → (date : ℕ) → (words : List ℕ) → List Day → List ℕ → Type 0
+HoldsBegun r date words days y = Holds r y (fitting (r.size - (12 + 2 * length words)) days ++ new_day days date words ∷ [])
 
--- after a `begin_day`
-pub record IsDayBegun (r : StringShape) (date : ℕ) (words : List ℕ) (x y : List ℕ) : Type 0 where
-  pub outside : SameOutside r.base (4 + r.size) x y
-  pub list : (days : List Day) → Holds r x days → IsNext days date words → Holds r y (fitting (r.size - (12 + 2 * length words)) days ++ new_day days date words ∷ [])
+-- a moment of `begin_day`, and after it
+abbrev pub IsDayBeginning : StringShape → (date : ℕ) → (words : List ℕ) → List ℕ → List ℕ → Type 0
+IsDayBeginning r date words x c = IsOfDays r (λ days. IsNext days date words) (OrRemain r (r.size - (12 + 2 * length words)) (HoldsBegun r date words)) x c
+
+abbrev pub IsDayBegun : StringShape → (date : ℕ) → (words : List ℕ) → List ℕ → List ℕ → Type 0
+IsDayBegun r date words x y = IsOfDays r (λ days. IsNext days date words) (HoldsBegun r date words) x y
 
 abbrev pub KnowsBegun : (v next : Held) → (date : ℕ) → (words : List ℕ) → List ℕ → List ℕ → Type 0
 KnowsBegun v next date words x y = (days : List Day) → Knows v x days → IsNext days date words

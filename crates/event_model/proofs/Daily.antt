@@ -7,11 +7,12 @@ use Rattle.std.proofs.lemmas.List.{length-append}
 use Rattle.std.proofs.lemmas.List.Elements.{All-nil, All-cons, All-head, All-tail, All-append, All-push, All-weaker, filter-append}
 use Rattle.std.proofs.lemmas.List.Folds.{find-append}
 use Rattle.std.proofs.lemmas.List.Quantifiers.{position-Some}
+use Rattle.activity_codec.proofs.Tests.{by_test}
 use Rattle.event_model.specs.declared.kinds.Purpose.{Purpose}
 use Rattle.event_model.specs.declared.entries.Held.{Held}
 use Rattle.event_model.specs.Places.{earliest, held_at, where_later, is_of_day, measure, place_beside, placed}
 use Rattle.event_model.specs.Kept.{stored, on_day, best_of, KeepsDays}
-use Rattle.event_model.proofs.Retaining.{by_test, all-front, all-back, Split, split-at, and-first, and-second, or-second, Later, all-later, any-found, none-earliest, stored-one, stored-none, stored-all, stored-most, stored-append}
+use Rattle.event_model.proofs.Retaining.{all-front, all-back, Split, split-at, and-first, and-second, or-second, Later, all-later, any-found, none-earliest, stored-one, stored-none, stored-all, stored-most, stored-append}
 
 -- an event of another day
 abbrev pub Other : ℕ → Held → Type 0

@@ -8,13 +8,14 @@ use Rattle.std.proofs.Math.ListN.{get_or-map}
 use Rattle.std.proofs.Math.Seq.{map-set_same}
 use Rattle.std.proofs.lemmas.List.Elements.{All-nil, All-cons, All-head, All-tail}
 use Rattle.std.proofs.lemmas.List.Quantifiers.{position-Some}
+use Rattle.activity_codec.proofs.Tests.{by_test}
 use Rattle.event_model.specs.declared.kinds.Purpose.{Purpose}
 use Rattle.event_model.specs.declared.entries.Held.{Held}
 use Rattle.event_model.specs.Kinds.{purpose_of, is_by_day}
 use Rattle.event_model.specs.Places.{earliest, held_at, where_later, recent_place, is_of_day, measure, place_beside, day_place, place_of, placed, noted, similar_after}
 use Rattle.event_model.specs.Kept.{stored, on_day, KeepsRecent, KeepsDays, all_noted}
 use Rattle.event_model.specs.Counted.{Counted, held_of, counted_in, similar_in, counted_at, counted, all_counted, number_of, similar_on, CountsDays}
-use Rattle.event_model.proofs.Retaining.{by_test, and-first, and-second, stored-one, stored-none, stored-most}
+use Rattle.event_model.proofs.Retaining.{and-first, and-second, stored-one, stored-none, stored-most}
 use Rattle.event_model.proofs.Daily.{on-append, on-here, on-off, none-on, any-none, position-none, Other}
 use Rattle.event_model.proofs.Noting.{recently, daily}
 

@@ -1,20 +1,16 @@
 -- The counts of the run above the limit, as more seconds of one speed come.
-use Rattle.std.proofs.Common.{◌≡◌, ◌∙◌, ℕ, zero, suc, ◌+◌, ◌-◌, ◌*◌, ◌/◌, ◌<◌, max, Bool, true, false, cond, Option, Some, List, [], ◌∷◌, ◌++◌, length, refl, ap, sym, subst, arith, fold, append-nil, zero-add, sum}
+use Rattle.std.proofs.Common.{◌≡◌, ◌∙◌, ℕ, zero, suc, ◌+◌, ◌-◌, ◌*◌, ◌/◌, ◌<◌, max, true, false, cond, Option, Some, List, [], ◌∷◌, ◌++◌, length, refl, ap, sym, subst, arith, fold, append-nil, zero-add, sum}
 use Rattle.std.specs.Prelude.{nat_lt, ◌==◌, option_to_list}
 use Rattle.std.proofs.lemmas.Bool.{ltb-true, ne_eqb}
 use Rattle.std.proofs.lemmas.List.{length-append, map-append, length-map}
 use Rattle.std.proofs.lemmas.List.Sums.{fold-append, sum_by-append}
+use Rattle.activity_codec.proofs.Tests.{by_test}
 use Rattle.event_model.specs.declared.entries.Over.{Over}
 use Rattle.event_model.specs.Runs.{last_run}
 use Rattle.event_model.specs.Spans.{SpeedSecond, InARow, first_of, last_of, at_speed, is_above, numbers, speeds, over_of, overs_of}
 use Rattle.event_model.proofs.RunLemmas.{last_run-append, row-on, row-off, ended-on, ended-off}
 use Rattle.event_model.proofs.SpanLemmas.{last_of-row, first_of-row, row-append, row-in, length-row}
 use Rattle.event_rules.specs.Speeding.{Speeding, StandsFor, IsNext, no_run, counted, grown, over_in}
-
--- cases of a test, with what it gave
-by_test : {P : Type 0} → (b : Bool) → (b ≡ true → P) → (b ≡ false → P) → P
-by_test true on_true on_false = on_true refl
-by_test false on_true on_false = on_false refl
 
 -- a second of this speed
 abbrev one : ℕ → ℕ → SpeedSecond

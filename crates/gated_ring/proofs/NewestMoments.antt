@@ -3,7 +3,7 @@ use Rattle.std.proofs.Common.{◌≡◌, ◌≢◌, ◌⊎◌, inl, inr, ⊎_eli
 use Rattle.std.specs.Prelude.{◌==◌, ◌||◌}
 use Rattle.std.proofs.lemmas.Bool.Decides.{nat_tests}
 use Rattle.gated_ring.specs.Ring.{Shape, pointer, PointsInside, is_there, entry_at, next, order, indices, indices_with, indices_without, IsLast, IsNewest, taken, staying}
-use Rattle.gated_ring.specs.Change.{SameOthers, IsExtended, IsAddStep, IsReplaced, IsAbsent, IsSet}
+use Rattle.gated_ring.specs.Change.{SameOthers, IsExtended, IsAddStep, IsReplaced, IsReplacingEntry, IsAbsent, IsSet, OrUnwritten}
 use Rattle.gated_ring.proofs.Orders.{Each, rest, filter_same, filter_last}
 use Rattle.gated_ring.proofs.Listing.{taken_below, indices_cases, pointer_last}
 
@@ -134,3 +134,28 @@ newest_absent r i x c known absent j other last = record {
   older = filter (λ k. not (k == i)) last.older;
   indices_are = absent.indices_are known ∙ ap (filter (λ k. not (k == i))) last.indices_are ∙ without_other i j last.older other;
 }
+
+-- So at each moment of a `put_at` over an entry that is there another newest one stays,
+pub newest_replacing : (r : Shape) (i : ℕ) (head x c : List ℕ) → PointsInside r x → is_there r x i ≡ true → IsReplacingEntry r i head x c → (j : ℕ) → j ≢ i → IsNewest r x (Some j) → IsNewest r c (Some j)
+newest_replacing r i head x c known was moment j other newest = ⊎_elim
+    (λ same. subst (λ (l : List ℕ). IsNewest r l (Some j)) (sym same) newest)
+    (λ changed. ⊎_elim
+    (λ absent. newest_absent r i x c known absent j other newest)
+    (λ replaced. newest_replaced r i head x c known was replaced (Some j) newest) changed)
+    moment
+
+-- and where the newest one itself is replaced, it is the newest, or the list is the one without it.
+pub newest_itself : (r : Shape) (i : ℕ) (head x c : List ℕ) → PointsInside r x → IsReplacingEntry r i head x c → IsNewest r x (Some i) → IsNewest r c (Some i) ⊎ (indices r c ≡ indices_without r x i)
+newest_itself r i head x c known moment newest = ⊎_elim
+    (λ same. inl (subst (λ (l : List ℕ). IsNewest r l (Some i)) (sym same) newest))
+    (λ changed. ⊎_elim
+    (λ absent. inr (absent.indices_are known))
+    (λ replaced. inl (newest_replaced r i head x c known newest.there replaced (Some i) newest)) changed)
+    moment
+
+-- At each moment of a `set_small` the newest entry is the one before.
+pub newest_setting : (r : Shape) (i offset : ℕ) (bytes x c : List ℕ) → PointsInside r x → OrUnwritten (IsSet r i offset bytes) x c → (o : Option ℕ) → IsNewest r x o → IsNewest r c o
+newest_setting r i offset bytes x c known moment o newest = ⊎_elim
+    (λ same. subst (λ (l : List ℕ). IsNewest r l o) (sym same) newest)
+    (λ set. newest_set r i offset bytes x c known set o newest)
+    moment

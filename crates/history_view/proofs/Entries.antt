@@ -9,13 +9,13 @@ use Rattle.card_retention.specs.Entries.{latest, told_by, entry_at, minutes_from
 use Rattle.std.specs.List.{AllByRecursion}
 use Rattle.std.proofs.lemmas.List.{map-append}
 use Rattle.std.proofs.lemmas.Bool.{le-leb, lt-leb, leb-true}
+use Rattle.activity_codec.proofs.Tests.{by_test}
 use Rattle.view_model.specs.declared.CardShown.{CardShown}
 use Rattle.view_model.specs.declared.Viewed.{Viewed}
 use Rattle.view_model.specs.Lines.{day_of}
 use Rattle.tacho_types.specs.declared.calendar.TheConstants.{DAYS}
 use Rattle.view_text.specs.Entries.{entry_shown}
 use Rattle.card_image.specs.Fields.{last_of}
-use Rattle.view_text.proofs.More.{by_test}
 use Rattle.history_view.specs.Showing.{entry_of, entry_up_to}
 
 -- what a minute's change tells is what its word tells

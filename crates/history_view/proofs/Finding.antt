@@ -4,10 +4,10 @@ use Rattle.std.specs.Prelude.{is_some, nat_eq, nat_lt, ◌==◌}
 use Rattle.std.specs.Bool.{OnTrue}
 use Rattle.std.proofs.lemmas.Bool.Decides.{nat_tests}
 use Rattle.card_model.specs.Checks.{first_bad}
-use Rattle.card_model.proofs.Judging.{both_true}
 use Rattle.gated_ring.specs.Ring.{pointer}
 use Rattle.std.proofs.lemmas.List.{map-append}
 use Rattle.std.proofs.lemmas.List.Elements.{filter-append}
+use Rattle.std.proofs.lemmas.Bool.{and_from}
 use Rattle.byte_fields.specs.Fields.{joined}
 use Rattle.tach_media.specs.Medium.{bytes_at}
 use Rattle.card_layout.specs.declared.files.Application.{Application}
@@ -159,7 +159,7 @@ and_false true b is = is
 and_false false b is = refl
 
 pub value_yes : (e : FileEntry) (fid : ℕ) → e.kind ≡ 0 → e.fid ≡ fid → is_value fid e ≡ true
-value_yes e fid kind same = both_true (nat_eq e.kind 0) (nat_eq e.fid fid) (grind (arith, nat_tests)) (grind (arith, nat_tests))
+value_yes e fid kind same = and_from (nat_eq e.kind 0) (nat_eq e.fid fid) (grind (arith, nat_tests)) (grind (arith, nat_tests))
 
 pub value_no : (e : FileEntry) (fid : ℕ) → e.fid ≢ fid → is_value fid e ≡ false
 value_no e fid other = and_false (nat_eq e.kind 0) (nat_eq e.fid fid) (grind (arith, nat_tests))

@@ -1,10 +1,10 @@
 -- Lines stand for the minutes that they were made of.
 use Rattle.std.proofs.Common.{◌≡◌, ◌∙◌, ℕ, suc, zero, ◌+◌, ◌-◌, ◌<◌, ◌≤◌, ◌&&◌, Bool, true, false, List, [], ◌∷◌, ◌++◌, map, refl, ap, sym, arith}
 use Rattle.std.specs.Prelude.{◌==◌, nat_lt, IsTrue}
-use Rattle.std.proofs.lemmas.Bool.{lt-ltb, ltb-true}
+use Rattle.std.proofs.lemmas.Bool.{lt-ltb, ltb-true, and_from}
 use Rattle.std.proofs.lemmas.Bool.Decides.{nat_tests}
 use Rattle.std.specs.List.{range_with_len, list_all, AllByRecursion}
-use Rattle.card_model.proofs.Judging.{both_true}
+use Rattle.activity_codec.proofs.Tests.{by_test}
 use Rattle.activity_codec.specs.declared.entries.Entry.{Entry}
 use Rattle.unit_model.specs.Days.{UnitMinute}
 use Rattle.view_model.specs.declared.UnitShown.{UnitShown}
@@ -15,7 +15,6 @@ use Rattle.view_model.specs.Lines.{day_of, goes_on, with_minute, lines_of}
 use Rattle.view_text.specs.Entries.{entry_shown}
 use Rattle.view_text.specs.Exact.{both}
 use Rattle.tacho_types.specs.declared.calendar.TheConstants.{DAYS}
-use Rattle.view_text.proofs.More.{by_test}
 use Rattle.view_text.proofs.Texts.{lines-below}
 use Rattle.history_view.specs.Histories.{minute_shown, minute_told, entry_told, line_minutes, minutes_on, AreLines}
 
@@ -78,7 +77,7 @@ module _ {X : Type 0} (same : X → X → Bool) (exact : (one other : X) → sam
     where
       all_pass : (lines : List (Line X)) → AllByRecursion (λ (l : Line X). day_of l.first < DAYS) lines → list_all (λ (line : Line X). nat_lt (day_of line.first) DAYS) lines ≡ true
       all_pass [] all = refl
-      all_pass (line ∷ lines) all = both_true (nat_lt (day_of line.first) DAYS) (list_all (λ (l : Line X). nat_lt (day_of l.first) DAYS) lines) (lt-ltb (day_of line.first) DAYS all.0) (all_pass lines all.1)
+      all_pass (line ∷ lines) all = and_from (nat_lt (day_of line.first) DAYS) (list_all (λ (l : Line X). nat_lt (day_of l.first) DAYS) lines) (lt-ltb (day_of line.first) DAYS all.0) (all_pass lines all.1)
 
 -- and each lies on a day that a time of four bytes can name
 pub all_low : {X : Type 0} → (lines : List (Line X)) → IsTrue (list_all (λ (line : Line X). nat_lt (day_of line.first) DAYS) lines) → AllByRecursion (λ (l : Line X). day_of l.first < DAYS) lines

@@ -3,8 +3,9 @@ use Rattle.std.proofs.Common.{◌≡◌, ◌∙◌, ◌⊎◌, inl, inr, ⊎_eli
 use Rattle.std.specs.Prelude.{is_some, ◌==◌, ◌||◌, nat_lt, slice_index}
 use Rattle.std.proofs.lemmas.List.{map-append}
 use Rattle.std.proofs.lemmas.List.Elements.{filter-append}
-use Rattle.std.proofs.lemmas.Bool.{lt-ltb}
+use Rattle.std.proofs.lemmas.Bool.{lt-ltb, and_from}
 use Rattle.std.proofs.lemmas.Bool.Decides.{nat_tests}
+use Rattle.activity_codec.proofs.Tests.{by_test}
 use Rattle.byteorder.specs.Endian.{big_number}
 use Rattle.byte_fields.specs.Fields.{joined}
 use Rattle.byte_fields.proofs.Numbers.{big_number-big_bytes}
@@ -12,10 +13,8 @@ use Rattle.tach_media.specs.Medium.{bytes_at}
 use Rattle.card_layout.specs.declared.files.Application.{Application}
 use Rattle.card_layout.specs.Application.{application_of, first_bad_field}
 use Rattle.card_model.specs.Checks.{first_bad}
-use Rattle.card_model.proofs.Judging.{both_true}
 use Rattle.card_image.specs.CardFile.{FileEntry, entry_bytes, IsFileEntry, is_value, values_of, string_alone, vehicles_alone, IsCardFile}
 use Rattle.gated_ring.specs.Ring.{pointer}
-use Rattle.view_text.proofs.More.{by_test}
 use Rattle.history_view.specs.CardFiles.{is_empty, are_sizes, sizes_told, are_days, are_vehicles, may_follow, lacks, IsStuck, IsBadCardFile}
 
 -- two fronts of one length
@@ -104,13 +103,13 @@ module _ (app : Application) (days vehicles : List ℕ) (E : List FileEntry) (by
   no_fault o is = ap (λ p. not (is_some p)) is
 
   pub good_sizes : are_sizes file.sizes ≡ true
-  good_sizes = both_true (length file.sizes == 10) (not (is_some (first_bad_field file.sizes))) (equal (length file.sizes) 10 file.sized.0) (no_fault (first_bad_field file.sizes) file.application.0)
+  good_sizes = and_from (length file.sizes == 10) (not (is_some (first_bad_field file.sizes))) (equal (length file.sizes) 10 file.sized.0) (no_fault (first_bad_field file.sizes) file.application.0)
 
   pub good_days : are_days (Some app) days ≡ true
-  good_days = both_true (length days == 4 + app.activity) (not (is_some (first_bad (string_alone app) days))) (equal (length days) (4 + app.activity) file.sized.1) (no_fault (first_bad (string_alone app) days) file.string)
+  good_days = and_from (length days == 4 + app.activity) (not (is_some (first_bad (string_alone app) days))) (equal (length days) (4 + app.activity) file.sized.1) (no_fault (first_bad (string_alone app) days) file.string)
 
   pub good_vehicles : are_vehicles (Some app) vehicles ≡ true
-  good_vehicles = both_true (length vehicles == 2 + 31 * app.vehicles) (nat_lt (pointer (vehicles_alone app) vehicles) app.vehicles) (equal (length vehicles) (2 + 31 * app.vehicles) file.sized.2) (lt-ltb (pointer (vehicles_alone app) vehicles) app.vehicles file.ring)
+  good_vehicles = and_from (length vehicles == 2 + 31 * app.vehicles) (nat_lt (pointer (vehicles_alone app) vehicles) app.vehicles) (equal (length vehicles) (2 + 31 * app.vehicles) file.sized.2) (lt-ltb (pointer (vehicles_alone app) vehicles) app.vehicles file.ring)
 
   -- the sizes are told before a value of another needed file
   told_before : (fid : ℕ) (F : List FileEntry) (g : FileEntry) (gs : List FileEntry) → E ≡ F ++ g ∷ gs → values_of fid file.before ≡ [] → is_value fid g ≡ true → sizes_told (values_of 0x0501 F) ≡ Some app
@@ -126,14 +125,14 @@ module _ (app : Application) (days vehicles : List ℕ) (E : List FileEntry) (by
   may_stand F g gs split =
       by_test (is_value 0x0501 g)
       (λ own. let alone = only 0x0501 E F g gs file.sizes split file.one_application own in
-      rw own (both_true (is_empty (values_of 0x0501 F)) (are_sizes g.value) (ap is_empty alone.0) (ap are_sizes alone.1 ∙ good_sizes)))
+      rw own (and_from (is_empty (values_of 0x0501 F)) (are_sizes g.value) (ap is_empty alone.0) (ap are_sizes alone.1 ∙ good_sizes)))
       (λ no_sizes. by_test (is_value 0x0504 g)
       (λ own. let alone = only 0x0504 E F g gs days split file.one_string own in
-      rw (no_sizes, own) (both_true (is_empty (values_of 0x0504 F)) (are_days (sizes_told (values_of 0x0501 F)) g.value) (ap is_empty alone.0)
+      rw (no_sizes, own) (and_from (is_empty (values_of 0x0504 F)) (are_days (sizes_told (values_of 0x0501 F)) g.value) (ap is_empty alone.0)
       (ap (λ (o : Option Application). are_days o g.value) (told_before 0x0504 F g gs split file.sizes_first.1 own) ∙ ap (are_days (Some app)) alone.1 ∙ good_days)))
       (λ no_days. by_test (is_value 0x0505 g)
       (λ own. let alone = only 0x0505 E F g gs vehicles split file.one_ring own in
-      rw (no_sizes, no_days, own) (both_true (is_empty (values_of 0x0505 F)) (are_vehicles (sizes_told (values_of 0x0501 F)) g.value) (ap is_empty alone.0)
+      rw (no_sizes, no_days, own) (and_from (is_empty (values_of 0x0505 F)) (are_vehicles (sizes_told (values_of 0x0501 F)) g.value) (ap is_empty alone.0)
       (ap (λ (o : Option Application). are_vehicles o g.value) (told_before 0x0505 F g gs split file.sizes_first.2 own) ∙ ap (are_vehicles (Some app)) alone.1 ∙ good_vehicles)))
       (λ no_vehicles. rw (no_sizes, no_days, no_vehicles) refl)))
 

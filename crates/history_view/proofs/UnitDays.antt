@@ -4,6 +4,7 @@ use Rattle.std.specs.Prelude.{flat_map, ◌==◌}
 use Rattle.std.specs.List.{range_with_len, AllByRecursion}
 use Rattle.std.proofs.lemmas.List.{length-drop, take_more, flat_map_more}
 use Rattle.std.proofs.lemmas.List.FromFn.{get_or-map-range_with_len, length-map-range_with_len, map-range_with_len_more}
+use Rattle.activity_codec.proofs.Tests.{by_test}
 use Rattle.byte_fields.specs.Images.{number_at}
 use Rattle.activity_codec.specs.declared.words.Change.{Change}
 use Rattle.activity_codec.specs.Words.{change_of}
@@ -17,7 +18,6 @@ use Rattle.view_model.specs.declared.UnitShown.{UnitShown}
 use Rattle.view_model.specs.declared.Viewed.{Viewed}
 use Rattle.view_model.specs.Lines.{day_of}
 use Rattle.tacho_types.specs.declared.calendar.TheConstants.{DAYS}
-use Rattle.view_text.proofs.More.{by_test}
 use Rattle.history_view.specs.declared.unit.DayAt.{DayAt}
 use Rattle.history_view.specs.Histories.{minute_shown}
 use Rattle.history_view.specs.Showing.{before_last}

@@ -1,12 +1,12 @@
 -- The states of a slot, by the change of the last of its words that is not later.
 use Rattle.std.proofs.Common.{◌≡◌, ◌∙◌, ℕ, zero, suc, ◌+◌, ◌/◌, ◌%◌, ◌<◌, ◌&&◌, Bool, true, false, not, cond, Option, Some, None, option_map, List, [], ◌∷◌, filter, refl, ap, sym, arith}
 use Rattle.std.specs.Prelude.{◌==◌, nat_le}
+use Rattle.activity_codec.proofs.Tests.{by_test}
 use Rattle.activity_codec.specs.declared.values.Activity.{Activity}
 use Rattle.activity_codec.specs.Words.{change_of, activity_numbered}
 use Rattle.card_retention.specs.Entries.{latest}
 use Rattle.unit_model.specs.Days.{word_slot, word_state, word_minute, bare, state_by as state_with, state_after, state_at, state_in, is_crew_in}
 use Rattle.view_model.specs.declared.State.{State}
-use Rattle.view_text.proofs.More.{by_test}
 use Rattle.history_view.specs.UnitShowing.{slot_words, state_by, crew_by}
 
 -- the bits of a state, by a word that decides

@@ -2,6 +2,7 @@
 -- check gives which, are this project's profile.
 use Rattle.std.specs.Prelude.{ℕ, zero, suc, ◌+◌, ◌-◌, ◌*◌, ◌/◌, ◌%◌, ◌<◌, ◌≤◌, ◌==◌, ◌&&◌, ◌||◌, nat_le, Bool, true, false, if◌then◌else◌, List, [], ◌∷◌, ◌++◌, length, take, drop, slice_index, bytes_eq, Option, Some, None, IfSome, is_some, option_to_list, map}
 use Rattle.link_model.specs.declared.side.End.TheVariants as side
+use Rattle.link_model.specs.declared.lengths.TheConstants.{FRAME_MOST, WHOLE_MOST, PIECE_MOST}
 use Rattle.link_model.specs.declared.request.Request.{Request}
 use Rattle.link_model.specs.declared.request.Request.TheVariants.{Overview, Day, Events, Speed, Technical}
 use Rattle.link_model.specs.Frames.{Heard, Right, Wrong}
@@ -23,7 +24,7 @@ pub record Reply : Type 0 where
 
 -- an answer that a frame holds
 abbrev pub Fits : Reply → Type 0
-Fits reply = IfSome reply.answer (λ bytes. (0 < length bytes) × (length bytes ≤ 255))
+Fits reply = IfSome reply.answer (λ bytes. (0 < length bytes) × (length bytes ≤ FRAME_MOST))
 
 abbrev pub answers : List ℕ → LinkState → Reply
 answers bytes state = record { answer = Some bytes; state = state }
@@ -86,10 +87,10 @@ request_in bytes =
 abbrev pub upload_request : List ℕ
 upload_request = 0x35 ∷ 0x00 ∷ 0x00 ∷ 0x00 ∷ 0x00 ∷ 0x00 ∷ 0xFF ∷ 0xFF ∷ 0xFF ∷ 0xFF ∷ []
 
--- The bytes of a message that go in its piece of this counter, from 1 on: 251, in the last piece fewer, none where nothing is
--- left.
+-- The bytes of a message that go in its piece of this counter, from 1 on: as many as a piece has room for, in the last piece
+-- fewer, none where nothing is left.
 abbrev pub cut : List ℕ → ℕ → List ℕ
-cut content counter = take 251 (drop (251 * (counter - 1)) content)
+cut content counter = take PIECE_MOST (drop (PIECE_MOST * (counter - 1)) content)
 
 -- a piece: the message's number, the counter, and these bytes
 abbrev pub piece : Request → List ℕ → ℕ → List ℕ
@@ -101,12 +102,12 @@ cuts content zero = []
 cuts content (suc n) = cuts content n ++ cut content (suc n) ∷ []
 
 abbrev pub has_piece : List ℕ → ℕ → Bool
-has_piece content counter = nat_le (251 * (counter - 1)) (length content)
+has_piece content counter = nat_le (PIECE_MOST * (counter - 1)) (length content)
 
--- a message of at most 252 bytes behind its number goes in one frame, a longer one in pieces
+-- a message that has room in one frame, behind its number, goes whole, a longer one in pieces
 abbrev pub begins_to_send : Request → List ℕ → Reply
 begins_to_send request content =
-    if nat_le (length content) 252 then answers (0x76 ∷ number_of request ∷ content) Upload else answers (piece request content 1) (Sending request 1)
+    if nat_le (length content) WHOLE_MOST then answers (0x76 ∷ number_of request ∷ content) Upload else answers (piece request content 1) (Sending request 1)
 
 abbrev pub begins_if_any : Request → Option (List ℕ) → LinkState → Reply
 begins_if_any request None state = silent state

@@ -3,6 +3,7 @@
 #![tactic(auto)]
 
 mod laws;
+pub mod lengths;
 mod request;
 mod side;
 

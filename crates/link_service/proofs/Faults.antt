@@ -1,7 +1,8 @@
 -- A fault that was passed on.
-use Rattle.std.proofs.Common.{◌≡◌, ℕ, ◌≤◌, List, Option, Some, IfSome, Result, Ok, Err, sym, ap, subst, arith}
+use Rattle.std.proofs.Common.{◌≡◌, ℕ, ◌≤◌, List, Option, Some, IfSome, Result, Ok, Err, sym, subst, arith}
 use Rattle.std.specs.Prelude.{OnOk, IfErr, IsErrAnd}
 use Rattle.tach_media.specs.Medium.{State, Rose}
+pub use Rattle.tach_media.proofs.Runs.{err_is}
 use Rattle.unit_memory.proofs.Told.{carried}
 use Rattle.unit_model.specs.Decoding.{first_bad_place}
 use Rattle.unit_journal.specs.Reading.{ReadsIfAny}
@@ -17,11 +18,6 @@ passed (Err v) e Q is q = subst Q (sym is) q
 pub passed_reads : {T : Type 0} {old new : State} (r : Result T ServeFault) (e : ServeFault) → IsErrAnd r (λ v. v ≡ e) → ReadsIfAny old new (has_failed {T = Unit {0}} (Err e)) → ReadsIfAny old new (has_failed r)
 passed_reads (Ok x) e is reads = absurd is
 passed_reads {T} {old} {new} (Err v) e is reads = subst (λ (f : ServeFault). ReadsIfAny old new (has_failed {T = Unit {0}} (Err f))) (sym is) reads
-
--- the error
-pub err_is : {T E : Type 0} (r : Result T E) (e : E) → IsErrAnd r (λ v. v ≡ e) → r ≡ Err e
-err_is (Ok v) e is = absurd is
-err_is (Err f) e is = ap Err is
 
 -- its cause, of calls behind others
 caused_on : {R S : Type 0} (fault : ServeFault) (a b n : ℕ) (o p : Option (List ℕ)) → (R → S) → a ≤ b → p ≡ o → IsCaused fault R (Rose b n) (λ q. IfSome p (λ x. first_bad_place x ≡ Some q))

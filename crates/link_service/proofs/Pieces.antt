@@ -1,8 +1,9 @@
 -- Pieces of a text, and of more of it.
 use Rattle.std.proofs.Common.{◌≡◌, ◌∙◌, ℕ, true, false, List, [], ◌∷◌, ◌++◌, append-nil, refl, ap, sym, subst}
 use Rattle.std.specs.Prelude.{◌==◌}
+use Rattle.activity_codec.proofs.Tests.{by_test}
 use Rattle.text_fields.specs.Pieces.{pieces, onto_first}
-use Rattle.text_fields.proofs.PieceLemmas.{by_test, pieces-some}
+use Rattle.text_fields.proofs.PieceLemmas.{pieces-some}
 
 -- a byte that is no separator, and one that is
 no_cut : (s c : ℕ) (text : List ℕ) → (c == s) ≡ false → pieces s (c ∷ text) ≡ onto_first c (pieces s text)

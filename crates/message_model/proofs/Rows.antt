@@ -4,6 +4,7 @@ use Rattle.link_model.specs.Answers.{cuts}
 use Rattle.unit_model.specs.Days.{StoredDay}
 use Rattle.message_model.specs.Messages.{Overview, AnOverview, ADay, ATechnical, message_bytes}
 use Rattle.message_model.specs.Sending.{zeros, day_message, period_of}
+use Rattle.message_model.specs.declared.sizes.TheConstants.{INSERTION, PLACE}
 use Rattle.message_model.specs.Records.{insertion_ring, unit_place_ring}
 use Rattle.message_model.specs.Showing.{minutes_in}
 
@@ -14,6 +15,13 @@ day = record { date = 1267401600; odometer = 120000; words = 0x2000 ∷ 0xA000 �
 -- its message: the date, the odometer, no insertion, three words, no place, no condition, no signature
 day_sent : message_bytes (ADay (day_message [] [] day)) ≡ 0x76 ∷ 2 ∷ 0x4B ∷ 0x8B ∷ 0x03 ∷ 0x80 ∷ 0x01 ∷ 0xD4 ∷ 0xC0 ∷ 0 ∷ 0 ∷ 0 ∷ 3 ∷ 0x20 ∷ 0 ∷ 0xA0 ∷ 0 ∷ 0x10 ∷ 7 ∷ 0 ∷ 0 ∷ 0 ∷ zeros 128
 day_sent = refl
+
+-- an insertion and a place have the sizes of their fields
+insertion_width : insertion_ring.width ≡ INSERTION
+insertion_width = refl
+
+place_width : unit_place_ring.width ≡ PLACE
+place_width = refl
 
 -- an insertion in the day, one that began the day before and whose card was withdrawn in it, and one of the day before
 abbrev insertion : (time withdrawal : List ℕ) → List ℕ

@@ -3,7 +3,9 @@
 use Rattle.std.specs.Prelude.{◌≡◌, ℕ, ◌%◌, ◌<◌, ◌^◌, List, [], ◌∷◌, ◌++◌, length, map, All}
 use Rattle.byteorder.specs.Endian.{big_bytes}
 use Rattle.byte_fields.specs.Fields.{joined}
+use Rattle.unit_model.specs.declared.layout.TheConstants.{STATE_CERTIFICATE, UNIT_CERTIFICATE, VIN, REGISTRATION, IDENTIFICATION, SENSOR}
 use Rattle.unit_model.specs.Days.{word_minute}
+use Rattle.message_model.specs.declared.sizes.TheConstants.{LAST_DOWNLOAD, LOCK, CONTROL, SIGNATURE, INSERTION, PLACE, CONDITION, FAULT, EVENT, OVER, ADJUSTMENT, SPEED_BLOCK, CALIBRATION}
 
 -- 01, the overview: certificates, vehicle, the unit's time, the period that can be read, cards, the last download, locks, controls
 pub record Overview : Type 0 where
@@ -124,41 +126,41 @@ HasSize n bytes = length bytes ≡ n
 
 -- the grammar: each field has its size, and each count its bytes; a day is a day's first second, and each word stands in it
 pub record IsOverview (m : Overview) : Type 0 where
-  pub certificates : HasSize 194 m.state_certificate × HasSize 194 m.unit_certificate
-  pub vehicle : HasSize 17 m.vin × HasSize 15 m.registration
+  pub certificates : HasSize STATE_CERTIFICATE.size m.state_certificate × HasSize UNIT_CERTIFICATE.size m.unit_certificate
+  pub vehicle : HasSize VIN.size m.vin × HasSize REGISTRATION.size m.registration
   pub times : (m.now < 2 ^ 32) × (m.begin < 2 ^ 32) × (m.end < 2 ^ 32)
   pub status : m.slot_status < 2 ^ 8
-  pub last : HasSize 58 m.last_download
-  pub locks : AreEntries 1 98 m.locks
-  pub controls : AreEntries 1 31 m.controls
-  pub signed : HasSize 128 m.signature
+  pub last : HasSize LAST_DOWNLOAD m.last_download
+  pub locks : AreEntries 1 LOCK m.locks
+  pub controls : AreEntries 1 CONTROL m.controls
+  pub signed : HasSize SIGNATURE m.signature
 
 pub record IsDayMessage (m : DayMessage) : Type 0 where
   pub date : (m.date < 2 ^ 32) × (m.date % 86400 ≡ 0)
   pub odometer : m.odometer < 2 ^ 24
-  pub insertions : AreEntries 2 129 m.insertions
+  pub insertions : AreEntries 2 INSERTION m.insertions
   pub few : length m.words < 2 ^ 16
   pub words : All (λ w. (w < 2 ^ 16) × (word_minute w < 1440)) m.words
-  pub places : AreEntries 1 28 m.places
-  pub conditions : AreEntries 2 5 m.conditions
-  pub signed : HasSize 128 m.signature
+  pub places : AreEntries 1 PLACE m.places
+  pub conditions : AreEntries 2 CONDITION m.conditions
+  pub signed : HasSize SIGNATURE m.signature
 
 pub record IsEventMessage (m : EventMessage) : Type 0 where
-  pub faults : AreEntries 1 82 m.faults
-  pub events : AreEntries 1 83 m.events
+  pub faults : AreEntries 1 FAULT m.faults
+  pub events : AreEntries 1 EVENT m.events
   pub control : (m.last_control < 2 ^ 32) × (m.first_over < 2 ^ 32) × (m.over_count < 2 ^ 8)
-  pub overs : AreEntries 1 31 m.overs
-  pub adjustments : AreEntries 1 98 m.adjustments
-  pub signed : HasSize 128 m.signature
+  pub overs : AreEntries 1 OVER m.overs
+  pub adjustments : AreEntries 1 ADJUSTMENT m.adjustments
+  pub signed : HasSize SIGNATURE m.signature
 
 pub record IsSpeedMessage (m : SpeedMessage) : Type 0 where
-  pub blocks : AreEntries 2 64 m.blocks
-  pub signed : HasSize 128 m.signature
+  pub blocks : AreEntries 2 SPEED_BLOCK m.blocks
+  pub signed : HasSize SIGNATURE m.signature
 
 pub record IsTechnicalMessage (m : TechnicalMessage) : Type 0 where
-  pub unit : HasSize 116 m.identification × HasSize 20 m.sensor
-  pub calibrations : AreEntries 1 167 m.calibrations
-  pub signed : HasSize 128 m.signature
+  pub unit : HasSize IDENTIFICATION.size m.identification × HasSize SENSOR.size m.sensor
+  pub calibrations : AreEntries 1 CALIBRATION m.calibrations
+  pub signed : HasSize SIGNATURE m.signature
 
 abbrev pub IsMessage : Message → Type 0
 IsMessage (AnOverview m) = IsOverview m

@@ -3,6 +3,7 @@
 #![tactic(auto)]
 
 mod laws;
+pub mod sizes;
 
 pub use laws::{
     a_file_answers_the_requests, a_file_shows_the_minutes, a_message_is_read_in_one_way,

@@ -6,6 +6,7 @@ use Rattle.std.proofs.lemmas.Bool.{lt-ltb, le-ltb, le-leb, lt-leb, leb-true, leb
 use Rattle.std.proofs.lemmas.List.Folds.{list_any-append}
 use Rattle.std.proofs.Math.Seq.{take-nil}
 use Rattle.std.proofs.lemmas.List.Elements.{filter-append}
+use Rattle.activity_codec.proofs.Tests.{by_test}
 use Rattle.activity_codec.specs.Activity.{activity_of, is_rest_or_available, same_slot}
 use Rattle.activity_codec.specs.declared.values.Activity.{Activity}
 use Rattle.activity_codec.specs.declared.values.Activity.TheVariants.{Rest, Available, Work}
@@ -18,7 +19,7 @@ use Rattle.minute_model.specs.Span.{AreNumbered}
 use Rattle.minute_model.proofs.Numbered.{numbered-parts}
 use Rattle.minute_model.specs.Stops.{is_still, all_still, last_still, driver_picks, codriver_picks, last_pick}
 use Rattle.minute_model.proofs.EachSecond.{first_still, first_pick, driver_after_stop, driver_between, codriver_between, each_second, drivers, codrivers}
-use Rattle.minute_model.proofs.Still.{by_test, all_still-append, last_still-all, last_still-append, first_still-append}
+use Rattle.minute_model.proofs.Still.{all_still-append, last_still-all, last_still-append, first_still-append}
 use Rattle.minute_model.proofs.Next.{or-false}
 use Rattle.minute_model.proofs.Literal.{has_early, first_early_from, decided_by, literal-same}
 use Rattle.minute_model.proofs.Ranges.{each-more, each-then, filter-no, filter-yes, any-no, find-no, find-behind, last-push, still-moves_not, moves-still_not, moving-parts, moving-here, moving-none, moving-still, Within, moving-within, selections-parts, selections-here, selections-none, selections-within, picks_in, selections-picks, last-picked}

@@ -5,6 +5,7 @@ use Rattle.std.proofs.lemmas.Bool.{leb-true, leb-false}
 use Rattle.std.specs.List.{list_any}
 use Rattle.std.proofs.lemmas.List.Folds.{list_any-append}
 use Rattle.std.proofs.Math.Seq.{take-nil}
+use Rattle.activity_codec.proofs.Tests.{by_test}
 use Rattle.activity_codec.specs.Activity.{is_rest_or_available}
 use Rattle.activity_codec.specs.declared.values.Activity.{Activity}
 use Rattle.activity_codec.specs.declared.values.Activity.TheVariants.{Rest, Work}
@@ -14,7 +15,7 @@ use Rattle.activity_codec.specs.declared.values.Slot.TheVariants.{Driver}
 use Rattle.minute_model.specs.Stops.{is_still, all_still, last_still, driver_picks}
 use Rattle.minute_model.specs.Stops.{last_pick}
 use Rattle.minute_model.proofs.EachSecond.{first_pick, driver_after_stop, driver_between, codriver_between, each_second, drivers, codrivers}
-use Rattle.minute_model.proofs.Still.{by_test, all_still-append, last_still-all, last_still-append}
+use Rattle.minute_model.proofs.Still.{all_still-append, last_still-all, last_still-append}
 use Rattle.minute_model.proofs.Picked.{last_pick-work}
 use Rattle.minute_model.proofs.Next.{EndsTheWait, after_stop-later, after_stop-cut, picks-append, or-false, and-true, early-first, early-second, early-none, waits-over, waits-same, waits-over_not, waits-moving}
 

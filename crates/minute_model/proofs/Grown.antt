@@ -6,6 +6,7 @@ use Rattle.std.proofs.Math.Seq.{take-append-add}
 use Rattle.std.proofs.lemmas.Bool.{leb-true, le-leb}
 use Rattle.std.proofs.lemmas.List.{take_all, map-append, length-map}
 use Rattle.std.proofs.lemmas.List.Folds.{list_any-append}
+use Rattle.activity_codec.proofs.Tests.{by_test}
 use Rattle.activity_codec.specs.Activity.{is_rest_or_available}
 use Rattle.activity_codec.specs.declared.values.Activity.{Activity}
 use Rattle.activity_codec.specs.declared.values.Activity.TheVariants.{Work, Driving}
@@ -18,7 +19,6 @@ use Rattle.minute_model.proofs.Bridge.{drivers-literal, codrivers-literal, drive
 use Rattle.minute_model.proofs.Each.{settled_to, settled_last, drivers-same, drivers-settled, codrivers-more}
 use Rattle.minute_model.proofs.EachSecond.{driver_between, codriver_between, each_second}
 use Rattle.minute_model.proofs.Next.{EndsTheWait, and-true, or-false, picks-append, early-none, waits-same}
-use Rattle.minute_model.proofs.Numbered.{by_test}
 use Rattle.minute_model.proofs.Still.{all_still-append, last_still-append, last_still-cut}
 
 -- the ends of one more second

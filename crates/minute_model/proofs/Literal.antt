@@ -6,6 +6,7 @@ use Rattle.std.specs.declared.option.Option.TheVariants.{None, Some}
 use Rattle.std.specs.List.{list_any}
 use Rattle.std.proofs.lemmas.Bool.{le-leb, lt-leb}
 use Rattle.std.proofs.lemmas.List.Folds.{list_any-append}
+use Rattle.activity_codec.proofs.Tests.{by_test}
 use Rattle.activity_codec.specs.Activity.{is_rest_or_available}
 use Rattle.activity_codec.specs.declared.values.Activity.{Activity}
 use Rattle.activity_codec.specs.declared.values.Activity.TheVariants.{Work}
@@ -16,7 +17,6 @@ use Rattle.minute_model.specs.Stops.{driver_picks}
 use Rattle.minute_model.proofs.EachSecond.{first_still}
 use Rattle.minute_model.specs.Stops.{last_pick}
 use Rattle.minute_model.proofs.EachSecond.{first_pick, driver_after_stop}
-use Rattle.minute_model.proofs.Still.{by_test}
 use Rattle.minute_model.proofs.Picked.{last_pick-work}
 use Rattle.minute_model.proofs.Next.{or-false, early-first, early-second}
 

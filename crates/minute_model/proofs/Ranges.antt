@@ -6,6 +6,7 @@ use Rattle.std.proofs.lemmas.Bool.{eqb-true, eqb-false, lt-ltb, le-ltb}
 use Rattle.std.proofs.lemmas.Grind.{flat_map-append}
 use Rattle.std.proofs.lemmas.List.{map-append}
 use Rattle.std.proofs.lemmas.List.Elements.{filter-append}
+use Rattle.activity_codec.proofs.Tests.{by_test}
 use Rattle.activity_codec.specs.Activity.{activity_of, same_slot}
 use Rattle.activity_codec.specs.declared.values.Activity.{Activity}
 use Rattle.activity_codec.specs.declared.values.Slot.{Slot}
@@ -14,7 +15,6 @@ use Rattle.minute_model.specs.Second.{Second, Selection, is_moving, moving, sele
 use Rattle.minute_model.specs.Activity.{last}
 use Rattle.minute_model.specs.Span.{AreNumbered}
 use Rattle.minute_model.specs.Stops.{is_still, all_still, picks_for, last_pick}
-use Rattle.minute_model.proofs.Still.{by_test}
 use Rattle.minute_model.proofs.Next.{and-true}
 
 pub each-more : {X : Type 0} (P : X → Type 0) (xs ys : List X) → AllByRecursion P xs → AllByRecursion P ys → AllByRecursion P (xs ++ ys)

@@ -3,9 +3,9 @@ use Rattle.std.proofs.Common.{◌≡◌, ◌∙◌, ℕ, suc, zero, ◌+◌, ◌
 use Rattle.std.specs.List.{AllByRecursion}
 use Rattle.minute_model.specs.declared.Rule.{Rule}
 use Rattle.minute_model.specs.Second.{Second}
-use Rattle.minute_model.specs.Minute.{class_of}
+use Rattle.minute_model.specs.Minute.{SettlingsRise, class_of}
 use Rattle.std.specs.Prelude.{◌-◌, ◌*◌, ◌/◌, map}
-use Rattle.minute_model.specs.Span.{Span, end_of, fed, fed_many, decided_in, ungiven_of, AreSettled, AreNumbered}
+use Rattle.minute_model.specs.Span.{Span, begin, end_of, fed, fed_many, settled, decided_in, ungiven_of, AreSettled, AreNumbered}
 use Rattle.minute_model.proofs.Numbered.{numbered-more, numbered-parts}
 use Rattle.minute_model.proofs.Counted.{count_from, decided-more}
 
@@ -60,6 +60,18 @@ pub fed_many-settled : (span : Span) (speed n : ℕ) → AreSettled span → Are
 fed_many-settled span speed n all =
     let end = fed_many-end span speed n in
     rw (fed_many-settlings span speed n) (settled-later (end_of span) (end_of (fed_many span speed n)) span.settlings (omega (arith, end)) all)
+
+-- The settlings of a span rise: there are none at its begin, and each further one is no earlier than those before. Seconds and
+-- selections add none.
+pub begin-rising : (rule : Rule) (first : ℕ) → SettlingsRise 0 (begin rule first).settlings
+begin-rising rule first = tt
+
+rising-push : (from end : ℕ) (ts : List ℕ) → from ≤ end → SettlingsRise from ts → AllByRecursion (λ (t : ℕ). t ≤ end) ts → SettlingsRise from (ts ++ end ∷ [])
+rising-push from end [] low rising all = (low, tt)
+rising-push from end (t ∷ ts) low rising all = let here : t ≤ end = all.0 in (rising.0, rising-push t end ts here rising.1 all.1)
+
+pub settled-rising : (span : Span) → AreSettled span → SettlingsRise 0 span.settlings → SettlingsRise 0 (settled span).settlings
+settled-rising span all rising = rising-push 0 (end_of span) span.settlings (omega arith) rising all
 
 -- Seconds of one minute: what was decided, and the minute that the last of them decides.
 pub decided-fed_many : (span : Span) (speed n : ℕ) → AreNumbered span.first span.seconds → AreSettled span → end_of span + n ≤ 60 * (end_of span / 60) + 60 → decided_in (fed_many span speed n) ≡ decided_in span ++ map (class_of span.rule (fed_many span speed n).seconds) (count_from (ungiven_of span) (ungiven_of (fed_many span speed n) - ungiven_of span))

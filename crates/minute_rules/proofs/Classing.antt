@@ -4,6 +4,7 @@ use Rattle.std.specs.Prelude.{nat_eq, nat_le, map, filter, sum_by, slice_index_o
 use Rattle.std.specs.List.{list_any, AllByRecursion}
 use Rattle.std.proofs.lemmas.Bool.{eqb-true, eqb-false, eq-eqb, ne_eqb, leb-true, leb-false, le-leb, lt-leb}
 use Rattle.std.proofs.lemmas.List.{map-append, length-map, drop-map}
+use Rattle.activity_codec.proofs.Tests.{by_test}
 use Rattle.activity_codec.specs.declared.values.Activity.{Activity}
 use Rattle.activity_codec.specs.declared.values.Activity.TheVariants.{Work}
 use Rattle.minute_model.specs.declared.Minute.{Minute}
@@ -16,7 +17,6 @@ use Rattle.minute_model.specs.Span.{Span, end_of, AreNumbered}
 use Rattle.minute_model.specs.Stops.{waits, open_of, fixed_of}
 use Rattle.minute_model.proofs.Counted.{count_from, count_from-more}
 use Rattle.minute_model.proofs.Grown.{Constant, parts, open-all, open-none, open-work}
-use Rattle.minute_model.proofs.Numbered.{by_test}
 use Rattle.minute_model.proofs.Ranges.{filter-no, filter-yes, each-then}
 use Rattle.minute_rules.specs.declared.counted.Counted.{Counted}
 use Rattle.minute_rules.specs.Tally.{no_run, longest_in, tally_of}

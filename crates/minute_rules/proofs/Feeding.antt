@@ -4,6 +4,7 @@ use Rattle.std.specs.Prelude.{nat_le, map, filter, ◌==◌, Option, Some, None}
 use Rattle.std.specs.List.{list_any}
 use Rattle.std.proofs.lemmas.Bool.{leb-true, leb-false, le-leb}
 use Rattle.std.proofs.lemmas.List.{length_push}
+use Rattle.activity_codec.proofs.Tests.{by_test}
 use Rattle.activity_codec.specs.Activity.{activity_of, is_rest_or_available}
 use Rattle.activity_codec.specs.declared.values.Activity.{Activity}
 use Rattle.activity_codec.specs.declared.values.Activity.TheVariants.{Work, Driving}
@@ -18,7 +19,6 @@ use Rattle.minute_model.proofs.Each.{settled_to}
 use Rattle.minute_model.proofs.EachSecond.{driver_between, codriver_between}
 use Rattle.minute_model.proofs.Grown.{Closes, Opens, closes-moving, closes-still, closes-early, opens-still, ends-wait, ends-wait_not, waits-more, waits-early, waits-never, waits-moved, all_still-moved, last_still-more, last_still-moved, open-none}
 use Rattle.minute_model.proofs.Next.{EndsTheWait}
-use Rattle.minute_model.proofs.Numbered.{by_test}
 use Rattle.minute_model.proofs.Spans.{numbered-fed, end-fed, fed_many-end, fed_many-numbered}
 use Rattle.minute_rules.specs.declared.counted.Counted.{Counted}
 use Rattle.minute_rules.specs.declared.slots.CodriverSlot.{CodriverSlot}

@@ -2,6 +2,7 @@
 use Rattle.std.proofs.Common.{◌≡◌, ◌∙◌, ℕ, suc, zero, ◌+◌, ◌-◌, ◌*◌, ◌/◌, ◌%◌, ◌<◌, ◌≤◌, ◌≢◌, Bool, true, false, cond, ◌&&◌, List, [], ◌∷◌, ◌++◌, refl, ap, sym, arith}
 use Rattle.std.specs.Prelude.{nat_lt, max, map, ◌==◌, Some}
 use Rattle.std.proofs.lemmas.Bool.{eqb-true, eqb-false, ltb-true, ltb-false}
+use Rattle.activity_codec.proofs.Tests.{by_test}
 use Rattle.activity_codec.specs.Activity.{activity_of}
 use Rattle.activity_codec.specs.declared.values.Pick.{Pick}
 use Rattle.activity_codec.specs.declared.values.Slot.TheVariants.{Driver, CoDriver}
@@ -13,7 +14,6 @@ use Rattle.minute_model.specs.Span.{Span, end_of, fed_many, picked, settled, tra
 use Rattle.minute_model.specs.Stops.{picks_for}
 use Rattle.minute_model.proofs.Bridge.{driver-literal, codriver-literal}
 use Rattle.minute_model.proofs.Counted.{count_from, ahead-most, ungiven-most, ungiven-settled, settled-more, decided-settled}
-use Rattle.minute_model.proofs.Numbered.{by_test}
 use Rattle.minute_model.proofs.Spans.{numbered-fed, fed_many-end, fed_many-rule, fed_many-first_number, fed_many-settlings, fed_many-numbered, fed_many-settled, decided-fed_many}
 use Rattle.minute_rules.specs.declared.slots.CodriverSlot.{CodriverSlot}
 use Rattle.minute_rules.specs.declared.slots.DriverSlot.{DriverSlot}

@@ -7,6 +7,7 @@ use Rattle.std.proofs.lemmas.List.{take-append-le, map-append}
 use Rattle.std.proofs.lemmas.List.Elements.{filter-append}
 use Rattle.std.proofs.lemmas.List.Folds.{list_any-append}
 use Rattle.std.proofs.lemmas.List.Sums.{sum_by_push}
+use Rattle.activity_codec.proofs.Tests.{by_test}
 use Rattle.activity_codec.specs.declared.values.Activity.{Activity}
 use Rattle.activity_codec.specs.declared.values.Activity.TheVariants.{Available, Driving}
 use Rattle.minute_model.specs.Second.{Second, is_moving, minute_of}
@@ -16,7 +17,6 @@ use Rattle.minute_model.specs.Span.{AreNumbered}
 use Rattle.minute_model.specs.Stops.{is_still, open_of, fixed_of}
 use Rattle.minute_model.proofs.EachSecond.{codriver_between}
 use Rattle.minute_model.proofs.Grown.{Agree, Constant, Closes, Opens, parts, fixed-all, codriver-grown}
-use Rattle.minute_model.proofs.Numbered.{by_test}
 use Rattle.minute_model.proofs.Ranges.{still-moves_not, moves-still_not}
 use Rattle.minute_rules.specs.declared.counted.Counted.{Counted}
 use Rattle.minute_rules.specs.declared.tally.Tally.{Tally}

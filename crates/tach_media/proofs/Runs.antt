@@ -2,7 +2,7 @@
 use Rattle.std.proofs.Common.{true, sym, ◌≡◌, inl, inr, ⊎_elim, ℕ, Bool, false, List, length, Option, Some, None, is_some, option_map, IfSome, refl, ◌∙◌, ap, subst, arith}
 use Rattle.std.specs.Prelude.{◌+◌, ◌-◌, ◌<◌, ◌≤◌, ◌^◌, ◌⊎◌, min}
 use Rattle.std.proofs.lemmas.Bool.{cases_lt}
-use Rattle.std.specs.Prelude.{Result, Ok, Err, OnOk, is_err}
+use Rattle.std.specs.Prelude.{Result, Ok, Err, IfOk, IsErrAnd, OnOk, is_err}
 use Rattle.tach_media.specs.Medium.{State, IsCoherent, LeavesOnly, Reads, Writes, StaysSettled, HasCause, IsSettled, Unchanged, Rose, last_count, most_writes, put, IsPartlyWritten}
 
 -- no call yet
@@ -118,6 +118,37 @@ if_told (Some x) P holds = holds x refl
 pub both_told : (o : Option (List ℕ)) {A B : List ℕ → Type 0} (C : List ℕ → Type 0) → IfSome o A → IfSome o B → ((x : List ℕ) → o ≡ Some x → A x → B x → C x) → IfSome o C
 both_told None C a b all = tt
 both_told (Some x) C a b all = all x refl a b
+
+-- from what is said of a told image
+pub from_told : (o : Option (List ℕ)) (A B : List ℕ → Type 0) → IfSome o A → ((x : List ℕ) → o ≡ Some x → A x → B x) → IfSome o B
+from_told None A B a all = tt
+from_told (Some x) A B a all = all x refl a
+
+-- what two runs make of an image that is told
+pub through : (o m n : Option (List ℕ)) (R S T : List ℕ → List ℕ → Type 0) → is_some m ≡ is_some o → IfSome o (λ x. IfSome m (R x)) → IfSome m (λ y. IfSome n (S y))
+    → ((x y z : List ℕ) → o ≡ Some x → R x y → S y z → T x z) → IfSome o (λ x. IfSome n (T x))
+through None m n R S T same first next all = tt
+through (Some x) None n R S T same first next all = absurd (cc)
+through (Some x) (Some y) None R S T same first next all = tt
+through (Some x) (Some y) (Some z) R S T same first next all = all x y z refl first next
+
+-- the same, where the image between is told too
+pub through_both : (o m n : Option (List ℕ)) (R S T : List ℕ → List ℕ → Type 0) → is_some m ≡ is_some o → IfSome o (λ x. IfSome m (R x)) → IfSome m (λ y. IfSome n (S y))
+    → ((x y z : List ℕ) → o ≡ Some x → m ≡ Some y → R x y → S y z → T x z) → IfSome o (λ x. IfSome n (T x))
+through_both None m n R S T same first next all = tt
+through_both (Some x) None n R S T same first next all = absurd (cc)
+through_both (Some x) (Some y) None R S T same first next all = tt
+through_both (Some x) (Some y) (Some z) R S T same first next all = all x y z refl refl first next
+
+-- from two facts of an Ok to a third
+pub ok_both : {T E : Type 0} (r : Result T E) (A B C : T → Type 0) → IfOk r A → IfOk r B → ((v : T) → A v → B v → C v) → IfOk r C
+ok_both (Ok v) A B C a b all = all v a b
+ok_both (Err e) A B C a b all = tt
+
+-- an error that `?` passed on
+pub err_is : {T E : Type 0} (r : Result T E) (e : E) → IsErrAnd r (λ v. v ≡ e) → r ≡ Err e
+err_is (Ok v) e is = absurd is
+err_is (Err f) e is = ap Err is
 
 -- the image after two runs, by what the two do to a told image
 pub image_both : (o p q : Option (List ℕ)) (f h k : List ℕ → List ℕ) → p ≡ option_map f o → q ≡ option_map h p → ((x : List ℕ) → o ≡ Some x → h (f x) ≡ k x) → q ≡ option_map k o

@@ -2,23 +2,30 @@
 //! moment, and what stands for each of them in memory, in a file, or where there is none.
 #![tactic(auto)]
 
-mod absent;
-mod absent_chip;
-mod chip;
+// what stops, fails and is counted
 mod counts;
 mod fault;
-mod file;
-mod lent;
 mod log;
-mod medium;
-mod mem_medium;
-mod mem_streams;
-mod number;
-mod slice;
-mod std_streams;
 mod stop;
+
+// streams of bytes
+mod mem_streams;
+mod std_streams;
 mod stream;
 mod transfer;
+
+// media
+mod absent;
+mod file;
+mod lent;
+mod medium;
+mod mem_medium;
+mod number;
+mod slice;
+
+// chips
+mod absent_chip;
+mod chip;
 
 pub use absent::AbsentMedium;
 pub use absent_chip::AbsentChip;

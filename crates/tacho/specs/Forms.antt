@@ -8,7 +8,8 @@ use Rattle.unit_memory.specs.declared.format.Identity.{Identity}
 use Rattle.tacho.specs.declared.forms.Form.{Form}
 use Rattle.tacho.specs.declared.forms.Form.TheVariants.{Minutes, Record, FormatCard, FormatUnit, Serve, ServeHex, Download, View, CardFile}
 use Rattle.tacho.specs.declared.forms.TheConstants.{CARD_NUMBER, NAME, PLATE, VIN, NATION_MOST, LIMIT_LEAST, LIMIT_MOST, LAST_LEAST, LAST_MOST}
-use Rattle.tacho.specs.Texts.{word_in, number_in, padded}
+use Rattle.tacho_types.specs.Texts.{padded_text}
+use Rattle.tacho.specs.Texts.{word_in, number_in}
 
 -- steps each of which may tell nothing
 infixl 10 ◌>>=◌
@@ -18,7 +19,7 @@ None >>= rest = None
 
 -- a name of 1 to 35 characters
 abbrev pub name_in : List ℕ → Option Name36
-name_in text = option_map (λ name. record { 0 = padded NAME name }) (word_in 1 NAME text)
+name_in text = option_map (λ name. record { 0 = padded_text NAME name }) (word_in 1 NAME text)
 
 -- what N, NUMBER, SURNAME and FIRST tell of a card: the state, a number from 0 to 255, the card's number of 16 characters, and
 -- two names
@@ -35,7 +36,7 @@ abbrev pub registration_in : (nation plate : List ℕ) → Option Registration
 registration_in nation plate = do
   nation ← number_in 0 NATION_MOST nation
   plate ← word_in 1 PLATE plate
-  Some (record { 0 = nation ∷ padded PLATE plate })
+  Some (record { 0 = nation ∷ padded_text PLATE plate })
 
 -- what N, PLATE, VIN and LIMIT tell of a unit: its registration, its number of 17 characters, and a limit from 1 to 254
 abbrev pub unit_in : (nation plate vin limit : List ℕ) → Option Identity

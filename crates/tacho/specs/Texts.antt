@@ -1,5 +1,5 @@
--- Words, and text as the devices keep it (profile).
-use Rattle.std.specs.Prelude.{ℕ, ◌-◌, ◌==◌, ◌&&◌, not, nat_le, Bool, false, if◌then◌else◌, Option, Some, None, List, [], ◌∷◌, ◌++◌, length, replicate, decimal, bytes_eq}
+-- Words of the command line (profile).
+use Rattle.std.specs.Prelude.{ℕ, ◌==◌, ◌&&◌, not, nat_le, Bool, false, if◌then◌else◌, Option, Some, None, List, [], ◌∷◌, length, decimal, bytes_eq}
 use Rattle.std.specs.List.{list_all}
 use Rattle.std.specs.Str.Parse.{digits_value}
 
@@ -25,7 +25,3 @@ unfoldable pub number_in : (least most : ℕ) → List ℕ → Option ℕ
 number_in least most text =
     let n = digits_value 10 text in
     if nat_le least n && nat_le n most && bytes_eq (decimal n) text then Some n else None
-
--- text as it is kept: code page 1, and so many characters, padded with spaces
-abbrev pub padded : ℕ → List ℕ → List ℕ
-padded size text = 1 ∷ (text ++ replicate (size - length text) 32)

@@ -1,12 +1,13 @@
 //! The forms of words that the program knows (profile).
 ghost use Rattle.std.specs.Prelude.{◌≡◌, ◌∷◌, ◌+◌, ◌-◌, ◌≤◌, IfSome, length, bytes_eq};
 ghost use Rattle.std.specs.List.{list_all};
-ghost use Rattle.tacho.specs.Texts.{is_character, is_word, begins_with_dash, word_in, number_in, padded};
+ghost use Rattle.tacho_types.specs.Texts.{padded_text};
+ghost use Rattle.tacho.specs.Texts.{is_character, is_word, begins_with_dash, word_in, number_in};
 ghost use Rattle.tacho.specs.Forms.{name_in, card_in, registration_in, unit_in, form_of_one, form_of_two, file_of, view_of, form_of_three, format_of, form_of_six, form_of};
 
 use crate::words::Words;
 use card_files::CardIdentity;
-use tacho_types::{Name36, Nation, Registration};
+use tacho_types::{Name36, Nation, Registration, write_padded};
 use text_fields::number_between;
 use trace_model::Card;
 use unit_memory::Identity;
@@ -255,7 +256,7 @@ fn registration(nation: &str, plate: &str) -> Option<Registration>
 fn write_registration(nation: u8, text: &[u8], out: &mut [u8])
     requires out { length out.old ≡ PLATE + 2 }
     requires text { length text.now ≤ PLATE }
-    ensures { out.new ≡ nation ∷ padded PLATE text.now }
+    ensures { out.new ≡ nation ∷ padded_text PLATE text.now }
 {
     let (first, rest) = out.split_at_mut(1);
     first.copy_from_slice(&[nation]);
@@ -317,18 +318,6 @@ fn name(word: &str) -> Option<Name36>
     let mut bytes = [0; Name36::SIZE];
     write_padded(text, &mut bytes);
     Some(Name36(bytes))
-}
-
-/// Writes text as code page 1 and its characters, padded with spaces.
-fn write_padded(text: &[u8], out: &mut [u8])
-    requires { length text.now + 1 ≤ length out.old }
-    ensures { out.new ≡ padded (length out.old - 1) text.now }
-{
-    let (page, characters) = out.split_at_mut(1);
-    page.copy_from_slice(&[1]);
-    let (front, spaces) = characters.split_at_mut(text.len());
-    front.copy_from_slice(text);
-    spaces.fill(b' ');
 }
 
 /// Whether a word has so many characters, each from 21 to 7E and the first no `-`.

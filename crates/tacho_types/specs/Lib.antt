@@ -3,3 +3,4 @@ pub mod Decimal
 pub mod CardNumber
 pub mod Places
 pub mod Calendar
+pub mod Texts

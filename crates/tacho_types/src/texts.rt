@@ -1,5 +1,6 @@
 //! Registrations and names, kept byte for byte.
-ghost use Rattle.std.specs.Prelude.{◌≡◌, length};
+ghost use Rattle.std.specs.Prelude.{◌≡◌, ◌+◌, ◌-◌, ◌≤◌, length};
+ghost use Rattle.tacho_types.specs.Texts.{padded_text};
 
 /// A vehicle's registration: nation, code page, and 13 characters (Appendix 1,
 /// VehicleRegistrationIdentification).
@@ -54,4 +55,16 @@ pub fn write_name(v: &Name36, out: &mut [u8])
     ensures { out.new ≡ v.now.0 }
 {
     out.copy_from_slice(&v.0);
+}
+
+/// Writes text as code page 1 and its characters, padded with spaces.
+pub fn write_padded(text: &[u8], out: &mut [u8])
+    requires { length text.now + 1 ≤ length out.old }
+    ensures { out.new ≡ padded_text (length out.old - 1) text.now }
+{
+    let (page, characters) = out.split_at_mut(1);
+    page.copy_from_slice(&[1]);
+    let (front, spaces) = characters.split_at_mut(text.len());
+    front.copy_from_slice(text);
+    spaces.fill(b' ');
 }

@@ -7,11 +7,6 @@ use Rattle.std.proofs.lemmas.List.{take_more, drop_more, take-append-drop, take_
 use Rattle.std.proofs.lemmas.List.Folds.{list_any-append}
 use Rattle.text_fields.specs.Pieces.{pieces, onto_first}
 
--- cases of a test, with what it gave
-pub by_test : {P : Type 0} → (b : Bool) → (b ≡ true → P) → (b ≡ false → P) → P
-by_test true on_true on_false = on_true refl
-by_test false on_true on_false = on_false refl
-
 -- a separator is in this text
 abbrev pub has : ℕ → List ℕ → Bool
 has separator text = list_any (λ b. b == separator) text
@@ -48,14 +43,15 @@ pieces-at separator text i lt before here =
 -- there is always a piece
 pub pieces-some : (separator : ℕ) (text : List ℕ) → pieces separator text ≡ [] → ⊥
 pieces-some separator [] h = cc
-pieces-some separator (b ∷ text) h =
-    by_test (b == separator)
-    (λ here. let e = rw here at h in cc)
-    (λ not_here. onto (pieces separator text) (rw not_here at h))
+pieces-some separator (b ∷ text) h = by (b == separator) refl
   where
     onto : (ps : List (List ℕ)) → onto_first b ps ≡ [] → ⊥
     onto [] e = cc
     onto (p ∷ ps) e = cc
+
+    by : (t : Bool) → (b == separator) ≡ t → ⊥
+    by true here = let e = rw here at h in cc
+    by false not_here = onto (pieces separator text) (rw not_here at h)
 
 -- what stands behind a separator is at least one piece more
 pub one_not_more : (separator : ℕ) (first text a : List ℕ) → first ∷ pieces separator text ≡ a ∷ [] → ⊥

@@ -1,7 +1,8 @@
 -- The lines of a text, from the first one on.
 use Rattle.std.proofs.Common.{◌≡◌, ◌∙◌, ℕ, ◌<◌, List, [], ◌∷◌, length, refl, ap, arith}
 use Rattle.std.specs.Prelude.{◌==◌}
-use Rattle.text_fields.proofs.PieceLemmas.{by_test, pieces-some}
+use Rattle.activity_codec.proofs.Tests.{by_test}
+use Rattle.text_fields.proofs.PieceLemmas.{pieces-some}
 use Rattle.text_fields.specs.Pieces.{pieces, onto_first}
 use Rattle.trace_text.specs.Text.{closed, lines_of}
 

@@ -1,7 +1,8 @@
 -- A fault that was passed on.
-use Rattle.std.proofs.Common.{◌≡◌, ◌∙◌, ℕ, List, Option, Some, None, IfSome, Result, Ok, Err, false, sym, ap, subst}
+use Rattle.std.proofs.Common.{◌≡◌, ◌∙◌, ℕ, List, Option, Some, None, IfSome, Result, Ok, Err, false, sym, subst}
 use Rattle.std.specs.Prelude.{IsErrAnd, OnErr}
 use Rattle.tach_media.specs.Medium.{State}
+pub use Rattle.tach_media.proofs.Runs.{err_is}
 use Rattle.unit_journal.specs.Reading.{ReadsIfAny}
 use Rattle.link_model.specs.Frames.{Right}
 use Rattle.link_model.specs.Answers.{LinkState, Reply, answered}
@@ -12,10 +13,6 @@ use Rattle.unit_download.specs.declared.fault.DownloadFault.{DownloadFault}
 use Rattle.unit_download.specs.declared.fault.DownloadFault.TheVariants.{Failed, BadUnit, Changed, WriteFault, Memory}
 use Rattle.unit_download.specs.Wires.{Replies}
 use Rattle.unit_download.specs.Ending.{has_failed, IsUntaken}
-
-pub err_is : {T E : Type 0} (r : Result T E) (e : E) → IsErrAnd r (λ v. v ≡ e) → r ≡ Err e
-err_is (Ok v) e is = absurd is
-err_is (Err f) e is = ap Err is
 
 -- what it says of the unit
 pub passed_reads : {T : Type 0} {old new : State} (r : Result T DownloadFault) (e : DownloadFault) → IsErrAnd r (λ v. v ≡ e) → ReadsIfAny old new (has_failed {T = Unit {0}} (Err e)) → ReadsIfAny old new (has_failed r)

@@ -2,7 +2,7 @@
 use Rattle.std.specs.Prelude.{◌≡◌, ℕ, ◌+◌, ◌*◌, ◌<◌, ◌≤◌, Bool, true, not, ◌&&◌, ◌==◌, cond, List, [], ◌∷◌, ◌++◌, length, map, filter}
 use Rattle.byte_fields.specs.Images.{number_at}
 use Rattle.gated_ring.specs.Ring.{Shape, is_there, entry_at, order, ring_list}
-use Rattle.unit_model.specs.declared.layout.TheConstants.{INSERTIONS, PLACES, IMAGE_SIZE}
+use Rattle.unit_model.specs.declared.layout.TheConstants.{INSERTIONS, INSERTION_SLOTS, PLACES, PLACE_SLOTS, IMAGE_SIZE}
 use Rattle.message_model.specs.Sending.{touches_day, place_in_day}
 use Rattle.unit_messages.specs.declared.entries.Choice.{Choice}
 use Rattle.unit_messages.specs.declared.entries.Choice.TheVariants.{Each, Touching, PlaceOn}
@@ -40,15 +40,15 @@ pub record AreEntries (e : Entries) : Type 0 where
   pub inside : e.base + e.count * e.width ≤ IMAGE_SIZE
   pub gate : e.gate + 4 ≤ e.width
   pub narrow : e.width ≤ 129
-  pub few : e.count ≤ 2048
+  pub few : e.count ≤ INSERTION_SLOTS
   pub room : room_of e.choice ≤ e.width
 
 -- the insertions that touch a day, its places, and all entries of a table
 abbrev pub insertions_on : ℕ → Entries
-insertions_on date = record { base = INSERTIONS.place + 4; width = 129; count = 2048; gate = 94; choice = Touching date }
+insertions_on date = record { base = INSERTIONS.place + 4; width = 129; count = INSERTION_SLOTS; gate = 94; choice = Touching date }
 
 abbrev pub places_on : ℕ → Entries
-places_on date = record { base = PLACES.place + 4; width = 28; count = 255; gate = 18; choice = PlaceOn date }
+places_on date = record { base = PLACES.place + 4; width = 28; count = PLACE_SLOTS; gate = 18; choice = PlaceOn date }
 
 abbrev pub entries_of : (base width count : ℕ) → Entries
 entries_of base width count = record { base = base; width = width; count = count; gate = 2; choice = Each }

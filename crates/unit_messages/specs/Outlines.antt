@@ -1,15 +1,17 @@
 -- What the outline of a message says of the unit's image.
 use Rattle.std.specs.Prelude.{◌≡◌, ℕ, ◌+◌, ◌*◌, ◌<◌, ◌≤◌, List, [], ◌∷◌, ◌++◌, length, filter, take, drop, Option, Some, None, option_map}
-use Rattle.unit_model.specs.declared.layout.TheConstants.{FIRST_OVER, OVER_COUNT, DAY_WORDS, DAY_WORD_LIMIT, HIGHEST_ODOMETER, IMAGE_SIZE}
+use Rattle.unit_model.specs.declared.layout.TheConstants.{FIRST_OVER, OVER_COUNT, DAY_WORDS, DAY_WORD_LIMIT, HIGHEST_ODOMETER, IMAGE_SIZE, INSERTION_SLOTS, PLACE_SLOTS}
 use Rattle.unit_model.specs.Days.{StoredDay}
 use Rattle.unit_model.specs.Image.{number_of as number_in, last_kept, words_at}
 use Rattle.gated_ring.specs.Ring.{ring_list, PointsInside}
 use Rattle.link_model.specs.declared.request.Request.{Request}
 use Rattle.link_model.specs.declared.request.Request.TheVariants.{Overview as AskOverview, Day as AskDay, Events as AskEvents, Technical as AskTechnical}
+use Rattle.message_model.specs.declared.sizes.TheConstants.{INSERTION, PLACE, FAULT, EVENT, OVER}
 use Rattle.message_model.specs.Records.{insertion_ring, unit_place_ring}
 use Rattle.message_model.specs.Messages.{message_bytes}
 use Rattle.message_model.specs.Sending.{message_of, sent_days, day_at, period_of, entries_in, event_table, over_table, fault_table, touches_day, place_in_day}
 use Rattle.unit_messages.specs.Windows.{Sight, passed}
+use Rattle.unit_messages.specs.declared.outline.TheConstants.{OVERVIEW_LENGTH, DAY_LENGTH, EVENTS_LENGTH, TECHNICAL_LENGTH}
 use Rattle.unit_messages.specs.declared.outline.Times.{Times}
 use Rattle.unit_messages.specs.declared.outline.DayOutline.{DayOutline}
 use Rattle.unit_messages.specs.declared.outline.EventOutline.{EventOutline}
@@ -29,18 +31,18 @@ asked Technical = AskTechnical
 
 -- how many bytes the message has
 abbrev pub length_of : Plan → ℕ
-length_of (Overview times) = 623
-length_of (Day d) = 144 + 129 * d.insertions + 2 * d.words + 28 * d.places
-length_of (Events e) = 143 + 82 * e.faults + 83 * e.events + 31 * e.overs
-length_of Technical = 267
+length_of (Overview times) = OVERVIEW_LENGTH
+length_of (Day d) = DAY_LENGTH + INSERTION * d.insertions + 2 * d.words + PLACE * d.places
+length_of (Events e) = EVENTS_LENGTH + FAULT * e.faults + EVENT * e.events + OVER * e.overs
+length_of Technical = TECHNICAL_LENGTH
 
 -- the numbers of an outline have their ranges, also of a unit that tells nothing
 pub record IsDayInRange (d : DayOutline) : Type 0 where
   pub odometer : d.odometer ≤ HIGHEST_ODOMETER
   pub words : d.words ≤ DAY_WORD_LIMIT
   pub place : d.words_place + DAY_WORDS.size ≤ IMAGE_SIZE
-  pub insertions : d.insertions ≤ 2048
-  pub places : d.places ≤ 255
+  pub insertions : d.insertions ≤ INSERTION_SLOTS
+  pub places : d.places ≤ PLACE_SLOTS
 
 pub record IsEventInRange (e : EventOutline) : Type 0 where
   pub faults : e.faults ≤ 24

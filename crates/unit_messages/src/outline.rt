@@ -16,8 +16,19 @@ use arrayvec::ArrayVec;
 use content::{pass_day, pass_events, pass_overview, pass_technical};
 pub use finding::find_outline;
 use link_model::Request;
+use message_model::sizes::{EVENT, FAULT, INSERTION, OVER, PLACE};
 use std::marker::Model;
 use tach_media::{Failed, Medium};
+
+/// How many bytes the message of an overview has, and that of technical data: a unit that has no locks, controls and calibrations
+/// sends these always.
+pub const OVERVIEW_LENGTH: u32 = 623;
+pub const TECHNICAL_LENGTH: u32 = 267;
+
+/// How many bytes the message of a day has beside its insertions, words and places, and that of events and faults beside these
+/// and the over speedings.
+pub const DAY_LENGTH: u32 = 144;
+pub const EVENTS_LENGTH: u32 = 143;
 
 /// What an overview tells beside fields of the image: the unit's time, and the period's begin and end.
 #[derive(Clone, Copy, Debug, PartialEq, Eq)]
@@ -128,10 +139,10 @@ impl Outline {
         ensures few { result ≤ LONGEST }
     {
         match self.plan {
-            Plan::Overview(_) => 623,
+            Plan::Overview(_) => OVERVIEW_LENGTH,
             Plan::Day(day) => day_total(day),
             Plan::Events(events) => event_total(events),
-            Plan::Technical => 267,
+            Plan::Technical => TECHNICAL_LENGTH,
         }
     }
 
@@ -166,7 +177,7 @@ fn day_total(day: DayOutline) -> u32
     ensures some { 2 ≤ result }
     ensures few { result ≤ LONGEST }
 {
-    144 + 129 * day.insertions + 2 * day.words + 28 * day.places
+    DAY_LENGTH + INSERTION * day.insertions + 2 * day.words + PLACE * day.places
 }
 
 // How many bytes the message of events and faults has.
@@ -176,5 +187,5 @@ fn event_total(events: EventOutline) -> u32
     ensures some { 2 ≤ result }
     ensures few { result ≤ LONGEST }
 {
-    143 + 82 * events.faults + 83 * events.events + 31 * events.overs
+    EVENTS_LENGTH + FAULT * events.faults + EVENT * events.events + OVER * events.overs
 }

@@ -187,7 +187,7 @@ pub const HIGHEST_ODOMETER: u32 = 9_999_999;
 
 /// Where the day slot of an index begins.
 pub fn slot_place(index: u32) -> u32
-    requires { index < 366 }
+    requires { index < DAY_SLOTS }
     ensures { result ≡ slot_place index }
 {
     DAYS.place + 4 + index * DAY_SLOT_SIZE

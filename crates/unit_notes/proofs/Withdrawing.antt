@@ -9,12 +9,12 @@ use Rattle.tacho_types.specs.declared.numbers.Odometer.{Odometer}
 use Rattle.tacho_types.specs.Numbers.{time_bytes, odometer_bytes}
 use Rattle.std.specs.Prelude.{◌==◌, if◌then◌else◌, map}
 use Rattle.std.proofs.lemmas.Bool.{eqb-false}
+use Rattle.activity_codec.proofs.Tests.{by_test}
 use Rattle.gated_ring.specs.Ring.{Shape, PointsInside, size_of, place_of, gate_number, entry_at, indices, ring_list}
 use Rattle.gated_ring.specs.Change.{IsSet, OrUnwritten}
 use Rattle.gated_ring.proofs.Orders.{map_same, each_weaker}
 use Rattle.gated_ring.proofs.Listing.{indices_below}
 use Rattle.gated_ring.proofs.Others.{others_then}
-use Rattle.event_model.proofs.Retaining.{by_test}
 use Rattle.message_model.specs.Records.{insertion_ring, unit_place_ring}
 use Rattle.unit_notes.proofs.Types.{entry_writable}
 use Rattle.unit_notes.specs.Noting.{with_withdrawal, IsWithdrawn, IsWithdrawing}

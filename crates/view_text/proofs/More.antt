@@ -1,16 +1,12 @@
 -- The lines of minutes and of one more.
 use Rattle.std.proofs.Common.{◌≡◌, ◌∙◌, ℕ, suc, zero, ◌+◌, ◌&&◌, true, false, Bool, List, [], ◌∷◌, ◌++◌, length, get_or, set, refl, ap, sym, arith}
 use Rattle.std.specs.Prelude.{◌==◌}
+use Rattle.activity_codec.proofs.Tests.{by_test}
 use Rattle.view_model.specs.declared.Viewed.{Viewed}
 use Rattle.view_model.specs.declared.Line.{Line}
 use Rattle.view_model.specs.Lines.{day_of, goes_on, with_minute, lines_of}
 use Rattle.view_text.specs.Exact.{both}
 use Rattle.view_text.specs.Growing.{follows, line_at, up_to, with_more}
-
--- a test is passed or not
-pub by_test : {P : Type 0} → (b : Bool) → (b ≡ true → P) → (b ≡ false → P) → P
-by_test true passed failed = passed refl
-by_test false passed failed = failed refl
 
 module _ {X : Type 0} (same : X → X → Bool) (exact : (one other : X) → same one other ≡ true → one ≡ other) where
   -- a minute in front of a line shows what the line shows

@@ -2,6 +2,7 @@
 use Rattle.std.proofs.Common.{◌≡◌, ◌∙◌, ℕ, suc, zero, ◌<◌, Bool, List, [], ◌∷◌, ◌++◌, length, get_or, refl, ap, sym, arith, append_assoc, append-nil}
 use Rattle.std.specs.List.{AllByRecursion}
 use Rattle.std.specs.Prelude.{map}
+use Rattle.activity_codec.proofs.Tests.{by_test}
 use Rattle.activity_codec.specs.declared.entries.Entry.{Entry}
 use Rattle.view_model.specs.declared.Viewed.{Viewed}
 use Rattle.view_model.specs.declared.CardShown.{CardShown}
@@ -10,7 +11,6 @@ use Rattle.view_model.specs.Lines.{day_of, goes_on, with_minute, lines_of}
 use Rattle.view_model.specs.Text.{IsTextOf, line_text}
 use Rattle.view_text.specs.Adding.{AddsLine}
 use Rattle.view_text.specs.Entries.{entry_shown}
-use Rattle.view_text.proofs.More.{by_test}
 
 -- one more line
 pub text-more : {X : Type 0} → (words : X → List ℕ) (lines : List (Line X)) (line : Line X) (text new : List ℕ) → IsTextOf words lines text → AddsLine words text new line → IsTextOf words (lines ++ line ∷ []) new

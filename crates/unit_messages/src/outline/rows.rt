@@ -1,5 +1,5 @@
 //! The entries and words of a message, behind their counts.
-ghost use Rattle.unit_model.specs.declared.layout.TheConstants.{IMAGE_SIZE, INSERTIONS, PLACES, EVENTS, OVERS, FAULTS};
+ghost use Rattle.unit_model.specs.declared.layout.TheConstants.{IMAGE_SIZE, INSERTIONS, INSERTION_SLOTS, PLACES, EVENTS, OVERS, FAULTS};
 ghost use Rattle.std.specs.Prelude.{◌≡◌, ◌==◌, ◌≤◌, ◌<◌, ◌+◌, ◌*◌, ◌^◌, if◌then◌else◌, OnOk, IfSome, is_err, filter, length};
 ghost use Rattle.byteorder.specs.Endian.{big_bytes};
 ghost use Rattle.byte_fields.specs.Images.{number_at};
@@ -18,7 +18,7 @@ use crate::entries::{Choice, Entries};
 use crate::outline::DayOutline;
 use crate::window::Window;
 use tach_media::{Failed, Medium, read_number};
-use unit_model::layout::{EVENTS, FAULTS, INSERTIONS, OVERS, PLACES};
+use unit_model::layout::{EVENTS, FAULTS, INSERTION_SLOTS, INSERTIONS, OVERS, PLACE_SLOTS, PLACES};
 
 /// The insertions that touch a day.
 pub fn insertions_on(date: u32) -> Entries
@@ -29,7 +29,7 @@ pub fn insertions_on(date: u32) -> Entries
     Entries {
         base: INSERTIONS.place + 4,
         width: 129,
-        count: 2048,
+        count: INSERTION_SLOTS,
         gate: 94,
         choice: Choice::Touching(date),
     }
@@ -44,7 +44,7 @@ pub fn places_on(date: u32) -> Entries
     Entries {
         base: PLACES.place + 4,
         width: 28,
-        count: 255,
+        count: PLACE_SLOTS,
         gate: 18,
         choice: Choice::PlaceOn(date),
     }
@@ -110,7 +110,7 @@ fn pass_count(window: &mut Window, number: u32)
 
 // How many bytes so many entries have.
 fn bytes_of(count: u32, width: u32) -> u32
-    requires few { count ≤ 2048 }
+    requires few { count ≤ INSERTION_SLOTS }
     requires narrow { width ≤ 129 }
     ensures { result ≡ count * width }
 {
@@ -164,7 +164,7 @@ fn pass_ring<M: Medium>(
     requires unit { (M.state unit.old).size ≡ IMAGE_SIZE }
     requires entries { AreEntries entries.now }
     requires pointer { entries.now.base ≡ place + 4 }
-    requires few { count ≤ 2048 }
+    requires few { count ≤ INSERTION_SLOTS }
     ensures passed { OnOk result (IfSome (M.state unit.old).image (λ x. number_at x place 4 < entries.now.count → count ≡ length (chosen_in_ring place entries.now x) → window.new ≡ passed window.old (joined (chosen_in_ring place entries.now x)))) }
     ensures reads { ReadsIfAny (M.state unit.old) (M.state unit.new) (is_err result) }
 {
