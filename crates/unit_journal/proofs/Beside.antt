@@ -9,7 +9,7 @@ use Rattle.tach_media.proofs.Images.{part_before, part_after}
 use Rattle.gated_ring.specs.Ring.{number_at, pointer, is_there, entry_at, next, order, taken, indices as ring_indices}
 use Rattle.gated_ring.proofs.Orders as orders
 use Rattle.gated_ring.proofs.Orders.{next_below, order_each, each_append, each_filter, range_each, filter_same, map_same}
-use Rattle.unit_model.specs.declared.layout.TheConstants.{VERSION, OVER_COUNT}
+use Rattle.unit_model.specs.declared.layout.TheConstants.{DAYS, DAY_COUNT, DAY_ODOMETER, DAY_SLOTS, DAY_SLOT_SIZE, DAY_WORDS, DAY_WORD_LIMIT, FIRST_OVER, HIGHEST_ODOMETER, INSERTIONS, LAST_KEPT, LAST_MINUTE, ODOMETER, OVER_COUNT, VERSION}
 use Rattle.unit_model.specs.Days.{day_of, days_shown, state_at, word_minute, Each}
 use Rattle.unit_model.specs.Image.{number_of, day_ring, slot_place, last_kept, odometer_at, unit_day, unit_days, recorded, indices, slot_date, slot_count, slot_words, words_at}
 use Rattle.unit_model.specs.Decoding.{Decodes, cell_check, cell_minute, cell_word, slot_checks, front_checks, has_day, is_pointer_good, is_last_good, are_dense, indices_before, is_date_good}
@@ -28,10 +28,10 @@ use Rattle.unit_model.proofs.Slots.{day_at, all_days}
 use Rattle.unit_model.proofs.StillDecodes.{slot_by, day_still}
 
 -- a write beside them
-pub beside : (a n : ℕ) (x c : List ℕ) → (a + n ≤ 564) ⊎ (((572 ≤ a) × (a + n ≤ 1024)) ⊎ (2115044 ≤ a)) → SameOutside a n x c → SameJournal x c
-beside a n x c (inl low) same = record { front = part_after a n 564 8 x c same low; days = part_after a n 1024 2114020 x c same (omega (arith, low)); same_length = same.same_length }
-beside a n x c (inr (inl mid)) same = record { front = part_before a n 564 8 x c same (omega (arith, mid.0)); days = part_after a n 1024 2114020 x c same mid.1; same_length = same.same_length }
-beside a n x c (inr (inr high)) same = record { front = part_before a n 564 8 x c same (omega (arith, high)); days = part_before a n 1024 2114020 x c same (omega (arith, high)); same_length = same.same_length }
+pub beside : (a n : ℕ) (x c : List ℕ) → (a + n ≤ LAST_KEPT.place) ⊎ (((FIRST_OVER.place ≤ a) × (a + n ≤ DAYS.place)) ⊎ (INSERTIONS.place ≤ a)) → SameOutside a n x c → SameJournal x c
+beside a n x c (inl low) same = record { front = part_after a n LAST_KEPT.place (LAST_KEPT.size + ODOMETER.size) x c same low; days = part_after a n DAYS.place DAYS.size x c same (omega (arith, low)); same_length = same.same_length }
+beside a n x c (inr (inl mid)) same = record { front = part_before a n LAST_KEPT.place (LAST_KEPT.size + ODOMETER.size) x c same (omega (arith, mid.0)); days = part_after a n DAYS.place DAYS.size x c same mid.1; same_length = same.same_length }
+beside a n x c (inr (inr high)) same = record { front = part_before a n LAST_KEPT.place (LAST_KEPT.size + ODOMETER.size) x c same (omega (arith, high)); days = part_before a n DAYS.place DAYS.size x c same (omega (arith, high)); same_length = same.same_length }
 
 pub beside_none : (x : List ℕ) → SameJournal x x
 beside_none x = record { front = refl; days = refl; same_length = refl }
@@ -39,14 +39,14 @@ beside_none x = record { front = refl; days = refl; same_length = refl }
 pub beside_then : (x y c : List ℕ) → SameJournal x y → SameJournal y c → SameJournal x c
 beside_then x y c first next = record { front = next.front ∙ first.front; days = next.days ∙ first.days; same_length = next.same_length ∙ first.same_length }
 
-all_below : (x : List ℕ) (js : List ℕ) → orders.Each (λ j. j < 366) js → orders.Each (λ j. j < 366) (filter (is_there day_ring x) js)
-all_below x js all = each_filter (λ j. j < 366) (is_there day_ring x) js all
+all_below : (x : List ℕ) (js : List ℕ) → orders.Each (λ j. j < DAY_SLOTS) js → orders.Each (λ j. j < DAY_SLOTS) (filter (is_there day_ring x) js)
+all_below x js all = each_filter (λ j. j < DAY_SLOTS) (is_there day_ring x) js all
 
-in_list : (a b : List ℕ) (i : ℕ) → orders.Each (λ j. j < 366) (a ++ i ∷ b) → i < 366
+in_list : (a b : List ℕ) (i : ℕ) → orders.Each (λ j. j < DAY_SLOTS) (a ++ i ∷ b) → i < DAY_SLOTS
 in_list [] b i all = all.0
 in_list (j ∷ a) b i all = in_list a b i all.1
 
-two_below : (a b : List ℕ) (i : ℕ) → orders.Each (λ j. j < 366) ((a ++ i ∷ []) ++ b) → i < 366
+two_below : (a b : List ℕ) (i : ℕ) → orders.Each (λ j. j < DAY_SLOTS) ((a ++ i ∷ []) ++ b) → i < DAY_SLOTS
 two_below [] b i all = all.0
 two_below (j ∷ a) b i all = two_below a b i all.1
 
@@ -56,21 +56,21 @@ any_same P Q (j ∷ js) all = (λ t. all.0 t || list_any Q js) ∙ ap (λ (b : B
 
 module _ (x c : List ℕ) (same : SameJournal x c) where
   -- numbers and words among the days
-  part : (p n : ℕ) → 1024 ≤ p → p + n ≤ 2115044 → bytes_at c p n ≡ bytes_at x p n
+  part : (p n : ℕ) → DAYS.place ≤ p → p + n ≤ INSERTIONS.place → bytes_at c p n ≡ bytes_at x p n
   part p n low high =
-      let q = p - 1024 in
-      let is : 1024 + q ≡ p = omega (arith, low) in
-      ap (λ (a : ℕ). bytes_at c a n) (sym is) ∙ sym (part_in c 1024 2114020 q n (omega (arith, low, high))) ∙ ap (λ (l : List ℕ). bytes_at l q n) same.days
-      ∙ part_in x 1024 2114020 q n (omega (arith, low, high)) ∙ ap (λ (a : ℕ). bytes_at x a n) is
+      let q = p - DAYS.place in
+      let is : DAYS.place + q ≡ p = omega (arith, low) in
+      ap (λ (a : ℕ). bytes_at c a n) (sym is) ∙ sym (part_in c DAYS.place DAYS.size q n (omega (arith, low, high))) ∙ ap (λ (l : List ℕ). bytes_at l q n) same.days
+      ∙ part_in x DAYS.place DAYS.size q n (omega (arith, low, high)) ∙ ap (λ (a : ℕ). bytes_at x a n) is
 
-  number : (p n : ℕ) → 1024 ≤ p → p + n ≤ 2115044 → number_at c p n ≡ number_at x p n
+  number : (p n : ℕ) → DAYS.place ≤ p → p + n ≤ INSERTIONS.place → number_at c p n ≡ number_at x p n
   number p n low high = number_same x c p n (part p n low high)
 
-  words : (p n : ℕ) → 1024 ≤ p → p + 2 * n ≤ 2115044 → words_at c p n ≡ words_at x p n
+  words : (p n : ℕ) → DAYS.place ≤ p → p + 2 * n ≤ INSERTIONS.place → words_at c p n ≡ words_at x p n
   words p n low high = map_range_same (λ j. number_at c (p + 2 * j) 2) (λ j. number_at x (p + 2 * j) 2) 0 n (λ j from to. number (p + 2 * j) 2 (omega (arith, low)) (omega (arith, high, to)))
 
-  front : (q : ℕ) → q + 4 ≤ 8 → number_at c (564 + q) 4 ≡ number_at x (564 + q) 4
-  front q le = number_same x c (564 + q) 4 (sym (part_in c 564 8 q 4 le) ∙ ap (λ (l : List ℕ). bytes_at l q 4) same.front ∙ part_in x 564 8 q 4 le)
+  front : (q : ℕ) → q + 4 ≤ 8 → number_at c (LAST_KEPT.place + q) 4 ≡ number_at x (LAST_KEPT.place + q) 4
+  front q le = number_same x c (LAST_KEPT.place + q) 4 (sym (part_in c LAST_KEPT.place (LAST_KEPT.size + ODOMETER.size) q 4 le) ∙ ap (λ (l : List ℕ). bytes_at l q 4) same.front ∙ part_in x LAST_KEPT.place (LAST_KEPT.size + ODOMETER.size) q 4 le)
 
   pub last_beside : last_kept c ≡ last_kept x
   unfolding last_kept
@@ -81,33 +81,33 @@ module _ (x c : List ℕ) (same : SameJournal x c) where
   odometer_beside = front 4 (omega arith)
 
   pub pointer_beside : pointer day_ring c ≡ pointer day_ring x
-  pointer_beside = number 1024 4 (omega arith) (omega arith)
+  pointer_beside = number DAYS.place 4 (omega arith) (omega arith)
 
-  entry : (j : ℕ) → j < 366 → entry_at day_ring c j ≡ entry_at day_ring x j
-  entry j below = part (slot_place j) 5776 (omega arith) (omega (arith, below))
+  entry : (j : ℕ) → j < DAY_SLOTS → entry_at day_ring c j ≡ entry_at day_ring x j
+  entry j below = part (slot_place j) DAY_SLOT_SIZE (omega arith) (omega (arith, below))
 
-  date : (j : ℕ) → j < 366 → slot_date c j ≡ slot_date x j
+  date : (j : ℕ) → j < DAY_SLOTS → slot_date c j ≡ slot_date x j
   date j below = number (slot_place j) 4 (omega arith) (omega (arith, below))
 
-  there : (j : ℕ) → j < 366 → is_there day_ring c j ≡ is_there day_ring x j
+  there : (j : ℕ) → j < DAY_SLOTS → is_there day_ring c j ≡ is_there day_ring x j
   there j below = ap (λ (n : ℕ). Rattle.std.proofs.Common.not (n == 0)) (number (slot_place j + 0) 4 (omega arith) (omega (arith, below)))
 
-  there_all : (js : List ℕ) → orders.Each (λ j. j < 366) js → filter (is_there day_ring c) js ≡ filter (is_there day_ring x) js
-  there_all js all = filter_same (is_there day_ring x) (is_there day_ring c) js (orders.each_weaker (λ j. j < 366) (λ j. is_there day_ring c j ≡ is_there day_ring x j) js there all)
+  there_all : (js : List ℕ) → orders.Each (λ j. j < DAY_SLOTS) js → filter (is_there day_ring c) js ≡ filter (is_there day_ring x) js
+  there_all js all = filter_same (is_there day_ring x) (is_there day_ring c) js (orders.each_weaker (λ j. j < DAY_SLOTS) (λ j. is_there day_ring c j ≡ is_there day_ring x j) js there all)
 
   has_beside : (day : ℕ) → has_day c day ≡ has_day x day
-  has_beside day = any_same (λ i. is_there day_ring x i && slot_date x i / 86400 == day) (λ i. is_there day_ring c i && slot_date c i / 86400 == day) (range_with_len 0 366)
-      (range_each (λ i. (is_there day_ring c i && slot_date c i / 86400 == day) ≡ (is_there day_ring x i && slot_date x i / 86400 == day)) 0 366 (λ i low high. let below : i < 366 = omega (arith, high) in λ t. there i below t && date i below t / 86400 == day))
+  has_beside day = any_same (λ i. is_there day_ring x i && slot_date x i / 86400 == day) (λ i. is_there day_ring c i && slot_date c i / 86400 == day) (range_with_len 0 DAY_SLOTS)
+      (range_each (λ i. (is_there day_ring c i && slot_date c i / 86400 == day) ≡ (is_there day_ring x i && slot_date x i / 86400 == day)) 0 DAY_SLOTS (λ i low high. let below : i < DAY_SLOTS = omega (arith, high) in λ t. there i below t && date i below t / 86400 == day))
 
   -- where the pointer is an index
-  module _ (known : pointer day_ring x < 366) where
+  module _ (known : pointer day_ring x < DAY_SLOTS) where
     abbrev p : ℕ
     p = pointer day_ring x
 
-    turn_below : orders.Each (λ j. j < 366) (order day_ring (next day_ring p))
+    turn_below : orders.Each (λ j. j < DAY_SLOTS) (order day_ring (next day_ring p))
     turn_below = order_each day_ring (next day_ring p) (next_below day_ring p known)
 
-    each_below : orders.Each (λ j. j < 366) (indices x)
+    each_below : orders.Each (λ j. j < DAY_SLOTS) (indices x)
     unfolding indices ring_indices
     each_below = all_below x (order day_ring (next day_ring p)) turn_below
 
@@ -118,15 +118,15 @@ module _ (x c : List ℕ) (same : SameJournal x c) where
     pub taken_beside : taken day_ring c ≡ taken day_ring x
     taken_beside = (λ t. cond (is_there day_ring c (pointer_beside t)) (next day_ring (pointer_beside t)) (pointer_beside t)) ∙ (λ t. cond (there p known t) (next day_ring p) p)
 
-    day_same : (j : ℕ) → j < 366 → day_at c j ≡ day_at x j
+    day_same : (j : ℕ) → j < DAY_SLOTS → day_at c j ≡ day_at x j
     day_same j below = ap unit_day (entry j below)
 
     -- the days, and which of them are recorded
     pub days_beside : unit_days c ≡ unit_days x
     days_beside = all_days c ∙ ap (map (day_at c)) indices_beside ∙ days_same (indices x) each_below ∙ sym (all_days x)
       where
-        days_same : (js : List ℕ) → orders.Each (λ j. j < 366) js → map (day_at c) js ≡ map (day_at x) js
-        days_same js all = map_same (day_at x) (day_at c) js (orders.each_weaker (λ j. j < 366) (λ j. day_at c j ≡ day_at x j) js day_same all)
+        days_same : (js : List ℕ) → orders.Each (λ j. j < DAY_SLOTS) js → map (day_at c) js ≡ map (day_at x) js
+        days_same js all = map_same (day_at x) (day_at c) js (orders.each_weaker (λ j. j < DAY_SLOTS) (λ j. day_at c j ≡ day_at x j) js day_same all)
 
     pub recorded_beside : recorded c ≡ recorded x
     recorded_beside = recorded_is c (last_kept x) last_beside ∙ ap (days_shown (last_kept x)) days_beside ∙ sym (recorded_is x (last_kept x) refl)
@@ -136,23 +136,23 @@ module _ (x c : List ℕ) (same : SameJournal x c) where
     recorded_indices_beside =
         ap (filter (λ i. nat_le (slot_date c i / 86400) (last_kept c / 1440))) indices_beside
         ∙ filter_same (λ i. nat_le (slot_date x i / 86400) (last_kept x / 1440)) (λ i. nat_le (slot_date c i / 86400) (last_kept c / 1440)) (indices x)
-        (orders.each_weaker (λ j. j < 366) (λ i. nat_le (slot_date c i / 86400) (last_kept c / 1440) ≡ nat_le (slot_date x i / 86400) (last_kept x / 1440)) (indices x) (λ i below. λ t. nat_le (date i below t / 86400) (last_beside t / 1440)) each_below)
+        (orders.each_weaker (λ j. j < DAY_SLOTS) (λ i. nat_le (slot_date c i / 86400) (last_kept c / 1440) ≡ nat_le (slot_date x i / 86400) (last_kept x / 1440)) (indices x) (λ i below. λ t. nat_le (date i below t / 86400) (last_beside t / 1440)) each_below)
 
-    pub recorded_words_beside : (i : ℕ) → i < 366 → recorded_words c i ≡ recorded_words x i
+    pub recorded_words_beside : (i : ℕ) → i < DAY_SLOTS → recorded_words c i ≡ recorded_words x i
     recorded_words_beside i below =
         let covered : covered_words c i ≡ covered_words x i =
-        ap (λ (n : ℕ). slot_words c i (min n 2880)) (number (slot_place i + 8) 2 (omega arith) (omega (arith, below))) ∙ words (slot_place i + 16) (min (slot_count x i) 2880) (omega arith) (omega (arith, below)) in
+        ap (λ (n : ℕ). slot_words c i (min n DAY_WORD_LIMIT)) (number (slot_place i + DAY_COUNT.place) DAY_COUNT.size (omega arith) (omega (arith, below))) ∙ words (slot_place i + DAY_WORDS.place) (min (slot_count x i) DAY_WORD_LIMIT) (omega arith) (omega (arith, below)) in
         λ t. cond (date i below t / 86400 == last_beside t / 1440) (filter (λ w. nat_le (word_minute w) (last_beside t % 1440)) (covered t)) (covered t)
 
     -- what the notes say
-    older_same : (P : Rattle.unit_model.specs.Days.StoredDay → Type 0) (a : List ℕ) (i : ℕ) → Each (λ j. (j < 366) × (Rattle.std.proofs.Common.◌≢◌ j i)) a → Each P (map (λ j. unit_day (entry_at day_ring x j)) a) → Each P (map (λ j. unit_day (entry_at day_ring c j)) a)
+    older_same : (P : Rattle.unit_model.specs.Days.StoredDay → Type 0) (a : List ℕ) (i : ℕ) → Each (λ j. (j < DAY_SLOTS) × (Rattle.std.proofs.Common.◌≢◌ j i)) a → Each P (map (λ j. unit_day (entry_at day_ring x j)) a) → Each P (map (λ j. unit_day (entry_at day_ring c j)) a)
     older_same P [] i below all = tt
     older_same P (j ∷ a) i below all = (subst P (sym (day_same j below.0.0)) all.0, older_same P a i below.1 all.1)
 
     newest_beside : (j : Notes) (older : List ℕ) → IsNewestDay j x older → IsNewestDay j c older
     newest_beside j older day =
-        let below : j.index < 366 = in_list older [] j.index (subst (orders.Each (λ j. j < 366)) day.order_is each_below) in
-        let words_are : slot_words c j.index j.count ≡ slot_words x j.index j.count = words (slot_place j.index + 16) j.count (omega arith) (omega (arith, below, day.few)) in
+        let below : j.index < DAY_SLOTS = in_list older [] j.index (subst (orders.Each (λ j. j < DAY_SLOTS)) day.order_is each_below) in
+        let words_are : slot_words c j.index j.count ≡ slot_words x j.index j.count = words (slot_place j.index + DAY_WORDS.place) j.count (omega arith) (omega (arith, below, day.few)) in
         record {
           order_is = indices_beside ∙ day.order_is;
           next_is = taken_beside ∙ day.next_is;
@@ -162,7 +162,7 @@ module _ (x c : List ℕ) (same : SameJournal x c) where
           earlier = older_same (λ d. day_of d < j.kept / 1440) older j.index day.others day.earlier;
           date = date j.index below ∙ day.date;
           few = day.few;
-          count = number (slot_place j.index + 8) 2 (omega arith) (omega (arith, below)) ∙ day.count;
+          count = number (slot_place j.index + DAY_COUNT.place) 2 (omega arith) (omega (arith, below)) ∙ day.count;
           low = subst (Each (λ w. word_minute w ≤ j.kept % 1440)) (sym words_are) day.low;
           driver = ap (state_at 0 (j.kept % 1440)) words_are ∙ day.driver;
           codriver = ap (state_at 1 (j.kept % 1440)) words_are ∙ day.codriver;
@@ -170,8 +170,8 @@ module _ (x c : List ℕ) (same : SameJournal x c) where
 
     found_day_beside : (j : Notes) (stray : Option ℕ) (stored : ℕ) (older : List ℕ) → IsFoundDay j stray stored x older → IsFoundDay j stray stored c older
     found_day_beside j stray stored older day =
-        let below : j.index < 366 = two_below older (stray_list stray) j.index (subst (orders.Each (λ j. j < 366)) day.order_is each_below) in
-        let words_are : slot_words c j.index j.count ≡ slot_words x j.index j.count = words (slot_place j.index + 16) j.count (omega arith) (omega (arith, below, day.cut, day.stored_few)) in
+        let below : j.index < DAY_SLOTS = two_below older (stray_list stray) j.index (subst (orders.Each (λ j. j < DAY_SLOTS)) day.order_is each_below) in
+        let words_are : slot_words c j.index j.count ≡ slot_words x j.index j.count = words (slot_place j.index + DAY_WORDS.place) j.count (omega arith) (omega (arith, below, day.cut, day.stored_few)) in
         record {
           order_is = indices_beside ∙ day.order_is;
           next_is = next_beside stray day.next_is;
@@ -180,7 +180,7 @@ module _ (x c : List ℕ) (same : SameJournal x c) where
           days = day.days;
           earlier = older_same (λ d. day_of d < j.kept / 1440) older j.index day.others day.earlier;
           date = date j.index below ∙ day.date;
-          count = number (slot_place j.index + 8) 2 (omega arith) (omega (arith, below)) ∙ day.count;
+          count = number (slot_place j.index + DAY_COUNT.place) 2 (omega arith) (omega (arith, below)) ∙ day.count;
           cut = day.cut;
           stored_few = day.stored_few;
           low = subst (Each (λ w. word_minute w ≤ j.kept % 1440)) (sym words_are) day.low;
@@ -227,7 +227,7 @@ module _ (x c : List ℕ) (same : SameJournal x c) where
   right_beside j (inl found) = inl (found_beside j found)
   right_beside j (inr agrees) = inr (agrees_beside j agrees)
 
-  gate_beside : (stray : Option ℕ) → ForSome stray (λ s. s < 366) → IsGateShut stray x → IsGateShut stray c
+  gate_beside : (stray : Option ℕ) → ForSome stray (λ s. s < DAY_SLOTS) → IsGateShut stray x → IsGateShut stray c
   gate_beside None below gate = tt
   gate_beside (Some s) below gate = part (slot_place s) 4 (omega arith) (omega (arith, below s refl)) ∙ gate
 
@@ -247,13 +247,13 @@ module _ (x c : List ℕ) (same : SameJournal x c) where
   front_good ok good =
       let k = last_kept c in
       let overs : Bool = nat_le (number_of c OVER_COUNT) 255 && true in
-      let rest : Bool = nat_le (odometer_at c) 9999999 && overs in
-      let now = nat_le k 71582788 && (k == 0 || has_day c (k / 1440)) in
+      let rest : Bool = nat_le (odometer_at c) HIGHEST_ODOMETER && overs in
+      let now = nat_le k LAST_MINUTE && (k == 0 || has_day c (k / 1440)) in
       and_join (number_of c VERSION == 1) (now && rest) (eq_one (number_of c VERSION) ok.version)
       (and_join now rest
-      (and_join (nat_le k 71582788) (k == 0 || has_day c (k / 1440)) (le_true k 71582788 (omega (arith, last_beside, front_kept x good.front)))
+      (and_join (nat_le k LAST_MINUTE) (k == 0 || has_day c (k / 1440)) (le_true k LAST_MINUTE (omega (arith, last_beside, front_kept x good.front)))
       ((λ t. last_beside t == 0 || has_beside (last_beside t / 1440) t) ∙ front_today x good.front))
-      (and_join (nat_le (odometer_at c) 9999999) overs (le_true (odometer_at c) 9999999 (omega (arith, odometer_beside, front_odometer x good.front)))
+      (and_join (nat_le (odometer_at c) HIGHEST_ODOMETER) overs (le_true (odometer_at c) HIGHEST_ODOMETER (omega (arith, odometer_beside, front_odometer x good.front)))
       (ap (λ (b : Bool). b && true) (le_true (number_of c OVER_COUNT) 255 ok.overs))))
 
   cell_good : PassesBeside c → (n : ℕ) → n < 32 → (cell_check c n).passes ≡ true
@@ -273,7 +273,7 @@ module _ (x c : List ℕ) (same : SameJournal x c) where
   lt_of : (a b : ℕ) → nat_lt a b ≡ true → a < b
   lt_of a b is = grind (arith, nat_tests)
 
-  last_same : (q : ℕ) (js : List ℕ) → orders.Each (λ j. j < 366) js → is_last_good c q js ≡ is_last_good x q js
+  last_same : (q : ℕ) (js : List ℕ) → orders.Each (λ j. j < DAY_SLOTS) js → is_last_good c q js ≡ is_last_good x q js
   last_same q [] below = refl
   last_same q (i ∷ []) below = λ t. nat_le (date i below.0 t / 86400) (last_beside t / 1440) || i == q
   last_same q (i ∷ j ∷ js) below = last_same q (j ∷ js) below.1
@@ -282,30 +282,30 @@ module _ (x c : List ℕ) (same : SameJournal x c) where
   point_good good =
       let p = pointer day_ring x in
       let dense : Bool = are_dense (map (is_there day_ring x) (order day_ring (next day_ring p))) in
-      let known : p < 366 = lt_of p 366 (and_split (nat_lt p 366) (dense && is_last_good x p (indices x)) good).0 in
-      (λ t. nat_lt (pointer_beside t) 366 && (are_dense (map (is_there day_ring c) (order day_ring (next day_ring (pointer_beside t)))) && is_last_good c (pointer_beside t) (indices_beside known t)))
-      ∙ (λ t. nat_lt p 366 && (are_dense (map_same (is_there day_ring x) (is_there day_ring c) (order day_ring (next day_ring p)) (orders.each_weaker (λ j. j < 366) (λ j. is_there day_ring c j ≡ is_there day_ring x j) (order day_ring (next day_ring p)) there (turn_below known)) t) && last_same p (indices x) (each_below known) t))
+      let known : p < DAY_SLOTS = lt_of p DAY_SLOTS (and_split (nat_lt p DAY_SLOTS) (dense && is_last_good x p (indices x)) good).0 in
+      (λ t. nat_lt (pointer_beside t) DAY_SLOTS && (are_dense (map (is_there day_ring c) (order day_ring (next day_ring (pointer_beside t)))) && is_last_good c (pointer_beside t) (indices_beside known t)))
+      ∙ (λ t. nat_lt p DAY_SLOTS && (are_dense (map_same (is_there day_ring x) (is_there day_ring c) (order day_ring (next day_ring p)) (orders.each_weaker (λ j. j < DAY_SLOTS) (λ j. is_there day_ring c j ≡ is_there day_ring x j) (order day_ring (next day_ring p)) there (turn_below known)) t) && last_same p (indices x) (each_below known) t))
       ∙ good
 
-  before_below : (i : ℕ) → i < 366 → (q : ℕ) → orders.Each (λ j. j < 366) (cond (nat_le q i) (range_with_len q (i - q)) (range_with_len q (366 - q) ++ range_with_len 0 i))
+  before_below : (i : ℕ) → i < DAY_SLOTS → (q : ℕ) → orders.Each (λ j. j < DAY_SLOTS) (cond (nat_le q i) (range_with_len q (i - q)) (range_with_len q (DAY_SLOTS - q) ++ range_with_len 0 i))
   before_below i below q = by (nat_le q i) refl
     where
-      by : (b : Bool) → nat_le q i ≡ b → orders.Each (λ j. j < 366) (cond b (range_with_len q (i - q)) (range_with_len q (366 - q) ++ range_with_len 0 i))
-      by true is = range_each (λ j. j < 366) q (i - q) (λ j low high. omega (arith, low, high, below))
-      by false is = each_append (λ j. j < 366) (range_with_len q (366 - q)) (range_with_len 0 i) (range_each (λ j. j < 366) q (366 - q) (λ j low high. omega (arith, low, high))) (range_each (λ j. j < 366) 0 i (λ j low high. omega (arith, high, below)))
+      by : (b : Bool) → nat_le q i ≡ b → orders.Each (λ j. j < DAY_SLOTS) (cond b (range_with_len q (i - q)) (range_with_len q (DAY_SLOTS - q) ++ range_with_len 0 i))
+      by true is = range_each (λ j. j < DAY_SLOTS) q (i - q) (λ j low high. omega (arith, low, high, below))
+      by false is = each_append (λ j. j < DAY_SLOTS) (range_with_len q (DAY_SLOTS - q)) (range_with_len 0 i) (range_each (λ j. j < DAY_SLOTS) q (DAY_SLOTS - q) (λ j low high. omega (arith, low, high))) (range_each (λ j. j < DAY_SLOTS) 0 i (λ j low high. omega (arith, high, below)))
 
-  before_same : (i : ℕ) → i < 366 → map (slot_date c) (indices_before c i) ≡ map (slot_date x) (indices_before x i)
+  before_same : (i : ℕ) → i < DAY_SLOTS → map (slot_date c) (indices_before c i) ≡ map (slot_date x) (indices_before x i)
   before_same i below =
       let q : ℕ = pointer day_ring x + 1 in
-      let js : List ℕ = cond (nat_le q i) (range_with_len q (i - q)) (range_with_len q (366 - q) ++ range_with_len 0 i) in
-      (λ t. let r : ℕ = pointer_beside t + 1 in map (slot_date c) (filter (is_there day_ring c) (cond (nat_le r i) (range_with_len r (i - r)) (range_with_len r (366 - r) ++ range_with_len 0 i))))
+      let js : List ℕ = cond (nat_le q i) (range_with_len q (i - q)) (range_with_len q (DAY_SLOTS - q) ++ range_with_len 0 i) in
+      (λ t. let r : ℕ = pointer_beside t + 1 in map (slot_date c) (filter (is_there day_ring c) (cond (nat_le r i) (range_with_len r (i - r)) (range_with_len r (DAY_SLOTS - r) ++ range_with_len 0 i))))
       ∙ ap (map (slot_date c)) (there_all js (before_below i below q))
-      ∙ map_same (slot_date x) (slot_date c) (filter (is_there day_ring x) js) (orders.each_weaker (λ j. j < 366) (λ j. slot_date c j ≡ slot_date x j) (filter (is_there day_ring x) js) date (all_below x js (before_below i below q)))
+      ∙ map_same (slot_date x) (slot_date c) (filter (is_there day_ring x) js) (orders.each_weaker (λ j. j < DAY_SLOTS) (λ j. slot_date c j ≡ slot_date x j) (filter (is_there day_ring x) js) date (all_below x js (before_below i below q)))
 
-  slot_good : (i : ℕ) → i < 366 → list_all passes (slot_checks x i) ≡ true → list_all passes (slot_checks c i) ≡ true
+  slot_good : (i : ℕ) → i < DAY_SLOTS → list_all passes (slot_checks x i) ≡ true → list_all passes (slot_checks c i) ≡ true
   slot_good i below = slot_by x c i (there i below) (day_still x c i (λ t. is_date_good (last_beside t) (before_same i below t) (date i below t))
-      (number (slot_place i + 4) 4 (omega arith) (omega (arith, below))) (number (slot_place i + 8) 2 (omega arith) (omega (arith, below)))
-      (λ few. words (slot_place i + 16) (slot_count x i) (omega arith) (omega (arith, below, few))))
+      (number (slot_place i + DAY_ODOMETER.place) DAY_ODOMETER.size (omega arith) (omega (arith, below))) (number (slot_place i + DAY_COUNT.place) DAY_COUNT.size (omega arith) (omega (arith, below)))
+      (λ few. words (slot_place i + DAY_WORDS.place) (slot_count x i) (omega arith) (omega (arith, below, few))))
 
   good_beside : PassesBeside c → IsGood x → IsGood c
   good_beside ok good = record {
@@ -313,7 +313,7 @@ module _ (x c : List ℕ) (same : SameJournal x c) where
     cells = cell_good ok;
     point = point_good good.point;
     slots = λ i below. slot_good i below (good.slots i below);
-    rings = and_join (nat_lt (number_at c 2115044 4) 2048) (nat_lt (number_at c 2379240 4) 255 && true) (lt_true (number_at c 2115044 4) 2048 ok.insertions)
+    rings = and_join (nat_lt (number_at c INSERTIONS.place 4) 2048) (nat_lt (number_at c 2379240 4) 255 && true) (lt_true (number_at c INSERTIONS.place 4) 2048 ok.insertions)
         (ap (λ (b : Bool). b && true) (lt_true (number_at c 2379240 4) 255 ok.places));
   }
 
@@ -335,12 +335,12 @@ pub passes_beside : (x : List ℕ) → Decodes x → PassesBeside x
 passes_beside x decodes =
     let good = good_of x decodes in
     let k = last_kept x in
-    let now : Bool = nat_le k 71582788 && (k == 0 || has_day x (k / 1440)) in
+    let now : Bool = nat_le k LAST_MINUTE && (k == 0 || has_day x (k / 1440)) in
     let overs : Bool = nat_le (number_of x OVER_COUNT) 255 && true in
-    let rest : Bool = nat_le (odometer_at x) 9999999 && overs in
+    let rest : Bool = nat_le (odometer_at x) HIGHEST_ODOMETER && overs in
     let first = and_split (number_of x VERSION == 1) (now && rest) good.front in
-    let last = and_split (nat_le (odometer_at x) 9999999) overs (and_split now rest first.1).1 in
-    let rings = and_split (nat_lt (number_at x 2115044 4) 2048) (nat_lt (number_at x 2379240 4) 255 && true) good.rings in
+    let last = and_split (nat_le (odometer_at x) HIGHEST_ODOMETER) overs (and_split now rest first.1).1 in
+    let rings = and_split (nat_lt (number_at x INSERTIONS.place 4) 2048) (nat_lt (number_at x 2379240 4) 255 && true) good.rings in
     record {
       version = eq_of (number_of x VERSION) 1 first.0;
       overs = le_of (number_of x OVER_COUNT) 255 (and_split (nat_le (number_of x OVER_COUNT) 255) true last.1).0;
@@ -348,6 +348,6 @@ passes_beside x decodes =
           (λ empty. inl (eq_of (cell_minute x n) 0 empty))
           (λ low. inr (less_of (word_minute (cell_word x n)) 1440 low))
           (either_true (cell_minute x n == 0) (nat_lt (word_minute (cell_word x n)) 1440) (good.cells n below));
-      insertions = less_of (number_at x 2115044 4) 2048 rings.0;
+      insertions = less_of (number_at x INSERTIONS.place 4) 2048 rings.0;
       places = less_of (number_at x 2379240 4) 255 (and_split (nat_lt (number_at x 2379240 4) 255) true rings.1).0;
     }

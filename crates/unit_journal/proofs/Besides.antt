@@ -8,10 +8,11 @@ use Rattle.std.proofs.lemmas.List.FromFn.{length-range_with_len}
 use Rattle.tach_media.specs.Medium.{SameOutside}
 use Rattle.tach_media.proofs.Images.{put_outside, part_before, part_after, outside_wider}
 use Rattle.gated_ring.specs.Ring.{indices as ring_indices, pointer, is_there, next, order}
+use Rattle.unit_model.specs.declared.layout.TheConstants.{DAYS, DAY_SLOTS, FIRST_OVER, INSERTIONS, LAST_KEPT, ODOMETER, OWED, SPARE_ROWS}
 use Rattle.unit_model.specs.Days.{Day, UnitMinute, day_of, day_shown, newest_of}
-use Rattle.unit_model.specs.Image.{day_ring, last_kept, odometer_at, indices, unit_days, recorded}
+use Rattle.unit_model.specs.Image.{day_ring, slot_place, last_kept, odometer_at, indices, unit_days, recorded}
 use Rattle.unit_model.specs.Retention.{retained}
-use Rattle.unit_journal.specs.Image.{SameBesides, IsGivenUp, IsBeforeMark, IsBehindMark}
+use Rattle.unit_journal.specs.Keeping.{SameBesides, IsGivenUp, IsBeforeMark, IsBehindMark}
 use Rattle.unit_journal.specs.Mends.{SameButRowsAndSlots}
 use Rattle.unit_model.proofs.Slots.{day_at, all_days}
 use Rattle.unit_model.proofs.Front.{HasOdometer}
@@ -19,28 +20,28 @@ use Rattle.unit_model.proofs.Front.{HasOdometer}
 pub besides_then : (x y c : List ℕ) → SameBesides x y → SameBesides y c → SameBesides x c
 besides_then x y c first next = record { before = next.before ∙ first.before; between = next.between ∙ first.between; after = next.after ∙ first.after; same_length = next.same_length ∙ first.same_length }
 
-pub besides_front : (a n : ℕ) (x c : List ℕ) → 564 ≤ a → a + n ≤ 572 → SameOutside a n x c → SameBesides x c
+pub besides_front : (a n : ℕ) (x c : List ℕ) → LAST_KEPT.place ≤ a → a + n ≤ FIRST_OVER.place → SameOutside a n x c → SameBesides x c
 besides_front a n x c low high same = record {
-  before = (outside_wider 564 8 a n x c same low (omega (arith, high))).before;
-  between = part_after a n 572 452 x c same high;
-  after = (outside_wider 564 2114480 a n x c same low (omega (arith, high))).after;
+  before = (outside_wider LAST_KEPT.place (LAST_KEPT.size + ODOMETER.size) a n x c same low (omega (arith, high))).before;
+  between = part_after a n FIRST_OVER.place (DAYS.place - FIRST_OVER.place) x c same high;
+  after = (outside_wider LAST_KEPT.place (INSERTIONS.place - LAST_KEPT.place) a n x c same low (omega (arith, high))).after;
   same_length = same.same_length;
 }
 
-pub besides_days : (a n : ℕ) (x c : List ℕ) → 1024 ≤ a → a + n ≤ 2115044 → SameOutside a n x c → SameBesides x c
+pub besides_days : (a n : ℕ) (x c : List ℕ) → DAYS.place ≤ a → a + n ≤ INSERTIONS.place → SameOutside a n x c → SameBesides x c
 besides_days a n x c low high same = record {
-  before = (outside_wider 564 2114480 a n x c same (omega (arith, low)) (omega (arith, high))).before;
-  between = part_before a n 572 452 x c same low;
-  after = (outside_wider 564 2114480 a n x c same (omega (arith, low)) (omega (arith, high))).after;
+  before = (outside_wider LAST_KEPT.place (INSERTIONS.place - LAST_KEPT.place) a n x c same (omega (arith, low)) (omega (arith, high))).before;
+  between = part_before a n FIRST_OVER.place (DAYS.place - FIRST_OVER.place) x c same low;
+  after = (outside_wider LAST_KEPT.place (INSERTIONS.place - LAST_KEPT.place) a n x c same (omega (arith, low)) (omega (arith, high))).after;
   same_length = same.same_length;
 }
 
 -- what a `mend` leaves alone, by writes in the owed rows and in the day slots
-pub rows_outside : (x c : List ℕ) → SameOutside 624 384 x c → SameButRowsAndSlots x c
-rows_outside x c same = record { before = same.before; between = part_after 624 384 1008 20 x c same (omega arith); after = (outside_wider 624 2114420 624 384 x c same (omega arith) (omega arith)).after; same_length = same.same_length }
+pub rows_outside : (x c : List ℕ) → SameOutside OWED.place OWED.size x c → SameButRowsAndSlots x c
+rows_outside x c same = record { before = same.before; between = part_after OWED.place OWED.size SPARE_ROWS.place (SPARE_ROWS.size + 4) x c same (omega arith); after = (outside_wider OWED.place (INSERTIONS.place - OWED.place) OWED.place OWED.size x c same (omega arith) (omega arith)).after; same_length = same.same_length }
 
-pub slots_outside : (x c : List ℕ) → SameOutside 1028 2114016 x c → SameButRowsAndSlots x c
-slots_outside x c same = record { before = (outside_wider 624 2114420 1028 2114016 x c same (omega arith) (omega arith)).before; between = part_before 1028 2114016 1008 20 x c same (omega arith); after = same.after; same_length = same.same_length }
+pub slots_outside : (x c : List ℕ) → SameOutside (slot_place 0) (DAYS.size - 4) x c → SameButRowsAndSlots x c
+slots_outside x c same = record { before = (outside_wider OWED.place (INSERTIONS.place - OWED.place) (slot_place 0) (DAYS.size - 4) x c same (omega arith) (omega arith)).before; between = part_before (slot_place 0) (DAYS.size - 4) SPARE_ROWS.place (SPARE_ROWS.size + 4) x c same (omega arith); after = same.after; same_length = same.same_length }
 
 pub outside_both : (x y c : List ℕ) → SameButRowsAndSlots x y → SameButRowsAndSlots y c → SameButRowsAndSlots x c
 outside_both x y c first next = record { before = next.before ∙ first.before; between = next.between ∙ first.between; after = next.after ∙ first.after; same_length = next.same_length ∙ first.same_length }
@@ -67,21 +68,21 @@ filter_few {X} p (x ∷ xs) = by (filter_few p xs) (p x)
     by few false = omega arith
 
 -- at most as many days as slots
-pub few_slots : (x : List ℕ) → pointer day_ring x < 366 → length (unit_days x) ≤ 366
+pub few_slots : (x : List ℕ) → pointer day_ring x < DAY_SLOTS → length (unit_days x) ≤ DAY_SLOTS
 unfolding indices ring_indices
 few_slots x known =
     let i = next day_ring (pointer day_ring x) in
-    let i_below : i < 366 = next_below (pointer day_ring x) known in
+    let i_below : i < DAY_SLOTS = next_below (pointer day_ring x) known in
     let all = order day_ring i in
     let there = filter (is_there day_ring x) all in
     let days_length : length (unit_days x) ≡ length there = ap length (all_days x) ∙ length-map there (day_at x) in
-    let all_length : length all ≡ 366 = omega (arith, length-append (range_with_len i (366 - i)) (range_with_len 0 i), length-range_with_len i (366 - i), length-range_with_len 0 i) in
+    let all_length : length all ≡ DAY_SLOTS = omega (arith, length-append (range_with_len i (DAY_SLOTS - i)) (range_with_len 0 i), length-range_with_len i (DAY_SLOTS - i), length-range_with_len 0 i) in
     omega (arith, days_length, filter_few (is_there day_ring x) all, all_length)
   where
-    next_below : (p : ℕ) → p < 366 → next day_ring p < 366
+    next_below : (p : ℕ) → p < DAY_SLOTS → next day_ring p < DAY_SLOTS
     next_below p below = grind (arith, nat_tests)
 
-pub few_days : (x : List ℕ) → pointer day_ring x < 366 → length (recorded x) ≤ 366
+pub few_days : (x : List ℕ) → pointer day_ring x < DAY_SLOTS → length (recorded x) ≤ DAY_SLOTS
 unfolding recorded
 few_days x known =
     let days = unit_days x in

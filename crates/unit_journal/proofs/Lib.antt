@@ -3,10 +3,12 @@ pub mod Keeping
 pub mod Behind
 pub mod Beginning
 pub mod Closing
-pub mod Lifting
+pub mod Premises
+pub mod Told
 pub mod Mending
 pub mod Beside
-pub mod Settling
+pub mod Equal
+pub mod MendPlan
 pub mod Mended
 mod MendRows
 pub mod KeptBits

@@ -8,13 +8,15 @@ use Rattle.std.proofs.lemmas.List.{append-nil}
 use Rattle.tach_media.specs.Medium.{put, bytes_at, SameOutside}
 use Rattle.tach_media.proofs.Images.{part_before, put_same, outside_same, outside_then}
 use Rattle.gated_ring.specs.Ring.{number_at, pointer, entry_at}
+use Rattle.unit_model.specs.declared.layout.TheConstants.{DAYS, DAY_COUNT, DAY_SLOTS, DAY_SLOT_SIZE, IMAGE_SIZE, OWED, OWED_ROW_SIZE}
 use Rattle.unit_model.specs.Days.{StoredDay, word_minute, day_of, Each}
 use Rattle.unit_model.specs.Decoding.{Decodes, cell_place, cell_minute, is_last_good}
 use Rattle.unit_model.specs.Image.{day_ring, slot_place, last_kept, recorded, indices, unit_days, slot_date, slot_words, words_at}
 use Rattle.unit_model.specs.Writing.{free_place, with_count}
 use Rattle.unit_journal.specs.Image.{Notes, IsNotes, Agrees, IsStray, IsFoundDay, IsFound, IsFoundBy}
 use Rattle.unit_journal.specs.Beside.{SameJournal}
-use Rattle.unit_journal.specs.Mends.{SameButRowsAndSlots, SameButMinutes, IsGateShut, IsMendable, IsMending, IsMended, notes_mended, shut, mended, IsMendStep}
+use Rattle.unit_journal.proofs.MendPlan.{IsMendStep}
+use Rattle.unit_journal.specs.Mends.{SameButRowsAndSlots, SameButMinutes, IsGateShut, IsMendable, IsMending, IsMended, notes_mended, shut, mended}
 use Rattle.unit_model.specs.Cells.{minute_kept, cells_emptied}
 use Rattle.unit_model.specs.Days.{days_kept}
 use Rattle.unit_model.proofs.Numbers.{number_before, number_in, words_in}
@@ -38,14 +40,14 @@ each_push P [] i all one = (one, tt)
 each_push P (j ∷ js) i all one = (all.0, each_push P js i all.1 one)
 
 module _ (x c : List ℕ) (i : ℕ) (same : entry_at day_ring c i ≡ entry_at day_ring x i) where
-  entry_number : (q n : ℕ) → q + n ≤ 5776 → number_at c (slot_place i + q) n ≡ number_at x (slot_place i + q) n
-  entry_number q n le = sym (number_in c (slot_place i) 5776 q n le) ∙ ap (λ (e : List ℕ). number_at e q n) same ∙ number_in x (slot_place i) 5776 q n le
+  entry_number : (q n : ℕ) → q + n ≤ DAY_SLOT_SIZE → number_at c (slot_place i + q) n ≡ number_at x (slot_place i + q) n
+  entry_number q n le = sym (number_in c (slot_place i) DAY_SLOT_SIZE q n le) ∙ ap (λ (e : List ℕ). number_at e q n) same ∙ number_in x (slot_place i) DAY_SLOT_SIZE q n le
 
-  entry_words : (q n : ℕ) → q + 2 * n ≤ 5776 → words_at c (slot_place i + q) n ≡ words_at x (slot_place i + q) n
-  entry_words q n le = sym (words_in c (slot_place i) 5776 q n le) ∙ ap (λ (e : List ℕ). words_at e q n) same ∙ words_in x (slot_place i) 5776 q n le
+  entry_words : (q n : ℕ) → q + 2 * n ≤ DAY_SLOT_SIZE → words_at c (slot_place i + q) n ≡ words_at x (slot_place i + q) n
+  entry_words q n le = sym (words_in c (slot_place i) DAY_SLOT_SIZE q n le) ∙ ap (λ (e : List ℕ). words_at e q n) same ∙ words_in x (slot_place i) DAY_SLOT_SIZE q n le
 
 -- the later day is gone
-module _ (j : Notes) (ok : IsNotes j) (stored : ℕ) (x : List ℕ) (sized : length x ≡ 2485808) (s : ℕ) (found : IsFound j (Some s) stored x) where
+module _ (j : Notes) (ok : IsNotes j) (stored : ℕ) (x : List ℕ) (sized : length x ≡ IMAGE_SIZE) (s : ℕ) (found : IsFound j (Some s) stored x) where
   abbrev c : List ℕ
   c = shut (Some s) x
 
@@ -57,7 +59,7 @@ module _ (j : Notes) (ok : IsNotes j) (stored : ℕ) (x : List ℕ) (sized : len
 
   not_it : 0 < j.kept → j.index ≢ s
   not_it some same =
-      let date : number_at (entry_at day_ring x j.index) 0 4 ≡ 86400 * (j.kept / 1440) = number_in x (slot_place j.index) 5776 0 4 (omega arith) ∙ ap (λ (q : ℕ). number_at x q 4) (omega arith) ∙ (day_found some).date in
+      let date : number_at (entry_at day_ring x j.index) 0 4 ≡ 86400 * (j.kept / 1440) = number_in x (slot_place j.index) DAY_SLOT_SIZE 0 4 (omega arith) ∙ ap (λ (q : ℕ). number_at x q 4) (omega arith) ∙ (day_found some).date in
       absurd (omega (arith, ap (λ (n : ℕ). number_at (entry_at day_ring x n) 0 4) same, date, stray.later))
 
   others : (some : 0 < j.kept) → Each (λ n. n ≢ s) ((found.newest some).0 ++ j.index ∷ [])
@@ -83,7 +85,7 @@ module _ (j : Notes) (ok : IsNotes j) (stored : ℕ) (x : List ℕ) (sized : len
             days = day.days;
             earlier = subst (Each (λ d. day_of d < j.kept / 1440)) (sym (shut_days x sized s stray.below js (each_apart x s (j.kept / 1440) js day.earlier stray.later))) day.earlier;
             date = ap (λ (q : ℕ). number_at c q 4) (omega arith) ∙ date ∙ ap (λ (q : ℕ). number_at x q 4) (omega arith) ∙ day.date;
-            count = entry_number x c j.index same 8 2 (lit≤ tt) ∙ day.count;
+            count = entry_number x c j.index same DAY_COUNT.place DAY_COUNT.size (lit≤ tt) ∙ day.count;
             cut = day.cut;
             stored_few = day.stored_few;
             low = subst (Each (λ w. Rattle.unit_model.specs.Days.word_minute w ≤ j.kept % 1440)) (sym (words_same same)) day.low;
@@ -121,7 +123,7 @@ module _ (j : Notes) (ok : IsNotes j) (stored : ℕ) (x : List ℕ) (sized : len
       gone js is away = sym (ap (days_kept j.kept) (shut_unit_days x sized s stray.below js is away) ∙ kept_later j.kept (unit_days c) (day_at x s) stray.later)
 
   later_date : last_kept x / 1440 < slot_date x s / 86400
-  later_date = omega (arith, found.kept, stray.later, number_in x (slot_place s) 5776 0 4 (omega arith), ap (λ (q : ℕ). number_at x q 4) (add-zero (slot_place s)))
+  later_date = omega (arith, found.kept, stray.later, number_in x (slot_place s) DAY_SLOT_SIZE 0 4 (omega arith), ap (λ (q : ℕ). number_at x q 4) (add-zero (slot_place s)))
 
   last_stays : is_last_good c s (indices c) ≡ true
   last_stays = elim (Rattle.std.proofs.lemmas.Bool.cases_lt 0 j.kept) as (λ v. is_last_good c s (indices c) ≡ true) [
@@ -145,12 +147,12 @@ found_mendable (Some x) j found = inl found
 -- one mending step on the days: what it leaves alone, and which days there are then
 record IsDayStep (j : Notes) (x y : List ℕ) : Type 0 where
   good : IsGood x → IsGood y
-  outside : SameOutside 1028 2114016 x y
+  outside : SameOutside (slot_place 0) (DAYS.size - 4) x y
   minutes : recorded y ≡ recorded x
   days : days_kept j.kept (unit_days y) ≡ days_kept j.kept (unit_days x)
 
 no_step : (j : Notes) (x : List ℕ) → IsDayStep j x x
-no_step j x = record { good = λ good. good; outside = outside_same 1028 2114016 x; minutes = refl; days = refl }
+no_step j x = record { good = λ good. good; outside = outside_same (slot_place 0) (DAYS.size - 4) x; minutes = refl; days = refl }
 
 -- what is so once no later day is there; its count is the stored one or is cut already
 record IsShut (j : Notes) (stray : Option ℕ) (x y : List ℕ) : Type 0 where
@@ -165,13 +167,13 @@ abbrev MendableBy : Notes → Option ℕ → List ℕ → Type 0
 MendableBy j stray x = IsFound j stray j.stored x ⊎ (IsGateShut stray x × (IsFound j None j.stored x ⊎ IsFound j None j.count x))
 
 -- a gate that is shut already stays so
-shut_same_image : (stray : Option ℕ) (x : List ℕ) → length x ≡ 2485808 → ForSome stray (λ s. s < 366) → IsGateShut stray x → shut stray x ≡ x
+shut_same_image : (stray : Option ℕ) (x : List ℕ) → length x ≡ IMAGE_SIZE → ForSome stray (λ s. s < DAY_SLOTS) → IsGateShut stray x → shut stray x ≡ x
 shut_same_image None x sized below gate = refl
 shut_same_image (Some s) x sized below gate =
-    let small : s < 366 = below s refl in
+    let small : s < DAY_SLOTS = below s refl in
     ap (λ (b : List ℕ). put (slot_place s) b x) (sym gate) ∙ put_same (slot_place s) 4 x (omega (arith, small, sized))
 
-shut_is : (j : Notes) (ok : IsNotes j) (stray : Option ℕ) (x : List ℕ) → length x ≡ 2485808 → ForSome stray (λ s. s < 366) → MendableBy j stray x → IsShut j stray x (shut stray x)
+shut_is : (j : Notes) (ok : IsNotes j) (stray : Option ℕ) (x : List ℕ) → length x ≡ IMAGE_SIZE → ForSome stray (λ s. s < DAY_SLOTS) → MendableBy j stray x → IsShut j stray x (shut stray x)
 shut_is j ok None x sized below (inl found) = record { step = no_step j x; gate = tt; stored = j.stored; stored_is = inl refl; found = found }
 shut_is j ok (Some s) x sized below (inl found) =
     let at = found.apart.below in
@@ -215,15 +217,15 @@ agrees_mended j z agrees = record {
 -- the days after both steps
 record IsTrimmed (j : Notes) (x z : List ℕ) : Type 0 where
   good : IsGood x → IsGood z
-  outside : SameOutside 1028 2114016 x z
+  outside : SameOutside (slot_place 0) (DAYS.size - 4) x z
   minutes : recorded z ≡ recorded x
   days : unit_days z ≡ days_kept j.kept (unit_days x)
   gate : IsGateShut j.stray z
   agrees : Agrees j z
 
 -- the count is cut where there is a minute
-module _ (j : Notes) (ok : IsNotes j) (x : List ℕ) (sized : length x ≡ 2485808) (y : List ℕ) (shut_at : IsShut j j.stray x y) where
-  y_sized : length y ≡ 2485808
+module _ (j : Notes) (ok : IsNotes j) (x : List ℕ) (sized : length x ≡ IMAGE_SIZE) (y : List ℕ) (shut_at : IsShut j j.stray x y) where
+  y_sized : length y ≡ IMAGE_SIZE
   y_sized = shut_at.step.outside.same_length ∙ sized
 
   gate_cut : (c : List ℕ) → ((s : ℕ) → bytes_at c (slot_place s) 4 ≡ bytes_at y (slot_place s) 4) → (stray : Option ℕ) → IsGateShut stray y → IsGateShut stray c
@@ -232,30 +234,26 @@ module _ (j : Notes) (ok : IsNotes j) (x : List ℕ) (sized : length x ≡ 24858
 
   trim_cut : 0 < j.kept → IsTrimmed j x (with_count j.index j.count y)
   trim_cut some =
-      let f = shut_at.found in
-      let day = f.newest some in
       let c = with_count j.index j.count y in
       record {
-        good = λ good. cut_still j ok shut_at.stored y day.0 y_sized f.kept f.odometer f.pointer some day.1 (shut_at.step.good good);
-        outside = outside_then 1028 2114016 x y c shut_at.step.outside (cut_outside j ok shut_at.stored y day.0 y_sized f.kept f.odometer f.pointer some day.1);
-        minutes = cut_recorded j ok shut_at.stored y day.0 y_sized f.kept f.odometer f.pointer some day.1 ∙ shut_at.step.minutes;
-        days = cut_days j ok shut_at.stored y day.0 y_sized f.kept f.odometer f.pointer some day.1 ∙ shut_at.step.days;
-        gate = gate_cut c (cut_gate j ok shut_at.stored y day.0 y_sized f.kept f.odometer f.pointer some day.1) j.stray shut_at.gate;
-        agrees = cut_agrees j ok shut_at.stored y day.0 y_sized f.kept f.odometer f.pointer some day.1;
+        good = λ good. cut_still j ok shut_at.stored y y_sized shut_at.found some (shut_at.step.good good);
+        outside = outside_then (slot_place 0) (DAYS.size - 4) x y c shut_at.step.outside (cut_outside j ok shut_at.stored y y_sized shut_at.found some);
+        minutes = cut_recorded j ok shut_at.stored y y_sized shut_at.found some ∙ shut_at.step.minutes;
+        days = cut_days j ok shut_at.stored y y_sized shut_at.found some ∙ shut_at.step.days;
+        gate = gate_cut c (cut_gate j ok shut_at.stored y y_sized shut_at.found some) j.stray shut_at.gate;
+        agrees = cut_agrees j ok shut_at.stored y y_sized shut_at.found some;
       }
 
   trim_uncut : 0 < j.kept → j.stored ≡ j.count → IsTrimmed j x y
   trim_uncut some same =
-      let f = shut_at.found in
-      let day = f.newest some in
       let is : shut_at.stored ≡ j.count = ⊎_elim (λ stored. stored ∙ same) (λ cut. cut) shut_at.stored_is in
       record {
         good = shut_at.step.good;
         outside = shut_at.step.outside;
         minutes = shut_at.step.minutes;
-        days = uncut_days j ok shut_at.stored y day.0 y_sized f.kept f.odometer f.pointer some day.1 is ∙ shut_at.step.days;
+        days = uncut_days j ok shut_at.stored y y_sized shut_at.found some is ∙ shut_at.step.days;
         gate = shut_at.gate;
-        agrees = uncut_agrees j ok shut_at.stored y day.0 y_sized f.kept f.odometer f.pointer some day.1 is;
+        agrees = uncut_agrees j ok shut_at.stored y y_sized shut_at.found some is;
       }
 
   trim_none : j.kept ≡ 0 → IsTrimmed j x y
@@ -284,13 +282,13 @@ kept_or now kept before is = by (nat_lt kept before) is
     by false is = inr is
 
 -- a `mend` from its first cell to the count
-module _ (j : Notes) (ok : IsNotes j) (x : List ℕ) (sized : length x ≡ 2485808) (mendable : IsMendable j x) where
+module _ (j : Notes) (ok : IsNotes j) (x : List ℕ) (sized : length x ≡ IMAGE_SIZE) (mendable : IsMendable j x) where
   kept_is : IsMendable j x → last_kept x ≡ j.kept
   kept_is (inl found) = found.kept
   kept_is (inr (gate, inl found)) = found.kept
   kept_is (inr (gate, inr found)) = found.kept
 
-  known_is : IsMendable j x → pointer day_ring x < 366
+  known_is : IsMendable j x → pointer day_ring x < DAY_SLOTS
   known_is (inl found) = found.pointer
   known_is (inr (gate, inl found)) = found.pointer
   known_is (inr (gate, inr found)) = found.pointer
@@ -303,7 +301,7 @@ module _ (j : Notes) (ok : IsNotes j) (x : List ℕ) (sized : length x ≡ 24858
   cells n le = emptied j.kept x sized n le
 
   cells_beside : (n : ℕ) → n ≤ 32 → SameJournal x (at n)
-  cells_beside n le = beside 624 384 x (at n) (inr (inl (omega arith, omega arith))) (cells n le).outside
+  cells_beside n le = beside OWED.place OWED.size x (at n) (inr (inl (omega arith, omega arith))) (cells n le).outside
 
   cell_as : (kept m before now : ℕ) → kept ≡ m → now ≡ minute_kept m before → now ≡ minute_kept kept before
   cell_as kept m before now same is = is ∙ ap (λ (k : ℕ). minute_kept k before) (sym same)
@@ -334,7 +332,7 @@ module _ (j : Notes) (ok : IsNotes j) (x : List ℕ) (sized : length x ≡ 24858
   emptied_all : IsEmptied j.kept x sized 32 all
   emptied_all = cells 32 (omega arith)
 
-  all_sized : length all ≡ 2485808
+  all_sized : length all ≡ IMAGE_SIZE
   all_sized = emptied_all.outside.same_length ∙ sized
 
   all_mending : IsMending j x all
@@ -344,22 +342,22 @@ module _ (j : Notes) (ok : IsNotes j) (x : List ℕ) (sized : length x ≡ 24858
   all_days_same = days_beside x all (cells_beside 32 (omega arith)) (known_is mendable)
 
   -- a step on the days leaves the rows alone
-  cells_done : (c : List ℕ) → SameOutside 1028 2114016 all c → (n : ℕ) → n < 32 → cell_minute c n ≡ minute_kept (last_kept x) (cell_minute x n)
-  cells_done c same n below = number_before 1028 2114016 (cell_place n) 4 all c same (omega arith) ∙ cell_as (last_kept x) j.kept (cell_minute x n) (cell_minute all n) (kept_is mendable) (emptied_all.done n below)
+  cells_done : (c : List ℕ) → SameOutside (slot_place 0) (DAYS.size - 4) all c → (n : ℕ) → n < 32 → cell_minute c n ≡ minute_kept (last_kept x) (cell_minute x n)
+  cells_done c same n below = number_before (slot_place 0) (DAYS.size - 4) (cell_place n) 4 all c same (omega arith) ∙ cell_as (last_kept x) j.kept (cell_minute x n) (cell_minute all n) (kept_is mendable) (emptied_all.done n below)
 
-  rows_then : (c : List ℕ) → SameOutside 1028 2114016 all c → SameButMinutes x c
+  rows_then : (c : List ℕ) → SameOutside (slot_place 0) (DAYS.size - 4) all c → SameButMinutes x c
   rows_then c same = record {
-    heads = λ r below. part_before 1028 2114016 (624 + r * 48) 24 all c same (omega (arith, below)) ∙ emptied_all.heads r;
-    words = λ m below. number_before 1028 2114016 (cell_place m + 4) 2 all c same (omega arith) ∙ emptied_all.words m;
+    heads = λ r below. part_before (slot_place 0) (DAYS.size - 4) (OWED.place + r * OWED_ROW_SIZE) 24 all c same (omega (arith, below)) ∙ emptied_all.heads r;
+    words = λ m below. number_before (slot_place 0) (DAYS.size - 4) (cell_place m + 4) 2 all c same (omega arith) ∙ emptied_all.words m;
   }
 
-  outside_then_days : (c : List ℕ) → SameOutside 1028 2114016 all c → SameButRowsAndSlots x c
+  outside_then_days : (c : List ℕ) → SameOutside (slot_place 0) (DAYS.size - 4) all c → SameButRowsAndSlots x c
   outside_then_days c same = outside_both x all c (rows_outside x all emptied_all.outside) (slots_outside all c same)
 
   decodes_then : (c : List ℕ) → (IsGood all → IsGood c) → Decodes x → Decodes c
   decodes_then c good decodes = good_decodes c (good (cells_good 32 (omega arith) (good_of x decodes)))
 
-  mending_then : (c : List ℕ) → SameOutside 1028 2114016 all c → (IsGood all → IsGood c) → recorded c ≡ recorded all → IsMendable j c → IsMending j x c
+  mending_then : (c : List ℕ) → SameOutside (slot_place 0) (DAYS.size - 4) all c → (IsGood all → IsGood c) → recorded c ≡ recorded all → IsMendable j c → IsMending j x c
   mending_then c same good minutes again = record {
     decodes = decodes_then c good;
     outside = outside_then_days c same;

@@ -11,10 +11,11 @@ use Rattle.tach_media.proofs.Images.{put_outside, part_before, part_after, part_
 use Rattle.gated_ring.specs.Ring.{indices as ring_indices, number_at, pointer, is_there, entry_at, next, order, taken}
 use Rattle.gated_ring.proofs.Orders as orders
 use Rattle.gated_ring.proofs.Orders.{without_last}
+use Rattle.unit_model.specs.declared.layout.TheConstants.{DAYS, DAY_COUNT, DAY_ODOMETER, DAY_SLOTS, DAY_SLOT_SIZE, DAY_WORDS, DAY_WORD_LIMIT, IMAGE_SIZE, LAST_KEPT, ODOMETER}
 use Rattle.unit_model.specs.Days.{word_minute, state_at, StoredDay, day_of, days_shown, Each}
 use Rattle.unit_model.specs.Image.{day_ring, slot_place, last_kept, odometer_at, unit_day, unit_days, recorded, indices, slot_words, words_at, slot_odometer}
 use Rattle.unit_model.specs.Writing.{free_place, with_count}
-use Rattle.unit_journal.specs.Image.{Notes, IsNotes, Agrees, IsFoundDay}
+use Rattle.unit_journal.specs.Image.{Notes, IsNotes, Agrees, IsFoundDay, IsFound}
 use Rattle.unit_model.specs.Days.{days_kept}
 use Rattle.unit_model.proofs.KeptDays.{kept_now}
 use Rattle.unit_model.proofs.Checks.{IsGood}
@@ -26,28 +27,28 @@ use Rattle.unit_model.proofs.Slots.{day_at, all_days, IsSlot, slot_days, same_in
 use Rattle.unit_model.proofs.Recorded.{recorded_is}
 
 -- a count that covers fewer words
-module _ (i : ℕ) (below : i < 366) (js : List ℕ) (others : Each (λ j. (j < 366) × (j ≢ i)) js) (older : List StoredDay) (p k date o n n' : ℕ) (few : n ≤ 2880) (fewer : n' ≤ n) (words words' : List ℕ) (x : List ℕ)
+module _ (i : ℕ) (below : i < DAY_SLOTS) (js : List ℕ) (others : Each (λ j. (j < DAY_SLOTS) × (j ≢ i)) js) (older : List StoredDay) (p k date o n n' : ℕ) (few : n ≤ DAY_WORD_LIMIT) (fewer : n' ≤ n) (words words' : List ℕ) (x : List ℕ)
     (slot : IsSlot i js older p k date o n words x) (front : slot_words x i n' ≡ words') where
-  count_same : SameOutside (slot_place i + 8) 2 x (with_count i n' x)
-  count_same = put_outside (slot_place i + 8) (to_be_bytes w16 n') x (omega (arith, below, slot.sized))
+  count_same : SameOutside (slot_place i + DAY_COUNT.place) DAY_COUNT.size x (with_count i n' x)
+  count_same = put_outside (slot_place i + DAY_COUNT.place) (to_be_bytes w16 n') x (omega (arith, below, slot.sized))
 
   pub slot_cut : IsSlot i js older p k date o n' words' (with_count i n' x)
   unfolding last_kept
   slot_cut =
-      let a = slot_place i + 8 in
+      let a = slot_place i + DAY_COUNT.place in
       let c = with_count i n' x in
       let but = in_slot i a 2 x c (omega arith) (omega arith) count_same in
       record {
         sized = count_same.same_length ∙ slot.sized;
         pointer_is = but.pointer_is ∙ slot.pointer_is;
-        kept = number_before a 2 564 4 x c count_same (omega arith) ∙ slot.kept;
+        kept = number_before a 2 LAST_KEPT.place LAST_KEPT.size x c count_same (omega arith) ∙ slot.kept;
         order_is = same_indices i x c but ∙ slot.order_is;
         next_is = same_taken i x c but ∙ slot.next_is;
         older_are = same_days i x c js but others ∙ slot.older_are;
         date_is = number_before a 2 (slot_place i) 4 x c count_same (omega arith) ∙ slot.date_is;
-        odometer_is = number_before a 2 (slot_place i + 4) 4 x c count_same (omega arith) ∙ slot.odometer_is;
+        odometer_is = number_before a 2 (slot_place i + DAY_ODOMETER.place) DAY_ODOMETER.size x c count_same (omega arith) ∙ slot.odometer_is;
         count_is = number_put2 a n' x (omega (arith, below, slot.sized)) (omega (arith, few, fewer));
-        words_are = words_after a 2 (slot_place i + 16) n' x c count_same (omega arith) ∙ front;
+        words_are = words_after a 2 (slot_place i + DAY_WORDS.place) n' x c count_same (omega arith) ∙ front;
       }
 
 each_into : (P : ℕ → Type 0) (js : List ℕ) → Each P js → orders.Each P js
@@ -76,7 +77,7 @@ filter_but s p q (j ∷ js) off same = by (filter_but s p q js off same) (j == s
         ap (λ (t : Bool). cond t (j ∷ filter q js) (filter q js)) (same j other) ∙ ap (λ (l : List ℕ). cond (p j) (j ∷ l) l) rest ∙ away (p j) isnt
 
 -- the gate of a slot is shut
-module _ (x : List ℕ) (sized : length x ≡ 2485808) (s : ℕ) (below : s < 366) where
+module _ (x : List ℕ) (sized : length x ≡ IMAGE_SIZE) (s : ℕ) (below : s < DAY_SLOTS) where
   abbrev c : List ℕ
   c = put (slot_place s) (replicate 4 0) x
 
@@ -84,7 +85,7 @@ module _ (x : List ℕ) (sized : length x ≡ 2485808) (s : ℕ) (below : s < 36
   gate_outside = put_outside (slot_place s) (replicate 4 0) x (omega (arith, below, sized))
 
   pub shut_pointer : pointer day_ring c ≡ pointer day_ring x
-  shut_pointer = number_before (slot_place s) 4 1024 4 x c gate_outside (omega arith)
+  shut_pointer = number_before (slot_place s) 4 DAYS.place 4 x c gate_outside (omega arith)
 
   pub shut_gate : is_there day_ring c s ≡ false
   shut_gate = ap (λ (n : ℕ). not (number_at c n 4 == 0)) (omega arith) ∙ ap (λ (b : List ℕ). not (big_number 4 b == 0)) (part_put (slot_place s) (replicate 4 0) x (omega (arith, below, sized)))
@@ -97,23 +98,23 @@ module _ (x : List ℕ) (sized : length x ≡ 2485808) (s : ℕ) (below : s < 36
 
   pub other_entry : (j : ℕ) → j ≢ s → entry_at day_ring c j ≡ entry_at day_ring x j
   other_entry j other = ⊎_elim
-      (λ less. part_before (slot_place s) 4 (slot_place j) 5776 x c gate_outside (omega (arith, less)))
-      (λ more. let greater : s < j = omega (arith, more, other) in part_after (slot_place s) 4 (slot_place j) 5776 x c gate_outside (omega (arith, greater)))
+      (λ less. part_before (slot_place s) 4 (slot_place j) DAY_SLOT_SIZE x c gate_outside (omega (arith, less)))
+      (λ more. let greater : s < j = omega (arith, more, other) in part_after (slot_place s) 4 (slot_place j) DAY_SLOT_SIZE x c gate_outside (omega (arith, greater)))
       (cases_lt j s)
 
-  pub shut_outside : SameOutside 1028 2114016 x c
-  shut_outside = outside_wider 1028 2114016 (slot_place s) 4 x c gate_outside (omega arith) (omega (arith, below))
+  pub shut_outside : SameOutside (slot_place 0) (DAYS.size - 4) x c
+  shut_outside = outside_wider (slot_place 0) (DAYS.size - 4) (slot_place s) 4 x c gate_outside (omega arith) (omega (arith, below))
 
   pub shut_bytes : bytes_at c (slot_place s) 4 ≡ replicate 4 0
   shut_bytes = part_put (slot_place s) (replicate 4 0) x (omega (arith, below, sized))
 
   pub shut_kept : last_kept c ≡ last_kept x
   unfolding last_kept
-  shut_kept = number_before (slot_place s) 4 564 4 x c gate_outside (omega arith)
+  shut_kept = number_before (slot_place s) 4 LAST_KEPT.place LAST_KEPT.size x c gate_outside (omega arith)
 
   pub shut_odometer : odometer_at c ≡ odometer_at x
   unfolding odometer_at
-  shut_odometer = number_before (slot_place s) 4 568 4 x c gate_outside (omega arith)
+  shut_odometer = number_before (slot_place s) 4 ODOMETER.place ODOMETER.size x c gate_outside (omega arith)
 
   pub shut_indices : (js : List ℕ) → indices x ≡ js ++ s ∷ [] → Each (λ j. j ≢ s) js → indices c ≡ js
   unfolding indices ring_indices
@@ -146,8 +147,13 @@ module _ (x : List ℕ) (sized : length x ≡ 2485808) (s : ℕ) (below : s < 36
       ap (λ (b : Bool). cond b (next day_ring (pointer day_ring c)) (pointer day_ring c)) off ∙ here
 
 -- the day that was found, with all its words, is one with its count cut
-module _ (j : Notes) (ok : IsNotes j) (stored : ℕ) (x js : List ℕ) (sized : length x ≡ 2485808) (kept : last_kept x ≡ j.kept) (odometer : odometer_at x ≡ j.odometer) (known : pointer day_ring x < 366) (some : 0 < j.kept)
-    (found : IsFoundDay j None stored x js) where
+module _ (j : Notes) (ok : IsNotes j) (stored : ℕ) (x : List ℕ) (sized : length x ≡ IMAGE_SIZE) (all : IsFound j None stored x) (some : 0 < j.kept) where
+  abbrev js : List ℕ
+  js = (all.newest some).0
+
+  found : IsFoundDay j None stored x js
+  found = (all.newest some).1
+
   abbrev i : ℕ
   i = j.index
 
@@ -170,13 +176,13 @@ module _ (j : Notes) (ok : IsNotes j) (stored : ℕ) (x js : List ℕ) (sized : 
   late = words_at x (free_place i n) (stored - n)
 
   all_words : slot_words x i stored ≡ words ++ late
-  all_words = let whole : n + (stored - n) ≡ stored = omega (arith, found.cut) in ap (slot_words x i) (sym whole) ∙ words_split x (slot_place i + 16) n (stored - n)
+  all_words = let whole : n + (stored - n) ≡ stored = omega (arith, found.cut) in ap (slot_words x i) (sym whole) ∙ words_split x (slot_place i + DAY_WORDS.place) n (stored - n)
 
   date_day : date / 86400 ≡ j.kept / 1440
   date_day = omega arith
 
   slot : IsSlot i js older (pointer day_ring x) j.kept date o stored (words ++ late) x
-  slot = record { sized = sized; pointer_is = refl; kept = kept; order_is = found.order_is ∙ append-nil (js ++ i ∷ []); next_is = found.next_is; older_are = refl; date_is = found.date; odometer_is = refl; count_is = found.count; words_are = all_words }
+  slot = record { sized = sized; pointer_is = refl; kept = all.kept; order_is = found.order_is ∙ append-nil (js ++ i ∷ []); next_is = found.next_is; older_are = refl; date_is = found.date; odometer_is = refl; count_is = found.count; words_are = all_words }
 
   abbrev y : List ℕ
   y = with_count i n x
@@ -184,14 +190,14 @@ module _ (j : Notes) (ok : IsNotes j) (stored : ℕ) (x js : List ℕ) (sized : 
   cut : IsSlot i js older (pointer day_ring x) j.kept date o n words y
   cut = slot_cut i ok.index js found.others older (pointer day_ring x) j.kept date o stored n found.stored_few found.cut (words ++ late) words x slot refl
 
-  few : n ≤ 2880
+  few : n ≤ DAY_WORD_LIMIT
   few = omega (arith, found.cut, found.stored_few)
 
-  cut_same : SameOutside (slot_place i + 8) 2 x y
-  cut_same = put_outside (slot_place i + 8) (to_be_bytes w16 n) x (omega (arith, ok.index, sized))
+  cut_same : SameOutside (slot_place i + DAY_COUNT.place) DAY_COUNT.size x y
+  cut_same = put_outside (slot_place i + DAY_COUNT.place) (to_be_bytes w16 n) x (omega (arith, ok.index, sized))
 
-  pub cut_outside : SameOutside 1028 2114016 x y
-  cut_outside = outside_wider 1028 2114016 (slot_place i + 8) 2 x y cut_same (omega arith) (omega (arith, ok.index))
+  pub cut_outside : SameOutside (slot_place 0) (DAYS.size - 4) x y
+  cut_outside = outside_wider (slot_place 0) (DAYS.size - 4) (slot_place i + DAY_COUNT.place) DAY_COUNT.size x y cut_same (omega arith) (omega (arith, ok.index))
 
   pub cut_still : IsGood x → IsGood y
   cut_still = cut_good x y i ok.index cut_same stored n (j.kept % 1440) found.cut found.count cut.count_is found.late
@@ -199,8 +205,8 @@ module _ (j : Notes) (ok : IsNotes j) (stored : ℕ) (x js : List ℕ) (sized : 
   -- the count's bytes are no gate's
   pub cut_gate : (s : ℕ) → bytes_at y (slot_place s) 4 ≡ bytes_at x (slot_place s) 4
   cut_gate s = ⊎_elim
-      (λ less. part_after (slot_place i + 8) 2 (slot_place s) 4 x y cut_same (omega (arith, less)))
-      (λ more. part_before (slot_place i + 8) 2 (slot_place s) 4 x y cut_same (omega (arith, more)))
+      (λ less. part_after (slot_place i + DAY_COUNT.place) DAY_COUNT.size (slot_place s) 4 x y cut_same (omega (arith, less)))
+      (λ more. part_before (slot_place i + DAY_COUNT.place) DAY_COUNT.size (slot_place s) 4 x y cut_same (omega (arith, more)))
       (cases_lt i s)
 
   -- the days with all their words, and with those that are not later
@@ -217,14 +223,14 @@ module _ (j : Notes) (ok : IsNotes j) (stored : ℕ) (x js : List ℕ) (sized : 
   cut_recorded =
       recorded_is y j.kept cut.kept ∙ ap (days_shown j.kept) (slot_days i ok.index js found.others older (pointer day_ring x) j.kept date o n few words y cut)
       ∙ sym (words_later j.kept older date o words late date_day found.late)
-      ∙ sym (recorded_is x j.kept kept ∙ ap (days_shown j.kept) (slot_days i ok.index js found.others older (pointer day_ring x) j.kept date o stored found.stored_few (words ++ late) x slot))
+      ∙ sym (recorded_is x j.kept all.kept ∙ ap (days_shown j.kept) (slot_days i ok.index js found.others older (pointer day_ring x) j.kept date o stored found.stored_few (words ++ late) x slot))
 
   pub cut_agrees : Agrees j y
   unfolding odometer_at
   cut_agrees = record {
     kept = cut.kept;
-    odometer = number_before (slot_place i + 8) 2 568 4 x y cut_same (omega arith) ∙ odometer;
-    pointer = omega (arith, cut.pointer_is, known);
+    odometer = number_before (slot_place i + DAY_COUNT.place) DAY_COUNT.size ODOMETER.place ODOMETER.size x y cut_same (omega arith) ∙ all.odometer;
+    pointer = omega (arith, cut.pointer_is, all.pointer);
     none = λ zero_kept. absurd (omega (arith, some, zero_kept));
     newest = λ any. (
       js,
@@ -248,14 +254,14 @@ module _ (j : Notes) (ok : IsNotes j) (stored : ℕ) (x js : List ℕ) (sized : 
   -- where nothing is to be cut
   pub uncut_days : stored ≡ n → unit_days x ≡ days_kept j.kept (unit_days x)
   uncut_days is =
-      slot_days i ok.index js found.others older (pointer day_ring x) j.kept date o n few words x (record { sized = sized; pointer_is = refl; kept = kept; order_is = slot.order_is; next_is = slot.next_is; older_are = refl; date_is = found.date; odometer_is = refl; count_is = found.count ∙ is; words_are = refl })
+      slot_days i ok.index js found.others older (pointer day_ring x) j.kept date o n few words x (record { sized = sized; pointer_is = refl; kept = all.kept; order_is = slot.order_is; next_is = slot.next_is; older_are = refl; date_is = found.date; odometer_is = refl; count_is = found.count ∙ is; words_are = refl })
       ∙ sym kept_days_are
 
   pub uncut_agrees : stored ≡ n → Agrees j x
   uncut_agrees is = record {
-    kept = kept;
-    odometer = odometer;
-    pointer = known;
+    kept = all.kept;
+    odometer = all.odometer;
+    pointer = all.pointer;
     none = λ zero_kept. absurd (omega (arith, some, zero_kept));
     newest = λ any. (
       js,

@@ -3,6 +3,7 @@ use Rattle.std.proofs.Common.{◌≡◌, ℕ, ◌+◌, ◌*◌, ◌/◌, ◌%◌
 use Rattle.std.specs.Prelude.{◌==◌, ◌&&◌, nat_le, slice_get}
 use Rattle.std.proofs.lemmas.Bool.Decides.{nat_tests}
 use Rattle.std.proofs.lemmas.Option.{slice_get-map}
+use Rattle.unit_model.specs.declared.layout.TheConstants.{DAY_WORD_LIMIT}
 use Rattle.unit_model.specs.Days.{word_slot, word_state, word_minute, state_by, state_after, state_at, bare, UnitMinute, minute_by, Day, minute_at, minutes_shown, day_shown}
 use Rattle.unit_model.specs.Image.{last_kept, recorded, slot_date, slot_odometer, slot_count, slot_words}
 use Rattle.unit_journal.specs.Image.{Notes, IsNotes}
@@ -29,7 +30,7 @@ state_without slot t last s (w ∷ ws) le = by (state_without slot t last s ws l
         let off : nat_le (word_minute w) t ≡ false = grind (arith, nat_tests, is) in
         here ∙ sym (ap (λ (e : ℕ). state_after slot t e ws) (ap (λ (b : Bool). cond ((word_slot w == slot) && b) (word_state w) s) off ∙ no_state (word_slot w == slot)))
 
-module _ (x : List ℕ) (i : ℕ) (few : slot_count x i ≤ 2880) where
+module _ (x : List ℕ) (i : ℕ) (few : slot_count x i ≤ DAY_WORD_LIMIT) where
   abbrev k : ℕ
   k = last_kept x
 
@@ -43,7 +44,7 @@ module _ (x : List ℕ) (i : ℕ) (few : slot_count x i ≤ 2880) where
   all = slot_words x i (slot_count x i)
 
   covered : covered_words x i ≡ all
-  covered = ap (slot_words x i) (let e : min (slot_count x i) 2880 ≡ slot_count x i = omega (arith, few) in e)
+  covered = ap (slot_words x i) (let e : min (slot_count x i) DAY_WORD_LIMIT ≡ slot_count x i = omega (arith, few) in e)
 
   abbrev Shows : Bool → Type 0
   Shows b = day_shown k (record { date = date; odometer = o; words = all }) ≡ day_shown k (record { date = date; odometer = o; words = cond b (filter (λ w. nat_le (word_minute w) (k % 1440)) all) all })
@@ -65,7 +66,7 @@ module _ (x : List ℕ) (i : ℕ) (few : slot_count x i ≤ 2880) where
       ∙ ap (λ (l : List ℕ). day_shown k (record { date = date; odometer = o; words = cond (date / 86400 == k / 1440) (filter (λ w. nat_le (word_minute w) (k % 1440)) l) l })) (sym covered)
 
 -- the n-th recorded day, by its recorded words
-pub recorded_at : (x : List ℕ) (n i : ℕ) → slice_get (recorded_indices x) n ≡ Some i → slot_count x i ≤ 2880
+pub recorded_at : (x : List ℕ) (n i : ℕ) → slice_get (recorded_indices x) n ≡ Some i → slot_count x i ≤ DAY_WORD_LIMIT
     → slice_get (recorded x) n ≡ Some (day_shown (last_kept x) (record { date = slot_date x i; odometer = slot_odometer x i; words = recorded_words x i }))
 recorded_at x n i is few =
     ap (λ (l : List Day). slice_get l n) (recorded_are x) ∙ slice_get-map (λ i. day_shown (last_kept x) (day_at x i)) (recorded_indices x) n

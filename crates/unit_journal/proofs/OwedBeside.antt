@@ -5,14 +5,15 @@ use Rattle.owed_model.specs.Owed.{rows_in}
 use Rattle.owed_model.specs.Rows.{HasRow, IsRowBegun}
 use Rattle.owed_model.proofs.Taking.{begun_is}
 use Rattle.unit_journal.specs.Image.{Notes, Agrees}
+use Rattle.unit_model.specs.declared.layout.TheConstants.{OWED}
 use Rattle.unit_journal.proofs.Beside.{beside, agrees_beside}
 
 pub still_agrees : (j : Notes) (o p : Option (List ℕ)) (f : List ℕ → List ℕ) (R : List ℕ → List ℕ → Type 0) → p ≡ option_map f o → IfSome o (Agrees j) → IfSome o (λ x. IfSome p (R x))
-    → ((x y : List ℕ) → R x y → SameOutside 624 384 x y) → IfSome p (Agrees j)
+    → ((x y : List ℕ) → R x y → SameOutside OWED.place OWED.size x y) → IfSome p (Agrees j)
 still_agrees j None p f R is agrees said outside = subst (λ (q : Option (List ℕ)). IfSome q (Agrees j)) (sym is) tt
 still_agrees j (Some x) p f R is agrees said outside =
     let here : R x (f x) = subst (λ (q : Option (List ℕ)). IfSome q (R x)) is said in
-    subst (λ (q : Option (List ℕ)). IfSome q (Agrees j)) (sym is) (agrees_beside x (f x) (beside 624 384 x (f x) (inr (inl (omega arith, omega arith))) (outside x (f x) here)) j agrees)
+    subst (λ (q : Option (List ℕ)). IfSome q (Agrees j)) (sym is) (agrees_beside x (f x) (beside OWED.place OWED.size x (f x) (inr (inl (omega arith, omega arith))) (outside x (f x) here)) j agrees)
 
 -- what holds of the image after a call, by what the call says
 pub told_after : (o p : Option (List ℕ)) (A : List ℕ → Type 0) (R : List ℕ → List ℕ → Type 0) (H : List ℕ → Type 0) → is_some p ≡ is_some o → IfSome o A → IfSome o (λ x. IfSome p (R x))

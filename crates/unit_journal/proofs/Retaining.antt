@@ -1,11 +1,12 @@
 -- What a unit retains of all days at each moment of a `keep`.
 use Rattle.std.proofs.Common.{◌≡◌, ◌⊎◌, inl, inr, ⊎_elim, ℕ, ◌≤◌, List, [], ◌∷◌, length, take, sym, ◌∙◌, subst, arith}
 use Rattle.std.specs.Prelude.{Contains}
+use Rattle.unit_model.specs.declared.layout.TheConstants.{DAY_SLOTS}
 use Rattle.unit_model.specs.Days.{UnitMinute, Day, filled, newest_of, minutes_of, Each}
 use Rattle.unit_model.specs.Image.{recorded}
 use Rattle.unit_model.specs.Retention.{UnitRetains}
 use Rattle.unit_model.proofs.Retention.{begins_one, retains_more, given_retains, kept_retains, filled_further, kept_holds, given_holds}
-use Rattle.unit_journal.specs.Image.{IsKeeping, IsBeforeMark, IsBehindMark, IsGivenUp}
+use Rattle.unit_journal.specs.Keeping.{IsKeeping, IsBeforeMark, IsBehindMark, IsGivenUp}
 
 -- with the oldest of 366 days gone there is room for a further one
 pub given_further : (k : UnitMinute) (x c : List ℕ) → IsGivenUp k x c → length (filled (recorded x) k) ≡ 367
@@ -26,7 +27,7 @@ keeping_retains all lost k odometer x c retains low keeping = by keeping.side
     by (inr behind) = inr (inl (behind.minutes ∙ kept_retains all lost (recorded x) k retains low))
 
 -- a recorded minute is still recorded, but where its day was the first of 366 and a further one is begun
-pub still_held : (m k : UnitMinute) (odometer : ℕ) (x c : List ℕ) → length (recorded x) ≤ 366 → IsKeeping k odometer x c → Contains (minutes_of (recorded x)) m
+pub still_held : (m k : UnitMinute) (odometer : ℕ) (x c : List ℕ) → length (recorded x) ≤ DAY_SLOTS → IsKeeping k odometer x c → Contains (minutes_of (recorded x)) m
     → Contains (minutes_of (recorded c)) m ⊎ ((length (filled (recorded x) k) ≡ 367) × Contains (minutes_of (take 1 (recorded x))) m)
 still_held m k odometer x c few keeping has = by keeping.side
   where
@@ -36,6 +37,6 @@ still_held m k odometer x c few keeping has = by keeping.side
     by : IsBeforeMark k odometer x c ⊎ IsBehindMark k odometer x c → Contains (minutes_of (recorded c)) m ⊎ ((length (filled (recorded x) k) ≡ 367) × Contains (minutes_of (take 1 (recorded x))) m)
     by (inl before) = ⊎_elim
         (λ same. inl (held_in (recorded x) same has))
-        (λ given. ⊎_elim (λ held. inl (held_in (newest_of 365 (recorded x)) given.newest held)) (λ first. inr (given_further k x c given, first)) (given_holds (recorded x) m given.full has))
+        (λ given. ⊎_elim (λ held. inl (held_in (newest_of (DAY_SLOTS - 1) (recorded x)) given.newest held)) (λ first. inr (given_further k x c given, first)) (given_holds (recorded x) m given.full has))
         before.minutes
-    by (inr behind) = ⊎_elim (λ held. inl (held_in (newest_of 366 (filled (recorded x) k)) behind.minutes held)) (λ first. inr first) (kept_holds (recorded x) k m few has)
+    by (inr behind) = ⊎_elim (λ held. inl (held_in (newest_of DAY_SLOTS (filled (recorded x) k)) behind.minutes held)) (λ first. inr first) (kept_holds (recorded x) k m few has)

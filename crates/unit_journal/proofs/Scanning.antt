@@ -2,6 +2,7 @@
 use Rattle.std.proofs.Common.{◌≡◌, ◌≢◌, ◌⊎◌, inl, inr, ⊎_elim, ℕ, zero, suc, ◌+◌, ◌-◌, ◌*◌, ◌/◌, ◌%◌, ◌<◌, ◌≤◌, Bool, true, false, cond, List, [], ◌∷◌, ◌++◌, length, refl, sym, ◌∙◌, ap, subst, arith, Option, Some, None, Result, Ok, Err, not, append_assoc, length-append, min}
 use Rattle.std.specs.Prelude.{◌==◌, ◌||◌, nat_le, nat_lt, IfSome}
 use Rattle.std.proofs.lemmas.Bool.Decides.{nat_tests}
+use Rattle.unit_model.specs.declared.layout.TheConstants.{DAY_WORDS}
 use Rattle.unit_model.specs.Days.{word_slot, word_minute, word_state, state_by, state_at, bare, Each}
 use Rattle.unit_model.specs.Decoding.{is_first_good}
 use Rattle.unit_memory.specs.Scans.{start, next_scan, driver_next, codriver_next, or_place, scan_from}
@@ -162,12 +163,12 @@ pub record IsScannedDay (kept i stored : ℕ) (s : Scan) (x : List ℕ) : Type 0
 pub scanned_day : (kept base i stored : ℕ) (s : Scan) (x : List ℕ) → scan_from kept base 0 start (slot_words x i stored) ≡ Ok s → IsScannedDay kept i stored s x
 scanned_day kept base i stored s x is =
     let all = scanned_all kept base (slot_words x i stored) s is in
-    let len : length (slot_words x i stored) ≡ stored = length-map-range_with_len (λ j. number_at x (slot_place i + 16 + 2 * j) 2) 0 stored in
+    let len : length (slot_words x i stored) ≡ stored = length-map-range_with_len (λ j. number_at x (slot_place i + DAY_WORDS.place + 2 * j) 2) 0 stored in
     let cut : s.count ≤ stored = omega (arith, len, ap length all.split, length-append all.low all.late, all.counted) in
     let whole : s.count + (stored - s.count) ≡ stored = omega (arith, cut) in
-    let front_length : length all.low ≡ length (slot_words x i s.count) = all.counted ∙ sym (length-map-range_with_len (λ j. number_at x (slot_place i + 16 + 2 * j) 2) 0 s.count) in
+    let front_length : length all.low ≡ length (slot_words x i s.count) = all.counted ∙ sym (length-map-range_with_len (λ j. number_at x (slot_place i + DAY_WORDS.place + 2 * j) 2) 0 s.count) in
     let parts = same_cut all.low all.late (slot_words x i s.count) (words_at x (free_place i s.count) (stored - s.count))
-    (sym all.split ∙ ap (slot_words x i) (sym whole) ∙ words_split x (slot_place i + 16) s.count (stored - s.count)) front_length in
+    (sym all.split ∙ ap (slot_words x i) (sym whole) ∙ words_split x (slot_place i + DAY_WORDS.place) s.count (stored - s.count)) front_length in
     record {
       cut = cut;
       low = subst (Each (λ w. word_minute w ≤ kept)) parts.0 all.all_low;

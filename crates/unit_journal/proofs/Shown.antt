@@ -11,6 +11,7 @@ use Rattle.std.proofs.lemmas.Option.{slice_get-get_or, slice_get_within, get_or_
 use Rattle.tach_media.specs.Medium.{bytes_at}
 use Rattle.gated_ring.specs.Ring.{number_at, entry_at}
 use Rattle.gated_ring.proofs.Orders.{filter_last, filter_none}
+use Rattle.unit_model.specs.declared.layout.TheConstants.{DAY_SLOTS, DAY_WORDS, DAY_WORD_LIMIT}
 use Rattle.unit_model.specs.Days.{day_of, word_minute, Each}
 use Rattle.unit_model.specs.Image.{last_kept, day_ring, slot_place, unit_day, slot_date, slot_count, slot_words, words_at}
 use Rattle.unit_journal.specs.Image.{Notes, IsNotes, Agrees, IsFound, IsFoundDay, IsStray}
@@ -68,24 +69,24 @@ each_map P Q [] weaker all = tt
 each_map P Q (x ∷ xs) weaker all = (weaker x all.0, each_map P Q xs weaker all.1)
 
 -- the indices behind one
-behind_get : (i m : ℕ) → i < 366 → m < 365 → slice_get (behind_index i) m ≡ Some ((i + 1 + m) % 366)
-behind_get i m below less = ⊎_elim near far (cases_lt m (365 - i))
+behind_get : (i m : ℕ) → i < DAY_SLOTS → m < DAY_SLOTS - 1 → slice_get (behind_index i) m ≡ Some ((i + 1 + m) % DAY_SLOTS)
+behind_get i m below less = ⊎_elim near far (cases_lt m (DAY_SLOTS - 1 - i))
   where
-    near : m < 365 - i → slice_get (range_with_len (i + 1) (366 - (i + 1)) ++ range_with_len 0 i) m ≡ Some ((i + 1 + m) % 366)
+    near : m < DAY_SLOTS - 1 - i → slice_get (range_with_len (i + 1) (DAY_SLOTS - (i + 1)) ++ range_with_len 0 i) m ≡ Some ((i + 1 + m) % DAY_SLOTS)
     near before =
-        get_front (range_with_len (i + 1) (366 - (i + 1))) (range_with_len 0 i) m (omega (arith, before, length-range_with_len (i + 1) (366 - (i + 1))))
-        ∙ get_range (i + 1) (366 - (i + 1)) m (omega (arith, before)) ∙ ap Some (let e : i + 1 + m ≡ (i + 1 + m) % 366 = omega (arith, before) in e)
+        get_front (range_with_len (i + 1) (DAY_SLOTS - (i + 1))) (range_with_len 0 i) m (omega (arith, before, length-range_with_len (i + 1) (DAY_SLOTS - (i + 1))))
+        ∙ get_range (i + 1) (DAY_SLOTS - (i + 1)) m (omega (arith, before)) ∙ ap Some (let e : i + 1 + m ≡ (i + 1 + m) % DAY_SLOTS = omega (arith, before) in e)
 
-    far : 365 - i ≤ m → slice_get (range_with_len (i + 1) (366 - (i + 1)) ++ range_with_len 0 i) m ≡ Some ((i + 1 + m) % 366)
+    far : DAY_SLOTS - 1 - i ≤ m → slice_get (range_with_len (i + 1) (DAY_SLOTS - (i + 1)) ++ range_with_len 0 i) m ≡ Some ((i + 1 + m) % DAY_SLOTS)
     far after =
-        let k = m - (365 - i) in
-        ap (slice_get (range_with_len (i + 1) (366 - (i + 1)) ++ range_with_len 0 i)) (let e : m ≡ length (range_with_len (i + 1) (366 - (i + 1))) + k = omega (arith, after, below, length-range_with_len (i + 1) (366 - (i + 1))) in e)
-        ∙ get_behind (range_with_len (i + 1) (366 - (i + 1))) (range_with_len 0 i) k
-        ∙ get_range 0 i k (omega (arith, after, less)) ∙ ap Some (let e : 0 + k ≡ (i + 1 + m) % 366 = omega (arith, after, less, below) in e)
+        let k = m - (DAY_SLOTS - 1 - i) in
+        ap (slice_get (range_with_len (i + 1) (DAY_SLOTS - (i + 1)) ++ range_with_len 0 i)) (let e : m ≡ length (range_with_len (i + 1) (DAY_SLOTS - (i + 1))) + k = omega (arith, after, below, length-range_with_len (i + 1) (DAY_SLOTS - (i + 1))) in e)
+        ∙ get_behind (range_with_len (i + 1) (DAY_SLOTS - (i + 1))) (range_with_len 0 i) k
+        ∙ get_range 0 i k (omega (arith, after, less)) ∙ ap Some (let e : 0 + k ≡ (i + 1 + m) % DAY_SLOTS = omega (arith, after, less, below) in e)
 
-older_get : (i missing n : ℕ) → i < 366 → missing + n < 365 → slice_get (drop missing (behind_index i)) n ≡ Some ((i + 1 + missing + n) % 366)
+older_get : (i missing n : ℕ) → i < DAY_SLOTS → missing + n < DAY_SLOTS - 1 → slice_get (drop missing (behind_index i)) n ≡ Some ((i + 1 + missing + n) % DAY_SLOTS)
 older_get i missing n below less =
-    get_drop missing (behind_index i) n ∙ behind_get i (missing + n) below less ∙ ap (λ (v : ℕ). Some (v % 366)) (let e : i + 1 + (missing + n) ≡ i + 1 + missing + n = omega arith in e)
+    get_drop missing (behind_index i) n ∙ behind_get i (missing + n) below less ∙ ap (λ (v : ℕ). Some (v % DAY_SLOTS)) (let e : i + 1 + (missing + n) ≡ i + 1 + missing + n = omega arith in e)
 
 -- What the notes say of the recorded days: where they stand, that the last one is the last-kept minute's, and which of its words count.
 pub record AreShown (j : Notes) (x : List ℕ) : Type 0 where
@@ -139,13 +140,13 @@ module _ (j : Notes) (ok : IsNotes j) (stray : Option ℕ) (stored : ℕ) (x : L
     older_is : older ≡ drop missing (behind_index j.index)
     older_is = day.dense.2
 
-    missing_is : missing + j.day_count ≡ 366
+    missing_is : missing + j.day_count ≡ DAY_SLOTS
     missing_is = omega (arith, day.days, ap length older_is, length-drop missing (behind_index j.index), behind_length j.index ok.index, day.dense.1)
 
     older_at : (n : ℕ) → n + 1 < j.day_count → slice_get older n ≡ Some (nth_index j n)
     older_at n less =
         ap (λ (l : List ℕ). slice_get l n) older_is ∙ older_get j.index missing n ok.index (omega (arith, less, missing_is))
-        ∙ ap (λ (v : ℕ). Some (v % 366)) (let e : j.index + 1 + missing + n ≡ j.index + 367 - j.day_count + n = omega (arith, missing_is) in e)
+        ∙ ap (λ (v : ℕ). Some (v % DAY_SLOTS)) (let e : j.index + 1 + missing + n ≡ j.index + 367 - j.day_count + n = omega (arith, missing_is) in e)
 
     last_is : nth_index j (j.day_count - 1) ≡ j.index
     last_is = omega (arith, day.days, ok.index, ok.day_count)
@@ -160,10 +161,10 @@ module _ (j : Notes) (ok : IsNotes j) (stray : Option ℕ) (stored : ℕ) (x : L
     words_some =
         let on : (slot_date x j.index / 86400 == last_kept x / 1440) ≡ true = same_true (slot_date x j.index / 86400) (last_kept x / 1440) (omega (arith, day.date, found.kept)) in
         let q = λ (w : ℕ). nat_le (word_minute w) (last_kept x % 1440) in
-        let stored_is : min (slot_count x j.index) 2880 ≡ j.count + (stored - j.count) = omega (arith, day.count, day.stored_few, day.cut) in
+        let stored_is : min (slot_count x j.index) DAY_WORD_LIMIT ≡ j.count + (stored - j.count) = omega (arith, day.count, day.stored_few, day.cut) in
         let rest = words_at x (free_place j.index j.count) (stored - j.count) in
         ap (λ (b : Bool). cond b (filter q (covered_words x j.index)) (covered_words x j.index)) on
-        ∙ ap (λ (n : ℕ). filter q (slot_words x j.index n)) stored_is ∙ ap (filter q) (words_split x (slot_place j.index + 16) j.count (stored - j.count))
+        ∙ ap (λ (n : ℕ). filter q (slot_words x j.index n)) stored_is ∙ ap (filter q) (words_split x (slot_place j.index + DAY_WORDS.place) j.count (stored - j.count))
         ∙ filter-append q (slot_words x j.index j.count) rest
         ∙ ap (λ (l : List ℕ). l ++ filter q rest) (filter_all q (slot_words x j.index j.count) (each_map (λ w. word_minute w ≤ j.kept % 1440) (λ w. q w ≡ true) (slot_words x j.index j.count)
         (λ w low. le_true (word_minute w) (last_kept x % 1440) (omega (arith, low, found.kept))) day.low))
@@ -225,7 +226,7 @@ shown j ok x right = ⊎_elim (λ found. shown_found j ok j.stray j.stored x fou
 
 -- how many words count
 pub last_words : (j : Notes) (x : List ℕ) → AreShown j x → 0 < j.day_count → length (recorded_words x j.index) ≡ j.count
-last_words j x s some = ap length (s.words some) ∙ length-map-range_with_len (λ k. number_at x (slot_place j.index + 16 + 2 * k) 2) 0 j.count
+last_words j x s some = ap length (s.words some) ∙ length-map-range_with_len (λ k. number_at x (slot_place j.index + DAY_WORDS.place + 2 * k) 2) 0 j.count
 
 pub older_words : (j : Notes) (x : List ℕ) (n : ℕ) → AreShown j x → n + 1 < j.day_count → recorded_words x (nth_index j n) ≡ covered_words x (nth_index j n)
 older_words j x n s less =
@@ -234,9 +235,9 @@ older_words j x n s less =
     let early = s.earlier n less in
     ap (λ (b : Bool). cond b (filter q (covered_words x i)) (covered_words x i)) (ne_true (slot_date x i / 86400) (last_kept x / 1440) (λ same. absurd (omega (arith, same, early, s.kept))))
 
-pub older_count : (j : Notes) (x : List ℕ) (n : ℕ) → AreShown j x → n + 1 < j.day_count → length (recorded_words x (nth_index j n)) ≡ min (slot_count x (nth_index j n)) 2880
+pub older_count : (j : Notes) (x : List ℕ) (n : ℕ) → AreShown j x → n + 1 < j.day_count → length (recorded_words x (nth_index j n)) ≡ min (slot_count x (nth_index j n)) DAY_WORD_LIMIT
 older_count j x n s less =
-    ap length (older_words j x n s less) ∙ length-map-range_with_len (λ k. number_at x (slot_place (nth_index j n) + 16 + 2 * k) 2) 0 (min (slot_count x (nth_index j n)) 2880)
+    ap length (older_words j x n s less) ∙ length-map-range_with_len (λ k. number_at x (slot_place (nth_index j n) + DAY_WORDS.place + 2 * k) 2) 0 (min (slot_count x (nth_index j n)) DAY_WORD_LIMIT)
 
 -- the words of a recorded day stand one after the other
 words_stand : (j : Notes) (x : List ℕ) (n i : ℕ) → AreShown j x → slice_get (recorded_indices x) n ≡ Some i → (count : ℕ) × (recorded_words x i ≡ slot_words x i count)
@@ -249,7 +250,7 @@ words_stand j x n i s is = ⊎_elim early last (cases_lt (n + 1) j.day_count)
     same = let both : Some (nth_index j n) ≡ Some i = sym (s.at n below) ∙ is in cc
 
     early : n + 1 < j.day_count → (count : ℕ) × (recorded_words x i ≡ slot_words x i count)
-    early less = (min (slot_count x i) 2880, subst (λ (k : ℕ). recorded_words x k ≡ covered_words x k) same (older_words j x n s less))
+    early less = (min (slot_count x i) DAY_WORD_LIMIT, subst (λ (k : ℕ). recorded_words x k ≡ covered_words x k) same (older_words j x n s less))
 
     last : j.day_count ≤ n + 1 → (count : ℕ) × (recorded_words x i ≡ slot_words x i count)
     last le =
@@ -257,10 +258,10 @@ words_stand j x n i s is = ⊎_elim early last (cases_lt (n + 1) j.day_count)
         let index_is : j.index ≡ i = sym (s.last (omega (arith, below))) ∙ ap (nth_index j) (sym here) ∙ same in
         (j.count, subst (λ (k : ℕ). recorded_words x k ≡ slot_words x k j.count) index_is (s.words (omega (arith, below))))
 
-pub word_at : (j : Notes) (x : List ℕ) (n i k : ℕ) → AreShown j x → slice_get (recorded_indices x) n ≡ Some i → k < length (recorded_words x i) → slice_get (recorded_words x i) k ≡ Some (number_at x (slot_place i + 16 + 2 * k) 2)
+pub word_at : (j : Notes) (x : List ℕ) (n i k : ℕ) → AreShown j x → slice_get (recorded_indices x) n ≡ Some i → k < length (recorded_words x i) → slice_get (recorded_words x i) k ≡ Some (number_at x (slot_place i + DAY_WORDS.place + 2 * k) 2)
 word_at j x n i k s is less =
     let stand = words_stand j x n i s is in
-    let f = λ (q : ℕ). number_at x (slot_place i + 16 + 2 * q) 2 in
+    let f = λ (q : ℕ). number_at x (slot_place i + DAY_WORDS.place + 2 * q) 2 in
     let few : k < stand.0 = omega (arith, less, ap length stand.1, length-map-range_with_len f 0 stand.0) in
     ap (λ (l : List ℕ). slice_get l k) stand.1 ∙ slice_get-get_or (slot_words x i stand.0) k 0 (omega (arith, few, length-map-range_with_len f 0 stand.0))
     ∙ ap Some (get_or-map-range_with_len f 0 stand.0 k k 0 few (omega arith))

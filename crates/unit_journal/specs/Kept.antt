@@ -7,7 +7,8 @@ use Rattle.unit_model.specs.Days.{UnitMinute}
 use Rattle.unit_journal.specs.declared.kept.KeptMinute.{KeptMinute}
 use Rattle.write_plan.specs.Plan.{Piece}
 use Rattle.unit_journal.specs.DaysWith.{HasDays, AreBetween}
-use Rattle.unit_journal.specs.Image.{Notes}
+use Rattle.unit_journal.specs.declared.notes.Notes.{Notes}
+use Rattle.unit_journal.specs.Coming.{SlotBits, Coming}
 use Rattle.unit_journal.specs.Plans.{keeping}
 
 abbrev pub is_crew : KeptMinute → Bool
@@ -23,14 +24,22 @@ bits_by act present crew = 8 * bit crew + 4 * bit (not present) + activity_numbe
 abbrev pub bits_of : State → Bool → ℕ
 bits_of s crew = bits_by s.act s.present crew
 
+-- the bits of both slots
+abbrev pub slot_bits : KeptMinute → SlotBits
+slot_bits k = record { driver = bits_of k.driver (is_crew k); codriver = bits_of k.codriver (is_crew k) }
+
+-- the minute as it is written
+abbrev pub coming_of : KeptMinute → Coming
+coming_of k = record { minute = k.minute; bits = slot_bits k; odometer = k.odometer.0 }
+
 -- what a `keep` of this minute leaves in the day slots
 abbrev pub HasDaysWith : KeptMinute → List ℕ → List ℕ → Type 0
-HasDaysWith k x y = HasDays k.minute (bits_of k.driver (is_crew k)) (bits_of k.codriver (is_crew k)) k.odometer.0 x y
+HasDaysWith k x y = HasDays (coming_of k) x y
 
 -- and at each moment
 abbrev pub HasDaysBetween : KeptMinute → List ℕ → List ℕ → Type 0
-HasDaysBetween k x c = AreBetween k.minute (bits_of k.driver (is_crew k)) (bits_of k.codriver (is_crew k)) k.odometer.0 x c
+HasDaysBetween k x c = AreBetween (coming_of k) x c
 
 -- its writes
 abbrev pub keeping_of : Notes → KeptMinute → (x : List ℕ) → List Piece
-keeping_of j k x = keeping j k.minute (bits_of k.driver (is_crew k)) (bits_of k.codriver (is_crew k)) k.odometer.0 x
+keeping_of j k x = keeping j (coming_of k) x

@@ -1,3 +1,6 @@
+pub mod Coming
+pub mod Minute
+pub mod Keeping
 pub mod Image
 pub mod Kept
 pub mod Mends

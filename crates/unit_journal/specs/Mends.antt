@@ -1,13 +1,15 @@
 -- What a mending at power-on leaves of an image: later cells emptied, a later day's gate shut, later words cut off (profile).
-use Rattle.std.specs.Prelude.{◌≡◌, ◌⊎◌, ℕ, ◌+◌, ◌<◌, ◌≤◌, ◌==◌, if◌then◌else◌, List, take, drop, length, replicate, Option, Some, None}
+use Rattle.std.specs.Prelude.{◌≡◌, ◌⊎◌, ℕ, zero, suc, ◌+◌, ◌<◌, ◌≤◌, ◌==◌, nat_lt, if◌then◌else◌, List, [], ◌∷◌, ◌++◌, take, drop, length, replicate, Option, Some, None}
+use Rattle.std.specs.Int.{to_be_bytes, w16}
 use Rattle.tach_media.specs.Medium.{put, bytes_at}
-use Rattle.unit_model.specs.declared.layout.TheConstants.{OWED, SPARE_ROWS, INSERTIONS}
-use Rattle.unit_model.specs.Decoding.{Decodes, cell_minute, cell_word}
+use Rattle.write_plan.specs.Plan.{Piece, piece}
+use Rattle.unit_model.specs.declared.layout.TheConstants.{DAY_COUNT, OWED, SPARE_ROWS, INSERTIONS}
+use Rattle.unit_model.specs.Decoding.{Decodes, cell_place, cell_minute, cell_word}
 use Rattle.unit_model.specs.Image.{slot_place, last_kept, unit_days, recorded}
 use Rattle.unit_journal.specs.Image.{Notes, IsFound, IsFoundBy}
 use Rattle.unit_model.specs.Writing.{with_count}
 use Rattle.unit_model.specs.Days.{days_kept}
-use Rattle.unit_model.specs.Cells.{row_head, minute_kept, cells_emptied, IsEmptyingAll}
+use Rattle.unit_model.specs.Cells.{row_head, minute_kept, cells_emptied}
 
 -- nothing but the owed rows and the day slots may have changed
 pub record SameButRowsAndSlots (x c : List ℕ) : Type 0 where
@@ -68,22 +70,30 @@ abbrev pub cut_to : (index stored count : ℕ) → List ℕ → List ℕ
 cut_to i stored count x = if stored == count then x else with_count i count x
 
 -- the days after a `mend`, and the image
-abbrev pub trimmed : Notes → List ℕ → List ℕ
-trimmed j x = if j.kept == 0 then shut j.stray x else cut_to j.index j.stored j.count (shut j.stray x)
+abbrev pub cut_back : Notes → List ℕ → List ℕ
+cut_back j x = if j.kept == 0 then shut j.stray x else cut_to j.index j.stored j.count (shut j.stray x)
 
 abbrev pub mended : Notes → List ℕ → List ℕ
-mended j x = trimmed j (cells_emptied j.kept 32 x)
+mended j x = cut_back j (cells_emptied j.kept 32 x)
 
--- the moments of the writes, each of which is whole or absent
-abbrev pub IsShutting : Option ℕ → List ℕ → List ℕ → Type 0
-IsShutting stray x c = (c ≡ x) ⊎ (c ≡ shut stray x)
+-- the writes of a `mend`: a cell that is later than the last-kept minute is emptied, by its place and its minute
+abbrev pub emptied_at : (place kept minute : ℕ) → List Piece
+emptied_at place kept minute = if nat_lt kept minute then piece place (replicate 4 0) ∷ [] else []
 
-abbrev pub IsCutting : (index count : ℕ) → List ℕ → List ℕ → Type 0
-IsCutting i count x c = (c ≡ x) ⊎ (c ≡ with_count i count x)
+-- so the first cells of the owed rows
+unfoldable pub late_cells : (kept count : ℕ) → List ℕ → List Piece
+late_cells kept zero x = []
+late_cells kept (suc n) x = late_cells kept n x ++ emptied_at (cell_place n) kept (cell_minute x n)
 
--- a moment of a `mend`, by its writes
-abbrev pub IsMendStep : Notes → List ℕ → List ℕ → Type 0
-IsMendStep j x c =
-    IsEmptyingAll j.kept x c
-    ⊎ (IsShutting j.stray (cells_emptied j.kept 32 x) c
-    ⊎ ((0 < j.kept) × IsCutting j.index j.count (shut j.stray (cells_emptied j.kept 32 x)) c))
+-- the later day's gate is shut, where one was found
+abbrev pub gate_shut : Option ℕ → List Piece
+gate_shut None = []
+gate_shut (Some s) = piece (slot_place s) (replicate 4 0) ∷ []
+
+-- the count of the last-kept minute's day is cut, where it differs
+abbrev pub count_cut : Notes → List Piece
+count_cut j = if j.kept == 0 then [] else (if j.stored == j.count then [] else piece (slot_place j.index + DAY_COUNT.place) (to_be_bytes w16 j.count) ∷ [])
+
+-- all of them, in their order
+abbrev pub mending : Notes → (x : List ℕ) → List Piece
+mending j x = late_cells j.kept 32 x ++ (gate_shut j.stray ++ count_cut j)

@@ -1,15 +1,21 @@
 -- The writes of a minute, in their order.
-use Rattle.std.specs.Prelude.{if◌then◌else◌, ◌==◌, ℕ, ◌+◌, ◌/◌, ◌%◌, List, [], ◌∷◌, ◌++◌, length}
+use Rattle.std.specs.Prelude.{if◌then◌else◌, ◌==◌, ◌≡◌, ◌≤◌, ℕ, ◌+◌, ◌/◌, ◌%◌, List, [], ◌∷◌, ◌++◌, length}
 use Rattle.std.specs.Int.{to_be_bytes, w16, w32}
-use Rattle.write_plan.specs.Plan.{Piece, piece}
+use Rattle.write_plan.specs.Plan.{Piece, Pieces, piece}
 use Rattle.gated_ring.specs.declared.room.Room.{Room}
 use Rattle.gated_ring.specs.Plans.{placing_pieces, room_in}
-use Rattle.unit_model.specs.declared.layout.TheConstants.{DAY_COUNT, LAST_KEPT, ODOMETER}
-use Rattle.unit_model.specs.Days.{bare}
+use Rattle.unit_model.specs.declared.layout.TheConstants.{DAY_COUNT, IMAGE_SIZE, LAST_KEPT, ODOMETER}
 use Rattle.unit_model.specs.Image.{day_ring, slot_place}
-use Rattle.unit_model.specs.Changes.{changes}
-use Rattle.unit_journal.specs.Image.{Notes, words_on, new_head, further}
+use Rattle.unit_journal.specs.declared.notes.Notes.{Notes}
+use Rattle.unit_journal.specs.Coming.{Coming, bare_bits, changes_to}
+use Rattle.unit_journal.specs.Minute.{words_on, new_head, further}
 use Rattle.unit_model.specs.Writing.{free_place}
+
+-- a plan of so many writes at most in a unit, with room for these more
+pub record HasRoom (room most : ℕ) (plan : Pieces) : Type 0 where
+  pub front : plan.from ≡ 0
+  pub end : plan.end ≡ IMAGE_SIZE
+  pub few : length plan.pieces + room ≤ most
 
 -- words, from a place on
 abbrev pub word_pieces : ℕ → List ℕ → List Piece
@@ -25,34 +31,31 @@ abbrev pub mark : ℕ → List Piece
 mark minute = piece LAST_KEPT.place (to_be_bytes w32 minute) ∷ []
 
 -- a minute on the day of the last-kept one: the odometer, the words and their count, and the mark
-abbrev pub going : Notes → (minute driver codriver odometer : ℕ) → List Piece
-going j minute driver codriver odometer =
-    piece ODOMETER.place (to_be_bytes w32 odometer) ∷ (counted j.index j.count (words_on j minute driver codriver) ++ mark minute)
+abbrev pub going : Notes → Coming → List Piece
+going j m = piece ODOMETER.place (to_be_bytes w32 m.odometer) ∷ (counted j.index j.count (words_on j m) ++ mark m.minute)
 
 -- the end of the day of the last-kept minute
 abbrev pub closing : Notes → List Piece
-closing j = if j.kept == 0 then [] else (if j.kept % 1440 + 1 == 1440 then [] else counted j.index j.count (changes (j.kept % 1440 + 1) j.driver j.codriver bare bare))
+closing j = if j.kept == 0 then [] else (if j.kept % 1440 + 1 == 1440 then [] else counted j.index j.count (changes_to (j.kept % 1440 + 1) j.bits bare_bits))
 
 -- before a new day: the odometer, and the end of that day
 abbrev pub turning : Notes → (odometer : ℕ) → List Piece
 turning j odometer = piece ODOMETER.place (to_be_bytes w32 odometer) ∷ closing j
 
 -- a new day behind its `add`: further words and their count, and the mark
-abbrev pub beginning : (index minute : ℕ) → (ws : List ℕ) → List Piece
-beginning i minute ws = counted i 2 ws ++ mark minute
+abbrev pub beginning : (index : ℕ) → Coming → List Piece
+beginning i m = counted i 2 (further m) ++ mark m.minute
 
 -- A minute on a further day: the end of the day before, the new day's slot, its further words and their count, and the mark.
-abbrev pub renewing_at : Notes → Room → (minute driver codriver odometer : ℕ) → List Piece
-renewing_at j room minute driver codriver odometer =
-    turning j odometer ++ (placing_pieces day_ring room (new_head minute driver codriver odometer) ++ beginning room.index minute (further minute driver codriver))
+abbrev pub renewing_at : Notes → Room → Coming → List Piece
+renewing_at j room m = turning j m.odometer ++ (placing_pieces day_ring room (new_head m) ++ beginning room.index m)
 
-abbrev pub renewing : Notes → (minute driver codriver odometer : ℕ) → (x : List ℕ) → List Piece
-renewing j minute driver codriver odometer x = renewing_at j (room_in day_ring x) minute driver codriver odometer
+abbrev pub renewing : Notes → Coming → (x : List ℕ) → List Piece
+renewing j m x = renewing_at j (room_in day_ring x) m
 
 -- the writes of a `keep`
-abbrev pub keeping : Notes → (minute driver codriver odometer : ℕ) → (x : List ℕ) → List Piece
-keeping j minute driver codriver odometer x =
-    if minute / 1440 == j.kept / 1440 then going j minute driver codriver odometer else renewing j minute driver codriver odometer x
+abbrev pub keeping : Notes → Coming → (x : List ℕ) → List Piece
+keeping j m x = if m.minute / 1440 == j.kept / 1440 then going j m else renewing j m x
 
 -- and how many they are at most
 abbrev pub most_kept : (kept minute : ℕ) → ℕ

@@ -1,13 +1,13 @@
 -- What is read of the last-kept minute's day, and how many days are recorded.
 use Rattle.std.specs.Prelude.{ℕ, ◌+◌, ◌-◌, ◌*◌, ◌%◌, ◌==◌, min, Option, Some, None, Result, Ok, Err, if◌then◌else◌}
-use Rattle.unit_model.specs.Days.{bare}
 use Rattle.unit_memory.specs.declared.words.Scan.{Scan}
 use Rattle.unit_journal.specs.declared.today.Today.{Today}
+use Rattle.unit_journal.specs.Coming.{bare_bits}
 
 -- what a scan of the day says, within its ranges
 abbrev pub today_of : (last stored : ℕ) → Result Scan ℕ → Today
-today_of last stored (Ok s) = record { stored = stored; count = min s.count (2 * (last + 1)); driver = s.driver % 16; codriver = s.codriver % 16 }
-today_of last stored (Err p) = record { stored = stored; count = 0; driver = bare; codriver = bare }
+today_of last stored (Ok s) = record { stored = stored; count = min s.count (2 * (last + 1)); bits = record { driver = s.driver % 16; codriver = s.codriver % 16 } }
+today_of last stored (Err p) = record { stored = stored; count = 0; bits = bare_bits }
 
 -- of so many days that are there, a later one is not recorded
 abbrev pub but_stray : ℕ → Option ℕ → ℕ

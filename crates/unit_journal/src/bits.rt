@@ -1,10 +1,23 @@
 ghost use Rattle.std.specs.Prelude.{◌≡◌, ◌<◌};
 ghost use Rattle.activity_codec.specs.Words.{activity_number};
-ghost use Rattle.unit_journal.specs.Kept.{bits_of, is_crew};
+ghost use Rattle.unit_journal.specs.Kept.{bits_of, is_crew, slot_bits};
 
 use crate::kept::KeptMinute;
 use activity_codec::Activity;
 use unit_model::State;
+
+/// The bits of the states of both slots, as a change word has them: CREW, no card, activity.
+#[derive(Clone, Copy, Debug, PartialEq, Eq)]
+pub struct SlotBits {
+    pub driver: u32,
+    pub codriver: u32,
+}
+
+/// No card, rest, single, in both slots.
+pub const BARE: SlotBits = SlotBits {
+    driver: 4,
+    codriver: 4,
+};
 
 // Whether both slots have a present card.
 fn is_crew(kept: &KeptMinute) -> bool
@@ -14,14 +27,16 @@ fn is_crew(kept: &KeptMinute) -> bool
 }
 
 /// The bits of the states of both slots.
-pub fn slot_bits(kept: &KeptMinute) -> (u32, u32)
-    ensures driver { result.0 ≡ bits_of kept.now.driver (is_crew kept.now) }
-    ensures codriver { result.1 ≡ bits_of kept.now.codriver (is_crew kept.now) }
-    ensures driver_short { result.0 < 16 }
-    ensures codriver_short { result.1 < 16 }
+pub fn slot_bits(kept: &KeptMinute) -> SlotBits
+    ensures bits { result ≡ slot_bits kept.now }
+    ensures driver_short { result.driver < 16 }
+    ensures codriver_short { result.codriver < 16 }
 {
     let crew = is_crew(kept);
-    (bits_of(kept.driver, crew), bits_of(kept.codriver, crew))
+    SlotBits {
+        driver: bits_of(kept.driver, crew),
+        codriver: bits_of(kept.codriver, crew),
+    }
 }
 
 // The bits of a state in a word: CREW, no card, activity.

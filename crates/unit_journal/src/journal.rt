@@ -2,10 +2,13 @@ ghost use Rattle.std.specs.Prelude.{IfErr, Some, None, ◌≡◌, ◌≤◌, ◌
 ghost use Rattle.unit_model.specs.declared.layout.TheConstants.{DAY_SLOTS, HIGHEST_ODOMETER, IMAGE_SIZE, LAST_MINUTE};
 ghost use Rattle.tach_media.specs.Medium.{LeavesOnly, Reads, HasCause, IsSettled, last_count, StaysSettled};
 ghost use Rattle.unit_model.specs.Image.{day_ring};
-ghost use Rattle.unit_journal.specs.Image.{IsNotes, Agrees, notes_on, notes_begun, notes_after, IsKeeping, IsKept};
+ghost use Rattle.unit_journal.specs.Coming.{IsComing};
+ghost use Rattle.unit_journal.specs.Image.{IsNotes, Agrees};
+ghost use Rattle.unit_journal.specs.Keeping.{IsKeeping, IsKept};
+ghost use Rattle.unit_journal.specs.Minute.{notes_on, notes_begun, notes_after};
 ghost use Rattle.write_plan.specs.Plan.{PutsAll, PutsBy, more, none};
 ghost use Rattle.unit_journal.specs.Plans.{going, turning, renewing, keeping, most_kept};
-ghost use Rattle.unit_journal.specs.Mends.{IsMendable, IsMending, IsMended, HasNothingLater, notes_mended, mended, IsMendStep};
+ghost use Rattle.unit_journal.specs.Mends.{IsMendable, IsMending, IsMended, HasNothingLater, notes_mended, mended, mending};
 ghost use Rattle.unit_model.specs.Image.{IsUnit};
 ghost use Rattle.unit_journal.specs.Kept.{kept_minute, keeping_of, HasDaysWith, HasDaysBetween};
 ghost use Rattle.gated_ring.specs.Ring.{pointer, taken};
@@ -13,14 +16,14 @@ ghost use Rattle.gated_ring.specs.Ring.{pointer, taken};
 mod owing;
 mod reading;
 
-use crate::bits::slot_bits;
-use crate::cells::empty_cells;
+use crate::bits::BARE;
+use crate::coming::{Coming, coming_of};
 use crate::kept::KeptMinute;
-use crate::mend::{cut_count, shut_day};
+use crate::mend::{add_cut, add_shut, late_cells};
 use crate::notes::Notes;
 use crate::plan::{Writing, add_changes, add_count, add_further, add_new};
 use crate::today::{day_ring, index_of, later_day, read_today, recorded_days};
-use crate::words::{BARE, new_head};
+use crate::words::new_head;
 use gated_ring::Ring;
 pub use reading::UnitDay;
 use std::marker::Model;
@@ -101,8 +104,7 @@ impl Journal {
             odometer,
             index,
             count: today.count,
-            driver: today.driver,
-            codriver: today.codriver,
+            bits: today.bits,
             stray,
             stored: today.stored,
             day_count,
@@ -128,44 +130,23 @@ impl Journal {
     }
 
     // The writes of a minute on the day of the last-kept one.
-    fn go_on<M: Medium>(
-        &mut self,
-        unit: &mut M,
-        minute: u32,
-        driver: u32,
-        codriver: u32,
-        odometer: u32,
-    ) -> Result<(), Failed>
+    fn go_on<M: Medium>(&mut self, unit: &mut M, coming: Coming) -> Result<(), Failed>
         requires unit { IsUnit (M.state unit.old) }
-        requires same { minute / 1440 ≡ self.old.kept / 1440 }
-        requires later { self.old.kept < minute }
-        requires small { minute ≤ LAST_MINUTE }
-        requires driver { driver < 16 }
-        requires codriver { codriver < 16 }
-        requires odometer { odometer ≤ HIGHEST_ODOMETER }
-        ensures notes { OnOk result (self.new ≡ notes_on self.old minute driver codriver odometer) }
+        requires coming { IsComing coming }
+        requires same { coming.minute / 1440 ≡ self.old.kept / 1440 }
+        requires later { self.old.kept < coming.minute }
+        ensures notes { OnOk result (self.new ≡ notes_on self.old coming) }
         ensures same { OnErr result (self.new ≡ self.old) }
         ensures shape { IsNotes self.old }
-        ensures puts { PutsAll (M.state unit.old) (M.state unit.new) (is_err result) (going self.old minute driver codriver odometer) }
+        ensures puts { PutsAll (M.state unit.old) (M.state unit.new) (is_err result) (going self.old coming) }
     {
-        let next = self.notes.kept % 1440 + 1;
         let mut plan = Writing::new(0, IMAGE_SIZE);
-        plan.put(ODOMETER.place, &odometer.to_be_bytes());
-        let count = add_new(
-            &mut plan,
-            self.notes.index,
-            self.notes.count,
-            next,
-            minute % 1440,
-            self.notes.driver,
-            self.notes.codriver,
-            driver,
-            codriver,
-        );
+        plan.put(ODOMETER.place, &coming.odometer.to_be_bytes());
+        let count = add_new(&mut plan, &self.notes, coming);
         add_count(&mut plan, self.notes.index, count);
-        plan.put(LAST_KEPT.place, &minute.to_be_bytes());
+        plan.put(LAST_KEPT.place, &coming.minute.to_be_bytes());
         put_pieces(unit, &plan)?;
-        self.notes = self.notes.on_day(minute, driver, codriver, odometer, count);
+        self.notes = self.notes.on_day(coming, count);
         Ok(())
     }
 
@@ -177,91 +158,59 @@ impl Journal {
         ensures shape { IsNotes self.now }
     {
         let _days = &self.days;
+        let notes = &self.notes;
         let mut plan = Writing::new(0, IMAGE_SIZE);
         plan.put(ODOMETER.place, &odometer.to_be_bytes());
-        if self.notes.kept == 0 {
+        if notes.kept == 0 {
             return plan;
         }
-        let next = self.notes.kept % 1440 + 1;
+        let next = notes.kept % 1440 + 1;
         if next == 1440 {
             return plan;
         }
-        let count = add_changes(
-            &mut plan,
-            self.notes.index,
-            self.notes.count,
-            next,
-            self.notes.driver,
-            self.notes.codriver,
-            BARE,
-            BARE,
-        );
-        add_count(&mut plan, self.notes.index, count);
+        let count = add_changes(&mut plan, notes.index, notes.count, next, notes.bits, BARE);
+        add_count(&mut plan, notes.index, count);
         plan
     }
 
     // Makes the writes of a minute on a later day.
-    fn renew<M: Medium>(
-        &mut self,
-        unit: &mut M,
-        minute: u32,
-        driver: u32,
-        codriver: u32,
-        odometer: u32,
-    ) -> Result<(), Failed>
+    fn renew<M: Medium>(&mut self, unit: &mut M, coming: Coming) -> Result<(), Failed>
         requires unit { IsUnit (M.state unit.old) }
         requires known { IfSome (M.state unit.old).image (λ x. pointer day_ring x < DAY_SLOTS) }
-        requires low { 1440 ≤ minute }
-        requires small { minute ≤ LAST_MINUTE }
-        requires driver { driver < 16 }
-        requires codriver { codriver < 16 }
-        requires odometer { odometer ≤ HIGHEST_ODOMETER }
-        ensures notes { OnOk result (IfSome (M.state unit.old).image (λ x. self.new ≡ notes_begun (taken day_ring x) (min (self.old.day_count + 1) DAY_SLOTS) minute driver codriver odometer)) }
-        ensures kept { OnOk result ((self.new.kept ≡ minute) × (self.new.odometer ≡ odometer)) }
+        requires coming { IsComing coming }
+        ensures notes { OnOk result (IfSome (M.state unit.old).image (λ x. self.new ≡ notes_begun (taken day_ring x) (min (self.old.day_count + 1) DAY_SLOTS) coming)) }
+        ensures kept { OnOk result ((self.new.kept ≡ coming.minute) × (self.new.odometer ≡ coming.odometer)) }
         ensures same { OnErr result (self.new ≡ self.old) }
         ensures shape { IsNotes self.old }
-        ensures puts { PutsBy (M.state unit.old) (M.state unit.new) (is_err result) 5 12 (renewing self.old minute driver codriver odometer) }
+        ensures puts { PutsBy (M.state unit.old) (M.state unit.new) (is_err result) 5 12 (renewing self.old coming) }
     {
-        let head = new_head(minute, driver, codriver, odometer);
+        let head = new_head(coming);
         let room = self.days.room(unit)?;
-        let mut plan = self.turning(odometer);
+        let mut plan = self.turning(coming.odometer);
         self.days.plan_entry(&mut plan, &room, &head);
-        let count = add_further(&mut plan, room.index, minute, driver, codriver);
+        let count = add_further(&mut plan, room.index, coming);
         put_pieces(unit, &plan)?;
         let index = room.index;
-        self.notes = self
-            .notes
-            .on_new_day(index, minute, driver, codriver, odometer, count);
+        self.notes = self.notes.on_new_day(index, coming, count);
         Ok(())
     }
 
     // Makes the writes of a minute.
-    fn write_minute<M: Medium>(
-        &mut self,
-        unit: &mut M,
-        minute: u32,
-        driver: u32,
-        codriver: u32,
-        odometer: u32,
-    ) -> Result<(), Failed>
+    fn write_minute<M: Medium>(&mut self, unit: &mut M, coming: Coming) -> Result<(), Failed>
         requires unit { IsUnit (M.state unit.old) }
         requires known { IfSome (M.state unit.old).image (λ x. pointer day_ring x < DAY_SLOTS) }
-        requires low { 1440 ≤ minute }
-        requires later { self.old.kept < minute }
-        requires small { minute ≤ LAST_MINUTE }
-        requires driver { driver < 16 }
-        requires codriver { codriver < 16 }
-        requires odometer { odometer ≤ HIGHEST_ODOMETER }
-        ensures notes { OnOk result (IfSome (M.state unit.old).image (λ x. self.new ≡ notes_after self.old minute driver codriver odometer x)) }
-        ensures kept { OnOk result ((self.new.kept ≡ minute) × (self.new.odometer ≡ odometer)) }
+        requires coming { IsComing coming }
+        requires later { self.old.kept < coming.minute }
+        ensures notes { OnOk result (IfSome (M.state unit.old).image (λ x. self.new ≡ notes_after self.old coming x)) }
+        ensures kept { OnOk result ((self.new.kept ≡ coming.minute) × (self.new.odometer ≡ coming.odometer)) }
         ensures same { OnErr result (self.new ≡ self.old) }
         ensures shape { IsNotes self.old }
-        ensures puts { PutsBy (M.state unit.old) (M.state unit.new) (is_err result) 3 (most_kept self.old.kept minute) (keeping self.old minute driver codriver odometer) }
+        ensures puts { PutsBy (M.state unit.old) (M.state unit.new) (is_err result) 3 (most_kept self.old.kept coming.minute) (keeping self.old coming) }
     {
-        if minute / 1440 == self.notes.kept / 1440 {
-            return self.go_on(unit, minute, driver, codriver, odometer);
+        if coming.minute / 1440 == self.notes.kept / 1440 {
+            return self.go_on(unit, coming);
         }
-        self.renew(unit, minute, driver, codriver, odometer)
+        self.renew(unit, coming)
     }
 
     /// Keeps a minute: of the recorded days with it the newest 366 are retained, and a minute of its day that was not kept
@@ -289,8 +238,7 @@ impl Journal {
         ensures settled { OnOk result ((M.state unit.new).clock < last_count → IsSettled (M.state unit.new)) }
         ensures cause { HasCause (M.state unit.old) (M.state unit.new) (is_err result) }
     {
-        let (driver, codriver) = slot_bits(kept);
-        self.write_minute(unit, kept.minute, driver, codriver, kept.odometer.0)
+        self.write_minute(unit, coming_of(kept))
     }
 
     /// Mends the unit at a power-on: empties each cell of the owed rows that is later than the last-kept minute, shuts the
@@ -309,6 +257,7 @@ impl Journal {
         ensures agrees { OnOk result (IfSome (M.state unit.new).image (Agrees self.new)) }
         ensures mended { OnOk result (IfSome (M.state unit.old).image (λ x. IfSome (M.state unit.new).image (IsMended x))) }
         ensures written { OnOk result ((M.state unit.new).image ≡ option_map (mended self.old) (M.state unit.old).image) }
+        ensures puts { PutsBy (M.state unit.old) (M.state unit.new) (is_err result) 0 34 (mending self.old) }
         ensures moments { LeavesOnly (M.state unit.old) (M.state unit.new) (IsMending self.old) }
         ensures idle { OnOk result (IfSome (M.state unit.old).image (λ x. HasNothingLater self.old x → (M.state unit.new).clock ≡ (M.state unit.old).clock)) }
         ensures settled { OnOk result (StaysSettled (M.state unit.old) (M.state unit.new)) }
@@ -321,24 +270,17 @@ impl Journal {
         Ok(())
     }
 
-    // The writes of a `mend`: the cells, the gate, the count.
+    // Makes the writes of a `mend`: the cells, the gate, the count.
     fn write_mends<M: Medium>(&self, unit: &mut M) -> Result<(), Failed>
         requires unit { IsUnit (M.state unit.old) }
-        ensures written { OnOk result ((M.state unit.new).image ≡ option_map (mended self.now) (M.state unit.old).image) }
-        ensures moments { LeavesOnly (M.state unit.old) (M.state unit.new) (IsMendStep self.now) }
+        ensures puts { PutsBy (M.state unit.old) (M.state unit.new) (is_err result) 0 34 (mending self.now) }
         ensures idle { OnOk result (IfSome (M.state unit.old).image (λ x. HasNothingLater self.now x → (M.state unit.new).clock ≡ (M.state unit.old).clock)) }
         ensures shape { IsNotes self.now }
-        ensures settled { OnOk result (StaysSettled (M.state unit.old) (M.state unit.new)) }
-        ensures cause { HasCause (M.state unit.old) (M.state unit.new) (is_err result) }
-        ensures most { (M.state unit.new).clock ≤ (M.state unit.old).clock + 34 }
     {
-        let kept = self.notes.kept;
-        empty_cells(unit, kept)?;
-        shut_day(unit, self.notes.stray)?;
-        if kept == 0 {
-            return Ok(());
-        }
-        cut_count(unit, self.notes.index, self.notes.stored, self.notes.count)?;
-        Ok(())
+        let _days = &self.days;
+        let mut plan = late_cells(unit, self.notes.kept)?;
+        add_shut(&mut plan, self.notes.stray);
+        add_cut(&mut plan, &self.notes);
+        put_pieces(unit, &plan)
     }
 }

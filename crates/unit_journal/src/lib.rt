@@ -3,7 +3,7 @@
 #![tactic(auto)]
 
 mod bits;
-mod cells;
+mod coming;
 mod journal;
 mod kept;
 mod mend;

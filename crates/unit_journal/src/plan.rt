@@ -1,14 +1,19 @@
-ghost use Rattle.std.specs.Prelude.{◌≡◌, ◌≤◌, ◌<◌, ◌+◌, ◌*◌, ◌/◌, ◌∷◌, [], length};
-ghost use Rattle.unit_model.specs.declared.layout.TheConstants.{DAY_SLOTS, DAY_WORD_LIMIT, IMAGE_SIZE};
+ghost use Rattle.std.specs.Prelude.{◌≡◌, ◌≤◌, ◌<◌, ◌+◌, ◌*◌, ◌/◌, ◌%◌, ◌∷◌, [], length};
+ghost use Rattle.unit_model.specs.declared.layout.TheConstants.{DAY_COUNT, DAY_SLOTS, DAY_WORD_LIMIT};
 ghost use Rattle.std.specs.Int.{to_be_bytes, w16};
 ghost use Rattle.write_plan.specs.Plan.{more, piece};
 ghost use Rattle.unit_model.specs.Image.{slot_place};
-ghost use Rattle.unit_model.specs.Changes.{change, changes, new_words};
+ghost use Rattle.unit_model.specs.Changes.{change};
 ghost use Rattle.unit_model.specs.Writing.{free_place};
-ghost use Rattle.unit_journal.specs.Image.{further};
-ghost use Rattle.unit_journal.specs.Plans.{word_pieces, beginning};
+ghost use Rattle.unit_journal.specs.Coming.{IsComing, changes_to};
+ghost use Rattle.unit_journal.specs.Image.{IsNotes};
+ghost use Rattle.unit_journal.specs.Minute.{further, words_on};
+ghost use Rattle.unit_journal.specs.Plans.{HasRoom, word_pieces, beginning};
 
-use crate::words::{BARE, first};
+use crate::bits::{BARE, SlotBits};
+use crate::coming::Coming;
+use crate::notes::Notes;
+use crate::words::first_bits;
 use unit_model::layout::{DAY_COUNT, DAY_WORDS, LAST_KEPT, slot_place};
 use write_plan::Plan;
 
@@ -27,9 +32,7 @@ pub fn add_change(
     old: u32,
     new: u32,
 ) -> u32
-    requires room { length plan.old.pieces < 12 }
-    requires front { plan.old.from ≡ 0 }
-    requires end { plan.old.end ≡ IMAGE_SIZE }
+    requires room { HasRoom 1 12 plan.old }
     requires index { index < DAY_SLOTS }
     requires few { count < DAY_WORD_LIMIT }
     requires slot { slot < 2 }
@@ -56,85 +59,49 @@ pub fn add_changes(
     index: u32,
     count: u32,
     minute: u32,
-    driver: u32,
-    codriver: u32,
-    new_driver: u32,
-    new_codriver: u32,
+    old: SlotBits,
+    new: SlotBits,
 ) -> u32
-    requires room { length plan.old.pieces < 11 }
-    requires front { plan.old.from ≡ 0 }
-    requires end { plan.old.end ≡ IMAGE_SIZE }
+    requires room { HasRoom 2 12 plan.old }
     requires index { index < DAY_SLOTS }
     requires few { count + 2 ≤ DAY_WORD_LIMIT }
     requires minute { minute < 1440 }
-    requires driver { new_driver < 16 }
-    requires codriver { new_codriver < 16 }
-    ensures count { result ≡ count + length (changes minute driver codriver new_driver new_codriver) }
-    ensures plan { plan.new ≡ more plan.old (word_pieces (free_place index count) (changes minute driver codriver new_driver new_codriver)) }
+    requires driver { new.driver < 16 }
+    requires codriver { new.codriver < 16 }
+    ensures count { result ≡ count + length (changes_to minute old new) }
+    ensures plan { plan.new ≡ more plan.old (word_pieces (free_place index count) (changes_to minute old new)) }
     ensures length { length plan.new.pieces ≤ length plan.old.pieces + 2 }
 {
-    let count = add_change(plan, index, count, 0, minute, driver, new_driver);
-    add_change(plan, index, count, 1, minute, codriver, new_codriver)
+    let count = add_change(plan, index, count, 0, minute, old.driver, new.driver);
+    add_change(plan, index, count, 1, minute, old.codriver, new.codriver)
 }
 
-/// Adds the words that a minute brings on a day whose minutes below `next` are there.
-pub fn add_new(
-    plan: &mut Writing,
-    index: u32,
-    count: u32,
-    next: u32,
-    minute: u32,
-    driver: u32,
-    codriver: u32,
-    new_driver: u32,
-    new_codriver: u32,
-) -> u32
-    requires room { length plan.old.pieces < 9 }
-    requires front { plan.old.from ≡ 0 }
-    requires end { plan.old.end ≡ IMAGE_SIZE }
-    requires index { index < DAY_SLOTS }
-    requires few { count ≤ 2 * next }
-    requires order { next ≤ minute }
-    requires minute { minute < 1440 }
-    requires driver { new_driver < 16 }
-    requires codriver { new_codriver < 16 }
-    ensures count { result ≡ count + length (new_words next minute driver codriver new_driver new_codriver) }
-    ensures plan { plan.new ≡ more plan.old (word_pieces (free_place index count) (new_words next minute driver codriver new_driver new_codriver)) }
+/// Adds the words that a minute brings on the day of the last-kept one, and answers how many there are then.
+pub fn add_new(plan: &mut Writing, notes: &Notes, coming: Coming) -> u32
+    requires room { HasRoom 4 12 plan.old }
+    requires notes { IsNotes notes.now }
+    requires order { notes.now.kept % 1440 < coming.minute % 1440 }
+    requires coming { IsComing coming }
+    ensures count { result ≡ notes.now.count + length (words_on notes.now coming) }
+    ensures plan { plan.new ≡ more plan.old (word_pieces (free_place notes.now.index notes.now.count) (words_on notes.now coming)) }
     ensures length { length plan.new.pieces ≤ length plan.old.pieces + 4 }
 {
+    let index = notes.index;
+    let next = notes.kept % 1440 + 1;
+    let minute = coming.minute % 1440;
     if next == minute {
-        return add_changes(
-            plan,
-            index,
-            count,
-            minute,
-            driver,
-            codriver,
-            new_driver,
-            new_codriver,
-        );
+        return add_changes(plan, index, notes.count, minute, notes.bits, coming.bits);
     }
-    let count = add_changes(plan, index, count, next, driver, codriver, BARE, BARE);
-    add_changes(
-        plan,
-        index,
-        count,
-        minute,
-        BARE,
-        BARE,
-        new_driver,
-        new_codriver,
-    )
+    let count = add_changes(plan, index, notes.count, next, notes.bits, BARE);
+    add_changes(plan, index, count, minute, BARE, coming.bits)
 }
 
 /// Adds the count of a day's words.
 pub fn add_count(plan: &mut Writing, index: u32, count: u32)
-    requires room { length plan.old.pieces < 12 }
-    requires front { plan.old.from ≡ 0 }
-    requires end { plan.old.end ≡ IMAGE_SIZE }
+    requires room { HasRoom 1 12 plan.old }
     requires index { index < DAY_SLOTS }
     requires few { count ≤ DAY_WORD_LIMIT }
-    ensures { plan.new ≡ more plan.old (piece (slot_place index + 8) (to_be_bytes w16 count) ∷ []) }
+    ensures { plan.new ≡ more plan.old (piece (slot_place index + DAY_COUNT.place) (to_be_bytes w16 count) ∷ []) }
 {
     plan.put(
         slot_place(index) + DAY_COUNT.place,
@@ -143,29 +110,18 @@ pub fn add_count(plan: &mut Writing, index: u32, count: u32)
 }
 
 /// Adds the writes of a new day behind its `add`, and answers how many words it has then.
-pub fn add_further(plan: &mut Writing, index: u32, minute: u32, driver: u32, codriver: u32) -> u32
-    requires room { length plan.old.pieces < 9 }
-    requires front { plan.old.from ≡ 0 }
-    requires end { plan.old.end ≡ IMAGE_SIZE }
+pub fn add_further(plan: &mut Writing, index: u32, coming: Coming) -> u32
+    requires room { HasRoom 4 12 plan.old }
     requires index { index < DAY_SLOTS }
-    requires driver { driver < 16 }
-    requires codriver { codriver < 16 }
-    ensures count { result ≡ 2 + length (further minute driver codriver) }
-    ensures plan { plan.new ≡ more plan.old (beginning index minute (further minute driver codriver)) }
+    requires coming { IsComing coming }
+    ensures count { result ≡ 2 + length (further coming) }
+    ensures plan { plan.new ≡ more plan.old (beginning index coming) }
     ensures length { length plan.new.pieces ≤ length plan.old.pieces + 4 }
 {
-    let now = minute % 1440;
-    let count = add_changes(
-        plan,
-        index,
-        2,
-        now,
-        first(now, driver),
-        first(now, codriver),
-        driver,
-        codriver,
-    );
+    let now = coming.minute % 1440;
+    let first = first_bits(now, coming.bits);
+    let count = add_changes(plan, index, 2, now, first, coming.bits);
     add_count(plan, index, count);
-    plan.put(LAST_KEPT.place, &minute.to_be_bytes());
+    plan.put(LAST_KEPT.place, &coming.minute.to_be_bytes());
     count
 }

@@ -1,5 +1,5 @@
-ghost use Rattle.std.specs.Prelude.{◌≡◌, ◌≤◌, ◌<◌, ◌+◌, ◌*◌, ◌%◌, IfOk, IfErr, IfSome, is_err, true, None, [], min, unwrap_or};
-ghost use Rattle.unit_model.specs.declared.layout.TheConstants.{DAY_SLOTS, DAY_WORD_LIMIT, IMAGE_SIZE};
+ghost use Rattle.std.specs.Prelude.{◌≡◌, ◌≤◌, ◌<◌, ◌+◌, ◌*◌, ◌-◌, ◌%◌, IfOk, IfErr, IfSome, is_err, true, None, [], min, unwrap_or};
+ghost use Rattle.unit_model.specs.declared.layout.TheConstants.{DAY_SLOTS, DAY_WORD_LIMIT, DAY_WORDS, IMAGE_SIZE};
 ghost use Rattle.std.specs.Option.{ForSome};
 ghost use Rattle.tach_media.specs.Medium.{Reads};
 ghost use Rattle.unit_model.specs.Decoding.{first_failing, word_checks};
@@ -10,7 +10,7 @@ ghost use Rattle.unit_journal.specs.Image.{IsToday};
 ghost use Rattle.unit_model.specs.Image.{stray_of};
 ghost use Rattle.unit_journal.specs.Today.{today_of, recorded_days};
 
-use crate::words::BARE;
+use crate::bits::{BARE, SlotBits};
 use gated_ring::{Ring, RingFault};
 use tach_media::{Failed, Medium, read_number};
 use unit_memory::{Scan, UnitFault, scan_day};
@@ -24,8 +24,7 @@ use unit_model::layout::{
 pub struct Today {
     pub stored: u32,
     pub count: u32,
-    pub driver: u32,
-    pub codriver: u32,
+    pub bits: SlotBits,
 }
 
 /// The ring of the day slots, whose pointer is known to be an index.
@@ -69,7 +68,7 @@ pub fn recorded_days(kept: u32, there: u32, stray: Option<u32>) -> u32
 
 /// The index of the last-kept minute's day, where it was found; 0 where it was not.
 pub fn index_of(today: Option<u32>) -> u32
-    ensures index { result ≡ min (unwrap_or today 0) 365 }
+    ensures index { result ≡ min (unwrap_or today 0) (DAY_SLOTS - 1) }
     ensures below { result < DAY_SLOTS }
 {
     match today {
@@ -99,18 +98,17 @@ pub fn read_today<M: Medium>(unit: &mut M, kept: u32, index: u32) -> Result<Toda
     requires works { (M.state unit.old).works ≡ true }
     requires unit { (M.state unit.old).size ≡ IMAGE_SIZE }
     requires index { index < DAY_SLOTS }
-    ensures found { IfOk result (λ today. IfSome (M.state unit.old).image (λ x. 0 < kept → slot_count x index ≤ DAY_WORD_LIMIT → first_failing (word_checks (slot_place index + 16) [] (slot_words x index (slot_count x index))) ≡ None → IsToday kept index today.stored today.count today.driver today.codriver x)) }
+    ensures found { IfOk result (λ today. IfSome (M.state unit.old).image (λ x. 0 < kept → slot_count x index ≤ DAY_WORD_LIMIT → first_failing (word_checks (slot_place index + DAY_WORDS.place) [] (slot_words x index (slot_count x index))) ≡ None → IsToday kept index today x)) }
     ensures count { IfOk result (λ today. today.count ≤ 2 * (kept % 1440 + 1)) }
-    ensures driver { IfOk result (λ today. today.driver < 16) }
-    ensures codriver { IfOk result (λ today. today.codriver < 16) }
+    ensures driver { IfOk result (λ today. today.bits.driver < 16) }
+    ensures codriver { IfOk result (λ today. today.bits.codriver < 16) }
     ensures reads { Reads (M.state unit.old) (M.state unit.new) (is_err result) }
 {
     if kept == 0 {
         return Ok(Today {
             stored: 0,
             count: 0,
-            driver: BARE,
-            codriver: BARE,
+            bits: BARE,
         });
     }
     let place = slot_place(index) + DAY_COUNT.place;
@@ -124,21 +122,22 @@ fn today_of(last: u32, stored: u32, scan: Result<Scan, u32>) -> Today
     requires { last < 1440 }
     ensures today { result ≡ today_of last stored scan }
     ensures count { result.count ≤ 2 * (last + 1) }
-    ensures driver { result.driver < 16 }
-    ensures codriver { result.codriver < 16 }
+    ensures driver { result.bits.driver < 16 }
+    ensures codriver { result.bits.codriver < 16 }
 {
     match scan {
         Ok(scan) => Today {
             stored,
             count: scan.count.min(2 * (last + 1)),
-            driver: scan.driver % 16,
-            codriver: scan.codriver % 16,
+            bits: SlotBits {
+                driver: scan.driver % 16,
+                codriver: scan.codriver % 16,
+            },
         },
         Err(_) => Today {
             stored,
             count: 0,
-            driver: BARE,
-            codriver: BARE,
+            bits: BARE,
         },
     }
 }

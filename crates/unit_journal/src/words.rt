@@ -1,67 +1,56 @@
-ghost use Rattle.std.specs.Prelude.{◌≡◌, ◌≤◌, ◌<◌, ◌+◌, ◌*◌, ◌-◌, length, IfOk, OnOk, IfSome, is_err, option_map, true};
-ghost use Rattle.unit_model.specs.declared.layout.TheConstants.{LAST_MINUTE};
+ghost use Rattle.std.specs.Prelude.{◌≡◌, ◌<◌, length};
 ghost use Rattle.unit_model.specs.Changes.{first_state};
-ghost use Rattle.unit_journal.specs.Image.{head_of, new_head};
+ghost use Rattle.unit_journal.specs.Coming.{IsComing};
+ghost use Rattle.unit_journal.specs.Minute.{head_of, new_head};
 
-/// No card, rest, single.
-pub const BARE: u32 = 4;
+use crate::bits::{BARE, SlotBits};
+use crate::coming::Coming;
+use unit_model::layout::{DAY_COUNT, DAY_DATE, DAY_ODOMETER, DAY_SPARE};
 
-// A slot's state at 00:00 of a new day.
-pub fn first(minute: u32, state: u32) -> u32
-    requires { state < 16 }
-    ensures state { result ≡ first_state minute state }
-    ensures short { result < 16 }
+/// The states at 00:00 of a new day, whose first kept minute has this number in it.
+pub fn first_bits(minute: u32, bits: SlotBits) -> SlotBits
+    requires driver { bits.driver < 16 }
+    requires codriver { bits.codriver < 16 }
+    ensures driver { result.driver ≡ first_state minute bits.driver }
+    ensures codriver { result.codriver ≡ first_state minute bits.codriver }
+    ensures driver_short { result.driver < 16 }
+    ensures codriver_short { result.codriver < 16 }
 {
-    if minute == 0 { state } else { BARE }
+    if minute == 0 { bits } else { BARE }
 }
 
-// The beginning of a new day's slot: its date, the odometer, the count of two words, six spare bytes, and these words.
-fn head(date: u32, odometer: u32, driver: u32, codriver: u32) -> [u8; 20]
-    requires driver { driver < 16 }
-    requires codriver { codriver < 16 }
-    ensures { result ≡ head_of date odometer driver codriver }
+// Writes the beginning of a new day's slot: its date, the odometer, the count of two words, six spare bytes, and these words.
+fn write_head(date: u32, odometer: u32, first: SlotBits, out: &mut [u8])
+    requires size { length out.old ≡ 20 }
+    requires driver { first.driver < 16 }
+    requires codriver { first.codriver < 16 }
+    ensures { out.new ≡ head_of date odometer first }
 {
-    let date = date.to_be_bytes();
-    let odometer = odometer.to_be_bytes();
-    let driver = ((2048 * driver) as u16).to_be_bytes();
-    let codriver = ((32768 + 2048 * codriver) as u16).to_be_bytes();
-    let spare = [0; 6];
-    [
-        date[0],
-        date[1],
-        date[2],
-        date[3],
-        odometer[0],
-        odometer[1],
-        odometer[2],
-        odometer[3],
-        0,
-        2,
-        spare[0],
-        spare[1],
-        spare[2],
-        spare[3],
-        spare[4],
-        spare[5],
-        driver[0],
-        driver[1],
-        codriver[0],
-        codriver[1],
-    ]
+    let (place, out) = out.split_at_mut(DAY_DATE.size as usize);
+    place.copy_from_slice(&date.to_be_bytes());
+    let (place, out) = out.split_at_mut(DAY_ODOMETER.size as usize);
+    place.copy_from_slice(&odometer.to_be_bytes());
+    let (place, out) = out.split_at_mut(DAY_COUNT.size as usize);
+    place.copy_from_slice(&2_u16.to_be_bytes());
+    let (spare, words) = out.split_at_mut(DAY_SPARE.size as usize);
+    spare.copy_from_slice(&[0; 6]);
+    let (driver, codriver) = words.split_at_mut(2);
+    driver.copy_from_slice(&((2048 * first.driver) as u16).to_be_bytes());
+    codriver.copy_from_slice(&((32768 + 2048 * first.codriver) as u16).to_be_bytes());
 }
 
-// The beginning of the slot of a minute's day.
-pub fn new_head(minute: u32, driver: u32, codriver: u32, odometer: u32) -> [u8; 20]
-    requires small { minute ≤ LAST_MINUTE }
-    requires driver { driver < 16 }
-    requires codriver { codriver < 16 }
-    ensures { result ≡ new_head minute driver codriver odometer }
+/// The beginning of the slot of a minute's day.
+pub fn new_head(coming: Coming) -> [u8; 20]
+    requires { IsComing coming }
+    ensures { result ≡ new_head coming }
 {
-    let now = minute % 1440;
-    head(
-        86400 * (minute / 1440),
-        odometer,
-        first(now, driver),
-        first(now, codriver),
-    )
+    let first = first_bits(coming.minute % 1440, coming.bits);
+    let mut head = [0; 20];
+    write_head(
+        86400 * (coming.minute / 1440),
+        coming.odometer,
+        first,
+        &mut head,
+    );
+    head
 }

@@ -1,5 +1,5 @@
 ghost use Rattle.std.specs.Prelude.{◌≡◌, ◌≢◌, ℕ, List, length, ◌+◌, ◌-◌, ◌*◌, ◌/◌, ◌<◌, ◌≤◌, min, IfOk, IfSome, is_err};
-ghost use Rattle.unit_model.specs.declared.layout.TheConstants.{DAY_SLOTS, DAY_WORD_LIMIT, HIGHEST_ODOMETER, IMAGE_SIZE};
+ghost use Rattle.unit_model.specs.declared.layout.TheConstants.{DAY_SLOTS, DAY_WORD_LIMIT, DAY_WORDS, HIGHEST_ODOMETER, IMAGE_SIZE};
 ghost use Rattle.tach_media.specs.Medium.{Reads};
 ghost use Rattle.gated_ring.specs.Ring.{number_at};
 ghost use Rattle.unit_model.specs.Image.{recorded, slot_place, slot_date, slot_odometer, slot_count};
@@ -197,7 +197,7 @@ impl Journal {
         requires place { IsSlotPlace head.now.place }
         requires few { head.now.words ≤ DAY_WORD_LIMIT }
         requires index { index < head.now.words }
-        ensures word { IfOk result (λ word. IfSome (M.state unit.old).image (λ x. word ≡ number_at x (head.now.place + 16 + 2 * index) 2)) }
+        ensures word { IfOk result (λ word. IfSome (M.state unit.old).image (λ x. word ≡ number_at x (head.now.place + DAY_WORDS.place + 2 * index) 2)) }
         ensures recorded { IfOk result (λ word. IfSome (M.state unit.old).image (λ x. AreRight self.now x → IsWordOf x head.now index word)) }
         ensures reads { Reads (M.state unit.old) (M.state unit.new) (is_err result) }
     {

@@ -1,6 +1,7 @@
 use Rattle.std.proofs.Common.{◌≡◌, ℕ, ◌+◌, ◌%◌, min, IfSome, refl, sym, subst, arith}
 use Rattle.tach_media.proofs.Runs.{both_told}
 use Rattle.gated_ring.specs.Ring.{number_at}
+use Rattle.unit_model.specs.declared.layout.TheConstants.{DAY_WORDS, DAY_WORD_LIMIT}
 use Rattle.unit_model.specs.Image.{slot_place, slot_count, slot_words}
 use Rattle.unit_memory.specs.Scans.{start, scan_from}
 use Rattle.unit_memory.proofs.Told.{carried}
@@ -18,8 +19,8 @@ returns-clause-found g c =
     let r = c.in_ok-scan.scan in
     let read = c.in_ok-read_number.field-0 in
     let count : IfSome image (λ x. read ≡ slot_count x i) = subst (λ (p : ℕ). IfSome image (λ x. read ≡ number_at x (p + 8) 2)) c.slot_place.ensures c.in_ok-read_number.ensures.value in
-    let scan : IfSome image (λ x. r ≡ scan_from (kept % 1440) (slot_place i + 16) 0 start (slot_words x i n)) =
-    carried (λ x. r ≡ scan_from (kept % 1440) (slot_place i + 16) 0 start (slot_words x i n)) (c.in_ok-read_number.ensures.reads.same refl) c.in_ok-scan.ensures.scan in
+    let scan : IfSome image (λ x. r ≡ scan_from (kept % 1440) (slot_place i + DAY_WORDS.place) 0 start (slot_words x i n)) =
+    carried (λ x. r ≡ scan_from (kept % 1440) (slot_place i + DAY_WORDS.place) 0 start (slot_words x i n)) (c.in_ok-read_number.ensures.reads.same refl) c.in_ok-scan.ensures.scan in
     both_told image _ count scan (λ x is count scan some few none.
-    let stored : n ≡ min (slot_count x i) 2880 = omega (arith, count) in
-    subst (λ (t : Today). IsToday kept i t.stored t.count t.driver t.codriver x) (sym c.today_of.ensures.today) (scan_today kept i n r x stored few none scan))
+    let stored : n ≡ min (slot_count x i) DAY_WORD_LIMIT = omega (arith, count) in
+    subst (λ (t : Today). IsToday kept i t x) (sym c.today_of.ensures.today) (scan_today kept i n r x stored few none scan))

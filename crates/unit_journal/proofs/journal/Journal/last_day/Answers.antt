@@ -1,5 +1,6 @@
 use Rattle.std.proofs.Common.{◌≡◌, ℕ, ◌+◌, ◌-◌, ◌∙◌, ap, sym, arith, min, Some}
 use Rattle.gated_ring.specs.Ring.{number_at}
+use Rattle.unit_model.specs.declared.layout.TheConstants.{HIGHEST_ODOMETER}
 use Rattle.unit_model.specs.Image.{slot_place}
 use Rattle.unit_memory.proofs.Told.{one_told}
 use Rattle.unit_journal.specs.Image.{Notes}
@@ -22,7 +23,7 @@ returns-clause-day g c =
       day = record {
         place = place_is;
         date = c.last_date-date.ensures.date ∙ sym (s.date some);
-        odometer = c.min.ensures ∙ ap (λ (n : ℕ). min n 9999999) (odometer ∙ ap (λ (p : ℕ). number_at x (p + 4) 4) place_is);
+        odometer = c.min.ensures ∙ ap (λ (n : ℕ). min n HIGHEST_ODOMETER) (odometer ∙ ap (λ (p : ℕ). number_at x (p + 4) 4) place_is);
         words_are = count_is ∙ sym (last_words j x s some);
       };
     })

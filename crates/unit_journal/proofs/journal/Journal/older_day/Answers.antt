@@ -1,4 +1,5 @@
 use Rattle.std.proofs.Common.{ℕ, ◌∙◌, ap, sym, arith, min}
+use Rattle.unit_model.specs.declared.layout.TheConstants.{DAY_WORD_LIMIT, HIGHEST_ODOMETER}
 use Rattle.unit_model.specs.Image.{slot_place, slot_odometer, slot_count}
 use Rattle.unit_memory.proofs.Told.{one_told}
 use Rattle.unit_journal.specs.Reading.{nth_index}
@@ -20,7 +21,7 @@ returns-clause-day g c =
       day = record {
         place = c.in_ok-day.ensures.known.0 ∙ ap slot_place index_is;
         date = c.in_ok-day.ensures.known.1 ∙ dated;
-        odometer = read.0 ∙ ap (λ (i : ℕ). min (slot_odometer x i) 9999999) index_is;
-        words_are = read.1 ∙ ap (λ (i : ℕ). min (slot_count x i) 2880) index_is ∙ sym (older_count j x n s c.requires.nth);
+        odometer = read.0 ∙ ap (λ (i : ℕ). min (slot_odometer x i) HIGHEST_ODOMETER) index_is;
+        words_are = read.1 ∙ ap (λ (i : ℕ). min (slot_count x i) DAY_WORD_LIMIT) index_is ∙ sym (older_count j x n s c.requires.nth);
       };
     })

@@ -1,6 +1,7 @@
 use Rattle.std.proofs.Common.{◌≡◌, ℕ, ◌<◌, ◌≤◌, ◌+◌, [], None, refl, sym, ◌∙◌, subst, arith}
 use Rattle.gated_ring.specs.Ring.{number_at, pointer}
 use Rattle.tach_media.proofs.Runs.{reads_then, at_image}
+use Rattle.unit_model.specs.declared.layout.TheConstants.{DAY_SLOTS, DAY_WORDS, DAY_WORD_LIMIT, ODOMETER}
 use Rattle.unit_model.specs.Decoding.{first_bad_place, first_failing, word_checks}
 use Rattle.unit_model.specs.Image.{last_kept, odometer_at, day_ring, slot_place, slot_date, slot_count, slot_words}
 use Rattle.unit_memory.specs.Judging.{IsJudged}
@@ -13,7 +14,7 @@ use Rattle.unit_journal.proofs.Loading.{found_as, last_stray}
 use Rattle.unit_journal.proofs.journal.Journal.read.Goals as goal
 
 pub day_ring-requires-clause-known : goal.day_ring-requires-clause-known
-day_ring-requires-clause-known g c = one_told (g.M.Medium.state c.args.unit.now).image (λ x. pointer day_ring x < 366) c.requires.judged (λ x judged. (decoded x (sym judged.bad ∙ c.requires.good)).known)
+day_ring-requires-clause-known g c = one_told (g.M.Medium.state c.args.unit.now).image (λ x. pointer day_ring x < DAY_SLOTS) c.requires.judged (λ x judged. (decoded x (sym judged.bad ∙ c.requires.good)).known)
 
 pub returns-clause-found : goal.returns-clause-found
 unfolding odometer_at
@@ -35,13 +36,13 @@ returns-clause-found g c =
     let ok = decoded x none in
     let kept_is : k ≡ last_kept x = omega (arith, judged.kept, ok.kept) in
     let p_is : p ≡ pointer day_ring x = omega (arith, judged.pointer_is, ok.known) in
-    let o_is : o ≡ odometer_at x = at_image (λ x. o ≡ number_at x 568 4) is (carried (λ x. o ≡ number_at x 568 4) (r.same refl) c.in_ok-read_number.ensures.value) in
+    let o_is : o ≡ odometer_at x = at_image (λ x. o ≡ number_at x ODOMETER.place ODOMETER.size) is (carried (λ x. o ≡ number_at x ODOMETER.place ODOMETER.size) (r.same refl) c.in_ok-read_number.ensures.value) in
     let odometer_is : c.min-odometer.result ≡ odometer_at x = omega (arith, o_is, ok.odometer) in
     let s_is : s ≡ stray_of (last_kept x) (pointer day_ring x) (slot_date x (pointer day_ring x)) =
     c.later_day-stray.ensures.stray ∙ (λ j. stray_of (kept_is j) (p_is j) w.last_date) ∙ last_stray x ok w judged.walk in
-    let today : 0 < last_kept x → slot_count x i ≤ 2880 → first_failing (word_checks (slot_place i + 16) [] (slot_words x i (slot_count x i))) ≡ None → IsToday (last_kept x) i t.stored t.count t.driver t.codriver x =
-    subst (λ (q : ℕ). 0 < q → slot_count x i ≤ 2880 → first_failing (word_checks (slot_place i + 16) [] (slot_words x i (slot_count x i))) ≡ None → IsToday q i t.stored t.count t.driver t.codriver x) kept_is
-    (at_image (λ x. 0 < k → slot_count x i ≤ 2880 → first_failing (word_checks (slot_place i + 16) [] (slot_words x i (slot_count x i))) ≡ None → IsToday k i t.stored t.count t.driver t.codriver x) is
-    (carried (λ x. 0 < k → slot_count x i ≤ 2880 → first_failing (word_checks (slot_place i + 16) [] (slot_words x i (slot_count x i))) ≡ None → IsToday k i t.stored t.count t.driver t.codriver x) (r1.same refl) c.in_ok-today.ensures.found)) in
+    let today : 0 < last_kept x → slot_count x i ≤ DAY_WORD_LIMIT → first_failing (word_checks (slot_place i + DAY_WORDS.place) [] (slot_words x i (slot_count x i))) ≡ None → IsToday (last_kept x) i t x =
+    subst (λ (q : ℕ). 0 < q → slot_count x i ≤ DAY_WORD_LIMIT → first_failing (word_checks (slot_place i + DAY_WORDS.place) [] (slot_words x i (slot_count x i))) ≡ None → IsToday q i t x) kept_is
+    (at_image (λ x. 0 < k → slot_count x i ≤ DAY_WORD_LIMIT → first_failing (word_checks (slot_place i + DAY_WORDS.place) [] (slot_words x i (slot_count x i))) ≡ None → IsToday k i t x) is
+    (carried (λ x. 0 < k → slot_count x i ≤ DAY_WORD_LIMIT → first_failing (word_checks (slot_place i + DAY_WORDS.place) [] (slot_words x i (slot_count x i))) ≡ None → IsToday k i t x) (r1.same refl) c.in_ok-today.ensures.found)) in
     let d_is : d ≡ recorded_days (last_kept x) w.there (stray_of (last_kept x) (pointer day_ring x) (slot_date x (pointer day_ring x))) = c.recorded_days-day_count.ensures.count ∙ (λ j. recorded_days (kept_is j) w.there (s_is j)) in
-    found_as x none i t.stored t.count t.driver t.codriver d w judged.walk c.index_of-index.ensures.index today d_is k c.min-odometer.result s kept_is odometer_is s_is)
+    found_as x none i t d w judged.walk c.index_of-index.ensures.index today d_is k c.min-odometer.result s kept_is odometer_is s_is)

@@ -1,52 +1,26 @@
-use Rattle.std.proofs.Common.{◌<◌, inl, inr, arith, subst}
-use Rattle.tach_media.specs.Medium.{LeavesOnly}
-use Rattle.tach_media.proofs.Runs.{weaken, goes_by, image_then, settled_then}
+use Rattle.std.proofs.Common.{rules, ◌≡◌, ◌+◌, ◌≤◌, Bool, true, IfSome, sym, subst, arith}
+use Rattle.std.specs.Prelude.{is_err, OnOk}
+use Rattle.tach_media.proofs.Runs.{on_ok}
+use Rattle.write_plan.specs.Plan.{PutsBy}
+use Rattle.write_plan.proofs.Plans.{puts_by_unread}
 use Rattle.unit_journal.specs.Image.{Notes}
-use Rattle.unit_journal.specs.Mends.{shut, IsMendStep}
-use Rattle.unit_model.specs.Cells.{cells_emptied}
+use Rattle.unit_journal.specs.Mends.{mending, HasNothingLater}
+use Rattle.unit_journal.proofs.MendPlan.{mend_puts, mend_idle}
 use Rattle.unit_journal.proofs.journal.Journal.write_mends.Goals as goal
 
-pub returns-in_err-shut_day-clause-moments : goal.returns-in_err-shut_day-clause-moments
-returns-in_err-shut_day-clause-moments g c =
-    let k = c.self.inside.notes.kept in
-    subst (λ (r : Notes). LeavesOnly (g.M.Medium.state c.args.unit.now) (g.M.Medium.state c.shut_day.new.unit) (IsMendStep r)) c.self.view_is
-    (goes_by (cells_emptied k 32) (weaken c.empty_cells.ensures.moments (λ x d was s. inl s)) c.in_ok-empty_cells.ensures.emptied c.shut_day.ensures.moments (λ x d was s. inr (inl s)))
+pub returns-in_err-plan-clause-puts : goal.returns-in_err-plan-clause-puts
+returns-in_err-plan-clause-puts g c =
+    let failed : is_err c.from_residual.result ≡ true = search rules in
+    subst (λ (b : Bool). PutsBy (g.M.Medium.state c.args.unit.now) (g.M.Medium.state c.late_cells.new.unit) b 0 34 (mending c.args.self.now)) (sym failed) (puts_by_unread 0 34 (mending c.args.self.now) c.in_err-plan.ensures.reads)
 
-pub returns-clause-moments : goal.returns-clause-moments
-returns-clause-moments g c =
-    let k = c.self.inside.notes.kept in
-    let stray = c.self.inside.notes.stray in
-    let some : 0 < k = omega (arith, c.if-kept-eq0.false) in
-    let old = g.M.Medium.state c.args.unit.now in
-    subst (λ (r : Notes). LeavesOnly old (g.M.Medium.state c.cut_count.new.unit) (IsMendStep r)) c.self.view_is
-    (goes_by (λ x. shut stray (cells_emptied k 32 x))
-    (goes_by (cells_emptied k 32) (weaken c.empty_cells.ensures.moments (λ x d was s. inl s)) c.in_ok-empty_cells.ensures.emptied c.shut_day.ensures.moments (λ x d was s. inr (inl s)))
-    (image_then old.image _ _ (cells_emptied k 32) (shut stray) c.in_ok-empty_cells.ensures.emptied c.in_ok-shut_day.ensures.shut)
-    c.cut_count.ensures.moments (λ x d was s. inr (inr (some, s))))
+pub returns-clause-puts : goal.returns-clause-puts
+returns-clause-puts g c =
+    subst (λ (j : Notes). PutsBy (g.M.Medium.state c.args.unit.now) (g.M.Medium.state c.put_pieces.new.medium) (is_err c.put_pieces.result) 0 34 (mending j)) c.self.view_is
+    (mend_puts c.self.inside.notes c.in_ok-plan.plan c.add_shut.new.plan c.add_cut.new.plan c.in_ok-plan.ensures.reads c.in_ok-plan.ensures.plan c.add_shut.ensures.plan c.add_cut.ensures.plan
+    (omega (arith, c.in_ok-plan.ensures.room.few, c.add_shut.ensures.length, c.add_cut.ensures.length)) c.put_pieces.ensures.puts)
 
-pub returns-clause-settled : goal.returns-clause-settled
-returns-clause-settled g c =
-    let old = g.M.Medium.state c.args.unit.now in
-    let mid = g.M.Medium.state c.empty_cells.new.unit in
-    let then = g.M.Medium.state c.shut_day.new.unit in
-    let new = g.M.Medium.state c.cut_count.new.unit in
-    settled_then old then new c.cut_count.ensures.moments.later
-    (settled_then old mid then c.shut_day.ensures.moments.later c.in_ok-empty_cells.ensures.settled c.in_ok-shut_day.ensures.settled) c.in_ok-cut_count.ensures.settled
-
-pub returns-then-kept-eq0-clause-moments : goal.returns-then-kept-eq0-clause-moments
-returns-then-kept-eq0-clause-moments g c =
-    let k = c.self.inside.notes.kept in
-    subst (λ (r : Notes). LeavesOnly (g.M.Medium.state c.args.unit.now) (g.M.Medium.state c.shut_day.new.unit) (IsMendStep r)) c.self.view_is
-    (goes_by (cells_emptied k 32) (weaken c.empty_cells.ensures.moments (λ x d was s. inl s)) c.in_ok-empty_cells.ensures.emptied c.shut_day.ensures.moments (λ x d was s. inr (inl s)))
-
-pub returns-in_err-cut_count-clause-moments : goal.returns-in_err-cut_count-clause-moments
-returns-in_err-cut_count-clause-moments g c =
-    let k = c.self.inside.notes.kept in
-    let stray = c.self.inside.notes.stray in
-    let some : 0 < k = omega (arith, c.if-kept-eq0.false) in
-    let old = g.M.Medium.state c.args.unit.now in
-    subst (λ (r : Notes). LeavesOnly old (g.M.Medium.state c.cut_count.new.unit) (IsMendStep r)) c.self.view_is
-    (goes_by (λ x. shut stray (cells_emptied k 32 x))
-    (goes_by (cells_emptied k 32) (weaken c.empty_cells.ensures.moments (λ x d was s. inl s)) c.in_ok-empty_cells.ensures.emptied c.shut_day.ensures.moments (λ x d was s. inr (inl s)))
-    (image_then old.image _ _ (cells_emptied k 32) (shut stray) c.in_ok-empty_cells.ensures.emptied c.in_ok-shut_day.ensures.shut)
-    c.cut_count.ensures.moments (λ x d was s. inr (inr (some, s))))
+pub returns-clause-idle : goal.returns-clause-idle
+returns-clause-idle g c =
+    subst (λ (j : Notes). OnOk c.put_pieces.result (IfSome (g.M.Medium.state c.args.unit.now).image (λ x. HasNothingLater j x → (g.M.Medium.state c.put_pieces.new.medium).clock ≡ (g.M.Medium.state c.args.unit.now).clock))) c.self.view_is
+    (on_ok c.put_pieces.result (λ fine. mend_idle c.self.inside.notes c.in_ok-plan.plan c.add_shut.new.plan c.add_cut.new.plan c.in_ok-plan.ensures.reads c.in_ok-plan.ensures.plan c.add_shut.ensures.plan c.add_cut.ensures.plan
+    (omega (arith, c.in_ok-plan.ensures.room.few, c.add_shut.ensures.length, c.add_cut.ensures.length)) c.put_pieces.ensures.puts))

@@ -1,11 +1,6 @@
--- Facts under other names.
-use Rattle.std.proofs.Common.{◌≡◌, ℕ, ◌<◌, List, Option, Some, None, IfSome, is_some, refl, subst}
+-- What is told of the image before a run, and of that after it.
+use Rattle.std.proofs.Common.{◌≡◌, List, ℕ, Option, Some, None, IfSome, is_some, refl}
 use Rattle.tach_media.proofs.Runs.{told_too}
-use Rattle.gated_ring.specs.Ring.{Shape, pointer, taken}
-use Rattle.unit_model.specs.Image.{day_ring}
-
-pub index_as : (r : Shape) (index : ℕ) (x : List ℕ) → r ≡ day_ring → (pointer r x < r.count → index ≡ taken r x) → pointer day_ring x < 366 → index ≡ taken day_ring x
-index_as r index x ring is known = (subst (λ (s : Shape). pointer s x < s.count → index ≡ taken s x) ring is) known
 
 pub told : (o : Option (List ℕ)) (A C : List ℕ → Type 0) → IfSome o A → ((x : List ℕ) → o ≡ Some x → A x → C x) → IfSome o C
 told None A C said all = tt
