@@ -43,8 +43,8 @@ counted_view v = record { days = v.held.days; before = last_entry v.held.entries
 
 -- The days that the entries of a card have, whose image was this at the start: the days that count there, and those that further
 -- entries bring, where the next one is not earlier than a minute.
-unfoldable pub days_with : (start : List ℕ) → (next : ℕ) → List Entry → List WordDay
-days_with start next more =
+unfoldable pub expected_with : (start : List ℕ) → (next : ℕ) → List Entry → List WordDay
+expected_with start next more =
     expected_days (own_covered start) next (counted (own_covered start) (counted_view (own_view start)) more)
 
 -- Each day at the start up to that of the end mark, from this one on, is one of these: a repair cuts later days only.
@@ -59,7 +59,7 @@ pub record KeepsFrom (start : List ℕ) (from : ℕ) (all : List Entry) (held : 
   pub more : List Entry
   pub begins : all ≡ (own_view start).held.entries ++ more
   pub keeps : (next : ℕ) → from ≤ next →
-      (r : CardRetains (own_sizes start).activity 16 ((own_view start).mark / 1440) (days_with start next more) all
+      (r : CardRetains (own_sizes start).activity 16 ((own_view start).mark / 1440) (expected_with start next more) all
       held.days held.entries)
       × StandsFrom start r.oldest held.days
 

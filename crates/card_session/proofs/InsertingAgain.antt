@@ -22,7 +22,7 @@ use Rattle.card_session.specs.Cards.{IsCard, days_and_vehicles}
 use Rattle.card_session.specs.Books.{closed}
 use Rattle.card_session.specs.Sessions.{book_of}
 use Rattle.card_session.specs.Moments.{IsBook, IsCloseMoment}
-use Rattle.card_session.specs.Inserting.{repaired, IsMending, Both, During, IsStill, IsRepaired, IsRepairing, IsNoted, IsNoting, IsShut, IsShutting, IsEnded, IsEnding, IsOpened, IsOpening, InsertingClosed, InsertingOpen, IsCardInserting, timed, registered}
+use Rattle.card_session.specs.Inserting.{repaired, IsRepairMoment, Both, During, IsStill, IsRepaired, IsRepairing, IsNoted, IsNoting, IsShut, IsShutting, IsEnded, IsEnding, IsOpened, IsOpening, InsertingClosed, InsertingOpen, IsCardInserting, timed, registered}
 
 module _ (app : Application) where
   -- the card has the same length, and tells the same sizes, the same number and the same pointer of places
@@ -151,7 +151,7 @@ module _ (app : Application) where
     repaired_keeps = card_keeps (λ x. IsBook (repaired app.activity registration odometer owed (book_of app x)))
 
     repairing_keeps : Step (IsRepairing app registration odometer owed)
-    repairing_keeps = card_keeps (λ x. IsMending app.activity registration odometer owed (book_of app x))
+    repairing_keeps = card_keeps (λ x. IsRepairMoment app.activity registration odometer owed (book_of app x))
 
     -- AT EACH MOMENT it tells the same sizes
     pub inserting_keeps : (x c : List ℕ) → Fits x → IsCardInserting app registration odometer owed now x c → Keeps x c

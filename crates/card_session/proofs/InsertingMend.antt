@@ -16,7 +16,7 @@ use Rattle.card_session.specs.Sessions.{Session, IsValue, IsOpenBook, KnowsCard,
 use Rattle.card_session.specs.Cards.{IsCard}
 use Rattle.card_session.specs.Moments.{IsBook}
 use Rattle.card_session.specs.Parts.{DoesPart, IsPartDone, IsPartMoment, AnyBook}
-use Rattle.card_session.specs.Inserting.{MayShut, EndsCut, repaired, IsMending, Both, During, IsStill, IsRepaired, IsRepairing, IsNoted, IsNoting, Mends, IsMended, IsMendMoment}
+use Rattle.card_session.specs.Inserting.{MayShut, EndsCut, repaired, IsRepairMoment, Both, During, IsStill, IsRepaired, IsRepairing, IsNoted, IsNoting, Mends, IsSessionMended, IsMendMoment}
 use Rattle.card_session.proofs.Composing.{parts_then, part_as, part_failed, told_book}
 use Rattle.card_session.proofs.InsertingCards.{knows_beside, book_beside, noted_same, use_same}
 
@@ -75,10 +75,10 @@ module _ (s : Session) (current : CurrentUse) (odometer : ℕ) (owed : List Entr
     R n r b = IsBook (repaired n r odometer owed b)
 
     abbrev M : (size : ℕ) → Registration → Book → List Day → Option Vehicle → Type 0
-    M n r b = IsMending n r odometer owed b
+    M n r b = IsRepairMoment n r odometer owed b
 
     pub second_done : {old mid new : State} {failed : Bool} → DoesPart old mid false (IsFirst t) (IsMendMoment s current odometer owed now)
-        → DoesPart mid new failed (IsPartDone t u EndsCut (repaired t.application.activity t.registration odometer owed)) (IsPartMoment t EndsCut (IsMending t.application.activity t.registration odometer owed))
+        → DoesPart mid new failed (IsPartDone t u EndsCut (repaired t.application.activity t.registration odometer owed)) (IsPartMoment t EndsCut (IsRepairMoment t.application.activity t.registration odometer owed))
         → (failed ≡ false → IfSome mid.image Opens)
         → DoesPart old new failed (IsSecond u) (IsMendMoment s current odometer owed now)
     second_done first next opens =
@@ -107,7 +107,7 @@ module _ (s : Session) (current : CurrentUse) (odometer : ℕ) (owed : List Entr
   module _ (u : Session) (value : IsValue u) (same_u : u.application ≡ s.application) where
     pub third_done : {old mid new : State} {failed : Bool} → DoesPart old mid false (IsSecond u) (IsMendMoment s current odometer owed now)
         → DoesPart mid new failed (λ y z. current ≡ current_use u.application y → IsNoted u.application now y z) (λ y c. current ≡ current_use u.application y → IsNoting u.application now y c)
-        → DoesPart old new failed (IsMended s u current odometer owed now) (IsMendMoment s current odometer owed now)
+        → DoesPart old new failed (IsSessionMended s u current odometer owed now) (IsMendMoment s current odometer owed now)
     third_done {old} {mid} {new} {failed} first next =
         parts_then first next
         (λ x y z was one two mends.
@@ -128,5 +128,5 @@ module _ (s : Session) (current : CurrentUse) (odometer : ℕ) (owed : List Entr
 
   -- one of which a part failed
   pub mend_failed : {old new : State} {failed : Bool} {S : List ℕ → List ℕ → Type 0} (t : Session) → DoesPart old new true S (IsMendMoment s current odometer owed now) → failed ≡ true
-      → DoesPart old new failed (IsMended s t current odometer owed now) (IsMendMoment s current odometer owed now)
+      → DoesPart old new failed (IsSessionMended s t current odometer owed now) (IsMendMoment s current odometer owed now)
   mend_failed t part is = part_failed part is (λ x c was one. one)

@@ -15,7 +15,7 @@ use Rattle.card_session.specs.Sessions.{Session, IsValue, IsOpenBook, KnowsCard,
 use Rattle.card_session.specs.Cards.{IsCard}
 use Rattle.card_session.specs.Moments.{IsBook}
 use Rattle.card_session.specs.Parts.{DoesPart, IsPartDone, IsPartMoment, AnyBook}
-use Rattle.card_session.specs.Inserting.{Follow, lacked, with_cut, IsCutting, with_owed, IsBeforeAll, IsReplaying, EndsCut, repaired, IsMending}
+use Rattle.card_session.specs.Inserting.{Follow, lacked, with_cut, IsCutting, with_owed, IsBeforeAll, IsReplaying, EndsCut, repaired, IsRepairMoment}
 use Rattle.card_session.proofs.Composing.{part_of, then_part, failed_part, told_book}
 use Rattle.card_session.proofs.InsertingBooks.{cut_ready}
 
@@ -38,7 +38,7 @@ module _ (s : Session) (mark odometer : ℕ) (owed ls : List Entry) (mark_is : m
   made : (x : List ℕ) → KnowsCard s x → with_owed size g odometer ls (with_cut mark (book x)) ≡ repaired size g odometer owed (book x)
   made x knows = ap (λ (es : List Entry). with_owed size g odometer es (with_cut mark (book x))) ls_is ∙ ap (λ (n : ℕ). with_owed size g odometer (lacked n owed) (with_cut n (book x))) (at x knows)
 
-  moment : (x : List ℕ) → KnowsCard s x → (ds : List Day) (v : Option Vehicle) → IsEither (book x) ds v → IsMending size g odometer owed (book x) ds v
+  moment : (x : List ℕ) → KnowsCard s x → (ds : List Day) (v : Option Vehicle) → IsEither (book x) ds v → IsRepairMoment size g odometer owed (book x) ds v
   moment x knows ds v is =
       subst (λ (n : ℕ). IsCutting n (book x) ds v ⊎ IsReplaying size g odometer (lacked n owed) (with_cut n (book x)) ds v) (at x knows)
       (subst (λ (es : List Entry). IsCutting mark (book x) ds v ⊎ IsReplaying size g odometer es (with_cut mark (book x)) ds v) ls_is is)
@@ -53,19 +53,19 @@ module _ (s : Session) (mark odometer : ℕ) (owed ls : List Entry) (mark_is : m
     strictly part = part_of s t AnyBook EndsCut (with_cut mark) (with_cut mark) (IsCutting mark) (IsCutting mark) part (λ x knows strict. tt) (λ x knows strict. refl) (λ x knows strict ds v q. q)
 
     weaker : {old new : State} {failed : Bool} (u : Session) → DoesPart old new failed (IsPartDone s u EndsCut (λ b. with_owed size g odometer ls (with_cut mark b))) (IsPartMoment s EndsCut IsEither)
-        → DoesPart old new failed (IsPartDone s u EndsCut (repaired size g odometer owed)) (IsPartMoment s EndsCut (IsMending size g odometer owed))
+        → DoesPart old new failed (IsPartDone s u EndsCut (repaired size g odometer owed)) (IsPartMoment s EndsCut (IsRepairMoment size g odometer owed))
     weaker u part =
-        part_of s u EndsCut EndsCut (λ b. with_owed size g odometer ls (with_cut mark b)) (repaired size g odometer owed) IsEither (IsMending size g odometer owed) part (λ x knows strict. strict) (λ x knows strict. made x knows)
+        part_of s u EndsCut EndsCut (λ b. with_owed size g odometer ls (with_cut mark b)) (repaired size g odometer owed) IsEither (IsRepairMoment size g odometer owed) part (λ x knows strict. strict) (λ x knows strict. made x knows)
         (λ x knows strict. moment x knows)
 
     pub cut_failed : {old mid : State} {failed : Bool} (u : Session) → DoesPart old mid true (IsPartDone s t AnyBook (with_cut mark)) (IsPartMoment s AnyBook (IsCutting mark)) → failed ≡ true
-        → DoesPart old mid failed (IsPartDone s u EndsCut (repaired size g odometer owed)) (IsPartMoment s EndsCut (IsMending size g odometer owed))
+        → DoesPart old mid failed (IsPartDone s u EndsCut (repaired size g odometer owed)) (IsPartMoment s EndsCut (IsRepairMoment size g odometer owed))
     cut_failed u part is = weaker u (failed_part s t u EndsCut (with_cut mark) (λ b. with_owed size g odometer ls (with_cut mark b)) (IsCutting mark) IsEither (strictly part) is (λ b ds v strict q. inl q))
 
     pub cut_then : {old mid new : State} {failed : Bool} (u : Session) → t.application ≡ s.application → t.registration ≡ s.registration
         → DoesPart old mid false (IsPartDone s t AnyBook (with_cut mark)) (IsPartMoment s AnyBook (IsCutting mark))
         → DoesPart mid new failed (IsPartDone t u (IsBeforeAll ls) (with_owed t.application.activity t.registration odometer ls)) (IsPartMoment t (IsBeforeAll ls) (IsReplaying t.application.activity t.registration odometer ls))
-        → DoesPart old new failed (IsPartDone s u EndsCut (repaired size g odometer owed)) (IsPartMoment s EndsCut (IsMending size g odometer owed))
+        → DoesPart old new failed (IsPartDone s u EndsCut (repaired size g odometer owed)) (IsPartMoment s EndsCut (IsRepairMoment size g odometer owed))
     cut_then {old} {mid} {new} {failed} u app registration first next =
         let sized = subst (λ (p : Application). DoesPart mid new failed (IsPartDone t u (IsBeforeAll ls) (with_owed p.activity t.registration odometer ls)) (IsPartMoment t (IsBeforeAll ls) (IsReplaying p.activity t.registration odometer ls))) app next in
         let entries = subst (λ (r : Registration). DoesPart mid new failed (IsPartDone t u (IsBeforeAll ls) (with_owed size r odometer ls)) (IsPartMoment t (IsBeforeAll ls) (IsReplaying size r odometer ls))) registration sized in

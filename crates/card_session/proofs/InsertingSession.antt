@@ -16,7 +16,7 @@ use Rattle.card_image.proofs.Beside.{session_same as session_beside}
 use Rattle.card_session.specs.Books.{closed}
 use Rattle.card_session.specs.Sessions.{book_of}
 use Rattle.card_session.specs.Moments.{IsBook, IsCloseMoment}
-use Rattle.card_session.specs.Inserting.{repaired, IsMending, IsStill, IsRepaired, IsNoted, IsShut, IsOpened, IsOpening, InsertsClosed, InsertingClosed, InsertsOpen, InsertingOpen, timed, registered}
+use Rattle.card_session.specs.Inserting.{repaired, IsRepairMoment, IsStill, IsRepaired, IsNoted, IsShut, IsOpened, IsOpening, InsertsClosed, InsertingClosed, InsertsOpen, InsertingOpen, timed, registered}
 use Rattle.card_session.proofs.Marks.{session_same}
 use Rattle.card_session.proofs.Stopping.{session_told}
 use Rattle.card_session.proofs.InsertingCards.{noted_same, noting_same}
@@ -82,7 +82,7 @@ module _ (app : Application) (x : List ℕ) (fits : image_size_of app ≤ length
 
   pub open_session : (y : List ℕ) → InsertingOpen app registration odometer owed now x y → Told y
   open_session y (inl still) = inl (still_kept y still).0
-  open_session y (inr (x1, still, inl repairing)) = inl (session_same app (IsMending app.activity registration odometer owed (book_of app x1)) x1 y repairing ∙ (still_kept x1 still).0)
+  open_session y (inr (x1, still, inl repairing)) = inl (session_same app (IsRepairMoment app.activity registration odometer owed (book_of app x1)) x1 y repairing ∙ (still_kept x1 still).0)
   open_session y (inr (x1, still, inr (x2, mended, inl noting))) = inl (session_beside app x2 y (noting_same app now x2 y noting).2 ∙ (repaired_kept x1 x2 (still_kept x1 still) mended).0)
   open_session y (inr (x1, still, inr (x2, mended, inr (x3, noted, inl shutting)))) =
       inl (session_same app (IsCloseMoment app.activity Rest (book_of app x3)) x3 y shutting ∙ (noted_kept x2 x3 (repaired_kept x1 x2 (still_kept x1 still) mended) noted).0)

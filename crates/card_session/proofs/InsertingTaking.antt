@@ -19,7 +19,7 @@ use Rattle.card_session.specs.Books.{Book, mark_of}
 use Rattle.card_session.specs.Telling.{minute_told}
 use Rattle.card_session.specs.Sessions.{Session, IsSession, IsOpenBook, KnowsCard, newest_in, book_of}
 use Rattle.card_session.specs.Parts.{DoesPart}
-use Rattle.card_session.specs.Inserting.{MayShut, Both, During, IsStill, IsRepaired, IsRepairing, IsNoted, IsNoting, IsShut, IsShutting, IsReopened, IsReopening, IsShutThen, IsShutThenMoment, IsStarted, IsStartMoment, Mends, IsMended, IsMendMoment, InsertsOpen, InsertingOpen, Takes, IsTaken, IsTaking}
+use Rattle.card_session.specs.Inserting.{MayShut, Both, During, IsStill, IsRepaired, IsRepairing, IsNoted, IsNoting, IsShut, IsShutting, IsReopened, IsReopening, IsShutThen, IsShutThenMoment, IsStarted, IsStartMoment, Mends, IsSessionMended, IsMendMoment, InsertsOpen, InsertingOpen, Takes, IsTaken, IsTaking}
 use Rattle.card_session.proofs.Composing.{parts_then, part_as, part_failed}
 use Rattle.card_session.proofs.Told.{session}
 
@@ -82,7 +82,7 @@ module _ (s : Session) (current : CurrentUse) (odometer : ℕ) (owed : List Entr
     mending x c (inl still) = inl still
     mending x c (inr later) = inr (later.0, later.1, ⊎_elim (λ repairing. inl repairing) (λ last. inr (last.0, last.1, inl last.2)) later.2)
 
-    pub open_failed : {old new : State} {failed : Bool} (t u : Session) → DoesPart old new true (IsMended s t current odometer owed now) (IsMendMoment s current odometer owed now) → failed ≡ true
+    pub open_failed : {old new : State} {failed : Bool} (t u : Session) → DoesPart old new true (IsSessionMended s t current odometer owed now) (IsMendMoment s current odometer owed now) → failed ≡ true
         → DoesPart old new failed (IsTaken s u current odometer owed now) (IsTaking s current odometer owed now)
     open_failed t u part is = part_failed part is (λ x c was one takes. inr (some_is x takes, mending x c (one (mends x takes))))
 
@@ -90,7 +90,7 @@ module _ (s : Session) (current : CurrentUse) (odometer : ℕ) (owed : List Entr
       behind : (x y c : List ℕ) → Both (IsStill app) (Both (IsRepaired app g odometer owed) (IsNoted app now)) x y → During (IsShutting app) (IsShut app) (IsReopening app g now) y c → InsertingOpen app g odometer owed now x c
       behind x y c a is = inr (a.0, a.1, inr (a.2.0, a.2.1, inr (y, a.2.2, is)))
 
-      pub taken_open : {old mid new : State} {failed : Bool} → DoesPart old mid false (IsMended s t current odometer owed now) (IsMendMoment s current odometer owed now)
+      pub taken_open : {old mid new : State} {failed : Bool} → DoesPart old mid false (IsSessionMended s t current odometer owed now) (IsMendMoment s current odometer owed now)
           → DoesPart mid new failed (IsShutThen t u (IsReopened t.application t.registration now)) (IsShutThenMoment t (IsReopening t.application t.registration now))
           → ((y : List ℕ) → KnowsCard u y → IsOpenBook (book_of u.application y) → IsSession w y)
           → DoesPart old new failed (IsTaken s w current odometer owed now) (IsTaking s current odometer owed now)
@@ -110,7 +110,7 @@ module _ (s : Session) (current : CurrentUse) (odometer : ℕ) (owed : List Entr
           inr (some_is x takes, behind x y c a.0 (subst (λ (r : Registration). During (IsShutting app) (IsShut app) (IsReopening app r now) y c) same_g sized)))
 
       -- or the closing, or the opening, failed
-      pub renew_failed : {old mid new : State} {failed : Bool} → DoesPart old mid false (IsMended s t current odometer owed now) (IsMendMoment s current odometer owed now)
+      pub renew_failed : {old mid new : State} {failed : Bool} → DoesPart old mid false (IsSessionMended s t current odometer owed now) (IsMendMoment s current odometer owed now)
           → DoesPart mid new true (IsShutThen t u (IsReopened t.application t.registration now)) (IsShutThenMoment t (IsReopening t.application t.registration now)) → failed ≡ true
           → DoesPart old new failed (IsTaken s w current odometer owed now) (IsTaking s current odometer owed now)
       renew_failed {old} {mid} {new} {failed} first next is =

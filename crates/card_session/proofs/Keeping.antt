@@ -15,7 +15,7 @@ use Rattle.card_image.specs.Fields.{vehicle_ring}
 use Rattle.card_session.specs.Sessions.{Session, IsValue, IsSession, IsOpenBook, KnowsCard, newest_in, book_of}
 use Rattle.card_session.specs.Cards.{IsCard, IsCardKept, IsCardKeeping, grown}
 use Rattle.card_session.specs.Moments.{IsBook, IsKeepMoment}
-use Rattle.card_session.specs.Parts.{DoesPart, IsPartDone, IsPartMoment, HasSame, SameButVehicle, IsBeforeGapOf, with_gap_closed, IsClosingGap, IsBeforeEntry, with_words, IsWriting, HasDay, with_more, IsTravelling, AnyBook, with_use, IsUsing, with_measured, IsSettingOdometer, with_last_use, IsSettingUse, with_new_use, IsAddingUse, entered}
+use Rattle.card_session.specs.Parts.{DoesPart, IsPartDone, IsPartMoment, HasSame, SameButVehicle, IsBeforeGapOf, with_gap_closed, IsClosingGap, IsBeforeEntry, with_entry_words, IsWriting, HasDay, with_more, IsTravelling, AnyBook, with_use, IsUsing, with_measured, IsSettingOdometer, with_last_use, IsSettingUse, with_new_use, IsAddingUse, entered}
 use Rattle.card_session.proofs.Composing.{then_part, failed_part, part_of, told_book}
 use Rattle.card_session.proofs.Preparing.{gap_are, gap_ready, words_ready, entry_last}
 
@@ -113,7 +113,7 @@ module _ (s : Session) (value : IsValue s) (odometer more : ℕ) (e : Entry) whe
   f1 = with_gap_closed size e.minute
 
   abbrev f2 : Book → Book
-  f2 b = with_words size e (f1 b)
+  f2 b = with_entry_words size e (f1 b)
 
   abbrev f3 : Book → Book
   f3 b = with_more more (f2 b)
@@ -135,11 +135,11 @@ module _ (s : Session) (value : IsValue s) (odometer more : ℕ) (e : Entry) whe
   gap_failed s1 t part is = failed_part s s1 t P f1 (entered size s.registration odometer more e) (IsClosingGap size e.minute) K part is gap_moment
 
   pub words_then : {old mid new : State} {failed : Bool} (s1 s2 : Session) → s1.application ≡ s.application → DoesPart old mid false (IsPartDone s s1 P f1) (IsPartMoment s P (IsClosingGap size e.minute))
-      → DoesPart mid new failed (IsPartDone s1 s2 (IsBeforeEntry e) (with_words s1.application.activity e)) (IsPartMoment s1 (IsBeforeEntry e) (IsWriting s1.application.activity e))
+      → DoesPart mid new failed (IsPartDone s1 s2 (IsBeforeEntry e) (with_entry_words s1.application.activity e)) (IsPartMoment s1 (IsBeforeEntry e) (IsWriting s1.application.activity e))
       → DoesPart old new failed (IsPartDone s s2 P f2) (IsPartMoment s P K)
   words_then {old} {mid} {new} {failed} s1 s2 app first next =
-      then_part s s1 s2 P (IsBeforeEntry e) f1 (with_words size e) (IsClosingGap size e.minute) (IsWriting size e) K app first
-      (subst (λ (p : Application). DoesPart mid new failed (IsPartDone s1 s2 (IsBeforeEntry e) (with_words p.activity e)) (IsPartMoment s1 (IsBeforeEntry e) (IsWriting p.activity e))) app next)
+      then_part s s1 s2 P (IsBeforeEntry e) f1 (with_entry_words size e) (IsClosingGap size e.minute) (IsWriting size e) K app first
+      (subst (λ (p : Application). DoesPart mid new failed (IsPartDone s1 s2 (IsBeforeEntry e) (with_entry_words p.activity e)) (IsPartMoment s1 (IsBeforeEntry e) (IsWriting p.activity e))) app next)
       (λ x y knows p then. gap_ready size value.sizes.string_least (book_of s.application x) knows.days.holds.ordered e.minute p e refl) gap_moment words_moment
 
   pub km_then : {old mid new : State} {failed : Bool} (s2 s3 : Session) → s2.application ≡ s.application → DoesPart old mid false (IsPartDone s s2 P f2) (IsPartMoment s P K)

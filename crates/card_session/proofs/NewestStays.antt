@@ -41,8 +41,8 @@ use Rattle.card_session.proofs.InsertingBooks.{trimmed_low}
 use Rattle.card_session.proofs.Committed.{entered_tells}
 
 -- the newest minute as a mark trims it
-abbrev pub newest_of : ℕ → List Day → ℕ
-newest_of m ds = newest_minute m (trimmed m ds)
+abbrev pub newest_by_mark : ℕ → List Day → ℕ
+newest_by_mark m ds = newest_minute m (trimmed m ds)
 
 -- no day is later than the mark's
 abbrev Low : ℕ → List Day → Type 0
@@ -51,7 +51,7 @@ Low m (d ∷ []) = d.date ≤ date_of m
 Low m (d ∷ e ∷ ds) = Low m (e ∷ ds)
 
 abbrev HasNewest : (m n : ℕ) → List Day → Type 0
-HasNewest m n ds = (newest_of m ds ≡ n) × Low m ds
+HasNewest m n ds = (newest_by_mark m ds ≡ n) × Low m ds
 
 low_of : (m date : ℕ) (ds : List Day) → AreDays date ds → newest_word ds ≤ m → Low m ds
 low_of m date [] are low = tt
@@ -75,7 +75,7 @@ some_left m d ds le none = by (nat_le d.date (date_of m)) (until (date_of m) ds)
 
 -- ---- as long as the end mark stays
 
-newest_drop : (m n date : ℕ) (d e : Day) (ds : List Day) → AreDays date (d ∷ e ∷ ds) → Low m (e ∷ ds) → newest_of m (d ∷ e ∷ ds) ≡ n → newest_of m (e ∷ ds) ≡ n
+newest_drop : (m n date : ℕ) (d e : Day) (ds : List Day) → AreDays date (d ∷ e ∷ ds) → Low m (e ∷ ds) → newest_by_mark m (d ∷ e ∷ ds) ≡ n → newest_by_mark m (e ∷ ds) ≡ n
 newest_drop m n date d e ds are low is = ⊎_elim
     (λ none. absurd (some_left m e ds (first_low m d.date e ds are.2 low) none.0))
     (λ t. ap (newest_minute m) t.less ∙ sym (ap (newest_minute m) t.whole) ∙ is)
@@ -100,7 +100,7 @@ newest_alike : (m : ℕ) (ds fs : List Day) → Alike ds fs → newest_minute m 
 newest_alike m ds fs a =
     ap (λ (o : Bool). cond o (suc m) (max m (newest_word fs))) (open_alike m ds fs a) ∙ ap (λ (w : ℕ). cond (is_open m ds) (suc m) (max m w)) (word_alike ds fs a)
 
-newest_survives : (mark n : ℕ) → Survives mark (HasNewest mark n) (λ ds. newest_of mark ds ≡ n)
+newest_survives : (mark n : ℕ) → Survives mark (HasNewest mark n) (λ ds. newest_by_mark mark ds ≡ n)
 newest_survives mark n = record {
   drops = λ room days kept wide are left q. newest_drops mark n room 0 days kept wide are left q;
   word = λ w days are on q. (ap (newest_minute mark) (trimmed_word mark w days on) ∙ q.0, low_word mark w days q.1);
@@ -111,7 +111,7 @@ newest_survives mark n = record {
 
 -- ---- it is at most the minute after the end mark
 
-pub newest_bound : (m : ℕ) (ds : List Day) → AreDays 0 ds → newest_of m ds ≤ suc m
+pub newest_bound : (m : ℕ) (ds : List Day) → AreDays 0 ds → newest_by_mark m ds ≤ suc m
 newest_bound m ds are = by (is_open m (trimmed m ds))
   where
     by : (o : Bool) → cond o (suc m) (max m (newest_word (trimmed m ds))) ≤ suc m
@@ -144,12 +144,12 @@ module _ (size : ℕ) (long : 5544 ≤ size) (b : Book) (ordered : AreDays 0 b.d
   are = gap_are size long b ordered e.minute before
 
   newest_stays : (is_newest (e.minute / 1440) (sizes b.days) ≡ false → mark_of b / 1440 < e.minute / 1440) → newest_word b.days ≤ mark_of b → (kept : List Day)
-      → IsBeforeMark size b (with_entry size registration odometer more b e) e kept → newest_of (mark_of b) kept ≡ newest_of (mark_of b) b.days
+      → IsBeforeMark size b (with_entry size registration odometer more b e) e kept → newest_by_mark (mark_of b) kept ≡ newest_by_mark (mark_of b) b.days
   newest_stays clear low kept moment =
-      keep_survives size long b ordered (HasNewest (mark_of b) (newest_of (mark_of b) b.days)) (λ ds. newest_of (mark_of b) ds ≡ newest_of (mark_of b) b.days) (newest_survives (mark_of b) (newest_of (mark_of b) b.days))
+      keep_survives size long b ordered (HasNewest (mark_of b) (newest_by_mark (mark_of b) b.days)) (λ ds. newest_by_mark (mark_of b) ds ≡ newest_by_mark (mark_of b) b.days) (newest_survives (mark_of b) (newest_by_mark (mark_of b) b.days))
       (refl, low_of (mark_of b) 0 b.days ordered low) e before (λ other. clear (sym (newest_gapped size long b ordered e.minute (e.minute / 1440)) ∙ other)) registration odometer more kept moment
 
-  entered_newest : AreDays 0 (travelled more (entered_days size e gapped)) → newest_of e.minute (travelled more (entered_days size e gapped)) ≡ closed_at (Some e)
+  entered_newest : AreDays 0 (travelled more (entered_days size e gapped)) → newest_by_mark e.minute (travelled more (entered_days size e gapped)) ≡ closed_at (Some e)
   entered_newest whole =
       let tells : Tells e (entered_days size e gapped) = entered_tells size long e gapped (entered_days size e gapped) are (entered_as size e gapped are) in
       let last = words_last size long (record { days = gapped; vehicle = b.vehicle }) are e (gap_ready size long b ordered e.minute before e refl) in
@@ -159,7 +159,7 @@ module _ (size : ℕ) (long : 5544 ≤ size) (b : Book) (ordered : AreDays 0 b.d
       ∙ kept_newest e (entered_days size e gapped) tells (ends_on e (entered_days size e gapped) tells last.0)
 
   -- with the entry it is that of its closing word
-  pub next_newest : AreDays 0 (with_entry size registration odometer more b e).days → newest_of e.minute (with_entry size registration odometer more b e).days ≡ closed_at (Some e)
+  pub next_newest : AreDays 0 (with_entry size registration odometer more b e).days → newest_by_mark e.minute (with_entry size registration odometer more b e).days ≡ closed_at (Some e)
   next_newest whole = entered_newest whole
 
   -- and no word is later than the entry
@@ -172,13 +172,13 @@ module _ (size : ℕ) (long : 5544 ≤ size) (b : Book) (ordered : AreDays 0 b.d
   -- AT EACH MOMENT it is the one or the other
   pub keep_newest : (is_newest (e.minute / 1440) (sizes b.days) ≡ false → mark_of b / 1440 < e.minute / 1440) → newest_word b.days ≤ mark_of b → (ds : List Day) (v : Option Vehicle) → AreDays 0 ds
       → IsKeepMoment size registration odometer more e b ds v
-      → ((last_use_of v ≡ last_use_of b.vehicle) × (newest_of (mark_of b) ds ≡ newest_of (mark_of b) b.days)) ⊎ ((last_use_of v ≡ 60 * e.minute) × (newest_of e.minute ds ≡ closed_at (Some e)))
+      → ((last_use_of v ≡ last_use_of b.vehicle) × (newest_by_mark (mark_of b) ds ≡ newest_by_mark (mark_of b) b.days)) ⊎ ((last_use_of v ≡ 60 * e.minute) × (newest_by_mark e.minute ds ≡ closed_at (Some e)))
   keep_newest clear low ds v whole (inl old) = inl (ap last_use_of old.0, newest_stays clear low ds old.1)
   keep_newest clear low ds v whole (inr new) = ⊎_elim
       (λ unused. inl (use_before registration odometer e.minute b.vehicle v unused, newest_stays clear low ds (inr (inr (inr new.0)))))
       (λ used. inr (
         ap last_use_of used ∙ use_at registration odometer e.minute b.vehicle,
-        ap (newest_of e.minute) new.0 ∙ entered_newest (subst (λ (l : List Day). AreDays 0 l) new.0 whole),
+        ap (newest_by_mark e.minute) new.0 ∙ entered_newest (subst (λ (l : List Day). AreDays 0 l) new.0 whole),
       ))
       new.1
 
@@ -191,9 +191,9 @@ word_drops room date (d ∷ e ∷ ds) kept wide are left = ⊎_elim (λ same. ap
 
 -- The newest minute stays; the last use stays or is that minute's; and no word is later than those of before and that minute.
 pub record Rewrites (b : Book) (ds : List Day) (v : Option Vehicle) : Type 0 where
-  pub newest : newest_of (last_use_of v / 60) ds ≡ newest_of (mark_of b) b.days
-  pub used : (last_use_of v ≡ last_use_of b.vehicle) ⊎ (last_use_of v ≡ 60 * newest_of (mark_of b) b.days)
-  pub word : newest_word ds ≤ max (newest_word b.days) (newest_of (mark_of b) b.days)
+  pub newest : newest_by_mark (last_use_of v / 60) ds ≡ newest_by_mark (mark_of b) b.days
+  pub used : (last_use_of v ≡ last_use_of b.vehicle) ⊎ (last_use_of v ≡ 60 * newest_by_mark (mark_of b) b.days)
+  pub word : newest_word ds ≤ max (newest_word b.days) (newest_by_mark (mark_of b) b.days)
 
 module _ (size : ℕ) (long : 5544 ≤ size) (b : Book) (ordered : AreDays 0 b.days) (act : Activity) (may : IsOpenBook b) where
   abbrev w : ℕ
@@ -208,7 +208,7 @@ module _ (size : ℕ) (long : 5544 ≤ size) (b : Book) (ordered : AreDays 0 b.d
   pub open_low : is_open (mark_of b) b.days ≡ true → newest_word b.days ≤ mark_of b
   open_low is = (at_mark (mark_of b) 0 b.days ordered may.ends is).word
 
-  open_newest : is_open (mark_of b) b.days ≡ true → newest_of (mark_of b) b.days ≡ suc (mark_of b)
+  open_newest : is_open (mark_of b) b.days ≡ true → newest_by_mark (mark_of b) b.days ≡ suc (mark_of b)
   open_newest is =
       ap (newest_minute (mark_of b)) (flat_of (mark_of b) 0 b.days ordered (open_low is))
       ∙ ap (λ (o : Bool). cond o (suc (mark_of b)) (max (mark_of b) (newest_word b.days))) is
@@ -223,7 +223,7 @@ module _ (size : ℕ) (long : 5544 ≤ size) (b : Book) (ordered : AreDays 0 b.d
       (λ d date. ap word_absent (last_append d.words w) ∙ closing_absent (suc (mark_of b)) act (latest_of b.days))
       (remain_some (λ d. d.date ≡ date_of (suc (mark_of b))) (size - 2) 0 b.days (fitting (size - 2) b.days) (omega (arith, long)) ordered (remain_fitting (size - 2) b.days) (open_date (mark_of b) b.days is)))
 
-  change_newest : AreDays 0 (with_change size w b.days) → is_open (mark_of b) b.days ≡ true → newest_of (suc (mark_of b)) (with_change size w b.days) ≡ suc (mark_of b)
+  change_newest : AreDays 0 (with_change size w b.days) → is_open (mark_of b) b.days ≡ true → newest_by_mark (suc (mark_of b)) (with_change size w b.days) ≡ suc (mark_of b)
   change_newest whole is =
       let flat : trimmed (suc (mark_of b)) (with_change size w b.days) ≡ with_change size w b.days = flat_of (suc (mark_of b)) 0 (with_change size w b.days) whole (omega (arith, last_is is)) in
       let most : max (suc (mark_of b)) (newest_word (with_change size w b.days)) ≡ suc (mark_of b) = omega (arith, last_is is) in
@@ -241,19 +241,19 @@ module _ (size : ℕ) (long : 5544 ≤ size) (b : Book) (ordered : AreDays 0 b.d
   -- the end mark is the old one
   waiting : (ds : List Day) (v : Option Vehicle) → v ≡ b.vehicle → IsClosingWord size act b ds → Rewrites b ds v
   waiting ds v same moment = record {
-    newest = ap (λ (o : Option Vehicle). newest_of (last_use_of o / 60) ds) same ∙ newest;
+    newest = ap (λ (o : Option Vehicle). newest_by_mark (last_use_of o / 60) ds) same ∙ newest;
     used = inl (ap last_use_of same);
     word = word;
   }
     where
-      newest : newest_of (mark_of b) ds ≡ newest_of (mark_of b) b.days
+      newest : newest_by_mark (mark_of b) ds ≡ newest_by_mark (mark_of b) b.days
       newest = ⊎_elim
-          (λ still. ap (newest_of (mark_of b)) still)
+          (λ still. ap (newest_by_mark (mark_of b)) still)
           (λ rest.
-          closing_survives size long b ordered (HasNewest (mark_of b) (newest_of (mark_of b) b.days)) (λ ds. newest_of (mark_of b) ds ≡ newest_of (mark_of b) b.days) (newest_survives (mark_of b) (newest_of (mark_of b) b.days))
+          closing_survives size long b ordered (HasNewest (mark_of b) (newest_by_mark (mark_of b) b.days)) (λ ds. newest_by_mark (mark_of b) ds ≡ newest_by_mark (mark_of b) b.days) (newest_survives (mark_of b) (newest_by_mark (mark_of b) b.days))
           (refl, low_of (mark_of b) 0 b.days ordered (open_low rest.0)) act ds (inr rest)) moment
 
-      word : newest_word ds ≤ max (newest_word b.days) (newest_of (mark_of b) b.days)
+      word : newest_word ds ≤ max (newest_word b.days) (newest_by_mark (mark_of b) b.days)
       word = ⊎_elim
           (λ still. let is : newest_word ds ≡ newest_word b.days = ap newest_word still in omega (arith, is))
           (λ rest. ⊎_elim
@@ -272,7 +272,7 @@ module _ (size : ℕ) (long : 5544 ≤ size) (b : Book) (ordered : AreDays 0 b.d
           let mark : last_use_of v / 60 ≡ suc (mark_of b) = omega (arith, seconds) in
           let word : newest_word ds ≡ suc (mark_of b) = ap newest_word days ∙ last_is is in
           record {
-            newest = ap (λ (n : ℕ). newest_of n ds) mark ∙ ap (newest_of (suc (mark_of b))) days ∙ change_newest (subst (λ (l : List Day). AreDays 0 l) days whole) is ∙ sym (open_newest is);
+            newest = ap (λ (n : ℕ). newest_by_mark n ds) mark ∙ ap (newest_by_mark (suc (mark_of b))) days ∙ change_newest (subst (λ (l : List Day). AreDays 0 l) days whole) is ∙ sym (open_newest is);
             used = inr (seconds ∙ ap (λ (n : ℕ). 60 * n) (sym (open_newest is)));
             word = omega (arith, word, open_newest is);
           }
@@ -282,19 +282,19 @@ module _ (size : ℕ) (long : 5544 ≤ size) (b : Book) (ordered : AreDays 0 b.d
   close_newest ds v whole (inr book) = moved ds v whole book
 
   -- it is the newest minute that a session knows then, or a later word's that stood there
-  pub closed_in : newest_in (closed size act b) ≡ max (newest_word b.days) (newest_of (mark_of b) b.days)
+  pub closed_in : newest_in (closed size act b) ≡ max (newest_word b.days) (newest_by_mark (mark_of b) b.days)
   closed_in = by (is_open (mark_of b) b.days) refl
     where
-      bare : is_open (mark_of b) b.days ≡ false → max (mark_of b) (newest_word b.days) ≡ max (newest_word b.days) (newest_of (mark_of b) b.days)
+      bare : is_open (mark_of b) b.days ≡ false → max (mark_of b) (newest_word b.days) ≡ max (newest_word b.days) (newest_by_mark (mark_of b) b.days)
       bare is = ⊎_elim
           (λ late. omega (arith, late, newest_bound (mark_of b) b.days ordered))
           (λ low.
-          let at : newest_of (mark_of b) b.days ≡ max (mark_of b) (newest_word b.days) =
+          let at : newest_by_mark (mark_of b) b.days ≡ max (mark_of b) (newest_word b.days) =
           ap (newest_minute (mark_of b)) (flat_of (mark_of b) 0 b.days ordered low) ∙ ap (λ (o : Bool). cond o (suc (mark_of b)) (max (mark_of b) (newest_word b.days))) is in
           omega (arith, low, at))
           (cases_lt (mark_of b) (newest_word b.days))
 
-      by : (o : Bool) → is_open (mark_of b) b.days ≡ o → newest_in (cond o marked b) ≡ max (newest_word b.days) (newest_of (mark_of b) b.days)
+      by : (o : Bool) → is_open (mark_of b) b.days ≡ o → newest_in (cond o marked b) ≡ max (newest_word b.days) (newest_by_mark (mark_of b) b.days)
       by false is = bare is
       by true is =
           let word : newest_word marked.days ≡ suc (mark_of b) = ap newest_word (changed is) ∙ last_is is in
@@ -311,7 +311,7 @@ module _ (size : ℕ) (long : 5544 ≤ size) (b : Book) (ordered : AreDays 0 b.d
 
 -- ---- on a card, by its view
 
-pub view_newest : (app : Application) (x : List ℕ) → (card_view app x).newest ≡ newest_of (end_mark app x) (card_days app x)
+pub view_newest : (app : Application) (x : List ℕ) → (card_view app x).newest ≡ newest_by_mark (end_mark app x) (card_days app x)
 unfolding card_view
 view_newest app x = refl
 
@@ -319,8 +319,8 @@ pub view_word : (app : Application) (x : List ℕ) → (card_view app x).word �
 unfolding card_view
 view_word app x = refl
 
-newest_at : (app : Application) (y : List ℕ) (m : ℕ) → end_mark app y ≡ m → (card_view app y).newest ≡ newest_of m (book_of app y).days
-newest_at app y m at = view_newest app y ∙ ap (λ (n : ℕ). newest_of n (card_days app y)) at ∙ ap (newest_of m) (sym (book_days app y))
+newest_at : (app : Application) (y : List ℕ) (m : ℕ) → end_mark app y ≡ m → (card_view app y).newest ≡ newest_by_mark m (book_of app y).days
+newest_at app y m at = view_newest app y ∙ ap (λ (n : ℕ). newest_by_mark n (card_days app y)) at ∙ ap (newest_by_mark m) (sym (book_days app y))
 
 module _ (app : Application) (sound : IsApplication app) (x : List ℕ) (ordered : AreDays 0 (book_of app x).days) (registration : Registration) (odometer more : ℕ) (e : Entry) (before : IsBeforeGapOf e.minute (book_of app x)) (y : List ℕ)
     (card : IsCard app (IsKeepMoment app.activity registration odometer more e (book_of app x)) x y) where
@@ -330,10 +330,10 @@ module _ (app : Application) (sound : IsApplication app) (x : List ℕ) (ordered
   clear_at : BeginsBehind app e x → is_newest (e.minute / 1440) (sizes b.days) ≡ false → mark_of b / 1440 < e.minute / 1440
   clear_at clear other = subst (λ (n : ℕ). n / 1440 < e.minute / 1440) (mark_told app x) (clear (ap (λ (ds : List Day). is_newest (e.minute / 1440) (sizes ds)) (sym (book_days app x)) ∙ other))
 
-  survives : BeginsBehind app e x → newest_word b.days ≤ mark_of b → (kept : List Day) → IsBeforeMark app.activity b (with_entry app.activity registration odometer more b e) e kept → newest_of (mark_of b) kept ≡ newest_of (mark_of b) b.days
+  survives : BeginsBehind app e x → newest_word b.days ≤ mark_of b → (kept : List Day) → IsBeforeMark app.activity b (with_entry app.activity registration odometer more b e) e kept → newest_by_mark (mark_of b) kept ≡ newest_by_mark (mark_of b) b.days
   survives clear low kept moment = newest_stays app.activity sound.string_least b ordered registration odometer more e before (clear_at clear) low kept moment
 
-  old_newest : BeginsBehind app e x → newest_word b.days ≤ mark_of b → end_mark app y ≡ end_mark app x → newest_of (mark_of b) (book_of app y).days ≡ newest_of (mark_of b) b.days
+  old_newest : BeginsBehind app e x → newest_word b.days ≤ mark_of b → end_mark app y ≡ end_mark app x → newest_by_mark (mark_of b) (book_of app y).days ≡ newest_by_mark (mark_of b) b.days
   old_newest clear low same = ⊎_elim
       (λ old. survives clear low (book_of app y).days old.1)
       (λ new. ⊎_elim
@@ -347,8 +347,8 @@ module _ (app : Application) (sound : IsApplication app) (x : List ℕ) (ordered
   pub newest_before : BeginsBehind app e x → end_mark app y ≡ end_mark app x → max (card_view app x).word (card_view app y).newest ≡ max (card_view app x).word (card_view app x).newest
   newest_before clear same = ⊎_elim
       (λ behind.
-      let up : newest_of (mark_of b) (book_of app y).days ≤ suc (mark_of b) = newest_bound (mark_of b) (book_of app y).days card.holds.ordered in
-      let was : newest_of (mark_of b) b.days ≤ suc (mark_of b) = newest_bound (mark_of b) b.days ordered in
+      let up : newest_by_mark (mark_of b) (book_of app y).days ≤ suc (mark_of b) = newest_bound (mark_of b) (book_of app y).days card.holds.ordered in
+      let was : newest_by_mark (mark_of b) b.days ≤ suc (mark_of b) = newest_bound (mark_of b) b.days ordered in
       omega (arith, behind, up, was, word, now, then_))
       (λ low. ap (λ (n : ℕ). max (card_view app x).word n) (now ∙ old_newest clear low same ∙ sym then_))
       (cases_lt (mark_of b) (newest_word b.days))
@@ -356,10 +356,10 @@ module _ (app : Application) (sound : IsApplication app) (x : List ℕ) (ordered
       word : (card_view app x).word ≡ newest_word (book_of app x).days
       word = view_word app x ∙ ap newest_word (sym (book_days app x))
 
-      now : (card_view app y).newest ≡ newest_of (mark_of (book_of app x)) (book_of app y).days
+      now : (card_view app y).newest ≡ newest_by_mark (mark_of (book_of app x)) (book_of app y).days
       now = newest_at app y (mark_of (book_of app x)) (same ∙ mark_told app x)
 
-      then_ : (card_view app x).newest ≡ newest_of (mark_of (book_of app x)) (book_of app x).days
+      then_ : (card_view app x).newest ≡ newest_by_mark (mark_of (book_of app x)) (book_of app x).days
       then_ = newest_at app x (mark_of (book_of app x)) (mark_told app x)
 
   -- ---- and once it has moved
@@ -369,5 +369,5 @@ module _ (app : Application) (sound : IsApplication app) (x : List ℕ) (ordered
       (λ old. absurd (omega (arith, before.1, at, mark_at app b y old.0)))
       (λ new. ⊎_elim
       (λ unused. absurd (omega (arith, before.1, at, mark_told app y, before_use registration odometer e.minute b.vehicle (book_of app y).vehicle unused)))
-      (λ after. newest_at app y e.minute at ∙ ap (newest_of e.minute) new.0 ∙ entered_newest app.activity sound.string_least b ordered registration odometer more e before (subst (λ (ds : List Day). AreDays 0 ds) new.0 card.holds.ordered))
+      (λ after. newest_at app y e.minute at ∙ ap (newest_by_mark e.minute) new.0 ∙ entered_newest app.activity sound.string_least b ordered registration odometer more e before (subst (λ (ds : List Day). AreDays 0 ds) new.0 card.holds.ordered))
       new.1) card.told

@@ -21,7 +21,7 @@ use Rattle.cyclic_days.proofs.Lists.{longer_day}
 use Rattle.card_session.specs.Books.{Book, mark_of, latest_of, closing_word, with_change, gap_closed, entry_word, bare_word, day_words, tells_state, entered_days, with_new_day, km_after, travelled, goes_on_in, used_until, begun_vehicle, vehicle_counter, vehicle_after}
 use Rattle.card_session.specs.Sessions.{EndsStrictly, IsOpenBook, newest_in}
 use Rattle.card_session.specs.Moments.{IsBeforeGap, IsBeforeWords, entry_len, is_told}
-use Rattle.card_session.specs.Parts.{TakesSome, with_some, IsAdding, IsBeforeGapOf, with_gap_closed, IsClosingGap, IsBeforeEntry, with_words, IsWriting, BeginsDay, with_day, IsBeforeDay, HasDay, entered}
+use Rattle.card_session.specs.Parts.{TakesSome, with_some, IsAdding, IsBeforeGapOf, with_gap_closed, IsClosingGap, IsBeforeEntry, with_entry_words, IsWriting, BeginsDay, with_day, IsBeforeDay, HasDay, entered}
 use Rattle.card_session.proofs.Composing.{book_is}
 use Rattle.card_session.proofs.Following.{closing_minute, entry_minute, takes_closing, takes_entry, begins_day, words_strict}
 
@@ -169,7 +169,7 @@ module _ (size : ℕ) (long : 5544 ≤ size) where
       in_newest : entered_days size e b.days ≡ cond (tells_state e b.days) b.days (with_change size (entry_word e) b.days)
       in_newest = ap (λ (n : Bool). cond n (cond (tells_state e b.days) b.days (with_change size (entry_word e) b.days)) (with_new_day size e b.days)) newest
 
-      pub change_makes : (word : Option ℕ) → word ≡ cond (tells_state e b.days) None (Some (entry_word e)) → with_some size word b ≡ with_words size e b
+      pub change_makes : (word : Option ℕ) → word ≡ cond (tells_state e b.days) None (Some (entry_word e)) → with_some size word b ≡ with_entry_words size e b
       change_makes word is = ap (λ (o : Option ℕ). with_some size o b) is ∙ by (tells_state e b.days) ∙ ap (λ (l : List Day). let c : Book = record { days = l; vehicle = b.vehicle } in c) (sym in_newest)
         where
           by : (t : Bool) → with_some size (cond t None (Some (entry_word e))) b ≡ (let c : Book = record { days = cond t b.days (with_change size (entry_word e) b.days); vehicle = b.vehicle } in c)
@@ -199,7 +199,7 @@ module _ (size : ℕ) (long : 5544 ≤ size) where
       new_is : entered_days size e b.days ≡ with_new_day size e b.days
       new_is = ap (λ (n : Bool). cond n (cond (tells_state e b.days) b.days (with_change size (entry_word e) b.days)) (with_new_day size e b.days)) other
 
-      pub day_makes : with_day size e b ≡ with_words size e b
+      pub day_makes : with_day size e b ≡ with_entry_words size e b
       day_makes = ap (λ (l : List Day). let c : Book = record { days = l; vehicle = b.vehicle } in c) (sym new_is)
 
       pub day_moments : (ds : List Day) (v : Option Vehicle) → IsBeforeDay size e b ds v → IsWriting size e b ds v
@@ -209,7 +209,7 @@ module _ (size : ℕ) (long : 5544 ≤ size) where
           len = ap (λ (n : Bool). cond n 2 (12 + 2 * length (day_words e))) other
 
     -- then its minute is the newest, and a word may follow
-    pub words_last : (newest_word (with_words size e b).days ≤ e.minute) × EndsStrictly (with_words size e b).days
+    pub words_last : (newest_word (with_entry_words size e b).days ≤ e.minute) × EndsStrictly (with_entry_words size e b).days
     words_last = by (is_newest (e.minute / 1440) (sizes b.days)) (tells_state e b.days) refl
       where
         by : (n told : Bool) → is_newest (e.minute / 1440) (sizes b.days) ≡ n
@@ -229,7 +229,7 @@ module _ (size : ℕ) (long : 5544 ≤ size) where
             (omega (arith, word), strict_append (fitting (size - (12 + 2 * length (day_words e))) b.days) day (words_strict e))
 
     -- and there is a day
-    pub words_ready : HasDay (with_words size e b)
+    pub words_ready : HasDay (with_entry_words size e b)
     words_ready = by (is_newest (e.minute / 1440) (sizes b.days)) refl (tells_state e b.days)
       where
         some_append : (ds : List Day) (d : Day) → ds ++ d ∷ [] ≢ []

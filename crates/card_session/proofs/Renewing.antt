@@ -31,7 +31,7 @@ use Rattle.card_session.specs.Sessions.{Session, IsSession, IsOpenBook, newest_i
 use Rattle.card_session.specs.Moments.{IsBook, IsKeepMoment, IsCloseMoment}
 use Rattle.card_session.specs.Cards.{IsCard, IsCardClosing, ended}
 use Rattle.card_session.specs.Parts.{IsBeforeGapOf}
-use Rattle.card_session.specs.Inserting.{AreOwed, Follow, lacked, with_cut, with_owed, IsBeforeAll, IsReplaying, EndsCut, repaired, IsMending, IsStill, IsRepaired, IsRepairing, IsNoted, IsNoting, IsShut, IsShutting, InsertsOpen, InsertingOpen, InsertsClosed, InsertingClosed}
+use Rattle.card_session.specs.Inserting.{AreOwed, Follow, lacked, with_cut, with_owed, IsBeforeAll, IsReplaying, EndsCut, repaired, IsRepairMoment, IsStill, IsRepaired, IsRepairing, IsNoted, IsNoting, IsShut, IsShutting, InsertsOpen, InsertingOpen, InsertsClosed, InsertingClosed}
 use Rattle.card_session.specs.Repairs.{mark_behind, BeginsLater, lacked_by, newest_behind, NewestSoFar}
 use Rattle.card_session.proofs.Composing.{told_book}
 use Rattle.card_session.proofs.Marks.{session_same, mark_told}
@@ -39,7 +39,7 @@ use Rattle.card_session.proofs.Preparing.{used_at}
 use Rattle.card_session.proofs.Stopping.{days_there, ended_same}
 use Rattle.card_session.proofs.Valid.{valid_words}
 use Rattle.card_session.proofs.Stored.{not_later}
-use Rattle.card_session.proofs.NewestStays.{newest_of, use_before, use_at, next_newest, next_low, keep_newest, Rewrites, close_newest, closed_in, closed_open, view_newest, view_word}
+use Rattle.card_session.proofs.NewestStays.{newest_by_mark, use_before, use_at, next_newest, next_low, keep_newest, Rewrites, close_newest, closed_in, closed_open, view_newest, view_word}
 use Rattle.card_session.proofs.InsertingBooks.{lacked_follow, lacked_each, cut_ready, trimmed_low}
 use Rattle.card_session.proofs.InsertingCards.{noted_same, noting_same}
 use Rattle.card_session.proofs.InsertingUse.{use_inside}
@@ -83,7 +83,7 @@ module _ (app : Application) where
       let same : card_days app c ≡ card_days app x = days_same app x c days in
       let word : (card_view app c).word ≡ (card_view app x).word = view_word app c ∙ ap newest_word same ∙ sym (view_word app x) in
       record {
-        newest = view_newest app c ∙ ap (λ (n : ℕ). newest_of n (card_days app c)) mark ∙ ap (newest_of (end_mark app x)) same ∙ sym (view_newest app x);
+        newest = view_newest app c ∙ ap (λ (n : ℕ). newest_by_mark n (card_days app c)) mark ∙ ap (newest_by_mark (end_mark app x)) same ∙ sym (view_newest app x);
         used = inl (last_use_same app x c sound points vehicles);
         word = omega (arith, word);
       }
@@ -124,7 +124,7 @@ module _ (app : Application) where
       (λ at. omega (arith, stored_most y, renews.word, at)) renews.used
 
 -- the newest word and the newest minute, and the newest minute that a session knows
-both_told : (app : Application) (x : List ℕ) → max (card_view app x).word (card_view app x).newest ≡ max (newest_word (book_of app x).days) (newest_of (mark_of (book_of app x)) (book_of app x).days)
+both_told : (app : Application) (x : List ℕ) → max (card_view app x).word (card_view app x).newest ≡ max (newest_word (book_of app x).days) (newest_by_mark (mark_of (book_of app x)) (book_of app x).days)
 unfolding card_view book_of
 both_told app x = refl
 
@@ -224,7 +224,7 @@ again_newest low mark was now is owed follow le so_far =
         ∙ sym all.0) so_far.behind
 
 -- the newest minute is not earlier than its mark
-newest_least : (m : ℕ) (ds : List Day) → m ≤ newest_of m ds
+newest_least : (m : ℕ) (ds : List Day) → m ≤ newest_by_mark m ds
 newest_least m ds = by (is_open m (trimmed m ds))
   where
     by : (o : Bool) → m ≤ cond o (suc m) (max m (newest_word (trimmed m ds)))
@@ -235,13 +235,13 @@ newest_least m ds = by (is_open m (trimmed m ds))
 
 module _ (size : ℕ) (long : 5544 ≤ size) (registration : Registration) (odometer latest : ℕ) where
   abbrev SoFar : Book → List Entry → List Day → Option Vehicle → Type 0
-  SoFar b es ds v = NewestSoFar (mark_of b) (newest_of (mark_of b) b.days) es (last_use_of v / 60) (newest_of (last_use_of v / 60) ds) × (last_use_of v ≤ max (last_use_of b.vehicle) (60 * latest))
+  SoFar b es ds v = NewestSoFar (mark_of b) (newest_by_mark (mark_of b) b.days) es (last_use_of v / 60) (newest_by_mark (last_use_of v / 60) ds) × (last_use_of v ≤ max (last_use_of b.vehicle) (60 * latest))
 
   -- none of them is there yet
-  none_so_far : (b : Book) (es : List Entry) (ds : List Day) (v : Option Vehicle) → last_use_of v ≡ last_use_of b.vehicle → newest_of (mark_of b) ds ≡ newest_of (mark_of b) b.days → SoFar b es ds v
+  none_so_far : (b : Book) (es : List Entry) (ds : List Day) (v : Option Vehicle) → last_use_of v ≡ last_use_of b.vehicle → newest_by_mark (mark_of b) ds ≡ newest_by_mark (mark_of b) b.days → SoFar b es ds v
   none_so_far b es ds v same is =
       let at : last_use_of v / 60 ≡ mark_of b = ap (λ (n : ℕ). n / 60) same in
-      (record { done = []; rest = es; split = refl; behind = inl at; newest = ap (λ (n : ℕ). newest_of n ds) at ∙ is }, omega (arith, same))
+      (record { done = []; rest = es; split = refl; behind = inl at; newest = ap (λ (n : ℕ). newest_by_mark n ds) at ∙ is }, omega (arith, same))
 
   module _ (e : Entry) (b : Book) (are : AreDays 0 b.days) (gap : IsBeforeGapOf e.minute b) (some : 1440 ≤ e.minute) where
     abbrev next : Book
@@ -253,13 +253,13 @@ module _ (size : ℕ) (long : 5544 ≤ size) (registration : Registration) (odom
     next_mark : mark_of next ≡ e.minute
     next_mark = used_at registration odometer e.minute b.vehicle
 
-    next_is : newest_of (mark_of next) next.days ≡ closed_at (Some e)
-    next_is = ap (λ (n : ℕ). newest_of n next.days) next_mark ∙ next_newest size long b are registration odometer 0 e gap next_are
+    next_is : newest_by_mark (mark_of next) next.days ≡ closed_at (Some e)
+    next_is = ap (λ (n : ℕ). newest_by_mark n next.days) next_mark ∙ next_newest size long b are registration odometer 0 e gap next_are
 
     next_below : newest_word next.days ≤ mark_of next
     next_below = omega (arith, next_mark, next_low size long b are registration odometer 0 e gap)
 
-    and_first : (es : List Entry) (now is : ℕ) → NewestSoFar (mark_of next) (newest_of (mark_of next) next.days) es now is → NewestSoFar (mark_of b) (newest_of (mark_of b) b.days) (e ∷ es) now is
+    and_first : (es : List Entry) (now is : ℕ) → NewestSoFar (mark_of next) (newest_by_mark (mark_of next) next.days) es now is → NewestSoFar (mark_of b) (newest_by_mark (mark_of b) b.days) (e ∷ es) now is
     and_first es now is one = record {
       done = e ∷ one.done;
       rest = one.rest;
@@ -270,7 +270,7 @@ module _ (size : ℕ) (long : 5544 ≤ size) (registration : Registration) (odom
 
   -- with all of them
   replay_newest : (es : List Entry) (b : Book) → AreDays 0 b.days → IsBeforeAll es b → AllByRecursion (λ e. 1440 ≤ e.minute) es
-      → newest_of (mark_of (with_owed size registration odometer es b)) (with_owed size registration odometer es b).days ≡ newest_behind (newest_of (mark_of b) b.days) es
+      → newest_by_mark (mark_of (with_owed size registration odometer es b)) (with_owed size registration odometer es b).days ≡ newest_behind (newest_by_mark (mark_of b) b.days) es
   replay_newest [] b are before many = refl
   replay_newest (e ∷ es) b are before many =
       let gap : IsBeforeGapOf e.minute b = (before.0, before.1.0) in
@@ -285,14 +285,14 @@ module _ (size : ℕ) (long : 5544 ≤ size) (registration : Registration) (odom
   -- AT EACH MOMENT with the first of them
   replay_so_far : (es : List Entry) (b : Book) → AreDays 0 b.days → newest_word b.days ≤ mark_of b → IsBeforeAll es b → AllByRecursion (λ e. 1440 ≤ e.minute) es → AllByRecursion (λ e. e.minute < latest) es
       → BeginsLater (mark_of b) es b.days → (ds : List Day) (v : Option Vehicle) → AreDays 0 ds → IsReplaying size registration odometer es b ds v → SoFar b es ds v
-  replay_so_far [] b are low before many early begins ds v whole is = none_so_far b [] ds v (ap last_use_of is.1) (ap (newest_of (mark_of b)) is.0)
+  replay_so_far [] b are low before many early begins ds v whole is = none_so_far b [] ds v (ap last_use_of is.1) (ap (newest_by_mark (mark_of b)) is.0)
   replay_so_far (e ∷ es) b are low before many early begins ds v whole (inl moment) =
       let gap : IsBeforeGapOf e.minute b = (before.0, before.1.0) in
       ⊎_elim
       (λ old. none_so_far b (e ∷ es) ds v old.0 old.1)
       (λ new.
       let at : last_use_of v / 60 ≡ e.minute = omega (arith, new.0) in (
-        record { done = e ∷ []; rest = es; split = refl; behind = inl at; newest = ap (λ (n : ℕ). newest_of n ds) at ∙ new.1 },
+        record { done = e ∷ []; rest = es; split = refl; behind = inl at; newest = ap (λ (n : ℕ). newest_by_mark n ds) at ∙ new.1 },
         omega (arith, new.0, early.0),
       ))
       (keep_newest size long b are registration odometer 0 e gap begins low ds v whole moment)
@@ -301,7 +301,7 @@ module _ (size : ℕ) (long : 5544 ≤ size) (registration : Registration) (odom
       let one =
       replay_so_far es (next e b are gap many.0) (next_are e b are gap many.0) (next_below e b are gap many.0) (with_before size long registration odometer 0 b are e gap many.0 es before.1.1) many.1 early.1
       (with_later size long registration odometer 0 b are e gap many.0 es before.1.1) ds v whole later in (
-        and_first e b are gap many.0 es (last_use_of v / 60) (newest_of (last_use_of v / 60) ds) one.0,
+        and_first e b are gap many.0 es (last_use_of v / 60) (newest_by_mark (last_use_of v / 60) ds) one.0,
         omega (arith, one.1, early.0, use_at registration odometer e.minute b.vehicle),
       )
 
@@ -320,22 +320,22 @@ module _ (size : ℕ) (long : 5544 ≤ size) (registration : Registration) (odom
     cut_before : IsBeforeAll lacks cut
     cut_before = cut_ready 1439 (mark_of b) owed b are refl strict ordered
 
-    cut_is : newest_of (mark_of b) cut.days ≡ newest_of (mark_of b) b.days
+    cut_is : newest_by_mark (mark_of b) cut.days ≡ newest_by_mark (mark_of b) b.days
     cut_is = ap (newest_minute (mark_of b)) (trimmed_twice (mark_of b) b.days)
 
-    pub repair_newest : newest_of (mark_of (repaired size registration odometer owed b)) (repaired size registration odometer owed b).days ≡ newest_behind (newest_of (mark_of b) b.days) lacks
+    pub repair_newest : newest_by_mark (mark_of (repaired size registration odometer owed b)) (repaired size registration odometer owed b).days ≡ newest_behind (newest_by_mark (mark_of b) b.days) lacks
     repair_newest = replay_newest lacks cut cut_are cut_before (lacked_many (mark_of b) owed ordered) ∙ ap (λ (n : ℕ). newest_behind n lacks) cut_is
 
     pub repair_used : last_use_of (repaired size registration odometer owed b).vehicle ≤ max (last_use_of b.vehicle) (60 * latest)
     repair_used = replay_used lacks cut early
 
-    pub repair_so_far : BeginsLater (mark_of b) lacks (trimmed (mark_of b) b.days) → (ds : List Day) (v : Option Vehicle) → AreDays 0 ds → IsMending size registration odometer owed b ds v → SoFar b lacks ds v
+    pub repair_so_far : BeginsLater (mark_of b) lacks (trimmed (mark_of b) b.days) → (ds : List Day) (v : Option Vehicle) → AreDays 0 ds → IsRepairMoment size registration odometer owed b ds v → SoFar b lacks ds v
     repair_so_far begins ds v whole (inl cutting) =
         none_so_far b lacks ds v (ap last_use_of cutting.1)
         (ap (newest_minute (mark_of b)) (⊎_elim (λ shorter. trim_from_moment (mark_of b) b.days ds shorter) (λ done. ap (trimmed (mark_of b)) done ∙ trimmed_twice (mark_of b) b.days) cutting.0))
     repair_so_far begins ds v whole (inr replaying) =
         let one = replay_so_far lacks cut cut_are (trimmed_low (mark_of b) b.days are) cut_before (lacked_many (mark_of b) owed ordered) early begins ds v whole replaying in
-        (subst (λ (n : ℕ). NewestSoFar (mark_of b) n lacks (last_use_of v / 60) (newest_of (last_use_of v / 60) ds)) cut_is one.0, one.1)
+        (subst (λ (n : ℕ). NewestSoFar (mark_of b) n lacks (last_use_of v / 60) (newest_by_mark (last_use_of v / 60) ds)) cut_is one.0, one.1)
 
 -- ---- a card whose session was left open
 
@@ -345,7 +345,7 @@ module _ (app : Application) (sound : IsApplication app) (x : List ℕ) (fits : 
   lacking = lacked (mark_of (book_of app x)) owed
 
   abbrev was : ℕ
-  was = newest_of (mark_of (book_of app x)) (book_of app x).days
+  was = newest_by_mark (mark_of (book_of app x)) (book_of app x).days
 
   -- the newest minute with the first of them; the session stays until all are there; and the last use
   record StandsNewest (y : List ℕ) : Type 0 where
@@ -393,13 +393,13 @@ module _ (app : Application) (sound : IsApplication app) (x : List ℕ) (fits : 
     still_newest : StandsNewest y
     still_newest =
         told y (session_same app (IsBook (book_of app x)) x y still)
-        (none_so_far app.activity sound.string_least registration odometer (now / 60) (book_of app x) lacking (book_of app y).days (book_of app y).vehicle (ap last_use_of still.told.1) (ap (newest_of (mark_of (book_of app x))) still.told.0))
+        (none_so_far app.activity sound.string_least registration odometer (now / 60) (book_of app x) lacking (book_of app y).days (book_of app y).vehicle (ap last_use_of still.told.1) (ap (newest_by_mark (mark_of (book_of app x))) still.told.0))
 
     repairing_newest : (z : List ℕ) → IsRepairing app registration odometer owed y z → StandsNewest z
     repairing_newest z card =
-        told z (session_same app (IsMending app.activity registration odometer owed (book_of app y)) y z card ∙ session_same app (IsBook (book_of app x)) x y still)
+        told z (session_same app (IsRepairMoment app.activity registration odometer owed (book_of app y)) y z card ∙ session_same app (IsBook (book_of app x)) x y still)
         (repair_so_far app.activity sound.string_least registration odometer (now / 60) (book_of app x) x_are x_strict owed are_owed.0 early x_later (book_of app z).days (book_of app z).vehicle card.holds.ordered
-        (subst (λ (k : Book). IsMending app.activity registration odometer owed k (book_of app z).days (book_of app z).vehicle) (told_book app (book_of app x) x y still) card.told))
+        (subst (λ (k : Book). IsRepairMoment app.activity registration odometer owed k (book_of app z).days (book_of app z).vehicle) (told_book app (book_of app x) x y still) card.told))
 
     module _ (z : List ℕ) (card : IsRepaired app registration odometer owed y z) where
       abbrev z_is : book_of app z ≡ repaired app.activity registration odometer owed (book_of app x)
@@ -408,7 +408,7 @@ module _ (app : Application) (sound : IsApplication app) (x : List ℕ) (fits : 
       full_mark : end_mark app z ≡ mark_behind (mark_of (book_of app x)) lacking
       full_mark = mark_told app z ∙ ap (λ (k : Book). mark_of k) z_is ∙ owed_at app.activity registration odometer lacking (with_cut (mark_of (book_of app x)) (book_of app x))
 
-      by_book : (c : List ℕ) → (card_view app c).newest ≡ newest_of (mark_of (book_of app c)) (book_of app c).days
+      by_book : (c : List ℕ) → (card_view app c).newest ≡ newest_by_mark (mark_of (book_of app c)) (book_of app c).days
       unfolding card_view book_of
       by_book c = refl
 
@@ -418,7 +418,7 @@ module _ (app : Application) (sound : IsApplication app) (x : List ℕ) (fits : 
 
       full_newest : (card_view app z).newest ≡ newest_behind was lacking
       full_newest =
-          by_book z ∙ ap (λ (k : Book). newest_of (mark_of k) k.days) z_is
+          by_book z ∙ ap (λ (k : Book). newest_by_mark (mark_of k) k.days) z_is
           ∙ repair_newest app.activity sound.string_least registration odometer (now / 60) (book_of app x) x_are x_strict owed are_owed.0 early
 
       full_used : last_use app z ≤ max (last_use app x) now

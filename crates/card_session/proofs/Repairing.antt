@@ -31,7 +31,7 @@ use Rattle.card_session.specs.Books.{Book, mark_of, closed, closed_days, last_us
 use Rattle.card_session.specs.Sessions.{EndsStrictly, book_of}
 use Rattle.card_session.specs.Moments.{IsBook, IsCloseMoment}
 use Rattle.card_session.specs.Cards.{IsCard}
-use Rattle.card_session.specs.Inserting.{AreOwed, Follow, lacked, with_cut, with_owed, IsBeforeAll, EndsCut, repaired, IsMending, Both, During, IsStill, IsRepaired, IsRepairing, IsNoted, IsNoting, IsShut, IsShutting, IsReopening, InsertsClosed, InsertingClosed, InsertsOpen, InsertingOpen}
+use Rattle.card_session.specs.Inserting.{AreOwed, Follow, lacked, with_cut, with_owed, IsBeforeAll, EndsCut, repaired, IsRepairMoment, Both, During, IsStill, IsRepaired, IsRepairing, IsNoted, IsNoting, IsShut, IsShutting, IsReopening, InsertsClosed, InsertingClosed, InsertsOpen, InsertingOpen}
 use Rattle.card_session.specs.Overwriting.{GoesOn}
 use Rattle.card_session.specs.Repairs.{first_minute, mark_behind, and_entries, with_entries, HasFirst, BeginsLater, lacked_by, ShowsFirst, ShowsOwed}
 use Rattle.card_session.proofs.Composing.{told_book}
@@ -149,7 +149,7 @@ module _ (size : ℕ) (long : 5544 ≤ size) (registration : Registration) (odom
             (subst (λ (l : List Day). Rests size slack covered (first_minute next ls) (mark_of b) c l) (sym whole) (rests_later size slack covered from (first_minute next ls) (mark_of b) c (trimmed (mark_of b) b.days) later rests));
       }
 
-  pub repair_stops : BeginsLater (mark_of b) ls (trimmed (mark_of b) b.days) → (ds : List Day) (v : Option Vehicle) → AreDays 0 ds → IsMending size registration odometer owed b ds v → HasFirst size slack covered next (mark_of b) c ls (last_use_of v / 60) ds
+  pub repair_stops : BeginsLater (mark_of b) ls (trimmed (mark_of b) b.days) → (ds : List Day) (v : Option Vehicle) → AreDays 0 ds → IsRepairMoment size registration odometer owed b ds v → HasFirst size slack covered next (mark_of b) c ls (last_use_of v / 60) ds
   repair_stops begins ds v ordered (inl cutting) =
       none_yet ds v cutting.1 (⊎_elim (λ shorter. trim_from_moment (mark_of b) b.days ds shorter) (λ done. ap (trimmed (mark_of b)) done ∙ trimmed_twice (mark_of b) b.days) cutting.0)
   repair_stops begins ds v ordered (inr replaying) = replay_stops size long registration odometer covered ls slack from next c cut cut_lives least before many up later begins ds v ordered replaying
@@ -298,10 +298,10 @@ module _ (app : Application) (sound : IsApplication app) (x : List ℕ) (fits : 
 
     repairing_leaves : (y z : List ℕ) → IsStill app x y → IsRepairing app registration odometer owed y z → First z
     repairing_leaves y z still card = (
-      session_same app (IsMending app.activity registration odometer owed (book_of app y)) y z card ∙ session_same app (IsBook b) x y still,
+      session_same app (IsRepairMoment app.activity registration odometer owed (book_of app y)) y z card ∙ session_same app (IsBook b) x y still,
       first_told app slack covered next c z (mark_of b) lacks
           (repair_stops app.activity sound.string_least registration odometer covered b asked.are asked.strict owed ordered slack from next c asked.rests least asked.later asked.enough asked.begins (book_of app z).days (book_of app z).vehicle card.holds.ordered
-          (subst (λ (k : Book). IsMending app.activity registration odometer owed k (book_of app z).days (book_of app z).vehicle) (told_book app b x y still) card.told)),
+          (subst (λ (k : Book). IsRepairMoment app.activity registration odometer owed k (book_of app z).days (book_of app z).vehicle) (told_book app b x y still) card.told)),
     )
 
     module _ (y z : List ℕ) (still : IsStill app x y) (card : IsRepaired app registration odometer owed y z) where

@@ -34,7 +34,7 @@ use Rattle.card_session.specs.Sessions.{EndsStrictly, IsOpenBook, book_of}
 use Rattle.card_session.specs.Moments.{IsBook, IsCloseMoment}
 use Rattle.card_session.specs.Cards.{IsCard}
 use Rattle.card_session.specs.Parts.{IsBeforeGapOf}
-use Rattle.card_session.specs.Inserting.{AreOwed, Follow, lacked, with_cut, with_owed, IsBeforeAll, IsReplaying, EndsCut, repaired, IsMending, IsStill, IsRepaired, IsRepairing, IsNoted, IsNoting, IsShut, IsShutting, IsReopening, InsertingOpen}
+use Rattle.card_session.specs.Inserting.{AreOwed, Follow, lacked, with_cut, with_owed, IsBeforeAll, IsReplaying, EndsCut, repaired, IsRepairMoment, IsStill, IsRepaired, IsRepairing, IsNoted, IsNoting, IsShut, IsShutting, IsReopening, InsertingOpen}
 use Rattle.card_session.specs.Repairs.{BeginsLater, lacked_by}
 use Rattle.card_session.proofs.Composing.{told_book}
 use Rattle.card_session.proofs.OnCard.{ring_shape, ring_behind, ring_inside, string_shape}
@@ -239,7 +239,7 @@ module _ (size : ℕ) (long : 5544 ≤ size) (registration : Registration) (odom
     repair_low = replay_low size long registration odometer 0 ls cut (are_trimmed (mark_of b) 0 b.days are) (trimmed_low (mark_of b) b.days are) before (lacked_many (mark_of b) owed ordered)
 
     module _ (begins : BeginsLater (mark_of b) ls (trimmed (mark_of b) b.days)) where
-      repair_strict : (ds : List Day) (v : Option Vehicle) → AreDays 0 ds → IsMending size registration odometer owed b ds v → EndsStrictly (trimmed (last_use_of v / 60) ds)
+      repair_strict : (ds : List Day) (v : Option Vehicle) → AreDays 0 ds → IsRepairMoment size registration odometer owed b ds v → EndsStrictly (trimmed (last_use_of v / 60) ds)
       repair_strict ds v are_kept (inl cutting) =
           let whole : trimmed (mark_of b) ds ≡ trimmed (mark_of b) b.days = ⊎_elim (λ shorter. trim_from_moment (mark_of b) b.days ds shorter) (λ done. ap (trimmed (mark_of b)) done ∙ trimmed_twice (mark_of b) b.days) cutting.0 in
           subst (λ (o : Option Vehicle). EndsStrictly (trimmed (last_use_of o / 60) ds)) (sym cutting.1) (subst EndsStrictly (sym whole) strict)
@@ -279,9 +279,9 @@ module _ (app : Application) (sound : IsApplication app) (x : List ℕ) (fits : 
 
     repairing_fine : (z : List ℕ) → IsRepairing app registration odometer owed y z → Fine app z
     repairing_fine z card =
-        card_fine app sound (IsMending app.activity registration odometer owed (book_of app y)) y z still_fits card
+        card_fine app sound (IsRepairMoment app.activity registration odometer owed (book_of app y)) y z still_fits card
         (repair_strict app.activity sound.string_least registration odometer (book_of app x) days_are cut_strict owed ordered begins_told (book_of app z).days (book_of app z).vehicle card.holds.ordered
-        (subst (λ (k : Book). IsMending app.activity registration odometer owed k (book_of app z).days (book_of app z).vehicle) (told_book app (book_of app x) x y still) card.told))
+        (subst (λ (k : Book). IsRepairMoment app.activity registration odometer owed k (book_of app z).days (book_of app z).vehicle) (told_book app (book_of app x) x y still) card.told))
 
     module _ (z : List ℕ) (card : IsRepaired app registration odometer owed y z) where
       pub full_is : book_of app z ≡ full
@@ -338,7 +338,7 @@ module _ (app : Application) (sound : IsApplication app) (x : List ℕ) (fits : 
   pub stands : (y : List ℕ) → InsertingOpen app registration odometer owed now x y → Stands y
   stands y (inl still) = (still_fine y still, inl (session_same app (IsBook (book_of app x)) x y still))
   stands y (inr (x1, still, inl repairing)) =
-      (repairing_fine x1 still y repairing, inl (session_same app (IsMending app.activity registration odometer owed (book_of app x1)) x1 y repairing ∙ session_same app (IsBook (book_of app x)) x x1 still))
+      (repairing_fine x1 still y repairing, inl (session_same app (IsRepairMoment app.activity registration odometer owed (book_of app x1)) x1 y repairing ∙ session_same app (IsBook (book_of app x)) x x1 still))
   stands y (inr (x1, still, inr (x2, mended, inl noting))) = noting_stands x1 still x2 mended y noting
   stands y (inr (x1, still, inr (x2, mended, inr (x3, noted, inl shutting)))) = shutting_stands x1 still x2 mended x3 noted y shutting
   stands y (inr (x1, still, inr (x2, mended, inr (x3, noted, inr (x4, shut, reopening))))) = use_stands x1 still x2 mended x3 noted x4 y shut reopening

@@ -30,7 +30,7 @@ use Rattle.card_session.specs.Sessions.{book_of}
 use Rattle.card_session.specs.Moments.{IsBook, IsCloseMoment}
 use Rattle.card_session.specs.Cards.{IsCard}
 use Rattle.card_session.specs.Parts.{IsBeforeGapOf}
-use Rattle.card_session.specs.Inserting.{Follow, lacked, with_cut, with_owed, IsBeforeAll, IsReplaying, EndsCut, repaired, IsMending, IsStill, IsRepaired, IsRepairing, IsNoted, IsNoting, IsShut, IsShutting, IsReopening, InsertingClosed, InsertsOpen, InsertingOpen}
+use Rattle.card_session.specs.Inserting.{Follow, lacked, with_cut, with_owed, IsBeforeAll, IsReplaying, EndsCut, repaired, IsRepairMoment, IsStill, IsRepaired, IsRepairing, IsNoted, IsNoting, IsShut, IsShutting, IsReopening, InsertingClosed, InsertsOpen, InsertingOpen}
 use Rattle.card_session.specs.Overwriting.{ShowsEntries}
 use Rattle.card_session.specs.Repairs.{mark_behind, HasShown, BeginsLater, lacked_by, ShowsMore}
 use Rattle.card_session.proofs.Composing.{told_book}
@@ -205,7 +205,7 @@ module _ (size : ℕ) (long : 5544 ≤ size) (registration : Registration) (odom
         let at : last_use_of v / 60 ≡ mark_of b = ap (λ (o : Option Vehicle). last_use_of o / 60) same in
         record { done = []; rest = lacks; split = refl; behind = at; shows = none_more (last_use_of v / 60) all ds (subst (λ (n : ℕ). Lists n all ds) (sym at) lists) }
 
-    repair_shown : (ds : List Day) (v : Option Vehicle) → IsMending size registration odometer owed b ds v → HasShown (mark_of b) all lacks (last_use_of v / 60) ds
+    repair_shown : (ds : List Day) (v : Option Vehicle) → IsRepairMoment size registration odometer owed b ds v → HasShown (mark_of b) all lacks (last_use_of v / 60) ds
     repair_shown ds v (inl cutting) = ⊎_elim
         (λ shorter. none_shown ds v cutting.1 (lists_front (mark_of b) all b.days ds shorter.gone shorter.is shorter.later are up listed))
         (λ done. none_shown ds v cutting.1 (subst (λ (l : List Day). Lists (mark_of b) all l) (sym done) cut_listed)) cutting.0
@@ -268,7 +268,7 @@ module _ (app : Application) (sound : IsApplication app) (x : List ℕ) (fits : 
     repairing_shows : (z : List ℕ) → IsRepairing app registration odometer owed y z → ShowsMore app all owed x z
     repairing_shows z card =
         first_told z (repair_shown app.activity sound.string_least registration odometer (book_of app x) x_are x_strict owed ordered x_later all up_told listed_told (book_of app z).days (book_of app z).vehicle
-        (subst (λ (k : Book). IsMending app.activity registration odometer owed k (book_of app z).days (book_of app z).vehicle) (told_book app (book_of app x) x y still) card.told))
+        (subst (λ (k : Book). IsRepairMoment app.activity registration odometer owed k (book_of app z).days (book_of app z).vehicle) (told_book app (book_of app x) x y still) card.told))
 
     module _ (z : List ℕ) (card : IsRepaired app registration odometer owed y z) where
       abbrev z_is : book_of app z ≡ repaired app.activity registration odometer owed (book_of app x)

@@ -23,7 +23,7 @@ use Rattle.card_session.specs.Telling.{gap_word, is_newest_day, entry_change, km
 use Rattle.card_session.specs.Sessions.{Session, IsValue, KnowsCard, book_of}
 use Rattle.card_session.specs.Moments.{IsBook}
 use Rattle.card_session.specs.Cards.{IsCard, days_and_vehicles}
-use Rattle.card_session.specs.Parts.{DoesPart, IsPartDone, IsPartMoment, HasSame, SameButVehicle, TakesSome, with_some, IsAdding, IsBeforeGapOf, with_gap_closed, IsClosingGap, IsBeforeEntry, with_words, IsWriting, BeginsDay, with_day, IsBeforeDay, HasDay, with_more, IsTravelling}
+use Rattle.card_session.specs.Parts.{DoesPart, IsPartDone, IsPartMoment, HasSame, SameButVehicle, TakesSome, with_some, IsAdding, IsBeforeGapOf, with_gap_closed, IsClosingGap, IsBeforeEntry, with_entry_words, IsWriting, BeginsDay, with_day, IsBeforeDay, HasDay, with_more, IsTravelling}
 use Rattle.card_session.proofs.Composing.{part_of, part_none, card_as}
 use Rattle.card_session.proofs.OnCard.{newest_told}
 use Rattle.card_session.proofs.Following.{gap_told, day_told, change_told, km_is}
@@ -115,9 +115,9 @@ module _ (s : Session) (value : IsValue s) (t : Session) where
 
     pub change_part : {old new : State} {failed : Bool} (word : Option ℕ) → is_newest_day e.minute tail ≡ true → word ≡ entry_change e tail
         → DoesPart old new failed (IsPartDone s t (TakesSome word) (with_some size word)) (IsPartMoment s (TakesSome word) (IsAdding size word))
-        → DoesPart old new failed (IsPartDone s t (IsBeforeEntry e) (with_words size e)) (IsPartMoment s (IsBeforeEntry e) (IsWriting size e))
+        → DoesPart old new failed (IsPartDone s t (IsBeforeEntry e) (with_entry_words size e)) (IsPartMoment s (IsBeforeEntry e) (IsWriting size e))
     change_part word in_day is part =
-        part_of s t (TakesSome word) (IsBeforeEntry e) (with_some size word) (with_words size e) (IsAdding size word) (IsWriting size e) part
+        part_of s t (TakesSome word) (IsBeforeEntry e) (with_some size word) (with_entry_words size e) (IsAdding size word) (IsWriting size e) part
         (λ x knows before. change_asks size value.sizes.string_least (book_of app x) knows.days.holds.ordered e before (newest_is x knows ∙ in_day) word (word_is x knows))
         (λ x knows before. change_makes size value.sizes.string_least (book_of app x) knows.days.holds.ordered e before (newest_is x knows ∙ in_day) word (word_is x knows))
         (λ x knows before ds v adding. change_moments size value.sizes.string_least (book_of app x) knows.days.holds.ordered e before (newest_is x knows ∙ in_day) word (word_is x knows) ds v adding)
@@ -130,9 +130,9 @@ module _ (s : Session) (value : IsValue s) (t : Session) where
     -- or a day
     pub day_part : {old new : State} {failed : Bool} → is_newest_day e.minute tail ≡ false → 1440 ≤ e.minute
         → DoesPart old new failed (IsPartDone s t (BeginsDay e) (with_day size e)) (IsPartMoment s (BeginsDay e) (IsBeforeDay size e))
-        → DoesPart old new failed (IsPartDone s t (IsBeforeEntry e) (with_words size e)) (IsPartMoment s (IsBeforeEntry e) (IsWriting size e))
+        → DoesPart old new failed (IsPartDone s t (IsBeforeEntry e) (with_entry_words size e)) (IsPartMoment s (IsBeforeEntry e) (IsWriting size e))
     day_part other some part =
-        part_of s t (BeginsDay e) (IsBeforeEntry e) (with_day size e) (with_words size e) (IsBeforeDay size e) (IsWriting size e) part
+        part_of s t (BeginsDay e) (IsBeforeEntry e) (with_day size e) (with_entry_words size e) (IsBeforeDay size e) (IsWriting size e) part
         (λ x knows before. day_asks size value.sizes.string_least (book_of app x) knows.days.holds.ordered e before (newest_is x knows ∙ other) some)
         (λ x knows before. day_makes size value.sizes.string_least (book_of app x) knows.days.holds.ordered e before (newest_is x knows ∙ other) some)
         (λ x knows before ds v is. day_moments size value.sizes.string_least (book_of app x) knows.days.holds.ordered e before (newest_is x knows ∙ other) some ds v is)

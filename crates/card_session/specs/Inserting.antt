@@ -79,8 +79,8 @@ EndsCut b = EndsStrictly (trimmed (mark_of b) b.days)
 abbrev pub repaired : (size : ℕ) → Registration → (odometer : ℕ) → (owed : List Entry) → Book → Book
 repaired size registration odometer owed b = with_owed size registration odometer (lacked (mark_of b) owed) (with_cut (mark_of b) b)
 
-abbrev pub IsMending : (size : ℕ) → Registration → (odometer : ℕ) → (owed : List Entry) → Book → List Day → Option Vehicle → Type 0
-IsMending size registration odometer owed b days vehicle =
+abbrev pub IsRepairMoment : (size : ℕ) → Registration → (odometer : ℕ) → (owed : List Entry) → Book → List Day → Option Vehicle → Type 0
+IsRepairMoment size registration odometer owed b days vehicle =
     IsCutting (mark_of b) b days vehicle ⊎ IsReplaying size registration odometer (lacked (mark_of b) owed) (with_cut (mark_of b) b) days vehicle
 
 -- ---- of a card: its steps, each as it is done and at its moments
@@ -101,7 +101,7 @@ abbrev pub IsRepaired : Application → Registration → (odometer : ℕ) → (o
 IsRepaired app registration odometer owed x y = IsCard app (IsBook (repaired app.activity registration odometer owed (book_of app x))) x y
 
 abbrev pub IsRepairing : Application → Registration → (odometer : ℕ) → (owed : List Entry) → List ℕ → List ℕ → Type 0
-IsRepairing app registration odometer owed x c = IsCard app (IsMending app.activity registration odometer owed (book_of app x)) x c
+IsRepairing app registration odometer owed x c = IsCard app (IsRepairMoment app.activity registration odometer owed (book_of app x)) x c
 
 -- The event of a session that was not closed (Appendix 1, EventFaultType 06): from that session's begin to now, with its vehicle.
 abbrev pub unclosed : CurrentUse → (now : ℕ) → CardEvent
@@ -160,8 +160,8 @@ pub record Mends (s : Session) (current : CurrentUse) (x : List ℕ) : Type 0 wh
   pub mark : mark_of (book_of s.application x) < LATEST_MINUTE
 
 -- it is repaired, the event is noted, and a closing word may follow
-abbrev pub IsMended : (s next : Session) → CurrentUse → (odometer : ℕ) → (owed : List Entry) → (now : ℕ) → List ℕ → List ℕ → Type 0
-IsMended s next current odometer owed now x y = Mends s current x
+abbrev pub IsSessionMended : (s next : Session) → CurrentUse → (odometer : ℕ) → (owed : List Entry) → (now : ℕ) → List ℕ → List ℕ → Type 0
+IsSessionMended s next current odometer owed now x y = Mends s current x
     → Both (IsStill s.application) (Both (IsRepaired s.application s.registration odometer owed) (IsNoted s.application now)) x y × KnowsCard next y × MayShut (book_of next.application y)
 
 abbrev pub IsMendMoment : Session → CurrentUse → (odometer : ℕ) → (owed : List Entry) → (now : ℕ) → List ℕ → List ℕ → Type 0

@@ -73,8 +73,8 @@ IsBeforeDay size e b days vehicle = (Remain (size - (12 + 2 * length (day_words 
 abbrev pub IsBeforeEntry : Entry → Book → Type 0
 IsBeforeEntry e b = EndsStrictly b.days × (newest_word b.days < e.minute)
 
-abbrev pub with_words : (size : ℕ) → Entry → Book → Book
-with_words size e b = record { days = entered_days size e b.days; vehicle = b.vehicle }
+abbrev pub with_entry_words : (size : ℕ) → Entry → Book → Book
+with_entry_words size e b = record { days = entered_days size e b.days; vehicle = b.vehicle }
 
 abbrev pub IsWriting : (size : ℕ) → Entry → Book → List Day → Option Vehicle → Type 0
 IsWriting size e b days vehicle = (IsBeforeWords size e b.days days ⊎ (days ≡ entered_days size e b.days)) × (vehicle ≡ b.vehicle)

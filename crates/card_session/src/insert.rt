@@ -20,7 +20,7 @@ ghost use Rattle.card_session.specs.Sessions.{IsSession, IsOpenBook, IsValue, Kn
 ghost use Rattle.card_session.specs.Moments.{IsBook, IsCloseMoment};
 ghost use Rattle.card_session.specs.Cards.{IsCard};
 ghost use Rattle.card_session.specs.Parts.{DoesPart, IsPartDone, IsPartMoment, HasSame, AnyBook};
-ghost use Rattle.card_session.specs.Inserting.{AreOwed, Follow, MayInsert, lacked, with_cut, IsCutting, with_owed, IsBeforeAll, IsReplaying, MayShut, EndsCut, IsMended, IsMendMoment, IsShutThen, IsShutThenMoment, IsReopened, IsReopening, IsStarted, IsStartMoment, IsTaken, IsTaking, replayed_count, repaired, IsMending, IsNoted, IsNoting, timed, registered, IsOpening, IsCardInserted, IsCardInserting};
+ghost use Rattle.card_session.specs.Inserting.{AreOwed, Follow, MayInsert, lacked, with_cut, IsCutting, with_owed, IsBeforeAll, IsReplaying, MayShut, EndsCut, IsSessionMended, IsMendMoment, IsShutThen, IsShutThenMoment, IsReopened, IsReopening, IsStarted, IsStartMoment, IsTaken, IsTaking, replayed_count, repaired, IsRepairMoment, IsNoted, IsNoting, timed, registered, IsOpening, IsCardInserted, IsCardInserting};
 
 use crate::session::{CardSession, Kept, newest_minute, session_place};
 use crate::vehicle_use::last_use;
@@ -105,7 +105,7 @@ impl CardSession {
         requires few { length owed.now ≤ 4 }
         requires fits { odometer.0 < 2 ^ 24 }
         ensures same { (self.new.application ≡ self.old.application) × (self.new.registration ≡ self.old.registration) × (self.new.odometer ≡ self.old.odometer) }
-        ensures part { DoesPart (M.state port.old) (M.state port.new) (is_err result) (IsPartDone self.old self.new EndsCut (repaired self.old.application.activity self.old.registration odometer.0 owed.now)) (IsPartMoment self.old EndsCut (IsMending self.old.application.activity self.old.registration odometer.0 owed.now)) }
+        ensures part { DoesPart (M.state port.old) (M.state port.new) (is_err result) (IsPartDone self.old self.new EndsCut (repaired self.old.application.activity self.old.registration odometer.0 owed.now)) (IsPartMoment self.old EndsCut (IsRepairMoment self.old.application.activity self.old.registration odometer.0 owed.now)) }
         ensures open { OnOk result (IfSome (M.state port.old).image (λ x. KnowsCard self.old x → EndsCut (book_of self.old.application x) → IsOpenBook (repaired self.old.application.activity self.old.registration odometer.0 owed.now (book_of self.old.application x)))) }
         ensures count { IfOk result (λ n. n ≡ length (lacked (last_use_of self.old.vehicle / 60) owed.now)) }
         ensures most { (M.state port.new).clock ≤ (M.state port.old).clock + (DAYS_MOST + 69) }
@@ -213,7 +213,7 @@ impl CardSession {
         requires few { length owed.now ≤ 4 }
         requires fits { odometer.0 < 2 ^ 24 }
         ensures same { (self.new.application ≡ self.old.application) × (self.new.registration ≡ self.old.registration) × (self.new.odometer ≡ self.old.odometer) }
-        ensures part { DoesPart (M.state port.old) (M.state port.new) (is_err result) (IsMended self.old self.new current.now odometer.0 owed.now now.0) (IsMendMoment self.old current.now odometer.0 owed.now now.0) }
+        ensures part { DoesPart (M.state port.old) (M.state port.new) (is_err result) (IsSessionMended self.old self.new current.now odometer.0 owed.now now.0) (IsMendMoment self.old current.now odometer.0 owed.now now.0) }
         ensures count { IfOk result (λ n. n ≡ length (lacked (last_use_of self.old.vehicle / 60) owed.now)) }
         ensures most { (M.state port.new).clock ≤ (M.state port.old).clock + (DAYS_MOST + 74) }
     {

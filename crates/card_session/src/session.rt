@@ -14,7 +14,7 @@ ghost use Rattle.card_layout.specs.Files.{place_of};
 ghost use Rattle.card_session.specs.Sessions.{IsSession, IsValue, IsOpenBook, KnowsCard, MayKeep, MayClose, book_of};
 ghost use Rattle.card_session.specs.Moments.{IsBook, IsKeepMoment, IsCloseMoment};
 ghost use Rattle.card_session.specs.Cards.{IsCard, IsCardKept, IsCardKeeping, IsCardClosed, IsCardClosing, grown};
-ghost use Rattle.card_session.specs.Parts.{DoesPart, IsPartDone, IsPartMoment, HasSame, TakesSome, with_some, IsAdding, BeginsDay, with_day, IsBeforeDay, IsBeforeEntry, with_words, IsWriting, IsBeforeGapOf, with_gap_closed, IsClosingGap, HasDay, with_more, IsTravelling, with_use, IsUsing, AnyBook, with_measured, IsSettingOdometer, with_last_use, IsSettingUse, used_session, with_new_use, IsAddingUse, SameButVehicle, entered};
+ghost use Rattle.card_session.specs.Parts.{DoesPart, IsPartDone, IsPartMoment, HasSame, TakesSome, with_some, IsAdding, BeginsDay, with_day, IsBeforeDay, IsBeforeEntry, with_entry_words, IsWriting, IsBeforeGapOf, with_gap_closed, IsClosingGap, HasDay, with_more, IsTravelling, with_use, IsUsing, AnyBook, with_measured, IsSettingOdometer, with_last_use, IsSettingUse, used_session, with_new_use, IsAddingUse, SameButVehicle, entered};
 
 use crate::vehicle_use::{begun, counter_behind, goes_on, last_use, measured, used};
 use crate::words::{
@@ -166,7 +166,7 @@ impl CardSession {
         requires last { entry.now.minute ≤ LATEST_MINUTE }
         ensures value { IsValue self.old }
         ensures same { HasSame self.old self.new }
-        ensures part { DoesPart (M.state port.old) (M.state port.new) (is_err result) (IsPartDone self.old self.new (IsBeforeEntry entry.now) (with_words self.old.application.activity entry.now)) (IsPartMoment self.old (IsBeforeEntry entry.now) (IsWriting self.old.application.activity entry.now)) }
+        ensures part { DoesPart (M.state port.old) (M.state port.new) (is_err result) (IsPartDone self.old self.new (IsBeforeEntry entry.now) (with_entry_words self.old.application.activity entry.now)) (IsPartMoment self.old (IsBeforeEntry entry.now) (IsWriting self.old.application.activity entry.now)) }
         ensures most { (M.state port.new).clock ≤ (M.state port.old).clock + (5 + 2 * most_drops self.old.days.shape.size self.old.days.tail.used 16) }
     {
         let tail = self.days.tail();

@@ -22,9 +22,9 @@ newest_on P (e ∷ []) d on = on
 newest_on P (e ∷ f ∷ ds) d on = newest_on P (f ∷ ds) d on
 
 -- another newest day of the same date
-pub days_with : (date : ℕ) (ds : List Day) (d e : Day) → e.date ≡ d.date → IsDay e → AreDays date (ds ++ d ∷ []) → AreDays date (ds ++ e ∷ [])
-days_with date [] d e same is are = (omega (arith, are.0, same), is, tt)
-days_with date (f ∷ ds) d e same is are = (are.0, are.1, days_with f.date ds d e same is are.2)
+pub another_newest : (date : ℕ) (ds : List Day) (d e : Day) → e.date ≡ d.date → IsDay e → AreDays date (ds ++ d ∷ []) → AreDays date (ds ++ e ∷ [])
+another_newest date [] d e same is are = (omega (arith, are.0, same), is, tt)
+another_newest date (f ∷ ds) d e same is are = (are.0, are.1, another_newest f.date ds d e same is are.2)
 
 -- words that increase do not decrease, and there are few of them
 ascends : (m : ℕ) (ws : List ℕ) → Increase m ws → Ascend m ws

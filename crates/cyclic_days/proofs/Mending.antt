@@ -10,7 +10,7 @@ use Rattle.cyclic_days.specs.Steps.{SameDays, IsMeasured, IsMeasuring}
 use Rattle.card_model.proofs.Circle.{put_back}
 use Rattle.card_model.proofs.Lists.{previous_of, records_length, total-append, far_last, last_is}
 use Rattle.card_model.proofs.Trims.{with_last}
-use Rattle.cyclic_days.proofs.Lists.{days_with, split, some_newest}
+use Rattle.cyclic_days.proofs.Lists.{another_newest, split, some_newest}
 use Rattle.cyclic_days.proofs.Places.{Stands, stands}
 use Rattle.card_model.proofs.Reading.{place_then, spelled_at, fills}
 use Rattle.card_model.proofs.Lists.{len_least}
@@ -66,7 +66,7 @@ module _ (r : StringShape) (shape : IsStringShape r) (x : List ℕ) (inside : r.
               ∙ ap (λ (k : ℕ). put (k + 10) (two_bytes m) (a ++ back)) (sym (records_length h.previous older)) ∙ put_back 10 (two_bytes m) a back
               ∙ sym (spelled_at h.previous older f [] h.rest);
           empty = λ none. absurd (nothing older f none);
-          ordered = days_with 0 older d f refl (record { midnight = day.midnight; decimal = day.decimal; most = day.most; ordered = day.ordered }) h.ordered;
+          ordered = another_newest 0 older d f refl (record { midnight = day.midnight; decimal = day.decimal; most = day.most; ordered = day.ordered }) h.ordered;
         }
       where
         nothing : (older : List Day) (f : Day) → older ++ f ∷ [] ≡ [] → ⊥

@@ -227,8 +227,8 @@ pub trimming_fewer : (r : StringShape) (date i : ℕ) (x c : List ℕ) → IsTri
 trimming_fewer r date i x c step = record { outside = step.outside; list = λ days h. let s = step.list days h in (s.0, record { less = s.1.less; many = omega arith }, s.2) }
 
 -- when no later day is left
-pub trimmed : (r : StringShape) (date i : ℕ) (x y : List ℕ) → IsTrimming r date i x y → ((days kept : List Day) → Holds r x days → ShorterBy date i days kept → Holds r y kept → newest_later date kept ≡ false) → IsTrimmed r date x y
-trimmed r date i x y step none = record {
+pub ends_trimmed : (r : StringShape) (date i : ℕ) (x y : List ℕ) → IsTrimming r date i x y → ((days kept : List Day) → Holds r x days → ShorterBy date i days kept → Holds r y kept → newest_later date kept ≡ false) → IsTrimmed r date x y
+ends_trimmed r date i x y step none = record {
   outside = step.outside;
   list = λ days h.
       let s = step.list days h in

@@ -6,7 +6,7 @@ use Rattle.trace_model.specs.declared.Card.{Card}
 use Rattle.trace_model.specs.declared.Card.TheVariants.{A, B}
 use Rattle.byte_fields.proofs.Images.{part_in}
 use Rattle.tach_media.specs.Medium.{State, IsCoherent, LeavesOnly, bytes_at}
-use Rattle.unit_model.specs.Days.{Day}
+use Rattle.unit_model.specs.Days.{ShownDay}
 use Rattle.unit_model.specs.Image.{recorded, last_kept}
 use Rattle.unit_model.specs.Decoding.{Decodes}
 use Rattle.unit_model.specs.declared.layout.TheConstants.{DAYS, FIRST_OVER, INSERTIONS, LAST_KEPT, ODOMETER, OWED, SPARE_COUNTS}
@@ -54,7 +54,7 @@ module _ (x c : List ℕ) (keeps : KeepsJournal x c) where
   pub view_noted : (a b : List ℕ) → Decodes x → unit_view a b c ≡ unit_view a b x
   unfolding unit_view row_view
   view_noted a b decodes =
-      ap (λ (ds : List Day). record { days = ds; last = last_kept c; row_a = row_view a c; row_b = row_view b c }) (recorded_beside x c same_journal (decoded_of x decodes).known)
+      ap (λ (ds : List ShownDay). record { days = ds; last = last_kept c; row_a = row_view a c; row_b = row_view b c }) (recorded_beside x c same_journal (decoded_of x decodes).known)
       ∙ ap (λ (n : ℕ). record { days = recorded x; last = n; row_a = row_view a c; row_b = row_view b c }) (last_beside x c same_journal)
       ∙ ap (λ (rows : List ℕ). record { days = recorded x; last = last_kept x; row_a = seen_row (option_map (row_in rows) (row_index a rows)); row_b = seen_row (option_map (row_in rows) (row_index b rows)) }) rows_noted
 

@@ -9,7 +9,7 @@ use Rattle.std.proofs.lemmas.List.FromFn.{length-map-range_with_len}
 use Rattle.byte_fields.specs.Images.{number_at}
 use Rattle.byte_fields.specs.Fields.{IsBytes}
 use Rattle.gated_ring.specs.Ring.{is_there}
-use Rattle.unit_model.specs.Days.{StoredDay, word_slot, word_minute, day_of, Each}
+use Rattle.unit_model.specs.Days.{StoredDay, slot_bit, word_minute, day_of, Each}
 use Rattle.unit_model.specs.Image.{last_kept, day_ring, slot_place, slot_date, slot_odometer, slot_count, slot_words, covered_words, recorded_words, recorded_indices}
 use Rattle.unit_model.specs.Decoding.{Decodes, day_checks, word_checks, is_word_good, is_first_good, indices_before}
 use Rattle.unit_model.proofs.Checks.{passes, and_split, le_of, good_of}
@@ -41,7 +41,7 @@ words_good : (place : ℕ) (before ws : List ℕ) → list_all passes (word_chec
 words_good place before [] all short = All-nil IsWord
 words_good place before (w ∷ ws) all short =
     let both = and_split (is_word_good before w) (list_all passes (word_checks (place + 2) (before ++ w ∷ []) ws)) all in
-    let rest : Bool = list_all (λ v. nat_le (word_minute v) (word_minute w) && not (word_slot v == word_slot w && word_minute v == word_minute w)) before && is_first_good (length before) w in
+    let rest : Bool = list_all (λ v. nat_le (word_minute v) (word_minute w) && not (slot_bit v == slot_bit w && word_minute v == word_minute w)) before && is_first_good (length before) w in
     let low = and_split (nat_lt (word_minute w) 1440) rest both.0 in
     All-cons IsWord w ws (All-head IsShort w ws short, below_of (word_minute w) 1440 low.0) (words_good (place + 2) (before ++ w ∷ []) ws both.1 (All-tail IsShort w ws short))
 

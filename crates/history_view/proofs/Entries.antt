@@ -12,7 +12,7 @@ use Rattle.std.proofs.lemmas.Bool.{le-leb, lt-leb, leb-true}
 use Rattle.activity_codec.proofs.Tests.{by_test}
 use Rattle.view_model.specs.declared.CardShown.{CardShown}
 use Rattle.view_model.specs.declared.Viewed.{Viewed}
-use Rattle.view_model.specs.Lines.{day_of}
+use Rattle.view_model.specs.Lines.{day_of_minute}
 use Rattle.tacho_types.specs.declared.calendar.TheConstants.{DAYS}
 use Rattle.view_text.specs.Entries.{entry_shown}
 use Rattle.card_image.specs.Fields.{last_of}
@@ -103,7 +103,7 @@ entries_low mark [] = tt
 entries_low mark (d ∷ ds) = low_append mark (day_entries mark d) (entries_up_to mark ds) (minutes_low mark (entry_at mark d) (entry_low mark d) 1440 0) (entries_low mark ds)
 
 -- so they lie on days that a time of four bytes can name
-pub shown_low : (mark : ℕ) (es : List Entry) → mark < 71582789 → AreLow mark es → AllByRecursion (λ (m : Viewed CardShown). day_of m.minute < DAYS) (map entry_shown es)
+pub shown_low : (mark : ℕ) (es : List Entry) → mark < 71582789 → AreLow mark es → AllByRecursion (λ (m : Viewed CardShown). day_of_minute m.minute < DAYS) (map entry_shown es)
 shown_low mark [] high low = tt
 shown_low mark (e ∷ es) high low = (omega (arith, low.0, high), shown_low mark es high low.1)
 

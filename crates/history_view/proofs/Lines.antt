@@ -11,7 +11,7 @@ use Rattle.view_model.specs.declared.UnitShown.{UnitShown}
 use Rattle.view_model.specs.declared.CardShown.{CardShown}
 use Rattle.view_model.specs.declared.Viewed.{Viewed}
 use Rattle.view_model.specs.declared.Line.{Line}
-use Rattle.view_model.specs.Lines.{day_of, goes_on, with_minute, lines_of}
+use Rattle.view_model.specs.Lines.{day_of_minute, goes_on, with_minute, lines_of}
 use Rattle.view_text.specs.Entries.{entry_shown}
 use Rattle.view_text.specs.Exact.{both}
 use Rattle.tacho_types.specs.declared.calendar.TheConstants.{DAYS}
@@ -41,8 +41,8 @@ Rise (line ∷ lines) = (line.first ≤ line.last) × Rise lines
 module _ {X : Type 0} (same : X → X → Bool) (exact : (one other : X) → same one other ≡ true → one ≡ other) where
   follows : (m : Viewed X) (line : Line X) → goes_on same m line ≡ true → (m.minute + 1 ≡ line.first) × (m.shown ≡ line.shown)
   follows m line is =
-      let parts = both (m.minute + 1 == line.first && day_of m.minute == day_of line.first) (same m.shown line.shown) is in
-      let first = both (m.minute + 1 == line.first) (day_of m.minute == day_of line.first) parts.0 in
+      let parts = both (m.minute + 1 == line.first && day_of_minute m.minute == day_of_minute line.first) (same m.shown line.shown) is in
+      let first = both (m.minute + 1 == line.first) (day_of_minute m.minute == day_of_minute line.first) parts.0 in
       (equal (m.minute + 1) line.first first.0, exact m.shown line.shown parts.1)
     where
       equal : (a b : ℕ) → (a == b) ≡ true → a ≡ b
@@ -69,22 +69,22 @@ module _ {X : Type 0} (same : X → X → Bool) (exact : (one other : X) → sam
   minutes_back minutes lines is = ap (λ (l : List (Line X)). minutes_on l) is ∙ (lines_stand minutes).0
 
   -- so lines that are those of some minutes are those of their own
-  pub are_lines : (minutes : List (Viewed X)) (lines : List (Line X)) → lines ≡ lines_of same minutes → AllByRecursion (λ (m : Viewed X). day_of m.minute < DAYS) minutes → AreLines same lines
+  pub are_lines : (minutes : List (Viewed X)) (lines : List (Line X)) → lines ≡ lines_of same minutes → AllByRecursion (λ (m : Viewed X). day_of_minute m.minute < DAYS) minutes → AreLines same lines
   are_lines minutes lines is low = record {
     exact = is ∙ ap (λ (l : List (Viewed X)). lines_of same l) (sym (minutes_back minutes lines is));
-    days = ap (λ (l : List (Line X)). list_all (λ (line : Line X). nat_lt (day_of line.first) DAYS) l) is ∙ all_pass (lines_of same minutes) (lines-below DAYS same minutes low);
+    days = ap (λ (l : List (Line X)). list_all (λ (line : Line X). nat_lt (day_of_minute line.first) DAYS) l) is ∙ all_pass (lines_of same minutes) (lines-below DAYS same minutes low);
   }
     where
-      all_pass : (lines : List (Line X)) → AllByRecursion (λ (l : Line X). day_of l.first < DAYS) lines → list_all (λ (line : Line X). nat_lt (day_of line.first) DAYS) lines ≡ true
+      all_pass : (lines : List (Line X)) → AllByRecursion (λ (l : Line X). day_of_minute l.first < DAYS) lines → list_all (λ (line : Line X). nat_lt (day_of_minute line.first) DAYS) lines ≡ true
       all_pass [] all = refl
-      all_pass (line ∷ lines) all = and_from (nat_lt (day_of line.first) DAYS) (list_all (λ (l : Line X). nat_lt (day_of l.first) DAYS) lines) (lt-ltb (day_of line.first) DAYS all.0) (all_pass lines all.1)
+      all_pass (line ∷ lines) all = and_from (nat_lt (day_of_minute line.first) DAYS) (list_all (λ (l : Line X). nat_lt (day_of_minute l.first) DAYS) lines) (lt-ltb (day_of_minute line.first) DAYS all.0) (all_pass lines all.1)
 
 -- and each lies on a day that a time of four bytes can name
-pub all_low : {X : Type 0} → (lines : List (Line X)) → IsTrue (list_all (λ (line : Line X). nat_lt (day_of line.first) DAYS) lines) → AllByRecursion (λ (l : Line X). day_of l.first < DAYS) lines
+pub all_low : {X : Type 0} → (lines : List (Line X)) → IsTrue (list_all (λ (line : Line X). nat_lt (day_of_minute line.first) DAYS) lines) → AllByRecursion (λ (l : Line X). day_of_minute l.first < DAYS) lines
 all_low [] all = tt
 all_low (line ∷ lines) all =
-    let parts = both (nat_lt (day_of line.first) DAYS) (list_all (λ (l : Line _). nat_lt (day_of l.first) DAYS) lines) all in
-    (ltb-true (day_of line.first) DAYS parts.0, all_low lines parts.1)
+    let parts = both (nat_lt (day_of_minute line.first) DAYS) (list_all (λ (l : Line _). nat_lt (day_of_minute l.first) DAYS) lines) all in
+    (ltb-true (day_of_minute line.first) DAYS parts.0, all_low lines parts.1)
 
 -- what is told of what is shown
 pub unit_back : (minutes : List UnitMinute) → map minute_told (map minute_shown minutes) ≡ minutes

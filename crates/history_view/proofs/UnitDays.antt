@@ -9,14 +9,14 @@ use Rattle.byte_fields.specs.Images.{number_at}
 use Rattle.activity_codec.specs.declared.words.Change.{Change}
 use Rattle.activity_codec.specs.Words.{change_of}
 use Rattle.card_retention.specs.Entries.{latest}
-use Rattle.unit_model.specs.Days.{StoredDay, UnitMinute, word_slot, state_at, state_in, minute_at, shown, minutes_shown, day_of as stored_day_of}
+use Rattle.unit_model.specs.Days.{StoredDay, UnitMinute, slot_bit, state_at, state_in, minute_at, shown, minutes_shown, day_of as stored_day_of}
 use Rattle.unit_model.specs.Image.{words_at}
 use Rattle.message_model.specs.Messages.{Message, DayMessage}
 use Rattle.message_model.specs.Showing.{time_in, told_day, day_minutes, minutes_in}
 use Rattle.view_model.specs.declared.State.{State}
 use Rattle.view_model.specs.declared.UnitShown.{UnitShown}
 use Rattle.view_model.specs.declared.Viewed.{Viewed}
-use Rattle.view_model.specs.Lines.{day_of}
+use Rattle.view_model.specs.Lines.{day_of_minute}
 use Rattle.tacho_types.specs.declared.calendar.TheConstants.{DAYS}
 use Rattle.history_view.specs.declared.unit.DayAt.{DayAt}
 use Rattle.history_view.specs.Histories.{minute_shown}
@@ -69,7 +69,7 @@ unit_told_all (Some n) messages time from time_is from_is =
 
 -- each minute lies on a day that a time of four bytes can name
 abbrev pub Named : List UnitMinute → Type 0
-Named minutes = AllByRecursion (λ (m : Viewed UnitShown). day_of m.minute < DAYS) (map minute_shown minutes)
+Named minutes = AllByRecursion (λ (m : Viewed UnitShown). day_of_minute m.minute < DAYS) (map minute_shown minutes)
 
 named_append : (xs ys : List UnitMinute) → Named xs → Named ys → Named (xs ++ ys)
 named_append [] ys one other = other

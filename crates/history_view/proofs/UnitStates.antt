@@ -5,7 +5,7 @@ use Rattle.activity_codec.proofs.Tests.{by_test}
 use Rattle.activity_codec.specs.declared.values.Activity.{Activity}
 use Rattle.activity_codec.specs.Words.{change_of, activity_numbered}
 use Rattle.card_retention.specs.Entries.{latest}
-use Rattle.unit_model.specs.Days.{word_slot, word_state, word_minute, bare, state_by as state_with, state_after, state_at, state_in, is_crew_in}
+use Rattle.unit_model.specs.Days.{slot_bit, word_state, word_minute, bare, state_by as state_with, state_after, state_at, state_in, is_crew_in}
 use Rattle.view_model.specs.declared.State.{State}
 use Rattle.history_view.specs.UnitShowing.{slot_words, state_by, crew_by}
 
@@ -23,7 +23,7 @@ state_is : (slot minute state : ℕ) (words : List ℕ) → state_after slot min
 state_is slot minute state [] = refl
 state_is slot minute state (w ∷ ws) =
     state_is slot minute (state_with slot minute state w) ws
-    ∙ by_test (word_slot w == slot)
+    ∙ by_test (slot_bit w == slot)
     (λ own. rw own (front_bits state w (nat_le (word_minute w) minute) (latest (slot_words slot ws) minute)))
     (λ other. rw other refl)
 

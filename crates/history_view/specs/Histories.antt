@@ -7,7 +7,7 @@ use Rattle.view_model.specs.declared.UnitShown.{UnitShown}
 use Rattle.view_model.specs.declared.CardShown.{CardShown}
 use Rattle.view_model.specs.declared.Viewed.{Viewed}
 use Rattle.view_model.specs.declared.Line.{Line}
-use Rattle.view_model.specs.Lines.{day_of, lines_of}
+use Rattle.view_model.specs.Lines.{day_of_minute, lines_of}
 use Rattle.tacho_types.specs.declared.calendar.TheConstants.{DAYS}
 
 -- what the view of a unit shows of a minute, and the minute that is shown so
@@ -32,4 +32,4 @@ minutes_on (line ∷ lines) = line_minutes line ++ minutes_on lines
 -- lines that are those of their minutes, on days that a time of four bytes can name
 pub record AreLines {X : Type 0} (same : X → X → Bool) (lines : List (Line X)) : Type 0 where
   pub exact : lines ≡ lines_of same (minutes_on lines)
-  pub days : IsTrue (list_all (λ line. nat_lt (day_of line.first) DAYS) lines)
+  pub days : IsTrue (list_all (λ line. nat_lt (day_of_minute line.first) DAYS) lines)

@@ -3,7 +3,7 @@ use Rattle.std.specs.Prelude.{◌≡◌, ℕ, ◌+◌, ◌*◌, ◌/◌, ◌≤�
 use Rattle.activity_codec.specs.declared.values.Activity.TheVariants.{Rest}
 use Rattle.activity_codec.specs.declared.words.Change.{Change}
 use Rattle.view_model.specs.declared.State.{State}
-use Rattle.unit_model.specs.Days.{UnitMinute, word_slot, minutes_shown}
+use Rattle.unit_model.specs.Days.{UnitMinute, slot_bit, minutes_shown}
 use Rattle.unit_model.specs.Image.{words_at}
 use Rattle.message_model.specs.Messages.{Message, DayMessage, message_bytes, IsDayMessage, IsUnitFile}
 use Rattle.message_model.specs.Showing.{minutes_in, time_in}
@@ -62,7 +62,7 @@ minutes_of_day date (Some now) = minutes_shown (now / 60) (date / 86400)
 
 -- the words of a slot, in their order
 abbrev pub slot_words : ℕ → List ℕ → List ℕ
-slot_words slot words = filter (λ w. word_slot w == slot) words
+slot_words slot words = filter (λ w. slot_bit w == slot) words
 
 -- the state of a slot by the change that decides: rest, with no card, where none does
 abbrev pub state_by : Option Change → State

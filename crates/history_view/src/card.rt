@@ -9,7 +9,7 @@ ghost use Rattle.card_layout.specs.declared.files.Application.{Application as Si
 ghost use Rattle.card_model.specs.Days.{Day};
 ghost use Rattle.card_model.specs.Walk.{days_of};
 ghost use Rattle.card_retention.specs.Entries.{day_entries, entries_up_to};
-ghost use Rattle.view_model.specs.Lines.{lines_of, same_card, day_of};
+ghost use Rattle.view_model.specs.Lines.{lines_of, same_card, day_of_minute};
 ghost use Rattle.view_model.specs.Text.{IsCardView};
 ghost use Rattle.view_text.specs.Entries.{entry_shown};
 ghost use Rattle.history_view.specs.CardFiles.{last_entries, mark_of, are_vehicles, IsBadCardFile};

@@ -15,7 +15,7 @@ use Rattle.joint_rule.specs.Rules.{Acknowledges, UnitHolds, Showed, Meets, Stand
 use Rattle.history_model.proofs.Filters.{all-front, all-back}
 use Rattle.history_model.proofs.Books.{reached-has}
 use Rattle.joint_rule.proofs.Pairs.{owed-above}
-use Rattle.unit_model.specs.Days.{Day}
+use Rattle.unit_model.specs.Days.{ShownDay}
 
 -- MARKS
 -- a device that is settled has acknowledged what all its views have
@@ -31,7 +31,7 @@ acknowledges-on level minute clock old new R whole run rises a = (
 )
 
 -- an acknowledged minute stands in every view since then
-pub unit-holds : (Fills : Option HistoryMinute → List HistoryMinute → List Day → Type 0) (first began due : ℕ) (b : Book) (U : Seen UnitView) (i : HistoryMinute) (clock : ℕ) → CoherentViews U → UnitHolds Fills first began due b U → began ≤ clock → Acknowledges (λ u. u.last) i.minute clock U → Contains b.sure i →
+pub unit-holds : (Fills : Option HistoryMinute → List HistoryMinute → List ShownDay → Type 0) (first began due : ℕ) (b : Book) (U : Seen UnitView) (i : HistoryMinute) (clock : ℕ) → CoherentViews U → UnitHolds Fills first began due b U → began ≤ clock → Acknowledges (λ u. u.last) i.minute clock U → Contains b.sure i →
     (u : UnitView) → U.left_since clock u → (s : Showed Fills first b u) × Contains s.past i
 unit-holds Fills first began due b U i clock whole holds later a sure u on =
     let s = holds.since u (whole.earlier began clock u later a.0 on) in

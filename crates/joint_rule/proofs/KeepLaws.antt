@@ -18,7 +18,7 @@ use Rattle.joint_rule.proofs.Owing.{owed-put, owed-kept, owed-beside, row-with, 
 use Rattle.history_model.proofs.Books.{all-none, all-kept, up_to-whole, up_to-before, on_card-minute}
 use Rattle.joint_rule.proofs.Pairs.{meets-owed, meets-keep, meets-moved, meets-on_card, owed-on_card, owed-unmoved}
 use Rattle.joint_rule.proofs.CardLaws.{had-broken, had-settled, dark-unit, dark-card, dark-beside, rule-beside, stands-unit}
-use Rattle.unit_model.specs.Days.{Day}
+use Rattle.unit_model.specs.Days.{ShownDay}
 use Rattle.owed_model.specs.Owed.{Row}
 
 -- a minute is later than every end mark of its card since the start
@@ -95,7 +95,7 @@ module _ (c : Card) (start : CardStart) (Keeps : ℕ → List Entry → Held →
       taken u v is = ap (row c) is ∙ row-with c (owing e (row c u)) u
 
   -- KEEP of the unit
-  module _ (Adds Gives : HistoryMinute → List Day → List Day → Type 0) where
+  module _ (Adds Gives : HistoryMinute → List ShownDay → List ShownDay → Type 0) where
     -- the entry of the minute is owed to its card from its keeping on
     grown : (s : Standing) (i : HistoryMinute) (U : Seen UnitView) (X : Seen CardView) → CardRule c start Keeps began b s (on_card c i) [] U X → Fits c start s i → 1440 ≤ i.minute →
         (u v : UnitView) (x : CardView) → U.may_leave u → X.may_leave x → u.last < i.minute → IsKept Adds i u v → owed c v x ≡ owed c u x ++ on_card c i

@@ -15,10 +15,10 @@ use Rattle.joint_rule.specs.Rules.{Shows, UnitHolds, UnitRule, Brings, Meets, Ou
 use Rattle.history_model.proofs.Books.{history-none}
 use Rattle.joint_rule.proofs.Pairs.{newest-more, owed-above, had-meets}
 use Rattle.joint_rule.proofs.UnitLaws.{showed-shown}
-use Rattle.unit_model.specs.Days.{Day}
+use Rattle.unit_model.specs.Days.{ShownDay}
 
 -- a unit that leaves one view only, with these days
-pub opened-unit : (Fills : Option HistoryMinute → List HistoryMinute → List Day → Type 0) (U : Seen UnitView) (u : UnitView) (due : ℕ) → ((v : UnitView) → U.may_leave v → v ≡ u) → ((v : UnitView) → U.left_since U.clock v → v ≡ u) →
+pub opened-unit : (Fills : Option HistoryMinute → List HistoryMinute → List ShownDay → Type 0) (U : Seen UnitView) (u : UnitView) (due : ℕ) → ((v : UnitView) → U.may_leave v → v ≡ u) → ((v : UnitView) → U.left_since U.clock v → v ≡ u) →
     Fills None [] u.days → u.last < due → UnitHolds Fills u.last U.clock due not_begun U
 opened-unit Fills U u due now since days late = record {
   later = omega arith;
@@ -35,7 +35,7 @@ opened-unit Fills U u due now since days late = record {
     shows : Shows Fills u.last not_begun u
     shows = record { next = None; comes = tt; days = days; sure = All-nil (λ (i : HistoryMinute). i.minute ≤ u.last); mark = inl refl }
 
-pub opened-rule : (Fills : Option HistoryMinute → List HistoryMinute → List Day → Type 0) (U : Seen UnitView) (first began due : ℕ) → U.works ≡ true → UnitHolds Fills first began due not_begun U → UnitRule Fills first began due not_begun U
+pub opened-rule : (Fills : Option HistoryMinute → List HistoryMinute → List ShownDay → Type 0) (U : Seen UnitView) (first began due : ℕ) → U.works ≡ true → UnitHolds Fills first began due not_begun U → UnitRule Fills first began due not_begun U
 opened-rule Fills U first began due works holds = record { works = works; none = refl; holds = holds }
 
 module _ (c : Card) (start : CardStart) (Keeps : ℕ → List Entry → Held → Type 0) where

@@ -11,7 +11,7 @@ use Rattle.card_retention.specs.Retains.{Rise, CardRetains}
 use Rattle.card_retention.proofs.Due.{before_counted, counted_then, retains_due}
 use Rattle.card_image.specs.Fields.{card_days, end_mark, session_time}
 use Rattle.card_image.specs.View.{Held, CardView, card_view}
-use Rattle.card_image.specs.Own.{own_sizes, own_view, own_covered, counted_view, days_with, StandsFrom, KeepsFrom, KeepsOf}
+use Rattle.card_image.specs.Own.{own_sizes, own_view, own_covered, counted_view, expected_with, StandsFrom, KeepsFrom, KeepsOf}
 use Rattle.card_image.proofs.Newest.{counting_before}
 use Rattle.history_model.specs.Presence.{CardStart}
 use Rattle.history_model.proofs.Filters.{all-back}
@@ -25,8 +25,8 @@ module _ (image : List ℕ) where
   days-before k are low word = counting_before (session_time (own_sizes image) image) (end_mark (own_sizes image) image) k (card_days (own_sizes image) image) are low
       (λ none. subst (λ (s : ℕ). cond {A = ℕ} (nat_lt 0 s) 0 (newest_word (card_days (own_sizes image) image)) ≤ k) none word)
 
-  days-due : (next : ℕ) (more : List Entry) → days_with image next more ≡ expected_days (own_covered image) next (counted (own_covered image) (counted_view (own_view image)) more)
-  unfolding days_with
+  days-due : (next : ℕ) (more : List Entry) → expected_with image next more ≡ expected_days (own_covered image) next (counted (own_covered image) (counted_view (own_view image)) more)
+  unfolding expected_with
   days-due next more = refl
 
   module _ (start : CardStart) (are : AreDays 0 (card_days (own_sizes image) image)) (entries : start.entries ≡ (own_view image).held.entries) (mark : start.mark ≡ (own_view image).mark) (word : start.word ≡ beyond (own_view image)) where
@@ -36,8 +36,8 @@ module _ (image : List ℕ) where
       record {
         more = kept.more;
         begins = ap (λ (zs : List Entry). start.entries ++ zs) (append-nil more) ∙ kept.begins;
-        keeps = λ n le. subst (λ (zs : List Entry). (r : CardRetains (own_sizes image).activity 16 ((own_view image).mark / 1440) (days_with image n kept.more) (start.entries ++ zs) x.days (x.entries ++ [])) × StandsFrom image r.oldest x.days) (sym (append-nil more))
-            (subst (λ (zs : List Entry). (r : CardRetains (own_sizes image).activity 16 ((own_view image).mark / 1440) (days_with image n kept.more) (start.entries ++ more) x.days zs) × StandsFrom image r.oldest x.days) (sym (append-nil x.entries)) (kept.keeps n le));
+        keeps = λ n le. subst (λ (zs : List Entry). (r : CardRetains (own_sizes image).activity 16 ((own_view image).mark / 1440) (expected_with image n kept.more) (start.entries ++ zs) x.days (x.entries ++ [])) × StandsFrom image r.oldest x.days) (sym (append-nil more))
+            (subst (λ (zs : List Entry). (r : CardRetains (own_sizes image).activity 16 ((own_view image).mark / 1440) (expected_with image n kept.more) (start.entries ++ more) x.days zs) × StandsFrom image r.oldest x.days) (sym (append-nil x.entries)) (kept.keeps n le));
       },
     )
     owed-entries_count next marked more (e ∷ es) x low had above late rise kept = (
@@ -45,7 +45,7 @@ module _ (image : List ℕ) where
       record {
         more = kept.more ++ e ∷ es;
         begins = whole ∙ ap (λ (zs : List Entry). zs ++ e ∷ es) kept.begins ∙ append_assoc (own_view image).held.entries kept.more (e ∷ es);
-        keeps = λ n le. subst (λ (zs : List Entry). (r : CardRetains (own_sizes image).activity 16 ((own_view image).mark / 1440) (days_with image n (kept.more ++ e ∷ es)) zs x.days (x.entries ++ e ∷ es)) × StandsFrom image r.oldest x.days) (sym whole)
+        keeps = λ n le. subst (λ (zs : List Entry). (r : CardRetains (own_sizes image).activity 16 ((own_view image).mark / 1440) (expected_with image n (kept.more ++ e ∷ es)) zs x.days (x.entries ++ e ∷ es)) × StandsFrom image r.oldest x.days) (sym whole)
             (subst (λ (days : List WordDay). (r : CardRetains (own_sizes image).activity 16 ((own_view image).mark / 1440) days ((start.entries ++ more) ++ e ∷ es) x.days (x.entries ++ e ∷ es)) × StandsFrom image r.oldest x.days)
             (sym (days-due n (kept.more ++ e ∷ es) ∙ ap (λ (c : Counted). expected_days (own_covered image) n c) (counted_then (own_covered image) (counted_view (own_view image)) kept.more (e ∷ es))))
             ((with-due n).0, subst (λ (o : ℕ). StandsFrom image o x.days) (sym (with-due n).1) first.1));

@@ -12,7 +12,7 @@ use Rattle.joint_rule.specs.Steps.{IsKeeping, IsPutting, IsBeginning, IsMending,
 use Rattle.joint_rule.specs.Rules.{Meets, Standing, Stands, In, IsRepaired}
 use Rattle.history_model.proofs.Books.{on_card-minute}
 use Rattle.joint_rule.proofs.KeepLaws.{putting-beside}
-use Rattle.unit_model.specs.Days.{Day}
+use Rattle.unit_model.specs.Days.{ShownDay}
 
 -- REPAIR
 -- an accepted card is owed nothing
@@ -52,7 +52,7 @@ beginning-rises c u v b = omega (arith, b.last)
 pub mending-rises : (u v : UnitView) → IsMending u v → u.last ≤ v.last
 mending-rises u v m = omega (arith, m.last)
 
-pub keeping-rises : (Adds Gives : HistoryMinute → List Day → List Day → Type 0) (i : HistoryMinute) (u v : UnitView) → u.last < i.minute → IsKeeping Adds Gives i u v → u.last ≤ v.last
+pub keeping-rises : (Adds Gives : HistoryMinute → List ShownDay → List ShownDay → Type 0) (i : HistoryMinute) (u v : UnitView) → u.last < i.minute → IsKeeping Adds Gives i u v → u.last ≤ v.last
 keeping-rises Adds Gives i u v late (inl k) = omega (arith, k.last)
 keeping-rises Adds Gives i u v late (inr k) = omega (arith, k.last, late)
 

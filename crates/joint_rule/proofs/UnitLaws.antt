@@ -13,9 +13,9 @@ use Rattle.joint_rule.specs.Rules.{Shows, Showed, UnitHolds, UnitRule, DaysGoOn,
 use Rattle.history_model.proofs.Filters.{all-one}
 use Rattle.joint_rule.proofs.Owing.{days-with, last-with}
 use Rattle.history_model.proofs.Books.{all-none, all-kept, all-found, up_to-whole, up_to-twice, up_to-before, up_to-within, reached-shown, reached-kept, reached-broken, reached-done, reached-found, next-goes, ordered-kept, ordered-broken, ordered-found, next-earlier, mark-earlier, mark-more, mark-last, mark-up_to}
-use Rattle.unit_model.specs.Days.{Day}
+use Rattle.unit_model.specs.Days.{ShownDay}
 
-module _ (Fills : Option HistoryMinute → List HistoryMinute → List Day → Type 0) (first : ℕ) where
+module _ (Fills : Option HistoryMinute → List HistoryMinute → List ShownDay → Type 0) (first : ℕ) where
   pub showed-shown : (b : Book) (u : UnitView) → Shows Fills first b u → Showed Fills first b u
   showed-shown b u s = record {
     past = up_to u.last (all b);
@@ -93,7 +93,7 @@ module _ (Fills : Option HistoryMinute → List HistoryMinute → List Day → T
   rule-aside {U} {V} began due b rule works holds = record { works = works; none = rule.none; holds = holds }
 
   -- KEEP of the unit
-  module _ (Adds Gives : HistoryMinute → List Day → List Day → Type 0) (law : DaysGoOn Fills Adds Gives) where
+  module _ (Adds Gives : HistoryMinute → List ShownDay → List ShownDay → Type 0) (law : DaysGoOn Fills Adds Gives) where
     module _ (due : ℕ) (b : Book) (i : HistoryMinute) (none : b.maybe ≡ None) (order : Ordered first due b) (late : due ≤ i.minute) where
       before-it : (past : List HistoryMinute) (next : Option HistoryMinute) → IsNext b past next → IsBefore next i
       before-it past None next = tt

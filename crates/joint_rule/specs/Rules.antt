@@ -3,7 +3,7 @@ use Rattle.std.specs.Prelude.{◌≡◌, ◌⊎◌, ℕ, suc, ◌+◌, ◌/◌, 
 use Rattle.activity_codec.specs.declared.entries.Entry.{Entry}
 use Rattle.trace_model.specs.declared.Card.{Card}
 use Rattle.history_model.specs.Minutes.{HistoryMinute, card_history, on_card, up_to}
-use Rattle.unit_model.specs.Days.{Day}
+use Rattle.unit_model.specs.Days.{ShownDay}
 use Rattle.history_model.specs.Presence.{CardStart, trimmed_by}
 use Rattle.card_retention.specs.Retains.{Rise}
 use Rattle.card_image.specs.View.{CardView, Held}
@@ -13,7 +13,7 @@ use Rattle.history_model.specs.Book.{Book, all, IsReached, IsNext, IsMark, Order
 
 -- UNIT. An image shows the start and all minutes up to its mark, among them the sure ones, but for days given up; the minute
 -- that comes next may have taken one.
-pub record Shows (Fills : Option HistoryMinute → List HistoryMinute → List Day → Type 0)
+pub record Shows (Fills : Option HistoryMinute → List HistoryMinute → List ShownDay → Type 0)
     (first : ℕ) (b : Book) (u : UnitView) : Type 0 where
   pub next : Option HistoryMinute
   pub comes : IsNext b (up_to u.last (all b)) next
@@ -22,7 +22,7 @@ pub record Shows (Fills : Option HistoryMinute → List HistoryMinute → List D
   pub mark : IsMark first (all b) u.last
 
 -- an image since the start shows the start and minutes that were reached, and has the mark of the last of them
-pub record Showed (Fills : Option HistoryMinute → List HistoryMinute → List Day → Type 0)
+pub record Showed (Fills : Option HistoryMinute → List HistoryMinute → List ShownDay → Type 0)
     (first : ℕ) (b : Book) (u : UnitView) : Type 0 where
   pub past : List HistoryMinute
   pub next : Option HistoryMinute
@@ -33,7 +33,7 @@ pub record Showed (Fills : Option HistoryMinute → List HistoryMinute → List 
   pub until : All (λ i. i.minute ≤ u.last) past
 
 -- a unit, with power or without: each image shows the minutes, and each since the start
-pub record UnitHolds (Fills : Option HistoryMinute → List HistoryMinute → List Day → Type 0)
+pub record UnitHolds (Fills : Option HistoryMinute → List HistoryMinute → List ShownDay → Type 0)
     (first began due : ℕ) (b : Book) (unit : Seen UnitView) : Type 0 where
   pub later : began ≤ unit.clock
   pub order : Ordered first due b
@@ -46,11 +46,11 @@ IsBefore None i = Unit {0}
 IsBefore (Some next) i = next.minute ≤ i.minute
 
 -- what is asked of `Fills`: it goes on with a minute that is kept, and with one that a day was given up for
-pub record DaysGoOn (Fills : Option HistoryMinute → List HistoryMinute → List Day → Type 0)
-    (Adds Gives : HistoryMinute → List Day → List Day → Type 0) : Type 0 where
-  pub added : (next : Option HistoryMinute) (past : List HistoryMinute) (i : HistoryMinute) (x y : List Day) →
+pub record DaysGoOn (Fills : Option HistoryMinute → List HistoryMinute → List ShownDay → Type 0)
+    (Adds Gives : HistoryMinute → List ShownDay → List ShownDay → Type 0) : Type 0 where
+  pub added : (next : Option HistoryMinute) (past : List HistoryMinute) (i : HistoryMinute) (x y : List ShownDay) →
       Fills next past x → IsBefore next i → Adds i x y → Fills None (past ++ i ∷ []) y
-  pub given : (next : Option HistoryMinute) (past : List HistoryMinute) (i : HistoryMinute) (x y : List Day) →
+  pub given : (next : Option HistoryMinute) (past : List HistoryMinute) (i : HistoryMinute) (x y : List ShownDay) →
       Fills next past x → IsBefore next i → Gives i x y → Fills (Some i) past y
 
 -- a mark: every view left since its clock is not behind it
@@ -194,7 +194,7 @@ pub record CardRule (c : Card) (start : CardStart) (Keeps : ℕ → List Entry �
   pub stands : Stands c start began s due unit card
 
 -- and while the unit has power, no minute is half kept
-pub record UnitRule (Fills : Option HistoryMinute → List HistoryMinute → List Day → Type 0)
+pub record UnitRule (Fills : Option HistoryMinute → List HistoryMinute → List ShownDay → Type 0)
     (first began due : ℕ) (b : Book) (unit : Seen UnitView) : Type 0 where
   pub works : unit.works ≡ true
   pub none : b.maybe ≡ None

@@ -3,7 +3,7 @@ use Rattle.std.specs.Prelude.{◌≡◌, ◌⊎◌, ℕ, suc, ◌%◌, max, ◌<
 use Rattle.activity_codec.specs.declared.entries.Entry.{Entry}
 use Rattle.trace_model.specs.declared.Card.{Card}
 use Rattle.history_model.specs.Minutes.{HistoryMinute}
-use Rattle.unit_model.specs.Days.{Day}
+use Rattle.unit_model.specs.Days.{ShownDay}
 use Rattle.owed_model.specs.Owed.{Row}
 use Rattle.card_image.specs.View.{CardView, Held}
 use Rattle.joint_rule.specs.Views.{UnitView, row, with_row, other, newest_with, beyond, next_of}
@@ -14,19 +14,19 @@ pub record SameRows (u v : UnitView) : Type 0 where
   pub row_b : v.row_b ≡ u.row_b
 
 -- KEEP of the unit: the mark tells which side of the commit it is
-pub record IsKept (Adds : HistoryMinute → List Day → List Day → Type 0) (i : HistoryMinute) (u v : UnitView) : Type 0 where
+pub record IsKept (Adds : HistoryMinute → List ShownDay → List ShownDay → Type 0) (i : HistoryMinute) (u v : UnitView) : Type 0 where
   pub rows : SameRows u v
   pub last : v.last ≡ i.minute
   pub days : Adds i u.days v.days
 
 -- before it the oldest day may be given up for the minute
-pub record IsUnkept (Gives : HistoryMinute → List Day → List Day → Type 0) (i : HistoryMinute) (u v : UnitView) : Type 0 where
+pub record IsUnkept (Gives : HistoryMinute → List ShownDay → List ShownDay → Type 0) (i : HistoryMinute) (u v : UnitView) : Type 0 where
   pub rows : SameRows u v
   pub last : v.last ≡ u.last
   pub days : (v.days ≡ u.days) ⊎ Gives i u.days v.days
 
 -- at each moment one or the other
-abbrev pub IsKeeping : (Adds Gives : HistoryMinute → List Day → List Day → Type 0) → HistoryMinute → UnitView → UnitView → Type 0
+abbrev pub IsKeeping : (Adds Gives : HistoryMinute → List ShownDay → List ShownDay → Type 0) → HistoryMinute → UnitView → UnitView → Type 0
 IsKeeping Adds Gives i u v = IsUnkept Gives i u v ⊎ IsKept Adds i u v
 
 -- a row without the cell of an entry's place

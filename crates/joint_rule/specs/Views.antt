@@ -4,7 +4,7 @@ use Rattle.activity_codec.specs.declared.entries.Entry.{Entry}
 use Rattle.trace_model.specs.declared.Card.{Card}
 use Rattle.trace_model.specs.declared.Card.TheVariants.{A, B}
 use Rattle.minute_model.specs.Activity.{last}
-use Rattle.unit_model.specs.Days.{Day}
+use Rattle.unit_model.specs.Days.{ShownDay}
 use Rattle.unit_model.specs.Image.{recorded, last_kept}
 use Rattle.owed_model.specs.Owed.{Row, row_view}
 use Rattle.card_image.specs.View.{CardView}
@@ -13,7 +13,7 @@ use Rattle.history_model.specs.Presence.{closed_at}
 -- what a unit's image shows: its recorded days, its last-kept minute, and the rows of both cards; session 0 and no cells where
 -- a number has no row
 pub record UnitView : Type 0 where
-  pub days : List Day
+  pub days : List ShownDay
   pub last : ℕ
   pub row_a : Row
   pub row_b : Row

@@ -6,7 +6,7 @@ ghost use Rattle.card_model.specs.Days.{AreDays};
 ghost use Rattle.card_image.specs.Fields.{card_days};
 ghost use Rattle.card_image.specs.View.{card_view};
 ghost use Rattle.card_image.specs.Own.{own_sizes, own_view, KeepsFrom, KeepsOf};
-ghost use Rattle.unit_model.specs.Days.{Day};
+ghost use Rattle.unit_model.specs.Days.{ShownDay};
 ghost use Rattle.unit_model.specs.Image.{last_kept};
 ghost use Rattle.owed_model.specs.Owed.{owed_to, row_view};
 ghost use Rattle.history_model.specs.Minutes.{HistoryMinute, card_history, up_to};
@@ -23,7 +23,7 @@ pub fn owed_is_seen()
 
 /// The days of a unit go on with a minute that is kept, and with one that the oldest day was given up for.
 pub fn days_go_on()
-    ensures { (start : List Day) → DaysGoOn (FillsDays start) KeepsMinute GivesUpDay }
+    ensures { (start : List ShownDay) → DaysGoOn (FillsDays start) KeepsMinute GivesUpDay }
 {}
 
 /// For a minute later than the words at the start, the newest minute that an insertion answers is earlier exactly where that of

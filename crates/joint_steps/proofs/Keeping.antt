@@ -6,7 +6,7 @@ use Rattle.unit_model.proofs.Retention.{begins_one}
 use Rattle.unit_model.specs.Image.{recorded}
 use Rattle.owed_model.specs.Owed.{rows_in}
 use Rattle.owed_model.proofs.Laws.{view_by_rows}
-use Rattle.unit_journal.specs.Image.{SameBesides, IsGivenUp, IsBeforeMark, IsBehindMark, IsKeeping as IsKeepingImage, IsKept as IsKeptImage}
+use Rattle.unit_journal.specs.Image.{SameBesides, IsGivenUp, IsBeforeLastKept, IsBehindLastKept, IsKeeping as IsKeepingImage, IsKept as IsKeptImage}
 use Rattle.history_model.specs.Minutes.{HistoryMinute}
 use Rattle.joint_rule.specs.Views.{unit_view}
 use Rattle.joint_rule.specs.Steps.{SameRows, IsKeeping, IsKept}
@@ -29,7 +29,7 @@ module _ (a b : List ℕ) (i : HistoryMinute) (odometer : ℕ) (x c : List ℕ) 
   given_days (inl same) = inl same
   given_days (inr given) = inr (given_up given)
 
-  by_side : SameBesides x c → IsBeforeMark (seen_by_unit i) odometer x c ⊎ IsBehindMark (seen_by_unit i) odometer x c → IsKeeping KeepsMinute GivesUpDay i (unit_view a b x) (unit_view a b c)
+  by_side : SameBesides x c → IsBeforeLastKept (seen_by_unit i) odometer x c ⊎ IsBehindLastKept (seen_by_unit i) odometer x c → IsKeeping KeepsMinute GivesUpDay i (unit_view a b x) (unit_view a b c)
   unfolding unit_view
   by_side outside (inl before) = inl (record { rows = same_rows a b x c outside; last = before.last; days = given_days before.minutes })
   by_side outside (inr behind) = inr (record { rows = same_rows a b x c outside; last = behind.last; days = behind.minutes })

@@ -3,7 +3,7 @@ use Rattle.std.proofs.Common.{◌≡◌, ℕ, zero, suc, ◌+◌, ◌*◌, ◌/�
 use Rattle.std.specs.Prelude.{nat_le, flat_map, ◌==◌}
 use Rattle.std.specs.List.{range_with_len}
 use Rattle.std.proofs.lemmas.Bool.Decides.{nat_tests}
-use Rattle.unit_model.specs.Days.{StoredDay, Day, UnitMinute, word_slot, word_state, word_minute, bare, state_by, state_after, state_at, day_of, minute_by, minute_at, minutes_shown, day_shown, minutes_of, day_kept}
+use Rattle.unit_model.specs.Days.{StoredDay, ShownDay, UnitMinute, slot_bit, word_state, word_minute, bare, state_by, state_after, state_at, day_of, minute_by, minute_at, minutes_shown, day_shown, minutes_of, day_kept}
 use Rattle.unit_model.specs.Image.{last_kept, unit_days, recorded, unit_minutes}
 use Rattle.message_model.specs.Messages.{ADay, AnEventList, ATechnical, EventMessage, TechnicalMessage}
 use Rattle.message_model.specs.Sending.{sent_days, overview_of, day_message_of, event_message_of, technical_message_of, messages_of}
@@ -22,7 +22,7 @@ state_kept slot t k c (w ∷ ws) le = by (nat_le (word_minute w) k) refl (λ d. 
     late m is = grind (arith, nat_tests, le)
 
     behind : nat_le (word_minute w) k ≡ false → state_by slot t c w ≡ c
-    behind is = ap (λ (b : Bool). cond (word_slot w == slot && b) (word_state w) c) (late (word_minute w) is) ∙ ap (λ (b : Bool). cond b (word_state w) c) (neither (word_slot w == slot))
+    behind is = ap (λ (b : Bool). cond (slot_bit w == slot && b) (word_state w) c) (late (word_minute w) is) ∙ ap (λ (b : Bool). cond b (word_state w) c) (neither (slot_bit w == slot))
 
     by : (b : Bool) → nat_le (word_minute w) k ≡ b → ((d : ℕ) → state_after slot t d (filter (λ v. nat_le (word_minute v) k) ws) ≡ state_after slot t d ws)
         → state_after slot t c (cond b (w ∷ filter (λ v. nat_le (word_minute v) k) ws) (filter (λ v. nat_le (word_minute v) k) ws)) ≡ state_after slot t (state_by slot t c w) ws
@@ -60,7 +60,7 @@ module _ (k : ℕ) (x : List ℕ) (e : EventMessage) (t : TechnicalMessage) wher
   days_told (d ∷ days) =
       let whole : 60 * k / 60 ≡ k = omega arith in
       ap (λ (l : List UnitMinute). l ++ flat_map (minutes_told (Some (60 * k))) (map (λ d. ADay (day_message_of x d)) (map (day_kept k) days) ++ AnEventList e ∷ ATechnical t ∷ []))
-      (ap (λ (n : ℕ). (day_shown n (day_kept k d)).minutes) whole ∙ ap (λ (s : Day). s.minutes) (day_same k d))
+      (ap (λ (n : ℕ). (day_shown n (day_kept k d)).minutes) whole ∙ ap (λ (s : ShownDay). s.minutes) (day_same k d))
       ∙ ap (λ (l : List UnitMinute). (day_shown k d).minutes ++ l) (days_told days)
 
 pub file_minutes : (x : List ℕ) → minutes_in (messages_of x) ≡ unit_minutes x

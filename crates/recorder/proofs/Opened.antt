@@ -10,7 +10,7 @@ use Rattle.event_course.proofs.Shows.{noted-begins}
 use Rattle.std.proofs.Common.{◌≡◌, inl, ⊎_elim, ℕ, ◌+◌, ◌-◌, ◌/◌, ◌<◌, ◌≤◌, true, Option, Some, None, List, [], length, drop, is_some, IfSome, refl, ap, sym, subst, ◌∙◌, arith}
 use Rattle.tach_media.specs.Medium.{State, IsCoherent, LeavesOnly, Unchanged}
 use Rattle.tach_media.proofs.Runs.{at_image}
-use Rattle.unit_model.specs.Days.{Day, newest_of}
+use Rattle.unit_model.specs.Days.{ShownDay, newest_days}
 use Rattle.unit_model.specs.Decoding.{Decodes}
 use Rattle.unit_model.specs.Image.{last_kept, odometer_at, recorded, number_of}
 use Rattle.unit_journal.specs.declared.notes.Notes.{Notes}
@@ -27,7 +27,7 @@ use Rattle.recorder.specs.declared.opening.RunFault.TheVariants.{MediumFault, Ba
 use Rattle.recorder.specs.Opening.{IsLoaded, IsRefused, IsFoundLater, IsUnitFault}
 
 -- all days of an image that has no more than 366 are retained
-whole : (days : List Day) → length days ≤ 366 → days ≡ newest_of 366 days
+whole : (days : List ShownDay) → length days ≤ 366 → days ≡ newest_days 366 days
 whole days few = ap (λ (n : ℕ). drop n days) (let e : 0 ≡ length days - 366 = omega (arith, few) in e)
 
 told-one : (o p : Option (List ℕ)) → is_some p ≡ is_some o → is_some o ≡ true → (x : List ℕ) × (p ≡ Some x)

@@ -6,7 +6,7 @@ use Rattle.activity_codec.specs.declared.entries.Entry.{Entry}
 use Rattle.trace_model.specs.declared.Card.{Card}
 use Rattle.trace_model.specs.declared.Card.TheVariants.{A, B}
 use Rattle.tach_media.specs.Medium.{State}
-use Rattle.unit_model.specs.Days.{Day}
+use Rattle.unit_model.specs.Days.{ShownDay}
 use Rattle.unit_model.specs.Image.{recorded}
 use Rattle.history_model.specs.Minutes.{HistoryMinute, card_history, up_to}
 use Rattle.history_model.specs.Presence.{CardStart, card_start}
@@ -40,7 +40,7 @@ shown-days : (number_a number_b x : List ℕ) → (unit_view number_a number_b x
 unfolding unit_view
 shown-days number_a number_b x = refl
 
-module _ (start : List Day) (past : List HistoryMinute) (lost : List (List HistoryMinute)) (number_a number_b : List ℕ) (b : Book) (follows : Follows past lost b) where
+module _ (start : List ShownDay) (past : List HistoryMinute) (lost : List (List HistoryMinute)) (number_a number_b : List ℕ) (b : Book) (follows : Follows past lost b) where
   shows : (x : List ℕ) (first : ℕ) (s : Showed (FillsDays start) first b (unit_view number_a number_b x)) → (k : UnitShows start past lost x) × (k.some ≡ s.past)
   shows x first s = (
     record {

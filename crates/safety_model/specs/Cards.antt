@@ -7,7 +7,7 @@ use Rattle.activity_codec.specs.declared.values.Slot.TheVariants.{Driver, CoDriv
 use Rattle.trace_model.specs.declared.Card.{Card}
 use Rattle.tach_media.specs.Medium.{State}
 use Rattle.view_model.specs.declared.State.{State as SlotState}
-use Rattle.unit_model.specs.Days.{Day, UnitMinute}
+use Rattle.unit_model.specs.Days.{ShownDay, UnitMinute}
 use Rattle.unit_model.specs.Image.{recorded, unit_minutes, last_kept}
 use Rattle.log_model.specs.declared.lines.Break.{Break}
 use Rattle.log_model.specs.declared.lines.Break.TheVariants.{Cut, Tear}
@@ -99,8 +99,8 @@ module _ (r : Recording) (c : Card) where
       (m : UnitMinute) × Contains known m × (m.minute ≡ e.minute) × (slot_state e.slot m ≡ record { act = e.act; present = true })
 
   -- one of these days
-  abbrev pub HasDay : List Day → ℕ → Type 0
-  HasDay days day = (d : Day) × Contains days d × (d.day ≡ day)
+  abbrev pub HasDay : List ShownDay → ℕ → Type 0
+  HasDay days day = (d : ShownDay) × Contains days d × (d.day ≡ day)
 
   -- the expected entries that are not later than a minute, where they are of the run
   abbrev pub expected_to : ℕ → List Entry

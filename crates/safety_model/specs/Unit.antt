@@ -3,7 +3,7 @@ use Rattle.std.specs.Prelude.{◌≡◌, ℕ, ◌<◌, ◌≤◌, Option, List, 
 use Rattle.run_model.specs.declared.Device.{Device}
 use Rattle.run_model.specs.declared.Device.TheVariants.{Unit as Recorder, CardA, CardB}
 use Rattle.tach_media.specs.Medium.{State}
-use Rattle.unit_model.specs.Days.{Day}
+use Rattle.unit_model.specs.Days.{ShownDay}
 use Rattle.unit_model.specs.Image.{recorded}
 use Rattle.unit_model.specs.Decoding.{Decodes}
 use Rattle.log_model.specs.declared.lines.Mark.{Mark}
@@ -13,7 +13,7 @@ use Rattle.safety_model.specs.Recording.{IsPassed, MayCome}
 
 -- An image shows the start's days filled with these minutes, of which only the oldest days may be gone: the newest 366 are
 -- there, or one fewer where the minute that may come next begins a further day.
-pub record UnitShows (start : List Day) (past : List HistoryMinute) (lost : List (List HistoryMinute)) (x : List ℕ) : Type 0 where
+pub record UnitShows (start : List ShownDay) (past : List HistoryMinute) (lost : List (List HistoryMinute)) (x : List ℕ) : Type 0 where
   pub some : List HistoryMinute
   pub passed : IsPassed past lost some
   pub next : Option HistoryMinute
@@ -44,7 +44,7 @@ Increase (m ∷ n ∷ marks) = (m.minute < n.minute) × Increase (n ∷ marks)
 
 -- an acknowledged minute stands in the history, and every image since shows that very one, unless its day was given up as the oldest
 pub record UnitMarkHolds
-    (start : List Day) (past : List HistoryMinute) (lost : List (List HistoryMinute)) (unit : State) (m : Mark) : Type 0 where
+    (start : List ShownDay) (past : List HistoryMinute) (lost : List (List HistoryMinute)) (unit : State) (m : Mark) : Type 0 where
   pub i : HistoryMinute
   pub minute : i.minute ≡ m.minute
   pub stands : Contains past i
@@ -53,7 +53,7 @@ pub record UnitMarkHolds
 
 -- THE UNIT: every image that a stop might have left since a clock shows the start and a part of the history from its front, and
 -- decodes; the acknowledged minutes increase, and hold
-pub record UnitSafe (start : List Day)
+pub record UnitSafe (start : List ShownDay)
     (past : List HistoryMinute) (lost : List (List HistoryMinute)) (marks : List Mark) (since : ℕ) (unit : State) : Type 0 where
   pub minutes : (x : List ℕ) → unit.left_since since x → UnitShows start past lost x
   pub decodes : (x : List ℕ) → unit.left_since since x → Decodes x

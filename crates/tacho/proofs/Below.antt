@@ -19,11 +19,11 @@ use Rattle.run_model.specs.Span.{trace_span}
 use Rattle.view_model.specs.declared.UnitShown.{UnitShown}
 use Rattle.view_model.specs.declared.Viewed.{Viewed}
 use Rattle.view_model.specs.declared.Line.{Line}
-use Rattle.view_model.specs.Lines.{day_of, lines_of, same_unit}
+use Rattle.view_model.specs.Lines.{day_of_minute, lines_of, same_unit}
 use Rattle.tacho_types.specs.declared.calendar.TheConstants.{DAYS}
 use Rattle.view_text.proofs.Texts.{lines-below}
 use Rattle.tacho.specs.Feeding.{fed_items}
-use Rattle.tacho.specs.Minutes.{without_card, minutes_shown}
+use Rattle.tacho.specs.Minutes.{without_card, minutes_printed}
 use Rattle.tacho.proofs.Fed.{fed-span, fed_items-end, fed_items-rule, fed_items-settlings}
 
 -- the seconds of a span are numbered from its first one on
@@ -41,11 +41,11 @@ fed_items-numbered span (Act (Tear slot) ∷ items) numbered = fed_items-numbere
 fed_items-numbered span (Act (Place slot ending country region) ∷ items) numbered = fed_items-numbered span items numbered
 
 -- minutes that have ended before a second are on days that a time can name
-shown-below : (end : ℕ) (minutes : List Minute) → end ≤ 4294880896 → AllByRecursion (λ (m : Minute). 60 * m.minute + 60 ≤ end) minutes → AllByRecursion (λ (v : Viewed UnitShown). day_of v.minute < DAYS) (map without_card minutes)
+shown-below : (end : ℕ) (minutes : List Minute) → end ≤ 4294880896 → AllByRecursion (λ (m : Minute). 60 * m.minute + 60 ≤ end) minutes → AllByRecursion (λ (v : Viewed UnitShown). day_of_minute v.minute < DAYS) (map without_card minutes)
 shown-below end [] le all = tt
 shown-below end (m ∷ minutes) le all = (omega (arith, all.0, le), shown-below end minutes le all.1)
 
-trace-below : (start : ℕ) (items : List Item) → IsWellFormed start items → AllByRecursion (IsKnown Minutes) items → AllByRecursion (λ (v : Viewed UnitShown). day_of v.minute < DAYS) (minutes_shown start items)
+trace-below : (start : ℕ) (items : List Item) → IsWellFormed start items → AllByRecursion (IsKnown Minutes) items → AllByRecursion (λ (v : Viewed UnitShown). day_of_minute v.minute < DAYS) (minutes_printed start items)
 trace-below start items well known =
     let span = fed_items (begin Original start) items in
     let none = fed_items-settlings (begin Original start) items in
@@ -56,5 +56,5 @@ trace-below start items well known =
     shown-below (end_of span) (decided Original (trace_span start items) []) (omega (arith, fed_items-end (begin Original start) items known, well.within.1)) (subst P (fed-span start items known) ended)
 
 -- so their lines begin on such days
-pub lines-of-trace : (start : ℕ) (items : List Item) → IsWellFormed start items → AllByRecursion (IsKnown Minutes) items → AllByRecursion (λ (l : Line UnitShown). day_of l.first < DAYS) (lines_of same_unit (minutes_shown start items))
-lines-of-trace start items well known = lines-below DAYS same_unit (minutes_shown start items) (trace-below start items well known)
+pub lines-of-trace : (start : ℕ) (items : List Item) → IsWellFormed start items → AllByRecursion (IsKnown Minutes) items → AllByRecursion (λ (l : Line UnitShown). day_of_minute l.first < DAYS) (lines_of same_unit (minutes_printed start items))
+lines-of-trace start items well known = lines-below DAYS same_unit (minutes_printed start items) (trace-below start items well known)

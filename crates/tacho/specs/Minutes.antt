@@ -36,15 +36,15 @@ abbrev pub lines_shown : List Minute → List (Line UnitShown)
 lines_shown minutes = lines_of same_unit (map without_card minutes)
 
 -- the decided minutes of the one span of a trace, no card present
-abbrev pub minutes_shown : ℕ → List Item → List (Viewed UnitShown)
-minutes_shown start items = map without_card (decided Original (trace_span start items) [])
+abbrev pub minutes_printed : ℕ → List Item → List (Viewed UnitShown)
+minutes_printed start items = map without_card (decided Original (trace_span start items) [])
 
 -- `minutes` prints this for a source of this text
 pub record PrintsMinutes (text out : List ℕ) : Type 0 where
   pub start : ℕ
   pub items : List Item
   pub trace : IsTraceText Minutes text start items
-  pub view : IsUnitView (minutes_shown start items) out
+  pub view : IsUnitView (minutes_printed start items) out
 
 -- how `minutes` can end
 abbrev pub IsMinutesEnd : Fault → Type 0

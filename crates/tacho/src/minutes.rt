@@ -10,7 +10,7 @@ ghost use Rattle.trace_text.specs.Line.{IsKnown};
 ghost use Rattle.trace_text.specs.Trace.{IsWellFormed};
 ghost use Rattle.tacho.specs.Feeding.{fed_item};
 ghost use Rattle.view_model.specs.Lines.{lines_of, same_unit};
-ghost use Rattle.tacho.specs.Minutes.{without_card, minutes_shown, lines_shown};
+ghost use Rattle.tacho.specs.Minutes.{without_card, minutes_printed, lines_shown};
 
 use activity_codec::{Activity, Steps};
 use minute_rules::{Minute, Minutes, Rule};
@@ -28,7 +28,7 @@ pub const LAST_TIME: u32 = 4294967295;
 pub fn lines_of(alloc: Global, trace: &Trace) -> Result<Vec<Line<UnitShown>>, AllocError>
     requires well { IsWellFormed trace.now.start trace.now.items }
     requires known { AllByRecursion (IsKnown FormOfMinutes) trace.now.items }
-    ensures { IfOk result (λ lines. lines.items ≡ lines_of same_unit (minutes_shown trace.now.start trace.now.items)) }
+    ensures { IfOk result (λ lines. lines.items ≡ lines_of same_unit (minutes_printed trace.now.start trace.now.items)) }
 {
     let mut minutes = Minutes::new(Rule::Original, trace.start);
     let mut lines = Vec::new(alloc);

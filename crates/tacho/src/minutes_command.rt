@@ -11,7 +11,7 @@ ghost use Rattle.trace_text.specs.Trace.{IsWellFormed};
 ghost use Rattle.std.specs.List.{AllByRecursion};
 ghost use Rattle.trace_text.specs.Judged.{IsTraceText, IsBadText, IsLongText};
 ghost use Rattle.tacho.specs.End.{refusal_of, IsUnread, IsUnprinted};
-ghost use Rattle.tacho.specs.Minutes.{PrintsMinutes, minutes_shown, IsMinutesEnd};
+ghost use Rattle.tacho.specs.Minutes.{PrintsMinutes, minutes_printed, IsMinutesEnd};
 
 use crate::end::Fault;
 use crate::minutes::lines_of;
@@ -74,7 +74,7 @@ pub fn refusal(fault: TraceFault) -> Fault
 fn text_of(alloc: Global, trace: &Trace) -> Result<Vec<u8>, AllocError>
     requires well { IsWellFormed trace.now.start trace.now.items }
     requires known { AllByRecursion (IsKnown FormOfMinutes) trace.now.items }
-    ensures { IfOk result (λ text. IsUnitView (minutes_shown trace.now.start trace.now.items) text.items) }
+    ensures { IfOk result (λ text. IsUnitView (minutes_printed trace.now.start trace.now.items) text.items) }
 {
     let lines = lines_of(alloc, trace)?;
     lines_text(alloc, lines.as_slice())

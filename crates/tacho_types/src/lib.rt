@@ -18,7 +18,8 @@ pub use numbers::{
 };
 pub use places::{PlaceEntry, read_place, write_place};
 pub use texts::{
-    Name36, Registration, read_name, read_registration, write_name, write_padded, write_registration,
+    Name36, Registration, read_name, read_registration, write_name, write_padded,
+    write_registration,
 };
 
 #[cfg(test)]

@@ -7,7 +7,7 @@ use Rattle.text_fields.proofs.PieceLemmas.{pieces-some}
 use Rattle.text_fields.specs.Pieces.{pieces, onto_first}
 use Rattle.trace_model.specs.declared.Item.{Item}
 use Rattle.trace_text.specs.declared.trace.Form.{Form}
-use Rattle.trace_text.specs.Text.{counts, fields, closed, lines_of, numbered, counted}
+use Rattle.trace_text.specs.Text.{counts, fields, closed, text_lines, numbered, counted}
 use Rattle.trace_text.specs.Trace.{IsTraceOf, line_of, items_of, ended}
 use Rattle.trace_text.proofs.PutIn.{ended-few}
 
@@ -36,8 +36,8 @@ numbered-few n (line ∷ lines) =
     (λ skips_it. rw skips_it (omega (arith, numbered-few (n + 1) lines)))
 
 -- the items of a trace of so many bytes
-pub trace-items-few : (form : Form) (text : List ℕ) (start : ℕ) (items : List Item) → length text ≤ 16777216 → IsTraceOf form (lines_of text) start items → length items < 2 ^ 26
+pub trace-items-few : (form : Form) (text : List ℕ) (start : ℕ) (items : List Item) → length text ≤ 16777216 → IsTraceOf form (text_lines text) start items → length items < 2 ^ 26
 trace-items-few form text start items few is =
-    let lines : length (counted (lines_of text)) ≤ length text + 1 = omega (arith, numbered-few 1 (lines_of text), closed-few (pieces 10 text), pieces-few text) in
-    let written : length (counted (lines_of text)) ≡ 1 + length is.written = rw is.spells.text (omega (arith, length-map is.written line_of)) in
+    let lines : length (counted (text_lines text)) ≤ length text + 1 = omega (arith, numbered-few 1 (text_lines text), closed-few (pieces 10 text), pieces-few text) in
+    let written : length (counted (text_lines text)) ≡ 1 + length is.written = rw is.spells.text (omega (arith, length-map is.written line_of)) in
     rw is.items_are (omega (arith, lines, written, few, ended-few is.written))

@@ -6,12 +6,12 @@ use Rattle.activity_codec.specs.declared.values.Slot.TheVariants.{Driver}
 use Rattle.trace_model.specs.declared.Action.TheVariants.{Select, Tear}
 use Rattle.trace_model.specs.declared.Item.{Item}
 use Rattle.trace_model.specs.declared.Item.TheVariants.{Run, Off, Act}
-use Rattle.trace_text.specs.Text.{lines_of, counted}
+use Rattle.trace_text.specs.Text.{text_lines, counted}
 use Rattle.trace_text.specs.Trace.{opened, ended}
 use Rattle.trace_text.specs.Judged.{IsPassedAt}
 
 -- comments and empty lines have numbers, and do not count
-numbers_of_lines : counted (lines_of (codes "# a\n\nstart 86400\n#\noff 1")) ≡ (3, codes "start" ∷ codes "86400" ∷ []) ∷ (5, codes "off" ∷ codes "1" ∷ []) ∷ []
+numbers_of_lines : counted (text_lines (codes "# a\n\nstart 86400\n#\noff 1")) ≡ (3, codes "start" ∷ codes "86400" ∷ []) ∷ (5, codes "off" ∷ codes "1" ∷ []) ∷ []
 numbers_of_lines = refl
 
 -- two actions, an `off`, and an action at the end: two seconds are put in, each counts to the last action before it

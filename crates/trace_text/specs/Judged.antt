@@ -5,7 +5,7 @@ use Rattle.trace_model.specs.Trace.{item_seconds}
 use Rattle.trace_text.specs.declared.trace.Form.{Form}
 use Rattle.trace_text.specs.declared.trace.TraceFault.{TraceFault}
 use Rattle.trace_text.specs.declared.trace.TraceFault.TheVariants.{ReadFault, BadLine, TooLong, Memory}
-use Rattle.trace_text.specs.Text.{lines_of, counted}
+use Rattle.trace_text.specs.Text.{text_lines, counted}
 use Rattle.trace_text.specs.Trace.{Spells, IsTraceOf, IsWithin, InGrammar, BeginsWell, opened, ended}
 
 -- Line n is the first outside the grammar, and no limit is passed before it: the lines before it begin a trace, and with
@@ -44,16 +44,16 @@ most_bytes = 16777216
 
 -- a text is that of a trace
 unfoldable pub IsTraceText : Form → List ℕ → ℕ → List Item → Type 0
-IsTraceText form text start items = (length text ≤ most_bytes) × IsTraceOf form (lines_of text) start items
+IsTraceText form text start items = (length text ≤ most_bytes) × IsTraceOf form (text_lines text) start items
 
 -- a text has its first bad line at n
 unfoldable pub IsBadText : Form → List ℕ → ℕ → Type 0
-IsBadText form text n = (length text ≤ most_bytes) × IsFirstBad form (lines_of text) n
+IsBadText form text n = (length text ≤ most_bytes) × IsFirstBad form (text_lines text) n
 
 -- a text is too long: in bytes, which is line 0, or at line n
 unfoldable pub IsLongText : Form → List ℕ → ℕ → Type 0
 IsLongText form text n =
-    ((most_bytes < length text) × (n ≡ 0)) ⊎ ((length text ≤ most_bytes) × IsFirstTooLong form (lines_of text) n)
+    ((most_bytes < length text) × (n ≡ 0)) ⊎ ((length text ≤ most_bytes) × IsFirstTooLong form (text_lines text) n)
 
 -- the source failed, or memory ran out
 abbrev pub IsFailure : TraceFault → Type 0

@@ -9,8 +9,8 @@ closed ([] ∷ []) = []
 closed (piece ∷ pieces) = piece ∷ closed pieces
 
 -- the lines of a text: each ends in LF, which may be missing behind the last one
-abbrev pub lines_of : List ℕ → List (List ℕ)
-lines_of text = closed (pieces 10 text)
+abbrev pub text_lines : List ℕ → List (List ℕ)
+text_lines text = closed (pieces 10 text)
 
 -- empty lines and lines that begin with `#` are passed over
 abbrev pub counts : List ℕ → Bool

@@ -6,7 +6,7 @@ ghost use Rattle.tach_media.specs.Medium.{Rose};
 ghost use Rattle.std.specs.List.{AllByRecursion};
 ghost use Rattle.trace_model.specs.declared.Item.{Item};
 ghost use Rattle.trace_text.specs.Line.{IsKnown};
-ghost use Rattle.trace_text.specs.Text.{lines_of};
+ghost use Rattle.trace_text.specs.Text.{text_lines};
 ghost use Rattle.trace_text.specs.Trace.{IsTraceOf, IsWellFormed};
 ghost use Rattle.trace_text.specs.Judged.{IsTraceText, IsBadText, IsLongText, IsFailure};
 ghost use Rattle.trace_text.specs.Reading.{IsFaultOf};
@@ -60,7 +60,7 @@ pub fn read_trace<S: Source>(alloc: Global, source: &mut S, form: Form) -> Resul
 /// The trace of a text.
 fn trace_of(alloc: Global, text: &[u8], form: Form) -> Result<Trace, TraceFault>
     requires { length text.now ≤ MOST_BYTES }
-    ensures { MatchResult result (λ t. IsTraceOf form (lines_of text.now) t.start t.items) (IsFaultOf form (lines_of text.now)) }
+    ensures { MatchResult result (λ t. IsTraceOf form (text_lines text.now) t.start t.items) (IsFaultOf form (text_lines text.now)) }
 {
     let mut reading = Reading::new(alloc, form);
     let mut rest = text;
@@ -75,7 +75,7 @@ fn trace_of(alloc: Global, text: &[u8], form: Form) -> Result<Trace, TraceFault>
 /// The first line, and the lines behind it.
 fn next_line(text: &[u8]) -> (&[u8], &[u8])
     requires { 0 < length text.now }
-    ensures lines { lines_of text.now ≡ result.0.now ∷ lines_of result.1.now }
+    ensures lines { text_lines text.now ≡ result.0.now ∷ text_lines result.1.now }
     ensures shorter { length result.1.now < length text.now }
 {
     let (line, behind) = first_piece(text, b'\n');

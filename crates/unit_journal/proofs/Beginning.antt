@@ -14,7 +14,7 @@ use Rattle.gated_ring.specs.Ring.{number_at, pointer, is_there, entry_at, taken,
 use Rattle.gated_ring.specs.Change.{SameOthers, IsAdding, IsAdded}
 use Rattle.gated_ring.specs.Plans.{room_in}
 use Rattle.unit_model.specs.declared.layout.TheConstants.{DAYS, DAY_COUNT, DAY_SLOTS, DAY_SLOT_SIZE, DAY_WORDS, DAY_WORD_LIMIT, HIGHEST_ODOMETER, IMAGE_SIZE, LAST_KEPT, LAST_MINUTE, ODOMETER}
-use Rattle.unit_model.specs.Days.{word_slot, word_minute, word_of, bare, state_at, UnitMinute, Day, StoredDay, day_of, day_shown, days_shown, filled, Each, minute_by}
+use Rattle.unit_model.specs.Days.{slot_bit, word_minute, word_by, bare, state_at, UnitMinute, ShownDay, StoredDay, day_of, day_shown, days_shown, filled, Each, minute_by}
 use Rattle.unit_model.specs.Changes.{change, changes, first_state, first_states, further_words}
 use Rattle.unit_model.specs.Image.{day_ring, slot_place, last_kept, odometer_at, unit_day, unit_days, spare_bytes, recorded, indices, slot_date, slot_odometer, slot_count, slot_words}
 use Rattle.std.specs.List.{list_all}
@@ -31,7 +31,7 @@ use Rattle.unit_journal.specs.Keeping.{SameBesides, IsGivenUp, IsKeeping}
 use Rattle.unit_model.specs.Writing.{written, free_place, DiffersBehind, with_kept, with_words}
 use Rattle.unit_model.specs.Retention.{retained, last_day}
 use Rattle.unit_model.proofs.Retention.{begins_of}
-use Rattle.unit_journal.specs.DaysWith.{closed_days, begun_day, days_with, HasDays, AreTurning, AreBetween}
+use Rattle.unit_journal.specs.DaysWith.{last_day_closed, begun_day, days_with, HasDays, AreTurning, AreBetween}
 use Rattle.unit_journal.proofs.DaysWith.{drop_push, spare_front, spare_behind, spare_count}
 use Rattle.unit_journal.specs.Plans.{counted, mark, beginning}
 use Rattle.unit_journal.proofs.Planned.{counted_put, counted_moment}
@@ -55,7 +55,7 @@ shown_all k [] all = refl
 shown_all k (d ∷ days) all =
     let on : nat_le (day_of d) (k / 1440) ≡ true = grind (arith, nat_tests, all.0) in
     ap (λ (b : Bool). map (day_shown k) (cond b (d ∷ filter (λ d. nat_le (day_of d) (k / 1440)) days) (filter (λ d. nat_le (day_of d) (k / 1440)) days))) on
-    ∙ ap (λ (l : List Day). day_shown k d ∷ l) (shown_all k days all.1)
+    ∙ ap (λ (l : List ShownDay). day_shown k d ∷ l) (shown_all k days all.1)
 
 each_drop : (P : StoredDay → Type 0) (n : ℕ) (days : List StoredDay) → Each P days → Each P (drop n days)
 each_drop P zero days all = all
@@ -92,10 +92,10 @@ shown_length k days all = ap length (shown_all k days all) ∙ length-map days (
 
 -- the day of a head
 head_day : (date odometer d c : ℕ) (rest : List ℕ) → date < 4294967296 → odometer < 4294967296 → d < 16 → c < 16
-    → unit_day (head_of date odometer (record { driver = d; codriver = c }) ++ rest) ≡ record { date = date; odometer = odometer; words = word_of 0 d 0 ∷ word_of 1 c 0 ∷ [] }
+    → unit_day (head_of date odometer (record { driver = d; codriver = c }) ++ rest) ≡ record { date = date; odometer = odometer; words = word_by 0 d 0 ∷ word_by 1 c 0 ∷ [] }
 head_day date odometer d c rest small far s1 s2 =
-    let w0 : big_number 2 (to_be_bytes w16 (word_of 0 d 0)) ≡ word_of 0 d 0 = big_number-big_bytes 2 (word_of 0 d 0) (omega arith) in
-    let w1 : big_number 2 (to_be_bytes w16 (word_of 1 c 0)) ≡ word_of 1 c 0 = big_number-big_bytes 2 (word_of 1 c 0) (omega arith) in
+    let w0 : big_number 2 (to_be_bytes w16 (word_by 0 d 0)) ≡ word_by 0 d 0 = big_number-big_bytes 2 (word_by 0 d 0) (omega arith) in
+    let w1 : big_number 2 (to_be_bytes w16 (word_by 1 c 0)) ≡ word_by 1 c 0 = big_number-big_bytes 2 (word_by 1 c 0) (omega arith) in
     λ i. record { date = big_number-big_bytes 4 date (omega (arith, small)) i; odometer = big_number-big_bytes 4 odometer (omega (arith, far)) i; words = w0 i ∷ w1 i ∷ [] }
 
 -- the odometer of a head, and how many words it has
@@ -105,10 +105,10 @@ head_odometer date odometer first rest small = big_number-big_bytes 4 odometer (
 -- the first two words are good
 module _ (d c : ℕ) (s1 : d < 16) (s2 : c < 16) where
   abbrev w0 : ℕ
-  w0 = word_of 0 d 0
+  w0 = word_by 0 d 0
 
   abbrev w1 : ℕ
-  w1 = word_of 1 c 0
+  w1 = word_by 1 c 0
 
   m0 : word_minute w0 ≡ 0
   m0 = minute_of 0 d 0 (lit≤ tt) s1 (lit≤ tt)
@@ -116,10 +116,10 @@ module _ (d c : ℕ) (s1 : d < 16) (s2 : c < 16) where
   m1 : word_minute w1 ≡ 0
   m1 = minute_of 1 c 0 (lit≤ tt) s2 (lit≤ tt)
 
-  l0 : word_slot w0 ≡ 0
+  l0 : slot_bit w0 ≡ 0
   l0 = slot_of 0 d 0 (lit≤ tt) s1 (lit≤ tt)
 
-  l1 : word_slot w1 ≡ 1
+  l1 : slot_bit w1 ≡ 1
   l1 = slot_of 1 c 0 (lit≤ tt) s2 (lit≤ tt)
 
   firsts_checks : (place : ℕ) → list_all passes (word_checks place [] (w0 ∷ w1 ∷ [])) ≡ true
@@ -129,20 +129,20 @@ module _ (d c : ℕ) (s1 : d < 16) (s2 : c < 16) where
 
 -- the words of a new day by either spelling
 change_same : (s t d : ℕ) → change s t d d ≡ []
-change_same s t d = let same : (d == d) ≡ true = grind (arith, nat_tests) in ap (λ (b : Bool). cond b [] (word_of s d t ∷ [])) same
+change_same s t d = let same : (d == d) ≡ true = grind (arith, nat_tests) in ap (λ (b : Bool). cond b [] (word_by s d t ∷ [])) same
 
-pub new_spelled : (t d c : ℕ) → (word_of 0 (first_state t d) 0 ∷ word_of 1 (first_state t c) 0 ∷ []) ++ changes t (first_state t d) (first_state t c) d c ≡ first_states t d c ++ further_words t d c
+pub new_spelled : (t d c : ℕ) → (word_by 0 (first_state t d) 0 ∷ word_by 1 (first_state t c) 0 ∷ []) ++ changes t (first_state t d) (first_state t c) d c ≡ first_states t d c ++ further_words t d c
 new_spelled t d c = by (t == 0)
   where
-    by : (b : Bool) → (word_of 0 (cond b d bare) 0 ∷ word_of 1 (cond b c bare) 0 ∷ []) ++ changes t (cond b d bare) (cond b c bare) d c
-        ≡ cond b (word_of 0 d 0 ∷ word_of 1 c 0 ∷ []) (word_of 0 bare 0 ∷ word_of 1 bare 0 ∷ []) ++ cond b [] (changes t bare bare d c)
-    by true = (λ i. word_of 0 d 0 ∷ word_of 1 c 0 ∷ (change_same 0 t d i ++ change 1 t c c)) ∙ (λ i. word_of 0 d 0 ∷ word_of 1 c 0 ∷ change_same 1 t c i)
+    by : (b : Bool) → (word_by 0 (cond b d bare) 0 ∷ word_by 1 (cond b c bare) 0 ∷ []) ++ changes t (cond b d bare) (cond b c bare) d c
+        ≡ cond b (word_by 0 d 0 ∷ word_by 1 c 0 ∷ []) (word_by 0 bare 0 ∷ word_by 1 bare 0 ∷ []) ++ cond b [] (changes t bare bare d c)
+    by true = (λ i. word_by 0 d 0 ∷ word_by 1 c 0 ∷ (change_same 0 t d i ++ change 1 t c c)) ∙ (λ i. word_by 0 d 0 ∷ word_by 1 c 0 ∷ change_same 1 t c i)
     by false = refl
 
-firsts_spelled : (t d c : ℕ) → word_of 0 (first_state t d) 0 ∷ word_of 1 (first_state t c) 0 ∷ [] ≡ first_states t d c
+firsts_spelled : (t d c : ℕ) → word_by 0 (first_state t d) 0 ∷ word_by 1 (first_state t c) 0 ∷ [] ≡ first_states t d c
 firsts_spelled t d c = by (t == 0)
   where
-    by : (b : Bool) → word_of 0 (cond b d bare) 0 ∷ word_of 1 (cond b c bare) 0 ∷ [] ≡ cond b (word_of 0 d 0 ∷ word_of 1 c 0 ∷ []) (word_of 0 bare 0 ∷ word_of 1 bare 0 ∷ [])
+    by : (b : Bool) → word_by 0 (cond b d bare) 0 ∷ word_by 1 (cond b c bare) 0 ∷ [] ≡ cond b (word_by 0 d 0 ∷ word_by 1 c 0 ∷ []) (word_by 0 bare 0 ∷ word_by 1 bare 0 ∷ [])
     by true = refl
     by false = refl
 
@@ -175,7 +175,7 @@ pub record IsClosed (n k : ℕ) (coming : Coming) (x x2 : List ℕ) (known : poi
   pub all_now : Each (λ d. day_of d ≤ k / 1440) (unit_days x2)
   pub commit : days_shown coming.minute (unit_days x2 ++ begun_day coming ∷ []) ≡ filled (recorded x) (minute_by coming.minute coming.bits.driver coming.bits.codriver)
   pub written : days_with (last_kept x) coming (unit_days x) ≡ unit_days x2 ++ begun_day coming ∷ []
-  pub closed_are : unit_days x2 ≡ closed_days (last_kept x) (unit_days x)
+  pub closed_are : unit_days x2 ≡ last_day_closed (last_kept x) (unit_days x)
   pub room : room_in day_ring x2 ≡ room_in day_ring x
   pub spare : (i : ℕ) → spare_bytes x2 i ≡ spare_bytes x i
   pub ready : IsReady x2 known
@@ -203,7 +203,7 @@ module _ (n k : ℕ) (coming : Coming) (fits : IsComing coming) (later : k / 144
   date = 86400 * (m / 1440)
 
   abbrev firsts : List ℕ
-  firsts = word_of 0 (first_state (m % 1440) dn) 0 ∷ word_of 1 (first_state (m % 1440) cn) 0 ∷ []
+  firsts = word_by 0 (first_state (m % 1440) dn) 0 ∷ word_by 1 (first_state (m % 1440) cn) 0 ∷ []
 
   abbrev ws : List ℕ
   ws = further coming

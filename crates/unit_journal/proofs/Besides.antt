@@ -9,10 +9,10 @@ use Rattle.tach_media.specs.Medium.{SameOutside}
 use Rattle.tach_media.proofs.Images.{put_outside, part_before, part_after, outside_wider}
 use Rattle.gated_ring.specs.Ring.{indices as ring_indices, pointer, is_there, next, order}
 use Rattle.unit_model.specs.declared.layout.TheConstants.{DAYS, DAY_SLOTS, FIRST_OVER, INSERTIONS, LAST_KEPT, ODOMETER, OWED, SPARE_ROWS}
-use Rattle.unit_model.specs.Days.{Day, UnitMinute, day_of, day_shown, newest_of}
+use Rattle.unit_model.specs.Days.{ShownDay, UnitMinute, day_of, day_shown, newest_days}
 use Rattle.unit_model.specs.Image.{day_ring, slot_place, last_kept, odometer_at, indices, unit_days, recorded}
 use Rattle.unit_model.specs.Retention.{retained}
-use Rattle.unit_journal.specs.Keeping.{SameBesides, IsGivenUp, IsBeforeMark, IsBehindMark}
+use Rattle.unit_journal.specs.Keeping.{SameBesides, IsGivenUp, IsBeforeLastKept, IsBehindLastKept}
 use Rattle.unit_journal.specs.Mends.{SameButRowsAndSlots}
 use Rattle.unit_model.proofs.Slots.{day_at, all_days}
 use Rattle.unit_model.proofs.Front.{HasOdometer}
@@ -48,7 +48,7 @@ outside_both x y c first next = record { before = next.before ∙ first.before; 
 
 -- the side of a moment before the mark, and behind it
 abbrev pub Side : (k : UnitMinute) (odometer : ℕ) (x c : List ℕ) → Type 0
-Side k odometer x c = IsBeforeMark k odometer x c ⊎ IsBehindMark k odometer x c
+Side k odometer x c = IsBeforeLastKept k odometer x c ⊎ IsBehindLastKept k odometer x c
 
 pub before_first : (k : UnitMinute) (odometer : ℕ) (x c : List ℕ) → (last_kept c ≡ last_kept x) × (odometer_at c ≡ odometer_at x) → recorded c ≡ recorded x → Side k odometer x c
 before_first k odometer x c same minutes = inl (record { last = same.0; odometer_is = inl same.1; minutes = inl minutes })
@@ -89,5 +89,5 @@ few_days x known =
     let shown = filter (λ d. nat_le (day_of d) (last_kept x / 1440)) days in
     omega (arith, length-map shown (day_shown (last_kept x)), filter_few (λ d. nat_le (day_of d) (last_kept x / 1440)) days, few_slots x known)
 
-pub all_newest : (n : ℕ) (days : List Day) → length days ≤ n → newest_of n days ≡ days
+pub all_newest : (n : ℕ) (days : List ShownDay) → length days ≤ n → newest_days n days ≡ days
 all_newest n days few = let none : length days - n ≡ 0 = omega arith in ap (λ (k : ℕ). drop k days) none

@@ -12,7 +12,7 @@ use Rattle.activity_codec.specs.Activity.{same_slot}
 use Rattle.activity_codec.specs.Words.{slot_number, slot_numbered, bit, activity_number, activity_numbered, change_of}
 use Rattle.activity_codec.specs.States.{is_by, latest_word, state_of}
 use Rattle.view_model.specs.declared.State.{State}
-use Rattle.unit_model.specs.Days.{word_slot, word_state, word_minute, bare, state_by, state_after, state_at, state_in, is_crew_in, StoredDay, day_of, minute_at, Each}
+use Rattle.unit_model.specs.Days.{slot_bit, word_state, word_minute, bare, state_by, state_after, state_at, state_in, is_crew_in, StoredDay, day_of, minute_at, Each}
 use Rattle.unit_journal.specs.Kept.{bits_by}
 use Rattle.unit_journal.proofs.KeptBits.{state_back, crew_back}
 
@@ -73,7 +73,7 @@ bits_told w = omega (
 
 module _ (s : Slot) (t : ℕ) where
   -- a word counts by one as by the other
-  counts_same : (w : ℕ) → w < 65536 → is_by s t w ≡ ((word_slot w == slot_number s) && nat_le (word_minute w) t)
+  counts_same : (w : ℕ) → w < 65536 → is_by s t w ≡ ((slot_bit w == slot_number s) && nat_le (word_minute w) t)
   counts_same w small = ap (λ (b : Bool). b && nat_le (word_minute w) t) (slot_again s (w / 32768) (omega (arith, small)))
 
   -- the state of the latest word, or the one before all of them

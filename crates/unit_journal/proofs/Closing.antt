@@ -9,7 +9,7 @@ use Rattle.tach_media.proofs.Images.{put_outside, part_after}
 use Rattle.gated_ring.specs.Ring.{number_at, pointer, is_there, entry_at, next, taken}
 use Rattle.gated_ring.specs.Plans.{room_in}
 use Rattle.unit_model.specs.declared.layout.TheConstants.{DAY_COUNT, DAY_SLOTS, DAY_SLOT_SIZE, DAY_WORDS, DAY_WORD_LIMIT, HIGHEST_ODOMETER, IMAGE_SIZE, LAST_KEPT, LAST_MINUTE, ODOMETER}
-use Rattle.unit_model.specs.Days.{word_minute, bare, UnitMinute, Day, StoredDay, day_of, days_shown, filled, Each, minute_by}
+use Rattle.unit_model.specs.Days.{word_minute, bare, UnitMinute, ShownDay, StoredDay, day_of, days_shown, filled, Each, minute_by}
 use Rattle.unit_model.specs.Changes.{changes, closing_words}
 use Rattle.unit_model.specs.Image.{day_ring, slot_place, last_kept, odometer_at, unit_day, unit_days, spare_bytes, recorded, indices, slot_odometer, slot_words}
 use Rattle.std.specs.List.{list_all}
@@ -24,7 +24,7 @@ use Rattle.unit_journal.specs.Image.{Notes, IsNotes, IsNewestDay, Agrees}
 use Rattle.unit_journal.specs.Keeping.{SameBesides, IsKeeping}
 use Rattle.unit_journal.proofs.Premises.{IsNoted}
 use Rattle.unit_model.specs.Writing.{written, free_place, DiffersBehind, with_odometer, with_words}
-use Rattle.unit_journal.specs.DaysWith.{closed_days, begun_day, days_with, AreBetween}
+use Rattle.unit_journal.specs.DaysWith.{last_day_closed, begun_day, days_with, AreBetween}
 use Rattle.unit_journal.proofs.DaysWith.{with_last, with_next, closed_last, spare_front, spare_behind, spare_count}
 use Rattle.unit_journal.specs.Plans.{counted, closing, turning}
 use Rattle.unit_journal.proofs.Planned.{counted_put, counted_moment}
@@ -171,12 +171,12 @@ module _ (j : Notes) (x : List ℕ) (noted : IsNoted j x) (coming : Coming) (fit
         all_now = subst (Each (λ d. day_of d ≤ k / 1440)) (sym no_days) tt;
         commit =
             ap (λ (l : List StoredDay). days_shown m (l ++ begun ∷ [])) no_days ∙ day_now m begun its_day
-            ∙ ap (λ (d : Day). d ∷ []) (begun_is 0 m bare bare dn cn [] 0 0 [] tt refl tt refl refl fits.driver fits.codriver (86400 * (m / 1440)) odometer its_day (omega (arith, later))
+            ∙ ap (λ (d : ShownDay). d ∷ []) (begun_is 0 m bare bare dn cn [] 0 0 [] tt refl tt refl refl fits.driver fits.codriver (86400 * (m / 1440)) odometer its_day (omega (arith, later))
             (begun_before 0 m bare bare dn cn [] 0 0 [] tt refl tt refl refl fits.driver fits.codriver (86400 * (m / 1440)) odometer its_day (omega (arith, later)))
             (begun_at 0 m bare bare dn cn [] 0 0 [] tt refl tt refl refl fits.driver fits.codriver (86400 * (m / 1440)) odometer its_day (omega (arith, later))))
-            ∙ sym (ap (λ (l : List Day). filled l it) x_recorded);
+            ∙ sym (ap (λ (l : List ShownDay). filled l it) x_recorded);
         written = ap (days_with (last_kept x) coming) (all_days x ∙ ap (map (day_at x)) (noted.agrees.none none)) ∙ sym (ap (λ (l : List StoredDay). l ++ begun ∷ []) no_days);
-        closed_are = no_days ∙ sym (ap (closed_days (last_kept x)) (all_days x ∙ ap (map (day_at x)) (noted.agrees.none none)));
+        closed_are = no_days ∙ sym (ap (last_day_closed (last_kept x)) (all_days x ∙ ap (map (day_at x)) (noted.agrees.none none)));
         room = room_same 0 x x1 (in_front 0 ODOMETER.place ODOMETER.size x x1 (omega arith) x1_same);
         spare = spare_front ODOMETER.place ODOMETER.size x x1 (omega arith) x1_same;
         ready = ready_empty x1 x1_known x_indices;
@@ -243,8 +243,8 @@ module _ (j : Notes) (x : List ℕ) (noted : IsNoted j x) (coming : Coming) (fit
     abbrev now : StoredDay
     now = record { date = date; odometer = o; words = words }
 
-    are_closed : closed_days (last_kept x) (unit_days x) ≡ older ++ last_day ∷ []
-    are_closed = (λ t. closed_days (noted.agrees.kept t) (slot_days i noted.ok.index js day.others older p k date o n few words x slot t)) ∙ closed_last k older now
+    are_closed : last_day_closed (last_kept x) (unit_days x) ≡ older ++ last_day ∷ []
+    are_closed = (λ t. last_day_closed (noted.agrees.kept t) (slot_days i noted.ok.index js day.others older p k date o n few words x slot t)) ∙ closed_last k older now
         ∙ (λ t. older ++ record { date = date; odometer = o; words = words ++ closing_words (k % 1440 + 1) (day.driver t) (day.codriver t) } ∷ [])
 
     room_1 : room_in day_ring x1 ≡ room_in day_ring x
@@ -267,7 +267,7 @@ module _ (j : Notes) (x : List ℕ) (noted : IsNoted j x) (coming : Coming) (fit
             commit =
                 ap (λ (l : List StoredDay). days_shown m (l ++ begun ∷ [])) days
                 ∙ next_day k m j.bits.driver j.bits.codriver dn cn older date o words day.earlier date_day day.low day.driver day.codriver fits.driver fits.codriver (86400 * (m / 1440)) odometer its_day later
-                ∙ sym (ap (λ (l : List Day). filled l it) x_days);
+                ∙ sym (ap (λ (l : List ShownDay). filled l it) x_days);
             written =
                 (λ t. days_with (noted.agrees.kept t) coming (slot_days i noted.ok.index js day.others older p k date o n few words x slot t))
                 ∙ with_last k coming older (record { date = date; odometer = o; words = words })

@@ -10,7 +10,7 @@ use Rattle.unit_model.specs.declared.layout.TheConstants.{DAYS, DAY_COUNT, DAY_S
 use Rattle.unit_model.specs.Days.{StoredDay, day_of}
 use Rattle.unit_model.specs.Image.{slot_place, spare_bytes}
 use Rattle.unit_journal.specs.Coming.{Coming}
-use Rattle.unit_journal.specs.DaysWith.{day_with, closed_day, closed_days, begun_day, days_with}
+use Rattle.unit_journal.specs.DaysWith.{day_with, closed_day, last_day_closed, begun_day, days_with}
 use Rattle.unit_model.specs.Writing.{free_place, DiffersBehind}
 
 module _ (k : ℕ) (coming : Coming) where
@@ -31,7 +31,7 @@ module _ (k : ℕ) (coming : Coming) where
       ap (λ (b : Bool). cond b (day_with k coming d ∷ []) (closed_day k d ∷ begun_day coming ∷ [])) there
 
 -- and so where it is closed
-pub closed_last : (k : ℕ) (days : List StoredDay) (d : StoredDay) → closed_days k (days ++ d ∷ []) ≡ days ++ closed_day k d ∷ []
+pub closed_last : (k : ℕ) (days : List StoredDay) (d : StoredDay) → last_day_closed k (days ++ d ∷ []) ≡ days ++ closed_day k d ∷ []
 closed_last k [] d = refl
 closed_last k (e ∷ []) d = refl
 closed_last k (e ∷ f ∷ days) d = ap (λ (l : List StoredDay). e ∷ l) (closed_last k (f ∷ days) d)

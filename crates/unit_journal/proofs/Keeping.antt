@@ -7,7 +7,7 @@ use Rattle.tach_media.specs.Medium.{SameOutside, IsPartlyWritten}
 use Rattle.tach_media.proofs.Images.{put_outside}
 use Rattle.gated_ring.specs.Ring.{number_at, pointer, newest_of}
 use Rattle.unit_model.specs.declared.layout.TheConstants.{DAY_COUNT, DAY_SLOTS, DAY_WORDS, DAY_WORD_LIMIT, HIGHEST_ODOMETER, IMAGE_SIZE, LAST_KEPT, LAST_MINUTE, ODOMETER}
-use Rattle.unit_model.specs.Days.{word_minute, word_of, bare, state_at, UnitMinute, Day, StoredDay, day_of, days_shown, filled, Each, minute_by}
+use Rattle.unit_model.specs.Days.{word_minute, word_by, bare, state_at, UnitMinute, ShownDay, StoredDay, day_of, days_shown, filled, Each, minute_by}
 use Rattle.unit_model.specs.Changes.{change, changes, new_words}
 use Rattle.unit_model.specs.Retention.{retained}
 use Rattle.unit_journal.specs.DaysWith.{days_with, HasDays, AreBetween}
@@ -43,7 +43,7 @@ use Rattle.unit_model.proofs.Recorded.{recorded_is}
 pub change_few : (s t d e : ℕ) → length (change s t d e) ≤ 1
 change_few s t d e = by (d == e)
   where
-    by : (b : Bool) → length (cond b [] (word_of s e t ∷ [])) ≤ 1
+    by : (b : Bool) → length (cond b [] (word_by s e t ∷ [])) ≤ 1
     by true = lit≤ tt
     by false = lit≤ tt
 
@@ -66,7 +66,7 @@ short_append (w ∷ a) b left right = (left.0, short_append a b left.1 right)
 change_short : (s t d e : ℕ) → s < 2 → t < 1440 → e < 16 → AreShort (change s t d e)
 change_short s t d e s1 s2 s3 = by (d == e)
   where
-    by : (b : Bool) → AreShort (cond b [] (word_of s e t ∷ []))
+    by : (b : Bool) → AreShort (cond b [] (word_by s e t ∷ []))
     by true = tt
     by false = (omega arith, tt)
 
@@ -219,7 +219,7 @@ module _ (j : Notes) (x : List ℕ) (noted : IsNoted j x) (coming : Coming) (fit
       let is : recorded y ≡ filled (recorded x) it =
       recorded_is y m slot_y.kept ∙ ap (days_shown m) (slot_days i noted.ok.index js day.others older p m date o (n + length ws) room (words ++ ws) y slot_y)
       ∙ same_day k m j.bits.driver j.bits.codriver dn cn older date o words day.earlier date_day day.low day.driver day.codriver fits.driver fits.codriver same later
-      ∙ sym (ap (λ (l : List Day). filled l it) x_recorded) in
+      ∙ sym (ap (λ (l : List ShownDay). filled l it) x_recorded) in
       let count : length (filled (recorded x) it) ≤ DAY_SLOTS = omega (arith, ap length is, few_days y (omega (arith, slot_y.pointer_is, noted.agrees.pointer))) in
       is ∙ sym (all_newest DAY_SLOTS (filled (recorded x) it) count)
 

@@ -85,7 +85,7 @@ scan_today kept i n r x stored few none scan = by r refl
       where
         state_low : (ws : List ℕ) (c : ℕ) → c < 16 → Rattle.unit_model.specs.Days.state_after slot u c ws < 16
         state_low [] c low = low
-        state_low (w ∷ ws) c low = state_low ws (Rattle.unit_model.specs.Days.state_by slot u c w) (one (Rattle.unit_model.specs.Days.word_slot w == slot && nat_le (word_minute w) u))
+        state_low (w ∷ ws) c low = state_low ws (Rattle.unit_model.specs.Days.state_by slot u c w) (one (Rattle.unit_model.specs.Days.slot_bit w == slot && nat_le (word_minute w) u))
           where
             one : (b : Bool) → cond b (Rattle.unit_model.specs.Days.word_state w) c < 16
             one true = omega arith

@@ -78,23 +78,23 @@ module _ (kept : ℕ) (x : List ℕ) (sized : length x ≡ IMAGE_SIZE) where
         (subst (λ (ps : List Piece). IsPartway ps x c) (ap (λ (m : ℕ). late_cells kept m x) one ∙ cells_more kept n x) here))
 
 -- the moments of the writes, each of which is whole or absent
-abbrev pub IsShutting : Option ℕ → List ℕ → List ℕ → Type 0
-IsShutting stray x c = (c ≡ x) ⊎ (c ≡ shut stray x)
+abbrev pub IsGateShutting : Option ℕ → List ℕ → List ℕ → Type 0
+IsGateShutting stray x c = (c ≡ x) ⊎ (c ≡ shut stray x)
 
-abbrev pub IsCutting : (index count : ℕ) → List ℕ → List ℕ → Type 0
-IsCutting i count x c = (c ≡ x) ⊎ (c ≡ with_count i count x)
+abbrev pub IsCountCutting : (index count : ℕ) → List ℕ → List ℕ → Type 0
+IsCountCutting i count x c = (c ≡ x) ⊎ (c ≡ with_count i count x)
 
 abbrev pub IsMendStep : Notes → List ℕ → List ℕ → Type 0
 IsMendStep j x c =
     IsEmptyingAll j.kept x c
-    ⊎ (IsShutting j.stray (cells_emptied j.kept 32 x) c
-    ⊎ ((0 < j.kept) × IsCutting j.index j.count (shut j.stray (cells_emptied j.kept 32 x)) c))
+    ⊎ (IsGateShutting j.stray (cells_emptied j.kept 32 x) c
+    ⊎ ((0 < j.kept) × IsCountCutting j.index j.count (shut j.stray (cells_emptied j.kept 32 x)) c))
 
 shut_put : (stray : Option ℕ) (y : List ℕ) → put_all (gate_shut stray) y ≡ shut stray y
 shut_put None y = refl
 shut_put (Some s) y = refl
 
-shut_moment : (stray : Option ℕ) (y c : List ℕ) → IsPartway (gate_shut stray) y c → IsShutting stray y c
+shut_moment : (stray : Option ℕ) (y c : List ℕ) → IsPartway (gate_shut stray) y c → IsGateShutting stray y c
 shut_moment None y c none = absurd none
 shut_moment (Some s) y c (inl here) = here.whole (lit≤ tt)
 shut_moment (Some s) y c (inr none) = absurd none
@@ -107,13 +107,13 @@ cut_put j y = by (j.kept == 0) (j.stored == j.count)
     by false true = refl
     by false false = refl
 
-cut_moment : (j : Notes) (y c : List ℕ) → IsPartway (count_cut j) y c → (0 < j.kept) × IsCutting j.index j.count y c
+cut_moment : (j : Notes) (y c : List ℕ) → IsPartway (count_cut j) y c → (0 < j.kept) × IsCountCutting j.index j.count y c
 cut_moment j y c = by (j.kept == 0) refl (j.stored == j.count)
   where
     some_of : (k : ℕ) → (k == 0) ≡ false → 0 < k
     some_of k is = grind (arith, nat_tests)
 
-    by : (a : Bool) → (j.kept == 0) ≡ a → (b : Bool) → IsPartway (cond a [] (cond b [] (piece (slot_place j.index + DAY_COUNT.place) (to_be_bytes w16 j.count) ∷ []))) y c → (0 < j.kept) × IsCutting j.index j.count y c
+    by : (a : Bool) → (j.kept == 0) ≡ a → (b : Bool) → IsPartway (cond a [] (cond b [] (piece (slot_place j.index + DAY_COUNT.place) (to_be_bytes w16 j.count) ∷ []))) y c → (0 < j.kept) × IsCountCutting j.index j.count y c
     by true is b none = absurd none
     by false is true none = absurd none
     by false is false (inr none) = absurd none

@@ -215,7 +215,7 @@ agrees_mended j z agrees = record {
 }
 
 -- the days after both steps
-record IsTrimmed (j : Notes) (x z : List ℕ) : Type 0 where
+record AreDaysMended (j : Notes) (x z : List ℕ) : Type 0 where
   good : IsGood x → IsGood z
   outside : SameOutside (slot_place 0) (DAYS.size - 4) x z
   minutes : recorded z ≡ recorded x
@@ -232,7 +232,7 @@ module _ (j : Notes) (ok : IsNotes j) (x : List ℕ) (sized : length x ≡ IMAGE
   gate_cut c same None gate = gate
   gate_cut c same (Some s) gate = same s ∙ gate
 
-  trim_cut : 0 < j.kept → IsTrimmed j x (with_count j.index j.count y)
+  trim_cut : 0 < j.kept → AreDaysMended j x (with_count j.index j.count y)
   trim_cut some =
       let c = with_count j.index j.count y in
       record {
@@ -244,7 +244,7 @@ module _ (j : Notes) (ok : IsNotes j) (x : List ℕ) (sized : length x ≡ IMAGE
         agrees = cut_agrees j ok shut_at.stored y y_sized shut_at.found some;
       }
 
-  trim_uncut : 0 < j.kept → j.stored ≡ j.count → IsTrimmed j x y
+  trim_uncut : 0 < j.kept → j.stored ≡ j.count → AreDaysMended j x y
   trim_uncut some same =
       let is : shut_at.stored ≡ j.count = ⊎_elim (λ stored. stored ∙ same) (λ cut. cut) shut_at.stored_is in
       record {
@@ -256,7 +256,7 @@ module _ (j : Notes) (ok : IsNotes j) (x : List ℕ) (sized : length x ≡ IMAGE
         agrees = uncut_agrees j ok shut_at.stored y y_sized shut_at.found some is;
       }
 
-  trim_none : j.kept ≡ 0 → IsTrimmed j x y
+  trim_none : j.kept ≡ 0 → AreDaysMended j x y
   trim_none zero_kept =
       let f = shut_at.found in
       let empty : unit_days y ≡ [] = all_days y ∙ ap (map (day_at y)) (f.none zero_kept) in
@@ -269,7 +269,7 @@ module _ (j : Notes) (ok : IsNotes j) (x : List ℕ) (sized : length x ≡ IMAGE
         agrees = record { kept = f.kept; odometer = f.odometer; pointer = f.pointer; none = f.none; newest = λ some. absurd (omega (arith, some, zero_kept)) };
       }
 
-  trim_is : (a : Bool) → (j.kept == 0) ≡ a → (b : Bool) → (j.stored == j.count) ≡ b → IsTrimmed j x (cond a y (cond b y (with_count j.index j.count y)))
+  trim_is : (a : Bool) → (j.kept == 0) ≡ a → (b : Bool) → (j.stored == j.count) ≡ b → AreDaysMended j x (cond a y (cond b y (with_count j.index j.count y)))
   trim_is true none b is = trim_none (eq_of j.kept 0 none)
   trim_is false more true is = let some : j.kept ≢ 0 = grind (arith, nat_tests, more) in trim_uncut (omega (arith, some)) (eq_of j.stored j.count is)
   trim_is false more false is = let some : j.kept ≢ 0 = grind (arith, nat_tests, more) in trim_cut (omega (arith, some))
@@ -382,10 +382,10 @@ module _ (j : Notes) (ok : IsNotes j) (x : List ℕ) (sized : length x ≡ IMAGE
   mending_shut = mending_then y shut_at.step.outside shut_at.step.good shut_at.step.minutes (again_by shut_at.stored shut_at.stored_is shut_at.gate shut_at.found)
 
   -- the count
-  again_after : (z : List ℕ) → IsTrimmed j all z → IsMendable j z
+  again_after : (z : List ℕ) → AreDaysMended j all z → IsMendable j z
   again_after z done = inr (done.gate, inr (found_agreed j ok z done.agrees))
 
-  mending_after : (z : List ℕ) → IsTrimmed j all z → IsMending j x z
+  mending_after : (z : List ℕ) → AreDaysMended j all z → IsMending j x z
   mending_after z done = mending_then z done.outside done.good done.minutes (again_after z done)
 
   pub mend_moment : (c : List ℕ) → IsMendStep j x c → IsMending j x c
@@ -395,7 +395,7 @@ module _ (j : Notes) (ok : IsNotes j) (x : List ℕ) (sized : length x ≡ IMAGE
   mend_moment c (inr (inr (some, inl absent))) = subst (IsMending j x) (sym absent) mending_shut
   mend_moment c (inr (inr (some, inr whole))) = subst (IsMending j x) (sym whole) (mending_after (with_count j.index j.count y) (trim_cut j ok all all_sized y shut_at some))
 
-  done_all : IsTrimmed j all (mended j x)
+  done_all : AreDaysMended j all (mended j x)
   done_all = trim_is j ok all all_sized y shut_at (j.kept == 0) refl (j.stored == j.count) refl
 
   pub mend_done : IsMended x (mended j x)

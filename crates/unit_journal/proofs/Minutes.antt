@@ -4,7 +4,7 @@ use Rattle.std.specs.Prelude.{◌==◌, ◌&&◌, nat_le, slice_get}
 use Rattle.std.proofs.lemmas.Bool.Decides.{nat_tests}
 use Rattle.std.proofs.lemmas.Option.{slice_get-map}
 use Rattle.unit_model.specs.declared.layout.TheConstants.{DAY_WORD_LIMIT}
-use Rattle.unit_model.specs.Days.{word_slot, word_state, word_minute, state_by, state_after, state_at, bare, UnitMinute, minute_by, Day, minute_at, minutes_shown, day_shown}
+use Rattle.unit_model.specs.Days.{slot_bit, word_state, word_minute, state_by, state_after, state_at, bare, UnitMinute, minute_by, ShownDay, minute_at, minutes_shown, day_shown}
 use Rattle.unit_model.specs.Image.{last_kept, recorded, slot_date, slot_odometer, slot_count, slot_words}
 use Rattle.unit_journal.specs.Image.{Notes, IsNotes}
 use Rattle.unit_journal.specs.Reading.{AreRight}
@@ -28,7 +28,7 @@ state_without slot t last s (w ∷ ws) le = by (state_without slot t last s ws l
     by here next true is = next
     by here next false is =
         let off : nat_le (word_minute w) t ≡ false = grind (arith, nat_tests, is) in
-        here ∙ sym (ap (λ (e : ℕ). state_after slot t e ws) (ap (λ (b : Bool). cond ((word_slot w == slot) && b) (word_state w) s) off ∙ no_state (word_slot w == slot)))
+        here ∙ sym (ap (λ (e : ℕ). state_after slot t e ws) (ap (λ (b : Bool). cond ((slot_bit w == slot) && b) (word_state w) s) off ∙ no_state (slot_bit w == slot)))
 
 module _ (x : List ℕ) (i : ℕ) (few : slot_count x i ≤ DAY_WORD_LIMIT) where
   abbrev k : ℕ
@@ -55,7 +55,7 @@ module _ (x : List ℕ) (i : ℕ) (few : slot_count x i ≤ DAY_WORD_LIMIT) wher
       let low : List ℕ = filter (λ w. nat_le (word_minute w) (k % 1440)) all in
       let n_is : minutes_shown k (date / 86400) ≡ k % 1440 + 1 = ap (λ (b : Bool). cond b (k % 1440 + 1) 1440) is in
       let state_is : (slot t : ℕ) → t ≤ k % 1440 → state_at slot t all ≡ state_at slot t low = λ slot t le. sym (state_without slot t (k % 1440) bare all le) in
-      ap (λ (l : List UnitMinute). let d : Day = record { day = date / 86400; minutes = l } in d)
+      ap (λ (l : List UnitMinute). let d : ShownDay = record { day = date / 86400; minutes = l } in d)
       (map_range_same (minute_at (record { date = date; odometer = o; words = all })) (minute_at (record { date = date; odometer = o; words = low })) 0 (minutes_shown k (date / 86400))
       (λ t from to. let le : t ≤ k % 1440 = omega (arith, to, n_is) in λ q. minute_by (1440 * (date / 86400) + t) (state_is 0 t le q) (state_is 1 t le q)))
 
@@ -69,7 +69,7 @@ module _ (x : List ℕ) (i : ℕ) (few : slot_count x i ≤ DAY_WORD_LIMIT) wher
 pub recorded_at : (x : List ℕ) (n i : ℕ) → slice_get (recorded_indices x) n ≡ Some i → slot_count x i ≤ DAY_WORD_LIMIT
     → slice_get (recorded x) n ≡ Some (day_shown (last_kept x) (record { date = slot_date x i; odometer = slot_odometer x i; words = recorded_words x i }))
 recorded_at x n i is few =
-    ap (λ (l : List Day). slice_get l n) (recorded_are x) ∙ slice_get-map (λ i. day_shown (last_kept x) (day_at x i)) (recorded_indices x) n
+    ap (λ (l : List ShownDay). slice_get l n) (recorded_are x) ∙ slice_get-map (λ i. day_shown (last_kept x) (day_at x i)) (recorded_indices x) n
     ∙ ap (option_map (λ i. day_shown (last_kept x) (day_at x i))) is ∙ ap Some (day_by_words x i few)
 
 -- so many days are recorded

@@ -3,7 +3,7 @@ use Rattle.std.proofs.Common.{◌≡◌, ◌≢◌, ℕ, ◌/◌, ◌%◌, ◌<�
 use Rattle.std.specs.Prelude.{All, slice_index_or, slice_get}
 use Rattle.std.proofs.lemmas.List.{get_or-map}
 use Rattle.std.proofs.lemmas.Option.{slice_get-get_or}
-use Rattle.unit_model.specs.Days.{Day, day_shown}
+use Rattle.unit_model.specs.Days.{ShownDay, day_shown}
 use Rattle.unit_model.specs.Image.{last_kept, recorded, recorded_indices, slot_date}
 use Rattle.unit_journal.specs.Reading.{IsOfDate}
 use Rattle.unit_model.proofs.Decoded.{IsDecoded}
@@ -19,6 +19,6 @@ no_such_day x ok date whole none n d less =
     let i = slice_index_or (recorded_indices x) n 0 in
     let at : slice_get (recorded_indices x) n ≡ Some i = slice_get-get_or (recorded_indices x) n 0 below in
     let day_is : (slice_index_or (recorded x) n d).day ≡ slot_date x i / 86400 =
-    ap (λ (l : List Day). (slice_index_or l n d).day) (recorded_are x) ∙ ap (λ (e : Day). e.day) (get_or-map f (recorded_indices x) n 0 d below)
+    ap (λ (l : List ShownDay). (slice_index_or l n d).day) (recorded_are x) ∙ ap (λ (e : ShownDay). e.day) (get_or-map f (recorded_indices x) n 0 d below)
     ∙ ap (λ (k : ℕ). k / 86400) (date_in x i) in
     λ same. none n 0 below (omega (arith, day_is, same, whole, date_whole x ok n i at))

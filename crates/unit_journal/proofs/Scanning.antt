@@ -3,7 +3,7 @@ use Rattle.std.proofs.Common.{◌≡◌, ◌≢◌, ◌⊎◌, inl, inr, ⊎_eli
 use Rattle.std.specs.Prelude.{◌==◌, ◌||◌, nat_le, nat_lt, IfSome}
 use Rattle.std.proofs.lemmas.Bool.Decides.{nat_tests}
 use Rattle.unit_model.specs.declared.layout.TheConstants.{DAY_WORDS}
-use Rattle.unit_model.specs.Days.{word_slot, word_minute, word_state, state_by, state_at, bare, Each}
+use Rattle.unit_model.specs.Days.{slot_bit, word_minute, word_state, state_by, state_at, bare, Each}
 use Rattle.unit_model.specs.Decoding.{is_first_good}
 use Rattle.unit_memory.specs.Scans.{start, next_scan, driver_next, codriver_next, or_place, scan_from}
 use Rattle.unit_memory.specs.declared.words.Scan.{Scan}
@@ -65,21 +65,21 @@ module _ (kept : ℕ) (words : List ℕ) (s : Scan) (w : ℕ) (was : IsScanned k
         few = omega (arith, few, count);
       }
 
-  counts : (slot e : ℕ) → word_slot w ≡ slot → word_minute w ≤ kept → state_by slot kept e w ≡ word_state w
+  counts : (slot e : ℕ) → slot_bit w ≡ slot → word_minute w ≤ kept → state_by slot kept e w ≡ word_state w
   counts slot e at le =
-      let a : (word_slot w == slot) ≡ true = grind (arith, nat_tests) in
+      let a : (slot_bit w == slot) ≡ true = grind (arith, nat_tests) in
       let b : nat_le (word_minute w) kept ≡ true = grind (arith, nat_tests) in
       ap (λ (p : Bool). cond (Rattle.std.specs.Prelude.◌&&◌ p (nat_le (word_minute w) kept)) (word_state w) e) a ∙ ap (λ (p : Bool). cond (Rattle.std.specs.Prelude.◌&&◌ true p) (word_state w) e) b
 
-  counts_not : (slot e : ℕ) → word_slot w ≢ slot → state_by slot kept e w ≡ e
+  counts_not : (slot e : ℕ) → slot_bit w ≢ slot → state_by slot kept e w ≡ e
   counts_not slot e other =
-      let a : (word_slot w == slot) ≡ false = grind (arith, nat_tests) in
+      let a : (slot_bit w == slot) ≡ false = grind (arith, nat_tests) in
       ap (λ (p : Bool). cond (Rattle.std.specs.Prelude.◌&&◌ p (nat_le (word_minute w) kept)) (word_state w) e) a
 
   abbrev Next : Option Scan → Type 0
   Next o = IfSome o (IsScanned kept (words ++ w ∷ []))
 
-  driver_step_next : word_slot w ≡ 0 → Next (driver_next kept s w)
+  driver_step_next : slot_bit w ≡ 0 → Next (driver_next kept s w)
   driver_step_next at = by (nat_lt (w % 2048) s.next_driver) refl (nat_lt kept (w % 2048)) refl
     where
       later : Scan
@@ -98,7 +98,7 @@ module _ (kept : ℕ) (words : List ℕ) (s : Scan) (w : ℕ) (was : IsScanned k
           let free : s.next_driver ≤ w % 2048 = grind (arith, nat_tests, fits) in
           low_more _ low refl (counts 0 s.driver at low) (counts_not 1 s.codriver (omega (arith, at))) (omega (arith, was.few, low, free))
 
-  codriver_step_next : word_slot w ≡ 1 → Next (codriver_next kept s w)
+  codriver_step_next : slot_bit w ≡ 1 → Next (codriver_next kept s w)
   codriver_step_next at = by (nat_lt (w % 2048) s.next_codriver) refl (nat_lt kept (w % 2048)) refl
     where
       by : (a : Bool) → nat_lt (w % 2048) s.next_codriver ≡ a → (b : Bool) → nat_lt kept (w % 2048) ≡ b

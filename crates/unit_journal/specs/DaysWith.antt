@@ -34,10 +34,10 @@ days_with kept m (d ∷ []) = if day_of d == m.minute / 1440 then day_with kept 
 days_with kept m (d ∷ e ∷ days) = d ∷ days_with kept m (e ∷ days)
 
 -- the days before a further one, the last of them closed
-abbrev pub closed_days : (kept : ℕ) → List StoredDay → List StoredDay
-closed_days kept [] = []
-closed_days kept (d ∷ []) = closed_day kept d ∷ []
-closed_days kept (d ∷ e ∷ days) = d ∷ closed_days kept (e ∷ days)
+abbrev pub last_day_closed : (kept : ℕ) → List StoredDay → List StoredDay
+last_day_closed kept [] = []
+last_day_closed kept (d ∷ []) = closed_day kept d ∷ []
+last_day_closed kept (d ∷ e ∷ days) = d ∷ last_day_closed kept (e ∷ days)
 
 -- the day that a minute begins, while it has its first words alone
 abbrev pub opened_day : Coming → StoredDay
@@ -46,8 +46,8 @@ opened_day m = record { date = 86400 * (m.minute / 1440); odometer = m.odometer;
 -- where a further day begins: the days before it are closed, their oldest of 366 is gone, or the new one has its first words
 abbrev pub AreTurning : (kept : ℕ) → Coming → (days now : List StoredDay) → Type 0
 AreTurning kept m days now =
-    (now ≡ closed_days kept days)
-    ⊎ ((now ≡ newest_of (DAY_SLOTS - 1) (closed_days kept days)) ⊎ (now ≡ newest_of DAY_SLOTS (closed_days kept days ++ opened_day m ∷ [])))
+    (now ≡ last_day_closed kept days)
+    ⊎ ((now ≡ newest_of (DAY_SLOTS - 1) (last_day_closed kept days)) ⊎ (now ≡ newest_of DAY_SLOTS (last_day_closed kept days ++ opened_day m ∷ [])))
 
 -- The day slots at a moment of a `keep`. The days are as they were, or those with the minute, or between them where a further
 -- day begins. Spare bytes stay, but of the slot that this day takes: until it is there, and then they are zeros.

@@ -2,7 +2,7 @@
 use Rattle.std.specs.Option.{ForSome}
 use Rattle.std.specs.Prelude.{Option, MatchOption, ◌≡◌, ◌≢◌, ℕ, suc, ◌+◌, ◌-◌, ◌*◌, ◌/◌, ◌%◌, ◌<◌, ◌≤◌, List, [], ◌∷◌, ◌++◌, length, drop, map}
 pub use Rattle.unit_journal.specs.declared.notes.Notes.{Notes}
-pub use Rattle.unit_journal.specs.Keeping.{SameBesides, IsGivenUp, IsBeforeMark, IsBehindMark, IsKeeping, IsKept}
+pub use Rattle.unit_journal.specs.Keeping.{SameBesides, IsGivenUp, IsBeforeLastKept, IsBehindLastKept, IsKeeping, IsKept}
 use Rattle.unit_journal.specs.declared.today.Today.{Today}
 use Rattle.gated_ring.specs.Ring.{Shape, pointer, entry_at, next, taken}
 use Rattle.unit_model.specs.declared.layout.TheConstants.{DAY_SLOTS, DAY_WORD_LIMIT, LAST_MINUTE, HIGHEST_ODOMETER}

@@ -23,20 +23,20 @@ pub record IsGivenUp (k : UnitMinute) (x c : List ℕ) : Type 0 where
 
 -- A moment before the mark is written: the last-kept minute is the old one, and so are the recorded days, their oldest gone
 -- where it makes room.
-pub record IsBeforeMark (k : UnitMinute) (odometer : ℕ) (x c : List ℕ) : Type 0 where
+pub record IsBeforeLastKept (k : UnitMinute) (odometer : ℕ) (x c : List ℕ) : Type 0 where
   pub last : last_kept c ≡ last_kept x
   pub odometer_is : (odometer_at c ≡ odometer_at x) ⊎ (odometer_at c ≡ odometer)
   pub minutes : (recorded c ≡ recorded x) ⊎ IsGivenUp k x c
 
 -- and behind it: the last-kept minute is the new one, the odometer is its, and the recorded days are those with it
-pub record IsBehindMark (k : UnitMinute) (odometer : ℕ) (x c : List ℕ) : Type 0 where
+pub record IsBehindLastKept (k : UnitMinute) (odometer : ℕ) (x c : List ℕ) : Type 0 where
   pub last : last_kept c ≡ k.minute
   pub odometer_is : odometer_at c ≡ odometer
   pub minutes : recorded c ≡ retained (recorded x) k
 
 -- a moment of a `keep`: the mark tells which days are recorded
 pub record IsKeeping (k : UnitMinute) (odometer : ℕ) (x c : List ℕ) : Type 0 where
-  pub side : IsBeforeMark k odometer x c ⊎ IsBehindMark k odometer x c
+  pub side : IsBeforeLastKept k odometer x c ⊎ IsBehindLastKept k odometer x c
   pub outside : SameBesides x c
   -- and it still decodes
   pub decodes : Decodes x → Decodes c

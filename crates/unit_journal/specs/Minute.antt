@@ -3,7 +3,7 @@ use Rattle.std.specs.Prelude.{None, replicate, ℕ, ◌+◌, ◌*◌, ◌/◌, �
 use Rattle.std.specs.Int.{to_be_bytes, w16, w32}
 use Rattle.gated_ring.specs.Ring.{taken}
 use Rattle.unit_model.specs.declared.layout.TheConstants.{DAY_SLOTS}
-use Rattle.unit_model.specs.Days.{word_of}
+use Rattle.unit_model.specs.Days.{word_by}
 use Rattle.unit_model.specs.Image.{day_ring}
 use Rattle.unit_model.specs.Changes.{new_words}
 use Rattle.unit_journal.specs.declared.notes.Notes.{Notes}
@@ -16,7 +16,7 @@ words_on j m = new_words (j.kept % 1440 + 1) (m.minute % 1440) j.bits.driver j.b
 -- the beginning of a new day's slot: date, odometer, the count of two words, and these
 abbrev pub head_of : (date odometer : ℕ) → (first : SlotBits) → List ℕ
 head_of date odometer first =
-    to_be_bytes w32 date ++ (to_be_bytes w32 odometer ++ (to_be_bytes w16 2 ++ (replicate 6 0 ++ (to_be_bytes w16 (word_of 0 first.driver 0) ++ to_be_bytes w16 (word_of 1 first.codriver 0)))))
+    to_be_bytes w32 date ++ (to_be_bytes w32 odometer ++ (to_be_bytes w16 2 ++ (replicate 6 0 ++ (to_be_bytes w16 (word_by 0 first.driver 0) ++ to_be_bytes w16 (word_by 1 first.codriver 0)))))
 
 -- the head of the day of a minute
 abbrev pub new_head : Coming → List ℕ

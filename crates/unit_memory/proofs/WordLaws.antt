@@ -3,7 +3,7 @@ use Rattle.std.proofs.Common.{◌≡◌, ◌≢◌, ℕ, ◌+◌, ◌*◌, ◌/�
 use Rattle.std.specs.Prelude.{◌==◌, ◌&&◌, ◌||◌, nat_le, nat_lt}
 use Rattle.std.specs.List.{list_all}
 use Rattle.std.proofs.lemmas.Bool.Decides.{nat_tests}
-use Rattle.unit_model.specs.Days.{word_slot, word_minute}
+use Rattle.unit_model.specs.Days.{slot_bit, word_minute}
 use Rattle.unit_model.specs.Decoding.{first_failing, word_checks, is_word_good, is_first_good}
 use Rattle.unit_memory.specs.Scans.{start, next_scan, driver_next, codriver_next, or_place, scan_from}
 use Rattle.unit_memory.specs.Judging.{failed_of}
@@ -11,7 +11,7 @@ use Rattle.unit_memory.specs.declared.words.Scan.{Scan}
 
 -- a word before may stand before one of this slot in this minute
 abbrev pub is_before : (slot t : ℕ) → ℕ → Bool
-is_before slot t v = nat_le (word_minute v) t && not (word_slot v == slot && word_minute v == t)
+is_before slot t v = nat_le (word_minute v) t && not (slot_bit v == slot && word_minute v == t)
 
 -- a scan knows which words may follow those that were read
 pub record Knows (before : List ℕ) (s : Scan) : Type 0 where
@@ -47,7 +47,7 @@ module _ (kept n w : ℕ) (before : List ℕ) (s : Scan) (len : length before �
   Verdict None = is_word_good before w ≡ false
   Verdict (Some t) = (is_word_good before w ≡ true) × Knows (before ++ w ∷ []) t
 
-  good_by : (slot next : ℕ) → word_slot w ≡ slot → ((t : ℕ) → list_all (is_before slot t) before ≡ (nat_le s.minute t && nat_le next t))
+  good_by : (slot next : ℕ) → slot_bit w ≡ slot → ((t : ℕ) → list_all (is_before slot t) before ≡ (nat_le s.minute t && nat_le next t))
       → is_word_good before w ≡ (nat_lt m 1440 && ((nat_le s.minute m && nat_le next m) && is_first_good n w))
   good_by slot next is all =
       ap (λ (q : ℕ). nat_lt m 1440 && (list_all (is_before q m) before && is_first_good (length before) w)) is
@@ -88,13 +88,13 @@ module _ (kept n w : ℕ) (before : List ℕ) (s : Scan) (len : length before �
   passes next low order free = grind (arith, nat_tests)
 
   module _ (low : m < 1440) (order : s.minute ≤ m) (first : is_first_good n w ≡ true) where
-    driver_judged : word_slot w ≡ 0 → Verdict (driver_next kept s w)
+    driver_judged : slot_bit w ≡ 0 → Verdict (driver_next kept s w)
     driver_judged at = by (nat_lt (w % 2048) s.next_driver) refl (nat_lt kept (w % 2048))
       where
-        on : (word_slot w == 0) ≡ true
+        on : (slot_bit w == 0) ≡ true
         on = grind (arith, nat_tests)
 
-        off : (word_slot w == 1) ≡ false
+        off : (slot_bit w == 1) ≡ false
         off = grind (arith, nat_tests)
 
         good : s.next_driver ≤ m → is_word_good before w ≡ true
@@ -117,13 +117,13 @@ module _ (kept n w : ℕ) (before : List ℕ) (s : Scan) (len : length before �
         by false fits true = let free : s.next_driver ≤ m = grind (arith, nat_tests, fits) in (good free, known free _ refl refl refl)
         by false fits false = let free : s.next_driver ≤ m = grind (arith, nat_tests, fits) in (good free, known free _ refl refl refl)
 
-    codriver_judged : word_slot w ≡ 1 → Verdict (codriver_next kept s w)
+    codriver_judged : slot_bit w ≡ 1 → Verdict (codriver_next kept s w)
     codriver_judged at = by (nat_lt (w % 2048) s.next_codriver) refl (nat_lt kept (w % 2048))
       where
-        on : (word_slot w == 1) ≡ true
+        on : (slot_bit w == 1) ≡ true
         on = grind (arith, nat_tests)
 
-        off : (word_slot w == 0) ≡ false
+        off : (slot_bit w == 0) ≡ false
         off = grind (arith, nat_tests)
 
         good : s.next_codriver ≤ m → is_word_good before w ≡ true
@@ -148,11 +148,11 @@ module _ (kept n w : ℕ) (before : List ℕ) (s : Scan) (len : length before �
 
   -- where the word fails, by either slot
   fails_by : (P : Bool → Type 0) → ((next : ℕ) → P (nat_lt m 1440 && ((nat_le s.minute m && nat_le next m) && is_first_good n w))) → P (is_word_good before w)
-  fails_by P all = by (word_slot w == 0) refl
+  fails_by P all = by (slot_bit w == 0) refl
     where
-      by : (b : Bool) → (word_slot w == 0) ≡ b → P (is_word_good before w)
+      by : (b : Bool) → (slot_bit w == 0) ≡ b → P (is_word_good before w)
       by true is = Rattle.std.proofs.Common.subst P (sym (good_by 0 s.next_driver (grind (arith, nat_tests, is)) knows.driver)) (all s.next_driver)
-      by false is = Rattle.std.proofs.Common.subst P (sym (good_by 1 s.next_codriver (let isnt : word_slot w ≢ 0 = grind (arith, nat_tests, is) in omega (arith, isnt)) knows.codriver)) (all s.next_codriver)
+      by false is = Rattle.std.proofs.Common.subst P (sym (good_by 1 s.next_codriver (let isnt : slot_bit w ≢ 0 = grind (arith, nat_tests, is) in omega (arith, isnt)) knows.codriver)) (all s.next_codriver)
 
   pub judge_word : Verdict (next_scan kept s n w)
   judge_word = by (nat_le 1440 (w % 2048)) refl (nat_lt (w % 2048) s.minute) refl (is_first_good n w) refl (w / 32768 % 2 == 0) refl

@@ -23,11 +23,13 @@ use tach_media::{Failed, Medium};
 /// How many bytes the message of an overview has, and that of technical data: a unit that has no locks, controls and calibrations
 /// sends these always.
 pub const OVERVIEW_LENGTH: u32 = 623;
+
 pub const TECHNICAL_LENGTH: u32 = 267;
 
 /// How many bytes the message of a day has beside its insertions, words and places, and that of events and faults beside these
 /// and the over speedings.
 pub const DAY_LENGTH: u32 = 144;
+
 pub const EVENTS_LENGTH: u32 = 143;
 
 /// What an overview tells beside fields of the image: the unit's time, and the period's begin and end.

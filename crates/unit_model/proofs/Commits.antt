@@ -2,7 +2,7 @@
 use Rattle.std.proofs.Common.{◌≡◌, ◌≢◌, ℕ, ◌+◌, ◌*◌, ◌/◌, ◌%◌, ◌<◌, ◌≤◌, Bool, true, false, cond, List, [], ◌∷◌, ◌++◌, refl, sym, ◌∙◌, ap, arith, append_assoc}
 use Rattle.std.specs.Prelude.{◌==◌}
 use Rattle.std.proofs.lemmas.Bool.Decides.{nat_tests}
-use Rattle.unit_model.specs.Days.{word_of, word_minute, bare, state_by, state_after, state_at, UnitMinute, Day, StoredDay, day_of, minute_at, shown, days_shown, unknown_minute, padded, with_minute, new_day, filled, Each, minute_by}
+use Rattle.unit_model.specs.Days.{word_by, word_minute, bare, state_by, state_after, state_at, UnitMinute, ShownDay, StoredDay, day_of, minute_at, shown, days_shown, unknown_minute, padded, with_minute, day_from, filled, Each, minute_by}
 use Rattle.unit_model.specs.Changes.{changes, new_words, closing_words, first_states, further_words}
 use Rattle.unit_model.proofs.States.{state_after_append, state_later, state_stays, new_minutes, new_driver, new_codriver, gap_driver, gap_codriver, driver_by, codriver_by, minutes_by, by_word, by_other}
 use Rattle.unit_model.proofs.Growth.{shown_padded, shown_with, days_append, day_now, day_before, days_before, filled_last, filled_same, filled_next}
@@ -52,11 +52,11 @@ module _ (k m dc cc dn cn : ℕ) (older : List StoredDay) (date o : ℕ) (words 
     pub same_day : days_shown m (older ++ day ∷ []) ≡ filled (days_shown k (older ++ old ∷ [])) it
     same_day =
         let n = k % 1440 + 1 in
-        days_append m older (day ∷ []) ∙ ap (λ (l : List Day). l ++ days_shown m (day ∷ [])) (days_before k m older (omega arith) earlier)
-        ∙ ap (λ (l : List Day). days_shown k older ++ l) (day_now m day (now ∙ sym same) ∙ ap (λ (d : Day). d ∷ []) (shown_with n (m % 1440) old day it refl next_le refl front gap last))
-        ∙ sym (ap (λ (l : List Day). filled l it) (days_append k older (old ∷ []) ∙ ap (λ (l : List Day). days_shown k older ++ l) (day_now k old now))
+        days_append m older (day ∷ []) ∙ ap (λ (l : List ShownDay). l ++ days_shown m (day ∷ [])) (days_before k m older (omega arith) earlier)
+        ∙ ap (λ (l : List ShownDay). days_shown k older ++ l) (day_now m day (now ∙ sym same) ∙ ap (λ (d : ShownDay). d ∷ []) (shown_with n (m % 1440) old day it refl next_le refl front gap last))
+        ∙ sym (ap (λ (l : List ShownDay). filled l it) (days_append k older (old ∷ []) ∙ ap (λ (l : List ShownDay). days_shown k older ++ l) (day_now k old now))
         ∙ filled_last (days_shown k older) (shown n old) it
-        ∙ ap (λ (l : List Day). days_shown k older ++ l) (filled_same (shown n old) it (now ∙ sym same)))
+        ∙ ap (λ (l : List ShownDay). days_shown k older ++ l) (filled_same (shown n old) it (now ∙ sym same)))
 
   -- a minute on a later day
   module _ (date' o' : ℕ) (its_day : date' / 86400 ≡ m / 1440) (later : k / 1440 < m / 1440) where
@@ -97,7 +97,7 @@ module _ (k m dc cc dn cn : ℕ) (older : List StoredDay) (date o : ℕ) (words 
     begun = record { date = date'; odometer = o'; words = first_states (m % 1440) dn cn ++ further_words (m % 1440) dn cn }
 
     pub begun_is : (begun_words : (u : ℕ) → u < m % 1440 → (state_at 0 u begun.words ≡ bare) × (state_at 1 u begun.words ≡ bare))
-        → (state_at 0 (m % 1440) begun.words ≡ dn) × (state_at 1 (m % 1440) begun.words ≡ cn) → shown (m % 1440 + 1) begun ≡ new_day it
+        → (state_at 0 (m % 1440) begun.words ≡ dn) × (state_at 1 (m % 1440) begun.words ≡ cn) → shown (m % 1440 + 1) begun ≡ day_from it
     begun_is before at =
         let minute : 1440 * (date' / 86400) + m % 1440 ≡ m = omega arith in
         shown_with 0 (m % 1440) (record { date = date'; odometer = o'; words = [] }) begun it refl (omega arith) refl (λ u none. absurd (omega arith))
@@ -105,10 +105,10 @@ module _ (k m dc cc dn cn : ℕ) (older : List StoredDay) (date o : ℕ) (words 
         (λ i. minute_by (minute i) (at.0 i) (at.1 i))
         ∙ ap (λ (d : ℕ). with_minute it (record { day = d; minutes = [] })) its_day
 
-    two_first : (d c u : ℕ) → d < 16 → c < 16 → (state_at 0 u (word_of 0 d 0 ∷ word_of 1 c 0 ∷ []) ≡ d) × (state_at 1 u (word_of 0 d 0 ∷ word_of 1 c 0 ∷ []) ≡ c)
+    two_first : (d c u : ℕ) → d < 16 → c < 16 → (state_at 0 u (word_by 0 d 0 ∷ word_by 1 c 0 ∷ []) ≡ d) × (state_at 1 u (word_by 0 d 0 ∷ word_by 1 c 0 ∷ []) ≡ c)
     two_first d c u s1 s2 = (
-      ap (λ (e : ℕ). state_by 0 u e (word_of 1 c 0)) (by_word 0 d 0 (omega arith) s1 (omega arith) u bare (omega arith)) ∙ by_other 1 c 0 (omega arith) s2 (omega arith) 0 u d (omega arith),
-      by_word 1 c 0 (omega arith) s2 (omega arith) u (state_by 1 u bare (word_of 0 d 0)) (omega arith),
+      ap (λ (e : ℕ). state_by 0 u e (word_by 1 c 0)) (by_word 0 d 0 (omega arith) s1 (omega arith) u bare (omega arith)) ∙ by_other 1 c 0 (omega arith) s2 (omega arith) 0 u d (omega arith),
+      by_word 1 c 0 (omega arith) s2 (omega arith) u (state_by 1 u bare (word_by 0 d 0)) (omega arith),
     )
 
     abbrev further : List ℕ
@@ -118,9 +118,9 @@ module _ (k m dc cc dn cn : ℕ) (older : List StoredDay) (date o : ℕ) (words 
     begun_before u less =
         let isnt : (m % 1440 == 0) ≡ false = grind (arith, nat_tests) in
         let two = two_first bare bare u (omega arith) (omega arith) in
-        let firsts = word_of 0 bare 0 ∷ word_of 1 bare 0 ∷ [] in
+        let firsts = word_by 0 bare 0 ∷ word_by 1 bare 0 ∷ [] in
         let none : Each (λ w. u < word_minute w) further = minutes_by 0 0 0 0 0 0 (omega arith) (omega arith) (omega arith) (omega arith) (λ n. u < n) (m % 1440) bare bare dn cn (omega arith) short short' less in
-        let is : begun.words ≡ firsts ++ further = ap (λ (b : Bool). cond b (word_of 0 dn 0 ∷ word_of 1 cn 0 ∷ []) firsts ++ cond b [] further) isnt in (
+        let is : begun.words ≡ firsts ++ further = ap (λ (b : Bool). cond b (word_by 0 dn 0 ∷ word_by 1 cn 0 ∷ []) firsts ++ cond b [] further) isnt in (
           ap (state_at 0 u) is ∙ state_after_append 0 u bare firsts further ∙ state_later 0 u (state_at 0 u firsts) further none ∙ two.0,
           ap (state_at 1 u) is ∙ state_after_append 1 u bare firsts further ∙ state_later 1 u (state_at 1 u firsts) further none ∙ two.1,
         )
@@ -128,11 +128,11 @@ module _ (k m dc cc dn cn : ℕ) (older : List StoredDay) (date o : ℕ) (words 
     pub begun_at : (state_at 0 (m % 1440) begun.words ≡ dn) × (state_at 1 (m % 1440) begun.words ≡ cn)
     begun_at = by (m % 1440 == 0)
       where
-        by : (b : Bool) → (state_at 0 (m % 1440) (cond b (word_of 0 dn 0 ∷ word_of 1 cn 0 ∷ []) (word_of 0 bare 0 ∷ word_of 1 bare 0 ∷ []) ++ cond b [] further) ≡ dn)
-            × (state_at 1 (m % 1440) (cond b (word_of 0 dn 0 ∷ word_of 1 cn 0 ∷ []) (word_of 0 bare 0 ∷ word_of 1 bare 0 ∷ []) ++ cond b [] further) ≡ cn)
+        by : (b : Bool) → (state_at 0 (m % 1440) (cond b (word_by 0 dn 0 ∷ word_by 1 cn 0 ∷ []) (word_by 0 bare 0 ∷ word_by 1 bare 0 ∷ []) ++ cond b [] further) ≡ dn)
+            × (state_at 1 (m % 1440) (cond b (word_by 0 dn 0 ∷ word_by 1 cn 0 ∷ []) (word_by 0 bare 0 ∷ word_by 1 bare 0 ∷ []) ++ cond b [] further) ≡ cn)
         by true = two_first dn cn (m % 1440) short short'
         by false =
-            let firsts = word_of 0 bare 0 ∷ word_of 1 bare 0 ∷ [] in
+            let firsts = word_by 0 bare 0 ∷ word_by 1 bare 0 ∷ [] in
             let two = two_first bare bare (m % 1440) (omega arith) (omega arith) in (
               state_after_append 0 (m % 1440) bare firsts further ∙ ap (λ (e : ℕ). state_after 0 (m % 1440) e further) two.0
                   ∙ driver_by 0 0 0 0 0 0 (omega arith) (omega arith) (omega arith) (omega arith) (m % 1440) bare bare dn cn (m % 1440) (omega arith) short short' (omega arith),
@@ -144,10 +144,10 @@ module _ (k m dc cc dn cn : ℕ) (older : List StoredDay) (date o : ℕ) (words 
     next_day =
         let n = k % 1440 + 1 in
         days_append m (older ++ closed ∷ []) (begun ∷ [])
-        ∙ ap (λ (l : List Day). l ++ days_shown m (begun ∷ [])) (days_append m older (closed ∷ []) ∙ ap (λ (l : List Day). l ++ days_shown m (closed ∷ [])) (days_before k m older (omega arith) earlier))
-        ∙ ap (λ (l : List Day). (days_shown k older ++ l) ++ days_shown m (begun ∷ [])) (day_before m closed [] (omega arith) ∙ ap (λ (d : Day). d ∷ []) (shown_padded n 1440 old closed refl (omega arith) closed_front closed_gap))
-        ∙ ap (λ (l : List Day). (days_shown k older ++ padded 1440 (shown n old) ∷ []) ++ l) (day_now m begun its_day ∙ ap (λ (d : Day). d ∷ []) (begun_is begun_before begun_at))
-        ∙ append_assoc (days_shown k older) (padded 1440 (shown n old) ∷ []) (new_day it ∷ [])
-        ∙ sym (ap (λ (l : List Day). filled l it) (days_append k older (old ∷ []) ∙ ap (λ (l : List Day). days_shown k older ++ l) (day_now k old now))
+        ∙ ap (λ (l : List ShownDay). l ++ days_shown m (begun ∷ [])) (days_append m older (closed ∷ []) ∙ ap (λ (l : List ShownDay). l ++ days_shown m (closed ∷ [])) (days_before k m older (omega arith) earlier))
+        ∙ ap (λ (l : List ShownDay). (days_shown k older ++ l) ++ days_shown m (begun ∷ [])) (day_before m closed [] (omega arith) ∙ ap (λ (d : ShownDay). d ∷ []) (shown_padded n 1440 old closed refl (omega arith) closed_front closed_gap))
+        ∙ ap (λ (l : List ShownDay). (days_shown k older ++ padded 1440 (shown n old) ∷ []) ++ l) (day_now m begun its_day ∙ ap (λ (d : ShownDay). d ∷ []) (begun_is begun_before begun_at))
+        ∙ append_assoc (days_shown k older) (padded 1440 (shown n old) ∷ []) (day_from it ∷ [])
+        ∙ sym (ap (λ (l : List ShownDay). filled l it) (days_append k older (old ∷ []) ∙ ap (λ (l : List ShownDay). days_shown k older ++ l) (day_now k old now))
         ∙ filled_last (days_shown k older) (shown n old) it
-        ∙ ap (λ (l : List Day). days_shown k older ++ l) (filled_next (shown n old) it (omega arith)))
+        ∙ ap (λ (l : List ShownDay). days_shown k older ++ l) (filled_next (shown n old) it (omega arith)))

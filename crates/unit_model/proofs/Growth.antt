@@ -6,7 +6,7 @@ use Rattle.std.proofs.lemmas.Bool.Decides.{nat_tests}
 use Rattle.std.proofs.lemmas.List.{append-nil, map-append}
 use Rattle.std.proofs.lemmas.List.Elements.{filter-append}
 use Rattle.std.proofs.lemmas.List.FromFn.{length-map-range_with_len, map-range_with_len_more}
-use Rattle.unit_model.specs.Days.{word_minute, bare, state_at, UnitMinute, Day, StoredDay, day_of, minute_at, shown, day_shown, days_shown, unknown_minute, padded, with_minute, new_day, filled, Each, minute_by}
+use Rattle.unit_model.specs.Days.{word_minute, bare, state_at, UnitMinute, ShownDay, StoredDay, day_of, minute_at, shown, day_shown, days_shown, unknown_minute, padded, with_minute, day_from, filled, Each, minute_by}
 use Rattle.unit_model.proofs.Words.{range_add}
 use Rattle.unit_model.proofs.States.{state_after_append, state_later}
 
@@ -39,7 +39,7 @@ shown_with n t d e k same le at front gap last =
     let before : shown t e ≡ padded t (shown n d) = shown_padded n t d e same le front gap in
     let more : map (minute_at e) (range_with_len 0 (t + 1)) ≡ map (minute_at e) (range_with_len 0 t) ++ minute_at e t ∷ [] = map-range_with_len_more (minute_at e) 0 t t (omega arith) in
     (λ i. record { day = day_of e; minutes = more i })
-    ∙ ap (λ (x : Day). record { day = x.day; minutes = x.minutes ++ minute_at e t ∷ [] }) before
+    ∙ ap (λ (x : ShownDay). record { day = x.day; minutes = x.minutes ++ minute_at e t ∷ [] }) before
     ∙ ap (λ (x : UnitMinute). record { day = day_of d; minutes = (padded t (shown n d)).minutes ++ x ∷ [] }) last
     ∙ ap (λ (u : ℕ). record { day = day_of d; minutes = (padded u (shown n d)).minutes ++ k ∷ [] }) (sym at)
 
@@ -72,29 +72,29 @@ day_before k d days earlier =
 pub days_before : (k m : ℕ) (days : List StoredDay) → k ≤ m → Each (λ d. day_of d < k / 1440) days → days_shown m days ≡ days_shown k days
 days_before k m [] le all = refl
 days_before k m (d ∷ days) le all =
-    day_before m d days (omega (arith, all.0)) ∙ ap (λ (l : List Day). shown 1440 d ∷ l) (days_before k m days le all.1) ∙ sym (day_before k d days all.0)
+    day_before m d days (omega (arith, all.0)) ∙ ap (λ (l : List ShownDay). shown 1440 d ∷ l) (days_before k m days le all.1) ∙ sym (day_before k d days all.0)
 
-pub filled_last : (xs : List Day) (y : Day) (k : UnitMinute) → filled (xs ++ y ∷ []) k ≡ xs ++ filled (y ∷ []) k
+pub filled_last : (xs : List ShownDay) (y : ShownDay) (k : UnitMinute) → filled (xs ++ y ∷ []) k ≡ xs ++ filled (y ∷ []) k
 filled_last [] y k = refl
 filled_last (x ∷ []) y k = refl
-filled_last (x ∷ x' ∷ xs) y k = ap (λ (l : List Day). x ∷ l) (filled_last (x' ∷ xs) y k)
+filled_last (x ∷ x' ∷ xs) y k = ap (λ (l : List ShownDay). x ∷ l) (filled_last (x' ∷ xs) y k)
 
-pub filled_same : (y : Day) (k : UnitMinute) → y.day ≡ k.minute / 1440 → filled (y ∷ []) k ≡ with_minute k y ∷ []
+pub filled_same : (y : ShownDay) (k : UnitMinute) → y.day ≡ k.minute / 1440 → filled (y ∷ []) k ≡ with_minute k y ∷ []
 filled_same y k same =
     let here : (y.day == k.minute / 1440) ≡ true = grind (arith, nat_tests) in
-    ap (λ (b : Bool). cond b (with_minute k y ∷ []) (padded 1440 y ∷ new_day k ∷ [])) here
+    ap (λ (b : Bool). cond b (with_minute k y ∷ []) (padded 1440 y ∷ day_from k ∷ [])) here
 
-pub filled_next : (y : Day) (k : UnitMinute) → y.day < k.minute / 1440 → filled (y ∷ []) k ≡ padded 1440 y ∷ new_day k ∷ []
+pub filled_next : (y : ShownDay) (k : UnitMinute) → y.day < k.minute / 1440 → filled (y ∷ []) k ≡ padded 1440 y ∷ day_from k ∷ []
 filled_next y k earlier =
     let there : (y.day == k.minute / 1440) ≡ false = grind (arith, nat_tests) in
-    ap (λ (b : Bool). cond b (with_minute k y ∷ []) (padded 1440 y ∷ new_day k ∷ [])) there
+    ap (λ (b : Bool). cond b (with_minute k y ∷ []) (padded 1440 y ∷ day_from k ∷ [])) there
 
 -- words of later minutes on the newest day count for nothing
 pub words_later : (k : ℕ) (older : List StoredDay) (date o : ℕ) (words ws : List ℕ) → date / 86400 ≡ k / 1440 → Each (λ w. k % 1440 < word_minute w) ws
     → days_shown k (older ++ record { date = date; odometer = o; words = words ++ ws } ∷ []) ≡ days_shown k (older ++ record { date = date; odometer = o; words = words } ∷ [])
 words_later k older date o words ws now later =
     days_append k older (record { date = date; odometer = o; words = words ++ ws } ∷ [])
-    ∙ ap (λ (l : List Day). days_shown k older ++ l) (day_now k (record { date = date; odometer = o; words = words ++ ws }) now
+    ∙ ap (λ (l : List ShownDay). days_shown k older ++ l) (day_now k (record { date = date; odometer = o; words = words ++ ws }) now
     ∙ ap (λ (l : List UnitMinute). record { day = date / 86400; minutes = l } ∷ []) (map_range_same (minute_at (record { date = date; odometer = o; words = words ++ ws })) (minute_at (record { date = date; odometer = o; words = words })) 0 (k % 1440 + 1) (λ u low high. same_minute u (omega arith)))
     ∙ sym (day_now k (record { date = date; odometer = o; words = words }) now))
     ∙ sym (days_append k older (record { date = date; odometer = o; words = words } ∷ []))

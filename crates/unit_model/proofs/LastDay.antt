@@ -8,7 +8,7 @@ use Rattle.std.proofs.lemmas.List.Elements.{filter-append}
 use Rattle.std.proofs.lemmas.List.FromFn.{length-map-range_with_len}
 use Rattle.gated_ring.specs.Ring.{pointer, is_there, entry_at}
 use Rattle.gated_ring.proofs.Orders.{filter_last, filter_none}
-use Rattle.unit_model.specs.Days.{Day, day_of, day_shown, minutes_shown, minute_at, Each}
+use Rattle.unit_model.specs.Days.{ShownDay, day_of, day_shown, minutes_shown, minute_at, Each}
 use Rattle.unit_model.specs.Image.{day_ring, last_kept, unit_day, indices, recorded, slot_date}
 use Rattle.unit_model.specs.Decoding.{Decodes, slot_day}
 use Rattle.unit_model.proofs.Decoded.{IsDecoded}
@@ -117,7 +117,7 @@ none_shown x decodes first = recorded_are x ∙ ap (map (λ i. day_shown (last_k
 
 -- and from then on the last one is the last-kept minute's, up to it
 pub last_shown : (x : List ℕ) → Decodes x → 0 < last_kept x
-    → (ds : List Day) × (d : Day) × (recorded x ≡ ds ++ d ∷ []) × (d.day ≡ last_kept x / 1440) × (length d.minutes ≡ last_kept x % 1440 + 1)
+    → (ds : List ShownDay) × (d : ShownDay) × (recorded x ≡ ds ++ d ∷ []) × (d.day ≡ last_kept x / 1440) × (length d.minutes ≡ last_kept x % 1440 + 1)
 last_shown x decodes some =
     let k = last_kept x in
     let f = λ (i : ℕ). day_shown k (day_at x i) in

@@ -5,7 +5,7 @@ use Rattle.unit_model.specs.declared.layout.TheConstants.{IMAGE_SIZE, DAY_SLOT_S
 use Rattle.unit_model.specs.Layout.{image_fields, slot_fields, row_fields, cell_fields, are_adjacent}
 use Rattle.std.specs.List.{range_with_len}
 use Rattle.unit_model.specs.Retention.{begins_day, UnitRetains}
-use Rattle.unit_model.specs.Days.{Day, days_shown, filled_all, minute_by, unknown_minute, minutes_of}
+use Rattle.unit_model.specs.Days.{ShownDay, days_shown, filled_all, minute_by, unknown_minute, minutes_of}
 use Rattle.unit_model.specs.Image.{unit_day}
 use Rattle.unit_model.specs.Decoding.{are_dense, is_date_good, word_checks, first_failing, cell_place}
 
@@ -76,7 +76,7 @@ word_rows : (first_failing (word_checks 1044 [] (0x2000 ∷ 0xA000 ∷ 0x3801 �
 word_rows = (refl, refl, refl, refl)
 
 -- 367 days, numbered from 1, of which the newest 366 are shown; and, where a further day may have been begun, the newest 365
-many_days : List Day
+many_days : List ShownDay
 many_days = map (λ d. record { day = d; minutes = [] }) (range_with_len 1 367)
 
 newest_shown : UnitRetains many_days [] (drop 1 many_days)

@@ -2,7 +2,7 @@
 use Rattle.std.proofs.Common.{◌≡◌, ◌≢◌, ℕ, zero, suc, ◌+◌, ◌-◌, ◌*◌, ◌/◌, ◌%◌, ◌<◌, ◌≤◌, Bool, true, false, cond, List, [], ◌∷◌, ◌++◌, refl, sym, ◌∙◌, ap, arith, ⊎_elim, inl, inr, ◌⊎◌}
 use Rattle.std.specs.Prelude.{◌==◌, ◌&&◌, nat_le}
 use Rattle.std.proofs.lemmas.Bool.Decides.{nat_tests}
-use Rattle.unit_model.specs.Days.{word_slot, word_state, word_minute, word_of, bare, state_by, state_after, Each}
+use Rattle.unit_model.specs.Days.{slot_bit, word_state, word_minute, word_by, bare, state_by, state_after, Each}
 use Rattle.unit_model.specs.Changes.{change, changes, new_words}
 
 pub state_after_append : (s u c : ℕ) (a b : List ℕ) → state_after s u c (a ++ b) ≡ state_after s u (state_after s u c a) b
@@ -14,7 +14,7 @@ pub state_later : (s u c : ℕ) (ws : List ℕ) → Each (λ w. u < word_minute 
 state_later s u c [] all = refl
 state_later s u c (w ∷ ws) all =
     let off : nat_le (word_minute w) u ≡ false = grind (arith, nat_tests, all.0) in
-    ap (λ (e : ℕ). state_after s u e ws) (ap (λ (b : Bool). cond ((word_slot w == s) && b) (word_state w) c) off ∙ both (word_slot w == s))
+    ap (λ (e : ℕ). state_after s u e ws) (ap (λ (b : Bool). cond ((slot_bit w == s) && b) (word_state w) c) off ∙ both (slot_bit w == s))
     ∙ state_later s u c ws all.1
   where
     both : (b : Bool) → cond (b && false) (word_state w) c ≡ c
@@ -27,52 +27,52 @@ state_stays s t u c [] all le = refl
 state_stays s t u c (w ∷ ws) all le =
     let on_u : nat_le (word_minute w) u ≡ true = grind (arith, nat_tests, all.0) in
     let on_t : nat_le (word_minute w) t ≡ true = grind (arith, nat_tests, all.0) in
-    ap (λ (b : Bool). state_after s u (cond ((word_slot w == s) && b) (word_state w) c) ws) on_u
-    ∙ state_stays s t u (cond ((word_slot w == s) && true) (word_state w) c) ws all.1 le
-    ∙ sym (ap (λ (b : Bool). state_after s t (cond ((word_slot w == s) && b) (word_state w) c) ws) on_t)
+    ap (λ (b : Bool). state_after s u (cond ((slot_bit w == s) && b) (word_state w) c) ws) on_u
+    ∙ state_stays s t u (cond ((slot_bit w == s) && true) (word_state w) c) ws all.1 le
+    ∙ sym (ap (λ (b : Bool). state_after s t (cond ((slot_bit w == s) && b) (word_state w) c) ws) on_t)
 
 module _ (s e t : ℕ) (short_slot : s < 2) (short : e < 16) (short_minute : t < 2048) where
-  pub slot_of : word_slot (word_of s e t) ≡ s
+  pub slot_of : slot_bit (word_by s e t) ≡ s
   slot_of = omega arith
 
-  pub state_of : word_state (word_of s e t) ≡ e
+  pub state_of : word_state (word_by s e t) ≡ e
   state_of = omega arith
 
-  pub minute_of : word_minute (word_of s e t) ≡ t
+  pub minute_of : word_minute (word_by s e t) ≡ t
   minute_of = omega arith
 
   -- the state by that word
-  pub by_word : (u c : ℕ) → t ≤ u → state_by s u c (word_of s e t) ≡ e
+  pub by_word : (u c : ℕ) → t ≤ u → state_by s u c (word_by s e t) ≡ e
   by_word u c le =
-      let a : (word_slot (word_of s e t) == s) ≡ true = grind (arith, nat_tests, slot_of) in
-      let b : nat_le (word_minute (word_of s e t)) u ≡ true = grind (arith, nat_tests, minute_of) in
-      ap (λ (p : Bool). cond (p && nat_le (word_minute (word_of s e t)) u) (word_state (word_of s e t)) c) a
-      ∙ ap (λ (p : Bool). cond (true && p) (word_state (word_of s e t)) c) b ∙ state_of
+      let a : (slot_bit (word_by s e t) == s) ≡ true = grind (arith, nat_tests, slot_of) in
+      let b : nat_le (word_minute (word_by s e t)) u ≡ true = grind (arith, nat_tests, minute_of) in
+      ap (λ (p : Bool). cond (p && nat_le (word_minute (word_by s e t)) u) (word_state (word_by s e t)) c) a
+      ∙ ap (λ (p : Bool). cond (true && p) (word_state (word_by s e t)) c) b ∙ state_of
 
-  pub by_other : (o u c : ℕ) → o ≢ s → state_by o u c (word_of s e t) ≡ c
+  pub by_other : (o u c : ℕ) → o ≢ s → state_by o u c (word_by s e t) ≡ c
   by_other o u c other =
-      let a : (word_slot (word_of s e t) == o) ≡ false = grind (arith, nat_tests, slot_of) in
-      ap (λ (p : Bool). cond (p && nat_le (word_minute (word_of s e t)) u) (word_state (word_of s e t)) c) a
+      let a : (slot_bit (word_by s e t) == o) ≡ false = grind (arith, nat_tests, slot_of) in
+      ap (λ (p : Bool). cond (p && nat_le (word_minute (word_by s e t)) u) (word_state (word_by s e t)) c) a
 
   -- a change brings its slot to the new state, and leaves the other
   pub change_own : (u c : ℕ) → t ≤ u → state_after s u c (change s t c e) ≡ e
   change_own u c le = by (c == e) refl
     where
-      by : (b : Bool) → (c == e) ≡ b → state_after s u c (cond b [] (word_of s e t ∷ [])) ≡ e
+      by : (b : Bool) → (c == e) ≡ b → state_after s u c (cond b [] (word_by s e t ∷ [])) ≡ e
       by true is = grind (arith, nat_tests, is)
       by false is = by_word u c le
 
   pub change_other : (o u c d : ℕ) → o ≢ s → state_after o u c (change s t d e) ≡ c
   change_other o u c d other = by (d == e)
     where
-      by : (b : Bool) → state_after o u c (cond b [] (word_of s e t ∷ [])) ≡ c
+      by : (b : Bool) → state_after o u c (cond b [] (word_by s e t ∷ [])) ≡ c
       by true = refl
       by false = by_other o u c other
 
   pub change_minutes : (P : ℕ → Type 0) (d : ℕ) → P t → Each (λ w. P (word_minute w)) (change s t d e)
   change_minutes P d holds = by (d == e)
     where
-      by : (b : Bool) → Each (λ w. P (word_minute w)) (cond b [] (word_of s e t ∷ []))
+      by : (b : Bool) → Each (λ w. P (word_minute w)) (cond b [] (word_by s e t ∷ []))
       by true = tt
       by false = (Rattle.std.proofs.Common.subst P (sym minute_of) holds, tt)
 

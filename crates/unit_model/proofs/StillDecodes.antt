@@ -11,7 +11,7 @@ use Rattle.tach_media.proofs.Images.{outside_wider}
 use Rattle.gated_ring.specs.Ring.{number_at, pointer, is_there, next, order}
 use Rattle.gated_ring.proofs.Orders as orders
 use Rattle.gated_ring.proofs.Orders.{rest, rest_others, order_last, each_append, each_weaker, each_filter, range_each, filter_same, map_same}
-use Rattle.unit_model.specs.Days.{word_slot, word_minute, Each}
+use Rattle.unit_model.specs.Days.{slot_bit, word_minute, Each}
 use Rattle.unit_model.specs.Image.{last_kept, odometer_at, day_ring, slot_place, indices, slot_date, slot_odometer, slot_count, slot_words, words_at}
 use Rattle.unit_model.specs.Decoding.{check, cell_place, cell_minute, cell_word, cell_check, slot_checks, slot_day, has_day, is_pointer_good, is_last_good, are_dense, indices_before, is_date_good, is_filled_on, is_word_good, is_first_good, day_checks, word_checks}
 use Rattle.unit_model.proofs.Words.{words_split}
@@ -186,10 +186,10 @@ checks_front place before (w ∷ a) b all =
 -- the first two words of a day are never later
 not_first : (before : List ℕ) (k place w : ℕ) → nat_lt 1 (length before) ≡ false → length before ≡ place → is_word_good before w ≡ true → k < word_minute w → ⊥
 not_first before k place w first at good late =
-    let small = and_split (nat_lt (word_minute w) 1440) (list_all (λ v. nat_le (word_minute v) (word_minute w) && not (word_slot v == word_slot w && word_minute v == word_minute w)) before && is_first_good (length before) w) good in
-    let rest = and_split (list_all (λ v. nat_le (word_minute v) (word_minute w) && not (word_slot v == word_slot w && word_minute v == word_minute w)) before) (is_first_good (length before) w) small.1 in
-    let is : (word_slot w == length before && word_minute w == 0) ≡ true = sym (ap (λ (b : Bool). cond b true (word_slot w == length before && word_minute w == 0)) first) ∙ rest.1 in
-    let none : word_minute w ≡ 0 = eq_of (word_minute w) 0 (and_split (word_slot w == length before) (word_minute w == 0) is).1 in
+    let small = and_split (nat_lt (word_minute w) 1440) (list_all (λ v. nat_le (word_minute v) (word_minute w) && not (slot_bit v == slot_bit w && word_minute v == word_minute w)) before && is_first_good (length before) w) good in
+    let rest = and_split (list_all (λ v. nat_le (word_minute v) (word_minute w) && not (slot_bit v == slot_bit w && word_minute v == word_minute w)) before) (is_first_good (length before) w) small.1 in
+    let is : (slot_bit w == length before && word_minute w == 0) ≡ true = sym (ap (λ (b : Bool). cond b true (slot_bit w == length before && word_minute w == 0)) first) ∙ rest.1 in
+    let none : word_minute w ≡ 0 = eq_of (word_minute w) 0 (and_split (slot_bit w == length before) (word_minute w == 0) is).1 in
     absurd (omega (arith, none, late))
 
 two_first : (place k : ℕ) (a b : List ℕ) → list_all passes (word_checks place [] (a ++ b)) ≡ true → Each (λ w. k < word_minute w) b → 2 ≤ length a + length b → 2 ≤ length a

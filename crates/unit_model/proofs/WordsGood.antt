@@ -4,7 +4,7 @@ use Rattle.std.specs.Prelude.{◌==◌, ◌&&◌, nat_le, nat_lt}
 use Rattle.std.specs.List.{list_all}
 use Rattle.std.proofs.lemmas.Bool.Decides.{nat_tests}
 use Rattle.std.proofs.lemmas.List.{append-nil}
-use Rattle.unit_model.specs.Days.{word_slot, word_minute, word_of, bare, Each}
+use Rattle.unit_model.specs.Days.{slot_bit, word_minute, word_by, bare, Each}
 use Rattle.unit_model.specs.Decoding.{word_checks, is_word_good, is_first_good}
 use Rattle.unit_model.specs.Changes.{change, changes, new_words}
 use Rattle.unit_model.proofs.States.{slot_of, minute_of}
@@ -20,10 +20,10 @@ checks_push place before (v ∷ a) w all good =
 
 -- a word may stand behind another: it is not earlier, and not of the same slot in the same minute
 abbrev MayStand : (minute slot : ℕ) → ℕ → Type 0
-MayStand minute slot v = (word_minute v ≤ minute) × (word_minute v ≡ minute → word_slot v < slot)
+MayStand minute slot v = (word_minute v ≤ minute) × (word_minute v ≡ minute → slot_bit v < slot)
 
-test_one : (minute slot v : ℕ) → MayStand minute slot v → (nat_le (word_minute v) minute && not (word_slot v == slot && word_minute v == minute)) ≡ true
-test_one minute slot v may = and_join (nat_le (word_minute v) minute) (not (word_slot v == slot && word_minute v == minute)) (le_true (word_minute v) minute may.0) (apart (word_minute v == minute) refl)
+test_one : (minute slot v : ℕ) → MayStand minute slot v → (nat_le (word_minute v) minute && not (slot_bit v == slot && word_minute v == minute)) ≡ true
+test_one minute slot v may = and_join (nat_le (word_minute v) minute) (not (slot_bit v == slot && word_minute v == minute)) (le_true (word_minute v) minute may.0) (apart (word_minute v == minute) refl)
   where
     le_true : (a b : ℕ) → a ≤ b → nat_le a b ≡ true
     le_true a b is = grind (arith, nat_tests)
@@ -38,26 +38,26 @@ test_one minute slot v may = and_join (nat_le (word_minute v) minute) (not (word
     and_not true = refl
     and_not false = refl
 
-    apart : (b : Bool) → (word_minute v == minute) ≡ b → not (word_slot v == slot && word_minute v == minute) ≡ true
-    apart true same = ap (λ (t : Bool). not (t && word_minute v == minute)) (less_false (word_slot v) slot (may.1 (eq_of (word_minute v) minute same)))
-    apart false other = ap (λ (t : Bool). not (word_slot v == slot && t)) other ∙ and_not (word_slot v == slot)
+    apart : (b : Bool) → (word_minute v == minute) ≡ b → not (slot_bit v == slot && word_minute v == minute) ≡ true
+    apart true same = ap (λ (t : Bool). not (t && word_minute v == minute)) (less_false (slot_bit v) slot (may.1 (eq_of (word_minute v) minute same)))
+    apart false other = ap (λ (t : Bool). not (slot_bit v == slot && t)) other ∙ and_not (slot_bit v == slot)
 
-tests_all : (minute slot : ℕ) (ws : List ℕ) → Each (MayStand minute slot) ws → list_all (λ v. nat_le (word_minute v) minute && not (word_slot v == slot && word_minute v == minute)) ws ≡ true
+tests_all : (minute slot : ℕ) (ws : List ℕ) → Each (MayStand minute slot) ws → list_all (λ v. nat_le (word_minute v) minute && not (slot_bit v == slot && word_minute v == minute)) ws ≡ true
 tests_all minute slot [] each = refl
 tests_all minute slot (v ∷ ws) each =
-    and_join (nat_le (word_minute v) minute && not (word_slot v == slot && word_minute v == minute)) (list_all (λ v. nat_le (word_minute v) minute && not (word_slot v == slot && word_minute v == minute)) ws) (test_one minute slot v each.0)
+    and_join (nat_le (word_minute v) minute && not (slot_bit v == slot && word_minute v == minute)) (list_all (λ v. nat_le (word_minute v) minute && not (slot_bit v == slot && word_minute v == minute)) ws) (test_one minute slot v each.0)
     (tests_all minute slot ws each.1)
 
 lt_true : (a b : ℕ) → a < b → nat_lt a b ≡ true
 lt_true a b is = grind (arith, nat_tests)
 
-good_behind : (before : List ℕ) (w minute slot : ℕ) → word_minute w ≡ minute → word_slot w ≡ slot → minute < 1440 → 2 ≤ length before → Each (MayStand minute slot) before → is_word_good before w ≡ true
+good_behind : (before : List ℕ) (w minute slot : ℕ) → word_minute w ≡ minute → slot_bit w ≡ slot → minute < 1440 → 2 ≤ length before → Each (MayStand minute slot) before → is_word_good before w ≡ true
 good_behind before w minute slot minute_is slot_is small two each =
-    let tests = list_all (λ v. nat_le (word_minute v) (word_minute w) && not (word_slot v == word_slot w && word_minute v == word_minute w)) before in
+    let tests = list_all (λ v. nat_le (word_minute v) (word_minute w) && not (slot_bit v == slot_bit w && word_minute v == word_minute w)) before in
     and_join (nat_lt (word_minute w) 1440) (tests && is_first_good (length before) w) (lt_true (word_minute w) 1440 (omega (arith, minute_is, small)))
     (and_join tests (is_first_good (length before) w)
-    ((λ t. list_all (λ v. nat_le (word_minute v) (minute_is t) && not (word_slot v == slot_is t && word_minute v == minute_is t)) before) ∙ tests_all minute slot before each)
-    (ap (λ (b : Bool). cond b true (word_slot w == length before && word_minute w == 0)) (lt_true 1 (length before) (omega (arith, two)))))
+    ((λ t. list_all (λ v. nat_le (word_minute v) (minute_is t) && not (slot_bit v == slot_is t && word_minute v == minute_is t)) before) ∙ tests_all minute slot before each)
+    (ap (λ (b : Bool). cond b true (slot_bit w == length before && word_minute w == 0)) (lt_true 1 (length before) (omega (arith, two)))))
 
 -- words that are good, and behind which one of this slot may stand in this minute
 pub record AreGood (place minute slot : ℕ) (ws : List ℕ) : Type 0 where
@@ -80,15 +80,15 @@ change_good place t s d e ws s1 s2 s3 good = by (d == e)
     more v may = (may.0, λ same. omega (arith, may.1 same))
 
     w : ℕ
-    w = word_of s e t
+    w = word_by s e t
 
-    by : (b : Bool) → AreGood place t (s + 1) (ws ++ cond b [] (word_of s e t ∷ []))
+    by : (b : Bool) → AreGood place t (s + 1) (ws ++ cond b [] (word_by s e t ∷ []))
     by true = subst (AreGood place t (s + 1)) (sym (append-nil ws)) (record { checks = good.checks; may = each_later t s t (s + 1) (omega arith) more ws good.may; two = good.two })
     by false = record {
-      checks = checks_push place [] ws (word_of s e t) good.checks (good_behind ws (word_of s e t) t s (minute_of s e t s1 s3 (omega (arith, s2))) (slot_of s e t s1 s3 (omega (arith, s2))) s2 good.two good.may);
-      may = each_push (MayStand t (s + 1)) ws (word_of s e t) (each_later t s t (s + 1) (omega arith) more ws good.may)
+      checks = checks_push place [] ws (word_by s e t) good.checks (good_behind ws (word_by s e t) t s (minute_of s e t s1 s3 (omega (arith, s2))) (slot_of s e t s1 s3 (omega (arith, s2))) s2 good.two good.may);
+      may = each_push (MayStand t (s + 1)) ws (word_by s e t) (each_later t s t (s + 1) (omega arith) more ws good.may)
           (omega (arith, minute_of s e t s1 s3 (omega (arith, s2))), λ same. omega (arith, slot_of s e t s1 s3 (omega (arith, s2))));
-      two = omega (arith, good.two, length-append ws (word_of s e t ∷ []));
+      two = omega (arith, good.two, length-append ws (word_by s e t ∷ []));
     }
 
 pub changes_good : (place t d c d' c' : ℕ) (ws : List ℕ) → t < 1440 → d' < 16 → c' < 16 → AreGood place t 0 ws → AreGood place t 2 (ws ++ changes t d c d' c')

@@ -1,10 +1,10 @@
 -- The words that a minute writes.
 use Rattle.std.specs.Prelude.{ℕ, List, [], ◌∷◌, ◌++◌, ◌==◌, if◌then◌else◌}
-use Rattle.unit_model.specs.Days.{word_of, bare}
+use Rattle.unit_model.specs.Days.{word_by, bare}
 
 -- the word that a slot's new state brings
 abbrev pub change : (slot minute old new : ℕ) → List ℕ
-change slot minute old new = if old == new then [] else word_of slot new minute ∷ []
+change slot minute old new = if old == new then [] else word_by slot new minute ∷ []
 
 abbrev pub changes : (minute driver codriver driver' codriver' : ℕ) → List ℕ
 changes minute driver codriver driver' codriver' = change 0 minute driver driver' ++ change 1 minute codriver codriver'
@@ -23,7 +23,7 @@ closing_words next driver codriver = if next == 1440 then [] else changes next d
 -- the words of a new day with its first kept minute
 abbrev pub first_states : (minute driver codriver : ℕ) → List ℕ
 first_states minute driver codriver =
-    if minute == 0 then word_of 0 driver 0 ∷ word_of 1 codriver 0 ∷ [] else word_of 0 bare 0 ∷ word_of 1 bare 0 ∷ []
+    if minute == 0 then word_by 0 driver 0 ∷ word_by 1 codriver 0 ∷ [] else word_by 0 bare 0 ∷ word_by 1 bare 0 ∷ []
 
 abbrev pub further_words : (minute driver codriver : ℕ) → List ℕ
 further_words minute driver codriver = if minute == 0 then [] else changes minute bare bare driver codriver

@@ -5,8 +5,8 @@ use Rattle.activity_codec.specs.Words.{activity_numbered}
 use Rattle.view_model.specs.declared.State.{State}
 
 -- a word's slot, the bits of its state (CREW, no card, activity), and its minute of the day (Appendix 1, ActivityChangeInfo)
-abbrev pub word_slot : ℕ → ℕ
-word_slot w = w / 32768 % 2
+abbrev pub slot_bit : ℕ → ℕ
+slot_bit w = w / 32768 % 2
 
 abbrev pub word_state : ℕ → ℕ
 word_state w = w / 2048 % 16
@@ -14,8 +14,8 @@ word_state w = w / 2048 % 16
 abbrev pub word_minute : ℕ → ℕ
 word_minute w = w % 2048
 
-abbrev pub word_of : (slot state minute : ℕ) → ℕ
-word_of slot state minute = 32768 * slot + 2048 * state + minute
+abbrev pub word_by : (slot state minute : ℕ) → ℕ
+word_by slot state minute = 32768 * slot + 2048 * state + minute
 
 -- no card, rest, single
 abbrev pub bare : ℕ
@@ -23,7 +23,7 @@ bare = 4
 
 -- a slot's state after one word more, as it counts in a minute
 abbrev pub state_by : (slot minute state : ℕ) → ℕ → ℕ
-state_by slot minute state w = if word_slot w == slot && nat_le (word_minute w) minute then word_state w else state
+state_by slot minute state w = if slot_bit w == slot && nat_le (word_minute w) minute then word_state w else state
 
 -- a slot's state in a minute after these words, where it was one before them
 abbrev pub state_after : (slot minute : ℕ) → ℕ → List ℕ → ℕ
@@ -53,7 +53,7 @@ abbrev pub minute_by : (minute driver codriver : ℕ) → UnitMinute
 minute_by minute driver codriver = record { minute = minute; driver = state_in driver; codriver = state_in codriver; crew = is_crew_in driver }
 
 -- a day with its minutes from 00:00 on
-pub record Day : Type 0 where
+pub record ShownDay : Type 0 where
   pub day : ℕ
   pub minutes : List UnitMinute
 
@@ -70,50 +70,50 @@ abbrev pub minute_at : StoredDay → ℕ → UnitMinute
 minute_at d t = minute_by (1440 * day_of d + t) (state_at 0 t d.words) (state_at 1 t d.words)
 
 -- a day with its first minutes
-abbrev pub shown : ℕ → StoredDay → Day
+abbrev pub shown : ℕ → StoredDay → ShownDay
 shown n d = record { day = day_of d; minutes = map (minute_at d) (range_with_len 0 n) }
 
 -- how many minutes a day shows
 abbrev pub minutes_shown : (kept day : ℕ) → ℕ
 minutes_shown kept day = if day == kept / 1440 then kept % 1440 + 1 else 1440
 
-abbrev pub day_shown : ℕ → StoredDay → Day
+abbrev pub day_shown : ℕ → StoredDay → ShownDay
 day_shown kept d = shown (minutes_shown kept (day_of d)) d
 
 -- the days not later than that of the last-kept minute, with their minutes up to it
-abbrev pub days_shown : ℕ → List StoredDay → List Day
+abbrev pub days_shown : ℕ → List StoredDay → List ShownDay
 days_shown kept days = map (day_shown kept) (filter (λ d. nat_le (day_of d) (kept / 1440)) days)
 
 abbrev pub unknown_minute : ℕ → UnitMinute
 unknown_minute m = minute_by m bare bare
 
 -- a day with its minutes up to that many; those that it lacked stand as unknown
-abbrev pub padded : ℕ → Day → Day
+abbrev pub padded : ℕ → ShownDay → ShownDay
 padded n d = record { day = d.day; minutes = d.minutes ++ map (λ t. unknown_minute (1440 * d.day + t)) (range_with_len (length d.minutes) (n - length d.minutes)) }
 
 -- a day with one minute more
-abbrev pub with_minute : UnitMinute → Day → Day
+abbrev pub with_minute : UnitMinute → ShownDay → ShownDay
 with_minute k d = record { day = d.day; minutes = (padded (k.minute % 1440) d).minutes ++ k ∷ [] }
 
-abbrev pub new_day : UnitMinute → Day
-new_day k = with_minute k (record { day = k.minute / 1440; minutes = [] })
+abbrev pub day_from : UnitMinute → ShownDay
+day_from k = with_minute k (record { day = k.minute / 1440; minutes = [] })
 
 -- the days with one minute more, which is later than all of them
-abbrev pub filled : List Day → UnitMinute → List Day
-filled [] k = new_day k ∷ []
-filled (d ∷ []) k = if d.day == k.minute / 1440 then with_minute k d ∷ [] else padded 1440 d ∷ new_day k ∷ []
+abbrev pub filled : List ShownDay → UnitMinute → List ShownDay
+filled [] k = day_from k ∷ []
+filled (d ∷ []) k = if d.day == k.minute / 1440 then with_minute k d ∷ [] else padded 1440 d ∷ day_from k ∷ []
 filled (d ∷ e ∷ days) k = d ∷ filled (e ∷ days) k
 
 -- the newest days
-abbrev pub newest_of : ℕ → List Day → List Day
-newest_of n days = drop (length days - n) days
+abbrev pub newest_days : ℕ → List ShownDay → List ShownDay
+newest_days n days = drop (length days - n) days
 
 -- the days with these minutes more, each later than those before
-abbrev pub filled_all : List Day → List UnitMinute → List Day
+abbrev pub filled_all : List ShownDay → List UnitMinute → List ShownDay
 filled_all days ks = fold filled days ks
 
 -- the minutes of days
-abbrev pub minutes_of : List Day → List UnitMinute
+abbrev pub minutes_of : List ShownDay → List UnitMinute
 minutes_of days = flat_map (λ d. d.minutes) days
 
 -- a fact of each member

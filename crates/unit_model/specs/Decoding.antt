@@ -3,7 +3,7 @@ use Rattle.std.specs.Prelude.{ℕ, ◌+◌, ◌-◌, ◌*◌, ◌/◌, ◌%◌, 
 use Rattle.std.specs.List.{range_with_len, list_all, list_any}
 use Rattle.gated_ring.specs.Ring.{number_at, pointer, is_there, next, order}
 use Rattle.unit_model.specs.declared.layout.TheConstants.{VERSION, LAST_KEPT, ODOMETER, OVER_COUNT, OWED, OWED_ROWS, OWED_ROW_SIZE, CELLS, CELL_SIZE, ROW_CELLS, CELL_MINUTE, CELL_WORD, DAYS, DAY_SLOTS, DAY_ODOMETER, DAY_COUNT, DAY_WORDS, DAY_WORD_LIMIT, INSERTIONS, INSERTION_SLOTS, PLACES, PLACE_SLOTS, MOST_OVERS, LAST_MINUTE, HIGHEST_ODOMETER}
-use Rattle.unit_model.specs.Days.{word_slot, word_minute}
+use Rattle.unit_model.specs.Days.{slot_bit, word_minute}
 use Rattle.unit_model.specs.Image.{number_of, last_kept, odometer_at, day_ring, slot_place, indices, slot_date, slot_odometer, slot_count, slot_words}
 
 -- a field by its place, and whether it meets its condition
@@ -95,12 +95,12 @@ is_date_good kept before date =
 
 -- the first two words are the driver's and the co-driver's at minute 0
 abbrev pub is_first_good : (place : ℕ) → ℕ → Bool
-is_first_good place w = if nat_lt 1 place then true else word_slot w == place && word_minute w == 0
+is_first_good place w = if nat_lt 1 place then true else slot_bit w == place && word_minute w == 0
 
 -- a word is below 1440, not earlier than those before it, and the only one of its slot in its minute
 abbrev pub is_word_good : (before : List ℕ) → ℕ → Bool
 is_word_good before w =
-    nat_lt (word_minute w) 1440 && (list_all (λ v. nat_le (word_minute v) (word_minute w) && not (word_slot v == word_slot w && word_minute v == word_minute w)) before
+    nat_lt (word_minute w) 1440 && (list_all (λ v. nat_le (word_minute v) (word_minute w) && not (slot_bit v == slot_bit w && word_minute v == word_minute w)) before
     && is_first_good (length before) w)
 
 abbrev pub word_checks : (place : ℕ) → (before words : List ℕ) → List Check

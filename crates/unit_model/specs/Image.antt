@@ -5,7 +5,7 @@ use Rattle.tach_media.specs.Medium.{State, LiesInside, bytes_at}
 use Rattle.gated_ring.specs.Ring.{Shape, number_at, ring_list, indices as ring_indices}
 use Rattle.unit_model.specs.declared.layout.Field.{Field}
 use Rattle.unit_model.specs.declared.layout.TheConstants.{IMAGE_SIZE, DAYS, DAY_SLOTS, DAY_SLOT_SIZE, DAY_DATE, DAY_ODOMETER, DAY_COUNT, DAY_SPARE, DAY_WORDS, DAY_WORD_LIMIT, LAST_KEPT, ODOMETER}
-use Rattle.unit_model.specs.Days.{StoredDay, Day, UnitMinute, word_minute, days_shown, minutes_of}
+use Rattle.unit_model.specs.Days.{StoredDay, ShownDay, UnitMinute, word_minute, days_shown, minutes_of}
 
 -- a medium that is a unit's: it has its size, and all of it may be written
 pub record IsUnit (s : State) : Type 0 where
@@ -50,7 +50,7 @@ unfoldable pub unit_days : List ℕ → List StoredDay
 unit_days image = map unit_day (ring_list day_ring image)
 
 -- the recorded days of a unit image, with their minutes up to the last-kept one
-unfoldable pub recorded : List ℕ → List Day
+unfoldable pub recorded : List ℕ → List ShownDay
 recorded image = days_shown (last_kept image) (unit_days image)
 
 -- the minutes of a unit image: CREW from the driver's word

@@ -5,7 +5,7 @@ use Rattle.std.proofs.lemmas.List.{map-append}
 use Rattle.std.proofs.lemmas.List.Elements.{Contains-push, Contains-push_cases, Contains-append_left, Contains-append_right, Contains-append_cases}
 use Rattle.run_model.specs.declared.Device.TheVariants.{Unit as Recorder}
 use Rattle.tach_media.specs.Medium.{State}
-use Rattle.unit_model.specs.Days.{newest_of}
+use Rattle.unit_model.specs.Days.{newest_days}
 use Rattle.unit_model.specs.Image.{recorded}
 use Rattle.log_model.specs.declared.lines.Mark.{Mark}
 use Rattle.history_model.specs.Minutes.{HistoryMinute, up_to}
@@ -86,7 +86,7 @@ no-front sure past rest i is front = absurd (
     let longer : length past ≡ length sure + 1 = ap length is ∙ length-append sure (i ∷ []) in omega (arith, long, longer))
 
 -- WHAT IS LEFT: where nothing was lost, each image that a stop may leave has all sure minutes, of which the newest 366 days are retained
-pub left-whole : (s : Started) (due : ℕ) (b : Book) (marks : List Mark) (unit : State) → Holds s due b marks unit → b.maybe ≡ None → AreLost [] b → (x : List ℕ) → unit.may_leave x → recorded x ≡ newest_of 366 (filled_with s.days b.sure)
+pub left-whole : (s : Started) (due : ℕ) (b : Book) (marks : List Mark) (unit : State) → Holds s due b marks unit → b.maybe ≡ None → AreLost [] b → (x : List ℕ) → unit.may_leave x → recorded x ≡ newest_days 366 (filled_with s.days b.sure)
 left-whole s due b marks unit h none lost x left = go shown.next comes days
   where
     shown : Shows (FillsDays s.days) s.first b (unit_view [] [] x)
@@ -101,7 +101,7 @@ left-whole s due b marks unit h none lost x left = go shown.next comes days
     days : FillsDays s.days shown.next b.sure (recorded x)
     days = subst (λ (zs : List HistoryMinute). FillsDays s.days shown.next zs (recorded x)) same (subst (FillsDays s.days shown.next (up_to (unit_view [] [] x).last (all b))) (shown-days [] [] x) shown.days)
 
-    go : (next : Option HistoryMinute) → IsNext b b.sure next → FillsDays s.days next b.sure (recorded x) → recorded x ≡ newest_of 366 (filled_with s.days b.sure)
+    go : (next : Option HistoryMinute) → IsNext b b.sure next → FillsDays s.days next b.sure (recorded x) → recorded x ≡ newest_days 366 (filled_with s.days b.sure)
     go None comes (inl whole) = whole
     go None comes (inr less) = absurd (let no : false ≡ true = less.0 in cc)
     go (Some i) (inl front) days = no-front b.sure (b.sure ++ i ∷ []) front.0 i refl (sym (all-none b none) ∙ front.1)

@@ -6,7 +6,7 @@ use Rattle.std.proofs.lemmas.List.Elements.{filter-append, All-weaker, All-appen
 use Rattle.run_model.specs.declared.Device.{Device}
 use Rattle.run_model.specs.declared.Device.TheVariants.{Unit as Recorder}
 use Rattle.tach_media.specs.Medium.{State, IsCoherent, IsSettled, LeavesOnly, Unchanged}
-use Rattle.unit_model.specs.Days.{Day, newest_of}
+use Rattle.unit_model.specs.Days.{ShownDay, newest_days}
 use Rattle.unit_model.specs.Decoding.{Decodes}
 use Rattle.unit_model.proofs.WholeDays.{decoded_of}
 use Rattle.unit_journal.proofs.Besides.{few_days}
@@ -78,7 +78,7 @@ holds-started unit x due whole since decodes late =
     holds-opened (started x unit.clock) unit x due refl refl (omega arith) (λ c on. since c (whole.counts_now unit.clock c (omega arith) on)) since
     (inl (retained-whole (recorded x) (few_days x (decoded_of x decodes).known))) decodes late
   where
-    retained-whole : (days : List Day) → length days ≤ 366 → days ≡ newest_of 366 days
+    retained-whole : (days : List ShownDay) → length days ≤ 366 → days ≡ newest_days 366 days
     retained-whole days few = ap (λ (n : ℕ). drop n days) (let none : 0 ≡ length days - 366 = omega (arith, few) in none)
 
 -- marks of the cards are listed beside those of the unit

@@ -1,7 +1,7 @@
 -- What a run that begins finds of its unit, and how the unit stands between two calls (profile).
 use Rattle.std.specs.Prelude.{ℕ, List}
 use Rattle.tach_media.specs.Medium.{State}
-use Rattle.unit_model.specs.Days.{Day}
+use Rattle.unit_model.specs.Days.{ShownDay}
 use Rattle.unit_model.specs.Image.{recorded, last_kept}
 use Rattle.history_model.specs.Book.{Book}
 use Rattle.joint_rule.specs.Views.{UnitView, unit_view}
@@ -11,7 +11,7 @@ use Rattle.joint_rule.specs.Rules.{UnitHolds}
 
 -- what the opening found: the recorded days, the last-kept minute, and the clock
 pub record Started : Type 0 where
-  pub days : List Day
+  pub days : List ShownDay
   pub first : ℕ
   pub began : ℕ
 

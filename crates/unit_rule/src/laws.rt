@@ -1,7 +1,7 @@
 ghost use Rattle.std.specs.Prelude.{◌≡◌, ◌⊎◌, ◌+◌, ◌<◌, ◌++◌, ◌∷◌, [], min, map, Some, None, ℕ, List};
 ghost use Rattle.unit_model.specs.declared.layout.TheConstants.{HIGHEST_ODOMETER};
 ghost use Rattle.run_model.specs.declared.Device.TheVariants.{Unit as Recorder};
-ghost use Rattle.unit_model.specs.Days.{newest_of};
+ghost use Rattle.unit_model.specs.Days.{newest_days};
 ghost use Rattle.unit_model.specs.Decoding.{Decodes};
 ghost use Rattle.unit_model.specs.Image.{last_kept, odometer_at, recorded};
 ghost use Rattle.minute_model.specs.declared.Rule.{Rule};
@@ -59,7 +59,7 @@ pub fn an_image_that_decodes_is_a_start<M: Medium>(unit: &M)
 /// newest 366 days are retained.
 pub fn what_is_left_is_whole<M: Medium>(unit: &M)
     ensures { (s : Started) (due : ℕ) (b : Book) (marks : List Mark) → Holds s due b marks (M.state unit.now) → b.maybe ≡ None → AreLost [] b →
-        (x : List ℕ) → (M.state unit.now).may_leave x → recorded x ≡ newest_of 366 (filled_with s.days b.sure) }
+        (x : List ℕ) → (M.state unit.now).may_leave x → recorded x ≡ newest_days 366 (filled_with s.days b.sure) }
 {}
 
 /// Where the unit has marked each sure minute and none is begun, its marks are the minutes of a front of the history, once each

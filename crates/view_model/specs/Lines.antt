@@ -24,12 +24,12 @@ abbrev pub same_card : CardShown → CardShown → Bool
 same_card a b = same_slot a.slot b.slot && same_activity a.act b.act && same_bool a.crew b.crew
 
 -- the day of a minute
-abbrev pub day_of : ℕ → ℕ
-day_of minute = minute / 1440
+abbrev pub day_of_minute : ℕ → ℕ
+day_of_minute minute = minute / 1440
 
 -- a minute is the one before a line, on the same day, and the same is shown of it
 abbrev pub goes_on : {X : Type 0} → (X → X → Bool) → Viewed X → Line X → Bool
-goes_on same m line = m.minute + 1 == line.first && day_of m.minute == day_of line.first && same m.shown line.shown
+goes_on same m line = m.minute + 1 == line.first && day_of_minute m.minute == day_of_minute line.first && same m.shown line.shown
 
 -- lines with one more minute in front
 abbrev pub with_minute : {X : Type 0} → (X → X → Bool) → Viewed X → List (Line X) → List (Line X)

@@ -7,7 +7,7 @@ use Rattle.view_model.specs.declared.UnitShown.{UnitShown}
 use Rattle.view_model.specs.declared.CardShown.{CardShown}
 use Rattle.view_model.specs.declared.Viewed.{Viewed}
 use Rattle.view_model.specs.declared.Line.{Line}
-use Rattle.view_model.specs.Lines.{same_unit, same_card, day_of, lines_of}
+use Rattle.view_model.specs.Lines.{same_unit, same_card, day_of_minute, lines_of}
 
 abbrev pub two_digits : ℕ → List ℕ
 two_digits n = (48 + n / 10) ∷ (48 + n % 10) ∷ []
@@ -45,7 +45,7 @@ line_text words line = codes " " ++ clock_text line.first ++ codes "-" ++ clock_
 abbrev pub IsTextOf : {X : Type 0} → (X → List ℕ) → List (Line X) → List ℕ → Type 0
 IsTextOf words [] text = text ≡ []
 IsTextOf words (line ∷ lines) text =
-    (date : List ℕ) × (rest : List ℕ) × IsDateText (day_of line.first) date × (text ≡ date ++ line_text words line ++ rest) × IsTextOf words lines rest
+    (date : List ℕ) × (rest : List ℕ) × IsDateText (day_of_minute line.first) date × (text ≡ date ++ line_text words line ++ rest) × IsTextOf words lines rest
 
 -- the view text of a unit's minutes
 unfoldable pub IsUnitView : List (Viewed UnitShown) → List ℕ → Type 0

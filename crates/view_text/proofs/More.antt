@@ -4,14 +4,14 @@ use Rattle.std.specs.Prelude.{◌==◌}
 use Rattle.activity_codec.proofs.Tests.{by_test}
 use Rattle.view_model.specs.declared.Viewed.{Viewed}
 use Rattle.view_model.specs.declared.Line.{Line}
-use Rattle.view_model.specs.Lines.{day_of, goes_on, with_minute, lines_of}
+use Rattle.view_model.specs.Lines.{day_of_minute, goes_on, with_minute, lines_of}
 use Rattle.view_text.specs.Exact.{both}
 use Rattle.view_text.specs.Growing.{follows, line_at, up_to, with_more}
 
 module _ {X : Type 0} (same : X → X → Bool) (exact : (one other : X) → same one other ≡ true → one ≡ other) where
   -- a minute in front of a line shows what the line shows
   shows-line : (x : Viewed X) (line : Line X) → goes_on same x line ≡ true → x.shown ≡ line.shown
-  shows-line x line is = exact x.shown line.shown (both (x.minute + 1 == line.first && day_of x.minute == day_of line.first) (same x.shown line.shown) is).1
+  shows-line x line is = exact x.shown line.shown (both (x.minute + 1 == line.first && day_of_minute x.minute == day_of_minute line.first) (same x.shown line.shown) is).1
 
   -- one line, with a minute in front of it and one behind it
   one-more : (x m : Viewed X) (line : Line X) → with_minute same x (with_more same (line ∷ []) m) ≡ with_more same (with_minute same x (line ∷ [])) m

@@ -1,7 +1,7 @@
 -- What is added to a view text.
 use Rattle.std.specs.Prelude.{◌≡◌, ℕ, List, ◌++◌}
 use Rattle.view_model.specs.declared.Line.{Line}
-use Rattle.view_model.specs.Lines.{day_of}
+use Rattle.view_model.specs.Lines.{day_of_minute}
 use Rattle.view_model.specs.Text.{line_text}
 use Rattle.tacho_types.specs.Calendar.{IsDateText}
 
@@ -11,4 +11,4 @@ AddsDay old new day = (date : List ℕ) × IsDateText day date × (new ≡ old +
 
 -- a line at the end
 abbrev pub AddsLine : {X : Type 0} → (X → List ℕ) → (old new : List ℕ) → Line X → Type 0
-AddsLine words old new line = (date : List ℕ) × IsDateText (day_of line.first) date × (new ≡ old ++ date ++ line_text words line)
+AddsLine words old new line = (date : List ℕ) × IsDateText (day_of_minute line.first) date × (new ≡ old ++ date ++ line_text words line)

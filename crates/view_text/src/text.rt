@@ -1,7 +1,7 @@
 //! The text of lines.
 ghost use Rattle.std.specs.Prelude.{◌≡◌, ◌++◌, ◌<◌, IfOk, OnOk};
 ghost use Rattle.std.specs.List.{AllByRecursion};
-ghost use Rattle.view_model.specs.Lines.{day_of};
+ghost use Rattle.view_model.specs.Lines.{day_of_minute};
 ghost use Rattle.view_model.specs.Text.{IsTextOf, clock_text};
 ghost use Rattle.view_text.specs.Adding.{AddsLine, AddsDay};
 
@@ -12,7 +12,7 @@ use view_model::Line;
 
 /// The text of lines, one after another.
 pub fn lines_text<T: Shown>(alloc: Global, lines: &[Line<T>]) -> Result<Vec<u8>, AllocError>
-    requires { AllByRecursion (λ line. day_of line.first < DAYS) lines.now }
+    requires { AllByRecursion (λ line. day_of_minute line.first < DAYS) lines.now }
     ensures { IfOk result (λ text. IsTextOf T.words lines.now text.items) }
 {
     let mut text = Vec::new(alloc);
@@ -24,7 +24,7 @@ pub fn lines_text<T: Shown>(alloc: Global, lines: &[Line<T>]) -> Result<Vec<u8>,
 
 /// One more line.
 fn write_line<T: Shown>(text: &mut Vec<u8>, line: Line<T>) -> Result<(), AllocError>
-    requires { day_of line.first < DAYS }
+    requires { day_of_minute line.first < DAYS }
     ensures { OnOk result (AddsLine T.words text.old.items text.new.items line) }
 {
     write_day(text, line.first / 1440)?;

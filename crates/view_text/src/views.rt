@@ -1,7 +1,7 @@
 //! The view texts of a unit's minutes and of a card's entries.
 ghost use Rattle.std.specs.Prelude.{◌≡◌, ◌<◌, IfOk, map};
 ghost use Rattle.std.specs.List.{AllByRecursion};
-ghost use Rattle.view_model.specs.Lines.{lines_of, day_of, same_unit, same_card};
+ghost use Rattle.view_model.specs.Lines.{lines_of, day_of_minute, same_unit, same_card};
 ghost use Rattle.view_model.specs.Text.{IsUnitView, IsCardView};
 ghost use Rattle.view_text.specs.Entries.{entry_shown};
 
@@ -14,7 +14,7 @@ use view_model::{CardShown, Line, UnitShown, Viewed};
 
 /// The view text of a unit's minutes.
 pub fn unit_text(alloc: Global, minutes: &[Viewed<UnitShown>]) -> Result<Vec<u8>, AllocError>
-    requires { AllByRecursion (λ m. day_of m.minute < DAYS) minutes.now }
+    requires { AllByRecursion (λ m. day_of_minute m.minute < DAYS) minutes.now }
     ensures { IfOk result (λ text. IsUnitView minutes.now text.items) }
 {
     let lines = unit_lines(alloc, minutes)?;
@@ -23,7 +23,7 @@ pub fn unit_text(alloc: Global, minutes: &[Viewed<UnitShown>]) -> Result<Vec<u8>
 
 /// The view text of a card's entries.
 pub fn card_text(alloc: Global, entries: &[Entry]) -> Result<Vec<u8>, AllocError>
-    requires { AllByRecursion (λ e. day_of e.minute < DAYS) entries.now }
+    requires { AllByRecursion (λ e. day_of_minute e.minute < DAYS) entries.now }
     ensures { IfOk result (λ text. IsCardView (map entry_shown entries.now) text.items) }
 {
     let lines = card_lines(alloc, entries)?;

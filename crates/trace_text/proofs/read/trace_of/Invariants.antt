@@ -1,11 +1,11 @@
 use Rattle.std.proofs.Common.{◌≡◌, ℕ, ◌+◌, ◌≤◌, List, ◌++◌, length}
-use Rattle.trace_text.specs.Text.{lines_of}
+use Rattle.trace_text.specs.Text.{text_lines}
 use Rattle.trace_text.specs.Reading.{HasRead}
 use Rattle.trace_text.proofs.read.trace_of.Given as goal
 
 abbrev pub invariant-loop-rest : goal.invariant-loop-rest
 invariant-loop-rest l = record {
-  lines : (before : List (List ℕ)) × (lines_of l.text ≡ before ++ lines_of l.rest) × HasRead before l.reading;
+  lines : (before : List (List ℕ)) × (text_lines l.text ≡ before ++ text_lines l.rest) × HasRead before l.reading;
   few : l.reading.lines + length l.rest ≤ length l.text;
   form : l.reading.form ≡ l.fn.form;
 }

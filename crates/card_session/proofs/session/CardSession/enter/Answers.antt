@@ -5,7 +5,7 @@ use Rattle.card_model.specs.Image.{StringShape}
 use Rattle.cyclic_days.specs.Plans.{most_drops}
 use Rattle.card_image.specs.Fields.{day_string}
 use Rattle.card_session.specs.Books.{Book}
-use Rattle.card_session.specs.Parts.{with_gap_closed, with_words, with_more}
+use Rattle.card_session.specs.Parts.{with_gap_closed, with_entry_words, with_more}
 use Rattle.card_session.proofs.Composing.{called_then, called_last}
 use Rattle.card_session.proofs.OnCard.{may_still}
 use Rattle.card_session.proofs.Keeping.{gap_failed, words_then, km_then, use_then, entry_failed}
@@ -33,7 +33,7 @@ returns-in_err-write_words-clause-part g c =
     let s = c.args.self.now in
     let value = c.in_ok-close_gap.ensures.value in
     let app = c.in_ok-close_gap.ensures.same.application in
-    entry_failed s value k.odometer.0 c.args.km k.entry c.write_words.new.self _ (λ b. with_words s.application.activity k.entry (with_gap_closed s.application.activity k.entry.minute b))
+    entry_failed s value k.odometer.0 c.args.km k.entry c.write_words.new.self _ (λ b. with_entry_words s.application.activity k.entry (with_gap_closed s.application.activity k.entry.minute b))
     (words_then s value k.odometer.0 c.args.km k.entry c.close_gap.new.self c.write_words.new.self app c.in_ok-close_gap.ensures.part c.in_err-write_words.ensures.part) failed
 
 pub returns-in_err-travel-clause-part : goal.returns-in_err-travel-clause-part
@@ -45,7 +45,7 @@ returns-in_err-travel-clause-part g c =
     let value = c.in_ok-close_gap.ensures.value in
     let app1 = c.in_ok-close_gap.ensures.same.application in
     let app2 = c.in_ok-write_words.ensures.same.application ∙ app1 in
-    entry_failed s value k.odometer.0 km k.entry c.travel.new.self _ (λ b. with_more km (with_words s.application.activity k.entry (with_gap_closed s.application.activity k.entry.minute b)))
+    entry_failed s value k.odometer.0 km k.entry c.travel.new.self _ (λ b. with_more km (with_entry_words s.application.activity k.entry (with_gap_closed s.application.activity k.entry.minute b)))
     (km_then s value k.odometer.0 km k.entry c.write_words.new.self c.travel.new.self app2
     (words_then s value k.odometer.0 km k.entry c.close_gap.new.self c.write_words.new.self app1 c.in_ok-close_gap.ensures.part c.in_ok-write_words.ensures.part) c.in_err-travel.ensures.part) failed
 

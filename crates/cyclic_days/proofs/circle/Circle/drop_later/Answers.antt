@@ -6,7 +6,7 @@ use Rattle.card_model.specs.Image.{Holds}
 use Rattle.cyclic_days.specs.Trim.{IsTrimming, IsTrimmed, IsWithoutLast, newest_later}
 use Rattle.cyclic_days.proofs.Settling.{none_later, then_reads}
 use Rattle.cyclic_days.proofs.Told.{if_told, from_told, through_both}
-use Rattle.cyclic_days.proofs.Trimming.{trimming_then, trimming_one, trimming_part, trimming_fewer, trimmed, too_many, until_short, drops_few}
+use Rattle.cyclic_days.proofs.Trimming.{trimming_then, trimming_one, trimming_part, trimming_fewer, ends_trimmed, too_many, until_short, drops_few}
 use Rattle.cyclic_days.proofs.circle.Circle.drop_later.Goals as goal
 
 pub returns-in_err-drop_newest-clause-moments : goal.returns-in_err-drop_newest-clause-moments
@@ -64,7 +64,7 @@ returns-else-count-lt-DAYS_MOST-clause-trimmed g c =
     let i = c.loop-later.count in
     let inv = c.loop-later.invariant in
     where_told (g.M.Medium.state c.args.medium.now).image _ (IsTrimmed r date) (λ x y was is.
-    trimmed r date i x y (at_image (IsTrimming r date i x) is (at_image (λ x. IfSome (g.M.Medium.state c.loop-later.medium).image (IsTrimming r date i x)) was inv.made))
+    ends_trimmed r date i x y (at_image (IsTrimming r date i x) is (at_image (λ x. IfSome (g.M.Medium.state c.loop-later.medium).image (IsTrimming r date i x)) was inv.made))
     (λ days kept h s k. too_many r inv.shape date i x (omega (arith, c.requires.fits, (g.met.M.Medium.coherent c.args.medium.now).sized x was)) c.if-count-lt-DAYS_MOST.false days kept h s))
 
 pub returns-after-loop-later-clause-trimmed : goal.returns-after-loop-later-clause-trimmed
@@ -74,7 +74,7 @@ returns-after-loop-later-clause-trimmed g c =
     let i = c.loop-later.count in
     let inv = c.loop-later.invariant in
     where_told (g.M.Medium.state c.args.medium.now).image _ (IsTrimmed r date) (λ x y was is.
-    trimmed r date i x y (at_image (IsTrimming r date i x) is (at_image (λ x. IfSome (g.M.Medium.state c.loop-later.medium).image (IsTrimming r date i x)) was inv.made))
+    ends_trimmed r date i x y (at_image (IsTrimming r date i x) is (at_image (λ x. IfSome (g.M.Medium.state c.loop-later.medium).image (IsTrimming r date i x)) was inv.made))
     (λ days kept h s k. sym (at_image (λ y. (days : List Day) → Holds r y days → c.loop-later.later ≡ newest_later date days) is inv.later kept k) ∙ c.loop-later-test.false))
 
 pub returns-in_err-drop_newest-clause-empty : goal.returns-in_err-drop_newest-clause-empty
