@@ -1,7 +1,7 @@
 -- The states of a slot, by the change of the last of its words that is not later.
 use Rattle.std.proofs.Common.{◌≡◌, ◌∙◌, ℕ, zero, suc, ◌+◌, ◌/◌, ◌%◌, ◌<◌, ◌&&◌, Bool, true, false, not, cond, Option, Some, None, option_map, List, [], ◌∷◌, filter, refl, ap, sym, arith}
 use Rattle.std.specs.Prelude.{◌==◌, nat_le}
-use Rattle.activity_codec.proofs.Tests.{by_test}
+use Rattle.activity_codec.proofs.ByTest.{by_test}
 use Rattle.activity_codec.specs.declared.values.Activity.{Activity}
 use Rattle.activity_codec.specs.Words.{change_of, activity_numbered}
 use Rattle.card_retention.specs.Entries.{latest}

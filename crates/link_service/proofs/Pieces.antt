@@ -1,7 +1,7 @@
 -- Pieces of a text, and of more of it.
 use Rattle.std.proofs.Common.{◌≡◌, ◌∙◌, ℕ, true, false, List, [], ◌∷◌, ◌++◌, append-nil, refl, ap, sym, subst}
 use Rattle.std.specs.Prelude.{◌==◌}
-use Rattle.activity_codec.proofs.Tests.{by_test}
+use Rattle.activity_codec.proofs.ByTest.{by_test}
 use Rattle.text_fields.specs.Pieces.{pieces, onto_first}
 use Rattle.text_fields.proofs.PieceLemmas.{pieces-some}
 

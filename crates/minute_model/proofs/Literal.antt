@@ -6,7 +6,7 @@ use Rattle.std.specs.declared.option.Option.TheVariants.{None, Some}
 use Rattle.std.specs.List.{list_any}
 use Rattle.std.proofs.lemmas.Bool.{le-leb, lt-leb}
 use Rattle.std.proofs.lemmas.List.Folds.{list_any-append}
-use Rattle.activity_codec.proofs.Tests.{by_test}
+use Rattle.activity_codec.proofs.ByTest.{by_test}
 use Rattle.activity_codec.specs.Activity.{is_rest_or_available}
 use Rattle.activity_codec.specs.declared.values.Activity.{Activity}
 use Rattle.activity_codec.specs.declared.values.Activity.TheVariants.{Work}

@@ -4,7 +4,7 @@ use Rattle.std.proofs.lemmas.List.Folds.{list_all-append}
 use Rattle.minute_model.specs.Second.{Second}
 use Rattle.minute_model.specs.Stops.{is_still, all_still, last_still}
 use Rattle.minute_model.proofs.EachSecond.{first_still}
-use Rattle.activity_codec.proofs.Tests.{by_test}
+use Rattle.activity_codec.proofs.ByTest.{by_test}
 
 pub all_still-append : (xs ys : List Second) → all_still (xs ++ ys) ≡ (all_still xs && all_still ys)
 all_still-append xs ys = list_all-append is_still xs ys

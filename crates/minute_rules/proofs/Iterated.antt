@@ -2,7 +2,7 @@
 use Rattle.std.proofs.Common.{◌≡◌, ◌∙◌, ℕ, suc, zero, ◌+◌, ◌-◌, ◌*◌, ◌<◌, ◌≤◌, Bool, true, false, cond, List, [], ◌∷◌, refl, ap, sym, arith}
 use Rattle.std.specs.Prelude.{nat_le, ◌==◌, map, Option, Some, None}
 use Rattle.std.proofs.lemmas.Bool.{leb-true, leb-false, le-leb, lt-leb}
-use Rattle.activity_codec.proofs.Tests.{by_test}
+use Rattle.activity_codec.proofs.ByTest.{by_test}
 use Rattle.activity_codec.specs.Activity.{activity_of}
 use Rattle.activity_codec.specs.declared.values.Activity.{Activity}
 use Rattle.activity_codec.specs.declared.values.Activity.TheVariants.{Available, Work, Driving}

@@ -3,7 +3,7 @@ use Rattle.std.proofs.Common.{◌≡◌, ◌∙◌, ℕ, ◌≤◌, Bool, true, 
 use Rattle.std.specs.Prelude.{nat_eq, ◌&&◌, ◌||◌}
 use Rattle.std.proofs.lemmas.Bool.{eqb-true, eqb-false}
 use Rattle.std.proofs.lemmas.List.Folds.{list_any-append}
-use Rattle.activity_codec.proofs.Tests.{by_test}
+use Rattle.activity_codec.proofs.ByTest.{by_test}
 use Rattle.trace_model.specs.declared.Card.{Card}
 use Rattle.trace_model.specs.declared.Card.TheVariants.{A, B}
 use Rattle.log_model.specs.Slots.{same_card}

@@ -4,7 +4,7 @@ use Rattle.std.specs.Prelude.{nat_le, decimal, bytes_eq, Option, Some, None, IfS
 use Rattle.std.specs.Str.Parse.{digits_value}
 use Rattle.std.proofs.lemmas.Bool.Decides.{nat_tests}
 use Rattle.std.proofs.lemmas.Fmt.{decimal_is_IsNumeral}
-use Rattle.activity_codec.proofs.Tests.{by_test}
+use Rattle.activity_codec.proofs.ByTest.{by_test}
 use Rattle.tacho.specs.Texts.{number_in}
 use lib.Pointwise.{bytes_decides}
 

@@ -1,7 +1,7 @@
 -- The lines of a text, from the first one on.
 use Rattle.std.proofs.Common.{◌≡◌, ◌∙◌, ℕ, ◌<◌, List, [], ◌∷◌, length, refl, ap, arith}
 use Rattle.std.specs.Prelude.{◌==◌}
-use Rattle.activity_codec.proofs.Tests.{by_test}
+use Rattle.activity_codec.proofs.ByTest.{by_test}
 use Rattle.text_fields.proofs.PieceLemmas.{pieces-some}
 use Rattle.text_fields.specs.Pieces.{pieces, onto_first}
 use Rattle.trace_text.specs.Text.{closed, text_lines}

@@ -3,7 +3,7 @@ use Rattle.std.proofs.Common.{◌≡◌, ◌≢◌, ℕ, ◌+◌, ◌-◌, ◌<�
 use Rattle.std.specs.Prelude.{nat_eq, ◌==◌, ◌&&◌, not, IsTrue}
 use Rattle.std.proofs.lemmas.Bool.{eqb-true}
 use Rattle.std.proofs.lemmas.List.{drop_at}
-use Rattle.activity_codec.proofs.Tests.{by_test}
+use Rattle.activity_codec.proofs.ByTest.{by_test}
 use Rattle.byte_fields.specs.Fields.{joined}
 use Rattle.byte_fields.specs.Images.{big_number, number_at}
 use Rattle.event_model.specs.Kinds.{is_event}

@@ -9,7 +9,7 @@ use Rattle.tacho_types.specs.declared.numbers.Odometer.{Odometer}
 use Rattle.tacho_types.specs.Numbers.{time_bytes, odometer_bytes}
 use Rattle.std.specs.Prelude.{◌==◌, if◌then◌else◌, map}
 use Rattle.std.proofs.lemmas.Bool.{eqb-false}
-use Rattle.activity_codec.proofs.Tests.{by_test}
+use Rattle.activity_codec.proofs.ByTest.{by_test}
 use Rattle.gated_ring.specs.Ring.{Shape, PointsInside, size_of, place_of, gate_number, entry_at, indices, ring_list}
 use Rattle.gated_ring.specs.Change.{IsSet, OrUnwritten}
 use Rattle.gated_ring.proofs.Orders.{map_same, each_weaker}

@@ -1,7 +1,7 @@
 -- The lines of minutes and of one more.
 use Rattle.std.proofs.Common.{◌≡◌, ◌∙◌, ℕ, suc, zero, ◌+◌, ◌&&◌, true, false, Bool, List, [], ◌∷◌, ◌++◌, length, get_or, set, refl, ap, sym, arith}
 use Rattle.std.specs.Prelude.{◌==◌}
-use Rattle.activity_codec.proofs.Tests.{by_test}
+use Rattle.activity_codec.proofs.ByTest.{by_test}
 use Rattle.view_model.specs.declared.Viewed.{Viewed}
 use Rattle.view_model.specs.declared.Line.{Line}
 use Rattle.view_model.specs.Lines.{day_of_minute, goes_on, with_minute, lines_of}
