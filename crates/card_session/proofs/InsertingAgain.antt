@@ -116,7 +116,7 @@ module _ (app : Application) where
       (let at : place_of app (file 0x0507) ≡ place_of app (file 0x0507) + 0 = omega arith in
       subst (λ (n : ℕ). SameOutside n (length (time_bytes (record { 0 = seconds }))) x (timed app seconds x)) at (put_outside (place_of app (file 0x0507)) (time_bytes (record { 0 = seconds })) x (omega (arith, fits))))
 
-  ended_keeps : Step (IsEnded app)
+  pub ended_keeps : Step (IsEnded app)
   ended_keeps x c fits is = subst (λ (l : List ℕ). Keeps x l) (sym is) (timed_keeps 0 x fits)
 
   ending_keeps : Step (IsEnding app)

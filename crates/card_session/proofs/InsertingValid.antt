@@ -94,6 +94,19 @@ first_none None None is = (refl, refl)
 first_none None (Some p) is = absurd (cc)
 first_none (Some p) b is = absurd (cc)
 
+-- without a session the words of the days as they stand
+module _ (app : Application) (x : List ℕ) (are : AreDays 0 (card_days app x)) (pass : first_failing (word_checks app.activity (oldest_pointer (day_string app) x) (end_mark app x) (session_time app x) (card_days app x)) ≡ None) where
+  pub closed_by_words : nat_eq (session_time app x) 0 ≡ true → EndsBy (end_mark app x) (card_days app x) × EndsStrictly (card_days app x)
+  closed_by_words is =
+      let oldest : ℕ = oldest_pointer (day_string app) x in
+      let three = sym (checks_closed app.activity oldest (end_mark app x) (session_time app x) (card_days app x) is) ∙ pass in
+      let one = first_none (first_failing (words_behind_mark (end_mark app x) (days_placed app.activity oldest 0 (card_days app x)))) _ three in
+      let two = first_none (first_failing (newest_rises app.activity oldest 0 (trimmed (end_mark app x) (card_days app x)))) (first_failing (newest_rises app.activity oldest 0 (card_days app x))) one.1 in (
+        ends_quiet (end_mark app x) app.activity oldest 0 0 (card_days app x) are
+            (quiet (end_mark app x) (days_placed app.activity oldest 0 (card_days app x)) (closing_none (end_mark app x) _ (filter (λ (w : PlacedWord). nat_lt (end_mark app x) (minute_at w)) (days_placed app.activity oldest 0 (card_days app x))) one.0)),
+        passes_strict app.activity oldest 0 0 (card_days app x) are two.1,
+      )
+
 module _ (app : Application) (x : List ℕ) (are : AreDays 0 (card_days app x)) (good : first_bad_behind app x ≡ None) where
   abbrev oldest : ℕ
   oldest = oldest_pointer (day_string app) x
@@ -109,11 +122,4 @@ module _ (app : Application) (x : List ℕ) (are : AreDays 0 (card_days app x)) 
 
   -- and without one the days as they stand
   pub valid_closed : nat_eq (session_time app x) 0 ≡ true → EndsBy (end_mark app x) (card_days app x) × EndsStrictly (card_days app x)
-  valid_closed is =
-      let three = sym (checks_closed app.activity oldest (end_mark app x) (session_time app x) (card_days app x) is) ∙ words_pass in
-      let one = first_none (first_failing (words_behind_mark (end_mark app x) (days_placed app.activity oldest 0 (card_days app x)))) _ three in
-      let two = first_none (first_failing (newest_rises app.activity oldest 0 (trimmed (end_mark app x) (card_days app x)))) (first_failing (newest_rises app.activity oldest 0 (card_days app x))) one.1 in (
-        ends_quiet (end_mark app x) app.activity oldest 0 0 (card_days app x) are
-            (quiet (end_mark app x) (days_placed app.activity oldest 0 (card_days app x)) (closing_none (end_mark app x) _ (filter (λ (w : PlacedWord). nat_lt (end_mark app x) (minute_at w)) (days_placed app.activity oldest 0 (card_days app x))) one.0)),
-        passes_strict app.activity oldest 0 0 (card_days app x) are two.1,
-      )
+  valid_closed is = closed_by_words app x are words_pass is

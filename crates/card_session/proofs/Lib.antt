@@ -39,3 +39,6 @@ pub mod InsertingSession
 pub mod Memory
 pub mod Shown
 pub mod ShutValid
+pub mod Renewing
+pub mod Ends
+pub mod Ended

@@ -1,42 +1,47 @@
--- The newest minute of a card at each moment of a keep.
+-- The newest minute of a card at each moment of a keep, and of a withdrawal.
 use Rattle.std.proofs.Common.{◌≡◌, inl, inr, ⊎_elim, ℕ, suc, ◌+◌, ◌-◌, ◌*◌, ◌/◌, ◌%◌, ◌<◌, ◌≤◌, max, Bool, true, false, cond, Option, Some, None, List, [], ◌∷◌, ◌++◌, length, refl, sym, ◌∙◌, ap, subst, arith}
 use Rattle.std.specs.Prelude.{◌⊎◌, nat_eq, nat_le}
 use Rattle.std.proofs.lemmas.Bool.{cases_lt}
 use Rattle.std.proofs.lemmas.Bool.Decides.{nat_tests}
+use Rattle.activity_codec.specs.declared.values.Activity.{Activity}
 use Rattle.activity_codec.specs.declared.entries.Entry.{Entry}
-use Rattle.activity_codec.specs.Words.{word_minute}
+use Rattle.activity_codec.specs.Words.{word_minute, word_absent}
 use Rattle.tacho_types.specs.declared.texts.Registration.{Registration}
 use Rattle.card_layout.specs.declared.files.Application.{Application}
 use Rattle.card_layout.specs.Application.{IsApplication}
 use Rattle.card_records.specs.declared.vehicle.Vehicle.{Vehicle}
 use Rattle.card_model.specs.Days.{Day, AreDays, last_word}
-use Rattle.card_model.specs.Changes.{Remain, OnNewest, with_newest, with_word, until, cut, date_of, trimmed}
-use Rattle.card_model.proofs.Trims.{trimmed_word, trimmed_day, trimmed_cases, trimmed_twice, are_trimmed}
+use Rattle.card_model.specs.Changes.{Remain, OnNewest, fitting, with_newest, with_word, until, cut, date_of, trimmed}
+use Rattle.card_model.proofs.Retention.{remain_fitting, remain_some}
+use Rattle.card_model.proofs.Trims.{trimmed_word, trimmed_day, trimmed_cases}
 use Rattle.card_retention.specs.Expected.{is_newest}
 use Rattle.card_retention.specs.Shown.{sizes, is_open, Tells}
 use Rattle.card_retention.specs.Entries.{newest_minute, newest_word, closed_at}
-use Rattle.card_retention.proofs.Checked.{early_last}
-use Rattle.card_retention.proofs.Flat.{Ends, UpTo, newest_flat}
+use Rattle.card_retention.proofs.Entering.{on_word, last_append}
+use Rattle.card_retention.proofs.Flat.{Ends}
 use Rattle.card_retention.proofs.Moments.{kept_newest}
+use Rattle.card_retention.proofs.Newest.{at_mark}
+use Rattle.card_retention.proofs.Stops.{absent_shut}
 use Rattle.card_image.specs.Fields.{last_use_of, card_days, end_mark}
 use Rattle.card_image.specs.View.{card_view}
-use Rattle.card_session.specs.Books.{Book, mark_of, gap_closed, entered_days, travelled, with_entry}
-use Rattle.card_session.specs.Sessions.{book_of}
-use Rattle.card_session.specs.Moments.{IsBeforeMark, IsKeepMoment}
+use Rattle.card_session.specs.Books.{Book, mark_of, latest_of, closing_word, with_change, gap_closed, closed_days, closed, last_used, entered_days, travelled, with_entry, vehicle_after, used_until, begun_vehicle, vehicle_counter, goes_on_in}
+use Rattle.card_session.specs.Sessions.{IsOpenBook, newest_in, book_of}
+use Rattle.card_session.specs.Moments.{IsBook, IsBeforeUse, IsBeforeMark, IsKeepMoment, IsClosingWord, IsCloseMoment}
 use Rattle.card_session.specs.Cards.{IsCard}
 use Rattle.card_session.specs.Parts.{IsBeforeGapOf}
 use Rattle.card_session.specs.Overwriting.{BeginsBehind}
-use Rattle.card_session.proofs.Following.{same_is, differ, words_below}
-use Rattle.card_session.proofs.Preparing.{gap_are, gap_ready, words_last, used_at}
+use Rattle.card_session.proofs.Preparing.{gap_are, gap_ready, words_last, open_date, used_at, entry_last}
 use Rattle.card_session.proofs.Lasting.{entered_as}
 use Rattle.card_session.proofs.Alike.{Alike, alike_km, are_bare, trimmed_alike, open_alike, word_alike}
-use Rattle.card_session.proofs.Marks.{mark_told}
-use Rattle.card_session.proofs.Surviving.{Survives, keep_survives, newest_gapped}
-use Rattle.card_session.proofs.Stopping.{book_days, mark_at, before_use}
-use Rattle.card_session.proofs.Valid.{flat_of}
+use Rattle.card_session.proofs.Marks.{mark_told, measured_mark}
+use Rattle.card_session.proofs.Surviving.{Survives, keep_survives, closing_survives, newest_gapped}
+use Rattle.card_session.proofs.Stopping.{book_days, mark_at, before_use, mark_moves, closing_absent}
+use Rattle.card_session.proofs.Valid.{flat_of, closing_newest}
+use Rattle.card_session.proofs.InsertingBooks.{trimmed_low}
 use Rattle.card_session.proofs.Committed.{entered_tells}
 
-abbrev newest_of : ℕ → List Day → ℕ
+-- the newest minute as a mark trims it
+abbrev pub newest_of : ℕ → List Day → ℕ
 newest_of m ds = newest_minute m (trimmed m ds)
 
 -- no day is later than the mark's
@@ -106,41 +111,211 @@ newest_survives mark n = record {
 
 -- ---- it is at most the minute after the end mark
 
-up_low : (m date : ℕ) (ds : List Day) → AreDays date ds → OnNewest (UpTo m) ds → newest_word ds ≤ m
-up_low m date [] are on = absurd on
-up_low m date (d ∷ []) are on = by (nat_eq d.date (date_of m)) refl
-  where
-    by : (b : Bool) → nat_eq d.date (date_of m) ≡ b → newest_word (d ∷ []) ≤ m
-    by true is = let at = same_is d.date (date_of m) is in let early = early_last (m % 1440) d.words are.1.ordered (on.last at) in omega (arith, at, early)
-    by false is = let other = differ d.date (date_of m) is in let below = words_below d.words are.1.ordered in omega (arith, other, on.day, below, are.1.midnight)
-up_low m date (d ∷ e ∷ ds) are on = up_low m d.date (e ∷ ds) are.2 on
-
-trimmed_low : (m : ℕ) (ds : List Day) → AreDays 0 ds → newest_word (trimmed m ds) ≤ m
-trimmed_low m ds are = by (trimmed m ds) (are_trimmed m 0 ds are) (trimmed_twice m ds)
-  where
-    by : (ts : List Day) → AreDays 0 ts → trimmed m ts ≡ ts → newest_word ts ≤ m
-    by [] whole flat = omega arith
-    by (t ∷ ts) whole flat = up_low m 0 (t ∷ ts) whole (newest_flat m t ts flat)
-
-newest_bound : (m : ℕ) (ds : List Day) → AreDays 0 ds → newest_of m ds ≤ suc m
+pub newest_bound : (m : ℕ) (ds : List Day) → AreDays 0 ds → newest_of m ds ≤ suc m
 newest_bound m ds are = by (is_open m (trimmed m ds))
   where
     by : (o : Bool) → cond o (suc m) (max m (newest_word (trimmed m ds))) ≤ suc m
     by true = omega arith
     by false = omega (arith, trimmed_low m ds are)
 
--- ---- on a card
-
 ends_on : (e : Entry) (ds : List Day) → Tells e ds → newest_word ds ≤ e.minute → OnNewest (Ends e.minute) ds
 ends_on e [] tells low = absurd tells
 ends_on e (d ∷ []) tells low = record { day = tells.date; last = omega (arith, tells.date, low) }
 ends_on e (d ∷ f ∷ ds) tells low = ends_on e (f ∷ ds) tells low
 
-view_newest : (app : Application) (x : List ℕ) → (card_view app x).newest ≡ newest_of (end_mark app x) (card_days app x)
+-- ---- of a book: an entry
+
+pub use_before : (registration : Registration) (odometer minute : ℕ) (old now : Option Vehicle) → IsBeforeUse registration odometer minute old now → last_use_of now ≡ last_use_of old
+use_before registration odometer minute old now moment = ⊎_elim (λ same. ap last_use_of same) (λ set. ap last_use_of set.1 ∙ measured_mark odometer old) moment
+
+pub use_at : (registration : Registration) (odometer minute : ℕ) (o : Option Vehicle) → last_use_of (Some (vehicle_after registration odometer minute o)) ≡ 60 * minute
+use_at registration odometer minute None = refl
+use_at registration odometer minute (Some v) = by (goes_on_in registration minute v)
+  where
+    by : (g : Bool) → (cond g (used_until odometer (60 * minute) v) (begun_vehicle registration odometer minute (vehicle_counter (Some v)))).last_use.0 ≡ 60 * minute
+    by true = refl
+    by false = refl
+
+module _ (size : ℕ) (long : 5544 ≤ size) (b : Book) (ordered : AreDays 0 b.days) (registration : Registration) (odometer more : ℕ) (e : Entry) (before : IsBeforeGapOf e.minute b) where
+  abbrev gapped : List Day
+  gapped = gap_closed size (mark_of b) e.minute b.days
+
+  are : AreDays 0 gapped
+  are = gap_are size long b ordered e.minute before
+
+  newest_stays : (is_newest (e.minute / 1440) (sizes b.days) ≡ false → mark_of b / 1440 < e.minute / 1440) → newest_word b.days ≤ mark_of b → (kept : List Day)
+      → IsBeforeMark size b (with_entry size registration odometer more b e) e kept → newest_of (mark_of b) kept ≡ newest_of (mark_of b) b.days
+  newest_stays clear low kept moment =
+      keep_survives size long b ordered (HasNewest (mark_of b) (newest_of (mark_of b) b.days)) (λ ds. newest_of (mark_of b) ds ≡ newest_of (mark_of b) b.days) (newest_survives (mark_of b) (newest_of (mark_of b) b.days))
+      (refl, low_of (mark_of b) 0 b.days ordered low) e before (λ other. clear (sym (newest_gapped size long b ordered e.minute (e.minute / 1440)) ∙ other)) registration odometer more kept moment
+
+  entered_newest : AreDays 0 (travelled more (entered_days size e gapped)) → newest_of e.minute (travelled more (entered_days size e gapped)) ≡ closed_at (Some e)
+  entered_newest whole =
+      let tells : Tells e (entered_days size e gapped) = entered_tells size long e gapped (entered_days size e gapped) are (entered_as size e gapped are) in
+      let last = words_last size long (record { days = gapped; vehicle = b.vehicle }) are e (gap_ready size long b ordered e.minute before e refl) in
+      newest_alike e.minute (trimmed e.minute (entered_days size e gapped)) (trimmed e.minute (travelled more (entered_days size e gapped)))
+      (trimmed_alike e.minute (entered_days size e gapped) (travelled more (entered_days size e gapped)) (alike_km more (entered_days size e gapped)))
+      ∙ ap (newest_minute e.minute) (flat_of e.minute 0 (entered_days size e gapped) (are_bare more 0 (entered_days size e gapped) whole) last.0)
+      ∙ kept_newest e (entered_days size e gapped) tells (ends_on e (entered_days size e gapped) tells last.0)
+
+  -- with the entry it is that of its closing word
+  pub next_newest : AreDays 0 (with_entry size registration odometer more b e).days → newest_of e.minute (with_entry size registration odometer more b e).days ≡ closed_at (Some e)
+  next_newest whole = entered_newest whole
+
+  -- and no word is later than the entry
+  pub next_low : newest_word (with_entry size registration odometer more b e).days ≤ e.minute
+  next_low =
+      let last = entry_last size long registration odometer more e b ordered before in
+      let in_ : max (mark_of (with_entry size registration odometer more b e)) (newest_word (with_entry size registration odometer more b e).days) ≡ e.minute = last.1 in
+      omega (arith, in_)
+
+  -- AT EACH MOMENT it is the one or the other
+  pub keep_newest : (is_newest (e.minute / 1440) (sizes b.days) ≡ false → mark_of b / 1440 < e.minute / 1440) → newest_word b.days ≤ mark_of b → (ds : List Day) (v : Option Vehicle) → AreDays 0 ds
+      → IsKeepMoment size registration odometer more e b ds v
+      → ((last_use_of v ≡ last_use_of b.vehicle) × (newest_of (mark_of b) ds ≡ newest_of (mark_of b) b.days)) ⊎ ((last_use_of v ≡ 60 * e.minute) × (newest_of e.minute ds ≡ closed_at (Some e)))
+  keep_newest clear low ds v whole (inl old) = inl (ap last_use_of old.0, newest_stays clear low ds old.1)
+  keep_newest clear low ds v whole (inr new) = ⊎_elim
+      (λ unused. inl (use_before registration odometer e.minute b.vehicle v unused, newest_stays clear low ds (inr (inr (inr new.0)))))
+      (λ used. inr (
+        ap last_use_of used ∙ use_at registration odometer e.minute b.vehicle,
+        ap (newest_of e.minute) new.0 ∙ entered_newest (subst (λ (l : List Day). AreDays 0 l) new.0 whole),
+      ))
+      new.1
+
+-- ---- of a book: a closing word
+
+word_drops : (room date : ℕ) (days kept : List Day) → 2894 ≤ room → AreDays date days → Remain room days kept → newest_word kept ≡ newest_word days
+word_drops room date [] kept wide are left = ap newest_word left
+word_drops room date (d ∷ []) kept wide are left = ⊎_elim (λ same. ap newest_word same) (λ gone. absurd (omega (arith, gone.0, wide, are.1.most))) left
+word_drops room date (d ∷ e ∷ ds) kept wide are left = ⊎_elim (λ same. ap newest_word same) (λ gone. word_drops room d.date (e ∷ ds) kept wide are.2 gone.1) left
+
+-- The newest minute stays; the last use stays or is that minute's; and no word is later than those of before and that minute.
+pub record Rewrites (b : Book) (ds : List Day) (v : Option Vehicle) : Type 0 where
+  pub newest : newest_of (last_use_of v / 60) ds ≡ newest_of (mark_of b) b.days
+  pub used : (last_use_of v ≡ last_use_of b.vehicle) ⊎ (last_use_of v ≡ 60 * newest_of (mark_of b) b.days)
+  pub word : newest_word ds ≤ max (newest_word b.days) (newest_of (mark_of b) b.days)
+
+module _ (size : ℕ) (long : 5544 ≤ size) (b : Book) (ordered : AreDays 0 b.days) (act : Activity) (may : IsOpenBook b) where
+  abbrev w : ℕ
+  w = closing_word (suc (mark_of b)) act (latest_of b.days)
+
+  abbrev marked : Book
+  marked = record { days = closed_days size (mark_of b) act b.days; vehicle = last_used (60 * suc (mark_of b)) b.vehicle }
+
+  changed : is_open (mark_of b) b.days ≡ true → closed_days size (mark_of b) act b.days ≡ with_change size w b.days
+  changed is = ap (λ (o : Bool). cond o (with_change size w b.days) b.days) is
+
+  pub open_low : is_open (mark_of b) b.days ≡ true → newest_word b.days ≤ mark_of b
+  open_low is = (at_mark (mark_of b) 0 b.days ordered may.ends is).word
+
+  open_newest : is_open (mark_of b) b.days ≡ true → newest_of (mark_of b) b.days ≡ suc (mark_of b)
+  open_newest is =
+      ap (newest_minute (mark_of b)) (flat_of (mark_of b) 0 b.days ordered (open_low is))
+      ∙ ap (λ (o : Bool). cond o (suc (mark_of b)) (max (mark_of b) (newest_word b.days))) is
+
+  last_is : is_open (mark_of b) b.days ≡ true → newest_word (with_change size w b.days) ≡ suc (mark_of b)
+  last_is is = closing_newest size long b ordered act may is
+
+  change_shut : (m : ℕ) → is_open (mark_of b) b.days ≡ true → is_open m (with_change size w b.days) ≡ false
+  change_shut m is =
+      absent_shut m (with_change size w b.days)
+      (on_word (λ d. d.date ≡ date_of (suc (mark_of b))) (λ d. word_absent (last_word d.words) ≡ true) w (fitting (size - 2) b.days)
+      (λ d date. ap word_absent (last_append d.words w) ∙ closing_absent (suc (mark_of b)) act (latest_of b.days))
+      (remain_some (λ d. d.date ≡ date_of (suc (mark_of b))) (size - 2) 0 b.days (fitting (size - 2) b.days) (omega (arith, long)) ordered (remain_fitting (size - 2) b.days) (open_date (mark_of b) b.days is)))
+
+  change_newest : AreDays 0 (with_change size w b.days) → is_open (mark_of b) b.days ≡ true → newest_of (suc (mark_of b)) (with_change size w b.days) ≡ suc (mark_of b)
+  change_newest whole is =
+      let flat : trimmed (suc (mark_of b)) (with_change size w b.days) ≡ with_change size w b.days = flat_of (suc (mark_of b)) 0 (with_change size w b.days) whole (omega (arith, last_is is)) in
+      let most : max (suc (mark_of b)) (newest_word (with_change size w b.days)) ≡ suc (mark_of b) = omega (arith, last_is is) in
+      ap (newest_minute (suc (mark_of b))) flat
+      ∙ ap (λ (o : Bool). cond o (suc (suc (mark_of b))) (max (suc (mark_of b)) (newest_word (with_change size w b.days)))) (change_shut (suc (mark_of b)) is)
+      ∙ most
+
+  use_moves : is_open (mark_of b) b.days ≡ true → last_use_of (last_used (60 * suc (mark_of b)) b.vehicle) ≡ 60 * suc (mark_of b)
+  use_moves is = by b.vehicle (mark_moves b ordered is)
+    where
+      by : (o : Option Vehicle) → last_use_of (last_used (60 * suc (mark_of b)) o) / 60 ≡ suc (mark_of b) → last_use_of (last_used (60 * suc (mark_of b)) o) ≡ 60 * suc (mark_of b)
+      by (Some u) at = refl
+      by None at = absurd (omega (arith, at))
+
+  -- the end mark is the old one
+  waiting : (ds : List Day) (v : Option Vehicle) → v ≡ b.vehicle → IsClosingWord size act b ds → Rewrites b ds v
+  waiting ds v same moment = record {
+    newest = ap (λ (o : Option Vehicle). newest_of (last_use_of o / 60) ds) same ∙ newest;
+    used = inl (ap last_use_of same);
+    word = word;
+  }
+    where
+      newest : newest_of (mark_of b) ds ≡ newest_of (mark_of b) b.days
+      newest = ⊎_elim
+          (λ still. ap (newest_of (mark_of b)) still)
+          (λ rest.
+          closing_survives size long b ordered (HasNewest (mark_of b) (newest_of (mark_of b) b.days)) (λ ds. newest_of (mark_of b) ds ≡ newest_of (mark_of b) b.days) (newest_survives (mark_of b) (newest_of (mark_of b) b.days))
+          (refl, low_of (mark_of b) 0 b.days ordered (open_low rest.0)) act ds (inr rest)) moment
+
+      word : newest_word ds ≤ max (newest_word b.days) (newest_of (mark_of b) b.days)
+      word = ⊎_elim
+          (λ still. let is : newest_word ds ≡ newest_word b.days = ap newest_word still in omega (arith, is))
+          (λ rest. ⊎_elim
+          (λ gone. let is : newest_word ds ≡ newest_word b.days = word_drops (size - 2) 0 b.days ds (omega (arith, long)) ordered gone in omega (arith, is))
+          (λ there. let is : newest_word ds ≡ suc (mark_of b) = ap newest_word (there ∙ changed rest.0) ∙ last_is rest.0 in omega (arith, is, open_newest rest.0)) rest.1) moment
+
+  -- or it is the closing word's
+  moved : (ds : List Day) (v : Option Vehicle) → AreDays 0 ds → IsBook (closed size act b) ds v → Rewrites b ds v
+  moved ds v whole book = by (is_open (mark_of b) b.days) refl book
+    where
+      by : (o : Bool) → is_open (mark_of b) b.days ≡ o → IsBook (cond o marked b) ds v → Rewrites b ds v
+      by false is book = waiting ds v book.1 (inl book.0)
+      by true is book =
+          let days : ds ≡ with_change size w b.days = book.0 ∙ changed is in
+          let seconds : last_use_of v ≡ 60 * suc (mark_of b) = ap last_use_of book.1 ∙ use_moves is in
+          let mark : last_use_of v / 60 ≡ suc (mark_of b) = omega (arith, seconds) in
+          let word : newest_word ds ≡ suc (mark_of b) = ap newest_word days ∙ last_is is in
+          record {
+            newest = ap (λ (n : ℕ). newest_of n ds) mark ∙ ap (newest_of (suc (mark_of b))) days ∙ change_newest (subst (λ (l : List Day). AreDays 0 l) days whole) is ∙ sym (open_newest is);
+            used = inr (seconds ∙ ap (λ (n : ℕ). 60 * n) (sym (open_newest is)));
+            word = omega (arith, word, open_newest is);
+          }
+
+  pub close_newest : (ds : List Day) (v : Option Vehicle) → AreDays 0 ds → IsCloseMoment size act b ds v → Rewrites b ds v
+  close_newest ds v whole (inl old) = waiting ds v old.0 old.1
+  close_newest ds v whole (inr book) = moved ds v whole book
+
+  -- it is the newest minute that a session knows then, or a later word's that stood there
+  pub closed_in : newest_in (closed size act b) ≡ max (newest_word b.days) (newest_of (mark_of b) b.days)
+  closed_in = by (is_open (mark_of b) b.days) refl
+    where
+      bare : is_open (mark_of b) b.days ≡ false → max (mark_of b) (newest_word b.days) ≡ max (newest_word b.days) (newest_of (mark_of b) b.days)
+      bare is = ⊎_elim
+          (λ late. omega (arith, late, newest_bound (mark_of b) b.days ordered))
+          (λ low.
+          let at : newest_of (mark_of b) b.days ≡ max (mark_of b) (newest_word b.days) =
+          ap (newest_minute (mark_of b)) (flat_of (mark_of b) 0 b.days ordered low) ∙ ap (λ (o : Bool). cond o (suc (mark_of b)) (max (mark_of b) (newest_word b.days))) is in
+          omega (arith, low, at))
+          (cases_lt (mark_of b) (newest_word b.days))
+
+      by : (o : Bool) → is_open (mark_of b) b.days ≡ o → newest_in (cond o marked b) ≡ max (newest_word b.days) (newest_of (mark_of b) b.days)
+      by false is = bare is
+      by true is =
+          let word : newest_word marked.days ≡ suc (mark_of b) = ap newest_word (changed is) ∙ last_is is in
+          let mark : mark_of marked ≡ suc (mark_of b) = mark_moves b ordered is in
+          omega (arith, word, mark, open_low is, open_newest is)
+
+  -- and no entry is open behind it
+  pub closed_open : is_open (mark_of (closed size act b)) (closed size act b).days ≡ false
+  closed_open = by (is_open (mark_of b) b.days) refl
+    where
+      by : (o : Bool) → is_open (mark_of b) b.days ≡ o → is_open (mark_of (cond o marked b)) (cond o marked b).days ≡ false
+      by false is = is
+      by true is = ap (λ (ds : List Day). is_open (mark_of marked) ds) (changed is) ∙ change_shut (mark_of marked) is
+
+-- ---- on a card, by its view
+
+pub view_newest : (app : Application) (x : List ℕ) → (card_view app x).newest ≡ newest_of (end_mark app x) (card_days app x)
 unfolding card_view
 view_newest app x = refl
 
-view_word : (app : Application) (x : List ℕ) → (card_view app x).word ≡ newest_word (card_days app x)
+pub view_word : (app : Application) (x : List ℕ) → (card_view app x).word ≡ newest_word (card_days app x)
 unfolding card_view
 view_word app x = refl
 
@@ -152,19 +327,11 @@ module _ (app : Application) (sound : IsApplication app) (x : List ℕ) (ordered
   abbrev b : Book
   b = book_of app x
 
-  abbrev gapped : List Day
-  gapped = gap_closed app.activity (mark_of (book_of app x)) e.minute (book_of app x).days
-
-  are : AreDays 0 gapped
-  are = gap_are app.activity sound.string_least b ordered e.minute before
+  clear_at : BeginsBehind app e x → is_newest (e.minute / 1440) (sizes b.days) ≡ false → mark_of b / 1440 < e.minute / 1440
+  clear_at clear other = subst (λ (n : ℕ). n / 1440 < e.minute / 1440) (mark_told app x) (clear (ap (λ (ds : List Day). is_newest (e.minute / 1440) (sizes ds)) (sym (book_days app x)) ∙ other))
 
   survives : BeginsBehind app e x → newest_word b.days ≤ mark_of b → (kept : List Day) → IsBeforeMark app.activity b (with_entry app.activity registration odometer more b e) e kept → newest_of (mark_of b) kept ≡ newest_of (mark_of b) b.days
-  survives clear low kept moment =
-      keep_survives app.activity sound.string_least b ordered (HasNewest (mark_of b) (newest_of (mark_of b) b.days)) (λ ds. newest_of (mark_of b) ds ≡ newest_of (mark_of b) b.days) (newest_survives (mark_of b) (newest_of (mark_of b) b.days))
-      (refl, low_of (mark_of b) 0 b.days ordered low) e before
-      (λ other. subst (λ (n : ℕ). n / 1440 < e.minute / 1440) (mark_told app x)
-      (clear (ap (λ (ds : List Day). is_newest (e.minute / 1440) (sizes ds)) (sym (book_days app x)) ∙ sym (newest_gapped app.activity sound.string_least b ordered e.minute (e.minute / 1440)) ∙ other)))
-      registration odometer more kept moment
+  survives clear low kept moment = newest_stays app.activity sound.string_least b ordered registration odometer more e before (clear_at clear) low kept moment
 
   old_newest : BeginsBehind app e x → newest_word b.days ≤ mark_of b → end_mark app y ≡ end_mark app x → newest_of (mark_of b) (book_of app y).days ≡ newest_of (mark_of b) b.days
   old_newest clear low same = ⊎_elim
@@ -197,19 +364,10 @@ module _ (app : Application) (sound : IsApplication app) (x : List ℕ) (ordered
 
   -- ---- and once it has moved
 
-  entered_newest : AreDays 0 (travelled more (entered_days app.activity e gapped)) → newest_of e.minute (travelled more (entered_days app.activity e gapped)) ≡ closed_at (Some e)
-  entered_newest whole =
-      let tells : Tells e (entered_days app.activity e gapped) = entered_tells app.activity sound.string_least e gapped (entered_days app.activity e gapped) are (entered_as app.activity e gapped are) in
-      let last = words_last app.activity sound.string_least (record { days = gapped; vehicle = b.vehicle }) are e (gap_ready app.activity sound.string_least b ordered e.minute before e refl) in
-      newest_alike e.minute (trimmed e.minute (entered_days app.activity e gapped)) (trimmed e.minute (travelled more (entered_days app.activity e gapped)))
-      (trimmed_alike e.minute (entered_days app.activity e gapped) (travelled more (entered_days app.activity e gapped)) (alike_km more (entered_days app.activity e gapped)))
-      ∙ ap (newest_minute e.minute) (flat_of e.minute 0 (entered_days app.activity e gapped) (are_bare more 0 (entered_days app.activity e gapped) whole) last.0)
-      ∙ kept_newest e (entered_days app.activity e gapped) tells (ends_on e (entered_days app.activity e gapped) tells last.0)
-
   pub newest_after : end_mark app y ≡ e.minute → (card_view app y).newest ≡ closed_at (Some e)
   newest_after at = ⊎_elim
       (λ old. absurd (omega (arith, before.1, at, mark_at app b y old.0)))
       (λ new. ⊎_elim
       (λ unused. absurd (omega (arith, before.1, at, mark_told app y, before_use registration odometer e.minute b.vehicle (book_of app y).vehicle unused)))
-      (λ after. newest_at app y e.minute at ∙ ap (newest_of e.minute) new.0 ∙ entered_newest (subst (λ (ds : List Day). AreDays 0 ds) new.0 card.holds.ordered))
+      (λ after. newest_at app y e.minute at ∙ ap (newest_of e.minute) new.0 ∙ entered_newest app.activity sound.string_least b ordered registration odometer more e before (subst (λ (ds : List Day). AreDays 0 ds) new.0 card.holds.ordered))
       new.1) card.told

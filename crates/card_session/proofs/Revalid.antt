@@ -159,7 +159,7 @@ module _ (app : Application) (sound : IsApplication app) where
           (subst (λ (n : ℕ). EndsStrictly (trimmed n (card_days app z))) (sym (mark_beside app sound z y days vehicles fine.points)) fine.strict);
     }
 
-    beside_low : Low app z → Low app y
+    pub beside_low : Low app z → Low app y
     beside_low low =
         subst (λ (ds : List Day). newest_word ds ≤ end_mark app y) (sym (days_same app z y days))
         (subst (λ (n : ℕ). newest_word (card_days app z) ≤ n) (sym (mark_beside app sound z y days vehicles fine.points)) low)
@@ -168,7 +168,7 @@ module _ (app : Application) (sound : IsApplication app) where
 pub strict_told : (app : Application) (y : List ℕ) (b : Book) → book_of app y ≡ b → EndsStrictly (trimmed (mark_of b) b.days) → EndsStrictly (trimmed (mark_of (book_of app y)) (book_of app y).days)
 strict_told app y b is strict = subst (λ (k : Book). EndsStrictly (trimmed (mark_of k) k.days)) (sym is) strict
 
-low_told : (app : Application) (y : List ℕ) (b : Book) → book_of app y ≡ b → newest_word b.days ≤ mark_of b → Low app y
+pub low_told : (app : Application) (y : List ℕ) (b : Book) → book_of app y ≡ b → newest_word b.days ≤ mark_of b → Low app y
 unfolding book_of
 low_told app y b is low = subst (λ (k : Book). newest_word k.days ≤ mark_of k) (sym is) low
 
@@ -187,7 +187,7 @@ module _ (app : Application) (sound : IsApplication app) (z : List ℕ) (fine : 
   unfolding book_of
   book_low = low
 
-  book_may : IsOpenBook (book_of app z)
+  pub book_may : IsOpenBook (book_of app z)
   book_may = record {
     ends = ends_by (mark_of (book_of app z)) (book_of app z).days book_low;
     strict = subst EndsStrictly (flat_of (mark_of (book_of app z)) 0 (book_of app z).days book_are book_low) book_strict;
@@ -256,7 +256,7 @@ module _ (app : Application) (sound : IsApplication app) (x : List ℕ) (fits : 
   abbrev full : Book
   full = repaired app.activity registration odometer owed (book_of app x)
 
-  abbrev Stands : List ℕ → Type 0
+  abbrev pub Stands : List ℕ → Type 0
   Stands y = Fine app y × ((session_time app y ≡ session_time app x) ⊎ Low app y)
 
   pub begins_told : BeginsLater (mark_of (book_of app x)) (lacked (mark_of (book_of app x)) owed) (trimmed (mark_of (book_of app x)) (book_of app x).days)
@@ -323,16 +323,19 @@ module _ (app : Application) (sound : IsApplication app) (x : List ℕ) (fits : 
           inl (session_same app (IsCloseMoment app.activity Rest (book_of app c)) c w card ∙ session_beside app z c (noted_same app now z c noted).2 ∙ full_session),
         )
 
+        pub use_low : (w v : List ℕ) → IsShut app c w → Same app w v → Low app v
+        use_low w v card side = beside_low app sound w v side.0 side.1 (shut_fine app sound c noted_fine noted_low noted_fits w card) (shut_low app sound c noted_fine noted_low noted_fits w card)
+
         use_stands : (w v : List ℕ) → IsShut app c w → IsReopening app registration now w v → Stands v
         use_stands w v card reopening =
             let room : place_of app (file 0x0507) + 19 ≤ length w = omega (arith, use_inside app, noted_fits, card.outside.same_length) in
             let side = reopening_same app registration now long w v room reopening in
             let done = shut_fine app sound c noted_fine noted_low noted_fits w card in (
               beside_fine app sound w v side.0 side.1 done,
-              inr (beside_low app sound w v side.0 side.1 done (shut_low app sound c noted_fine noted_low noted_fits w card)),
+              inr (use_low w v card side),
             )
 
-  stands : (y : List ℕ) → InsertingOpen app registration odometer owed now x y → Stands y
+  pub stands : (y : List ℕ) → InsertingOpen app registration odometer owed now x y → Stands y
   stands y (inl still) = (still_fine y still, inl (session_same app (IsBook (book_of app x)) x y still))
   stands y (inr (x1, still, inl repairing)) =
       (repairing_fine x1 still y repairing, inl (session_same app (IsMending app.activity registration odometer owed (book_of app x1)) x1 y repairing ∙ session_same app (IsBook (book_of app x)) x x1 still))

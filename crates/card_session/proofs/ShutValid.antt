@@ -134,10 +134,9 @@ behind_passes mark ws vs same pass =
     (filter_same (λ (w : PlacedWord). nat_lt mark (minute_at w)) (λ w v one. ap (λ (n : ℕ). nat_lt mark n) (minute_same w v one)) ws vs same)
     pass
 
--- ---- a card
+-- ---- a card without a session, and another with the same days and end mark
 
-module _ (app : Application) (sound : IsApplication app) (x : List ℕ) (fits : image_size_of app ≤ length x) (registration : Registration) (long : length registration.0 ≡ 15) (odometer now : ℕ) (owed : List Entry)
-    (valid : IsValid app x) (none : session_time app x ≡ 0) (shut : is_open (end_mark app x) (card_days app x) ≡ false) where
+module _ (app : Application) (x : List ℕ) (valid : IsValid app x) (none : session_time app x ≡ 0) where
   abbrev behind : Option ℕ
   behind = first_failing (words_behind_mark (end_mark app x) (days_placed app.activity (oldest_pointer (day_string app) x) 0 (card_days app x)))
 
@@ -156,6 +155,9 @@ module _ (app : Application) (sound : IsApplication app) (x : List ℕ) (fits : 
       let two = first_none cut whole one.1 in
       (one.0, two.0, two.1)
 
+  pub strict_up_to : AreDays 0 (card_days app x) → EndsStrictly (trimmed (end_mark app x) (card_days app x))
+  strict_up_to are = passes_strict app.activity (oldest_pointer (day_string app) x) 0 0 (trimmed (end_mark app x) (card_days app x)) (are_trimmed (end_mark app x) 0 (card_days app x) are) three.1
+
   module _ (are : AreDays 0 (card_days app x)) (y : List ℕ) (days : card_days app y ≡ card_days app x) (mark : end_mark app y ≡ end_mark app x) (fine : Fine app y) where
     abbrev oldest : ℕ
     oldest = oldest_pointer (day_string app) y
@@ -163,8 +165,7 @@ module _ (app : Application) (sound : IsApplication app) (x : List ℕ) (fits : 
     there : first_failing (word_checks app.activity oldest (end_mark app x) 0 (card_days app x)) ≡ None
     there =
         let strict : EndsStrictly (card_days app x) = passes_strict app.activity (oldest_pointer (day_string app) x) 0 0 (card_days app x) are three.2 in
-        let strict_cut : EndsStrictly (trimmed (end_mark app x) (card_days app x)) =
-        passes_strict app.activity (oldest_pointer (day_string app) x) 0 0 (trimmed (end_mark app x) (card_days app x)) (are_trimmed (end_mark app x) 0 (card_days app x) are) three.1 in
+        let strict_cut : EndsStrictly (trimmed (end_mark app x) (card_days app x)) = strict_up_to are in
         checks_closed app.activity oldest (end_mark app x) 0 (card_days app x) refl
         ∙ ap (λ (o : Option ℕ). first_of o (first_of (first_failing (newest_rises app.activity oldest 0 (trimmed (end_mark app x) (card_days app x)))) (first_failing (newest_rises app.activity oldest 0 (card_days app x)))))
         (behind_passes (end_mark app x) (days_placed app.activity (oldest_pointer (day_string app) x) 0 (card_days app x)) (days_placed app.activity oldest 0 (card_days app x))
@@ -172,23 +173,28 @@ module _ (app : Application) (sound : IsApplication app) (x : List ℕ) (fits : 
         ∙ ap (λ (o : Option ℕ). first_of o (first_failing (newest_rises app.activity oldest 0 (card_days app x)))) (strict_passes app.activity oldest 0 (trimmed (end_mark app x) (card_days app x)) strict_cut)
         ∙ strict_passes app.activity oldest 0 (card_days app x) strict
 
-    still_valid : InsertingClosed app registration now x y → IsValid app y
-    still_valid inserting =
-        let same = inserting_keeps app registration odometer now owed long x y (omega (arith, use_inside app, fits)) (inl (none, inserting)) in
-        by same.0 same.3 (nat_eq (session_time app y) 0) refl
+    pub same_valid : HaveSameSizes app x y → HaveSamePlacePointer app x y → IsValid app y
+    same_valid sizes places = by (nat_eq (session_time app y) 0) refl
       where
         zero_is : (n : ℕ) → nat_eq n 0 ≡ true → n ≡ 0
         zero_is n is = same_is n 0 is
 
-        by : HaveSameSizes app x y → HaveSamePlacePointer app x y → (t : Bool) → nat_eq (session_time app y) 0 ≡ t → IsValid app y
-        by sizes places false is = fine_open app x y valid sizes places fine is
-        by sizes places true is =
+        by : (t : Bool) → nat_eq (session_time app y) 0 ≡ t → IsValid app y
+        by false is = fine_open app x y valid sizes places fine is
+        by true is =
             valid_by app x valid y sizes places fine.days fine.points
             (ap (λ (n : ℕ). first_failing (word_checks app.activity oldest (end_mark app y) n (card_days app y))) (zero_is (session_time app y) is)
             ∙ ap (λ (m : ℕ). first_failing (word_checks app.activity oldest m 0 (card_days app y))) mark
             ∙ ap (λ (ds : List Day). first_failing (word_checks app.activity oldest (end_mark app x) 0 ds)) days ∙ there)
 
-  -- ---- at each moment
+-- ---- at each moment of an insertion
+
+module _ (app : Application) (sound : IsApplication app) (x : List ℕ) (fits : image_size_of app ≤ length x) (registration : Registration) (long : length registration.0 ≡ 15) (odometer now : ℕ) (owed : List Entry)
+    (valid : IsValid app x) (none : session_time app x ≡ 0) (shut : is_open (end_mark app x) (card_days app x) ≡ false) where
+  still_valid : (y : List ℕ) → AreDays 0 (card_days app x) → card_days app y ≡ card_days app x → end_mark app y ≡ end_mark app x → Fine app y → InsertingClosed app registration now x y → IsValid app y
+  still_valid y are days mark fine inserting =
+      let same = inserting_keeps app registration odometer now owed long x y (omega (arith, use_inside app, fits)) (inl (none, inserting)) in
+      same_valid app x valid none are y days mark fine same.0 same.3
 
   shut_told : (y : List ℕ) → book_of app y ≡ book_of app x → is_open (mark_of (book_of app y)) (book_of app y).days ≡ false
   unfolding book_of
@@ -204,7 +210,7 @@ module _ (app : Application) (sound : IsApplication app) (x : List ℕ) (fits : 
 
   strict_there : AreDays 0 (card_days app x) → EndsStrictly (trimmed (mark_of (book_of app x)) (book_of app x).days)
   unfolding book_of
-  strict_there are = passes_strict app.activity (oldest_pointer (day_string app) x) 0 0 (trimmed (end_mark app x) (card_days app x)) (are_trimmed (end_mark app x) 0 (card_days app x) are) three.1
+  strict_there are = strict_up_to app x valid none are
 
   module _ (y : List ℕ) (still : IsStill app x y) where
     y_is : book_of app y ≡ book_of app x
@@ -238,13 +244,13 @@ module _ (app : Application) (sound : IsApplication app) (x : List ℕ) (fits : 
       z_room = omega (arith, use_inside app, y_fits, card.outside.same_length)
 
   pub closed_valid : (y : List ℕ) → InsertingClosed app registration now x y → IsValid app y
-  closed_valid y (inl still) = still_valid (x_are y still) y (days_told y (y_is y still)) (mark_is y (y_is y still)) (y_fine y still) (inl still)
+  closed_valid y (inl still) = still_valid y (x_are y still) (days_told y (y_is y still)) (mark_is y (y_is y still)) (y_fine y still) (inl still)
   closed_valid y (inr (x1, still, inl shutting)) =
-      still_valid (x_are x1 still) y (days_told y (z_is x1 still y shutting)) (mark_is y (z_is x1 still y shutting)) (z_fine x1 still y shutting) (inr (x1, still, inl shutting))
+      still_valid y (x_are x1 still) (days_told y (z_is x1 still y shutting)) (mark_is y (z_is x1 still y shutting)) (z_fine x1 still y shutting) (inr (x1, still, inl shutting))
   closed_valid y (inr (x1, still, inr (x2, done, opening))) =
       let card : IsShutting app x1 x2 = record { outside = done.outside; holds = done.holds; points = done.points; told = inr done.told } in
       let side = opening_same app registration now long x2 y (z_room x1 still x2 card) opening in
-      still_valid (x_are x1 still) y
+      still_valid y (x_are x1 still)
       (days_same app x2 y side.0 ∙ days_told x2 (z_is x1 still x2 card))
       (mark_beside app sound x2 y side.0 side.1 done.points ∙ mark_is x2 (z_is x1 still x2 card))
       (beside_fine app sound x2 y side.0 side.1 (z_fine x1 still x2 card))

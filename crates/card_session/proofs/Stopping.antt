@@ -28,6 +28,7 @@ use Rattle.card_records.specs.CurrentUses.{current_use_of}
 use Rattle.tach_media.specs.Medium.{SameOutside, bytes_at}
 use Rattle.gated_ring.specs.Ring.{PointsInside, size_of as ring_size}
 use Rattle.card_image.specs.Fields.{file, day_string, vehicle_ring, last_use_of, card_days, end_mark, current_use, session_time}
+use Rattle.card_image.specs.Beside.{HaveSameDays, HaveSameVehicles}
 use Rattle.card_image.proofs.Beside.{days_same, last_use_same}
 use Rattle.card_session.specs.Books.{Book, mark_of, latest_of, closing_word, with_change, gap_closed, closed_days, closed, last_used, entry_word, bare_word, day_words, entered_days, travelled, vehicle_after, with_entry, measured_to, goes_on_with}
 use Rattle.card_session.specs.Sessions.{Session, IsSession, book_of}
@@ -250,15 +251,17 @@ module _ (app : Application) (sound : IsApplication app) (k : List ℕ) (fits : 
   ended_outside : SameOutside (place_of app (file 0x0507)) 4 k (ended app k)
   ended_outside = put_outside (place_of app (file 0x0507)) (0 ∷ 0 ∷ 0 ∷ 0 ∷ []) k (omega (arith, use_inside app, fits))
 
+  pub ended_same : HaveSameDays app k (ended app k) × HaveSameVehicles app k (ended app k)
+  ended_same = (
+    part_before (place_of app (file 0x0507)) 4 (day_string app).base (4 + (day_string app).size) k (ended app k) ended_outside (omega (arith, use_behind app, ring_behind app)),
+    part_before (place_of app (file 0x0507)) 4 (vehicle_ring app).base (ring_size (vehicle_ring app)) k (ended app k) ended_outside (omega (arith, use_behind app)),
+  )
+
   pub ended_days : card_days app (ended app k) ≡ card_days app k
-  ended_days =
-      days_same app k (ended app k)
-      (part_before (place_of app (file 0x0507)) 4 (day_string app).base (4 + (day_string app).size) k (ended app k) ended_outside (omega (arith, use_behind app, ring_behind app)))
+  ended_days = days_same app k (ended app k) ended_same.0
 
   pub ended_mark : end_mark app (ended app k) ≡ end_mark app k
-  ended_mark = ap (λ (n : ℕ). n / 60)
-      (last_use_same app k (ended app k) sound points
-      (part_before (place_of app (file 0x0507)) 4 (vehicle_ring app).base (ring_size (vehicle_ring app)) k (ended app k) ended_outside (omega (arith, use_behind app))))
+  ended_mark = ap (λ (n : ℕ). n / 60) (last_use_same app k (ended app k) sound points ended_same.1)
 
 -- the session time is what its four bytes tell
 pub session_told : (app : Application) (y : List ℕ) → session_time app y ≡ big_number 4 (bytes_at y (place_of app (file 0x0507)) 4)
@@ -268,7 +271,7 @@ session_told app y = ap (big_number 4) (part_in y (place_of app (file 0x0507)) 1
     at_front : bytes_at y (place_of app (file 0x0507) + 0) 4 ≡ bytes_at y (place_of app (file 0x0507)) 4
     at_front = let none : place_of app (file 0x0507) + 0 ≡ place_of app (file 0x0507) = omega arith in ap (λ (p : ℕ). bytes_at y p 4) none
 
-session_ends : (app : Application) (k : List ℕ) → image_size_of app ≤ length k → session_time app (ended app k) ≡ 0
+pub session_ends : (app : Application) (k : List ℕ) → image_size_of app ≤ length k → session_time app (ended app k) ≡ 0
 session_ends app k fits = session_told app (ended app k) ∙ ap (big_number 4) (part_put (place_of app (file 0x0507)) (0 ∷ 0 ∷ 0 ∷ 0 ∷ []) k (omega (arith, use_inside app, fits)))
 
 pub closed_session : (s : Session) (act : Activity) (x y : List ℕ) → image_size_of s.application ≤ length x → IsCardClosed s act x y → session_time s.application y ≡ 0

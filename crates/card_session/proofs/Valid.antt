@@ -140,7 +140,7 @@ module _ (app : Application) (x : List ℕ) (valid : IsValid app x) where
       words
 
   module _ (sound : IsApplication app) (fits : image_size_of app ≤ length x) (y : List ℕ) (P : List Day → Option Vehicle → Type 0) (card : IsCard app P x y) where
-    places_still : HaveSamePlacePointer app x y
+    pub places_still : HaveSamePlacePointer app x y
     unfolding files_of
     places_still = behind_vehicles app P x y card (place_ring app).base (place_ring app).pointer_width (omega arith)
 
@@ -212,8 +212,9 @@ module _ (size : ℕ) (long : 5544 ≤ size) (b : Book) (are : AreDays 0 b.days)
       remain_some (TakesWord v) (size - 2) 0 b.days (fitting (size - 2) b.days) (omega (arith, long)) are (remain_fitting (size - 2) b.days)
       (takes_closing (mark_of b) act b.days may.ends may.strict is)
 
-  word : is_open (mark_of b) b.days ≡ true → newest_word (with_change size v b.days) ≡ suc (mark_of b)
-  word is =
+  -- its minute is the newest then
+  pub closing_newest : is_open (mark_of b) b.days ≡ true → newest_word (with_change size v b.days) ≡ suc (mark_of b)
+  closing_newest is =
       newest_with v (suc (mark_of b)) (fitting (size - 2) b.days)
       (on_as (λ d. d.date ≡ date_of (suc (mark_of b))) (λ d. d.date / 60 + word_minute v ≡ suc (mark_of b)) (fitting (size - 2) b.days) (λ d date. omega (arith, date, closing_minute (suc (mark_of b)) act (latest_of b.days)))
       (remain_some (λ d. d.date ≡ date_of (suc (mark_of b))) (size - 2) 0 b.days (fitting (size - 2) b.days) (omega (arith, long)) are (remain_fitting (size - 2) b.days)
@@ -225,7 +226,7 @@ module _ (size : ℕ) (long : 5544 ≤ size) (b : Book) (are : AreDays 0 b.days)
     where
       by : (o : Bool) → is_open (mark_of b) b.days ≡ o → newest_word (cond o marked b).days ≤ mark_of (cond o marked b)
       by false is = low
-      by true is = omega (arith, ap (λ (ds : List Day). newest_word ds) (changed is), word is, mark_moves b are is)
+      by true is = omega (arith, ap (λ (ds : List Day). newest_word ds) (changed is), closing_newest is, mark_moves b are is)
 
   module _ (strict : EndsStrictly (trimmed (mark_of b) b.days)) where
     closed_strict : AreDays 0 (closed size act b).days → EndsStrictly (trimmed (mark_of (closed size act b)) (closed size act b).days)
@@ -237,7 +238,7 @@ module _ (size : ℕ) (long : 5544 ≤ size) (b : Book) (are : AreDays 0 b.days)
             let at : mark_of marked ≡ suc (mark_of b) = mark_moves b are is in
             subst (λ (n : ℕ). EndsStrictly (trimmed n marked.days)) (sym at)
             (subst (λ (ds : List Day). EndsStrictly (trimmed (suc (mark_of b)) ds)) (sym (changed is))
-            (subst EndsStrictly (sym (flat_of (suc (mark_of b)) 0 (with_change size v b.days) (subst (λ (ds : List Day). AreDays 0 ds) (changed is) ordered) (omega (arith, word is)))) (strict_with v (fitting (size - 2) b.days) (takes is))))
+            (subst EndsStrictly (sym (flat_of (suc (mark_of b)) 0 (with_change size v b.days) (subst (λ (ds : List Day). AreDays 0 ds) (changed is) ordered) (omega (arith, closing_newest is)))) (strict_with v (fitting (size - 2) b.days) (takes is))))
 
     pub close_strict : (ds : List Day) (o : Option Vehicle) → AreDays 0 ds → IsCloseMoment size act b ds o → EndsStrictly (trimmed (last_use_of o / 60) ds)
     close_strict ds o ordered (inl old) =

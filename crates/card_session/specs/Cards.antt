@@ -11,6 +11,7 @@ use Rattle.card_model.specs.Days.{Day}
 use Rattle.card_model.specs.Image.{Holds}
 use Rattle.gated_ring.specs.Ring.{PointsInside, size_of as ring_size}
 use Rattle.card_image.specs.Fields.{file, day_string, vehicle_ring}
+use Rattle.card_image.specs.Judging.{IsValid}
 use Rattle.card_session.specs.Books.{Book, with_entry, closed}
 use Rattle.card_session.specs.Sessions.{Session, IsSession, book_of}
 use Rattle.card_session.specs.Moments.{IsBook, IsKeepMoment, IsCloseMoment}
@@ -44,6 +45,10 @@ pub record IsCardKeeping (s : Session) (e : Entry) (odometer : ℕ) (x c : List 
 -- the session time is 0
 abbrev pub ended : Application → List ℕ → List ℕ
 ended app x = put (place_of app (file 0x0507)) (0 ∷ 0 ∷ 0 ∷ 0 ∷ []) x
+
+-- the card would be valid, were its session ended
+abbrev pub MayEnd : Application → List ℕ → Type 0
+MayEnd app x = IsValid app (ended app x)
 
 -- After a withdrawal: the closing word and the end mark at it, where the word is to be written, and behind them the session time.
 pub record IsCardClosed (s : Session) (act : Activity) (x y : List ℕ) : Type 0 where

@@ -1,12 +1,12 @@
--- What a card shows, by the stated overwriting, of the entries that an insertion replays.
-use Rattle.std.specs.Prelude.{◌≡◌, ℕ, ◌/◌, ◌<◌, false, List, [], ◌∷◌, ◌++◌}
+-- What a card shows, by the stated overwriting, of the entries that an insertion replays, and its newest minute with them.
+use Rattle.std.specs.Prelude.{◌≡◌, ◌⊎◌, ℕ, ◌/◌, ◌<◌, false, Some, List, [], ◌∷◌, ◌++◌}
 use Rattle.activity_codec.specs.declared.entries.Entry.{Entry}
 use Rattle.card_layout.specs.declared.files.Application.{Application}
 use Rattle.card_model.specs.Days.{Day}
 use Rattle.card_model.specs.Changes.{trimmed}
 use Rattle.card_retention.specs.Expected.{Counted, is_newest, with_entry}
 use Rattle.card_retention.specs.Shown.{Bound, Rests, sizes}
-use Rattle.card_retention.specs.Entries.{entries_up_to}
+use Rattle.card_retention.specs.Entries.{entries_up_to, closed_at}
 use Rattle.card_retention.specs.Retains.{entries_in}
 use Rattle.card_image.specs.Fields.{card_days, end_mark}
 use Rattle.card_session.specs.Inserting.{lacked}
@@ -68,3 +68,17 @@ pub record HasShown (mark : ℕ) (all es : List Entry) (now : ℕ) (days : List 
 
 abbrev pub ShowsMore : Application → (all owed : List Entry) → List ℕ → List ℕ → Type 0
 ShowsMore app all owed x y = HasShown (end_mark app x) all (lacked_by app x owed) (end_mark app y) (card_days app y)
+
+-- the newest minute once some entries more are on the card: that of the closing word behind the last of them
+abbrev pub newest_behind : (newest : ℕ) → List Entry → ℕ
+newest_behind newest [] = newest
+newest_behind newest (e ∷ es) = newest_behind (closed_at (Some e)) es
+
+-- With the first of the entries that were lacked behind an end mark the newest minute is the one behind the last of these. The end mark
+-- is that of the last of these, or, once all are there, the newest minute.
+pub record NewestSoFar (mark was : ℕ) (es : List Entry) (now is : ℕ) : Type 0 where
+  pub done : List Entry
+  pub rest : List Entry
+  pub split : es ≡ done ++ rest
+  pub behind : (now ≡ mark_behind mark done) ⊎ ((rest ≡ []) × (now ≡ is))
+  pub newest : is ≡ newest_behind was done

@@ -1,4 +1,4 @@
-ghost use Rattle.std.specs.Prelude.{◌≡◌, ◌⊎◌, ℕ, suc, ◌<◌, ◌≤◌, ◌^◌, max, false, Some, List, [], ◌∷◌, ◌++◌, length};
+ghost use Rattle.std.specs.Prelude.{◌≡◌, ◌⊎◌, ℕ, suc, ◌*◌, ◌<◌, ◌≤◌, ◌^◌, max, false, Some, List, [], ◌∷◌, ◌++◌, length};
 ghost use Rattle.activity_codec.specs.declared.entries.Entry.{Entry};
 ghost use Rattle.activity_codec.specs.declared.values.Activity.{Activity};
 ghost use Rattle.tacho_types.specs.declared.texts.Registration.{Registration};
@@ -13,9 +13,9 @@ ghost use Rattle.card_image.specs.Fields.{file_bytes, card_days, card_number, en
 ghost use Rattle.card_image.specs.Judging.{IsValid};
 ghost use Rattle.card_image.specs.View.{card_view};
 ghost use Rattle.card_session.specs.Sessions.{Session, IsSession};
-ghost use Rattle.card_session.specs.Cards.{IsCardKeeping, IsCardClosed, IsCardClosing};
+ghost use Rattle.card_session.specs.Cards.{IsCardKept, IsCardKeeping, IsCardClosed, IsCardClosing, MayEnd};
 ghost use Rattle.card_session.specs.Inserting.{AreOwed, IsCardInserted, IsCardInserting};
-ghost use Rattle.card_session.specs.Repairs.{first_minute, mark_behind, BeginsLater, lacked_by, ShowsFirst, ShowsOwed, ShowsMore};
+ghost use Rattle.card_session.specs.Repairs.{first_minute, mark_behind, newest_behind, BeginsLater, NewestSoFar, lacked_by, ShowsFirst, ShowsOwed, ShowsMore};
 ghost use Rattle.card_session.specs.Overwriting.{GoesOn, IsRepairable, ShowsEntries, TellsNoLater, BeginsBehind, and_entry};
 
 /// A stop in a keep leaves the session time, the events and the number of a card.
@@ -154,4 +154,89 @@ pub fn an_insertion_shows_the_entries()
         ShowsEntries app (all ++ lacked_by app x owed) y }
     ensures shut { (app : Application) (registration : Registration) (odometer now : ℕ) (owed : List Entry) (x y : List ℕ) → IsApplication app → image_size_of app ≤ length x → length registration.0 ≡ 15 → session_time app x ≡ 0 →
         (all : List Entry) → AllUpTo (end_mark app x) all → ShowsEntries app all x → IsCardInserting app registration odometer owed now x y → ShowsEntries app all y }
+{}
+
+/// The end of a keep, of a withdrawal and of an insertion is a moment of it.
+pub fn an_end_is_a_moment()
+    ensures keep { (s next : Session) (e : Entry) (odometer : ℕ) (x y : List ℕ) → IsCardKept s next e odometer x y → IsCardKeeping s e odometer x y }
+    ensures withdrawal { (s : Session) (act : Activity) (x y : List ℕ) → IsCardClosed s act x y → IsCardClosing s act x y }
+    ensures insertion { (app : Application) (registration : Registration) (odometer now : ℕ) (owed : List Entry) (x y : List ℕ) → IsCardInserted app registration odometer owed now x y → IsCardInserting app registration odometer owed now x y }
+{}
+
+/// As long as the end mark of a keep is the old one, the stored time is the old one too, and then the time of the entry's minute, which
+/// no word is later than.
+pub fn a_keep_leaves_the_stored_time()
+    ensures stored { (s : Session) (e : Entry) (odometer : ℕ) (x y : List ℕ) → 0 < session_time s.application x → IsSession s x → s.minute < e.minute → IsCardKeeping s e odometer x y →
+        ((end_mark s.application y ≡ end_mark s.application x) × ((card_view s.application y).stored ≡ (card_view s.application x).stored))
+        ⊎ ((end_mark s.application y ≡ e.minute) × ((card_view s.application y).stored ≡ 60 * e.minute)) }
+    ensures word { (s : Session) (e : Entry) (odometer : ℕ) (x y : List ℕ) → IsApplication s.application → IsSession s x → s.minute < e.minute → IsCardKeeping s e odometer x y → end_mark s.application y ≡ e.minute →
+        (card_view s.application y).word ≤ e.minute }
+{}
+
+/// A stop in a withdrawal leaves the newest minute, and so does its end; no word and no stored time is later than it and those of before.
+pub fn a_withdrawal_leaves_the_newest_minute()
+    ensures newest { (s : Session) (act : Activity) (x y : List ℕ) → IsApplication s.application → image_size_of s.application ≤ length x → IsSession s x → IsCardClosing s act x y →
+        (card_view s.application y).newest ≡ (card_view s.application x).newest }
+    ensures word { (s : Session) (act : Activity) (x y : List ℕ) → IsApplication s.application → image_size_of s.application ≤ length x → IsSession s x → IsCardClosing s act x y →
+        (card_view s.application y).word ≤ max (card_view s.application x).word (card_view s.application x).newest }
+    ensures stored { (s : Session) (act : Activity) (x y : List ℕ) → IsApplication s.application → image_size_of s.application ≤ length x → IsSession s x → IsCardClosing s act x y →
+        (card_view s.application y).stored ≤ max (card_view s.application x).stored (60 * max (card_view s.application x).word (card_view s.application x).newest) }
+{}
+
+/// A stop in an insertion of a card whose session was left open leaves the newest minute, with the first of the owed entries that it
+/// lacked behind it, and the session until all of them are there. So the newest minute with all that the card lacks stays the same; it is
+/// that of the card at its end, and what the session knows. Of a card without a session the newest minute stays.
+pub fn an_insertion_leaves_the_newest_minute()
+    ensures open { (app : Application) (registration : Registration) (odometer now : ℕ) (owed : List Entry) (x y : List ℕ) → IsApplication app → image_size_of app ≤ length x → length registration.0 ≡ 15 → AreOwed now owed → IsValid app x → 0 < session_time app x →
+        BeginsLater (end_mark app x) (lacked_by app x owed) (trimmed (end_mark app x) (card_days app x)) → IsCardInserting app registration odometer owed now x y →
+        (first : NewestSoFar (end_mark app x) (card_view app x).newest (lacked_by app x owed) (end_mark app y) (card_view app y).newest)
+        × ((session_time app y ≡ session_time app x) ⊎ (first.rest ≡ [])) }
+    ensures again { (app : Application) (registration : Registration) (odometer now : ℕ) (owed : List Entry) (x y : List ℕ) → IsApplication app → image_size_of app ≤ length x → length registration.0 ≡ 15 → AreOwed now owed → IsValid app x → 0 < session_time app x →
+        BeginsLater (end_mark app x) (lacked_by app x owed) (trimmed (end_mark app x) (card_days app x)) → IsCardInserting app registration odometer owed now x y →
+        newest_behind (card_view app y).newest (lacked_by app y owed) ≡ newest_behind (card_view app x).newest (lacked_by app x owed) }
+    ensures ended { (app : Application) (registration : Registration) (odometer now : ℕ) (owed : List Entry) (x y : List ℕ) (s : Session) → IsApplication app → image_size_of app ≤ length x → length registration.0 ≡ 15 → AreOwed now owed → IsValid app x → 0 < session_time app x →
+        BeginsLater (end_mark app x) (lacked_by app x owed) (trimmed (end_mark app x) (card_days app x)) → IsCardInserted app registration odometer owed now x y → s.application ≡ app → IsSession s y →
+        ((card_view app y).newest ≡ newest_behind (card_view app x).newest (lacked_by app x owed)) × (s.minute ≡ (card_view app y).newest) }
+    ensures shut { (app : Application) (registration : Registration) (odometer now : ℕ) (owed : List Entry) (x y : List ℕ) → IsApplication app → image_size_of app ≤ length x → length registration.0 ≡ 15 → IsValid app x → session_time app x ≡ 0 → IsCardInserting app registration odometer owed now x y →
+        (card_view app y).newest ≡ (card_view app x).newest }
+    ensures shut_ended { (app : Application) (registration : Registration) (odometer now : ℕ) (owed : List Entry) (x y : List ℕ) (s : Session) → IsApplication app → image_size_of app ≤ length x → length registration.0 ≡ 15 → IsValid app x → session_time app x ≡ 0 → IsCardInserted app registration odometer owed now x y → s.application ≡ app → IsSession s y →
+        s.minute ≡ max (card_view app x).word (card_view app x).newest }
+{}
+
+/// At each moment of an insertion the stored time is not later than that of before, now and the newest minute.
+pub fn an_insertion_leaves_the_stored_time()
+    ensures open { (app : Application) (registration : Registration) (odometer now : ℕ) (owed : List Entry) (x y : List ℕ) → IsApplication app → image_size_of app ≤ length x → length registration.0 ≡ 15 → AreOwed now owed → IsValid app x → 0 < session_time app x →
+        BeginsLater (end_mark app x) (lacked_by app x owed) (trimmed (end_mark app x) (card_days app x)) → IsCardInserting app registration odometer owed now x y →
+        (card_view app y).stored ≤ max (max (card_view app x).stored now) (60 * (card_view app y).newest) }
+    ensures shut { (app : Application) (registration : Registration) (odometer now : ℕ) (owed : List Entry) (x y : List ℕ) → IsApplication app → image_size_of app ≤ length x → length registration.0 ≡ 15 → IsValid app x → session_time app x ≡ 0 → IsCardInserting app registration odometer owed now x y →
+        (card_view app y).stored ≤ max (max (card_view app x).stored now) (60 * (card_view app y).newest) }
+{}
+
+/// Once an insertion has ended a session that was left open, and at its end, no word of the card stands behind the end mark. Of a card
+/// without a session no word is later than those of before and the newest minute.
+pub fn an_insertion_leaves_no_word_behind()
+    ensures open { (app : Application) (registration : Registration) (odometer now : ℕ) (owed : List Entry) (x y : List ℕ) → IsApplication app → image_size_of app ≤ length x → length registration.0 ≡ 15 → AreOwed now owed → IsValid app x → 0 < session_time app x →
+        BeginsLater (end_mark app x) (lacked_by app x owed) (trimmed (end_mark app x) (card_days app x)) → IsCardInserting app registration odometer owed now x y → session_time app y ≡ 0 →
+        (card_view app y).word ≤ end_mark app y }
+    ensures ended { (app : Application) (registration : Registration) (odometer now : ℕ) (owed : List Entry) (x y : List ℕ) → IsApplication app → image_size_of app ≤ length x → length registration.0 ≡ 15 → AreOwed now owed → IsValid app x → 0 < session_time app x →
+        BeginsLater (end_mark app x) (lacked_by app x owed) (trimmed (end_mark app x) (card_days app x)) → IsCardInserted app registration odometer owed now x y →
+        (card_view app y).word ≤ end_mark app y }
+    ensures shut { (app : Application) (registration : Registration) (odometer now : ℕ) (owed : List Entry) (x y : List ℕ) → IsApplication app → image_size_of app ≤ length x → length registration.0 ≡ 15 → IsValid app x → session_time app x ≡ 0 → IsCardInserting app registration odometer owed now x y →
+        (card_view app y).word ≤ max (card_view app x).word (card_view app x).newest }
+{}
+
+/// At the end of an insertion, and once the end mark of a keep has moved, a card would be valid, were its session ended.
+pub fn a_card_may_be_ended()
+    ensures keep { (s : Session) (e : Entry) (odometer : ℕ) (x y : List ℕ) → IsApplication s.application → image_size_of s.application ≤ length x → 0 < session_time s.application x → IsValid s.application x →
+        IsSession s x → s.minute < e.minute → BeginsBehind s.application e x → IsCardKeeping s e odometer x y → end_mark s.application y ≡ e.minute → MayEnd s.application y }
+    ensures open { (app : Application) (registration : Registration) (odometer now : ℕ) (owed : List Entry) (x y : List ℕ) → IsApplication app → image_size_of app ≤ length x → length registration.0 ≡ 15 → AreOwed now owed → IsValid app x → 0 < session_time app x →
+        BeginsLater (end_mark app x) (lacked_by app x owed) (trimmed (end_mark app x) (card_days app x)) → IsCardInserted app registration odometer owed now x y → MayEnd app y }
+    ensures shut { (app : Application) (registration : Registration) (odometer now : ℕ) (owed : List Entry) (x y : List ℕ) → IsApplication app → image_size_of app ≤ length x → length registration.0 ≡ 15 → IsValid app x → session_time app x ≡ 0 →
+        IsCardInserted app registration odometer owed now x y → MayEnd app y }
+{}
+
+/// A stop in a withdrawal, and its end, leave a card valid that was, and that would be, were its session ended.
+pub fn a_withdrawal_leaves_a_valid_card()
+    ensures { (s : Session) (act : Activity) (x y : List ℕ) → IsApplication s.application → image_size_of s.application ≤ length x → 0 < session_time s.application x → IsValid s.application x → MayEnd s.application x →
+        IsSession s x → IsCardClosing s act x y → IsValid s.application y }
 {}

@@ -2,7 +2,7 @@
 use Rattle.std.proofs.Common.{◌≡◌, ◌⊎◌, inl, inr, ⊎_elim, ℕ, ◌+◌, ◌*◌, ◌^◌, ◌<◌, ◌≤◌, Bool, true, false, cond, not, Option, Some, None, IfSome, List, [], ◌∷◌, ◌++◌, length, map, replicate, refl, ap, sym, subst, ◌∙◌, arith, append-nil}
 use Rattle.std.specs.Prelude.{◌==◌, option_to_list}
 use Rattle.tach_media.specs.Medium.{State, IsCoherent, LeavesOnly, HasCause, LiesInside}
-use Rattle.tach_media.proofs.Runs.{goes_on}
+use Rattle.tach_media.proofs.Runs.{goes_on, weaken, at_image, where_told}
 use Rattle.log_model.specs.Log.{RunLog}
 use Rattle.tacho_types.specs.CardNumber.{card_number_bytes}
 use Rattle.tacho_types.specs.declared.card_number.FullCardNumber.{FullCardNumber}
@@ -19,13 +19,15 @@ use Rattle.unit_notes.specs.Fields.{IsEventOf, IsOverOf}
 use Rattle.unit_notes.specs.Noting.{IsNotingEvent, IsEventNoted, IsNotingOver, IsOverNoted}
 use Rattle.unit_notes.specs.Journal.{LeavesJournal}
 use Rattle.unit_notes.proofs.EntryFields.{event_front_of, over_front_of}
+use Rattle.unit_notes.proofs.Placing.{is_noted}
 use Rattle.event_course.specs.Plain.{bare_event, over_event, gap_event, gap_to}
 use Rattle.event_course.specs.Noted.{Lists, no_events, one_bare, one_over, one_gap, are_sure, Leads, StayFailed, AllLead}
 use Rattle.event_course.specs.Shown.{no_number, HasNoted}
 use Rattle.event_course.proofs.Failing.{sure-before, sure-parts, leads-stay}
 use Rattle.event_course.proofs.Shows.{noted-then, noted-aside, noted-after, itself-more}
-use Rattle.event_notes.proofs.Frames.{bares-apart, gaps-apart, noting-more, bare-noted, gap-noted, over-noting, over-noted}
-use Rattle.event_notes.specs.Noting.{ended_in, gap_in, AreUnsure, AreNotedBy}
+use Rattle.event_notes.proofs.Frames.{bares-apart, gaps-apart, noting-more, bare-noted, gap-noted, over-noting, over-noted, overs-stay, bares-stay}
+use Rattle.side_model.specs.Tables.{table_in, IsNoted}
+use Rattle.event_notes.specs.Noting.{ended_in, gap_in, AreUnsure, AreNotedBy, HasBare, IsInOrder, LeavesPlaces}
 
 -- a unit stays one
 pub still-unit : {U V : State} {R : List ℕ → List ℕ → Type 0} → LeavesOnly U V R → IsUnit U → IsUnit V
@@ -128,6 +130,34 @@ both-by {U} {M} {V} failed bare over first second = record {
       (record { bares = leads-stay later later now.bares (λ u k. k); overs = leads-stay later later now.overs (λ u k. k); gaps = leads-stay later later now.gaps (λ u k. k) })
       (record { bares = inl refl; overs = unsure.overs; gaps = inl refl });
 }
+
+-- THE ORDER: what a note of driving without a card has done, and what stays beside it
+pub bare-done : {U V : State} (s : Span) (v : UnitEvent) → IsCoherent U → IsUnit U → IsEventOf no_number (bare_event s) v → s.begin < 2 ^ 32 → s.end < 2 ^ 32
+    → IfSome U.image (λ x. IfSome V.image (IsEventNoted 0x04 (fault_bytes v) x)) → IfSome U.image (λ x. IfSome V.image (λ y. HasBare (Some s) x y))
+bare-done {U} {V} s v before unit is small_begin small_end noted = where_told U.image V.image (λ x y. HasBare (Some s) x y) (λ x y was now.
+    is_noted no_number (bare_event s) (fault_bytes v) x y (unit_sized before unit x was)
+    (event_front_of no_number (bare_event s) v (λ card. refl) (λ e. let no : 4 ≡ 7 = e in omega (arith, no)) small_begin small_end is)
+    (at_image (IsEventNoted 0x04 (fault_bytes v) x) now (at_image (λ (x : List ℕ). IfSome V.image (IsEventNoted 0x04 (fault_bytes v) x)) was noted)))
+
+pub bare-none : (U : State) → IfSome U.image (λ x. IfSome U.image (λ y. HasBare None x y))
+bare-none U = where_told U.image U.image (λ x y. HasBare None x y) (λ x y was now. let one : Some x ≡ Some y = sym was ∙ now in let same : y ≡ x = cc in ap (table_in 0x04) same)
+
+pub bare-aside : {U V : State} (front : List ℕ) → LeavesOnly U V (IsNotingEvent 0x04 front) → LeavesOnly U V (LeavesPlaces 0x07)
+bare-aside front moments = weaken moments (λ x c was moment. overs-stay front x c moment)
+
+pub over-aside : {U V : State} (begin : ℕ) (front : List ℕ) → IsCoherent U → IsUnit U → LeavesOnly U V (IsNotingOver begin front) → LeavesOnly U V (LeavesPlaces 0x04)
+over-aside begin front before unit moments = weaken moments (λ x c was moment. bares-stay begin front x (unit_sized before unit x was) c moment)
+
+bare-still : (bare : Option Span) (x y c : List ℕ) → table_in 0x04 c ≡ table_in 0x04 y → HasBare bare x y → HasBare bare x c
+bare-still None x y c same has = same ∙ has
+bare-still (Some s) x y c same has = subst (λ (rows : List (List ℕ)). IsNoted no_number (table_in 0x04 x) (bare_event s) rows) (sym same) has
+
+pub first-order : {U V : State} (bare : Option Span) → LeavesOnly U V (LeavesPlaces 0x07) → LeavesOnly U V (IsInOrder bare)
+first-order bare aside = weaken aside (λ x c was stay. inl stay)
+
+pub then-order : {U M V : State} (bare : Option Span) → LeavesOnly U M (LeavesPlaces 0x07) → IfSome U.image (λ x. IfSome M.image (λ y. HasBare bare x y)) → LeavesOnly M V (LeavesPlaces 0x04) → LeavesOnly U V (IsInOrder bare)
+then-order {U} {M} {V} bare first has next = goes_on (first-order bare first) next (λ x y c was is here.
+    inr (bare-still bare x y c here (at_image (λ (y : List ℕ). HasBare bare x y) is (at_image (λ (x : List ℕ). IfSome M.image (λ y. HasBare bare x y)) was has))))
 
 -- THE INTERRUPTION that a power-on ends, if there is one
 pub gap-none : (kept now : ℕ) → gap_of kept now ≡ None → gap_in kept now ≡ no_events

@@ -13,7 +13,7 @@ use Rattle.unit_model.proofs.Numbers.{number_put4}
 use Rattle.log_model.specs.Log.{RunLog}
 use Rattle.event_model.specs.Events.{Event}
 use Rattle.side_model.specs.Tables.{table_of, table_in, IsNoted, AreNoted}
-use Rattle.unit_notes.specs.Noting.{IsEventNoted, IsNotingOver, IsOverNoted, with_first, with_one_more}
+use Rattle.unit_notes.specs.Noting.{IsEventNoted, IsNotingEvent, IsNotingOver, IsOverNoted, with_first, with_one_more}
 use Rattle.unit_notes.specs.Fields.{IsFrontOf}
 use Rattle.unit_notes.proofs.Types.{table_inside}
 use Rattle.unit_notes.proofs.Placing.{is_noted}
@@ -177,7 +177,7 @@ more-value y long few = by (nat_lt (number_at y 576 4) 255) refl
         put_is ∙ omega (arith, small)
     by false more = let large : 255 ≤ number_at y 576 4 = ltb-false (number_at y 576 4) 255 more in omega (arith, large, few)
 
-module _ (later : RunLog) (now : Lists) (e : Event) (begin : ℕ) (front x : List ℕ) (long : length x ≡ 2485808) where
+module _ (begin : ℕ) (front x : List ℕ) (long : length x ≡ 2485808) where
   tables-first : (y c : List ℕ) → 580 ≤ length y → c ≡ with_first begin y → (kind : ℕ) → table_in kind c ≡ table_in kind y
   tables-first y c some is kind =
       let low = (table_inside kind).0 in
@@ -193,28 +193,46 @@ module _ (later : RunLog) (now : Lists) (e : Event) (begin : ℕ) (front x : Lis
   enough : (y : List ℕ) → IsEventNoted 0x07 front x y → 580 ≤ length y
   enough y done = omega (arith, long, done.outside.same_length)
 
+  bares-aside : (c : List ℕ) → SameOutside (table_of 0x07).base (size_of (table_of 0x07)) x c → table_in 0x04 c ≡ table_in 0x04 x
+  bares-aside c same =
+      let apart : 2388044 + 830 ≤ 2391364 = omega arith in
+      table-apart 0x04 (table_of 0x07).base (size_of (table_of 0x07)) x c same (inl apart)
+
+  -- driving without a card stays as it is noted, at each moment of it
+  pub bares-stay : (c : List ℕ) → IsNotingOver begin front x c → table_in 0x04 c ≡ table_in 0x04 x
+  bares-stay c (inl entry) = bares-aside c entry.outside
+  bares-stay c (inr (y, done, inl is)) = tables-first y c (enough y done) is 0x04 ∙ bares-aside y done.outside
+  bares-stay c (inr (y, done, inr is)) = tables-both y c (enough y done) is 0x04 ∙ bares-aside y done.outside
+
+-- and the over speedings, at each moment of a note of driving without a card
+pub overs-stay : (front x c : List ℕ) → IsNotingEvent 0x04 front x c → table_in 0x07 c ≡ table_in 0x07 x
+overs-stay front x c moment =
+    let apart : 2388044 + 830 ≤ 2391364 = omega arith in
+    table-apart 0x07 (table_of 0x04).base (size_of (table_of 0x04)) x c moment.outside (inr apart)
+
+module _ (later : RunLog) (now : Lists) (e : Event) (begin : ℕ) (front x : List ℕ) (long : length x ≡ 2485808) where
   -- a stop at a moment of it, where the over speedings are not sure
   pub over-noting : (c : List ℕ) → (are_sure later now.overs ≡ true → ⊥) → IsNotingOver begin front x c → ShowsMore later now no_events x c
   over-noting c unsure (inl entry) = noting-more 0x07 overs-apart x c entry.outside later now unsure
   over-noting c unsure (inr (y, done, inl is)) =
       same-more later now x c
-      (λ kind there sure. tables-first y c (enough y done) is kind ∙ ⊎_elim (λ eq. absurd (unsure (subst (λ (k : ℕ). are_sure later (of_kind k now) ≡ true) eq sure))) (λ ne. others-same 0x07 overs-apart x y done.outside kind there ne) (over-or kind))
+      (λ kind there sure. tables-first begin front x long y c (enough begin front x long y done) is kind ∙ ⊎_elim (λ eq. absurd (unsure (subst (λ (k : ℕ). are_sure later (of_kind k now) ≡ true) eq sure))) (λ ne. others-same 0x07 overs-apart x y done.outside kind there ne) (over-or kind))
       (λ sure. absurd (unsure sure))
   over-noting c unsure (inr (y, done, inr is)) =
       same-more later now x c
-      (λ kind there sure. tables-both y c (enough y done) is kind ∙ ⊎_elim (λ eq. absurd (unsure (subst (λ (k : ℕ). are_sure later (of_kind k now) ≡ true) eq sure))) (λ ne. others-same 0x07 overs-apart x y done.outside kind there ne) (over-or kind))
+      (λ kind there sure. tables-both begin front x long y c (enough begin front x long y done) is kind ∙ ⊎_elim (λ eq. absurd (unsure (subst (λ (k : ℕ). are_sure later (of_kind k now) ≡ true) eq sure))) (λ ne. others-same 0x07 overs-apart x y done.outside kind there ne) (over-or kind))
       (λ sure. absurd (unsure sure))
 
   -- and behind it
   pub over-noted : (c : List ℕ) → e.kind ≡ 0x07 → e.begin ≡ begin → 0 < begin → begin < 2 ^ 32 → IsFrontOf no_number e front → IsOverNoted begin front x c → ShowsMore later now (one_over e) x c
   over-noted c kind_is begin_is some small tells (y, done, is) =
-      let room = enough y done in
+      let room = enough begin front x long y done in
       let first = first-outside begin y room in
       let wide : 580 ≤ length (with_first begin y) = omega (arith, room, first.same_length) in
       let more = more-outside (with_first begin y) wide in
       let numbers = numbers-same 0x07 overs-apart x y done.outside in
       record {
-        tables = λ kind there sure. subst (λ (rows : List (List ℕ)). AreNoted no_number (table_in kind x) (of_kind kind (one_over e)) rows) (sym (tables-both y c room is kind))
+        tables = λ kind there sure. subst (λ (rows : List (List ℕ)). AreNoted no_number (table_in kind x) (of_kind kind (one_over e)) rows) (sym (tables-both begin front x long y c room is kind))
             (table-more 0x07 overs-apart x y done.outside e front kind_is long tells done (one_over e) refl (over-else e) kind there);
         first_over = λ sure.
             ap (λ (l : List ℕ). number_at l 572 4) is

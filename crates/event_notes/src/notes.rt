@@ -1,9 +1,10 @@
 //! Notes, of events that may have come or not.
-ghost use Rattle.std.specs.Prelude.{◌≡◌, ◌<◌, ◌≤◌, ◌+◌, ◌/◌, true, None, IfSome, is_err};
+ghost use Rattle.std.specs.Prelude.{◌≡◌, ◌<◌, ◌≤◌, ◌+◌, ◌/◌, true, None, IfSome, OnOk, is_err};
 ghost use Rattle.tach_media.specs.Medium.{HasCause, LeavesOnly};
 ghost use Rattle.unit_model.specs.Image.{IsUnit};
+ghost use Rattle.event_model.specs.declared.kinds.TheConstants.{DRIVING_WITHOUT_CARD, OVER_SPEEDING};
 ghost use Rattle.unit_notes.specs.Journal.{LeavesJournal};
-ghost use Rattle.event_notes.specs.Noting.{ended_in, gap_in, AreNotedBy};
+ghost use Rattle.event_notes.specs.Noting.{ended_in, gap_in, AreNotedBy, LeavesPlaces, HasBare, IsInOrder};
 
 use crate::entries::{bare, gap, no_card};
 use event_model::{Over, Span};
@@ -22,6 +23,8 @@ fn note_bare<M: Medium>(
     requires works { (M.state unit.old).works ≡ true }
     requires begin { IfSome ended (λ s. 0 < s.begin) }
     ensures noted { AreNotedBy (is_err result) (ended_in ended None) (M.state unit.old) (M.state unit.new) }
+    ensures bare { OnOk result (IfSome (M.state unit.old).image (λ x. IfSome (M.state unit.new).image (λ y. HasBare ended x y))) }
+    ensures aside { LeavesOnly (M.state unit.old) (M.state unit.new) (LeavesPlaces OVER_SPEEDING) }
     ensures journal { LeavesOnly (M.state unit.old) (M.state unit.new) LeavesJournal }
     ensures unit { IsUnit (M.state unit.new) }
     ensures cause { HasCause (M.state unit.old) (M.state unit.new) (is_err result) }
@@ -43,6 +46,7 @@ fn note_over<M: Medium>(
     requires works { (M.state unit.old).works ≡ true }
     requires begin { IfSome ended (λ o. 0 < o.begin) }
     ensures noted { AreNotedBy (is_err result) (ended_in None ended) (M.state unit.old) (M.state unit.new) }
+    ensures aside { LeavesOnly (M.state unit.old) (M.state unit.new) (LeavesPlaces DRIVING_WITHOUT_CARD) }
     ensures journal { LeavesOnly (M.state unit.old) (M.state unit.new) LeavesJournal }
     ensures unit { IsUnit (M.state unit.new) }
     ensures cause { HasCause (M.state unit.old) (M.state unit.new) (is_err result) }
@@ -70,6 +74,7 @@ pub fn note_ended<M: Medium>(
     requires bare { IfSome bare (λ s. 0 < s.begin) }
     requires over { IfSome over (λ o. 0 < o.begin) }
     ensures noted { AreNotedBy (is_err result) (ended_in bare over) (M.state unit.old) (M.state unit.new) }
+    ensures order { LeavesOnly (M.state unit.old) (M.state unit.new) (IsInOrder bare) }
     ensures journal { LeavesOnly (M.state unit.old) (M.state unit.new) LeavesJournal }
     ensures unit { IsUnit (M.state unit.new) }
     ensures cause { HasCause (M.state unit.old) (M.state unit.new) (is_err result) }

@@ -1,3 +1,4 @@
 pub mod Sums
 pub mod Fast
+pub mod InARow
 pub mod Without

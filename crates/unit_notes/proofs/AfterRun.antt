@@ -322,30 +322,30 @@ is_start kind rows size each few =
 
 -- ---- the earliest place
 
-least_at : (xs : List ℕ) (b : ℕ) → list_all (λ y. nat_le b y) xs ≡ true → (j : ℕ) → j < length xs → b ≤ slice_index_or xs j 0
+least_at : (xs : List Held) (b : ℕ) → list_all (λ y. nat_le b y.begin) xs ≡ true → (j : ℕ) → j < length xs → b ≤ (held_at xs j).begin
 least_at [] b all j below = absurd (omega (arith, below))
-least_at (x ∷ xs) b all zero below = leb-true b x (and-first (nat_le b x) (list_all (λ y. nat_le b y) xs) all)
-least_at (x ∷ xs) b all (suc j) below = least_at xs b (and-second (nat_le b x) (list_all (λ y. nat_le b y) xs) all) j (omega (arith, below))
+least_at (x ∷ xs) b all zero below = leb-true b x.begin (and-first (nat_le b x.begin) (list_all (λ y. nat_le b y.begin) xs) all)
+least_at (x ∷ xs) b all (suc j) below = least_at xs b (and-second (nat_le b x.begin) (list_all (λ y. nat_le b y.begin) xs) all) j (omega (arith, below))
 
 -- what is no more than the least is no more than any
-less_all : (xs : List ℕ) (b c : ℕ) → c ≤ b → list_all (λ y. nat_le b y) xs ≡ true → list_all (λ y. nat_le c y) xs ≡ true
+less_all : (xs : List Held) (b c : ℕ) → c ≤ b → list_all (λ y. nat_le b y.begin) xs ≡ true → list_all (λ y. nat_le c y.begin) xs ≡ true
 less_all [] b c le all = refl
 less_all (x ∷ xs) b c le all =
-    let here : b ≤ x = leb-true b x (and-first (nat_le b x) (list_all (λ y. nat_le b y) xs) all) in
-    rw (le-leb c x (omega (arith, le, here))) (less_all xs b c le (and-second (nat_le b x) (list_all (λ y. nat_le b y) xs) all))
+    let here : b ≤ x.begin = leb-true b x.begin (and-first (nat_le b x.begin) (list_all (λ y. nat_le b y.begin) xs) all) in
+    rw (le-leb c x.begin (omega (arith, le, here))) (less_all xs b c le (and-second (nat_le b x.begin) (list_all (λ y. nat_le b y.begin) xs) all))
 
-pub first_of_least : (begins : List ℕ) (i : ℕ) → earliest (λ (b : ℕ). b) begins ≡ Some i → IsEarliest (length begins) (λ j. slice_index_or begins j 0) i
-first_of_least begins i is =
-    let found = position-Some (λ (x : ℕ). list_all (λ y. nat_le x y) begins) begins i 0 is in
+pub first_of_least : (held : List Held) (i : ℕ) → earliest (λ h. h.begin) held ≡ Some i → IsEarliest (length held) (λ j. (held_at held j).begin) i
+first_of_least held i is =
+    let found = position-Some (λ (x : Held). list_all (λ y. nat_le x.begin y.begin) held) held i none_held is in
     record {
       below = found.0;
-      least = least_at begins (slice_index_or begins i 0) found.1;
-      first = λ j before. less j (nat_lt (slice_index_or begins i 0) (slice_index_or begins j 0)) refl (found.2 j before) found.1;
+      least = least_at held (held_at held i).begin found.1;
+      first = λ j before. less j (nat_lt (held_at held i).begin (held_at held j).begin) refl (found.2 j before) found.1;
     }
   where
-    less : (j : ℕ) (b : Bool) → nat_lt (slice_index_or begins i 0) (slice_index_or begins j 0) ≡ b → list_all (λ y. nat_le (slice_index_or begins j 0) y) begins ≡ false
-        → list_all (λ y. nat_le (slice_index_or begins i 0) y) begins ≡ true → slice_index_or begins i 0 < slice_index_or begins j 0
-    less j true is_less failed all = ltb-true (slice_index_or begins i 0) (slice_index_or begins j 0) is_less
+    less : (j : ℕ) (b : Bool) → nat_lt (held_at held i).begin (held_at held j).begin ≡ b → list_all (λ y. nat_le (held_at held j).begin y.begin) held ≡ false
+        → list_all (λ y. nat_le (held_at held i).begin y.begin) held ≡ true → (held_at held i).begin < (held_at held j).begin
+    less j true is_less failed all = ltb-true (held_at held i).begin (held_at held j).begin is_less
     less j false more failed all =
-        let passes = less_all begins (slice_index_or begins i 0) (slice_index_or begins j 0) (ltb-false (slice_index_or begins i 0) (slice_index_or begins j 0) more) all in
+        let passes = less_all held (held_at held i).begin (held_at held j).begin (ltb-false (held_at held i).begin (held_at held j).begin more) all in
         absurd (let wrong : true ≡ false = sym passes ∙ failed in cc)

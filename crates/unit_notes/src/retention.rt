@@ -1,9 +1,9 @@
-ghost use Rattle.std.specs.Prelude.{◌≡◌, ℕ, ◌≤◌, false, Some, List, length, map, slice_index_or, All};
+ghost use Rattle.std.specs.Prelude.{◌≡◌, ℕ, ◌≤◌, false, Some, List, length, map, All};
 ghost use Rattle.gated_ring.specs.Earliest.{IsEarliest};
 ghost use Rattle.trace_model.specs.declared.Card.{Card};
 ghost use Rattle.event_model.specs.declared.entries.Held.{Held};
 ghost use Rattle.event_model.specs.Kinds.{purpose_of, is_by_day, places_of};
-ghost use Rattle.event_model.specs.Places.{earliest, noted};
+ghost use Rattle.event_model.specs.Places.{earliest, held_at, noted};
 ghost use Rattle.event_model.specs.Kept.{all_noted};
 ghost use Rattle.event_model.specs.Events.{Event};
 ghost use Rattle.side_model.specs.Tables.{held_in, held_of, AreNoted};
@@ -31,8 +31,8 @@ pub fn empty_places_are_a_start()
     ensures { (kind : ℕ) (rows : List (List ℕ)) → length rows ≡ places_of kind → All (λ e. (held_in kind e).begin ≡ 0) rows → All (λ c. c.similar ≤ 255) (counted_rows kind rows) → IsStart kind rows }
 {}
 
-/// The place of the earliest is the first of those with the least begin; an empty one has the begin 0. On a card each
-/// event takes this place.
+/// The place of the earliest held event, which event_model's `place_of` gives to one of a new day, is the first of those with the
+/// least begin; an empty one has the begin 0. The place that each event takes on a card is told by the same word.
 pub fn the_earliest_place_is_the_first_of_the_least()
-    ensures { (begins : List ℕ) (i : ℕ) → earliest (λ b. b) begins ≡ Some i → IsEarliest (length begins) (λ j. slice_index_or begins j 0) i }
+    ensures { (held : List Held) (i : ℕ) → earliest (λ h. h.begin) held ≡ Some i → IsEarliest (length held) (λ j. (held_at held j).begin) i }
 {}

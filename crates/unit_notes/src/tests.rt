@@ -465,6 +465,8 @@ fn more_overs<M: Medium>(rt: &impl Abort, memory: &UnitMemory, unit: &mut M) -> 
         entry,
         [7, 4, 0x4B, 0x8B, 3, 0x80, 0x4B, 0x8B, 3, 0xBC, 100, 100]
     );
+    let counts: [u8; 8] = bytes(unit, 572)?;
+    assert_eq!(rt; counts, [0x4B, 0x8B, 0x03, 0x80, 0, 0, 0, 1]);
     // of equal averages the held one stays, and counts the other
     note_other(memory, unit, START + 1, 100)?;
     assert_eq!(rt; two_overs(unit)?, [0x80, 100, 2, 0, 0, 0]);

@@ -1,14 +1,14 @@
 use Rattle.std.proofs.Common.{◌≡◌, ◌≢◌, ℕ, ◌<◌, true, false, Option, Some, None, IfSome, List, refl, ap, sym, subst, ◌∙◌, arith}
-use Rattle.std.specs.Prelude.{is_err, IsTrue, not, ◌&&◌, ◌==◌}
-use Rattle.tach_media.proofs.Runs.{starts, no_reads, ok_gives}
+use Rattle.std.specs.Prelude.{is_err, IsTrue, OnOk, not, ◌&&◌, ◌==◌}
+use Rattle.tach_media.proofs.Runs.{starts, no_reads, ok_gives, on_ok}
 use Rattle.event_model.specs.declared.entries.Span.{Span}
 use Rattle.event_model.specs.Kinds.{purpose_of, purpose_number, is_event}
 use Rattle.unit_notes.specs.Entries.{fault_bytes}
 use Rattle.unit_notes.specs.Journal.{LeavesJournal}
 use Rattle.unit_notes.specs.Noting.{IsNotingEvent, IsEventNoted}
 use Rattle.tach_media.specs.Medium.{LeavesOnly}
-use Rattle.event_notes.specs.Noting.{ended_in, AreNotedBy}
-use Rattle.event_notes.proofs.Calling.{still-unit, none-by, bare-by}
+use Rattle.event_notes.specs.Noting.{ended_in, AreNotedBy, HasBare, LeavesPlaces}
+use Rattle.event_notes.proofs.Calling.{still-unit, none-by, bare-by, bare-done, bare-none, bare-aside}
 use Rattle.event_notes.proofs.notes.note_bare.Goals as goal
 
 pub note_event-requires-clause-kind : goal.note_event-requires-clause-kind
@@ -43,3 +43,22 @@ returns-in-None-clause-journal g c = starts (g.M.Medium.state c.args.unit.now) L
 
 pub returns-in-None-clause-cause : goal.returns-in-None-clause-cause
 returns-in-None-clause-cause g c = (no_reads (g.M.Medium.state c.args.unit.now) c.requires.works).cause
+
+pub returns-in-Some-clause-bare : goal.returns-in-Some-clause-bare
+returns-in-Some-clause-bare g c =
+    let v = c.bare.result in
+    subst (λ (o : Option Span). OnOk c.note_event.result (IfSome (g.M.Medium.state c.args.unit.now).image (λ x. IfSome (g.M.Medium.state c.note_event.new.unit).image (λ y. HasBare o x y)))) (sym c.in-Some.is)
+    (on_ok c.note_event.result (λ fine. bare-done c.in-Some.span v (g.met.M.Medium.coherent c.args.unit.now) c.requires.unit c.bare.ensures.event c.bare.ensures.begin_fits c.bare.ensures.end_fits
+    (subst (λ (k : ℕ). IfSome (g.M.Medium.state c.args.unit.now).image (λ x. IfSome (g.M.Medium.state c.note_event.new.unit).image (IsEventNoted k (fault_bytes v) x))) c.bare.ensures.kind (ok_gives c.note_event.result c.note_event.ensures.noted fine))))
+
+pub returns-in-Some-clause-aside : goal.returns-in-Some-clause-aside
+returns-in-Some-clause-aside g c =
+    let v = c.bare.result in
+    bare-aside (fault_bytes v) (subst (λ (k : ℕ). LeavesOnly (g.M.Medium.state c.args.unit.now) (g.M.Medium.state c.note_event.new.unit) (IsNotingEvent k (fault_bytes v))) c.bare.ensures.kind c.note_event.ensures.moments)
+
+pub returns-in-None-clause-bare : goal.returns-in-None-clause-bare
+returns-in-None-clause-bare g c =
+    subst (λ (o : Option Span). IfSome (g.M.Medium.state c.args.unit.now).image (λ x. IfSome (g.M.Medium.state c.args.unit.now).image (λ y. HasBare o x y))) (sym c.in-None.is) (bare-none (g.M.Medium.state c.args.unit.now))
+
+pub returns-in-None-clause-aside : goal.returns-in-None-clause-aside
+returns-in-None-clause-aside g c = starts (g.M.Medium.state c.args.unit.now) (LeavesPlaces 0x07)

@@ -2,7 +2,7 @@ use Rattle.std.proofs.Common.{◌≡◌, Bool, true, sym, subst, rules}
 use Rattle.std.specs.Prelude.{is_err}
 use Rattle.tach_media.proofs.Runs.{cause_after}
 use Rattle.event_notes.specs.Noting.{AreNotedBy, ended_in}
-use Rattle.event_notes.proofs.Calling.{first-by, both-by, journal-then}
+use Rattle.event_notes.proofs.Calling.{first-by, both-by, journal-then, first-order, then-order}
 use Rattle.event_notes.proofs.notes.note_ended.Goals as goal
 
 pub note_over-requires-clause-works : goal.note_over-requires-clause-works
@@ -22,3 +22,9 @@ returns-clause-journal g c = journal-then (g.met.M.Medium.coherent c.args.unit.n
 
 pub returns-clause-cause : goal.returns-clause-cause
 returns-clause-cause g c = cause_after c.in_ok-note_bare.ensures.cause c.note_over.ensures.cause
+
+pub returns-in_err-note_bare-clause-order : goal.returns-in_err-note_bare-clause-order
+returns-in_err-note_bare-clause-order g c = first-order c.args.bare c.note_bare.ensures.aside
+
+pub returns-clause-order : goal.returns-clause-order
+returns-clause-order g c = then-order c.args.bare c.note_bare.ensures.aside c.in_ok-note_bare.ensures.bare c.note_over.ensures.aside

@@ -2,9 +2,10 @@ use Rattle.std.proofs.Common.{◌≡◌, ◌≢◌, rules, ℕ, ◌<◌, ◌^◌
 use Rattle.std.specs.Prelude.{is_err}
 use Rattle.tach_media.proofs.Runs.{starts, no_reads, ok_gives}
 use Rattle.event_model.specs.declared.entries.Over.{Over}
+use Rattle.unit_notes.specs.Entries.{over_bytes}
 use Rattle.unit_notes.specs.Journal.{LeavesJournal}
-use Rattle.event_notes.specs.Noting.{ended_in, AreNotedBy}
-use Rattle.event_notes.proofs.Calling.{still-unit, none-by, over-by}
+use Rattle.event_notes.specs.Noting.{ended_in, AreNotedBy, LeavesPlaces}
+use Rattle.event_notes.proofs.Calling.{still-unit, none-by, over-by, over-aside}
 use Rattle.event_notes.proofs.notes.note_over.Goals as goal
 
 pub note_over-requires-clause-begin : goal.note_over-requires-clause-begin
@@ -34,3 +35,10 @@ returns-in-None-clause-journal g c = starts (g.M.Medium.state c.args.unit.now) L
 
 pub returns-in-None-clause-cause : goal.returns-in-None-clause-cause
 returns-in-None-clause-cause g c = (no_reads (g.M.Medium.state c.args.unit.now) c.requires.works).cause
+
+pub returns-in-Some-clause-aside : goal.returns-in-Some-clause-aside
+returns-in-Some-clause-aside g c =
+    over-aside c.in-Some.over.begin (over_bytes c.in-Some.over c.no_card.result) (g.met.M.Medium.coherent c.args.unit.now) c.requires.unit c.note_over.ensures.moments
+
+pub returns-in-None-clause-aside : goal.returns-in-None-clause-aside
+returns-in-None-clause-aside g c = starts (g.M.Medium.state c.args.unit.now) (LeavesPlaces 0x04)
