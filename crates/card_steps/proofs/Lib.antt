@@ -3,3 +3,4 @@ pub mod Stated
 pub mod Begun
 pub mod Again
 pub mod OnBegun
+pub mod Withdrawn

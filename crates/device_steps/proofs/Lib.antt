@@ -7,3 +7,5 @@ pub mod PowerBack
 pub mod PutIn
 pub mod Ported
 pub mod Noted
+pub mod Inserted
+pub mod Enters

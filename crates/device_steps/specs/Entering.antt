@@ -9,7 +9,12 @@ use Rattle.card_judge.specs.declared.fault.InsertFault.{InsertFault}
 use Rattle.card_judge.specs.declared.fault.InsertFault.TheVariants as card
 use Rattle.card_judge.specs.declared.looking.CardLook.{CardLook}
 use Rattle.card_judge.specs.Judged.{IsLook}
+use Rattle.trace_model.specs.declared.Card.{Card}
 use Rattle.card_model.specs.Days.{AreDays}
+use Rattle.card_model.specs.Changes.{trimmed}
+use Rattle.card_image.specs.Own.{own_sizes, own_number}
+use Rattle.card_session.specs.Repairs.{BeginsLater, lacked_by}
+use Rattle.device_steps.specs.Rule.{Both, number_of}
 use Rattle.card_image.specs.Fields.{card_days, card_number, end_mark, session_time}
 use Rattle.card_image.specs.Judging.{first_bad_file, IsValid}
 use Rattle.card_image.specs.View.{card_view}
@@ -113,3 +118,11 @@ pub record IsInsertedWith (app : Application) (registration : Registration) (odo
   pub moments : LeavesOnly card_old card_new (IsCardInserting app registration odometer es now)
   pub settled : IsOk r → card_new.clock < last_count → IsSettled card_new
   pub cause : HasCause card_old card_new (card_failed r)
+
+-- What is known of a card that is put in, by these images of unit and card: it goes by these sizes, has the card's number, its days are days,
+-- and where its session was left open the first entry that it lacks lies on a day that it has, or on one behind the end mark's.
+pub record IsAsked (r : Both) (c : Card) (app : Application) (u x : List ℕ) : Type 0 where
+  pub sizes : own_sizes x ≡ app
+  pub number : own_number x ≡ number_of r c
+  pub ordered : AreDays 0 (card_days app x)
+  pub begins : 0 < session_time app x → BeginsLater (end_mark app x) (lacked_by app x (owed_on app u x)) (trimmed (end_mark app x) (card_days app x))
