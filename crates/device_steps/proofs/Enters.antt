@@ -49,6 +49,7 @@ use Rattle.device_steps.specs.declared.entering.Entered.{Entered}
 use Rattle.device_steps.specs.declared.entering.NotEntered.{NotEntered}
 use Rattle.device_steps.specs.Entering.{owed_on, IsAsked, IsEntering}
 use Rattle.device_steps.proofs.EntryOwed.{worked}
+use Rattle.device_steps.proofs.Passed.{valid-days}
 use Rattle.device_steps.specs.Rule.{Both, opened, number_of, unit_seen, card_seen, AnyString, CardHolds}
 use Rattle.device_steps.proofs.OnCard.{AnyStep, any-goes, own-is, session-is, mark-is, sizes-same}
 use Rattle.device_steps.proofs.Inserted.{inserting_open, inserted_open, inserting_shut, inserted_shut, bound_of, renews-mark}
@@ -217,7 +218,7 @@ module _ (r : Both) (c : Card) (s : Started) (due : ℕ) (b : Book) (marks : Lis
         (λ both.
         let known = at_image (λ x. IsValid app x × (AreDays 0 (card_days app x) → AreOwed now (owed_on app u x))) is
         (at_image (λ u. IfSome X.image (λ x. IsValid app x × (AreDays 0 (card_days app x) → AreOwed now (owed_on app u x)))) told both.3) in
-        by-insertion both.0 both.1 both.2 known.0 (known.1 asks.ordered))
+        by-insertion both.0 both.1 both.2 known.0 (known.1 (valid-days app sound x room_ known.0)))
         enters.begun
 
   -- at each exit

@@ -15,7 +15,8 @@ use Rattle.card_layout.specs.Application.{IsApplication}
 use Rattle.card_layout.specs.Files.{image_size_of}
 use Rattle.card_model.specs.Days.{Day}
 use Rattle.card_model.specs.Changes.{trimmed}
-use Rattle.card_retention.specs.Shown.{is_open}
+use Rattle.card_retention.specs.Expected.{is_newest}
+use Rattle.card_retention.specs.Shown.{is_open, sizes}
 use Rattle.card_retention.specs.Entries.{newest_minute, newest_word, closed_at as closed_on_card}
 use Rattle.card_image.specs.Fields.{card_days, end_mark, session_time, last_use}
 use Rattle.card_image.specs.Judging.{IsValid}
@@ -27,11 +28,13 @@ use Rattle.card_session.proofs.Ends.{inserted_moment}
 use Rattle.card_session.proofs.InsertingBooks.{lacked_follow, follow_from}
 use Rattle.card_session.proofs.InsertingSession.{open_session, closed_session, open_begun, closed_begun}
 use Rattle.card_session.proofs.Renewing.{Renews, newest_first, newest_end, ends_answered, ends_low, moments_low, closed_renews, closed_answered}
+use Rattle.card_session.proofs.Repairing.{lacked_many}
 use Rattle.card_session.proofs.Valid.{above_zero}
 use Rattle.history_model.specs.Presence.{closed_at}
 use Rattle.joint_rule.specs.Views.{newest_with, beyond}
 use Rattle.joint_rule.specs.Steps.{IsInserting, IsInserted, replayed, IsTrimming}
 use Rattle.joint_rule.proofs.Brought.{closed-same}
+use Rattle.device_steps.specs.Entering.{HasMarkedDay}
 use Rattle.device_steps.proofs.OnCard.{AnyStep, mark-is, session-is}
 
 -- ---- entries that a card lacks
@@ -108,11 +111,27 @@ renews-mark app x y renews = ⊎_elim
     (λ at. omega (arith, ap (λ (n : ℕ). n / 60) at, mark-is app x, mark-is app y, bound_of app x))
     renews.used
 
-beyond_open : (v : CardView) → 0 < v.session → beyond v ≡ 0
+pub beyond_open : (v : CardView) → 0 < v.session → beyond v ≡ 0
 beyond_open v some = ap (λ (b : Bool). cond b 0 v.word) (less_is 0 v.session some)
 
-beyond_shut : (v : CardView) → v.session ≡ 0 → beyond v ≡ v.word
+pub beyond_shut : (v : CardView) → v.session ≡ 0 → beyond v ≡ v.word
 beyond_shut v none = ap (λ (n : ℕ). cond (nat_lt 0 n) 0 v.word) none
+
+-- ---- the first entry that a card lacks lies on the day of its end mark, or behind it
+
+begins_by : (mark : ℕ) (es : List Entry) (days : List Day) → Follow mark es → AllByRecursion (λ e. 1440 ≤ e.minute) es → (is_newest (mark / 1440) (sizes days) ≡ true) ⊎ (mark < 1440) → BeginsLater mark es days
+begins_by mark [] days follow many marked = tt
+begins_by mark (e ∷ es) days follow many (inr none) = λ other. omega (arith, none, many.0)
+begins_by mark (e ∷ es) days follow many (inl there) = λ other. ⊎_elim (λ less. less) (λ late. absurd (clash other late)) (cases_lt (mark / 1440) (e.minute / 1440))
+  where
+    clash : is_newest (e.minute / 1440) (sizes days) ≡ false → e.minute / 1440 ≤ mark / 1440 → ⊥
+    clash other late =
+        let at : mark / 1440 ≡ e.minute / 1440 = omega (arith, late, follow.0) in
+        let both : is_newest (e.minute / 1440) (sizes days) ≡ true = ap (λ (n : ℕ). is_newest n (sizes days)) (sym at) ∙ there in
+        let no : false ≡ true = sym other ∙ both in cc
+
+pub marked_begins : (app : Application) (x : List ℕ) (now : ℕ) (es : List Entry) → AreOwed now es → HasMarkedDay app x → BeginsLater (end_mark app x) (lacked_by app x es) (trimmed (end_mark app x) (card_days app x))
+marked_begins app x now es are marked = begins_by (end_mark app x) (lacked_by app x es) (trimmed (end_mark app x) (card_days app x)) (lacked_follow 1439 (end_mark app x) es are.0) (lacked_many (end_mark app x) es are.0) marked
 
 -- ---- of a card whose session was left open
 
