@@ -3,4 +3,3 @@ pub mod Stated
 pub mod Begun
 pub mod Again
 pub mod OnBegun
-pub mod Withdrawn

@@ -139,8 +139,8 @@ module _ (app : Application) (sound : IsApplication app) (x : List ℕ) (valid :
   use_same : last_use app c ≡ last_use app x
   use_same = last_use_same app x c sound points left.vehicles
 
-  words_by : (oldest use session : ℕ) → List Day → Option ℕ
-  words_by oldest use session ds = first_failing (word_checks app.activity oldest (use / 60) session ds)
+  words_by : (oldest last session : ℕ) → List Day → Option ℕ
+  words_by oldest last session ds = first_failing (word_checks app.activity oldest (last / 60) session ds)
 
   words_same : words_by (oldest_pointer (day_string app) c) (last_use app c) (session_time app c) (card_days app c) ≡ words_by (oldest_pointer (day_string app) x) (last_use app x) (session_time app x) (card_days app x)
   words_same =
