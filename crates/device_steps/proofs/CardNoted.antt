@@ -188,7 +188,7 @@ module _ (r : Both) (c : Card) (b : Book) (app : Application) (sound : IsApplica
   was_since : (t : ℕ) (w : CardView) → t ≤ X.clock → (card_seen Y).left_since t w → (card_seen X).left_since t w
   was_since t w le on = ⊎_elim (λ was. was) (λ never. absurd never.2) (nothing.since t w le on)
 
-  module _ {U : State} where
+  module _ (U : State) where
     pub noted-rests : (z : Standing) → CardRests r c b z U X → CardRests r c b z U Y
     noted-rests z rests = look-dark c (opened r c).start AnyString {U = unit_seen r U} {X = card_seen X} {Y = card_seen Y} (opened r c).began b z nothing rests
 

@@ -49,43 +49,44 @@ nowadays s = record { may_leave = s.may_leave; left_since = λ t u. ⊥; clock =
 abbrev alone : Card → Seen UnitView → Seen UnitView
 alone c s = record { may_leave = λ v. (u : UnitView) × s.may_leave u × (only c u ≡ v); left_since = λ t u. ⊥; clock = s.clock; works = s.works }
 
+-- from the one to the other
+abbrev Drops : Card → UnitView → UnitView → Type 0
+Drops c u v = only c u ≡ v
+
+abbrev Takes : Card → UnitView → UnitView → Type 0
+Takes c u v = only c v ≡ u
+
+of_dropped : (c : Card) (u v : UnitView) → Drops c u v → (v.last ≡ u.last) × (row c v ≡ row c u)
+of_dropped c u v is = (ap (λ (w : UnitView). w.last) (sym is) ∙ only_last c u, ap (row c) (sym is) ∙ only_row c u)
+
+of_taken : (c : Card) (u v : UnitView) → Takes c u v → (v.last ≡ u.last) × (row c v ≡ row c u)
+of_taken c u v is = (sym (only_last c v) ∙ ap (λ (w : UnitView). w.last) is, sym (only_row c v) ∙ ap (row c) is)
+
 module _ (r : Both) (c : Card) (b : Book) where
   -- a card's rule asks what the unit shows now
-  module _ {U : State} {X : State} (z : Standing) where
+  module _ (U X : State) (z : Standing) where
     rests-now : CardRests r c b z U X → CardDark c (opened r c).start AnyString (opened r c).began b z (nowadays (unit_seen r U)) (card_seen X)
     rests-now rests = record { meets = rests.meets; later = rests.later; since = rests.since }
 
     now-rests : CardDark c (opened r c).start AnyString (opened r c).began b z (nowadays (unit_seen r U)) (card_seen X) → CardRests r c b z U X
     now-rests rests = record { meets = rests.meets; later = rests.later; since = rests.since }
 
-  stands-now : {U X : State} (z : Standing) (d : List Entry) → Stands c (opened r c).start (opened r c).began z d (unit_seen r U) (card_seen X) → Stands c (opened r c).start (opened r c).began z d (nowadays (unit_seen r U)) (card_seen X)
-  stands-now Out d so = tt
-  stands-now (In session newest) d so = so
-  stands-now (Torn session newest floor) d so = so
+  stands-now : (U X : State) (z : Standing) (d : List Entry) → Stands c (opened r c).start (opened r c).began z d (unit_seen r U) (card_seen X) → Stands c (opened r c).start (opened r c).began z d (nowadays (unit_seen r U)) (card_seen X)
+  stands-now U X Out d so = tt
+  stands-now U X (In session newest) d so = so
+  stands-now U X (Torn session newest floor) d so = so
 
-  now-stands : {U X : State} (z : Standing) (d : List Entry) → Stands c (opened r c).start (opened r c).began z d (nowadays (unit_seen r U)) (card_seen X) → Stands c (opened r c).start (opened r c).began z d (unit_seen r U) (card_seen X)
-  now-stands Out d so = tt
-  now-stands (In session newest) d so = so
-  now-stands (Torn session newest floor) d so = so
+  now-stands : (U X : State) (z : Standing) (d : List Entry) → Stands c (opened r c).start (opened r c).began z d (nowadays (unit_seen r U)) (card_seen X) → Stands c (opened r c).start (opened r c).began z d (unit_seen r U) (card_seen X)
+  now-stands U X Out d so = tt
+  now-stands U X (In session newest) d so = so
+  now-stands U X (Torn session newest floor) d so = so
 
-  module _ {U X : State} where
-    abbrev Drops : UnitView → UnitView → Type 0
-    Drops u v = only c u ≡ v
-
-    dropped : LeavesViews (nowadays (unit_seen r U)) (alone c (unit_seen r U)) Drops
+  module _ (U X : State) where
+    dropped : LeavesViews (nowadays (unit_seen r U)) (alone c (unit_seen r U)) (Drops c)
     dropped = record { later = omega arith; since = λ t w le never. absurd never; now = λ w on. inr (on.0, on.1, on.2) }
 
-    abbrev Takes : UnitView → UnitView → Type 0
-    Takes u v = only c v ≡ u
-
-    taken : LeavesViews (alone c (unit_seen r U)) (nowadays (unit_seen r U)) Takes
+    taken : LeavesViews (alone c (unit_seen r U)) (nowadays (unit_seen r U)) (Takes c)
     taken = record { later = omega arith; since = λ t w le never. absurd never; now = λ w on. inr (only c w, (w, on, refl), refl) }
-
-    of_dropped : (u v : UnitView) → Drops u v → (v.last ≡ u.last) × (row c v ≡ row c u)
-    of_dropped u v is = (ap (λ (w : UnitView). w.last) (sym is) ∙ only_last c u, ap (row c) (sym is) ∙ only_row c u)
-
-    of_taken : (u v : UnitView) → Takes u v → (v.last ≡ u.last) × (row c v ≡ row c u)
-    of_taken u v is = (sym (only_last c v) ∙ ap (λ (w : UnitView). w.last) is, sym (only_row c v) ∙ ap (row c) is)
 
     abbrev RuleAlone : (z : Standing) (m d : List Entry) → Type 0
     RuleAlone z m d = CardRule c (opened r c).start AnyString (opened r c).began b z m d (alone c (unit_seen r U)) (card_seen X)
@@ -95,16 +96,16 @@ module _ (r : Both) (c : Card) (b : Book) where
 
     holds-alone : (z : Standing) (m d : List Entry) → CardHolds r c b z m d U X → RuleAlone z m d
     holds-alone z m d rule =
-        rule-beside c (opened r c).start AnyString {U = nowadays (unit_seen r U)} {V = alone c (unit_seen r U)} {X = card_seen X} Drops (opened r c).began b z m d dropped of_dropped
-        (record { dark = rests-now z rule.dark; cells = rule.cells; stands = stands-now z d rule.stands })
+        rule-beside c (opened r c).start AnyString {U = nowadays (unit_seen r U)} {V = alone c (unit_seen r U)} {X = card_seen X} (Drops c) (opened r c).began b z m d dropped (of_dropped c)
+        (record { dark = rests-now U X z rule.dark; cells = rule.cells; stands = stands-now U X z d rule.stands })
 
     alone-rests : (z : Standing) → RestsAlone z → CardRests r c b z U X
-    alone-rests z rests = now-rests z (dark-beside c (opened r c).start AnyString {U = alone c (unit_seen r U)} {V = nowadays (unit_seen r U)} {X = card_seen X} Takes (opened r c).began b z taken of_taken rests)
+    alone-rests z rests = now-rests U X z (dark-beside c (opened r c).start AnyString {U = alone c (unit_seen r U)} {V = nowadays (unit_seen r U)} {X = card_seen X} (Takes c) (opened r c).began b z taken (of_taken c) rests)
 
     alone-holds : (z : Standing) (m d : List Entry) → RuleAlone z m d → CardHolds r c b z m d U X
     alone-holds z m d rule =
-        let now = rule-beside c (opened r c).start AnyString {U = alone c (unit_seen r U)} {V = nowadays (unit_seen r U)} {X = card_seen X} Takes (opened r c).began b z m d taken of_taken rule in
-        record { dark = now-rests z now.dark; cells = now.cells; stands = now-stands z d now.stands }
+        let now = rule-beside c (opened r c).start AnyString {U = alone c (unit_seen r U)} {V = nowadays (unit_seen r U)} {X = card_seen X} (Takes c) (opened r c).began b z m d taken (of_taken c) rule in
+        record { dark = now-rests U X z now.dark; cells = now.cells; stands = now-stands U X z d now.stands }
 
 -- ---- the row of one card is begun
 
@@ -165,9 +166,9 @@ module _ (r : Both) (c : Card) (number : List ℕ) (named : number ≡ number_of
   pub taken-alone : (X : State) (s : Started) (due : ℕ) (b : Book) (marks : List Mark) → Holds s due b marks U → due ≤ session / 60 → 0 < session → (newest : ℕ) → CardHolds r c b Out [] [] U X → IsEntered (opened r c).start (opened r c).began session newest (card_seen X) → (failed : Bool)
       → (failed ≡ false → EndsWith (alone c (unit_seen r U)) (alone c (unit_seen r V)) (IsBegun c session)) → IsRowTaken r c b session newest failed V X
   taken-alone X s due b marks h late positive newest rule entered failed ends_ = record {
-    lit = λ well. alone-holds r c b (In session newest) [] []
-        (begin-card c (opened r c).start AnyString (opened r c).began b {U = alone c (unit_seen r U)} {V = alone c (unit_seen r V)} {X = card_seen X} session newest early entered begins any-later (ends_ well) positive (holds-alone r c b Out [] [] rule));
-    dark = alone-rests r c b Out (begin-dark c (opened r c).start AnyString (opened r c).began b {U = alone c (unit_seen r U)} {V = alone c (unit_seen r V)} {X = card_seen X} session newest early entered begins (holds-alone r c b Out [] [] rule).dark);
+    lit = λ well. alone-holds r c b V X (In session newest) [] []
+        (begin-card c (opened r c).start AnyString (opened r c).began b {U = alone c (unit_seen r U)} {V = alone c (unit_seen r V)} {X = card_seen X} session newest early entered begins any-later (ends_ well) positive (holds-alone r c b U X Out [] [] rule));
+    dark = alone-rests r c b V X Out (begin-dark c (opened r c).start AnyString (opened r c).began b {U = alone c (unit_seen r U)} {V = alone c (unit_seen r V)} {X = card_seen X} session newest early entered begins (holds-alone r c b U X Out [] [] rule).dark);
   }
     where
       early : (w : UnitView) → (alone c (unit_seen r U)).may_leave w → w.last < session / 60

@@ -32,7 +32,7 @@ use Rattle.device_steps.specs.Rule.{Both, opened, number_of, unit_seen, card_see
 use Rattle.device_steps.proofs.OnCard.{own-is, session-is}
 use Rattle.device_steps.proofs.Inserted.{beyond_open, beyond_shut}
 
-module _ (start : Start) (r : Both) (c : Card) (b : Book) (now newest : ℕ) {U X : State} (same : card_start start c ≡ (opened r c).start) (none : b.maybe ≡ None) (rule : CardHolds r c b Out [] [] U X)
+module _ (start : Start) (r : Both) (c : Card) (b : Book) (now newest : ℕ) (U X : State) (same : card_start start c ≡ (opened r c).start) (none : b.maybe ≡ None) (rule : CardHolds r c b Out [] [] U X)
     (entered : IsEntered (opened r c).start (opened r c).began now newest (card_seen X)) (u x : List ℕ) (on : U.may_leave u) (there : X.may_leave x) (sure : All (λ i. i.minute ≤ last_kept u) b.sure) (late : last_kept u < now / 60) where
   abbrev brings : CardStart
   brings = (opened r c).start

@@ -8,8 +8,8 @@ use Rattle.joint_rule.specs.Rules.{Standing, Out}
 use Rattle.joint_rule.proofs.Pairs.{meets-out}
 use Rattle.device_steps.specs.Rule.{Both, opened, AnyString, CardHolds}
 
-pub torn-out : (r : Both) (c : Card) (b : Book) (z : Standing) (d : List Entry) {U X : State} → CardHolds r c b z [] d U X → CardHolds r c b Out [] [] U X
-torn-out r c b z d {U} {X} rule = record {
+pub torn-out : (r : Both) (c : Card) (b : Book) (z : Standing) (d : List Entry) (U X : State) → CardHolds r c b z [] d U X → CardHolds r c b Out [] [] U X
+torn-out r c b z d U X rule = record {
   dark = record {
     meets = λ u x on there. meets-out c (opened r c).start AnyString (all b) z u x (λ full next n le is. tt) (rule.dark.meets u x on there);
     later = rule.dark.later;

@@ -155,6 +155,14 @@ fn enter_by<M: Medium, C: Medium>(
     }
 }
 
+// How many bytes a registration has, which is 15.
+fn length_of(registration: &Registration) -> usize
+    ensures { length registration.now.0 ≡ 15 }
+{
+    let bytes: &[u8] = &registration.0;
+    bytes.len()
+}
+
 /// Puts in a card of these sizes: it is judged, the entries that the unit owes to it are put on it, and a session is opened. The
 /// row of its number is not begun yet: that comes behind the note of the insertion (`begin`).
 ///
@@ -184,14 +192,16 @@ pub fn enter<M: Medium, C: Chip, D: Chip>(
     ensures enters { IsEntering app registration.now odometer.0 now.0 (M.state unit.old) (M.state unit.new) (C.state card.old) (C.state card.new) result }
     ensures holds { (s : Started) (due : ℕ) (b : Book) (marks : List Mark) → Holds s due b marks (M.state unit.old) → Holds s due b marks (M.state unit.new) }
     ensures other { (r : Both) (b : Book) (z : Standing) (m d : List Entry) → CardHolds r (other which) b z m d (M.state unit.old) (D.state others.now) → CardHolds r (other which) b z m d (M.state unit.new) (D.state others.now) }
-    ensures mine { length registration.now.0 ≡ 15 → (r : Both) (s : Started) (due : ℕ) (b : Book) (marks : List Mark) → Holds s due b marks (M.state unit.old) → b.maybe ≡ None → due ≤ now.0 / 60 → is_some (M.state unit.old).image ≡ true → is_some (C.state card.old).image ≡ true
+    ensures mine { (r : Both) (s : Started) (due : ℕ) (b : Book) (marks : List Mark) → Holds s due b marks (M.state unit.old) → b.maybe ≡ None → due ≤ now.0 / 60 → is_some (M.state unit.old).image ≡ true → is_some (C.state card.old).image ≡ true
         → IfSome (M.state unit.old).image (λ u. IfSome (C.state card.old).image (IsAsked r which app u)) → CardHolds r which b Out [] [] (M.state unit.old) (C.state card.old) → CardHolds r which b Out [] [] (M.state unit.new) (C.state card.new) }
-    ensures entered { length registration.now.0 ≡ 15 → (r : Both) (s : Started) (due : ℕ) (b : Book) (marks : List Mark) → Holds s due b marks (M.state unit.old) → b.maybe ≡ None → due ≤ now.0 / 60 → is_some (M.state unit.old).image ≡ true → is_some (C.state card.old).image ≡ true
+    ensures entered { (r : Both) (s : Started) (due : ℕ) (b : Book) (marks : List Mark) → Holds s due b marks (M.state unit.old) → b.maybe ≡ None → due ≤ now.0 / 60 → is_some (M.state unit.old).image ≡ true → is_some (C.state card.old).image ≡ true
         → IfSome (M.state unit.old).image (λ u. IfSome (C.state card.old).image (IsAsked r which app u)) → CardHolds r which b Out [] [] (M.state unit.old) (C.state card.old)
         → IfOk result (λ e. IsEntered (opened r which).start (opened r which).began now.0 e.session.minute (card_seen (C.state card.new))) }
     ensures port { IsPort app None (C.card card.new) (C.state card.new) }
+    ensures long { length registration.now.0 ≡ 15 }
     ensures most { (C.state card.new).clock ≤ (C.state card.old).clock + (DAYS_MOST + 84) }
 {
+    let _bytes = length_of(registration);
     let mut port = Port::resume(&mut *card, app);
     enter_by(unit, journal, &mut port, &app, now, registration, odometer)
 }
