@@ -1,5 +1,5 @@
 -- A card is put in, or taken out: what its images show is a step of the joint rule.
-use Rattle.std.proofs.Common.{◌≡◌, ◌≢◌, inl, inr, ⊎_elim, ℕ, zero, suc, ◌+◌, ◌/◌, ◌^◌, ◌<◌, ◌≤◌, max, Bool, true, false, cond, Option, Some, None, List, [], ◌∷◌, ◌++◌, length, take, drop, filter, All, refl, ap, subst, ◌∙◌, sym, arith}
+use Rattle.std.proofs.Common.{◌≡◌, ◌≢◌, ◌⊎◌, inl, inr, ⊎_elim, ℕ, zero, suc, ◌+◌, ◌/◌, ◌%◌, ◌^◌, ◌<◌, ◌≤◌, max, Bool, true, false, cond, Option, Some, None, List, [], ◌∷◌, ◌++◌, length, take, drop, filter, All, refl, ap, subst, ◌∙◌, sym, arith}
 use Rattle.std.specs.Prelude.{nat_lt, nat_eq}
 use Rattle.std.specs.List.{AllByRecursion}
 use Rattle.std.proofs.Math.Seq.{take-append_seam, drop-append_seam}
@@ -50,14 +50,14 @@ filter_later m mark (e ∷ es) low follow =
 
 filter_lacked : (m mark : ℕ) (es : List Entry) → Follow m es → filter (λ e. nat_lt mark e.minute) es ≡ lacked mark es
 filter_lacked m mark [] follow = refl
-filter_lacked m mark (e ∷ es) follow = by (nat_lt mark e.minute) refl
+filter_lacked m mark (e ∷ es) follow = by (filter_lacked e.minute mark es follow.1) (nat_lt mark e.minute) refl
   where
     is_less : (m n : ℕ) → nat_lt m n ≡ true → m < n
     is_less m n is = grind (arith, nat_tests)
 
-    by : (b : Bool) → nat_lt mark e.minute ≡ b → cond b (e ∷ filter (λ (d : Entry). nat_lt mark d.minute) es) (filter (λ (d : Entry). nat_lt mark d.minute) es) ≡ cond b (e ∷ es) (lacked mark es)
-    by true is = ap (λ (l : List Entry). e ∷ l) (filter_later e.minute mark es (omega (arith, is_less mark e.minute is)) follow.1)
-    by false is = filter_lacked e.minute mark es follow.1
+    by : filter (λ (d : Entry). nat_lt mark d.minute) es ≡ lacked mark es → (b : Bool) → nat_lt mark e.minute ≡ b → cond b (e ∷ filter (λ (d : Entry). nat_lt mark d.minute) es) (filter (λ (d : Entry). nat_lt mark d.minute) es) ≡ cond b (e ∷ es) (lacked mark es)
+    by rest true is = ap (λ (l : List Entry). e ∷ l) (filter_later e.minute mark es (omega (arith, is_less mark e.minute is)) follow.1)
+    by rest false is = rest
 
 -- the first of them are up to the end mark behind them, the others are later
 behind_up : (m : ℕ) (done rest : List Entry) → Follow m (done ++ rest) → AllByRecursion (λ e. e.minute ≤ mark_behind m done) done × (m ≤ mark_behind m done)

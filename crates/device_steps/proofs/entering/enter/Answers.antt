@@ -36,10 +36,10 @@ returns-clause-other g c = λ r b z m d rule. unit-read r (other c.args.which) b
 
 pub returns-clause-mine : goal.returns-clause-mine
 returns-clause-mine g c = λ r s due b marks h none late tells tells_card asked rule.
-    entering-rule r c.args.which s due b marks c.args.app c.requires.port.good c.args.registration.now c.length_of.ensures c.args.odometer.0 c.args.now.0 (omega (arith, c.requires.last)) h none late (g.met.M.Medium.coherent c.args.unit.now) (g.met.M.Medium.coherent c.enter_by.new.unit)
+    entering-rule r c.args.which s due b marks c.args.app c.requires.port.good c.args.registration.now c.length_of-bytes.ensures c.args.odometer.0 c.args.now.0 (omega (arith, c.requires.last)) h none late (g.met.M.Medium.coherent c.args.unit.now) (g.met.M.Medium.coherent c.enter_by.new.unit)
     (g.met.C.Chip.coherent c.args.card.now) (omega (arith, largest_image c.args.app c.requires.port.good, c.requires.port.size)) tells tells_card asked rule c.enter_by.result (returns-clause-enters g c)
 
 pub returns-clause-entered : goal.returns-clause-entered
 returns-clause-entered g c = λ r s due b marks h none late tells tells_card asked rule.
-    entered-answer r c.args.which s due b marks c.args.app c.requires.port.good c.args.registration.now c.length_of.ensures c.args.odometer.0 c.args.now.0 (omega (arith, c.requires.last)) h none late (g.met.M.Medium.coherent c.args.unit.now) (g.met.M.Medium.coherent c.enter_by.new.unit)
+    entered-answer r c.args.which s due b marks c.args.app c.requires.port.good c.args.registration.now c.length_of-bytes.ensures c.args.odometer.0 c.args.now.0 (omega (arith, c.requires.last)) h none late (g.met.M.Medium.coherent c.args.unit.now) (g.met.M.Medium.coherent c.enter_by.new.unit)
     (g.met.C.Chip.coherent c.args.card.now) (g.met.C.Chip.coherent _) (omega (arith, largest_image c.args.app c.requires.port.good, c.requires.port.size)) tells tells_card asked rule c.enter_by.result (returns-clause-enters g c)
