@@ -1,5 +1,51 @@
 ghost use Rattle.run_course.specs.Moments.{ABreakMoreIsSeen, AFindMoreIsSeen, ARefusalMoreIsNotSeen, LaterLinesChangeNoMoment, AnActionMoreIsActed, OneActionMore};
+ghost use Rattle.run_course.specs.Seconds.{ARunBegins, APowerOnFinds, APowerOnFails, ASecondGoesOn, ASecondBreaksOff, RulesSeeTheSecond, AMinuteStaysDark, AnOffLineIsDark, AnOffLineCuts};
 ghost use Rattle.run_course.specs.Presence.{SlotsAgree, SlotsTellWhoIsPresent, NobodySits, ACardIsPutIn, ACardIsTakenOut, PowerIsLost, ASecondHasGone, TheMinuteGoesOn, AMinuteEnds, TimePasses, MinutesAreKept, WhatWasKeptIsFound};
+
+/// A run begins with nothing kept.
+pub fn a_run_begins()
+    ensures { ARunBegins }
+{}
+
+/// Power is back: the last-kept minute is found, and it counts for all cuts of which nothing was known.
+pub fn a_power_on_finds()
+    ensures { APowerOnFinds }
+{}
+
+/// A power-on fails in the second with which power came.
+pub fn a_power_on_fails()
+    ensures { APowerOnFails }
+{}
+
+/// One second more with power, of which all decided minutes are kept.
+pub fn a_second_goes_on()
+    ensures { ASecondGoesOn }
+{}
+
+/// One second more that is a cut's: some of the minutes that it decides are kept, one more may be, or none was begun.
+pub fn a_second_breaks_off()
+    ensures { ASecondBreaksOff }
+{}
+
+/// What the rules of minutes see of a second with power.
+pub fn rules_see_the_second()
+    ensures { RulesSeeTheSecond }
+{}
+
+/// After a failed call the seconds up to the minute's end are dark.
+pub fn a_minute_stays_dark()
+    ensures { AMinuteStaysDark }
+{}
+
+/// An `off` line while there is no power.
+pub fn an_off_line_is_dark()
+    ensures { AnOffLineIsDark }
+{}
+
+/// An `off` line while there is power: the last second turns out to be a cut's.
+pub fn an_off_line_cuts()
+    ensures { AnOffLineCuts }
+{}
 
 /// What a log tells of a second with one break more.
 pub fn a_break_more_is_seen()
