@@ -7,3 +7,4 @@ pub mod Ties
 pub mod Core
 pub mod Told
 pub mod Steps
+pub mod Within
