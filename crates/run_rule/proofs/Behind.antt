@@ -1,25 +1,23 @@
 -- A card never runs ahead of the unit: each entry of its history that it holds stands in the unit's minutes.
-use Rattle.std.proofs.Common.{◌≡◌, ◌⊎◌, inl, inr, ⊎_elim, ℕ, ◌/◌, max, ◌<◌, ◌≤◌, Bool, true, false, cond, Option, Some, None, List, [], ◌∷◌, ◌++◌, All, Contains, refl, ap, subst, ◌∙◌, sym, arith, filter, nat_le}
+use Rattle.std.proofs.Common.{◌≡◌, inl, inr, ⊎_elim, ℕ, ◌/◌, ◌<◌, ◌≤◌, Bool, true, false, cond, Option, Some, None, List, [], ◌∷◌, ◌++◌, All, Contains, refl, ap, subst, ◌∙◌, sym, arith, filter, nat_le}
 use Rattle.std.specs.Prelude.{option_to_list, is_some}
 use Rattle.std.proofs.lemmas.Bool.Decides.{nat_tests}
-use Rattle.std.proofs.lemmas.List.Elements.{All-nil, All-cons, All-head, All-tail, All-append, All-weaker, All-map, All-filter, All-contains, All-contains_itself, filter_passes, Contains-append_left, Contains-append_right, Contains-append_cases, Contains-push_cases}
+use Rattle.std.proofs.lemmas.List.Elements.{All-nil, All-cons, All-head, All-tail, All-append, All-weaker, All-map, All-filter, All-contains, All-contains_itself, filter_passes, Contains-append_left, Contains-append_right, Contains-append_cases}
 use Rattle.activity_codec.specs.declared.entries.Entry.{Entry}
 use Rattle.activity_codec.specs.declared.values.Slot.{Slot}
 use Rattle.activity_codec.specs.declared.values.Slot.TheVariants.{Driver, CoDriver}
 use Rattle.trace_model.specs.declared.Card.{Card}
-use Rattle.view_model.specs.declared.State.{State as SlotState}
-use Rattle.unit_model.specs.Days.{UnitMinute, ShownDay, minutes_of}
+use Rattle.unit_model.specs.Days.{UnitMinute, minutes_of}
 use Rattle.unit_model.specs.Image.{recorded, unit_minutes, last_kept}
 use Rattle.unit_model.specs.Decoding.{Decodes}
 use Rattle.log_model.specs.Slots.{same_card}
 use Rattle.history_model.specs.Minutes.{HistoryMinute, Seat, card_history, on_card, entry_in, is_crew, up_to}
-use Rattle.history_model.specs.Presence.{CardStart}
-use Rattle.history_model.specs.Book.{Book, all, Rising, IsMark}
+use Rattle.history_model.specs.Book.{Rising, IsMark}
 use Rattle.history_model.proofs.Books.{history-append, history-one, history-none, contains-up_to}
 use Rattle.card_retention.specs.Retains.{entries_from}
 use Rattle.card_image.specs.View.{CardView, card_view}
 use Rattle.card_image.specs.Own.{own_view, own_sizes, KeepsOf}
-use Rattle.joint_rule.specs.Views.{UnitView, row, owed, owed_in, counts, is_session}
+use Rattle.joint_rule.specs.Views.{UnitView, row, owed, counts, is_session}
 use Rattle.joint_rule.specs.Filling.{seen_by_unit, seat_state, FillsDays}
 use Rattle.joint_rule.proofs.Brought.{brought-marked}
 use Rattle.safety_model.specs.Recording.{Recording}

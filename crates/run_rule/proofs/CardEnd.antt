@@ -1,5 +1,5 @@
 -- What is carried of a card gives its part of the theorem.
-use Rattle.std.proofs.Common.{◌≡◌, ◌⊎◌, inl, inr, ⊎_elim, ℕ, ◌+◌, ◌/◌, max, ◌<◌, ◌≤◌, Bool, true, false, Option, Some, None, List, [], ◌∷◌, ◌++◌, All, Contains, refl, ap, subst, ◌∙◌, sym, arith, filter, nat_le, append_assoc}
+use Rattle.std.proofs.Common.{◌≡◌, ⊎_elim, ℕ, ◌<◌, ◌≤◌, Bool, true, false, List, [], ◌∷◌, ◌++◌, All, Contains, refl, ap, subst, ◌∙◌, sym, arith, nat_le, append_assoc}
 use Rattle.std.specs.Prelude.{option_to_list}
 use Rattle.std.proofs.lemmas.Bool.Decides.{nat_tests}
 use Rattle.std.proofs.lemmas.List.{append-nil}
@@ -12,12 +12,12 @@ use Rattle.log_model.specs.declared.lines.Mark.{Mark}
 use Rattle.card_model.specs.Days.{AreDays}
 use Rattle.card_retention.specs.Retains.{Rise}
 use Rattle.card_image.specs.Fields.{card_days}
-use Rattle.card_image.specs.View.{CardView, Held}
+use Rattle.card_image.specs.View.{Held}
 use Rattle.card_image.specs.Own.{own_view, own_sizes, own_number, KeepsFrom, KeepsOf}
 use Rattle.history_model.specs.Minutes.{HistoryMinute, card_history, up_to}
 use Rattle.history_model.specs.Presence.{CardStart, card_start}
 use Rattle.history_model.specs.Book.{Book, all}
-use Rattle.history_model.proofs.Books.{history-append, history-none, up_to-all, up_to-one}
+use Rattle.history_model.proofs.Books.{history-append, up_to-all, up_to-one}
 use Rattle.history_model.proofs.Filters.{filter-none, all-front, all-back}
 use Rattle.joint_rule.specs.Views.{UnitView, owed, next_of}
 use Rattle.joint_rule.specs.Device.{Seen}

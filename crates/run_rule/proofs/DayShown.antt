@@ -1,15 +1,13 @@
 -- A minute of the history stands in each image of the unit that has its day.
-use Rattle.std.proofs.Common.{◌≡◌, ◌⊎◌, inl, inr, ⊎_elim, ℕ, zero, suc, ◌+◌, ◌-◌, ◌*◌, ◌/◌, ◌%◌, ◌<◌, ◌≤◌, Bool, true, false, cond, List, [], ◌∷◌, ◌++◌, All, Contains, length, map, drop, refl, ap, subst, ◌∙◌, sym, arith}
-use Rattle.std.specs.Prelude.{◌==◌, Option, option_to_list, fold, nat_eq}
+use Rattle.std.proofs.Common.{◌≡◌, ◌⊎◌, inl, inr, ⊎_elim, ℕ, zero, suc, ◌+◌, ◌-◌, ◌*◌, ◌/◌, ◌%◌, ◌<◌, ◌≤◌, Bool, true, false, cond, List, [], ◌∷◌, All, Contains, length, map, drop, refl, subst, ◌∙◌, sym, arith}
+use Rattle.std.specs.Prelude.{◌==◌, Option}
 use Rattle.std.specs.List.{range_with_len}
-use Rattle.std.proofs.lemmas.Bool.{cases_lt}
 use Rattle.std.proofs.lemmas.Bool.Decides.{nat_tests}
 use Rattle.std.proofs.lemmas.List.Elements.{All-nil, All-cons, All-head, All-tail, All-append, All-weaker, All-map, All-drop, All-contains, Contains-append_left, Contains-append_right, Contains-append_cases, Contains-push_cases}
 use Rattle.gated_ring.proofs.Orders.{range_each, Each as EachNumber}
-use Rattle.unit_model.specs.Days.{UnitMinute, ShownDay, StoredDay, day_of, minute_at, minutes_shown, day_shown, shown, padded, unknown_minute, with_minute, day_from, filled, filled_all, newest_days, minutes_of, Each}
+use Rattle.unit_model.specs.Days.{UnitMinute, ShownDay, StoredDay, day_of, minute_at, minutes_shown, day_shown, shown, padded, unknown_minute, with_minute, day_from, filled, newest_days, minutes_of, Each}
 use Rattle.unit_model.specs.Image.{last_kept, recorded, recorded_indices}
 use Rattle.unit_model.specs.Decoding.{Decodes}
-use Rattle.unit_model.specs.Retention.{UnitRetains}
 use Rattle.unit_model.proofs.Slots.{day_at}
 use Rattle.unit_model.proofs.Rising.{AreInOrder}
 use Rattle.unit_model.proofs.Recorded.{recorded_are, map_of}

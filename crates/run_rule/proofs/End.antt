@@ -1,37 +1,34 @@
 -- What is carried at the end of a run is the theorem.
-use Rattle.std.proofs.Common.{◌≡◌, ◌⊎◌, inl, inr, ⊎_elim, ℕ, ◌+◌, ◌/◌, max, ◌<◌, ◌≤◌, Bool, true, false, Option, Some, None, List, [], ◌∷◌, ◌++◌, All, Contains, refl, ap, subst, ◌∙◌, sym, arith, append_assoc}
+use Rattle.std.proofs.Common.{◌≡◌, ◌⊎◌, inl, inr, ⊎_elim, ℕ, ◌/◌, ◌<◌, ◌≤◌, true, Option, Some, None, List, [], ◌++◌, All, Contains, refl, ap, subst, ◌∙◌, sym, arith}
 use Rattle.std.specs.Prelude.{option_to_list, is_some}
-use Rattle.std.proofs.lemmas.List.Elements.{All-weaker, All-contains, Contains-append_left, Contains-append_right, Contains-append_cases}
+use Rattle.std.proofs.lemmas.List.Elements.{All-contains, Contains-append_left, Contains-append_right, Contains-append_cases}
 use Rattle.activity_codec.specs.declared.entries.Entry.{Entry}
 use Rattle.trace_model.specs.declared.Card.{Card}
 use Rattle.trace_model.specs.declared.Card.TheVariants.{A, B}
 use Rattle.tach_media.specs.Medium.{State, IsCoherent}
 use Rattle.log_model.specs.declared.lines.Mark.{Mark}
 use Rattle.log_model.specs.Causes.{device_of}
-use Rattle.unit_model.specs.Days.{ShownDay}
 use Rattle.unit_model.specs.Image.{recorded, unit_minutes, last_kept}
 use Rattle.unit_model.specs.Decoding.{Decodes}
 use Rattle.card_layout.specs.declared.files.Fid.{Fid}
 use Rattle.card_image.specs.View.{CardView}
-use Rattle.card_image.specs.Own.{own_view, own_sizes, own_number, own_bad_file, IsOwnValid, KeepsOf}
+use Rattle.card_image.specs.Own.{own_view, own_number, own_bad_file, IsOwnValid, KeepsOf}
 use Rattle.history_model.specs.Minutes.{HistoryMinute, card_history, up_to}
 use Rattle.history_model.specs.Presence.{CardStart}
-use Rattle.history_model.specs.Book.{Book, all, Follows, Rising, IsMark}
+use Rattle.history_model.specs.Book.{all, Rising, IsMark}
 use Rattle.history_model.proofs.Books.{history-append}
 use Rattle.joint_rule.specs.Views.{UnitView, unit_view, owed}
-use Rattle.joint_rule.specs.Device.{Seen}
 use Rattle.joint_rule.specs.Filling.{FillsDays}
-use Rattle.joint_rule.specs.Rules.{Standing, CardDark, Meets, Had, Shows, UnitHolds, IsRepaired as OwesLater}
-use Rattle.joint_rule.specs.Marked.{of_card, of_unit}
+use Rattle.joint_rule.specs.Rules.{CardDark, Meets, Had, Shows}
+use Rattle.joint_rule.specs.Marked.{of_card}
 use Rattle.safety_model.specs.Recording.{Recording, card_image, brought, start_of, history_of, lost_of, told_of, unit_seen as seen_in}
 use Rattle.safety_model.specs.Unit.{UnitSafe, marks_of}
-use Rattle.safety_model.specs.Cards.{CardMarkHolds, CardSafe, MayNotWrite, IsRepaired, Agree, StandsInUnit, HasDay, expected_to}
+use Rattle.safety_model.specs.Cards.{CardSafe, IsRepaired, Agree, StandsInUnit, HasDay, expected_to}
 use Rattle.safety_model.specs.Safe.{Devices, card_of, IsSafe}
-use Rattle.unit_rule.specs.Rule.{Started, started}
-use Rattle.unit_rule.specs.Marks.{Holds}
+use Rattle.unit_rule.specs.Rule.{Started}
 use Rattle.unit_rule.proofs.Safety.{unit-safe}
 use Rattle.run_rule.specs.Found.{CardFound, Found, found_of, unit_seen, AnyKept}
-use Rattle.run_rule.specs.Cards.{StringHolds, MayGoOn, CardWaits, IsCardHeld, CardMarksHold, counted_to, brought_by}
+use Rattle.run_rule.specs.Cards.{StringHolds, MayGoOn, CardWaits, IsCardHeld, counted_to, brought_by}
 use Rattle.run_rule.specs.Between.{Carried, IsLit, IsCarried, IsFound, IsFollowed, AreBrought, AreUntouched}
 use Rattle.run_rule.proofs.CardEnd.{at_start, shows, marked, repaired, rest-agrees, started as started-start}
 use Rattle.run_rule.proofs.Present.{bound, history-later}

@@ -1,27 +1,25 @@
 -- What the opening finds of the cards is carried.
-use Rattle.std.proofs.Common.{◌≡◌, inl, inr, ⊎_elim, ℕ, ◌+◌, ◌/◌, ◌<◌, ◌≤◌, Bool, true, false, cond, Option, Some, None, List, [], ◌∷◌, ◌++◌, All, Contains, refl, ap, subst, ◌∙◌, sym, arith, filter, nat_le}
-use Rattle.std.specs.Prelude.{option_to_list, is_some}
+use Rattle.std.proofs.Common.{◌≡◌, inl, inr, ⊎_elim, ℕ, ◌/◌, ◌<◌, ◌≤◌, Bool, true, false, cond, Option, Some, None, List, [], ◌∷◌, ◌++◌, Contains, refl, ap, subst, ◌∙◌, sym, arith, nat_le}
+use Rattle.std.specs.Prelude.{is_some}
 use Rattle.std.proofs.lemmas.Bool.Decides.{nat_tests}
 use Rattle.std.proofs.lemmas.List.{append-nil}
-use Rattle.std.proofs.lemmas.List.Elements.{All-nil, All-head, All-weaker, Contains-append_cases, Contains-push_cases}
+use Rattle.std.proofs.lemmas.List.Elements.{All-nil, All-weaker, Contains-append_cases, Contains-push_cases}
 use Rattle.activity_codec.specs.declared.entries.Entry.{Entry}
 use Rattle.trace_model.specs.declared.Card.{Card}
 use Rattle.tach_media.specs.Medium.{State, IsCoherent}
 use Rattle.card_model.specs.Days.{AreDays}
-use Rattle.card_retention.specs.Expected.{WordDay, Counted, is_closed, closes, counted, expected_days, more}
-use Rattle.card_retention.specs.Shown.{Takes, Covers, InDays, AllFrom}
-use Rattle.card_retention.specs.Retains.{Rise, CardRetains, entries_from}
+use Rattle.card_retention.specs.Expected.{WordDay, is_closed, closes, counted, more}
+use Rattle.card_retention.specs.Shown.{Covers, InDays, AllFrom}
+use Rattle.card_retention.specs.Retains.{Rise, entries_from}
 use Rattle.card_image.specs.Fields.{card_days}
-use Rattle.card_image.specs.View.{CardView, Held, card_view}
-use Rattle.card_image.specs.Own.{own_view, own_sizes, own_number, own_covered, counted_view, expected_with, StandsFrom, KeepsFrom, KeepsOf, IsOwnValid}
-use Rattle.history_model.specs.Minutes.{HistoryMinute, card_history}
+use Rattle.card_image.specs.View.{card_view}
+use Rattle.card_image.specs.Own.{own_view, own_sizes, own_covered, counted_view, expected_with, KeepsFrom, KeepsOf, IsOwnValid}
 use Rattle.history_model.specs.Presence.{CardStart, trimmed_by}
-use Rattle.history_model.specs.Book.{Book, all, not_begun}
+use Rattle.history_model.specs.Book.{not_begun}
 use Rattle.history_model.proofs.Books.{history-none}
 use Rattle.history_model.proofs.Filters.{filter-none}
-use Rattle.joint_rule.specs.Views.{UnitView, unit_view, owed, beyond}
-use Rattle.joint_rule.specs.Device.{Seen}
-use Rattle.joint_rule.specs.Rules.{Brings, CardDark, Out, IsRepaired}
+use Rattle.joint_rule.specs.Views.{UnitView, unit_view, owed}
+use Rattle.joint_rule.specs.Rules.{Brings, CardDark, Out}
 use Rattle.joint_rule.specs.Marked.{of_card}
 use Rattle.joint_rule.proofs.Brought.{brought-newest, brought-bound}
 use Rattle.joint_rule.proofs.Pairs.{owed-above}

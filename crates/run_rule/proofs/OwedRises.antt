@@ -1,7 +1,6 @@
 -- What a unit owes to a card rises: its cells stand at four places.
-use Rattle.std.proofs.Common.{◌≡◌, ◌≢◌, ◌⊎◌, inl, inr, ⊎_elim, ℕ, zero, suc, ◌+◌, ◌/◌, ◌%◌, ◌<◌, ◌≤◌, Bool, true, false, cond, Option, Some, None, List, [], ◌∷◌, ◌++◌, All, map, refl, ap, subst, ◌∙◌, sym, arith, filter, nat_le}
+use Rattle.std.proofs.Common.{◌≡◌, ◌≢◌, ⊎_elim, ℕ, ◌+◌, ◌/◌, ◌%◌, ◌<◌, ◌≤◌, Bool, true, false, cond, Option, Some, None, List, [], ◌∷◌, All, refl, ap, subst, sym, arith, filter, nat_le}
 use Rattle.std.specs.Prelude.{◌==◌, ◌&&◌, fold}
-use Rattle.std.specs.List.{range_with_len}
 use Rattle.std.proofs.lemmas.Bool.{cases_lt}
 use Rattle.std.proofs.lemmas.Bool.Decides.{nat_tests}
 use Rattle.std.proofs.lemmas.List.Elements.{All-nil, All-cons, All-head, All-tail, All-weaker, All-filter}
@@ -9,9 +8,9 @@ use Rattle.activity_codec.specs.declared.entries.Entry.{Entry}
 use Rattle.trace_model.specs.declared.Card.{Card}
 use Rattle.trace_model.specs.declared.Card.TheVariants.{A, B}
 use Rattle.card_retention.specs.Retains.{Rise}
-use Rattle.owed_model.specs.Owed.{Cell, OwedRow, Row, rows_in, row_in, row_of, entry_of, holds, cell_entries, placed, in_order, seen_row, row_view}
+use Rattle.owed_model.specs.Owed.{Cell, OwedRow, row_of, entry_of, holds, cell_entries, placed, seen_row, row_view}
 use Rattle.card_image.specs.View.{CardView}
-use Rattle.joint_rule.specs.Views.{UnitView, unit_view, row, owed, owed_in, counts, is_session}
+use Rattle.joint_rule.specs.Views.{unit_view, row, owed, counts, is_session}
 use Rattle.joint_rule.proofs.OwedView.{placed-more, placed-here}
 use Rattle.run_rule.proofs.Entries.{rise-tail, rise-above}
 

@@ -1,5 +1,5 @@
 -- What the history says on a card is later than the card's end mark and its words at the start, and so is what is owed to it there.
-use Rattle.std.proofs.Common.{◌≡◌, ◌⊎◌, inl, inr, ⊎_elim, ℕ, zero, suc, ◌+◌, ◌/◌, max, ◌<◌, ◌≤◌, Bool, true, false, not, cond, Option, Some, None, List, [], ◌∷◌, ◌++◌, All, Contains, refl, ap, subst, ◌∙◌, sym, arith, filter, nat_le, nat_lt, nat_eq}
+use Rattle.std.proofs.Common.{◌≡◌, ℕ, zero, suc, ◌/◌, max, ◌<◌, Bool, true, false, not, cond, Option, Some, None, List, [], ◌∷◌, ◌++◌, All, refl, ap, subst, ◌∙◌, sym, arith, filter, nat_le, nat_lt}
 use Rattle.std.specs.Prelude.{◌&&◌, option_to_list, option_map, unwrap_or}
 use Rattle.std.specs.List.{list_any}
 use Rattle.std.proofs.lemmas.Bool.Decides.{nat_tests}
@@ -16,8 +16,8 @@ use Rattle.log_model.specs.Log.{RunLog}
 use Rattle.log_model.specs.Slots.{Sitting, same_card, in_slot}
 use Rattle.log_model.specs.Course.{Told}
 use Rattle.log_model.specs.Spans.{spans_of}
-use Rattle.history_model.specs.Minutes.{HistoryMinute, Seat, card_history, on_card, entry_in, is_crew, up_to}
-use Rattle.history_model.specs.Presence.{Start, CardStart, card_start, closed_at, newest_by, newest_minute, is_present, present_sitting, in_minute, present_in, expected_entries}
+use Rattle.history_model.specs.Minutes.{HistoryMinute, Seat, card_history, on_card, entry_in, is_crew}
+use Rattle.history_model.specs.Presence.{Start, CardStart, card_start, newest_minute, is_present, present_sitting, in_minute, present_in}
 use Rattle.history_model.specs.History.{seated, minutes_after, span_minutes, decided_of, limited_to, history_by, limit_of, unit_history}
 use Rattle.history_model.proofs.Books.{history-append, history-one, history-none}
 use Rattle.history_model.proofs.Filters.{all-one}

@@ -1,24 +1,22 @@
 -- Between two steps of a run, over devices that tell their images: the unit, the cards and what they have acknowledged, as the book says
 -- (profile).
-use Rattle.std.specs.Prelude.{◌≡◌, ◌≢◌, ℕ, ◌<◌, ◌≤◌, true, false, Option, None, List, [], ◌++◌, All, Contains, is_some}
-use Rattle.activity_codec.specs.declared.entries.Entry.{Entry}
+use Rattle.std.specs.Prelude.{◌≡◌, ℕ, ◌<◌, ◌≤◌, true, false, None, List, ◌++◌, All, Contains, is_some}
 use Rattle.trace_model.specs.declared.Card.{Card}
-use Rattle.trace_model.specs.declared.Card.TheVariants.{A, B}
 use Rattle.tach_media.specs.Medium.{State}
 use Rattle.log_model.specs.declared.lines.Mark.{Mark}
-use Rattle.unit_model.specs.Image.{recorded, last_kept}
+use Rattle.unit_model.specs.Image.{last_kept}
 use Rattle.card_model.specs.Days.{AreDays}
 use Rattle.card_image.specs.Fields.{card_days}
 use Rattle.card_image.specs.Own.{own_number, own_sizes, IsOwnValid}
 use Rattle.history_model.specs.Minutes.{HistoryMinute, card_history}
-use Rattle.history_model.specs.Book.{Book, all, Follows}
+use Rattle.history_model.specs.Book.{Book, Follows}
 use Rattle.joint_rule.specs.Rules.{Standing}
 use Rattle.safety_model.specs.Recording.{Recording, card_image, brought, history_of, lost_of}
 use Rattle.safety_model.specs.Cards.{acceptances, was_kept, MayNotWrite}
 use Rattle.safety_model.specs.Safe.{Devices, card_of}
 use Rattle.unit_rule.specs.Rule.{started}
 use Rattle.unit_rule.specs.Marks.{Holds}
-use Rattle.run_rule.specs.Found.{CardFound, Found, found_of}
+use Rattle.run_rule.specs.Found.{Found, found_of}
 use Rattle.run_rule.specs.Cards.{CardStands, CardWaits, CardMarksHold, IsUntouched}
 
 -- what is carried from step to step: from where on a minute may come, the book, the marks, how each card stands, and the minutes that the
