@@ -1,0 +1,5 @@
+pub mod Moments
+pub mod Presence
+pub mod Followed
+pub mod Seconds
+pub mod Within
