@@ -6,7 +6,7 @@ use Rattle.activity_codec.specs.declared.values.Activity.{Activity}
 use Rattle.tacho_types.specs.declared.texts.Registration.{Registration}
 use Rattle.trace_model.specs.declared.Card.{Card}
 use Rattle.trace_model.specs.declared.Card.TheVariants.{A, B}
-use Rattle.tach_media.specs.Medium.{State, IsCoherent, LeavesOnly, Unchanged}
+use Rattle.tach_media.specs.Medium.{State, IsCoherent, LeavesOnly, LiesInside, Unchanged}
 use Rattle.tach_media.proofs.Runs.{at_image, weaken}
 use Rattle.card_layout.specs.declared.files.Application.{Application}
 use Rattle.card_layout.specs.declared.files.TheConstants.{APPLICATION_RANGE}
@@ -32,7 +32,10 @@ use Rattle.history_model.specs.Minutes.{HistoryMinute}
 use Rattle.history_model.specs.Book.{Book}
 use Rattle.history_model.proofs.Books.{mark-earlier}
 use Rattle.owed_model.specs.Owed.{Row, owed_to, row_view}
-use Rattle.unit_model.specs.Image.{last_kept}
+use Rattle.unit_model.specs.declared.layout.TheConstants.{IMAGE_SIZE}
+use Rattle.unit_model.specs.Image.{last_kept, IsUnit}
+use Rattle.unit_journal.specs.declared.notes.Notes.{Notes}
+use Rattle.unit_journal.specs.Image.{Agrees}
 use Rattle.joint_rule.specs.Views.{UnitView, unit_view, row, owed, owed_in}
 use Rattle.joint_rule.specs.Device.{LeavesViews, EndsWith, Nothing}
 use Rattle.joint_rule.specs.Steps.{IsInserting, IsInserted, IsClosing}
@@ -67,6 +70,13 @@ unit-read r c b z m d U V X whole run rule =
 pub card-read : (r : Both) (c : Card) (b : Book) (m : List Entry) (U X Y : State) → IsCoherent X → LeavesOnly X Y Unchanged → CardHolds r c b Out m [] U X → CardHolds r c b Out m [] U Y
 card-read r c b m U X Y whole run rule =
     look-card c (opened r c).start AnyString {U = unit_seen r U} {X = card_seen X} {Y = card_seen Y} (opened r c).began b m (seen-run own_view Unchanged Nothing X Y whole run (λ x y never. absurd never)) rule
+
+-- so the unit is one still, and its journal agrees with it
+pub unit-still : (U V : State) → LeavesOnly U V Unchanged → IsUnit U → IsUnit V
+unit-still U V run unit = record { sized = run.size ∙ unit.sized; behind = run.behind ∙ unit.behind; writable = subst (λ (ws : List (ℕ × ℕ)). LiesInside ws 0 IMAGE_SIZE) (sym run.writable) unit.writable }
+
+pub agrees-still : (j : Notes) (o p : Option (List ℕ)) → p ≡ o → IfSome o (Agrees j) → IfSome p (Agrees j)
+agrees-still j o p same agrees = subst (λ (q : Option (List ℕ)). IfSome q (Agrees j)) (sym same) agrees
 
 -- ---- an insertion
 
