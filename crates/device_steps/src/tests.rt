@@ -15,7 +15,7 @@ use card_commands::{PortFault, SimCard, read_sizes};
 use card_files::{CardIdentity, blank_card};
 use card_layout::{Application, LARGEST, LARGEST_IMAGE};
 use card_session::{CardSession, Kept};
-use std::alloc::Global;
+use std::alloc::{AllocError, Global};
 use std::rt::HostRuntime;
 use std::test::Fail;
 use tach_media::{Chip, Failed, Medium, MemMedium, Memory};
@@ -318,16 +318,24 @@ struct Devices {
     other: SimCard<MemMedium>,
 }
 
-// A new unit, of a vehicle with a limit of 90 km/h.
+// The image of a new unit, of a vehicle with a limit of 90 km/h.
+fn new_image(alloc: Global) -> Result<Vec<u8>, AllocError> {
+    let mut image = vec![in alloc; 0u8; IMAGE_SIZE as usize]?;
+    if image.len() > 36 {
+        image[3] = 1;
+        image[36] = 90;
+    }
+    Ok(image)
+}
+
+// A new unit.
 fn new_unit(alloc: Global) -> Result<MemMedium, Memory>
     ensures { IfOk result (λ unit. IsUnit (memory_state unit.log unit.counts)) }
 {
-    let mut image = vec![in alloc; 0u8; IMAGE_SIZE as usize]?;
+    let image = new_image(alloc)?;
     if image.len() != IMAGE_SIZE as usize {
         return Err(Memory);
     }
-    image[3] = 1;
-    image[36] = 90;
     MemMedium::new(alloc, image, 400, 40000, Vec::new(alloc))
 }
 
