@@ -8,3 +8,5 @@ pub mod Core
 pub mod Told
 pub mod Steps
 pub mod Within
+pub mod New
+pub mod Rows

@@ -1,7 +1,7 @@
 ghost use Rattle.run_course.specs.Moments.{ABreakMoreIsSeen, AFindMoreIsSeen, ARefusalMoreIsNotSeen, LaterLinesChangeNoMoment, AnActionMoreIsActed, OneActionMore};
-ghost use Rattle.run_course.specs.Seconds.{ARunBegins, APowerOnFinds, APowerOnFails, ASecondGoesOn, ASecondBreaksOff, RulesSeeTheSecond, AMinuteStaysDark, AnOffLineIsDark, AnOffLineCuts};
+ghost use Rattle.run_course.specs.Seconds.{ARunBegins, APowerOnFinds, APowerOnFails, ASecondGoesOn, ASecondBreaksOff, RulesSeeTheSecond, DecidedMinutesAreNew, AMinuteStaysDark, AnOffLineIsDark, AnOffLineCuts};
 ghost use Rattle.run_course.specs.Within.{ASecondBegins, AnActionIsAMoment, ASecondEnds, ACutEndsTheSecond, ATearIsTold, AFindIsTold, SlotsTellATear, SlotsTellAnAcceptance};
-ghost use Rattle.run_course.specs.Presence.{SlotsAgree, SlotsTellWhoIsPresent, NobodySits, ACardIsPutIn, ACardIsTakenOut, PowerIsLost, ASecondHasGone, TheMinuteGoesOn, AMinuteEnds, TimePasses, MinutesAreKept, WhatWasKeptIsFound};
+ghost use Rattle.run_course.specs.Presence.{SlotsAgree, SlotsTellWhoIsPresent, NobodySits, ACardIsPutIn, ACardIsTakenOut, PowerIsLost, ASecondHasGone, TheLastSecondIsCut, TheMinuteGoesOn, AMinuteEnds, TimePasses, MinutesAreKept, WhatWasKeptIsFound};
 
 /// A run begins with nothing kept.
 pub fn a_run_begins()
@@ -26,6 +26,11 @@ pub fn a_second_goes_on()
 /// One second more that is a cut's: some of the minutes that it decides are kept, one more may be, or none was begun.
 pub fn a_second_breaks_off()
     ensures { ASecondBreaksOff }
+{}
+
+/// The minutes that a second decides: from the first undecided one on, and over as it begins.
+pub fn decided_minutes_are_new()
+    ensures { DecidedMinutesAreNew }
 {}
 
 /// What the rules of minutes see of a second with power.
@@ -111,6 +116,11 @@ pub fn power_is_lost()
 /// A second has gone.
 pub fn a_second_has_gone()
     ensures { ASecondHasGone }
+{}
+
+/// The last second turns out to be a cut's.
+pub fn the_last_second_is_cut()
+    ensures { TheLastSecondIsCut }
 {}
 
 /// The next second of the same minute begins.
