@@ -6,3 +6,4 @@ pub mod Behind
 pub mod End
 pub mod OwedRises
 pub mod Opening
+pub mod Beyond

@@ -1,4 +1,4 @@
-ghost use Rattle.std.specs.Prelude.{◌≡◌, ◌<◌, ℕ, List, []};
+ghost use Rattle.std.specs.Prelude.{◌≡◌, ◌/◌, ◌<◌, ℕ, List, []};
 ghost use Rattle.trace_model.specs.declared.Card.{Card};
 ghost use Rattle.trace_model.specs.declared.Card.TheVariants.{A, B};
 ghost use Rattle.card_model.specs.Days.{AreDays};
@@ -6,16 +6,17 @@ ghost use Rattle.card_image.specs.Fields.{card_days};
 ghost use Rattle.card_image.specs.Own.{own_view, own_sizes, IsOwnValid};
 ghost use Rattle.unit_model.specs.Decoding.{Decodes};
 ghost use Rattle.unit_model.specs.Image.{last_kept};
-ghost use Rattle.history_model.specs.Book.{not_begun};
+ghost use Rattle.log_model.specs.Spans.{AreInOrder};
+ghost use Rattle.history_model.specs.Book.{Follows, not_begun};
 ghost use Rattle.joint_rule.specs.Views.{UnitView};
 ghost use Rattle.joint_rule.specs.Rules.{Brings, Out};
-ghost use Rattle.safety_model.specs.Recording.{Recording, card_image};
+ghost use Rattle.safety_model.specs.Recording.{Recording, card_image, history_of, lost_of};
 ghost use Rattle.safety_model.specs.Safe.{IsSafe};
 ghost use Rattle.unit_rule.specs.Rule.{started};
 ghost use Rattle.run_rule.specs.Found.{Found, found_of, AnyKept};
 ghost use Rattle.run_rule.specs.Cards.{CardWaits};
 ghost use Rattle.run_rule.specs.Opening.{BeginsAs, as_found, IsLookedAt, carried_first};
-ghost use Rattle.run_rule.specs.Between.{Carried, IsLit, IsCarried, IsFound, IsFollowed, AreBrought, AreUntouched, devices};
+ghost use Rattle.run_rule.specs.Between.{Carried, IsLit, IsCarried, IsFound, AreBrought, AreUntouched, devices};
 
 use tach_media::{Chip, Medium};
 
@@ -55,9 +56,9 @@ pub fn what_is_carried_is_safe<M: Medium, C: Chip, D: Chip, N: Medium, E: Chip, 
     card_a: &E,
     card_b: &F,
 )
-    ensures { (r : Recording) (f : Found) (w : Carried) → Decodes r.unit →
+    ensures { (r : Recording) (f : Found) (w : Carried) (from : ℕ) → Decodes r.unit → AreInOrder from r.trace → last_kept r.unit < from / 60 →
         IsFound r f (devices (M.state old_unit.now) (C.state old_a.now) (D.state old_b.now)) →
-        IsFollowed r w.book (N.state unit.now) →
+        Follows (history_of r) (lost_of r) w.book →
         IsCarried f w (devices (N.state unit.now) (E.state card_a.now) (F.state card_b.now)) →
         ((c : Card) → IsOwnValid (card_image r c) → AreBrought r c w.book (w.brought c)) →
         AreUntouched r f (devices (N.state unit.now) (E.state card_a.now) (F.state card_b.now)) →
