@@ -9,4 +9,6 @@ pub mod Told
 pub mod Steps
 pub mod Within
 pub mod New
+pub mod Deciding
+pub mod Complete
 pub mod Rows

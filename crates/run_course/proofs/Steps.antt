@@ -42,7 +42,7 @@ use Rattle.run_course.specs.Seconds.{kept_all, broken_at, GoesOnBy, next_told, D
 use Rattle.run_course.proofs.Lookups.{cut-by, kept-by, break-more}
 use Rattle.run_course.proofs.Logs.{same-number, went-later, kept-later, tells-later, front-later, within-later, went-refused, tells-none, breaks-front, tells-cut, lines-more, lines-on, lines-later, lines-found, breaks-push, finds-later, found_log}
 use Rattle.run_course.proofs.Alike.{Stays, stays-same, stays-more, stays-instead, span-before}
-use Rattle.run_course.proofs.Core.{Core, IsShort, shifted, keeps-all, ends, lit-due, lost-due, due-lost, rests, found-told, rest-found}
+use Rattle.run_course.proofs.Core.{Core, IsShort, shifted, shifted-short, keeps-all, ends, lit-due, lost-due, due-lost, rests, found-told, rest-found}
 use Rattle.run_course.proofs.Told.{IsLitAs, lit-told, IsDarkAs, dark-told, told-lit, comes-power, lit-power, lit-starts, lost-comes, lost-dark, next-going, next-lost, next-dark, IsOff, next-off, off-comes, spans-lit, solid-push, solid-cut, cut-with, second-cut}
 
 -- WHAT IS FOLLOWED, and its core
@@ -93,7 +93,7 @@ early-second : (rule : Rule) (n : ℕ) (xs ys : List (List Told)) → AreEarly r
 early-second rule n [] ys h = h
 early-second rule n (x ∷ xs) ys h = early-second rule n xs ys h.1
 
-apart-front : (from until : ℕ) (spans : List (List Told)) (span : List Told) → AreApart from (spans ++ span ∷ []) until → AreApart from spans (first_in span)
+pub apart-front : (from until : ℕ) (spans : List (List Told)) (span : List Told) → AreApart from (spans ++ span ∷ []) until → AreApart from spans (first_in span)
 apart-front from until [] span h = h.1
 apart-front from until (x ∷ spans) span h = (h.0, h.1, h.2, apart-front (end_in x) until spans span h.3)
 
@@ -231,6 +231,11 @@ module _ (rule : Rule) (start : Start) (from first : ℕ) (done : List TraceSeco
                 none = decides.2 ∙ ap (minutes_after start ((went later done).told ++ t ∷ []) p.book.sure) none;
               })
 
+      -- where it is the first of its span the history is as it was
+      pub fed-short : IsShort rule span (span ++ t ∷ []) new → unit_history rule start later now ≡ unit_history rule start p.log (went p.log done).told
+      fed-short short = (shifted-short rule start from first done p.log p.unfound p.next span p.book c (done ++ s ∷ []) later (suc p.next) (span ++ t ∷ []) new order-now number-now front-now within-now kept-now spans-now (solid-push span t)
+          (stays-now c.ended lit.number (early-first rule ((from + length done) / 60) c.ended (as_spans span) early-ended)) on which short).0
+
       -- its minutes wait for their keeping
       pub feeds : Core rule start from first (done ++ s ∷ []) later p.unfound (suc p.next) (Lit (span ++ t ∷ [])) p.book new
       feeds = shifted rule start from first done p.log p.unfound p.next span p.book c (done ++ s ∷ []) later (suc p.next) (span ++ t ∷ []) new order-now number-now front-now within-now kept-now spans-now (solid-push span t)
@@ -292,7 +297,7 @@ breaks_off rule start from first done p g span is none s later by begun cut new 
 
 -- FOR THE RULES OF MINUTES
 -- the span that goes on ends with the number of the next second
-span-end : (log : RunLog) (from : ℕ) (done : List TraceSecond) (ended : List (List Told)) (t : Told) (span : List Told) (next : ℕ) → AreInOrder from done → next ≡ from + length done →
+pub span-end : (log : RunLog) (from : ℕ) (done : List TraceSecond) (ended : List (List Told)) (t : Told) (span : List Told) (next : ℕ) → AreInOrder from done → next ≡ from + length done →
     (went log done).before.running ≡ true → spans_of (went log done).told ≡ ended ++ (t ∷ span) ∷ [] → end_in (t ∷ span) ≡ next
 span-end log from done ended t span next order number going are =
     let whole = spanned log from done order in
