@@ -44,10 +44,10 @@ use Rattle.run_course.proofs.Steps.{core-of, lit-parts, lit, spans-now, now-told
 use Rattle.run_course.proofs.Told.{solid-push}
 
 -- SECONDS MORE: what was broken is so still
-cut-stays : (told more : List Told) (u : ℕ) → CutIn told u → CutIn (told ++ more) u
+pub cut-stays : (told more : List Told) (u : ℕ) → CutIn told u → CutIn (told ++ more) u
 cut-stays told more u c = (c.0, Contains-append_left told more c.0 c.1, c.2, c.3)
 
-broken-stays : (told more : List Told) (card : Card) (from to : ℕ) → BrokenIn told card from to → BrokenIn (told ++ more) card from to
+pub broken-stays : (told more : List Told) (card : Card) (from to : ℕ) → BrokenIn told card from to → BrokenIn (told ++ more) card from to
 broken-stays told more card from to b = (b.0, Contains-append_left told more b.0 b.1, b.2, b.3, b.4)
 
 -- WHERE A MINUTE OF THE HISTORY COMES FROM: it is decided in one of the spans

@@ -252,6 +252,15 @@ module _ (rule : Rule) (start : Start) (from first : ℕ) (done : List TraceSeco
             c.follows;
       }
 
+  -- and the history is as it was
+  pub rests-minutes : (now_done : List TraceSecond) (later : RunLog) (behind : List (List Told)) → ((u : ℕ) → tells_cut u sure ≡ true → kept_after log u ≡ kept_after later u) → spans_of (went later now_done).told ≡ c.ended ++ behind →
+      Stays rule start before (went later now_done).told c.ended → AllByRecursion (λ (span : List Told). decided_of rule span ≡ []) behind → any_long behind ≡ false →
+      unit_history rule start later (went later now_done).told ≡ unit_history rule start log before
+  rests-minutes now_done later behind same spans stays none short =
+      short-history rule start later (went later now_done).told c.ended behind spans short none
+      ∙ same-minutes rule start log later sure same before (went later now_done).told c.ended stays (ended-alike rule start log later sure same before (went later now_done).told c.ended b c.tied.1)
+      ∙ sym (short-history rule start log before c.ended [] c.spans refl tt)
+
   -- it is found what was kept
   module _ (k : ℕ) (mark : IsMark first (all b) k) (low : All (λ i. i.minute ≤ k) b.sure) where
     abbrev found_later : RunLog
@@ -281,6 +290,12 @@ module _ (rule : Rule) (start : Start) (from first : ℕ) (done : List TraceSeco
         (take count found_later.breaks) goes f.0 (sym minutes-now ∙ f.1)
         (beyond-mark first (from / 60) ((from + length done) / 60) k (all b) f.0 c.early (subst (λ (is : List HistoryMinute). Rises (from / 60) is ((from + length done) / 60)) f.1 (rises from rule start log done c.order)) mark))
         c.tied.1
+
+    -- the history is as it was
+    pub found-minutes : unit_history rule start found_later (went found_later done).told ≡ unit_history rule start log before
+    found-minutes =
+        let stays = subst (λ (ts : List Told). Stays rule start before ts c.ended) (sym seconds-same) (stays-same rule start before c.ended) in
+        rests-minutes done found_later [] (kept-found log unfound k) (ap spans_of seconds-same ∙ c.spans) stays tt refl
 
     pub rest-found : Core rule start from first done found_later count next (Lit []) (found k b) []
     rest-found =

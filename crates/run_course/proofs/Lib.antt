@@ -11,4 +11,5 @@ pub mod Within
 pub mod New
 pub mod Deciding
 pub mod Complete
+pub mod Staying
 pub mod Rows
