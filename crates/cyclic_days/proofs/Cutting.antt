@@ -32,6 +32,24 @@ both_parts m (w ∷ ws) = by (both_parts m ws) (nat_le (word_minute w) m)
 pub early_day : (m : ℕ) (d : Day) → IsDay d → IsDay (with_early m d)
 early_day m d is = record { midnight = is.midnight; decimal = is.decimal; most = omega (arith, early_few m d.words, is.most); ordered = early_words m d.words is.ordered }
 
+-- words that ascend from a minute on are not before it
+none_before : (m : ℕ) (ws : List ℕ) (j : ℕ) → Ascend m ws → j < length ws → m ≤ word_minute (get_or ws j 0)
+none_before m [] j up lt = absurd (omega (arith, lt))
+none_before m (w ∷ ws) zero up lt = up.0
+none_before m (w ∷ ws) (suc j) up lt = let rest = none_before (word_minute w) ws j up.2 (omega (arith, lt)) in omega (arith, up.0, rest)
+
+rise : (m : ℕ) (ws : List ℕ) (i j : ℕ) → Ascend m ws → i ≤ j → j < length ws → word_minute (get_or ws i 0) ≤ word_minute (get_or ws j 0)
+rise m [] i j up le lt = absurd (omega (arith, lt))
+rise m (w ∷ ws) zero zero up le lt = omega arith
+rise m (w ∷ ws) zero (suc j) up le lt = none_before (word_minute w) ws j up.2 (omega (arith, lt))
+rise m (w ∷ ws) (suc i) zero up le lt = absurd (omega (arith, le))
+rise m (w ∷ ws) (suc i) (suc j) up le lt = rise (word_minute w) ws i j up.2 (omega (arith, le)) (omega (arith, lt))
+
+-- a word of a day is not later than one behind it
+pub words_rise : (ws : List ℕ) (i j : ℕ) → AreWords ws → i ≤ j → j < length ws → word_minute (get_or ws i 0) ≤ word_minute (get_or ws j 0)
+words_rise [] i j are le lt = absurd are
+words_rise (w ∷ ws) i j are le lt = rise 0 (w ∷ ws) i j (omega arith, omega (arith, are.0), subst (λ (m : ℕ). Ascend m ws) (sym are.0) are.1) le lt
+
 -- how many are early, by what a search finds
 pub early_is : (m : ℕ) (ws : List ℕ) (k : ℕ) → k ≤ length ws → ((j : ℕ) → j < k → word_minute (get_or ws j 0) ≤ m) → (k ≡ length ws) ⊎ (m < word_minute (get_or ws k 0)) → k ≡ length (early m ws)
 early_is m [] k le all end = omega (arith, le)

@@ -103,7 +103,8 @@ impl Circle {
         Ok(())
     }
 
-    // How many words of the day at a place are not later than a minute of the day.
+    // How many words of the day at a place are not later than a minute of the day. They ascend, so each word that is read
+    // halves those that are left to look at.
     pub(crate) fn words_until<M: Medium>(
         &self,
         medium: &mut M,
@@ -121,11 +122,15 @@ impl Circle {
         ensures reads { Reads (M.state medium.old) (M.state medium.new) (is_err result) }
     {
         let mut kept: u16 = 0;
-        while kept < count {
-            if self.word_at(medium, place, kept)? % 2048 > minute {
-                return Ok(kept);
+        let mut end = count;
+        while kept < end {
+            let middle = kept + (end - kept) / 2;
+            let word = self.word_at(medium, place, middle)?;
+            if word % 2048 > minute {
+                end = middle;
+            } else {
+                kept = middle + 1;
             }
-            kept += 1;
         }
         Ok(kept)
     }
