@@ -1,27 +1,27 @@
 -- What is carried of a card's string stays as the unit goes on: a minute is kept or broken off, power is back, a row is begun, a card is
 -- torn out.
-use Rattle.std.proofs.Common.{◌≡◌, ◌⊎◌, inl, inr, ⊎_elim, ℕ, suc, max, ◌/◌, ◌<◌, ◌≤◌, true, false, Option, Some, None, List, [], ◌∷◌, ◌++◌, All, refl, ap, subst, ◌∙◌, sym, arith, nat_le, append_assoc}
+use Rattle.std.proofs.Common.{◌≡◌, ◌⊎◌, inl, inr, ⊎_elim, ℕ, max, ◌/◌, ◌<◌, ◌≤◌, false, Option, Some, None, List, [], ◌∷◌, ◌++◌, All, refl, ap, subst, ◌∙◌, sym, arith, nat_le, append_assoc}
 use Rattle.std.specs.Prelude.{option_to_list}
 use Rattle.std.proofs.lemmas.Bool.Decides.{nat_tests}
 use Rattle.std.proofs.lemmas.List.{append-nil}
-use Rattle.std.proofs.lemmas.List.Elements.{All-nil, All-head, All-tail, All-weaker, All-append, filter-append}
+use Rattle.std.proofs.lemmas.List.Elements.{All-nil, All-head, All-tail, All-weaker, filter-append}
 use Rattle.activity_codec.specs.declared.entries.Entry.{Entry}
 use Rattle.trace_model.specs.declared.Card.{Card}
 use Rattle.tach_media.specs.Medium.{State, IsCoherent}
 use Rattle.card_retention.specs.Retains.{Rise}
-use Rattle.card_image.specs.View.{CardView, Held}
+use Rattle.card_image.specs.View.{CardView}
 use Rattle.card_image.specs.Own.{own_view, KeepsFrom, KeepsOf}
-use Rattle.history_model.specs.Minutes.{HistoryMinute, card_history, on_card, up_to}
+use Rattle.history_model.specs.Minutes.{HistoryMinute, card_history, on_card}
 use Rattle.history_model.specs.Presence.{CardStart}
 use Rattle.history_model.specs.Book.{Book, all, kept, broken, found}
-use Rattle.history_model.proofs.Books.{history-append, history-one, history-none, all-none, all-kept, all-found, up_to-all, up_to-one, on_card-minute}
-use Rattle.history_model.proofs.Filters.{filter-none, all-front, all-back}
-use Rattle.joint_rule.specs.Views.{UnitView, unit_view, row, owed, owed_in, next_of, newest_with}
+use Rattle.history_model.proofs.Books.{history-append, history-one, all-none, all-kept, all-found, up_to-all, up_to-one, on_card-minute}
+use Rattle.history_model.proofs.Filters.{filter-none, all-back}
+use Rattle.joint_rule.specs.Views.{UnitView, unit_view, row, owed, owed_in, newest_with}
 use Rattle.joint_rule.specs.Device.{Seen, LeavesViews, Nothing}
 use Rattle.joint_rule.specs.Filling.{KeepsMinute, GivesUpDay}
 use Rattle.joint_rule.specs.Steps.{IsKeeping, IsKept, IsUnkept, IsPutting, IsMending, IsBeginning}
-use Rattle.joint_rule.specs.Rules.{Standing, Out, In, Torn, since, comes_from, Stands, Cells, Fits, IsPresent, CardDark, CardRule, IsEntered, Had}
-use Rattle.joint_rule.specs.Marked.{of_unit, of_card}
+use Rattle.joint_rule.specs.Rules.{Standing, Out, In, Torn, since, comes_from, Stands, Fits, IsPresent, CardDark, CardRule, IsEntered, Had}
+use Rattle.joint_rule.specs.Marked.{of_card}
 use Rattle.joint_rule.proofs.Owing.{owed-put, owed-beside, owed-mend, owed-new, row-same}
 use Rattle.joint_rule.proofs.KeepLaws.{near, owed-grown}
 use Rattle.run_rule.specs.Found.{CardFound, Found, found_of, unit_seen, AnyKept}
