@@ -13,6 +13,7 @@ use Rattle.card_layout.specs.Application.{IsApplication}
 use Rattle.card_layout.specs.Files.{image_size_of}
 use Rattle.card_model.specs.Days.{Day, AreDays, IsDay, last_word}
 use Rattle.card_model.specs.Changes.{Remain, OnNewest, fitting, with_newest, with_word, new_day, date_of}
+use Rattle.card_model.proofs.Lists.{last_is}
 use Rattle.card_model.proofs.Retention.{remain_fitting, remain_some}
 use Rattle.card_retention.specs.Expected.{WordDay, is_newest}
 use Rattle.card_retention.specs.Shown.{sizes, is_open, entry_state, AllUpTo, Tells, TellsIn, Entered, Entered.Same, Entered.Word, Entered.Begun}
@@ -178,10 +179,6 @@ olds_before : (date : ℕ) (olds : List Day) (d : Day) → AreDays date (olds ++
 olds_before date [] d are = tt
 olds_before date (e ∷ olds) d are = (are.1.midnight, first_below e.date olds d are.2, olds_before e.date olds d are.2)
 
-last_day : (date : ℕ) (olds : List Day) (d : Day) → AreDays date (olds ++ d ∷ []) → IsDay d
-last_day date [] d are = are.1
-last_day date (e ∷ olds) d are = last_day e.date olds d are.2
-
 word_last : (olds : List Day) (d : Day) → newest_word (olds ++ d ∷ []) ≡ d.date / 60 + word_minute (last_word d.words)
 word_last [] d = refl
 word_last (e ∷ []) d = refl
@@ -193,7 +190,7 @@ commits_on mark e [] are lt q tells low = absurd tells
 commits_on mark e (x ∷ xs) are lt q tells low =
     subst (λ (l : List Day). entries_up_to e.minute l ≡ entries_up_to mark l ++ e ∷ []) (sym s.is)
     (commits mark e s.olds s.d s.d lt quiets.0 quiets.1 (subst (λ (n : ℕ). Olds n s.olds) here.date (olds_before 0 s.olds s.d ordered)) refl here.date (λ t before. refl)
-    (ap (λ (o : Option ℕ). told_by e.minute o) (latest_last (e.minute % 1440) s.d.words (last_day 0 s.olds s.d ordered).ordered (omega (arith, last, here.date))) ∙ told_back e e.minute (last_word s.d.words) refl here.state))
+    (ap (λ (o : Option ℕ). told_by e.minute o) (latest_last (e.minute % 1440) s.d.words (last_is 0 s.olds s.d ordered).ordered (omega (arith, last, here.date))) ∙ told_back e e.minute (last_word s.d.words) refl here.state))
   where
     s : Split (x ∷ xs)
     s = split x xs

@@ -36,7 +36,7 @@ use Rattle.card_session.proofs.InsertingOpen.{Same, opened_same}
 use Rattle.card_session.proofs.InsertingAgain.{Keeps, ended_keeps, inserting_keeps}
 use Rattle.card_session.proofs.Repairing.{mark_beside}
 use Rattle.card_session.proofs.Revalid.{Fine, Low, card_fine, beside_fine, beside_low, low_told, fine_low, strict_told, stands}
-use Rattle.card_session.proofs.ShutValid.{same_valid, strict_up_to}
+use Rattle.card_session.proofs.ShutValid.{same_valid, strict_book}
 use Rattle.card_session.proofs.Ends.{open_end, closed_end}
 use Rattle.card_session.proofs.Renewing.{keep_word, ends_low, x_may}
 
@@ -149,10 +149,6 @@ module _ (app : Application) (sound : IsApplication app) (x : List ℕ) (fits : 
 
   -- of one without a session
   module _ (none : session_time app x ≡ 0) where
-    strict_then : AreDays 0 (card_days app x) → EndsStrictly (trimmed (mark_of (book_of app x)) (book_of app x).days)
-    unfolding book_of
-    strict_then are = strict_up_to app x valid none are
-
     module _ (x1 : List ℕ) (still : IsStill app x x1) (x2 : List ℕ) (shut : IsShut app x1 x2) where
       one_is : book_of app x1 ≡ book_of app x
       one_is = told_book app (book_of app x) x x1 still
@@ -175,7 +171,7 @@ module _ (app : Application) (sound : IsApplication app) (x : List ℕ) (fits : 
       two_fine : Fine app x2
       two_fine =
           card_fine app sound (IsBook (closed app.activity Rest (book_of app x1))) x1 x2 room_one shut
-          (close_strict app.activity sound.string_least (book_of app x) x_are Rest may (strict_then card_are) (book_of app x2).days (book_of app x2).vehicle shut.holds.ordered
+          (close_strict app.activity sound.string_least (book_of app x) x_are Rest may (strict_book app x valid none card_are) (book_of app x2).days (book_of app x2).vehicle shut.holds.ordered
           (inr (subst (λ (k : Book). IsBook (closed app.activity Rest k) (book_of app x2).days (book_of app x2).vehicle) one_is shut.told)))
 
       module _ (y : List ℕ) (side : Same app x2 y) (same : Judged app x y) (size : length y ≡ length x) where

@@ -10,6 +10,7 @@ use Rattle.card_model.specs.Days.{Day, AreDays, AreWords, Ascend, last_word, len
 use Rattle.card_model.specs.Changes.{AreStrict, Increase, trimmed}
 use Rattle.card_model.specs.Checks.{Check, check, first_failing, first_bad}
 use Rattle.card_model.specs.Image.{oldest_pointer}
+use Rattle.card_model.proofs.Judging.{first_passes}
 use Rattle.card_model.proofs.Trims.{are_trimmed}
 use Rattle.card_retention.specs.Entries.{EndsBy}
 use Rattle.card_image.specs.Fields.{day_string, vehicle_ring, place_ring, last_of, card_days, end_mark, session_time}
@@ -20,12 +21,6 @@ use Rattle.card_judge.proofs.Checking.{checks_open, checks_closed}
 use Rattle.card_session.specs.Sessions.{EndsStrictly}
 use Rattle.card_session.proofs.Valid.{passes_strict}
 
--- ---- a check that passes
-
-pub passes : (b : Bool) (p : ℕ) (cs : List Check) → first_failing (check b p ∷ cs) ≡ None → (b ≡ true) × (first_failing cs ≡ None)
-passes true p cs is = (refl, is)
-passes false p cs is = absurd (cc)
-
 -- ---- no entry's word behind the mark
 
 abbrev Quiet : ℕ → PlacedWord → Type 0
@@ -33,12 +28,12 @@ Quiet mark w = nat_lt mark (minute_at w) ≡ true → tells_none w ≡ true
 
 all_none : (ws : List PlacedWord) → first_failing (map (λ (v : PlacedWord). check (tells_none v) v.place) ws) ≡ None → AllByRecursion (λ (v : PlacedWord). tells_none v ≡ true) ws
 all_none [] is = tt
-all_none (w ∷ ws) is = let one = passes (tells_none w) w.place (map (λ (v : PlacedWord). check (tells_none v) v.place) ws) is in (one.0, all_none ws one.1)
+all_none (w ∷ ws) is = let one = first_passes (tells_none w) w.place (map (λ (v : PlacedWord). check (tells_none v) v.place) ws) is in (one.0, all_none ws one.1)
 
 closing_none : (mark : ℕ) (latest : Option PlacedWord) (ws : List PlacedWord) → first_failing (closing_checks mark latest ws) ≡ None → AllByRecursion (λ (v : PlacedWord). tells_none v ≡ true) ws
 closing_none mark latest [] is = tt
 closing_none mark latest (w ∷ ws) is =
-    let one = passes (tells_none w && not (leaves_gap mark latest w)) w.place (map (λ (v : PlacedWord). check (tells_none v) v.place) ws) is in
+    let one = first_passes (tells_none w && not (leaves_gap mark latest w)) w.place (map (λ (v : PlacedWord). check (tells_none v) v.place) ws) is in
     ((and_parts (tells_none w) (not (leaves_gap mark latest w)) one.0).0, all_none ws one.1)
 
 quiet : (mark : ℕ) (ws : List PlacedWord) → AllByRecursion (λ (v : PlacedWord). tells_none v ≡ true) (filter (λ (w : PlacedWord). nat_lt mark (minute_at w)) ws) → AllByRecursion (Quiet mark) ws

@@ -8,6 +8,7 @@ pub mod Keeping
 pub mod Rows
 pub mod Marks
 pub mod Told
+pub mod Unclosed
 pub mod Lasting
 pub mod InsertingDays
 pub mod InsertingWords

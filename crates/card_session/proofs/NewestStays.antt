@@ -184,7 +184,7 @@ module _ (size : ℕ) (long : 5544 ≤ size) (b : Book) (ordered : AreDays 0 b.d
 
 -- ---- of a book: a closing word
 
-word_drops : (room date : ℕ) (days kept : List Day) → 2894 ≤ room → AreDays date days → Remain room days kept → newest_word kept ≡ newest_word days
+pub word_drops : (room date : ℕ) (days kept : List Day) → 2894 ≤ room → AreDays date days → Remain room days kept → newest_word kept ≡ newest_word days
 word_drops room date [] kept wide are left = ap newest_word left
 word_drops room date (d ∷ []) kept wide are left = ⊎_elim (λ same. ap newest_word same) (λ gone. absurd (omega (arith, gone.0, wide, are.1.most))) left
 word_drops room date (d ∷ e ∷ ds) kept wide are left = ⊎_elim (λ same. ap newest_word same) (λ gone. word_drops room d.date (e ∷ ds) kept wide are.2 gone.1) left

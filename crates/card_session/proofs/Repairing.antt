@@ -32,7 +32,7 @@ use Rattle.card_session.specs.Sessions.{EndsStrictly, book_of}
 use Rattle.card_session.specs.Moments.{IsBook, IsCloseMoment}
 use Rattle.card_session.specs.Cards.{IsCard}
 use Rattle.card_session.specs.Inserting.{AreOwed, Follow, lacked, with_cut, with_owed, IsBeforeAll, EndsCut, repaired, IsRepairMoment, Both, During, IsStill, IsRepaired, IsRepairing, IsNoted, IsNoting, IsShut, IsShutting, IsReopening, InsertsClosed, InsertingClosed, InsertsOpen, InsertingOpen}
-use Rattle.card_session.specs.Overwriting.{GoesOn}
+use Rattle.card_session.specs.Overwriting.{GoesOn, IsRepairable}
 use Rattle.card_session.specs.Repairs.{first_minute, mark_behind, and_entries, with_entries, HasFirst, BeginsLater, lacked_by, ShowsFirst, ShowsOwed}
 use Rattle.card_session.proofs.Composing.{told_book}
 use Rattle.card_session.proofs.Preparing.{used_at}
@@ -399,3 +399,52 @@ module _ (app : Application) (sound : IsApplication app) (x : List ℕ) (fits : 
 
   pub closed_ends : (y : List ℕ) → InsertsClosed app registration now x y → GoesOn app slack covered from c y
   closed_ends y (x1, still, (x2, shut_, opened)) = use_still x1 still x2 y shut_ (opened_same app registration now long x2 y (room_left x1 still x2 shut_) opened)
+
+-- ---- one whose latest word may be an entry's: the closing word follows it
+
+module _ (app : Application) (sound : IsApplication app) (x : List ℕ) (fits : image_size_of app ≤ length x) (registration : Registration) (long : length registration.0 ≡ 15) (now : ℕ)
+    (slack : Bound) (covered from next : ℕ) (c : Counted) (least : 16 ≤ slack.bytes) (later : from ≤ next) (before : newest_minute (end_mark app x) (card_days app x) < next) (goes : GoesOn app slack covered from c x) where
+  abbrev Leaves : List ℕ → Type 0
+  Leaves y = ((end_mark app y ≡ end_mark app x) × IsRepairable app slack covered next c y) ⊎ GoesOn app slack covered next c y
+
+  module _ (y : List ℕ) (still : IsStill app x y) where
+    y_is : book_of app y ≡ book_of app x
+    y_is = told_book app (book_of app x) x y still
+
+    y_goes : GoesOn app slack covered from c y
+    unfolding book_of
+    y_goes = lives_told app slack covered from c y (book_of app x) y_is goes
+
+    y_before : newest_minute (end_mark app y) (card_days app y) < next
+    unfolding book_of
+    y_before = newest_told app slack covered next c y (book_of app x) y_is before
+
+    y_mark : end_mark app y ≡ end_mark app x
+    unfolding book_of
+    y_mark = ap (λ (k : Book). mark_of k) y_is
+
+    still_left : Leaves y
+    still_left =
+        close_leaves app sound x slack covered from c least goes Rest next y later before
+        (record { outside = still.outside; holds = still.holds; points = still.points; told = inl (still.told.1, inl still.told.0) })
+
+    closing_left : (z : List ℕ) → IsShutting app y z → Leaves z
+    closing_left z card = ⊎_elim
+        (λ old. inl (old.0 ∙ y_mark, old.1)) (λ on. inr on)
+        (close_leaves app sound y slack covered from c least y_goes Rest next z later y_before card)
+
+    use_left : (z w : List ℕ) → IsShut app y z → Same app z w → GoesOn app slack covered next c w
+    use_left z w card side =
+        goes_beside app sound z w side.0 side.1 card.points slack covered next c
+        (closed_leaves app sound y slack covered from c least y_goes Rest next z later y_before card.holds.ordered card.told)
+
+    room_there : (z : List ℕ) → IsShut app y z → place_of app (file 0x0507) + 19 ≤ length z
+    room_there z card = omega (arith, use_inside app, fits, still.outside.same_length, card.outside.same_length)
+
+  pub unclosed_moments : (y : List ℕ) → InsertingClosed app registration now x y → Leaves y
+  unclosed_moments y (inl still) = still_left y still
+  unclosed_moments y (inr (x1, still, inl shutting)) = closing_left x1 still y shutting
+  unclosed_moments y (inr (x1, still, inr (x2, shut, opening))) = inr (use_left x1 still x2 y shut (opening_same app registration now long x2 y (room_there x1 still x2 shut) opening))
+
+  pub unclosed_ends : (y : List ℕ) → InsertsClosed app registration now x y → GoesOn app slack covered next c y
+  unclosed_ends y (x1, still, (x2, shut, opened)) = use_left x1 still x2 y shut (opened_same app registration now long x2 y (room_there x1 still x2 shut) opened)

@@ -1,19 +1,20 @@
 -- A valid card whose session was left open is valid at each moment of an insertion.
-use Rattle.std.proofs.Common.{◌≡◌, ◌≢◌, inl, inr, ⊎_elim, ℕ, suc, ◌+◌, ◌*◌, ◌/◌, ◌%◌, ◌<◌, ◌≤◌, max, Bool, true, false, cond, Option, Some, None, List, [], ◌∷◌, ◌++◌, length, filter, refl, sym, ◌∙◌, ap, subst, arith}
+use Rattle.std.proofs.Common.{◌≡◌, ◌≢◌, inl, inr, ⊎_elim, ℕ, suc, ◌+◌, ◌*◌, ◌/◌, ◌%◌, ◌<◌, ◌≤◌, max, Bool, true, false, not, ◌&&◌, cond, Option, Some, None, List, [], ◌∷◌, ◌++◌, length, filter, refl, sym, ◌∙◌, ap, subst, arith}
 use Rattle.std.specs.Prelude.{◌⊎◌, nat_eq, nat_lt, nat_le}
 use Rattle.std.specs.List.{AllByRecursion}
+use Rattle.std.proofs.lemmas.Bool.{eq-eqb}
 use Rattle.std.proofs.lemmas.Bool.Decides.{nat_tests}
 use Rattle.std.proofs.lemmas.List.Elements.{filter-append}
 use Rattle.activity_codec.specs.declared.values.Activity.TheVariants.{Rest}
 use Rattle.activity_codec.specs.declared.entries.Entry.{Entry}
-use Rattle.activity_codec.specs.Words.{word_minute}
+use Rattle.activity_codec.specs.Words.{word_minute, word_absent}
 use Rattle.tacho_types.specs.declared.texts.Registration.{Registration}
 use Rattle.card_layout.specs.declared.files.Application.{Application}
 use Rattle.card_layout.specs.Application.{IsApplication}
 use Rattle.card_layout.specs.Files.{image_size_of, place_of}
 use Rattle.card_records.specs.declared.vehicle.Vehicle.{Vehicle}
 use Rattle.card_model.specs.Days.{Day, AreDays, AreWords, Ascend, last_word, len_of}
-use Rattle.card_model.specs.Changes.{trimmed}
+use Rattle.card_model.specs.Changes.{OnNewest, date_of, trimmed, with_newest, with_word}
 use Rattle.card_model.specs.Checks.{first_failing, first_bad, file_place}
 use Rattle.card_model.specs.Image.{oldest_pointer}
 use Rattle.card_model.proofs.Judging.{holds_passes}
@@ -24,7 +25,7 @@ use Rattle.gated_ring.specs.Ring.{PointsInside}
 use Rattle.gated_ring.proofs.Elsewhere.{points_elsewhere}
 use Rattle.card_image.specs.Fields.{file, day_string, vehicle_ring, last_of, last_use_of, card_days, end_mark, session_time}
 use Rattle.card_image.specs.Beside.{HaveSameDays, HaveSameVehicles, HaveSameSizes, HaveSamePlacePointer}
-use Rattle.card_image.specs.Judging.{PlacedWord, minute_at, words_placed, days_placed, closing_checks, words_behind_mark, newest_rises, word_checks, IsValid}
+use Rattle.card_image.specs.Judging.{PlacedWord, minute_at, words_placed, days_placed, tells_none, leaves_gap, closing_checks, words_behind_mark, newest_rises, word_checks, IsValid}
 use Rattle.card_image.proofs.Beside.{days_same, session_same as session_beside}
 use Rattle.card_image.proofs.DaysBeside.{bad_elsewhere}
 use Rattle.card_judge.specs.Words.{first_of}
@@ -81,6 +82,10 @@ module _ (mark size oldest : ℕ) where
   newest_high date d [] are = omega arith
   newest_high date d (e ∷ ds) are = omega (arith, are.2.0, newest_high d.date e ds are.2)
 
+  -- and those of the days before it are earlier
+  older_low : (date : ℕ) (d e : Day) (ds : List Day) → AreDays date (d ∷ e ∷ ds) → newest_word (e ∷ ds) ≤ mark → d.date / 60 + word_minute (last_word d.words) ≤ mark
+  older_low date d e ds are le = omega (arith, words_below d.words are.1.ordered, are.1.midnight, are.2.0, are.2.1.midnight, newest_high d.date e ds are.2, le)
+
   quiet_days : (k date : ℕ) (ds : List Day) → AreDays date ds → newest_word ds ≤ mark → filter late (days_placed size oldest k ds) ≡ []
   quiet_days k date [] are le = refl
   quiet_days k date (d ∷ []) are le =
@@ -88,16 +93,82 @@ module _ (mark size oldest : ℕ) where
       ∙ ap (λ (l : List PlacedWord). l ++ []) (quiet_day (k + 12) d.date d.words are.1.ordered le)
   quiet_days k date (d ∷ e ∷ ds) are le =
       filter-append late (words_placed size oldest (k + 12) d.date d.words) (days_placed size oldest (k + len_of d) (e ∷ ds))
-      ∙ ap (λ (l : List PlacedWord). l ++ filter late (days_placed size oldest (k + len_of d) (e ∷ ds))) (quiet_day (k + 12) d.date d.words are.1.ordered before)
+      ∙ ap (λ (l : List PlacedWord). l ++ filter late (days_placed size oldest (k + len_of d) (e ∷ ds))) (quiet_day (k + 12) d.date d.words are.1.ordered (older_low date d e ds are le))
       ∙ quiet_days (k + len_of d) d.date (e ∷ ds) are.2 le
-    where
-      before : d.date / 60 + word_minute (last_word d.words) ≤ mark
-      before = omega (arith, words_below d.words are.1.ordered, are.1.midnight, are.2.0, are.2.1.midnight, newest_high d.date e ds are.2, le)
 
   -- so nothing fails there
   behind_none : (ds : List Day) → AreDays 0 ds → newest_word ds ≤ mark → first_failing (words_behind_mark mark (days_placed size oldest 0 ds)) ≡ None
   behind_none ds are le =
       ap (λ (l : List PlacedWord). first_failing (closing_checks mark (last_of (filter (λ (p : PlacedWord). nat_le (minute_at p) mark) (days_placed size oldest 0 ds))) l)) (quiet_days 0 0 ds are le)
+
+  -- ---- one word stands there, which closes what is open at the end mark
+
+  just_late : (n : ℕ) → n ≡ suc mark → nat_lt mark n ≡ true
+  just_late n is = grind (arith, nat_tests)
+
+  -- this word alone, at the minute after it
+  abbrev IsAlone : ℕ → List PlacedWord → Type 0
+  IsAlone w ps = (p : PlacedWord) × (ps ≡ p ∷ []) × (p.word ≡ w) × (minute_at p ≡ suc mark)
+
+  closing_words : (k date low w v : ℕ) (ws : List ℕ) → Ascend low (v ∷ ws) → date / 60 + word_minute (last_word (v ∷ ws)) ≤ mark → date / 60 + word_minute w ≡ suc mark
+      → IsAlone w (filter late (words_placed size oldest k date ((v ∷ ws) ++ w ∷ [])))
+  closing_words k date low w v [] up le at =
+      let p : PlacedWord = record { date = date; word = v; place = file_place size oldest k } in
+      let q : PlacedWord = record { date = date; word = w; place = file_place size oldest (k + 2) } in (
+        q,
+        ap (λ (t : Bool). cond t (p ∷ filter late (q ∷ [])) (filter late (q ∷ []))) (not_less mark (date / 60 + word_minute v) le)
+            ∙ ap (λ (t : Bool). cond t (q ∷ []) []) (just_late (date / 60 + word_minute w) at),
+        refl,
+        at,
+      )
+  closing_words k date low w v (u ∷ ws) up le at =
+      let p : PlacedWord = record { date = date; word = v; place = file_place size oldest k } in
+      let more : List PlacedWord = filter late (words_placed size oldest (k + 2) date ((u ∷ ws) ++ w ∷ [])) in
+      let rest = closing_words (k + 2) date (word_minute v) w u ws up.2 le at in
+      (rest.0, ap (λ (t : Bool). cond t (p ∷ more) more) (not_less mark (date / 60 + word_minute v) (omega (arith, first_last low v (u ∷ ws) up, le))) ∙ rest.1, rest.2, rest.3)
+
+  closing_day : (k date w : ℕ) (ws : List ℕ) → AreWords ws → date / 60 + word_minute (last_word ws) ≤ mark → date / 60 + word_minute w ≡ suc mark
+      → IsAlone w (filter late (words_placed size oldest k date (ws ++ w ∷ [])))
+  closing_day k date w [] are le at = absurd are
+  closing_day k date w (v ∷ ws) are le at = closing_words k date 0 w v ws (words_ascend (v ∷ ws) are) le at
+
+  closing_days : (k date w : ℕ) (ds : List Day) → AreDays date ds → newest_word ds ≤ mark → OnNewest (λ d. d.date / 60 + word_minute w ≡ suc mark) ds
+      → IsAlone w (filter late (days_placed size oldest k (with_newest (with_word w) ds)))
+  closing_days k date w [] are le on = absurd on
+  closing_days k date w (d ∷ []) are le on =
+      let last = closing_day (k + 12) d.date w d.words are.1.ordered le on in
+      (last.0, filter-append late (words_placed size oldest (k + 12) d.date (d.words ++ w ∷ [])) [] ∙ ap (λ (l : List PlacedWord). l ++ []) last.1, last.2, last.3)
+  closing_days k date w (d ∷ e ∷ ds) are le on =
+      let rest = closing_days (k + len_of d) d.date w (e ∷ ds) are.2 le on in
+      let more : List PlacedWord = days_placed size oldest (k + len_of d) (with_newest (with_word w) (e ∷ ds)) in (
+        rest.0,
+        filter-append late (words_placed size oldest (k + 12) d.date d.words) more
+            ∙ ap (λ (l : List PlacedWord). l ++ filter late more) (quiet_day (k + 12) d.date d.words are.1.ordered (older_low date d e ds are le))
+            ∙ rest.1,
+        rest.2,
+        rest.3,
+      )
+
+  no_third : (a b : Bool) → (a && (b && false)) ≡ false
+  no_third true true = refl
+  no_third true false = refl
+  no_third false b = refl
+
+  no_gap : (l : Option PlacedWord) (p : PlacedWord) → minute_at p ≡ suc mark → leaves_gap mark l p ≡ false
+  no_gap None p at = refl
+  no_gap (Some l) p at =
+      ap (λ (t : Bool). nat_eq l.date (date_of mark) && (not (tells_none l) && not t)) (eq-eqb (minute_at p) (suc mark) at)
+      ∙ no_third (nat_eq l.date (date_of mark)) (not (tells_none l))
+
+  -- so nothing fails there either
+  pub behind_closed : (w : ℕ) (ds : List Day) → AreDays 0 ds → newest_word ds ≤ mark → word_absent w ≡ true → OnNewest (λ d. d.date / 60 + word_minute w ≡ suc mark) ds
+      → first_failing (words_behind_mark mark (days_placed size oldest 0 (with_newest (with_word w) ds))) ≡ None
+  behind_closed w ds are le absent on =
+      let one = closing_days 0 0 w ds are le on in
+      let latest : Option PlacedWord = last_of (filter (λ (p : PlacedWord). nat_le (minute_at p) mark) (days_placed size oldest 0 (with_newest (with_word w) ds))) in
+      ap (λ (l : List PlacedWord). first_failing (closing_checks mark latest l)) one.1
+      ∙ ap (λ (t : Bool). cond (t && not (leaves_gap mark latest one.0)) (first_failing []) (Some one.0.place)) (ap word_absent one.2 ∙ absent)
+      ∙ ap (λ (t : Bool). cond (true && not t) (first_failing []) (Some one.0.place)) (no_gap latest one.0 one.3)
 
 -- ---- of a card
 
@@ -124,20 +195,29 @@ module _ (app : Application) (x y : List ℕ) (valid : IsValid app x) (sizes : H
       valid_by app x valid y sizes places fine.days fine.points
       (checks_open app.activity oldest (end_mark app y) (session_time app y) (card_days app y) open_ ∙ strict_passes app.activity oldest 0 (trimmed (end_mark app y) (card_days app y)) fine.strict)
 
-  fine_shut : Low app y → nat_eq (session_time app y) 0 ≡ true → IsValid app y
-  fine_shut low shut =
+  abbrev behind : Option ℕ
+  behind = first_failing (words_behind_mark (end_mark app y) (days_placed app.activity oldest 0 (card_days app y)))
+
+  fine_shut : behind ≡ None → EndsStrictly (card_days app y) → nat_eq (session_time app y) 0 ≡ true → IsValid app y
+  fine_shut closes strict shut =
       valid_by app x valid y sizes places fine.days fine.points
       (checks_closed app.activity oldest (end_mark app y) (session_time app y) (card_days app y) shut
-      ∙ ap (λ (o : Option ℕ). first_of o (first_of (first_failing (newest_rises app.activity oldest 0 (trimmed (end_mark app y) (card_days app y)))) count)) (behind_none (end_mark app y) app.activity oldest (card_days app y) fine.ordered low)
+      ∙ ap (λ (o : Option ℕ). first_of o (first_of (first_failing (newest_rises app.activity oldest 0 (trimmed (end_mark app y) (card_days app y)))) count)) closes
       ∙ ap (λ (o : Option ℕ). first_of o count) (strict_passes app.activity oldest 0 (trimmed (end_mark app y) (card_days app y)) fine.strict)
-      ∙ strict_passes app.activity oldest 0 (card_days app y) (subst EndsStrictly (flat_of (end_mark app y) 0 (card_days app y) fine.ordered low) fine.strict))
+      ∙ strict_passes app.activity oldest 0 (card_days app y) strict)
 
-  pub fine_low : Low app y → IsValid app y
-  fine_low low = by (nat_eq (session_time app y) 0) refl
+  -- where nothing fails behind the end mark
+  pub fine_behind : behind ≡ None → EndsStrictly (card_days app y) → IsValid app y
+  fine_behind closes strict = by (nat_eq (session_time app y) 0) refl
     where
       by : (t : Bool) → nat_eq (session_time app y) 0 ≡ t → IsValid app y
       by false is = fine_open is
-      by true is = fine_shut low is
+      by true is = fine_shut closes strict is
+
+  pub fine_low : Low app y → IsValid app y
+  fine_low low =
+      fine_behind (behind_none (end_mark app y) app.activity oldest (card_days app y) fine.ordered low)
+      (subst EndsStrictly (flat_of (end_mark app y) 0 (card_days app y) fine.ordered low) fine.strict)
 
 module _ (app : Application) (sound : IsApplication app) where
   pub card_fine : (P : List Day → Option Vehicle → Type 0) (z y : List ℕ) → image_size_of app ≤ length z → IsCard app P z y → EndsStrictly (trimmed (mark_of (book_of app y)) (book_of app y).days) → Fine app y
@@ -194,15 +274,15 @@ module _ (app : Application) (sound : IsApplication app) (z : List ℕ) (fine : 
   }
 
   module _ (fits : image_size_of app ≤ length z) (w : List ℕ) where
-    shutting_fine : IsShutting app z w → Fine app w
+    pub shutting_fine : IsShutting app z w → Fine app w
     shutting_fine card =
         card_fine app sound (IsCloseMoment app.activity Rest (book_of app z)) z w fits card
         (close_strict app.activity sound.string_least (book_of app z) book_are Rest book_may book_strict (book_of app w).days (book_of app w).vehicle card.holds.ordered card.told)
 
-    shut_fine : IsShut app z w → Fine app w
+    pub shut_fine : IsShut app z w → Fine app w
     shut_fine card = shutting_fine (record { outside = card.outside; holds = card.holds; points = card.points; told = inr card.told })
 
-    shut_low : IsShut app z w → Low app w
+    pub shut_low : IsShut app z w → Low app w
     shut_low card = low_told app w (closed app.activity Rest (book_of app z)) (told_book app (closed app.activity Rest (book_of app z)) z w card) (closed_low app.activity sound.string_least (book_of app z) book_are Rest book_may book_low)
 
 -- ---- the days at each moment of a repair

@@ -14,6 +14,7 @@ use Rattle.card_model.specs.Days.{Day, AreDays, len_of}
 use Rattle.card_model.specs.Changes.{date_of, trimmed}
 use Rattle.card_model.specs.Checks.{Check, check, first_failing, first_bad}
 use Rattle.card_model.specs.Image.{oldest_pointer}
+use Rattle.card_model.proofs.Judging.{first_passes}
 use Rattle.card_model.proofs.Trims.{are_trimmed}
 use Rattle.card_retention.specs.Shown.{is_open}
 use Rattle.card_image.specs.Fields.{file, day_string, last_of, card_days, end_mark, session_time}
@@ -32,7 +33,7 @@ use Rattle.card_session.proofs.Valid.{valid_by, valid_words, passes_strict, stri
 use Rattle.card_session.proofs.InsertingUse.{use_inside}
 use Rattle.card_session.proofs.InsertingOpen.{Same, opening_same}
 use Rattle.card_session.proofs.InsertingAgain.{inserting_keeps}
-use Rattle.card_session.proofs.InsertingValid.{passes, first_none}
+use Rattle.card_session.proofs.InsertingValid.{first_none}
 use Rattle.card_session.proofs.Repairing.{mark_beside, closed_still}
 use Rattle.card_session.proofs.Revalid.{Fine, card_fine, beside_fine, fine_open, strict_told}
 
@@ -111,7 +112,7 @@ rest_passes [] [] same pass = refl
 rest_passes [] (v ∷ vs) same pass = absurd same
 rest_passes (w ∷ ws) [] same pass = absurd same
 rest_passes (w ∷ ws) (v ∷ vs) same pass =
-    let one = passes (tells_none w) w.place (map (λ (u : PlacedWord). check (tells_none u) u.place) ws) pass in
+    let one = first_passes (tells_none w) w.place (map (λ (u : PlacedWord). check (tells_none u) u.place) ws) pass in
     ap (λ (b : Bool). cond b (first_failing (map (λ (u : PlacedWord). check (tells_none u) u.place) vs)) (Some v.place)) (none_same w v same.0 ∙ one.0)
     ∙ rest_passes ws vs same.1 one.1
 
@@ -120,7 +121,7 @@ closing_passes mark l m [] [] last same pass = refl
 closing_passes mark l m [] (v ∷ vs) last same pass = absurd same
 closing_passes mark l m (w ∷ ws) [] last same pass = absurd same
 closing_passes mark l m (w ∷ ws) (v ∷ vs) last same pass =
-    let one = passes (tells_none w && not (leaves_gap mark l w)) w.place (map (λ (u : PlacedWord). check (tells_none u) u.place) ws) pass in
+    let one = first_passes (tells_none w && not (leaves_gap mark l w)) w.place (map (λ (u : PlacedWord). check (tells_none u) u.place) ws) pass in
     ap (λ (b : Bool). cond b (first_failing (map (λ (u : PlacedWord). check (tells_none u) u.place) vs)) (Some v.place))
     (ap (λ (a : Bool). a && not (leaves_gap mark m v)) (none_same w v same.0) ∙ ap (λ (a : Bool). tells_none w && not a) (gap_same mark l m w v last same.0) ∙ one.0)
     ∙ rest_passes ws vs same.1 one.1
@@ -155,8 +156,12 @@ module _ (app : Application) (x : List ℕ) (valid : IsValid app x) (none : sess
       let two = first_none cut whole one.1 in
       (one.0, two.0, two.1)
 
-  pub strict_up_to : AreDays 0 (card_days app x) → EndsStrictly (trimmed (end_mark app x) (card_days app x))
+  strict_up_to : AreDays 0 (card_days app x) → EndsStrictly (trimmed (end_mark app x) (card_days app x))
   strict_up_to are = passes_strict app.activity (oldest_pointer (day_string app) x) 0 0 (trimmed (end_mark app x) (card_days app x)) (are_trimmed (end_mark app x) 0 (card_days app x) are) three.1
+
+  pub strict_book : AreDays 0 (card_days app x) → EndsStrictly (trimmed (mark_of (book_of app x)) (book_of app x).days)
+  unfolding book_of
+  strict_book are = strict_up_to are
 
   module _ (are : AreDays 0 (card_days app x)) (y : List ℕ) (days : card_days app y ≡ card_days app x) (mark : end_mark app y ≡ end_mark app x) (fine : Fine app y) where
     abbrev oldest : ℕ
@@ -208,10 +213,6 @@ module _ (app : Application) (sound : IsApplication app) (x : List ℕ) (fits : 
   unfolding book_of
   mark_is y is = ap (λ (k : Book). mark_of k) is
 
-  strict_there : AreDays 0 (card_days app x) → EndsStrictly (trimmed (mark_of (book_of app x)) (book_of app x).days)
-  unfolding book_of
-  strict_there are = strict_up_to app x valid none are
-
   module _ (y : List ℕ) (still : IsStill app x y) where
     y_is : book_of app y ≡ book_of app x
     y_is = told_book app (book_of app x) x y still
@@ -221,7 +222,7 @@ module _ (app : Application) (sound : IsApplication app) (x : List ℕ) (fits : 
     x_are = subst (λ (ds : List Day). AreDays 0 ds) still.told.0 still.holds.ordered
 
     y_fine : Fine app y
-    y_fine = card_fine app sound (IsBook (book_of app x)) x y fits still (strict_told app y (book_of app x) y_is (strict_there x_are))
+    y_fine = card_fine app sound (IsBook (book_of app x)) x y fits still (strict_told app y (book_of app x) y_is (strict_book app x valid none x_are))
 
     y_fits : image_size_of app ≤ length y
     y_fits = omega (arith, fits, still.outside.same_length)
@@ -238,7 +239,7 @@ module _ (app : Application) (sound : IsApplication app) (x : List ℕ) (fits : 
           ∙ y_is
 
       z_fine : Fine app z
-      z_fine = card_fine app sound (IsCloseMoment app.activity Rest (book_of app y)) y z y_fits card (strict_told app z (book_of app x) z_is (strict_there x_are))
+      z_fine = card_fine app sound (IsCloseMoment app.activity Rest (book_of app y)) y z y_fits card (strict_told app z (book_of app x) z_is (strict_book app x valid none x_are))
 
       z_room : place_of app (file 0x0507) + 19 ≤ length z
       z_room = omega (arith, use_inside app, y_fits, card.outside.same_length)

@@ -11,7 +11,7 @@ use Rattle.card_layout.specs.declared.files.Application.{Application}
 use Rattle.card_layout.specs.Application.{IsApplication}
 use Rattle.card_model.specs.Days.{Day, AreDays}
 use Rattle.card_model.specs.Changes.{Remain, OnNewest, fitting, with_newest, with_word, date_of, trimmed}
-use Rattle.card_model.proofs.Retention.{remain_fitting}
+use Rattle.card_model.proofs.Retention.{remain_all, remain_fitting}
 use Rattle.card_model.proofs.Trims.{are_trimmed}
 use Rattle.card_retention.specs.Expected.{Counted, is_newest, with_entry as counted_with}
 use Rattle.card_retention.specs.Shown.{Bound, AllUpTo, Rests, Lives, sizes, is_open, with_closing}
@@ -55,10 +55,6 @@ closing_absent m act latest = ap (λ (n : ℕ). n == 1) odd
 
     odd : closing_word m act latest / 8192 % 2 ≡ 1
     odd = omega (arith, few act)
-
-remain_all : (room : ℕ) (ds : List Day) → Remain room ds ds
-remain_all room [] = refl
-remain_all room (d ∷ ds) = inl refl
 
 -- a later bound
 pub lives_later : (size : ℕ) (slack : Bound) (covered from to mark : ℕ) (c : Counted) (days : List Day) → from ≤ to → Lives size slack covered from mark c days → Lives size slack covered to mark c days

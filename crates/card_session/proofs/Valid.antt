@@ -212,13 +212,20 @@ module _ (size : ℕ) (long : 5544 ≤ size) (b : Book) (are : AreDays 0 b.days)
       remain_some (TakesWord v) (size - 2) 0 b.days (fitting (size - 2) b.days) (omega (arith, long)) are (remain_fitting (size - 2) b.days)
       (takes_closing (mark_of b) act b.days may.ends may.strict is)
 
+  -- it stands at the minute after the end mark
+  pub closing_at : is_open (mark_of b) b.days ≡ true → OnNewest (λ d. d.date / 60 + word_minute v ≡ suc (mark_of b)) (fitting (size - 2) b.days)
+  closing_at is =
+      on_as (λ d. d.date ≡ date_of (suc (mark_of b))) (λ d. d.date / 60 + word_minute v ≡ suc (mark_of b)) (fitting (size - 2) b.days) (λ d date. omega (arith, date, closing_minute (suc (mark_of b)) act (latest_of b.days)))
+      (remain_some (λ d. d.date ≡ date_of (suc (mark_of b))) (size - 2) 0 b.days (fitting (size - 2) b.days) (omega (arith, long)) are (remain_fitting (size - 2) b.days)
+      (open_date (mark_of b) b.days is))
+
   -- its minute is the newest then
   pub closing_newest : is_open (mark_of b) b.days ≡ true → newest_word (with_change size v b.days) ≡ suc (mark_of b)
-  closing_newest is =
-      newest_with v (suc (mark_of b)) (fitting (size - 2) b.days)
-      (on_as (λ d. d.date ≡ date_of (suc (mark_of b))) (λ d. d.date / 60 + word_minute v ≡ suc (mark_of b)) (fitting (size - 2) b.days) (λ d date. omega (arith, date, closing_minute (suc (mark_of b)) act (latest_of b.days)))
-      (remain_some (λ d. d.date ≡ date_of (suc (mark_of b))) (size - 2) 0 b.days (fitting (size - 2) b.days) (omega (arith, long)) are (remain_fitting (size - 2) b.days)
-      (open_date (mark_of b) b.days is)))
+  closing_newest is = newest_with v (suc (mark_of b)) (fitting (size - 2) b.days) (closing_at is)
+
+  -- and the words rise
+  pub closing_rises : is_open (mark_of b) b.days ≡ true → EndsStrictly (with_change size v b.days)
+  closing_rises is = strict_with v (fitting (size - 2) b.days) (takes is)
 
   -- no word stands behind the end mark then, where none did
   pub closed_low : newest_word b.days ≤ mark_of b → newest_word (closed size act b).days ≤ mark_of (closed size act b)
@@ -238,7 +245,7 @@ module _ (size : ℕ) (long : 5544 ≤ size) (b : Book) (are : AreDays 0 b.days)
             let at : mark_of marked ≡ suc (mark_of b) = mark_moves b are is in
             subst (λ (n : ℕ). EndsStrictly (trimmed n marked.days)) (sym at)
             (subst (λ (ds : List Day). EndsStrictly (trimmed (suc (mark_of b)) ds)) (sym (changed is))
-            (subst EndsStrictly (sym (flat_of (suc (mark_of b)) 0 (with_change size v b.days) (subst (λ (ds : List Day). AreDays 0 ds) (changed is) ordered) (omega (arith, closing_newest is)))) (strict_with v (fitting (size - 2) b.days) (takes is))))
+            (subst EndsStrictly (sym (flat_of (suc (mark_of b)) 0 (with_change size v b.days) (subst (λ (ds : List Day). AreDays 0 ds) (changed is) ordered) (omega (arith, closing_newest is)))) (closing_rises is)))
 
     pub close_strict : (ds : List Day) (o : Option Vehicle) → AreDays 0 ds → IsCloseMoment size act b ds o → EndsStrictly (trimmed (last_use_of o / 60) ds)
     close_strict ds o ordered (inl old) =

@@ -106,7 +106,8 @@ pub fn an_insertion_leaves_the_number()
 
 /// A stop in an insertion of a card whose session was left open leaves that session, and of the owed entries that the card lacked the
 /// first ones, with the end mark at the last of them, so that the rest is what it lacks then; or all of them, whatever is kept next. By
-/// the stated overwriting, with what a repair would leave. Of a card without a session, whose words are closed, it leaves the entries.
+/// the stated overwriting, with what a repair would leave. Of a card without a session it leaves the entries; where its words are not
+/// closed, as a withdrawal does: with the old end mark, once a repair has cut them to it, or with the closing word and the mark at it.
 pub fn a_stop_in_an_insertion_leaves_the_entries()
     ensures open { (app : Application) (registration : Registration) (odometer now : ℕ) (owed : List Entry) (x y : List ℕ) → IsApplication app → image_size_of app ≤ length x → length registration.0 ≡ 15 → AreOwed now owed → IsValid app x → 0 < session_time app x →
         (slack : Bound) (covered from next : ℕ) (c : Counted) → 16 ≤ slack.bytes → IsRepairable app slack covered from c x → from ≤ first_minute next (lacked_by app x owed) → suc (mark_behind (end_mark app x) (lacked_by app x owed)) < next →
@@ -115,6 +116,9 @@ pub fn a_stop_in_an_insertion_leaves_the_entries()
     ensures rest { (app : Application) (now : ℕ) (owed : List Entry) (x y : List ℕ) → AreOwed now owed → (slack : Bound) (covered next : ℕ) (c : Counted) → (first : ShowsFirst app slack covered next c owed x y) → lacked_by app y owed ≡ first.rest }
     ensures shut { (app : Application) (registration : Registration) (odometer now : ℕ) (owed : List Entry) (x y : List ℕ) → IsApplication app → image_size_of app ≤ length x → length registration.0 ≡ 15 → session_time app x ≡ 0 → is_open (end_mark app x) (card_days app x) ≡ false →
         (slack : Bound) (covered from : ℕ) (c : Counted) → GoesOn app slack covered from c x → IsCardInserting app registration odometer owed now x y → GoesOn app slack covered from c y }
+    ensures unclosed { (app : Application) (registration : Registration) (odometer now : ℕ) (owed : List Entry) (x y : List ℕ) → IsApplication app → image_size_of app ≤ length x → length registration.0 ≡ 15 → session_time app x ≡ 0 →
+        (slack : Bound) (covered from next : ℕ) (c : Counted) → 16 ≤ slack.bytes → from ≤ next → newest_minute (end_mark app x) (card_days app x) < next → GoesOn app slack covered from c x → IsCardInserting app registration odometer owed now x y →
+        ((end_mark app y ≡ end_mark app x) × IsRepairable app slack covered next c y) ⊎ GoesOn app slack covered next c y }
 {}
 
 /// At its end all owed entries that the card lacked are on it.
@@ -124,15 +128,17 @@ pub fn an_insertion_leaves_the_entries()
         BeginsLater (end_mark app x) (lacked_by app x owed) (trimmed (end_mark app x) (card_days app x)) → IsCardInserted app registration odometer owed now x y → ShowsOwed app slack covered next c owed x y }
     ensures shut { (app : Application) (registration : Registration) (odometer now : ℕ) (owed : List Entry) (x y : List ℕ) → IsApplication app → image_size_of app ≤ length x → length registration.0 ≡ 15 → session_time app x ≡ 0 → is_open (end_mark app x) (card_days app x) ≡ false →
         (slack : Bound) (covered from : ℕ) (c : Counted) → GoesOn app slack covered from c x → IsCardInserted app registration odometer owed now x y → GoesOn app slack covered from c y }
+    ensures unclosed { (app : Application) (registration : Registration) (odometer now : ℕ) (owed : List Entry) (x y : List ℕ) → IsApplication app → image_size_of app ≤ length x → length registration.0 ≡ 15 → session_time app x ≡ 0 →
+        (slack : Bound) (covered from next : ℕ) (c : Counted) → 16 ≤ slack.bytes → from ≤ next → newest_minute (end_mark app x) (card_days app x) < next → GoesOn app slack covered from c x → IsCardInserted app registration odometer owed now x y →
+        GoesOn app slack covered next c y }
 {}
 
-/// A stop in an insertion leaves a card valid whose session was left open, or which has none and whose words are closed, whatever its
-/// session time is then.
+/// A stop in an insertion leaves a card valid that was, whatever its session time is then.
 pub fn a_stop_in_an_insertion_leaves_a_valid_card()
     ensures open { (app : Application) (registration : Registration) (odometer now : ℕ) (owed : List Entry) (x y : List ℕ) → IsApplication app → image_size_of app ≤ length x → length registration.0 ≡ 15 → AreOwed now owed → IsValid app x → 0 < session_time app x →
         BeginsLater (end_mark app x) (lacked_by app x owed) (trimmed (end_mark app x) (card_days app x)) → IsCardInserting app registration odometer owed now x y → IsValid app y }
     ensures shut { (app : Application) (registration : Registration) (odometer now : ℕ) (owed : List Entry) (x y : List ℕ) → IsApplication app → image_size_of app ≤ length x → length registration.0 ≡ 15 → IsValid app x → session_time app x ≡ 0 →
-        is_open (end_mark app x) (card_days app x) ≡ false → IsCardInserting app registration odometer owed now x y → IsValid app y }
+        IsCardInserting app registration odometer owed now x y → IsValid app y }
 {}
 
 /// A stop in an insertion leaves the session time, 0, or that of now, which it is at its end.

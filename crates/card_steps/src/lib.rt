@@ -4,4 +4,9 @@
 
 mod laws;
 
-pub use laws::{a_begun_day_is_kept, a_keep_is_shown, what_is_carried_is_stated};
+pub use laws::{
+    a_begun_day_is_kept, a_keep_is_shown, a_keep_keeps_the_string, a_string_holds_on,
+    a_string_that_holds_is_kept, a_withdrawal_is_shown, a_withdrawal_keeps_the_string,
+    an_entry_may_come, an_insertion_is_shown, an_insertion_keeps_the_string,
+    what_is_carried_is_stated,
+};

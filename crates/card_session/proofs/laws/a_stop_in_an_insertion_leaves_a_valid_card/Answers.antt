@@ -2,7 +2,7 @@ use Rattle.std.proofs.Common.{◌≡◌, ◌<◌, ⊎_elim, arith}
 use Rattle.card_image.specs.Fields.{session_time}
 use Rattle.card_session.proofs.Valid.{above_zero}
 use Rattle.card_session.proofs.Revalid.{again_valid}
-use Rattle.card_session.proofs.ShutValid.{closed_valid}
+use Rattle.card_session.proofs.Unclosed.{none_valid}
 use Rattle.card_session.proofs.laws.a_stop_in_an_insertion_leaves_a_valid_card.Goals as goal
 
 pub returns-clause-open : goal.returns-clause-open
@@ -11,5 +11,5 @@ returns-clause-open c = λ app registration odometer now owed x y sound fits lon
     (λ some. again_valid app sound x fits registration long odometer now owed are.0 valid (above_zero (session_time app x) session) begins y some.0 some.1) inserting
 
 pub returns-clause-shut : goal.returns-clause-shut
-returns-clause-shut c = λ app registration odometer now owed x y sound fits long valid session shut inserting.
-    ⊎_elim (λ none. closed_valid app sound x fits registration long odometer now owed valid session shut y none.1) (λ some. absurd (some.0 session)) inserting
+returns-clause-shut c = λ app registration odometer now owed x y sound fits long valid session inserting.
+    ⊎_elim (λ none. none_valid app sound x fits registration long odometer now owed valid session y none.1) (λ some. absurd (some.0 session)) inserting

@@ -2,7 +2,7 @@ use Rattle.std.proofs.Common.{◌≡◌, ◌∙◌, ◌<◌, ⊎_elim, ℕ, ap, 
 use Rattle.card_image.specs.Fields.{session_time, end_mark}
 use Rattle.card_session.specs.Inserting.{lacked}
 use Rattle.card_session.proofs.Valid.{above_zero}
-use Rattle.card_session.proofs.Repairing.{lacked_again, leaves_owed, closed_moments}
+use Rattle.card_session.proofs.Repairing.{lacked_again, leaves_owed, closed_moments, unclosed_moments}
 use Rattle.card_session.proofs.laws.a_stop_in_an_insertion_leaves_the_entries.Goals as goal
 
 pub returns-clause-open : goal.returns-clause-open
@@ -17,3 +17,7 @@ returns-clause-rest c = λ app now owed x y are slack covered next counted first
 pub returns-clause-shut : goal.returns-clause-shut
 returns-clause-shut c = λ app registration odometer now owed x y sound fits long session shut slack covered from counted goes inserting.
     ⊎_elim (λ none. closed_moments app sound x fits registration long now slack covered from counted goes shut y none.1) (λ some. absurd (some.0 session)) inserting
+
+pub returns-clause-unclosed : goal.returns-clause-unclosed
+returns-clause-unclosed c = λ app registration odometer now owed x y sound fits long session slack covered from next counted least later before goes inserting.
+    ⊎_elim (λ none. unclosed_moments app sound x fits registration long now slack covered from next counted least later before goes y none.1) (λ some. absurd (some.0 session)) inserting

@@ -1,0 +1,15 @@
+pub mod Moments
+pub mod Lookups
+pub mod Presence
+pub mod Logs
+pub mod Alike
+pub mod Ties
+pub mod Core
+pub mod Told
+pub mod Steps
+pub mod Within
+pub mod New
+pub mod Deciding
+pub mod Complete
+pub mod Staying
+pub mod Rows

@@ -1,0 +1,3 @@
+pub mod Crews
+pub mod Fed
+pub mod Noted
