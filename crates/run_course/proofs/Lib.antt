@@ -8,3 +8,8 @@ pub mod Core
 pub mod Told
 pub mod Steps
 pub mod Within
+pub mod New
+pub mod Deciding
+pub mod Complete
+pub mod Staying
+pub mod Rows

@@ -7,6 +7,7 @@ use Rattle.trace_model.specs.declared.Card.{Card}
 use Rattle.trace_model.specs.declared.Card.TheVariants.{A, B}
 use Rattle.tach_media.specs.Medium.{State, IsCoherent}
 use Rattle.log_model.specs.declared.lines.Mark.{Mark}
+use Rattle.log_model.specs.Spans.{AreInOrder}
 use Rattle.log_model.specs.Causes.{device_of}
 use Rattle.unit_model.specs.Image.{recorded, unit_minutes, last_kept}
 use Rattle.unit_model.specs.Decoding.{Decodes}
@@ -15,7 +16,7 @@ use Rattle.card_image.specs.View.{CardView}
 use Rattle.card_image.specs.Own.{own_view, own_number, own_bad_file, IsOwnValid, KeepsOf}
 use Rattle.history_model.specs.Minutes.{HistoryMinute, card_history, up_to}
 use Rattle.history_model.specs.Presence.{CardStart}
-use Rattle.history_model.specs.Book.{all, Rising, IsMark}
+use Rattle.history_model.specs.Book.{all, Follows, Rising, IsMark}
 use Rattle.history_model.proofs.Books.{history-append}
 use Rattle.joint_rule.specs.Views.{UnitView, unit_view, owed}
 use Rattle.joint_rule.specs.Filling.{FillsDays}
@@ -28,9 +29,10 @@ use Rattle.safety_model.specs.Safe.{Devices, card_of, IsSafe}
 use Rattle.unit_rule.specs.Rule.{Started}
 use Rattle.unit_rule.proofs.Safety.{unit-safe}
 use Rattle.run_rule.specs.Found.{CardFound, Found, found_of, unit_seen, AnyKept}
-use Rattle.run_rule.specs.Cards.{StringHolds, MayGoOn, CardWaits, IsCardHeld, counted_to, brought_by}
+use Rattle.run_rule.specs.Cards.{StringHolds, StringGoesOn, CardWaits, IsCardHeld, counted_to, brought_by}
 use Rattle.run_rule.specs.Between.{Carried, IsLit, IsCarried, IsFound, IsFollowed, AreBrought, AreUntouched}
 use Rattle.run_rule.proofs.CardEnd.{at_start, shows, marked, repaired, rest-agrees, started as started-start}
+use Rattle.run_rule.proofs.Beyond.{follows-later}
 use Rattle.run_rule.proofs.Present.{bound, history-later}
 use Rattle.run_rule.proofs.Behind.{said-by, counted-in, kept-within, own-marked, owed-until, rising-above, mark-above, stands-there}
 
@@ -141,7 +143,7 @@ module _ (r : Recording) (f : Found) (w : Carried) (began now : Devices) (found 
           subst (λ (es : List Entry). KeepsOf (card_image r c) (expected_to r c (last_kept u)) (record (own_view x).held { entries = (own_view x).held.entries ++ es })) (same-owed u (own_view x))
           (subst (λ (k : ℕ). KeepsOf (card_image r c) (expected_to r c k) (record (own_view x).held { entries = (own_view x).held.entries ++ owed c (view u) (own_view x) })) (last-of f.card_a.number f.card_b.number u)
           (rest-agrees r c clock w.book card rest whole string (w.standing c) (view u) x meets had (unit-shows u on).sure (found.days c valid) rest-later
-          (subst (λ (g : CardFound). MayGoOn g c w.book (owed c (view u) (own_view x)) x) same (waits.comes u x on there))))
+          (subst (λ (g : CardFound). StringGoesOn g c w.book (w.standing c) (owed c (view u) (own_view x)) x) same (waits.comes u x on there))))
 
       -- the book's minutes rise behind the unit's last-kept one at the start
       rising : Rising (last_kept r.unit) (all w.book)
@@ -216,6 +218,16 @@ module _ (r : Recording) (f : Found) (w : Carried) (began now : Devices) (found 
     card = card-part each untouched;
     both = λ c u x valid on there. card-agrees c valid u x on there decodes;
   }
+
+-- the book follows the history, and so what is beyond it is later
+pub safe-followed : (r : Recording) (f : Found) (w : Carried) (began now : Devices) → IsCoherent now.unit → ((c : Card) → IsCoherent (card_of now c)) → Decodes r.unit → (from : ℕ) → AreInOrder from r.trace → last_kept r.unit < from / 60 →
+    IsFound r f began → Follows (history_of r) (lost_of r) w.book → IsCarried f w now → ((c : Card) → IsOwnValid (card_image r c) → AreBrought r c w.book (w.brought c)) → AreUntouched r f now → IsSafe r w.marks began now
+safe-followed r f w began now unit_whole card_whole decodes from order early found follows carried each untouched =
+    safe-end r f w began now found
+    (follows-later r w.book now.unit from (last_kept r.unit) order early follows
+    (λ u on. subst (λ (k : ℕ). IsMark (last_kept r.unit) (all w.book) k) (last-of f.card_a.number f.card_b.number u)
+    (subst (λ (s : Started). IsMark s.first (all w.book) (unit_view f.card_a.number f.card_b.number u).last) found.unit ((carried.unit.unit_holds f.card_a.number f.card_b.number).now (unit_view f.card_a.number f.card_b.number u) (u, on, refl)).mark)))
+    carried unit_whole card_whole decodes each untouched
 
 -- while the unit has power the same is carried
 pub lit-carried : (f : Found) (w : Carried) (d : Devices) → IsLit f w d → IsCarried f w d

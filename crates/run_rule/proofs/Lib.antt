@@ -6,3 +6,5 @@ pub mod Behind
 pub mod End
 pub mod OwedRises
 pub mod Opening
+pub mod Beyond
+pub mod Waiting
