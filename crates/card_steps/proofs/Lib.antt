@@ -3,3 +3,7 @@ pub mod Stated
 pub mod Begun
 pub mod Again
 pub mod OnBegun
+pub mod Shutting
+pub mod Withdrawn
+pub mod Replayed
+pub mod Inserted

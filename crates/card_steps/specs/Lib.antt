@@ -1,2 +1,4 @@
 pub mod Carried
 pub mod Shows
+pub mod Closes
+pub mod Inserts

@@ -1,16 +1,26 @@
-ghost use Rattle.std.specs.Prelude.{◌≡◌, ◌⊎◌, ℕ, ◌/◌, ◌<◌, ◌≤◌, List, ◌++◌};
+ghost use Rattle.std.specs.Prelude.{◌≡◌, ◌⊎◌, ℕ, ◌/◌, ◌<◌, ◌≤◌, false, List, ◌++◌, length};
 ghost use Rattle.activity_codec.specs.declared.entries.Entry.{Entry};
+ghost use Rattle.activity_codec.specs.declared.values.Activity.{Activity};
+ghost use Rattle.tacho_types.specs.declared.texts.Registration.{Registration};
 ghost use Rattle.card_layout.specs.declared.files.Application.{Application};
 ghost use Rattle.card_layout.specs.Application.{IsApplication};
+ghost use Rattle.card_layout.specs.Files.{image_size_of};
 ghost use Rattle.card_model.specs.Changes.{trimmed};
 ghost use Rattle.card_retention.specs.Expected.{Counted};
-ghost use Rattle.card_retention.specs.Shown.{Bound};
+ghost use Rattle.card_retention.specs.Entries.{newest_minute};
+ghost use Rattle.card_retention.specs.Shown.{Bound, is_open};
 ghost use Rattle.card_image.specs.Fields.{card_days, end_mark, session_time};
+ghost use Rattle.card_image.specs.Judging.{IsValid};
+ghost use Rattle.card_image.specs.View.{card_view};
 ghost use Rattle.card_session.specs.Sessions.{Session, IsSession};
-ghost use Rattle.card_session.specs.Cards.{IsCardKeeping};
+ghost use Rattle.card_session.specs.Cards.{IsCardKeeping, IsCardClosing, IsCardClosed};
+ghost use Rattle.card_session.specs.Inserting.{AreOwed, IsCardInserted, IsCardInserting};
+ghost use Rattle.card_session.specs.Repairs.{first_minute, newest_behind, lacked_by};
 ghost use Rattle.card_session.specs.Overwriting.{BeginsBehind};
 ghost use Rattle.card_steps.specs.Carried.{Goes, Broke, Begun, IsFresh, IsStated};
 ghost use Rattle.card_steps.specs.Shows.{IsKeepShown};
+ghost use Rattle.card_steps.specs.Closes.{IsCloseShown};
+ghost use Rattle.card_steps.specs.Inserts.{MayReplay, IsReplayShown, IsAllShown, IsInsertionShown, IsStillShown};
 
 /// Of a card that a session knows, an image that a keep may leave shows the old end mark, or the entry's minute; the newest minute
 /// goes with it, and so does what is carried of the days. Where the entry's day is new it is later than the end mark's, or that is
@@ -33,6 +43,33 @@ pub fn a_begun_day_is_kept()
         trimmed (end_mark s.application x) (card_days s.application x) ≡ card_days s.application x →
         e.minute / 1440 ≡ end_mark s.application x / 1440 → IsCardKeeping s e odometer x y →
         IsKeepShown s.application slack covered c all e x y }
+{}
+
+/// A withdrawal of a card that a session knows: at each moment the session is still open and what a repair leaves keeps the rule, or the
+/// last entry is closed and the days go on; at its end they go on. The next entry is later than the card's newest minute.
+pub fn a_withdrawal_is_shown()
+    ensures moments { (s : Session) (act : Activity) (x y : List ℕ) (slack : Bound) (covered from next : ℕ) (c : Counted) (all : List Entry) →
+        IsApplication s.application → image_size_of s.application ≤ length x → from ≤ next → newest_minute (end_mark s.application x) (card_days s.application x) < next → 16 ≤ slack.bytes → IsSession s x →
+        Goes s.application slack covered from c all x → IsCardClosing s act x y → IsCloseShown s.application slack covered next c all x y }
+    ensures closed { (s : Session) (act : Activity) (x y : List ℕ) (slack : Bound) (covered from next : ℕ) (c : Counted) (all : List Entry) →
+        IsApplication s.application → image_size_of s.application ≤ length x → from ≤ next → newest_minute (end_mark s.application x) (card_days s.application x) < next → 16 ≤ slack.bytes → IsSession s x →
+        Goes s.application slack covered from c all x → IsCardClosed s act x y → Goes s.application slack covered next c all y }
+{}
+
+/// An insertion of a card whose session was left open: at each moment the session is the same and the first of the entries that it lacked
+/// are on the card, or all of them are, as at its end. The first of them may come: on a new day that is later than the end mark's, or on
+/// that day, where no day so far is as late or it was begun. What comes next is later than the newest minute with all of them.
+pub fn an_insertion_is_shown()
+    ensures moments { (app : Application) (registration : Registration) (odometer now : ℕ) (owed : List Entry) (x y : List ℕ) → IsApplication app → image_size_of app ≤ length x → length registration.0 ≡ 15 → AreOwed now owed → IsValid app x → 0 < session_time app x →
+        (slack : Bound) (covered from next : ℕ) (c : Counted) (all : List Entry) → 16 ≤ slack.bytes → from ≤ first_minute next (lacked_by app x owed) → newest_behind (card_view app x).newest (lacked_by app x owed) < next →
+        MayReplay app slack covered from c all (lacked_by app x owed) x → IsCardInserting app registration odometer owed now x y → IsInsertionShown app slack covered next c all (lacked_by app x owed) x y }
+    ensures done { (app : Application) (registration : Registration) (odometer now : ℕ) (owed : List Entry) (x y : List ℕ) → IsApplication app → image_size_of app ≤ length x → length registration.0 ≡ 15 → AreOwed now owed → IsValid app x → 0 < session_time app x →
+        (slack : Bound) (covered from next : ℕ) (c : Counted) (all : List Entry) → 16 ≤ slack.bytes → from ≤ first_minute next (lacked_by app x owed) → newest_behind (card_view app x).newest (lacked_by app x owed) < next →
+        MayReplay app slack covered from c all (lacked_by app x owed) x → IsCardInserted app registration odometer owed now x y → IsAllShown app slack covered next c all (lacked_by app x owed) x y }
+    ensures rest { (app : Application) (now : ℕ) (owed : List Entry) (x y : List ℕ) → AreOwed now owed → (slack : Bound) (covered next : ℕ) (c : Counted) (all : List Entry) →
+        (shown : IsReplayShown app slack covered next c all (lacked_by app x owed) x y) → lacked_by app y owed ≡ shown.first.rest }
+    ensures shut { (app : Application) (registration : Registration) (odometer now : ℕ) (owed : List Entry) (x y : List ℕ) → IsApplication app → image_size_of app ≤ length x → length registration.0 ≡ 15 → session_time app x ≡ 0 → is_open (end_mark app x) (card_days app x) ≡ false →
+        (slack : Bound) (covered from : ℕ) (c : Counted) (all : List Entry) → Goes app slack covered from c all x → IsCardInserting app registration odometer owed now x y → IsStillShown app slack covered from c all x y }
 {}
 
 /// What is carried of a string gives what is stated of it, where the next entry is not earlier than it may come, in a session and where

@@ -4,4 +4,7 @@
 
 mod laws;
 
-pub use laws::{a_begun_day_is_kept, a_keep_is_shown, what_is_carried_is_stated};
+pub use laws::{
+    a_begun_day_is_kept, a_keep_is_shown, a_withdrawal_is_shown, an_insertion_is_shown,
+    what_is_carried_is_stated,
+};

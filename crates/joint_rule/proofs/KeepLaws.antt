@@ -12,7 +12,7 @@ use Rattle.joint_rule.specs.Views.{UnitView, row, other, owed, owed_in, is_sessi
 use Rattle.joint_rule.specs.Device.{Seen, LeavesViews, EndsWith}
 use Rattle.joint_rule.specs.Steps.{IsKept, IsUnkept, IsKeeping, IsPutting, IsPut, cleared, owing, IsOnCard, IsNowOnCard}
 use Rattle.history_model.specs.Book.{Book, all, kept, broken}
-use Rattle.joint_rule.specs.Rules.{Meets, IsOpen, NoLater, Standing, Out, In, Torn, since, Stands, CardDark, CardRule, IsPresent, Fits, EntriesGoOn}
+use Rattle.joint_rule.specs.Rules.{Meets, IsOpen, NoLater, Cells, Standing, Out, In, Torn, since, Stands, CardDark, CardRule, IsPresent, Fits, EntriesGoOn}
 use Rattle.history_model.proofs.Filters.{all-one}
 use Rattle.joint_rule.proofs.Owing.{owed-put, owed-kept, owed-beside, row-with, row-other, row-same, last-with}
 use Rattle.history_model.proofs.Books.{all-none, all-kept, up_to-whole, up_to-before, on_card-minute}
@@ -45,12 +45,21 @@ fits-row c start began (Torn s newest floor) due i U X stands (inr present) u x 
     inr (opened-session s x.session (row c u).session o.opened o.taken o.same, subst (λ (n : ℕ). n / 60 ≤ i.minute) (sym o.same) present.2, omega (arith, o.mark, present.1))
 
 -- no entry that is owed stands in the cell of a minute that is to come
-near : (c : Card) (start : CardStart) (began : ℕ) (s : Standing) (m : ℕ) (U : Seen UnitView) (X : Seen CardView) → Stands c start began s [] U X → IsPresent start s m →
+pub near : (c : Card) (start : CardStart) (began : ℕ) (s : Standing) (m : ℕ) (U : Seen UnitView) (X : Seen CardView) → Stands c start began s [] U X → IsPresent start s m →
     (u : UnitView) (x : CardView) → U.may_leave u → X.may_leave x → All (λ d. m < d.minute + 4) (owed c u x)
 near c start began Out m U X stands present u x on there = absurd present
 near c start began (In s newest) m U X stands present u x on there = subst (All (λ (d : Entry). m < d.minute + 4)) (sym (stands.2 u x on there).due_) (All-nil (λ (d : Entry). m < d.minute + 4))
 near c start began (Torn s newest floor) m U X stands present u x on there =
     All-weaker (λ (d : Entry). floor ≤ d.minute) (λ d. m < d.minute + 4) (λ d h. omega (arith, h, present.4)) (owed c u x) (stands.1 u x on there).recent
+
+-- the entry of a minute that the unit keeps is owed to its card from its keeping on
+pub owed-grown : (Adds : HistoryMinute → List ShownDay → List ShownDay → Type 0) (c : Card) (start : CardStart) (began : ℕ) (s : Standing) (i : HistoryMinute) (U : Seen UnitView) (X : Seen CardView) → Stands c start began s [] U X → ((u : UnitView) → U.may_leave u → Cells c (on_card c i) u) → Fits c start s i → 1440 ≤ i.minute →
+    (u v : UnitView) (x : CardView) → U.may_leave u → X.may_leave x → u.last < i.minute → IsKept Adds i u v → owed c v x ≡ owed c u x ++ on_card c i
+owed-grown Adds c start began s i U X stands cells fits day u v x on there late k =
+    let mine = cells u on in
+    ap (λ (r : Row). owed_in r v.last x.session x.mark) (row-same c u v k.rows) ∙ ap (λ (n : ℕ). owed_in (row c u) n x.session x.mark) k.last
+    ∙ owed-kept (row c u) u.last i.minute x.session x.mark mine.olds (on_card c i) mine.cells mine.kept late (on_card-minute c i)
+    (⊎_elim inl (λ f. inr (f.0, day, f.1, f.2)) (fits-row c start began s [] i U X stands fits u x on there))
 
 -- PUT_OWED beside another card
 pub putting-beside : (c : Card) (e : Entry) (u v : UnitView) → IsPutting c e u v → (v.last ≡ u.last) × (row (other c) v ≡ row (other c) u)
@@ -96,14 +105,9 @@ module _ (c : Card) (start : CardStart) (Keeps : ℕ → List Entry → Held →
 
   -- KEEP of the unit
   module _ (Adds Gives : HistoryMinute → List ShownDay → List ShownDay → Type 0) where
-    -- the entry of the minute is owed to its card from its keeping on
     grown : (s : Standing) (i : HistoryMinute) (U : Seen UnitView) (X : Seen CardView) → CardRule c start Keeps began b s (on_card c i) [] U X → Fits c start s i → 1440 ≤ i.minute →
         (u v : UnitView) (x : CardView) → U.may_leave u → X.may_leave x → u.last < i.minute → IsKept Adds i u v → owed c v x ≡ owed c u x ++ on_card c i
-    grown s i U X rule fits day u v x on there late k =
-        let cells = rule.cells u on in
-        ap (λ (r : Row). owed_in r v.last x.session x.mark) (row-same c u v k.rows) ∙ ap (λ (n : ℕ). owed_in (row c u) n x.session x.mark) k.last
-        ∙ owed-kept (row c u) u.last i.minute x.session x.mark cells.olds (on_card c i) cells.cells cells.kept late (on_card-minute c i)
-        (⊎_elim inl (λ f. inr (f.0, day, f.1, f.2)) (fits-row c start began s [] i U X rule.stands fits u x on there))
+    grown s i U X rule fits day = owed-grown Adds c start began s i U X rule.stands rule.cells fits day
 
     mark-of : (s : Standing) (i : HistoryMinute) (U : Seen UnitView) (X : Seen CardView) → CardRule c start Keeps began b s (on_card c i) [] U X → Fits c start s i →
         (u : UnitView) (x : CardView) → U.may_leave u → X.may_leave x → (on_card c i ≡ []) ⊎ (x.mark < i.minute)

@@ -13,3 +13,4 @@ pub mod OwedView
 pub mod Brought
 pub mod Overwriting
 pub mod Rows
+pub mod Staying

@@ -3,3 +3,4 @@ pub mod Device
 pub mod Steps
 pub mod Rules
 pub mod Filling
+pub mod Marked

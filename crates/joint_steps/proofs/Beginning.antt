@@ -4,6 +4,7 @@ use Rattle.tach_media.specs.Medium.{SameOutside}
 use Rattle.gated_ring.specs.Ring.{IsShape, PointsInside}
 use Rattle.gated_ring.proofs.Elsewhere.{ring_outside, list_elsewhere}
 use Rattle.byte_fields.proofs.Spelled.{number_before}
+use Rattle.unit_model.specs.declared.layout.TheConstants.{LAST_KEPT, OWED}
 use Rattle.unit_model.specs.Days.{days_shown}
 use Rattle.unit_model.specs.Image.{day_ring, last_kept, unit_day, unit_days, recorded}
 use Rattle.owed_model.specs.Rows.{IsRowBeginning, IsRowBegun}
@@ -17,16 +18,16 @@ use Rattle.joint_rule.specs.Steps.{IsBeginning, IsBegun}
 day_shape : IsShape day_ring
 day_shape = record { some = omega arith; gate = omega arith; pointer = omega arith; holds = λ _. omega arith; short = omega arith }
 
-module _ (x c : List ℕ) (outside : SameOutside 624 384 x c) where
+module _ (x c : List ℕ) (outside : SameOutside OWED.place OWED.size x c) where
   pub last_same : last_kept c ≡ last_kept x
   unfolding last_kept
-  last_same = number_before 624 384 564 4 x c outside (omega arith)
+  last_same = number_before OWED.place OWED.size LAST_KEPT.place LAST_KEPT.size x c outside (omega arith)
 
   pub recorded_same : PointsInside day_ring x → recorded c ≡ recorded x
   unfolding recorded unit_days
   recorded_same known =
       ap (λ (k : ℕ). days_shown k (unit_days c)) last_same
-      ∙ ap (λ (l : List (List ℕ)). days_shown (last_kept x) (map unit_day l)) (list_elsewhere day_ring day_shape x c (ring_outside day_ring 624 384 x c (inl (omega arith)) outside) known)
+      ∙ ap (λ (l : List (List ℕ)). days_shown (last_kept x) (map unit_day l)) (list_elsewhere day_ring day_shape x c (ring_outside day_ring OWED.place OWED.size x c (inl (omega arith)) outside) known)
 
 module _ (a b : List ℕ) (session : ℕ) (x c : List ℕ) (apart : a ≢ b) (known : PointsInside day_ring x) where
   back : b ≢ a

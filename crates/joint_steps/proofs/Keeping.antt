@@ -1,8 +1,9 @@
 -- A moment of a keep, as the image says it, is one of the rule's keeping.
-use Rattle.std.proofs.Common.{◌≡◌, ◌⊎◌, inl, inr, ℕ, List, sym, ◌∙◌, ap, arith}
+use Rattle.std.proofs.Common.{◌≡◌, ◌⊎◌, inl, inr, ℕ, ◌-◌, List, sym, ◌∙◌, ap, arith}
 use Rattle.byte_fields.proofs.Images.{part_in}
 use Rattle.tach_media.specs.Medium.{bytes_at}
 use Rattle.unit_model.proofs.Retention.{begins_one}
+use Rattle.unit_model.specs.declared.layout.TheConstants.{DAYS, FIRST_OVER, OWED}
 use Rattle.unit_model.specs.Image.{recorded}
 use Rattle.owed_model.specs.Owed.{rows_in}
 use Rattle.owed_model.proofs.Laws.{view_by_rows}
@@ -14,7 +15,10 @@ use Rattle.joint_rule.specs.Filling.{seen_by_unit, KeepsMinute, GivesUpDay}
 
 -- the owed rows lie between the odometer and the days
 rows_same : (x c : List ℕ) → SameBesides x c → rows_in c ≡ rows_in x
-rows_same x c s = sym (part_in c 572 452 52 384 (omega arith)) ∙ ap (λ (l : List ℕ). bytes_at l 52 384) s.between ∙ part_in x 572 452 52 384 (omega arith)
+rows_same x c s =
+    sym (part_in c FIRST_OVER.place (DAYS.place - FIRST_OVER.place) (OWED.place - FIRST_OVER.place) OWED.size (omega arith))
+    ∙ ap (λ (l : List ℕ). bytes_at l (OWED.place - FIRST_OVER.place) OWED.size) s.between
+    ∙ part_in x FIRST_OVER.place (DAYS.place - FIRST_OVER.place) (OWED.place - FIRST_OVER.place) OWED.size (omega arith)
 
 module _ (a b : List ℕ) (x c : List ℕ) where
   same_rows : SameBesides x c → SameRows (unit_view a b x) (unit_view a b c)

@@ -3,3 +3,4 @@ pub mod Beginning
 pub mod Cells
 pub mod Putting
 pub mod Mending
+pub mod New

@@ -7,6 +7,7 @@ use Rattle.activity_codec.proofs.WordLemmas.{change_of-word_of}
 use Rattle.trace_model.specs.declared.Card.TheVariants.{A, B}
 use Rattle.tach_media.specs.Medium.{SameOutside}
 use Rattle.gated_ring.specs.Ring.{PointsInside}
+use Rattle.unit_model.specs.declared.layout.TheConstants.{OWED}
 use Rattle.unit_model.specs.Image.{day_ring}
 use Rattle.owed_model.specs.Owed.{Cell, OwedRow, Row, rows_in, row_in, row_index, entry_of, cell_entries, placed, in_order, seen_row, row_view}
 use Rattle.owed_model.specs.Rows.{entry_word, with_cell, IsPuttingCell, IsPutting as IsPuttingRow, IsPut as IsPutRow, HasRow}
@@ -80,21 +81,21 @@ module _ (a b : List ℕ) (e : Entry) (x c : List ℕ) (apart : a ≢ b) (known 
   back : b ≢ a
   back is = apart (sym is)
 
-  with_row_a : SameOutside 624 384 x c → row_view b c ≡ row_view b x → (w : Row) → row_view a c ≡ w → unit_view a b c ≡ record (unit_view a b x) { row_a = w }
+  with_row_a : SameOutside OWED.place OWED.size x c → row_view b c ≡ row_view b x → (w : Row) → row_view a c ≡ w → unit_view a b c ≡ record (unit_view a b x) { row_a = w }
   unfolding unit_view
   with_row_a outside other w is = λ t. record { days = recorded_same x c outside known t; last = last_same x c outside t; row_a = is t; row_b = other t }
 
-  with_row_b : SameOutside 624 384 x c → row_view a c ≡ row_view a x → (w : Row) → row_view b c ≡ w → unit_view a b c ≡ record (unit_view a b x) { row_b = w }
+  with_row_b : SameOutside OWED.place OWED.size x c → row_view a c ≡ row_view a x → (w : Row) → row_view b c ≡ w → unit_view a b c ≡ record (unit_view a b x) { row_b = w }
   unfolding unit_view
   with_row_b outside other w is = λ t. record { days = recorded_same x c outside known t; last = last_same x c outside t; row_a = other t; row_b = is t }
 
-  first_by : SameOutside 624 384 x c → row_view b c ≡ row_view b x → (row_view a c ≡ row_view a x) ⊎ ((row_view a c ≡ cleared e (row_view a x)) ⊎ (row_view a c ≡ owing e (row_view a x))) → IsPutting A e (unit_view a b x) (unit_view a b c)
+  first_by : SameOutside OWED.place OWED.size x c → row_view b c ≡ row_view b x → (row_view a c ≡ row_view a x) ⊎ ((row_view a c ≡ cleared e (row_view a x)) ⊎ (row_view a c ≡ owing e (row_view a x))) → IsPutting A e (unit_view a b x) (unit_view a b c)
   unfolding unit_view
   first_by outside other (inl same) = inl (with_row_a outside other (row_view a x) same)
   first_by outside other (inr (inl shut)) = inr (inl (with_row_a outside other (cleared e (row_view a x)) shut))
   first_by outside other (inr (inr put)) = inr (inr (with_row_a outside other (owing e (row_view a x)) put))
 
-  second_by : SameOutside 624 384 x c → row_view a c ≡ row_view a x → (row_view b c ≡ row_view b x) ⊎ ((row_view b c ≡ cleared e (row_view b x)) ⊎ (row_view b c ≡ owing e (row_view b x))) → IsPutting B e (unit_view a b x) (unit_view a b c)
+  second_by : SameOutside OWED.place OWED.size x c → row_view a c ≡ row_view a x → (row_view b c ≡ row_view b x) ⊎ ((row_view b c ≡ cleared e (row_view b x)) ⊎ (row_view b c ≡ owing e (row_view b x))) → IsPutting B e (unit_view a b x) (unit_view a b c)
   unfolding unit_view
   second_by outside other (inl same) = inl (with_row_b outside other (row_view b x) same)
   second_by outside other (inr (inl shut)) = inr (inl (with_row_b outside other (cleared e (row_view b x)) shut))

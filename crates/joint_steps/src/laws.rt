@@ -1,10 +1,11 @@
-ghost use Rattle.std.specs.Prelude.{◌≡◌, ◌≢◌, ◌<◌, ◌≤◌, ℕ, List, Some, All};
+ghost use Rattle.std.specs.Prelude.{◌≡◌, ◌≢◌, ◌<◌, ◌≤◌, ℕ, List, [], Some, All, length};
 ghost use Rattle.activity_codec.specs.declared.entries.Entry.{Entry};
 ghost use Rattle.trace_model.specs.declared.Card.TheVariants.{A, B};
 ghost use Rattle.unit_model.specs.Image.{day_ring};
+ghost use Rattle.unit_model.specs.NewImage.{new_image};
 ghost use Rattle.gated_ring.specs.Ring.{PointsInside};
 ghost use Rattle.history_model.specs.Minutes.{HistoryMinute};
-ghost use Rattle.owed_model.specs.Owed.{row_view};
+ghost use Rattle.owed_model.specs.Owed.{owed_to, row_view};
 ghost use Rattle.owed_model.specs.Rows.{IsPutting as IsPuttingRow, IsPut as IsPutRow, IsRowBeginning, IsRowBegun, HasRow};
 ghost use Rattle.unit_journal.specs.declared.notes.Notes.{Notes};
 ghost use Rattle.unit_journal.specs.Image.{IsKeeping as IsKeepingImage, IsKept as IsKeptImage};
@@ -65,4 +66,12 @@ pub fn a_mending_is_seen()
     ensures moments { (a b : List ℕ) (j : Notes) (x c : List ℕ) →
         IsMendingImage j x c → IsMending (unit_view a b x) (unit_view a b c) }
     ensures mended { (a b x c : List ℕ) → IsMendedImage x c → IsMended (unit_view a b x) (unit_view a b c) }
+{}
+
+/// A new unit is seen with no day, no minute and no row, and owes nothing to any card.
+pub fn a_new_unit_owes_nothing()
+    ensures seen { (vin registration : List ℕ) (limit : ℕ) → length vin ≡ 17 → length registration ≡ 15 → (a b : List ℕ) →
+        unit_view a b (new_image vin registration limit) ≡ record { days = []; last = 0; row_a = record { session = 0; cells = [] }; row_b = record { session = 0; cells = [] } } }
+    ensures owed { (vin registration : List ℕ) (limit : ℕ) → length vin ≡ 17 → length registration ≡ 15 → (number : List ℕ) (session after : ℕ) →
+        owed_to (new_image vin registration limit) number session after ≡ [] }
 {}

@@ -5,6 +5,6 @@
 mod laws;
 
 pub use laws::{
-    a_keeping_is_seen, a_mending_is_seen, a_putting_is_seen, a_row_beginning_is_seen,
-    a_row_is_begun, an_entry_is_put,
+    a_keeping_is_seen, a_mending_is_seen, a_new_unit_owes_nothing, a_putting_is_seen,
+    a_row_beginning_is_seen, a_row_is_begun, an_entry_is_put,
 };

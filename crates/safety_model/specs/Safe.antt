@@ -1,5 +1,5 @@
 -- The crash-safety theorem (profile): what a run promises of its unit, of each card, and of both together.
-use Rattle.std.specs.Prelude.{◌≡◌, ◌≢◌, ℕ, ◌/◌, ◌<◌, ◌≤◌, Option, Some, None, List, [], ◌∷◌, length}
+use Rattle.std.specs.Prelude.{◌≡◌, ◌≢◌, ◌⊎◌, ℕ, suc, ◌*◌, ◌/◌, ◌<◌, ◌≤◌, ◌&&◌, Option, Some, None, List, [], ◌∷◌, length, filter, flat_map, nat_eq, nat_le, if◌then◌else◌}
 use Rattle.trace_model.specs.declared.Card.{Card}
 use Rattle.trace_model.specs.declared.Card.TheVariants.{A, B}
 use Rattle.trace_model.specs.Trace.{TraceSecond}
@@ -11,6 +11,7 @@ use Rattle.unit_model.specs.Decoding.{Decodes, first_bad_place}
 use Rattle.log_model.specs.declared.lines.Mark.{Mark}
 use Rattle.log_model.specs.declared.lines.Verdict.{Verdict}
 use Rattle.log_model.specs.declared.lines.Verdict.TheVariants.{Accepted, NotValid, TimeOverlap}
+use Rattle.log_model.specs.Slots.{same_card}
 use Rattle.log_model.specs.Causes.{HasCauses}
 use Rattle.history_model.specs.Completeness.{IsComplete}
 use Rattle.card_image.specs.Own.{own_view, own_number, own_bad_file, IsOwnValid}
@@ -42,15 +43,29 @@ first_of [] = None
 first_of (x ∷ xs) = Some x
 
 module _ (r : Recording) where
-  -- What may be found of a card in a second, by its image at the start. It is not valid, and that is the first file that fails;
-  -- or the second is earlier than the time that it stores; or else it is accepted, and so many entries are brought as some images owed to it.
+  -- how often a card entered a slot, or met power there, in the minute of a second, up to that second
+  abbrev pub entered_by : Card → ℕ → ℕ
+  entered_by c u = length (flat_map
+      (λ t. if nat_le t.second.number u && nat_eq (t.second.number / 60) (u / 60) then filter (λ e. same_card c e.card) t.course.entered else [])
+      (told_of r))
+
+  -- The later time that a valid card is found to store: that at the start; or, where that is not later than this second and the card
+  -- entered in its minute before, the minute behind, where its closing word stands then, by an image that it might have left.
+  abbrev pub IsLater : (card : List ℕ → Type 0) → Card → (second stored : ℕ) → Type 0
+  IsLater card c u stored = (u < stored)
+      × ((stored ≡ (own_view (card_image r c)).stored)
+      ⊎ (((own_view (card_image r c)).stored ≤ u) × (1 < entered_by c u) × (stored ≡ 60 * suc (u / 60))
+      × ((x : List ℕ) × card x × ((own_view x).stored ≡ stored))))
+
+  -- What may be found of a card in a second. By its image at the start it is not valid, and that is the first file that fails. Or it
+  -- stores a later time than the second. Or else it is accepted: neither at the start nor by an image that it might have left it
+  -- stores a later one, and so many entries are brought as that image lacks and some image of the unit owes to it.
   abbrev pub IsVerdict : (unit card : List ℕ → Type 0) → Card → ℕ → Verdict → Type 0
   IsVerdict unit card c u (Accepted replayed) =
       IsOwnValid (card_image r c) × ((own_view (card_image r c)).stored ≤ u)
-      × ((i x : List ℕ) × unit i × card x × (length (owed c (unit_seen r i) (own_view x)) ≡ replayed))
+      × ((i x : List ℕ) × unit i × card x × ((own_view x).stored ≤ u) × (length (owed c (unit_seen r i) (own_view x)) ≡ replayed))
   IsVerdict unit card c u (NotValid fid place) = own_bad_file (card_image r c) ≡ Some (fid, place)
-  IsVerdict unit card c u (TimeOverlap stored now) =
-      IsOwnValid (card_image r c) × (stored ≡ (own_view (card_image r c)).stored) × (now ≡ u) × (u < stored)
+  IsVerdict unit card c u (TimeOverlap stored now) = IsOwnValid (card_image r c) × (now ≡ u) × IsLater card c u stored
 
   -- THE CRASH-SAFETY THEOREM: `began` are the devices at the end of the opening, `now` those at the end of the run
   pub record IsSafe (marks : List Mark) (began now : Devices) : Type 0 where

@@ -33,36 +33,33 @@ words_few next t d c d' c' = by (next == t)
     by false = omega (arith, length-append (changes next d c bare bare) (changes t bare bare d' c'), changes_few next d c bare bare, changes_few t bare bare d' c')
 
 module _ (j : Notes) (coming : Coming) where
-  abbrev m : ℕ
-  m = coming.minute
-
   going_few : (3 ≤ length (going j coming)) × (length (going j coming) ≤ 7)
   going_few =
-      let ws = words_on j m dn cn in
-      let sum : length (going j coming) ≡ length ws + 3 = omega (arith, length-append (counted j.index j.count ws) (mark m), counted_length j.index j.count ws) in
-      (omega (arith, sum), omega (arith, sum, words_few (j.kept % 1440 + 1) (m % 1440) j.bits.driver j.bits.codriver coming.bits.driver coming.bits.codriver))
+      let ws = words_on j coming in
+      let sum : length (going j coming) ≡ length ws + 3 = omega (arith, length-append (counted j.index j.count ws) (mark coming.minute), counted_length j.index j.count ws) in
+      (omega (arith, sum), omega (arith, sum, words_few (j.kept % 1440 + 1) (coming.minute % 1440) j.bits.driver j.bits.codriver coming.bits.driver coming.bits.codriver))
 
   -- which writes they are
-  pub going_puts : {old new : State} {failed : Bool} → m / 1440 ≡ j.kept / 1440 → PutsAll old new failed (going j coming) → PutsBy old new failed 3 (most_kept j.kept m) (keeping j coming)
+  pub going_puts : {old new : State} {failed : Bool} → coming.minute / 1440 ≡ j.kept / 1440 → PutsAll old new failed (going j coming) → PutsBy old new failed 3 (most_kept j.kept coming.minute) (keeping j coming)
   going_puts {old} {new} {failed} same puts =
-      let test : (m / 1440 == j.kept / 1440) ≡ true = grind (arith, nat_tests, same) in
+      let test : (coming.minute / 1440 == j.kept / 1440) ≡ true = grind (arith, nat_tests, same) in
       subst (λ (b : Bool). PutsBy old new failed 3 (cond b 7 12) (λ x. cond b (going j coming) (renewing j coming x))) (sym test)
       (writes_as puts going_few.0 going_few.1 (λ x. refl) (λ x c was here. here))
 
-  pub renewing_puts : {old new : State} {failed : Bool} → m / 1440 ≢ j.kept / 1440 → PutsBy old new failed 5 12 (renewing j coming) → PutsBy old new failed 3 (most_kept j.kept m) (keeping j coming)
+  pub renewing_puts : {old new : State} {failed : Bool} → coming.minute / 1440 ≢ j.kept / 1440 → PutsBy old new failed 5 12 (renewing j coming) → PutsBy old new failed 3 (most_kept j.kept coming.minute) (keeping j coming)
   renewing_puts {old} {new} {failed} other puts =
-      let test : (m / 1440 == j.kept / 1440) ≡ false = grind (arith, nat_tests, other) in
+      let test : (coming.minute / 1440 == j.kept / 1440) ≡ false = grind (arith, nat_tests, other) in
       subst (λ (b : Bool). PutsBy old new failed 3 (cond b 7 12) (λ x. cond b (going j coming) (renewing j coming x))) (sym test)
       (writes_as puts (lit≤ tt) (lit≤ tt) (λ x. refl) (λ x c was here. here))
 
-  pub notes_same : (x : List ℕ) → m / 1440 ≡ j.kept / 1440 → notes_on j coming ≡ notes_after j coming x
+  pub notes_same : (x : List ℕ) → coming.minute / 1440 ≡ j.kept / 1440 → notes_on j coming ≡ notes_after j coming x
   notes_same x same =
-      let test : (m / 1440 == j.kept / 1440) ≡ true = grind (arith, nat_tests, same) in
+      let test : (coming.minute / 1440 == j.kept / 1440) ≡ true = grind (arith, nat_tests, same) in
       sym (ap (λ (b : Bool). cond b (notes_on j coming) (notes_begun (taken day_ring x) (min (j.day_count + 1) DAY_SLOTS) coming)) test)
 
-  pub notes_other : (x : List ℕ) → m / 1440 ≢ j.kept / 1440 → notes_begun (taken day_ring x) (min (j.day_count + 1) DAY_SLOTS) coming ≡ notes_after j coming x
+  pub notes_other : (x : List ℕ) → coming.minute / 1440 ≢ j.kept / 1440 → notes_begun (taken day_ring x) (min (j.day_count + 1) DAY_SLOTS) coming ≡ notes_after j coming x
   notes_other x other =
-      let test : (m / 1440 == j.kept / 1440) ≡ false = grind (arith, nat_tests, other) in
+      let test : (coming.minute / 1440 == j.kept / 1440) ≡ false = grind (arith, nat_tests, other) in
       sym (ap (λ (b : Bool). cond b (notes_on j coming) (notes_begun (taken day_ring x) (min (j.day_count + 1) DAY_SLOTS) coming)) test)
 
 -- the minute that is kept
@@ -76,9 +73,6 @@ pub record IsEnd (next : Notes) (coming : Coming) (x y : List ℕ) : Type 0 wher
   pub agrees : Agrees next y
 
 module _ (j : Notes) (x : List ℕ) (noted : IsNoted j x) (coming : Coming) (fits : IsComing coming) (later : j.kept < coming.minute) where
-  abbrev m : ℕ
-  m = coming.minute
-
   abbrev Moment : List ℕ → Type 0
   Moment c = IsKeeping (minute_of coming) coming.odometer x c × AreBetween coming x c
 
@@ -86,20 +80,20 @@ module _ (j : Notes) (x : List ℕ) (noted : IsNoted j x) (coming : Coming) (fit
   End next y = IsEnd next coming x y
 
   pub keeping_moment : (c : List ℕ) → IsPartway (keeping j coming x) x c → Moment c
-  keeping_moment c = by (m / 1440 == j.kept / 1440) refl
+  keeping_moment c = by (coming.minute / 1440 == j.kept / 1440) refl
     where
-      by : (b : Bool) → (m / 1440 == j.kept / 1440) ≡ b → IsPartway (cond b (going j coming) (renewing j coming x)) x c → Moment c
-      by true is here = let same : m / 1440 ≡ j.kept / 1440 = grind (arith, nat_tests, is) in moments j x noted coming fits same later c here
+      by : (b : Bool) → (coming.minute / 1440 == j.kept / 1440) ≡ b → IsPartway (cond b (going j coming) (renewing j coming x)) x c → Moment c
+      by true is here = let same : coming.minute / 1440 ≡ j.kept / 1440 = grind (arith, nat_tests, is) in moments j x noted coming fits same later c here
       by false is here =
-          let other : m / 1440 ≢ j.kept / 1440 = grind (arith, nat_tests, is) in
+          let other : coming.minute / 1440 ≢ j.kept / 1440 = grind (arith, nat_tests, is) in
           renewing_moment j x noted coming fits (omega (arith, later, other)) c here
 
   pub keeping_end : End (notes_after j coming x) (put_all (keeping j coming x) x)
-  keeping_end = by (m / 1440 == j.kept / 1440) refl
+  keeping_end = by (coming.minute / 1440 == j.kept / 1440) refl
     where
-      by : (b : Bool) → (m / 1440 == j.kept / 1440) ≡ b → End (notes_after j coming x) (put_all (cond b (going j coming) (renewing j coming x)) x)
+      by : (b : Bool) → (coming.minute / 1440 == j.kept / 1440) ≡ b → End (notes_after j coming x) (put_all (cond b (going j coming) (renewing j coming x)) x)
       by true is =
-          let same : m / 1440 ≡ j.kept / 1440 = grind (arith, nat_tests, is) in
+          let same : coming.minute / 1440 ≡ j.kept / 1440 = grind (arith, nat_tests, is) in
           subst (λ (n : Notes). End n (put_all (going j coming) x)) (notes_same j coming x same)
           (subst (End (notes_on j coming)) (sym (gone_is j x noted coming fits same later)) (record {
             kept = record {
@@ -112,8 +106,8 @@ module _ (j : Notes) (x : List ℕ) (noted : IsNoted j x) (coming : Coming) (fit
             agrees = new_agrees j x noted coming fits same later;
           }))
       by false is =
-          let other : m / 1440 ≢ j.kept / 1440 = grind (arith, nat_tests, is) in
-          let next : j.kept / 1440 < m / 1440 = omega (arith, later, other) in
+          let other : coming.minute / 1440 ≢ j.kept / 1440 = grind (arith, nat_tests, is) in
+          let next : j.kept / 1440 < coming.minute / 1440 = omega (arith, later, other) in
           subst (λ (n : Notes). End n (put_all (renewing j coming x) x)) (notes_other j coming x other)
           (subst (End (notes_begun (taken day_ring x) (min (j.day_count + 1) DAY_SLOTS) coming)) (sym (renewed j x noted coming fits next)) (record {
             kept = renewed_kept j x noted coming fits next;

@@ -50,9 +50,6 @@ turning_few j odometer = by (j.kept == 0) (j.kept % 1440 + 1 == 1440)
     by false false = omega (arith, counted_length j.index j.count (changes (j.kept % 1440 + 1) j.bits.driver j.bits.codriver bare bare), changes_few (j.kept % 1440 + 1) j.bits.driver j.bits.codriver bare bare)
 
 module _ (j : Notes) (room : Room) (coming : Coming) where
-  abbrev m : ℕ
-  m = coming.minute
-
   abbrev placing : List Piece
   placing = placing_pieces day_ring room (new_head coming)
 
@@ -73,13 +70,13 @@ module _ (j : Notes) (room : Room) (coming : Coming) where
       by false false is = (omega (arith, is), omega (arith, is))
 
   behind_is : length behind ≡ length (further coming) + 2
-  behind_is = omega (arith, length-append (counted room.index 2 (further coming)) (piece LAST_KEPT.place (to_be_bytes w32 m) ∷ []), counted_length room.index 2 (further coming))
+  behind_is = omega (arith, length-append (counted room.index 2 (further coming)) (piece LAST_KEPT.place (to_be_bytes w32 coming.minute) ∷ []), counted_length room.index 2 (further coming))
 
   pub renewing_few : (5 ≤ length (renewing_at j room coming)) × (length (renewing_at j room coming) ≤ 12)
   renewing_few =
       let sum : length (renewing_at j room coming) ≡ length (turning j coming.odometer) + (length placing + length behind) = omega (arith, length-append (turning j coming.odometer) (placing ++ behind), length-append placing behind) in (
         omega (arith, sum, placing_bounds.0, behind_is),
-        omega (arith, sum, turning_few j coming.odometer, placing_bounds.1, behind_is, changes_few (m % 1440) (first_state (m % 1440) coming.bits.driver) (first_state (m % 1440) coming.bits.codriver) coming.bits.driver coming.bits.codriver),
+        omega (arith, sum, turning_few j coming.odometer, placing_bounds.1, behind_is, changes_few (coming.minute % 1440) (first_state (coming.minute % 1440) coming.bits.driver) (first_state (coming.minute % 1440) coming.bits.codriver) coming.bits.driver coming.bits.codriver),
       )
 
 -- where the ring is that of the days, the new slot is the one that it takes
@@ -112,9 +109,6 @@ renew_puts {old} {mid} {new} {failed} j coming days head room first next plan ri
         (at_image (λ x. PointsInside days x → room.index ≡ taken days x) was index (known_in x was)) (at_image (λ x. room.used ≡ is_there days x room.index) was used))
 
 module _ (j : Notes) (x : List ℕ) (noted : IsNoted j x) (coming : Coming) (fits : IsComing coming) (later : j.kept / 1440 < coming.minute / 1440) where
-  abbrev m : ℕ
-  m = coming.minute
-
   abbrev head : List ℕ
   head = new_head coming
 
@@ -151,7 +145,7 @@ module _ (j : Notes) (x : List ℕ) (noted : IsNoted j x) (coming : Coming) (fit
 
   gate_open : gate_number day_ring head ≢ 0
   gate_open none =
-      let is : gate_number day_ring head ≡ 86400 * (m / 1440) = big_number-big_bytes 4 (86400 * (m / 1440)) (omega (arith, fits.small)) in
+      let is : gate_number day_ring head ≡ 86400 * (coming.minute / 1440) = big_number-big_bytes 4 (86400 * (coming.minute / 1440)) (omega (arith, fits.small)) in
       absurd (omega (arith, later, is, none))
 
   adding : (c : List ℕ) → IsPartway slot_pieces f c → IsAdding day_ring head f c
@@ -165,7 +159,7 @@ module _ (j : Notes) (x : List ℕ) (noted : IsNoted j x) (coming : Coming) (fit
   added = placing_end day_ring day_shape f inside (taken day_ring f) (taken_below f known) head (lit≤ tt) (lit≤ tt) (is_there day_ring f (taken day_ring f)) refl (pointer day_ring f)
       (lit< tt) (λ inside. refl) (λ inside. refl) gate_open g (ap (λ (ps : List Piece). put_all ps f) placing_same)
 
-  pub renewing_moment : (c : List ℕ) → IsPartway (renewing j coming x) x c → IsKeeping (minute_by m coming.bits.driver coming.bits.codriver) coming.odometer x c × AreBetween coming x c
+  pub renewing_moment : (c : List ℕ) → IsPartway (renewing j coming x) x c → IsKeeping (minute_by coming.minute coming.bits.driver coming.bits.codriver) coming.odometer x c × AreBetween coming x c
   renewing_moment c here = ⊎_elim
       (turning_moment j x noted coming fits later c)
       (λ rest. ⊎_elim
@@ -175,13 +169,13 @@ module _ (j : Notes) (x : List ℕ) (noted : IsNoted j x) (coming : Coming) (fit
       (partway_either (turning j coming.odometer) (slot_pieces ++ beginning t coming) x c here)
 
   abbrev z : List ℕ
-  z = with_kept m (with_words (taken day_ring f) 2 ws g)
+  z = with_kept coming.minute (with_words (taken day_ring f) 2 ws g)
 
   pub renewed : put_all (renewing j coming x) x ≡ z
   renewed = put_all-append (turning j coming.odometer) (slot_pieces ++ beginning t coming) x ∙ put_all-append slot_pieces (beginning t coming) f
       ∙ ap (λ (i : ℕ). put_all (beginning i coming) g) index_is ∙ begun_put (taken day_ring f) coming g
 
-  pub renewed_kept : IsKept (minute_by m coming.bits.driver coming.bits.codriver) x z
+  pub renewed_kept : IsKept (minute_by coming.minute coming.bits.driver coming.bits.codriver) x z
   renewed_kept = record {
     last = kept_last j.day_count j.kept coming fits later x f known closed g added;
     outside = besides_z j.day_count j.kept coming fits later x f known closed g added;

@@ -1,6 +1,8 @@
-use Rattle.std.proofs.Common.{◌≡◌, ℕ, ◌+◌, ◌<◌, ⊎_elim, refl, sym, ◌∙◌, ap, arith}
+use Rattle.std.proofs.Common.{rules, ◌≡◌, ℕ, ◌+◌, ◌<◌, true, ⊎_elim, refl, sym, ◌∙◌, ap, subst, arith}
+use Rattle.std.specs.Prelude.{is_err}
 use Rattle.std.proofs.lemmas.Bool.{cases_lt}
 use Rattle.gated_ring.specs.Ring.{number_at}
+use Rattle.tach_media.specs.Medium.{Reads}
 use Rattle.tach_media.proofs.Runs.{reads_then, at_image}
 use Rattle.write_plan.specs.Plan.{Pieces, more, none}
 use Rattle.unit_model.specs.declared.layout.TheConstants.{IMAGE_SIZE}
@@ -59,7 +61,8 @@ returns-clause-reads g c = c.loop-nth.invariant.reads (omega (arith, c.loop-nth-
 pub returns-in_err-minute-clause-reads : goal.returns-in_err-minute-clause-reads
 returns-in_err-minute-clause-reads g c =
     let was = c.loop-nth.invariant in
-    ⊎_elim
+    let failed : is_err c.from_residual.result ≡ true = search rules in
+    subst (Reads (g.M.Medium.state c.args.unit.now) (g.M.Medium.state c.read_number.new.medium)) (sym failed) (⊎_elim
     (λ more. reads_then (was.reads more) c.in_err-minute.ensures.reads)
     (λ none. reads_of g.M.Medium.state (was.first (omega (arith, none))) c.in_err-minute.ensures.reads)
-    (cases_lt 0 c.loop-nth.nth)
+    (cases_lt 0 c.loop-nth.nth))

@@ -1,0 +1,9 @@
+pub mod Moments
+pub mod Lookups
+pub mod Presence
+pub mod Logs
+pub mod Alike
+pub mod Ties
+pub mod Core
+pub mod Told
+pub mod Steps

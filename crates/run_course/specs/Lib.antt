@@ -1,0 +1,4 @@
+pub mod Moments
+pub mod Presence
+pub mod Followed
+pub mod Seconds

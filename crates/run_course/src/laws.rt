@@ -1,0 +1,138 @@
+ghost use Rattle.run_course.specs.Moments.{ABreakMoreIsSeen, AFindMoreIsSeen, ARefusalMoreIsNotSeen, LaterLinesChangeNoMoment, AnActionMoreIsActed, OneActionMore};
+ghost use Rattle.run_course.specs.Seconds.{ARunBegins, APowerOnFinds, APowerOnFails, ASecondGoesOn, ASecondBreaksOff, RulesSeeTheSecond, AMinuteStaysDark, AnOffLineIsDark, AnOffLineCuts};
+ghost use Rattle.run_course.specs.Presence.{SlotsAgree, SlotsTellWhoIsPresent, NobodySits, ACardIsPutIn, ACardIsTakenOut, PowerIsLost, ASecondHasGone, TheMinuteGoesOn, AMinuteEnds, TimePasses, MinutesAreKept, WhatWasKeptIsFound};
+
+/// A run begins with nothing kept.
+pub fn a_run_begins()
+    ensures { ARunBegins }
+{}
+
+/// Power is back: the last-kept minute is found, and it counts for all cuts of which nothing was known.
+pub fn a_power_on_finds()
+    ensures { APowerOnFinds }
+{}
+
+/// A power-on fails in the second with which power came.
+pub fn a_power_on_fails()
+    ensures { APowerOnFails }
+{}
+
+/// One second more with power, of which all decided minutes are kept.
+pub fn a_second_goes_on()
+    ensures { ASecondGoesOn }
+{}
+
+/// One second more that is a cut's: some of the minutes that it decides are kept, one more may be, or none was begun.
+pub fn a_second_breaks_off()
+    ensures { ASecondBreaksOff }
+{}
+
+/// What the rules of minutes see of a second with power.
+pub fn rules_see_the_second()
+    ensures { RulesSeeTheSecond }
+{}
+
+/// After a failed call the seconds up to the minute's end are dark.
+pub fn a_minute_stays_dark()
+    ensures { AMinuteStaysDark }
+{}
+
+/// An `off` line while there is no power.
+pub fn an_off_line_is_dark()
+    ensures { AnOffLineIsDark }
+{}
+
+/// An `off` line while there is power: the last second turns out to be a cut's.
+pub fn an_off_line_cuts()
+    ensures { AnOffLineCuts }
+{}
+
+/// What a log tells of a second with one break more.
+pub fn a_break_more_is_seen()
+    ensures { ABreakMoreIsSeen }
+{}
+
+/// What it tells with one find more.
+pub fn a_find_more_is_seen()
+    ensures { AFindMoreIsSeen }
+{}
+
+/// Refusals tell nothing of how a second went.
+pub fn a_refusal_more_is_not_seen()
+    ensures { ARefusalMoreIsNotSeen }
+{}
+
+/// Lines that come later change no earlier moment of their second.
+pub fn later_lines_change_no_moment()
+    ensures { LaterLinesChangeNoMoment }
+{}
+
+/// An action more of a second is one step more, whatever the log tells of it.
+pub fn an_action_more_is_acted()
+    ensures { AnActionMoreIsActed }
+{}
+
+/// An action of which the log tells nothing yet is carried out or refused, and that is all.
+pub fn one_action_more()
+    ensures { OneActionMore }
+{}
+
+/// The slots refuse what the course of the second refuses.
+pub fn slots_that_tell_agree()
+    ensures { SlotsAgree }
+{}
+
+/// Who was present in an ended minute is told as the history says.
+pub fn slots_tell_who_is_present()
+    ensures { SlotsTellWhoIsPresent }
+{}
+
+/// At the start both slots are empty.
+pub fn nobody_sits_at_the_start()
+    ensures { NobodySits }
+{}
+
+/// A card is put into a free slot, or accepted where it sits.
+pub fn a_card_is_put_in()
+    ensures { ACardIsPutIn }
+{}
+
+/// A card is withdrawn, pulled or torn out.
+pub fn a_card_is_taken_out()
+    ensures { ACardIsTakenOut }
+{}
+
+/// At a cut both cards lose power.
+pub fn power_is_lost()
+    ensures { PowerIsLost }
+{}
+
+/// A second has gone.
+pub fn a_second_has_gone()
+    ensures { ASecondHasGone }
+{}
+
+/// The next second of the same minute begins.
+pub fn the_minute_goes_on()
+    ensures { TheMinuteGoesOn }
+{}
+
+/// A minute ends: who is present in it is remembered.
+pub fn a_minute_ends()
+    ensures { AMinuteEnds }
+{}
+
+/// Time passes of which no minute is to be kept.
+pub fn time_passes()
+    ensures { TimePasses }
+{}
+
+/// Minutes are kept, or need not be kept any more.
+pub fn minutes_are_kept()
+    ensures { MinutesAreKept }
+{}
+
+/// At a power-on it is found what was kept, before a card is accepted.
+pub fn what_was_kept_is_found()
+    ensures { WhatWasKeptIsFound }
+{}
