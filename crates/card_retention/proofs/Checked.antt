@@ -2,7 +2,7 @@
 use Rattle.std.proofs.Common.{◌≡◌, ⊎_elim, ℕ, suc, ◌+◌, ◌/◌, ◌%◌, ◌<◌, ◌≤◌, Bool, true, false, cond, not, ◌&&◌, Option, Some, List, [], ◌∷◌, length, refl, sym, ap, subst, arith}
 use Rattle.std.specs.Prelude.{nat_eq, nat_lt, nat_le}
 use Rattle.std.proofs.lemmas.Bool.Decides.{nat_tests}
-use Rattle.std.proofs.lemmas.Bool.{cases_lt}
+use Rattle.std.proofs.lemmas.Bool.{cases_lt, leb-true, eqb-true}
 use Rattle.activity_codec.specs.declared.entries.Entry.{Entry}
 use Rattle.activity_codec.specs.Words.{word_absent, word_minute}
 use Rattle.card_model.specs.Days.{Day, AreDays, IsDay, AreWords, Ascend, last_word}
@@ -10,18 +10,9 @@ use Rattle.card_model.specs.Changes.{with_newest, until, early, with_early, OnNe
 use Rattle.card_retention.specs.Expected.{more, Counted}
 use Rattle.card_retention.specs.Shown.{Bound, Grows, sizes, is_open, owing, EndsAbsent, Sound, Sound.Flat, Sound.Tail, Rests, Lives}
 use Rattle.card_retention.specs.Entries.{newest_word, IsChecked}
-use Rattle.card_retention.proofs.Entering.{both, is_same}
+use Rattle.card_retention.proofs.Entering.{both}
 use Rattle.card_model.proofs.Trims.{early_few, trimmed_cases}
 use Rattle.card_retention.proofs.Flat.{UpTo, early_all, flat_newest}
-
-at_most : (m n : ℕ) → m ≤ n → nat_le m n ≡ true
-at_most m n le = grind (arith, nat_tests)
-
-le_of : (m n : ℕ) → nat_le m n ≡ true → m ≤ n
-le_of m n is = grind (arith, nat_tests)
-
-same_is : (m n : ℕ) → m ≡ n → nat_eq m n ≡ true
-same_is m n is = grind (arith, nat_tests)
 
 -- where a trim cuts nothing the last word is not behind it
 pub early_last : (m : ℕ) (ws : List ℕ) → AreWords ws → early m ws ≡ ws → word_minute (last_word ws) ≤ m
@@ -32,7 +23,7 @@ early_last m (w ∷ ws) are is = go w ws is
     go w [] is = by (nat_le (word_minute w) m) refl is
       where
         by : (b : Bool) → nat_le (word_minute w) m ≡ b → cond b (w ∷ []) [] ≡ w ∷ [] → word_minute w ≤ m
-        by true t x = le_of (word_minute w) m t
+        by true t x = leb-true (word_minute w) m t
         by false t x = absurd (none x)
           where
             none : [] ≡ w ∷ [] → ⊥
@@ -63,8 +54,8 @@ module _ (mark : ℕ) where
           fewer : is_open mark (with_early (mark % 1440) d ∷ []) ≡ true → length (early (mark % 1440) d.words) < length d.words
           fewer o =
               let parts = both (nat_eq d.date (date_of (suc mark))) (not (word_absent (last_word (early (mark % 1440) d.words)))) o in
-              let date : d.date ≡ date_of (suc mark) = is_same d.date (date_of (suc mark)) parts.0 in
-              let here : d.date ≡ date_of mark = is_same d.date (date_of mark) at in
+              let date : d.date ≡ date_of (suc mark) = eqb-true d.date (date_of (suc mark)) parts.0 in
+              let here : d.date ≡ date_of mark = eqb-true d.date (date_of mark) at in
               ⊎_elim
               (λ (none : ds ≡ [] × (early (mark % 1440) d.words ≡ d.words)). absurd (omega (arith, behind none.0, here, early_last (mark % 1440) d.words is.ordered none.1)))
               (λ rest. ⊎_elim (λ less. less) (λ (midnight : suc mark % 1440 ≡ 0). absurd (omega (arith, midnight, here, date))) rest)
@@ -100,7 +91,7 @@ under n mark date (d ∷ []) are checked behind = by (nat_le d.date (date_of mar
   where
     by : (b : Bool) → nat_le d.date (date_of mark) ≡ b → Grows (owing n mark (with_newest (cut mark) (cond b (d ∷ []) []))) (sizes (d ∷ []))
     by false is = tt
-    by true is = one_cut mark n d [] (le_of d.date (date_of mark) is) are.1 checked (λ _. behind)
+    by true is = one_cut mark n d [] (leb-true d.date (date_of mark) is) are.1 checked (λ _. behind)
 under n mark date (d ∷ e ∷ ds) are checked behind = by (nat_le d.date (date_of mark)) refl (under n mark d.date (e ∷ ds) are.2 checked.1 behind)
   where
     owed : (x : Day) (xs : List Day) (b : Bool) → Grows (cond b (more (sizes (x ∷ xs))) (sizes (x ∷ xs))) (sizes (e ∷ ds)) → Grows (cond b (more (sizes (d ∷ x ∷ xs))) (sizes (d ∷ x ∷ xs))) (sizes (d ∷ e ∷ ds))
@@ -115,7 +106,7 @@ under n mark date (d ∷ e ∷ ds) are checked behind = by (nat_le d.date (date_
     by true is rest = ⊎_elim
         (λ short. ⊎_elim
         (λ none. subst (λ (l : List Day). Grows (owing n mark l) (sizes (d ∷ e ∷ ds))) (sym none) tt)
-        (λ one. subst (λ (l : List Day). Grows (owing n mark l) (sizes (d ∷ e ∷ ds))) (sym one) (one_cut mark n d (e ∷ ds) (le_of d.date (date_of mark) is) are.1 checked (λ none. absurd (some none)))) short.1)
+        (λ one. subst (λ (l : List Day). Grows (owing n mark l) (sizes (d ∷ e ∷ ds))) (sym one) (one_cut mark n d (e ∷ ds) (leb-true d.date (date_of mark) is) are.1 checked (λ none. absurd (some none)))) short.1)
         (λ t. subst (λ (l : List Day). Grows (owing n mark l) (sizes (d ∷ e ∷ ds))) (sym t.whole)
         (owed t.first t.rest (is_open mark (t.first ∷ t.rest) && nat_lt (suc mark) n) (subst (λ (l : List Day). Grows (owing n mark l) (sizes (e ∷ ds))) t.less rest)))
         (trimmed_cases mark date d (e ∷ ds) are)

@@ -3,6 +3,7 @@ use Rattle.std.proofs.Common.{◌≡◌, ℕ, suc, ◌+◌, ◌-◌, ◌*◌, �
 use Rattle.std.specs.Prelude.{nat_eq, nat_lt}
 use Rattle.activity_codec.specs.declared.entries.Entry.{Entry}
 use Rattle.std.specs.Prelude.{◌==◌}
+use Rattle.std.proofs.lemmas.Bool.{eqb-true, lt-ltb}
 use Rattle.activity_codec.specs.declared.values.Activity.{Activity}
 use Rattle.activity_codec.specs.declared.values.Activity.TheVariants as activity
 use Rattle.activity_codec.specs.Words.{word_absent, activity_number, word_minute}
@@ -12,7 +13,7 @@ use Rattle.card_retention.specs.Expected.{WordDay, more, Counted, with_entry, ex
 use Rattle.card_retention.specs.Shown.{Bound, AllUpTo, Rising, Shows, sizes, entry_state, is_open, owing, Tells, Rests, with_closing, Entered, Entered.Same, Entered.Word, Entered.Begun, EndsAbsent, Sound, Sound.Flat, Sound.Tail, Lives}
 use Rattle.card_model.proofs.Retention.{remain_fitting}
 use Rattle.card_retention.proofs.Growing.{shows_left, left_more, left_of, sizes_word}
-use Rattle.card_retention.proofs.Entering.{with_all, closes_is, rising_more, both, is_same, less_is, fits_sizes, before_later, kept_rests, on_word, on_append, last_append, date_newest}
+use Rattle.card_retention.proofs.Entering.{with_all, closes_is, rising_more, both, fits_sizes, before_later, kept_rests, on_word, on_append, last_append, date_newest}
 use Rattle.card_model.proofs.Trims.{trimmed_twice}
 use Rattle.card_retention.proofs.Stops.{absent_shut, on_left}
 use Rattle.card_retention.proofs.Flat.{Ends, flat_more, flat_ends}
@@ -51,7 +52,7 @@ absent_word e w (d ∷ f ∷ g ∷ ds) absent t = absent_word e w (f ∷ g ∷ d
 -- the days of the string have a newest
 open_some : (mark : ℕ) (ds : List Day) → is_open mark ds ≡ true → OnNewest (λ d. d.date ≡ date_of (suc mark)) ds
 open_some mark [] is = absurd (cc)
-open_some mark (d ∷ []) is = is_same d.date (date_of (suc mark)) (both (nat_eq d.date (date_of (suc mark))) (not (word_absent (last_word d.words))) is).0
+open_some mark (d ∷ []) is = eqb-true d.date (date_of (suc mark)) (both (nat_eq d.date (date_of (suc mark))) (not (word_absent (last_word d.words))) is).0
 open_some mark (d ∷ e ∷ ds) is = open_some mark (e ∷ ds) is
 
 module _ (size : ℕ) (slack : Bound) (covered from mark : ℕ) (c : Counted) (days : List Day) (l : Lives size slack covered from mark c days) (long : 5544 ≤ size) (least : 16 ≤ slack.bytes) where
@@ -85,7 +86,7 @@ module _ (size : ℕ) (slack : Bound) (covered from mark : ℕ) (c : Counted) (d
 
       shown : (n : ℕ) → from ≤ n → Shows size slack (expected_days covered n c) (owing n to (with_newest (with_word w) (fitting (size - 2) days)))
       shown n le =
-          let whole = due (is_open mark days) (nat_lt (suc mark) n) open_is (less_is (suc mark) n (omega (arith, promised, le))) (l.rests.shows n le) in
+          let whole = due (is_open mark days) (nat_lt (suc mark) n) open_is (lt-ltb (suc mark) n (omega (arith, promised, le))) (l.rests.shows n le) in
           let less = shows_left size slack (size - 2) (expected_days covered n c) (more (sizes days)) (more (sizes (fitting (size - 2) days))) (omega (arith, long, least)) (fits_sizes 0 (size - 2) days (omega (arith, long)) l.rests.ordered).1
           (left_more (size - 2) (sizes days) (sizes (fitting (size - 2) days)) (left_of (size - 2) days (fitting (size - 2) days) (remain_fitting (size - 2) days))) (closes_is Rising covered c.before n c.days l.rests.rising (rising_more c.days l.rests.rising)) whole in
           undue (is_open to (with_newest (with_word w) (fitting (size - 2) days))) (nat_lt (suc to) n) (absent_shut to (with_newest (with_word w) (fitting (size - 2) days)) ends)

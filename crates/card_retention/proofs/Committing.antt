@@ -1,8 +1,7 @@
 -- The commit: with the mark at an entry's minute the string shows one entry more, where no minute between tells one.
 use Rattle.std.proofs.Common.{◌≡◌, ⊎_elim, ℕ, zero, suc, ◌+◌, ◌/◌, ◌%◌, ◌<◌, ◌≤◌, Bool, true, false, cond, ◌==◌, Option, Some, None, List, [], ◌∷◌, ◌++◌, refl, sym, ◌∙◌, ap, arith, append_assoc}
 use Rattle.std.specs.Prelude.{nat_le}
-use Rattle.std.proofs.lemmas.Bool.Decides.{nat_tests}
-use Rattle.std.proofs.lemmas.Bool.{cases_lt}
+use Rattle.std.proofs.lemmas.Bool.{cases_lt, le-leb, leb-false}
 use Rattle.activity_codec.specs.declared.entries.Entry.{Entry}
 use Rattle.activity_codec.specs.declared.values.Slot.{Slot}
 use Rattle.activity_codec.specs.declared.values.Slot.TheVariants.{Driver, CoDriver}
@@ -94,15 +93,6 @@ abbrev pub Quiet : (mark next : ℕ) → List Day → Type 0
 Quiet mark next [] = Unit {0}
 Quiet mark next (d ∷ ds) = QuietDay mark next d × Quiet mark next ds
 
-at_most : (m n : ℕ) → m ≤ n → nat_le m n ≡ true
-at_most m n le = grind (arith, nat_tests)
-
-le_of : (m n : ℕ) → nat_le m n ≡ true → m ≤ n
-le_of m n is = grind (arith, nat_tests)
-
-gt_of : (m n : ℕ) → nat_le m n ≡ false → n < m
-gt_of m n is = grind (arith, nat_tests)
-
 -- the newest day with the entry's word
 pub entry_day : (mark : ℕ) (e : Entry) (d after : Day) → mark < e.minute → QuietDay mark e.minute d → after.date ≡ d.date → d.date ≡ date_of e.minute
     → ((t : ℕ) → t < e.minute % 1440 → latest after.words t ≡ latest d.words t) → told_by e.minute (latest after.words (e.minute % 1440)) ≡ Some e → day_entries e.minute after ≡ day_entries mark d ++ e ∷ []
@@ -113,7 +103,7 @@ entry_day mark e d after lt quiet date day same tells = minutes_one (entry_at e.
     at = omega (arith, date, day)
 
     here : entry_at e.minute after (e.minute % 1440) ≡ Some e
-    here = ap (λ (b : Bool). cond b (told_by (after.date / 60 + e.minute % 1440) (latest after.words (e.minute % 1440))) None) (at_most (after.date / 60 + e.minute % 1440) e.minute (omega (arith, at)))
+    here = ap (λ (b : Bool). cond b (told_by (after.date / 60 + e.minute % 1440) (latest after.words (e.minute % 1440))) None) (le-leb (after.date / 60 + e.minute % 1440) e.minute (omega (arith, at)))
         ∙ ap (λ (m : ℕ). told_by m (latest after.words (e.minute % 1440))) at ∙ tells
 
     none : entry_at mark d (e.minute % 1440) ≡ None
@@ -121,13 +111,13 @@ entry_day mark e d after lt quiet date day same tells = minutes_one (entry_at e.
 
     earlier : (s : ℕ) → s < e.minute % 1440 → entry_at e.minute after s ≡ entry_at mark d s
     earlier s lo =
-        ap (λ (b : Bool). cond b (told_by (after.date / 60 + s) (latest after.words s)) None) (at_most (after.date / 60 + s) e.minute (omega (arith, at, lo)))
+        ap (λ (b : Bool). cond b (told_by (after.date / 60 + s) (latest after.words s)) None) (le-leb (after.date / 60 + s) e.minute (omega (arith, at, lo)))
         ∙ ap (λ (o : Option ℕ). told_by (after.date / 60 + s) o) (same s lo) ∙ ap (λ (n : ℕ). told_by (n / 60 + s) (latest d.words s)) date
         ∙ by (nat_le (d.date / 60 + s) mark) refl
       where
         by : (b : Bool) → nat_le (d.date / 60 + s) mark ≡ b → told_by (d.date / 60 + s) (latest d.words s) ≡ cond b (told_by (d.date / 60 + s) (latest d.words s)) None
         by true is = refl
-        by false is = quiet s (omega (arith, lo)) (gt_of (d.date / 60 + s) mark is) (omega (arith, at, lo, date))
+        by false is = quiet s (omega (arith, lo)) (leb-false (d.date / 60 + s) mark is) (omega (arith, at, lo, date))
 
 -- an older day shows what it did
 older_day : (mark : ℕ) (e : Entry) (d : Day) → mark < e.minute → QuietDay mark e.minute d → d.date % 86400 ≡ 0 → d.date < date_of e.minute → day_entries e.minute d ≡ day_entries mark d
@@ -136,11 +126,11 @@ older_day mark e d lt quiet midnight before = minutes_alike (entry_at e.minute d
   where
     each : (s : ℕ) → s < 1440 → entry_at e.minute d s ≡ entry_at mark d s
     each s hi =
-        ap (λ (b : Bool). cond b (told_by (d.date / 60 + s) (latest d.words s)) None) (at_most (d.date / 60 + s) e.minute (omega (arith, before, hi, midnight))) ∙ by (nat_le (d.date / 60 + s) mark) refl
+        ap (λ (b : Bool). cond b (told_by (d.date / 60 + s) (latest d.words s)) None) (le-leb (d.date / 60 + s) e.minute (omega (arith, before, hi, midnight))) ∙ by (nat_le (d.date / 60 + s) mark) refl
       where
         by : (b : Bool) → nat_le (d.date / 60 + s) mark ≡ b → told_by (d.date / 60 + s) (latest d.words s) ≡ cond b (told_by (d.date / 60 + s) (latest d.words s)) None
         by true is = refl
-        by false is = quiet s hi (gt_of (d.date / 60 + s) mark is) (omega (arith, before, hi, midnight))
+        by false is = quiet s hi (leb-false (d.date / 60 + s) mark is) (omega (arith, before, hi, midnight))
 
 abbrev pub Olds : ℕ → List Day → Type 0
 Olds date [] = Unit {0}

@@ -2,7 +2,7 @@
 use Rattle.std.proofs.Common.{◌≡◌, ◌⊎◌, inl, inr, ⊎_elim, ℕ, suc, ◌%◌, ◌/◌, ◌<◌, ◌≤◌, Bool, true, false, cond, ◌||◌, Option, Some, None, List, [], ◌∷◌, ◌++◌, All, refl, sym, ◌∙◌, ap, subst, arith, append_assoc}
 use Rattle.std.specs.Prelude.{nat_eq, nat_le}
 use Rattle.std.proofs.lemmas.Bool.Decides.{nat_tests}
-use Rattle.std.proofs.lemmas.Bool.{cases_lt}
+use Rattle.std.proofs.lemmas.Bool.{cases_lt, le-leb}
 use Rattle.std.proofs.lemmas.List.Elements.{All-head, All-tail, All-nil, All-cons}
 use Rattle.activity_codec.specs.declared.entries.Entry.{Entry}
 use Rattle.card_retention.specs.Expected.{WordDay, more, is_newest, goes_on, is_closed, closes, first_words, adds, Counted, with_entry, counted, expected_days}
@@ -150,13 +150,10 @@ module _ (length bytes oldest covered n : ℕ) (days : List WordDay) where
   has_due c e es rise low h = has_after c e es rise low (has_with c e low h)
 
 -- the entries from the oldest day on
-le_is : (m n : ℕ) → m ≤ n → nat_le m n ≡ true
-le_is m n le = grind (arith, nat_tests)
-
 from_all : (o : ℕ) (e : Entry) (es : List Entry) → Rise (e ∷ es) → o ≤ e.minute / 1440 → entries_from o (e ∷ es) ≡ e ∷ es
-from_all o e [] later le = ap (λ (b : Bool). cond b (e ∷ []) []) (le_is o (e.minute / 1440) le)
+from_all o e [] later le = ap (λ (b : Bool). cond b (e ∷ []) []) (le-leb o (e.minute / 1440) le)
 from_all o e (f ∷ es) later le =
-    ap (λ (b : Bool). cond b (e ∷ entries_from o (f ∷ es)) (entries_from o (f ∷ es))) (le_is o (e.minute / 1440) le)
+    ap (λ (b : Bool). cond b (e ∷ entries_from o (f ∷ es)) (entries_from o (f ∷ es))) (le-leb o (e.minute / 1440) le)
     ∙ ap (λ (l : List Entry). e ∷ l) (from_all o f es later.1 (omega (arith, le, same_or_later e.minute f.minute later.0)))
 
 from_both : (o : ℕ) (all due : List Entry) → entries_from o (all ++ due) ≡ entries_from o all ++ entries_from o due

@@ -1,6 +1,7 @@
 -- An entry that is kept: the days that are shown after it are those expected with it.
 use Rattle.std.proofs.Common.{◌≡◌, inl, inr, ⊎_elim, ℕ, suc, ◌+◌, ◌-◌, ◌*◌, ◌/◌, ◌%◌, ◌<◌, ◌≤◌, Bool, true, false, cond, not, ◌&&◌, Option, Some, None, List, [], ◌∷◌, ◌++◌, length, refl, sym, ◌∙◌, ap, subst, arith}
 use Rattle.std.specs.Prelude.{nat_eq, nat_lt, nat_le}
+use Rattle.std.proofs.lemmas.Bool.{eqb-true, lt-ltb, le-ltb}
 use Rattle.std.proofs.lemmas.Bool.Decides.{nat_tests}
 use Rattle.activity_codec.specs.declared.entries.Entry.{Entry}
 use Rattle.activity_codec.specs.declared.values.Slot.{Slot}
@@ -20,21 +21,6 @@ pub both : (a b : Bool) → a && b ≡ true → (a ≡ true) × (b ≡ true)
 both true true e = (refl, refl)
 both true false e = absurd (cc)
 both false b e = absurd (cc)
-
-pub is_same : (m n : ℕ) → nat_eq m n ≡ true → m ≡ n
-is_same m n is = grind (arith, nat_tests)
-
-not_same : (m n : ℕ) → nat_eq m n ≡ false → m ≡ n → ⊥
-not_same m n is e = grind (arith, nat_tests)
-
-pub is_less : (m n : ℕ) → nat_lt m n ≡ true → m < n
-is_less m n is = grind (arith, nat_tests)
-
-pub less_is : (m n : ℕ) → m < n → nat_lt m n ≡ true
-less_is m n lt = grind (arith, nat_tests)
-
-pub not_less : (m n : ℕ) → n ≤ m → nat_lt m n ≡ false
-not_less m n le = grind (arith, nat_tests)
 
 -- THE STATE of two entries that are alike
 slots : (a b : Slot) → same_slot a b ≡ true → slot_number a ≡ slot_number b
@@ -82,7 +68,7 @@ follows (Some p) e on =
     let a = slots p.slot e.slot two.0 in
     let b = acts p.act e.act three.0 in
     let d = crews p.crew e.crew three.1 in
-    record { p = p; is = refl; minute = is_same (suc p.minute) e.minute one.0; state = omega (arith, a, b, d) }
+    record { p = p; is = refl; minute = eqb-true (suc p.minute) e.minute one.0; state = omega (arith, a, b, d) }
 
 -- LISTS OF DAYS in order
 pub before_more : (k : ℕ) (ws : List WordDay) → AllBefore k ws → AllBefore k (more ws)
@@ -122,7 +108,7 @@ before_newest k (w ∷ x ∷ ws) r b is = let rest = before_newest k (x ∷ ws) 
 
 pub before_not : (k : ℕ) (ws : List WordDay) → AllBefore k ws → is_newest k ws ≡ true → ⊥
 before_not k [] b is = cc
-before_not k (w ∷ []) b is = omega (arith, b.0, is_same w.day k is)
+before_not k (w ∷ []) b is = omega (arith, b.0, eqb-true w.day k is)
 before_not k (w ∷ x ∷ ws) b is = before_not k (x ∷ ws) b.1 is
 
 -- what is covered lies before what all expected days lie before
@@ -200,12 +186,12 @@ tells_like p e (d ∷ f ∷ ds) day state t = tells_like p e (f ∷ ds) day stat
 
 newest_one : (k l : ℕ) (ws : List WordDay) → is_newest k ws ≡ true → is_newest l ws ≡ true → k ≡ l
 newest_one k l [] a b = absurd (cc)
-newest_one k l (w ∷ []) a b = sym (is_same w.day k a) ∙ is_same w.day l b
+newest_one k l (w ∷ []) a b = sym (eqb-true w.day k a) ∙ eqb-true w.day l b
 newest_one k l (w ∷ x ∷ ws) a b = newest_one k l (x ∷ ws) a b
 
 newest_low : (k l : ℕ) (ws : List WordDay) → AllBefore (suc l) ws → is_newest k ws ≡ true → k ≤ l
 newest_low k l [] b a = absurd (cc)
-newest_low k l (w ∷ []) b a = omega (arith, b.0, is_same w.day k a)
+newest_low k l (w ∷ []) b a = omega (arith, b.0, eqb-true w.day k a)
 newest_low k l (w ∷ x ∷ ws) b a = newest_low k l (x ∷ ws) b.1 a
 
 -- THE NEWEST DAY of the string
@@ -238,7 +224,7 @@ on_append P (e ∷ f ∷ ds) d p = on_append P (f ∷ ds) d p
 
 pub date_newest : (k date : ℕ) (days : List Day) → AreDays date days → is_newest k (sizes days) ≡ true → OnNewest (λ d. d.date ≡ k * 86400) days
 date_newest k date [] are is = cc
-date_newest k date (d ∷ []) are is = omega (arith, are.1.midnight, is_same (d.date / 86400) k is)
+date_newest k date (d ∷ []) are is = omega (arith, are.1.midnight, eqb-true (d.date / 86400) k is)
 date_newest k date (d ∷ e ∷ ds) are is = date_newest k d.date (e ∷ ds) are.2 is
 
 pub last_append : (ws : List ℕ) (w : ℕ) → last_word (ws ++ w ∷ []) ≡ w
@@ -249,7 +235,7 @@ last_append (v ∷ u ∷ ws) w = last_append (u ∷ ws) w
 -- where the newest day is the mark's, a closing word lies in it
 open_day : (p : Entry) (days : List Day) → Tells p days → is_open p.minute days ≡ true → nat_eq (suc p.minute % 1440) 0 ≡ false
 open_day p [] t is = absurd t
-open_day p (d ∷ []) t is = by (suc p.minute % 1440) (omega (arith, t.date, is_same d.date (date_of (suc p.minute)) (both (nat_eq d.date (date_of (suc p.minute))) (not (word_absent (last_word d.words))) is).0))
+open_day p (d ∷ []) t is = by (suc p.minute % 1440) (omega (arith, t.date, eqb-true d.date (date_of (suc p.minute)) (both (nat_eq d.date (date_of (suc p.minute))) (not (word_absent (last_word d.words))) is).0))
   where
     by : (m : ℕ) → 0 < m → nat_eq m 0 ≡ false
     by m lt = grind (arith, nat_tests)
@@ -265,7 +251,7 @@ up_to mark e le (x ∷ all) u = (omega (arith, le, u.0), up_to mark e le all u.1
 
 newest_in : (k : ℕ) (ws : List WordDay) → is_newest k ws ≡ true → InDays k ws
 newest_in k [] is = absurd (cc)
-newest_in k (w ∷ []) is = inl (is_same w.day k is)
+newest_in k (w ∷ []) is = inl (eqb-true w.day k is)
 newest_in k (w ∷ x ∷ ws) is = inr (newest_in k (x ∷ ws) is)
 
 shows_entry : (length : ℕ) (slack : Bound) (e : Entry) (expected days : List WordDay) → InDays (e.minute / 1440) days → Shows length slack expected days → Shows length (with_all slack e) expected days
@@ -329,7 +315,7 @@ module _ (size : ℕ) (slack : Bound) (covered from mark : ℕ) (c : Counted) (d
       (f.p, r.tells f.p f.is at_top, omega (arith, f.minute, b.1, r.later, later), at_top, f.state, f.minute)
 
   no_gap : (w : ℕ) → suc mark ≡ e.minute → with_closing size w mark e.minute days ≡ days
-  no_gap w is = ap (λ (b : Bool). cond b (with_newest (with_word w) (fitting (size - 2) days)) days) (none (is_open mark days) (nat_lt (suc mark) e.minute) (not_less (suc mark) e.minute (omega (arith, is))))
+  no_gap w is = ap (λ (b : Bool). cond b (with_newest (with_word w) (fitting (size - 2) days)) days) (none (is_open mark days) (nat_lt (suc mark) e.minute) (le-ltb (suc mark) e.minute (omega (arith, is))))
     where
       none : (a b : Bool) → b ≡ false → a && b ≡ false
       none true b is = is
@@ -518,7 +504,7 @@ module _ (size : ℕ) (slack : Bound) (covered from mark : ℕ) (c : Counted) (d
           where
             cases : (o : Bool) → is_open e.minute after ≡ o → Shows size (with_all slack e) (closes covered (Some e) n later_days) (cond (o && nat_lt (suc e.minute) n) (more (sizes after)) (sizes after))
             cases false is = closes_is (λ l. Shows size (with_all slack e) l (sizes after)) covered (Some e) n later_days base (shows_more size (with_all slack e) later_days (sizes after) base)
-            cases true is = rw (open_day e after tells is, less_is covered (suc e.minute) (omega (arith, r.words, r.next, later))) (by_next (nat_lt (suc e.minute) n))
+            cases true is = rw (open_day e after tells is, lt-ltb covered (suc e.minute) (omega (arith, r.words, r.next, later))) (by_next (nat_lt (suc e.minute) n))
               where
                 by_next : (l : Bool) → Shows size (with_all slack e) (cond l (more later_days) later_days) (cond l (more (sizes after)) (sizes after))
                 by_next true = shows_word size (with_all slack e) day later_days (sizes after) later_rising later_newest after_newest base

@@ -1,19 +1,11 @@
 -- A string without a word behind a minute is as a trim to it would leave it.
 use Rattle.std.proofs.Common.{◌≡◌, ℕ, ◌%◌, ◌≤◌, Bool, true, false, cond, List, [], ◌∷◌, refl, sym, ◌∙◌, ap, subst, arith}
 use Rattle.std.specs.Prelude.{nat_eq, nat_le}
+use Rattle.std.proofs.lemmas.Bool.{eqb-true, le-leb, leb-true}
 use Rattle.std.proofs.lemmas.Bool.Decides.{nat_tests}
 use Rattle.activity_codec.specs.Words.{word_minute}
 use Rattle.card_model.specs.Days.{Day, AreDays, IsDay, AreWords, Ascend, last_word}
 use Rattle.card_model.specs.Changes.{with_newest, until, early, with_early, date_of, cut, trimmed, OnNewest}
-
-at_most : (m n : ℕ) → m ≤ n → nat_le m n ≡ true
-at_most m n le = grind (arith, nat_tests)
-
-le_of : (m n : ℕ) → nat_le m n ≡ true → m ≤ n
-le_of m n is = grind (arith, nat_tests)
-
-same_is : (m n : ℕ) → nat_eq m n ≡ true → m ≡ n
-same_is m n is = grind (arith, nat_tests)
 
 -- no word of it is behind the minute
 pub record UpTo (m : ℕ) (d : Day) : Type 0 where
@@ -26,9 +18,9 @@ ascend_low low m (v ∷ ws) w a le = omega (arith, a.2.0, ascend_low (word_minut
 
 pub early_all : (low m : ℕ) (ws : List ℕ) → Ascend low ws → word_minute (last_word ws) ≤ m → early m ws ≡ ws
 early_all low m [] a le = refl
-early_all low m (w ∷ []) a le = ap (λ (b : Bool). cond b (w ∷ []) []) (at_most (word_minute w) m le)
+early_all low m (w ∷ []) a le = ap (λ (b : Bool). cond b (w ∷ []) []) (le-leb (word_minute w) m le)
 early_all low m (w ∷ v ∷ ws) a le =
-    ap (λ (b : Bool). cond b (w ∷ early m (v ∷ ws)) []) (at_most (word_minute w) m (ascend_low low m (v ∷ ws) w a le))
+    ap (λ (b : Bool). cond b (w ∷ early m (v ∷ ws)) []) (le-leb (word_minute w) m (ascend_low low m (v ∷ ws) w a le))
     ∙ ap (λ (l : List ℕ). w ∷ l) (early_all (word_minute w) m (v ∷ ws) a.2 le)
 
 pub early_more : (m n : ℕ) (ws : List ℕ) → m ≤ n → early m ws ≡ ws → early n ws ≡ ws
@@ -36,7 +28,7 @@ early_more m n [] le is = refl
 early_more m n (w ∷ ws) le is = by (nat_le (word_minute w) m) refl is (early_more m n ws le)
   where
     by : (b : Bool) → nat_le (word_minute w) m ≡ b → cond b (w ∷ early m ws) [] ≡ w ∷ ws → (early m ws ≡ ws → early n ws ≡ ws) → early n (w ∷ ws) ≡ w ∷ ws
-    by true test is rest = ap (λ (b : Bool). cond b (w ∷ early n ws) []) (at_most (word_minute w) n (omega (arith, le_of (word_minute w) m test, le))) ∙ ap (λ (l : List ℕ). w ∷ l) (rest (tail is))
+    by true test is rest = ap (λ (b : Bool). cond b (w ∷ early n ws) []) (le-leb (word_minute w) n (omega (arith, leb-true (word_minute w) m test, le))) ∙ ap (λ (l : List ℕ). w ∷ l) (rest (tail is))
       where
         tail : w ∷ early m ws ≡ w ∷ ws → early m ws ≡ ws
         tail is = cc
@@ -57,7 +49,7 @@ cut_none : (m : ℕ) (d : Day) → UpTo m d → cut m d ≡ d
 cut_none m d u = by (nat_eq d.date (date_of m)) refl
   where
     by : (b : Bool) → nat_eq d.date (date_of m) ≡ b → cond b (with_early (m % 1440) d) d ≡ d
-    by true is = ap (λ (ws : List ℕ). record { date = d.date; counter = d.counter; km = d.km; words = ws }) (u.last (same_is d.date (date_of m) is))
+    by true is = ap (λ (ws : List ℕ). record { date = d.date; counter = d.counter; km = d.km; words = ws }) (u.last (eqb-true d.date (date_of m) is))
     by false is = refl
 
 first_low : (m date : ℕ) (d : Day) (ds : List Day) → AreDays date (d ∷ ds) → OnNewest (UpTo m) (d ∷ ds) → d.date ≤ date_of m
@@ -70,9 +62,9 @@ cons_newest f d x xs (u ∷ us) is = ap (λ (l : List Day). d ∷ l) is
 
 pub flat_newest : (m date : ℕ) (ds : List Day) → AreDays date ds → OnNewest (UpTo m) ds → trimmed m ds ≡ ds
 flat_newest m date [] are on = absurd on
-flat_newest m date (d ∷ []) are on = ap (λ (b : Bool). with_newest (cut m) (cond b (d ∷ []) [])) (at_most d.date (date_of m) on.day) ∙ ap (λ (x : Day). x ∷ []) (cut_none m d on)
+flat_newest m date (d ∷ []) are on = ap (λ (b : Bool). with_newest (cut m) (cond b (d ∷ []) [])) (le-leb d.date (date_of m) on.day) ∙ ap (λ (x : Day). x ∷ []) (cut_none m d on)
 flat_newest m date (d ∷ e ∷ ds) are on =
-    ap (λ (b : Bool). with_newest (cut m) (cond b (d ∷ until (date_of m) (e ∷ ds)) [])) (at_most d.date (date_of m) (first_low m date d (e ∷ ds) are on))
+    ap (λ (b : Bool). with_newest (cut m) (cond b (d ∷ until (date_of m) (e ∷ ds)) [])) (le-leb d.date (date_of m) (first_low m date d (e ∷ ds) are on))
     ∙ cons_newest (cut m) d e ds (until (date_of m) (e ∷ ds)) (flat_newest m d.date (e ∷ ds) are.2 on)
 
 -- and the other way round
@@ -84,7 +76,7 @@ newest_flat m d [] is = by (nat_le d.date (date_of m)) refl is
       where
         none : [] ≡ d ∷ [] → ⊥
         none is = cc
-    by true test is = record { day = le_of d.date (date_of m) test; last = λ same. words (nat_eq d.date (date_of m)) (eq same) (head is) }
+    by true test is = record { day = leb-true d.date (date_of m) test; last = λ same. words (nat_eq d.date (date_of m)) (eq same) (head is) }
       where
         head : cut m d ∷ [] ≡ d ∷ [] → cut m d ≡ d
         head is = cc

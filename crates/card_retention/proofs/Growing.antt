@@ -1,7 +1,7 @@
 -- New words and days, fewer words, and drops of the string's own days.
 use Rattle.std.proofs.Common.{◌≡◌, inl, inr, ⊎_elim, ℕ, ◌+◌, ◌-◌, ◌/◌, ◌<◌, ◌≤◌, true, false, List, [], ◌∷◌, ◌++◌, length, refl, sym, ◌∙◌, ap, subst, arith, append_assoc, length-append}
 use Rattle.std.specs.Prelude.{nat_eq}
-use Rattle.std.proofs.lemmas.Bool.Decides.{nat_tests}
+use Rattle.std.proofs.lemmas.Bool.{eqb-true}
 use Rattle.card_model.specs.Days.{Day, total}
 use Rattle.card_model.specs.Changes.{Remain, with_newest, with_word}
 use Rattle.card_retention.specs.Expected.{WordDay, size_of, size_all, one_more, more, is_newest}
@@ -23,14 +23,8 @@ pub shows_fewer : (length : ℕ) (slack : Bound) (expected less days : List Word
 shows_fewer length slack expected less days g still s = record { gone = s.gone; there = s.there; split = s.split; covers = covers_fewer s.there less days g s.covers; full = s.full; some = s.some; oldest = s.oldest; low = s.low; high = s.high; none = s.none; whole = still s.oldest s.whole }
 
 -- THE NEWEST DAY of a list that has one
-is_same : (m n : ℕ) → nat_eq m n ≡ true → m ≡ n
-is_same m n is = grind (arith, nat_tests)
-
-same_is : (m n : ℕ) → m ≡ n → nat_eq m n ≡ true
-same_is m n is = grind (arith, nat_tests)
-
 pub newest_above : (w x : WordDay) (ws : List WordDay) (k : ℕ) → Rising (w ∷ x ∷ ws) → is_newest k (x ∷ ws) ≡ true → w.day < k
-newest_above w x [] k rising is = omega (arith, rising.0, is_same x.day k is)
+newest_above w x [] k rising is = omega (arith, rising.0, eqb-true x.day k is)
 newest_above w x (y ∷ ws) k rising is = omega (arith, rising.0, newest_above x y ws k rising.1 is)
 
 pub newest_back : (k : ℕ) (gone : List WordDay) (d : WordDay) (there : List WordDay) → is_newest k (gone ++ d ∷ there) ≡ is_newest k (d ∷ there)
@@ -129,7 +123,7 @@ covers_word [] (d ∷ ds) k rising a b c = absurd c
 covers_word (w ∷ []) (d ∷ []) k rising a b c = ⊎_elim (λ m. inl (record { day = m.0.day; words = omega (arith, m.0.words) }, tt)) (λ m. absurd m) c
 covers_word (w ∷ []) (d ∷ e ∷ ds) k rising a b c = ⊎_elim (λ m. absurd m.1) (λ m. absurd m) c
 covers_word (w ∷ x ∷ ws) (d ∷ []) k rising a b c = ⊎_elim
-    (λ m. absurd (omega (arith, m.0.day, newest_above w x ws k rising a, is_same d.day k b)))
+    (λ m. absurd (omega (arith, m.0.day, newest_above w x ws k rising a, eqb-true d.day k b)))
     (λ m. inr (covers_word (x ∷ ws) (d ∷ []) k rising.1 a b m)) c
 covers_word (w ∷ x ∷ ws) (d ∷ e ∷ ds) k rising a b c = ⊎_elim
     (λ m. inl (m.0, covers_word (x ∷ ws) (e ∷ ds) k rising.1 a b m.1))
@@ -197,8 +191,8 @@ shows_day length slack expected days v d t before s = record {
 covers_again : (ws ds : List WordDay) (d : WordDay) → Rising ws → Filled ws → is_newest d.day ws ≡ true → AllBefore d.day ds → d.words ≤ 2 → Covers ws ds → Covers (more ws) (ds ++ d ∷ [])
 covers_again [] [] d rising filled a before two c = absurd (cc)
 covers_again [] (e ∷ ds) d rising filled a before two c = absurd c
-covers_again (w ∷ []) [] d rising filled a before two c = inl (record { day = sym (is_same w.day d.day a); words = omega (arith, filled.0) }, tt)
-covers_again (w ∷ []) (e ∷ ds) d rising filled a before two c = ⊎_elim (λ m. absurd (omega (arith, before.0, m.0.day, is_same w.day d.day a))) (λ m. absurd m) c
+covers_again (w ∷ []) [] d rising filled a before two c = inl (record { day = sym (eqb-true w.day d.day a); words = omega (arith, filled.0) }, tt)
+covers_again (w ∷ []) (e ∷ ds) d rising filled a before two c = ⊎_elim (λ m. absurd (omega (arith, before.0, m.0.day, eqb-true w.day d.day a))) (λ m. absurd m) c
 covers_again (w ∷ x ∷ ws) [] d rising filled a before two c = inr (covers_again (x ∷ ws) [] d rising.1 filled.1 a before two (tt))
 covers_again (w ∷ x ∷ ws) (e ∷ ds) d rising filled a before two c = ⊎_elim
     (λ m. inl (m.0, covers_again (x ∷ ws) ds d rising.1 filled.1 a before.1 two m.1))

@@ -1,6 +1,7 @@
 -- The entries over a trim to the mark.
 use Rattle.std.proofs.Common.{◌≡◌, ◌⊎◌, inl, inr, ⊎_elim, ℕ, suc, ◌+◌, ◌*◌, ◌/◌, ◌%◌, ◌<◌, ◌≤◌, Bool, true, false, cond, ◌||◌, Option, Some, None, List, [], ◌∷◌, ◌++◌, refl, sym, ◌∙◌, ap, subst, arith}
 use Rattle.std.specs.Prelude.{nat_eq, nat_le}
+use Rattle.std.proofs.lemmas.Bool.{eqb-true, leb-false, leb-true, lt-leb}
 use Rattle.std.proofs.lemmas.Bool.Decides.{nat_tests}
 use Rattle.activity_codec.specs.declared.entries.Entry.{Entry}
 use Rattle.activity_codec.specs.Words.{word_absent, word_slot, word_crew, word_act, word_minute}
@@ -19,27 +20,12 @@ use Rattle.card_retention.proofs.Newest.{latest_last}
 use Rattle.card_retention.proofs.Committing.{QuietDay, Quiet}
 use Rattle.card_retention.proofs.Listing.{Lists, day_none, minutes_same}
 
-at_most : (m n : ℕ) → m ≤ n → nat_le m n ≡ true
-at_most m n le = grind (arith, nat_tests)
-
-above : (m n : ℕ) → n < m → nat_le m n ≡ false
-above m n lt = grind (arith, nat_tests)
-
-le_of : (m n : ℕ) → nat_le m n ≡ true → m ≤ n
-le_of m n is = grind (arith, nat_tests)
-
-gt_of : (m n : ℕ) → nat_le m n ≡ false → n < m
-gt_of m n is = grind (arith, nat_tests)
-
-is_same : (m n : ℕ) → nat_eq m n ≡ true → m ≡ n
-is_same m n is = grind (arith, nat_tests)
-
 -- WORDS behind a minute tell nothing of it
 latest_none : (low t : ℕ) (ws : List ℕ) → Ascend low ws → t < low → latest ws t ≡ None
 latest_none low t [] a lt = refl
 latest_none low t (w ∷ ws) a lt =
     ap (λ (o : Option ℕ). elim o as (λ _. Option ℕ) [ Some x ↦ Some x | None ↦ cond (nat_le (word_minute w) t) (Some w) None ]) (latest_none (word_minute w) t ws a.2 (omega (arith, lt, a.0)))
-    ∙ ap (λ (b : Bool). cond b (Some w) None) (above (word_minute w) t (omega (arith, lt, a.0)))
+    ∙ ap (λ (b : Bool). cond b (Some w) None) (lt-leb (word_minute w) t (omega (arith, lt, a.0)))
 
 latest_early : (low m t : ℕ) (ws : List ℕ) → Ascend low ws → t ≤ m → latest (early m ws) t ≡ latest ws t
 latest_early low m t [] a le = refl
@@ -48,8 +34,8 @@ latest_early low m t (w ∷ ws) a le = by (nat_le (word_minute w) m) refl (lates
     by : (b : Bool) → nat_le (word_minute w) m ≡ b → latest (early m ws) t ≡ latest ws t → (t < word_minute w → latest ws t ≡ None) → latest (cond b (w ∷ early m ws) []) t ≡ latest (w ∷ ws) t
     by true is rest none = ap (λ (o : Option ℕ). elim o as (λ _. Option ℕ) [ Some x ↦ Some x | None ↦ cond (nat_le (word_minute w) t) (Some w) None ]) rest
     by false is rest none =
-        let lt : t < word_minute w = omega (arith, gt_of (word_minute w) m is, le) in
-        sym (ap (λ (o : Option ℕ). elim o as (λ _. Option ℕ) [ Some x ↦ Some x | None ↦ cond (nat_le (word_minute w) t) (Some w) None ]) (none lt) ∙ ap (λ (b : Bool). cond b (Some w) None) (above (word_minute w) t lt))
+        let lt : t < word_minute w = omega (arith, leb-false (word_minute w) m is, le) in
+        sym (ap (λ (o : Option ℕ). elim o as (λ _. Option ℕ) [ Some x ↦ Some x | None ↦ cond (nat_le (word_minute w) t) (Some w) None ]) (none lt) ∙ ap (λ (b : Bool). cond b (Some w) None) (lt-leb (word_minute w) t lt))
 
 pub words_ascend : (ws : List ℕ) → AreWords ws → Ascend 0 ws
 words_ascend [] are = absurd are
@@ -64,7 +50,7 @@ cut_at mark d is t = by (nat_eq d.date (date_of mark)) refl
       where
         go : (c : Bool) → nat_le (d.date / 60 + t) mark ≡ c → cond c (told_by (d.date / 60 + t) (latest (early (mark % 1440) d.words) t)) None ≡ cond c (told_by (d.date / 60 + t) (latest d.words t)) None
         go false _ = refl
-        go true le = ap (λ (o : Option ℕ). told_by (d.date / 60 + t) o) (latest_early 0 (mark % 1440) t d.words (words_ascend d.words is.ordered) (omega (arith, le_of (d.date / 60 + t) mark le, is_same d.date (date_of mark) here)))
+        go true le = ap (λ (o : Option ℕ). told_by (d.date / 60 + t) o) (latest_early 0 (mark % 1440) t d.words (words_ascend d.words is.ordered) (omega (arith, leb-true (d.date / 60 + t) mark le, eqb-true d.date (date_of mark) here)))
 
 cut_entries : (mark : ℕ) (d : Day) → IsDay d → day_entries mark (cut mark d) ≡ day_entries mark d
 unfolding day_entries
@@ -79,7 +65,7 @@ entries_trimmed mark date [] are = refl
 entries_trimmed mark date (d ∷ ds) are = by (nat_le d.date (date_of mark)) refl (until (date_of mark) ds) (entries_trimmed mark d.date ds are.2)
   where
     by : (b : Bool) → nat_le d.date (date_of mark) ≡ b → (us : List Day) → entries_up_to mark (with_newest (cut mark) us) ≡ entries_up_to mark ds → entries_up_to mark (with_newest (cut mark) (cond b (d ∷ us) [])) ≡ entries_up_to mark (d ∷ ds)
-    by false is us rest = sym (ap (λ (l : List Entry). l ++ entries_up_to mark ds) (day_none mark d are.1.midnight (gt_of d.date (date_of mark) is)) ∙ late_entries mark d.date ds are.2 (omega (arith, gt_of d.date (date_of mark) is)))
+    by false is us rest = sym (ap (λ (l : List Entry). l ++ entries_up_to mark ds) (day_none mark d are.1.midnight (leb-false d.date (date_of mark) is)) ∙ late_entries mark d.date ds are.2 (omega (arith, leb-false d.date (date_of mark) is)))
     by true is [] rest = ap (λ (l : List Entry). l ++ []) (cut_entries mark d are.1) ∙ ap (λ (l : List Entry). day_entries mark d ++ l) rest
     by true is (u ∷ us) rest = ap (λ (l : List Entry). day_entries mark d ++ l) rest
 
@@ -88,7 +74,7 @@ in_day k [] is = absurd (cc)
 in_day k (w ∷ ws) is = by (nat_eq w.day k) refl is (in_day k ws)
   where
     by : (a : Bool) → nat_eq w.day k ≡ a → a || is_day k ws ≡ true → (is_day k ws ≡ true → InDays k ws) → InDays k (w ∷ ws)
-    by true same is rest = inl (is_same w.day k same)
+    by true same is rest = inl (eqb-true w.day k same)
     by false same is rest = inr (rest is)
 
 trimmed_sub : (mark k : ℕ) (ds : List Day) → InDays k (sizes (trimmed mark ds)) → InDays k (sizes ds)
@@ -139,7 +125,7 @@ ends_flat mark (d ∷ ds) are is = by 0 d ds are (newest_flat mark d ds is)
         apart m n le is = grind (arith, nat_tests)
 
         go : (b : Bool) → nat_eq d.date (date_of mark) ≡ b → d.date / 60 + word_minute (last_word d.words) ≤ mark
-        go true here = let at : d.date ≡ date_of mark = is_same d.date (date_of mark) here in omega (arith, at, early_last (mark % 1440) d.words are.1.ordered (on.last at))
+        go true here = let at : d.date ≡ date_of mark = eqb-true d.date (date_of mark) here in omega (arith, at, early_last (mark % 1440) d.words are.1.ordered (on.last at))
         go false here = omega (arith, apart d.date (date_of mark) on.day here, below d.words are.1.ordered, are.1.midnight)
     by date d (e ∷ ds) are on = by d.date e ds are.2 on
 

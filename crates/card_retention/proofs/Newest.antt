@@ -3,22 +3,13 @@ use Rattle.std.proofs.Common.{◌≡◌, ◌⊎◌, inl, inr, ⊎_elim, ℕ, zer
 use Rattle.std.specs.Prelude.{nat_eq, nat_le}
 use Rattle.std.proofs.Math.Nat.{le-max_left, le-max_right, max-le, max-eq_left, max-eq_right}
 use Rattle.std.proofs.lemmas.Bool.Decides.{nat_tests}
-use Rattle.std.proofs.lemmas.Bool.{cases_lt}
+use Rattle.std.proofs.lemmas.Bool.{cases_lt, le-leb, leb-true, lt-leb}
 use Rattle.activity_codec.specs.declared.entries.Entry.{Entry}
 use Rattle.activity_codec.specs.Words.{word_absent, word_slot, word_crew, word_act, word_minute}
 use Rattle.card_model.specs.Days.{Day, AreDays, AreWords, Ascend, last_word}
 use Rattle.card_model.specs.Changes.{date_of}
 use Rattle.card_retention.specs.Shown.{is_open}
 use Rattle.card_retention.specs.Entries.{latest, told_by, entry_at, minutes_from, day_entries, entries_up_to, last_entry, newest_word, closed_at, newest_minute, EndsBy}
-
-at_most : (m n : ℕ) → m ≤ n → nat_le m n ≡ true
-at_most m n le = grind (arith, nat_tests)
-
-above : (m n : ℕ) → n < m → nat_le m n ≡ false
-above m n lt = grind (arith, nat_tests)
-
-le_of : (m n : ℕ) → nat_le m n ≡ true → m ≤ n
-le_of m n is = grind (arith, nat_tests)
 
 -- THE LIST OF MINUTES
 last_back : (es fs : List Entry) (f : Entry) → last_entry (es ++ f ∷ fs) ≡ last_entry (f ∷ fs)
@@ -78,7 +69,7 @@ minutes_has f (suc n) t e is = by (f t) refl is (λ l. let h = minutes_has f n (
 
 -- THE LATEST WORD
 pub latest_low : (low t : ℕ) (ws : List ℕ) (w : ℕ) → Ascend low (w ∷ ws) → word_minute (last_word (w ∷ ws)) ≤ t → latest (w ∷ ws) t ≡ Some (last_word (w ∷ ws))
-latest_low low t [] w a le = ap (λ (b : Bool). cond b (Some w) None) (at_most (word_minute w) t le)
+latest_low low t [] w a le = ap (λ (b : Bool). cond b (Some w) None) (le-leb (word_minute w) t le)
 latest_low low t (v ∷ ws) w a le = ap (λ (o : Option ℕ). elim o as (λ _. Option ℕ) [ Some x ↦ Some x | None ↦ cond (nat_le (word_minute w) t) (Some w) None ]) (latest_low (word_minute w) t ws v a.2 le)
 
 pub latest_last : (t : ℕ) (ws : List ℕ) → AreWords ws → word_minute (last_word ws) ≤ t → latest ws t ≡ Some (last_word ws)
@@ -104,7 +95,7 @@ entry_is mark d t e is = by (nat_le (d.date / 60 + t) mark) refl (latest d.words
       where
         go : (a : Bool) → word_absent w ≡ a → cond a None (Some (record { minute = d.date / 60 + t; slot = word_slot w; crew = word_crew w; act = word_act w })) ≡ Some e → IsEntry mark d t e
         go true absent is = absurd (cc)
-        go false absent is = record { minute = minute same; low = omega (arith, minute same, le_of (d.date / 60 + t) mark test); word = w; latest = here; present = absent; is = sym same }
+        go false absent is = record { minute = minute same; low = omega (arith, minute same, leb-true (d.date / 60 + t) mark test); word = w; latest = here; present = absent; is = sym same }
           where
             same : record { minute = d.date / 60 + t; slot = word_slot w; crew = word_crew w; act = word_act w } ≡ e
             same = cc
@@ -113,7 +104,7 @@ entry_is mark d t e is = by (nat_le (d.date / 60 + t) mark) refl (latest d.words
             minute s = sym (ap (λ (x : Entry). x.minute) s)
 
 pub late_none : (mark : ℕ) (d : Day) (s : ℕ) → mark < d.date / 60 + s → entry_at mark d s ≡ None
-late_none mark d s lt = ap (λ (b : Bool). cond b (told_by (d.date / 60 + s) (latest d.words s)) None) (above (d.date / 60 + s) mark lt)
+late_none mark d s lt = ap (λ (b : Bool). cond b (told_by (d.date / 60 + s) (latest d.words s)) None) (lt-leb (d.date / 60 + s) mark lt)
 
 pub day_has : (mark : ℕ) (d : Day) (e : Entry) → last_entry (day_entries mark d) ≡ Some e → Has (entry_at mark d) 1440 e
 unfolding day_entries
@@ -213,7 +204,7 @@ at_mark mark date (d ∷ []) are ends is = by (nat_eq d.date (date_of (suc mark)
         let here : d.date / 60 + mark % 1440 ≡ mark = omega (arith, date, low) in
         let e : Entry = record { minute = d.date / 60 + mark % 1440; slot = word_slot (last_word d.words); crew = word_crew (last_word d.words); act = word_act (last_word d.words) } in
         let told : entry_at mark d (mark % 1440) ≡ Some (record { minute = d.date / 60 + mark % 1440; slot = word_slot (last_word d.words); crew = word_crew (last_word d.words); act = word_act (last_word d.words) }) =
-        ap (λ (b : Bool). cond b (told_by (d.date / 60 + mark % 1440) (latest d.words (mark % 1440))) None) (at_most (d.date / 60 + mark % 1440) mark (omega (arith, here)))
+        ap (λ (b : Bool). cond b (told_by (d.date / 60 + mark % 1440) (latest d.words (mark % 1440))) None) (le-leb (d.date / 60 + mark % 1440) mark (omega (arith, here)))
         ∙ ap (λ (o : Option ℕ). told_by (d.date / 60 + mark % 1440) o) (latest_last (mark % 1440) d.words are.1.ordered (omega (arith, low, here)))
         ∙ ap (λ (a : Bool). cond a None (Some (record { minute = d.date / 60 + mark % 1440; slot = word_slot (last_word d.words); crew = word_crew (last_word d.words); act = word_act (last_word d.words) }))) y in
         record {

@@ -1,6 +1,7 @@
 -- The rule that is carried gives the rule that is stated.
 use Rattle.std.proofs.Common.{◌≡◌, ◌⊎◌, inl, inr, ⊎_elim, ℕ, suc, ◌/◌, ◌<◌, ◌≤◌, Bool, true, false, cond, ◌||◌, ◌&&◌, List, [], ◌∷◌, refl, sym, ◌∙◌, ap, arith}
 use Rattle.std.specs.Prelude.{nat_eq, nat_le, nat_lt}
+use Rattle.std.proofs.lemmas.Bool.{le-leb, leb-true}
 use Rattle.std.proofs.lemmas.Bool.Decides.{nat_tests}
 use Rattle.activity_codec.specs.declared.entries.Entry.{Entry}
 use Rattle.card_model.specs.Days.{Day}
@@ -8,15 +9,6 @@ use Rattle.card_retention.specs.Expected.{WordDay, more, Counted, expected_days}
 use Rattle.card_retention.specs.Shown.{Covers, Bound, InDays, AllFrom, AllIn, Grows, sizes, is_open, owing, Rests}
 use Rattle.card_retention.specs.Retains.{entries_from, is_day, entries_in, CardRetains}
 use Rattle.card_retention.proofs.Growing.{covers_fewer}
-
-le_is : (m n : ℕ) → m ≤ n → nat_le m n ≡ true
-le_is m n le = grind (arith, nat_tests)
-
-not_le : (m n : ℕ) → n < m → nat_le m n ≡ false
-not_le m n lt = grind (arith, nat_tests)
-
-le_of : (m n : ℕ) → nat_le m n ≡ true → m ≤ n
-le_of m n is = grind (arith, nat_tests)
 
 pub covers_from : (o : ℕ) (ws ds : List WordDay) → AllFrom o ws → Covers ws ds → AllFrom o ds
 covers_from o ws [] f c = tt
@@ -65,11 +57,11 @@ same_entries o (e ∷ all) shown days w f s = by (nat_le o (e.minute / 1440)) re
         → cond a (e ∷ entries_in days all) (entries_in days all) ≡ cond b (e ∷ entries_from o all) (entries_from o all)
     by true t true u rest = ap (λ (l : List Entry). e ∷ l) rest
     by false t false u rest = rest
-    by true t false u rest = absurd (no (sym u ∙ sym (s (e.minute / 1440)) ∙ day_in (e.minute / 1440) shown (w.0 (le_of o (e.minute / 1440) t))))
+    by true t false u rest = absurd (no (sym u ∙ sym (s (e.minute / 1440)) ∙ day_in (e.minute / 1440) shown (w.0 (leb-true o (e.minute / 1440) t))))
       where
         no : false ≡ true → ⊥
         no x = cc
-    by false t true u rest = absurd (no (sym t ∙ le_is o (e.minute / 1440) (day_low (e.minute / 1440) o shown f (s (e.minute / 1440) ∙ u))))
+    by false t true u rest = absurd (no (sym t ∙ le-leb o (e.minute / 1440) (day_low (e.minute / 1440) o shown f (s (e.minute / 1440) ∙ u))))
       where
         no : false ≡ true → ⊥
         no x = cc

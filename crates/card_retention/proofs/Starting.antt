@@ -1,6 +1,7 @@
 -- A card as it is found: its own days are those that are expected.
 use Rattle.std.proofs.Common.{◌≡◌, inl, inr, ⊎_elim, ℕ, zero, suc, ◌+◌, ◌-◌, ◌*◌, ◌/◌, ◌%◌, ◌<◌, ◌≤◌, max, Bool, true, false, cond, not, ◌&&◌, ◌==◌, Option, Some, None, List, [], ◌∷◌, ◌++◌, refl, sym, ◌∙◌, ap, subst, arith}
 use Rattle.std.specs.Prelude.{nat_eq, nat_lt}
+use Rattle.std.proofs.lemmas.Bool.{lt-ltb}
 use Rattle.std.proofs.lemmas.Bool.Decides.{nat_tests}
 use Rattle.std.proofs.Math.Nat.{le-max_left, le-max_right, max-le}
 use Rattle.activity_codec.specs.declared.entries.Entry.{Entry}
@@ -12,7 +13,7 @@ use Rattle.card_retention.specs.Expected.{WordDay, more, is_closed, closes, Coun
 use Rattle.card_retention.specs.Shown.{Covers, Bound, InDays, AllFrom, AllBefore, AllIn, AllUpTo, Shows, Filled, sizes, entry_state, is_open, owing, TellsIn, Tells, Rests}
 use Rattle.card_retention.specs.Entries.{entry_at, minutes_from, day_entries, entries_up_to, last_entry, newest_word, EndsBy}
 use Rattle.card_retention.proofs.Growing.{in_more, shows_more, still_in}
-use Rattle.card_retention.proofs.Entering.{closes_is, rising_sizes, before_later, less_is}
+use Rattle.card_retention.proofs.Entering.{closes_is, rising_sizes, before_later}
 use Rattle.card_retention.proofs.Newest.{Has, IsEntry, entry_is, entries_low, day_has, last_split, word_late, latest_last, at_mark}
 
 covers_same : (ws : List WordDay) → Covers ws ws
@@ -198,7 +199,7 @@ starts size bytes from mark ds are ends small later next = record {
             (subst (λ (b : Bool). Shows size (start_bound bytes mark ds) (cond b (more (sizes ds)) (sizes ds)) (cond (nat_lt (suc mark) n) (more (sizes ds)) (sizes ds))) (sym (closed a.p a.minute a.room a.word)) (each (nat_lt (suc mark) n)))
           where
             closed : (p : Entry) → p.minute ≡ mark → 0 < suc mark % 1440 → newest_word ds ≤ mark → is_closed (newest_word ds) p n ≡ nat_lt (suc mark) n
-            closed p at room word = three (nat_eq (suc p.minute % 1440) 0) (nat_lt (newest_word ds) (suc p.minute)) (nat_lt (suc p.minute) n) (no (suc p.minute % 1440) (subst (λ (k : ℕ). 0 < suc k % 1440) (sym at) room)) (less_is (newest_word ds) (suc p.minute) (omega (arith, at, word))) ∙ ap (λ (k : ℕ). nat_lt (suc k) n) at
+            closed p at room word = three (nat_eq (suc p.minute % 1440) 0) (nat_lt (newest_word ds) (suc p.minute)) (nat_lt (suc p.minute) n) (no (suc p.minute % 1440) (subst (λ (k : ℕ). 0 < suc k % 1440) (sym at) room)) (lt-ltb (newest_word ds) (suc p.minute) (omega (arith, at, word))) ∙ ap (λ (k : ℕ). nat_lt (suc k) n) at
               where
                 no : (k : ℕ) → 0 < k → nat_eq k 0 ≡ false
                 no k lt = grind (arith, nat_tests)

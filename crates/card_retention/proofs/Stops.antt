@@ -1,6 +1,7 @@
 -- A keep that is stopped: what a repair to the mark leaves of each of its moments.
 use Rattle.std.proofs.Common.{◌≡◌, inl, inr, ⊎_elim, ℕ, suc, ◌+◌, ◌-◌, ◌*◌, ◌/◌, ◌%◌, ◌<◌, ◌≤◌, Bool, true, false, cond, ◌&&◌, not, Option, Some, List, [], ◌∷◌, ◌++◌, length, refl, sym, ◌∙◌, ap, subst, arith, length-append}
 use Rattle.std.specs.Prelude.{nat_eq, nat_lt, nat_le}
+use Rattle.std.proofs.lemmas.Bool.{eqb-true, ltb-true, lt-ltb}
 use Rattle.std.proofs.lemmas.Bool.Decides.{nat_tests}
 use Rattle.activity_codec.specs.declared.entries.Entry.{Entry}
 use Rattle.activity_codec.specs.Words.{word_absent, word_minute}
@@ -10,7 +11,7 @@ use Rattle.card_retention.specs.Expected.{WordDay, more, is_newest, first_words,
 use Rattle.card_retention.specs.Shown.{Bound, InDays, AllIn, AllUpTo, Rising, Shows, Left, Grows, Fits, sizes, is_open, owing, Tells, Rests, with_closing, Entered, Entered.Same, Entered.Word, Entered.Begun, EndsAbsent, Sound, Sound.Flat, Sound.Tail, Lives}
 use Rattle.card_model.proofs.Retention.{remain_fitting}
 use Rattle.card_retention.proofs.Growing.{shows_fewer, in_more, shows_left, left_more, left_of, sizes_word}
-use Rattle.card_retention.proofs.Entering.{closes_is, rising_more, both, is_same, is_less, less_is, fits_sizes, date_newest}
+use Rattle.card_retention.proofs.Entering.{closes_is, rising_more, both, fits_sizes, date_newest}
 use Rattle.card_model.proofs.Trims.{Behind, trimmed_word, trimmed_day, trimmed_cases, are_trimmed, cut_date}
 
 -- WHAT DROPS LEAVE
@@ -114,7 +115,7 @@ sound_left mark top room date before (d ∷ e ∷ ds) kept fits are left s = ⊎
 behind_closing : (mark w : ℕ) (ds : List Day) → word_minute w ≡ suc mark % 1440 → is_open mark ds ≡ true → OnNewest (Behind mark w) ds
 behind_closing mark w [] minute is = absurd (cc)
 behind_closing mark w (d ∷ []) minute is =
-    let date : d.date ≡ date_of (suc mark) = is_same d.date (date_of (suc mark)) (both (nat_eq d.date (date_of (suc mark))) (not (word_absent (last_word d.words))) is).0 in
+    let date : d.date ≡ date_of (suc mark) = eqb-true d.date (date_of (suc mark)) (both (nat_eq d.date (date_of (suc mark))) (not (word_absent (last_word d.words))) is).0 in
     record { day = omega (arith, date); minute = λ same. omega (arith, same, date, minute) }
 behind_closing mark w (d ∷ e ∷ ds) minute is = behind_closing mark w (e ∷ ds) minute is
 
@@ -235,7 +236,7 @@ module _ (size : ℕ) (slack : Bound) (covered from mark : ℕ) (c : Counted) (d
 
       shown : (n : ℕ) → next ≤ n → Shows size slack (expected_days covered n c) (owing n mark u.base)
       shown n le =
-          let lt : nat_lt (suc mark) n ≡ true = less_is (suc mark) n (omega (arith, gap, le)) in
+          let lt : nat_lt (suc mark) n ≡ true = lt-ltb (suc mark) n (omega (arith, gap, le)) in
           let whole : Shows size slack (expected_days covered n c) (more (sizes (fitting (size - 2) days))) = due (is_open mark (fitting (size - 2) days)) (nat_lt (suc mark) n) first_open lt (first.shows n le) in
           let drops : Left room (more (sizes (fitting (size - 2) days))) (sizes kept) = subst (λ (l : List WordDay). Left room l (sizes kept)) (sizes_word w (fitting (size - 2) days)) (left_of room (with_newest (with_word w) (fitting (size - 2) days)) kept left) in
           let less : Shows size slack (expected_days covered n c) (sizes kept) = shows_left size slack room (expected_days covered n c) (more (sizes (fitting (size - 2) days))) (sizes kept) fits (fits_sizes 0 room (fitting (size - 2) days) (omega (arith, wide)) first.ordered).1 drops (rising_at n) whole in
@@ -275,7 +276,7 @@ module _ (size : ℕ) (slack : Bound) (covered from mark : ℕ) (c : Counted) (d
       by false g open_is gap left = record { base = kept; same = refl; is = base_left room days kept (omega (arith, wide)) fits left base_days }
       by true false open_is gap left = record { base = kept; same = refl; is = base_left room days kept (omega (arith, wide)) fits left base_days }
       by true true open_is gap left =
-          gapped w room kept minute wide fits open_is (is_less (suc mark) next gap) (base_left (size - 2) days (fitting (size - 2) days) (omega (arith, long)) (omega (arith, long, least)) (remain_fitting (size - 2) days) base_days)
+          gapped w room kept minute wide fits open_is (ltb-true (suc mark) next gap) (base_left (size - 2) days (fitting (size - 2) days) (omega (arith, long)) (omega (arith, long, least)) (remain_fitting (size - 2) days) base_days)
           (unworded room w (fitting (size - 2) days) kept (omega (arith, wide)) left) left
 
   -- MOMENT 3: the entry's word, or its day

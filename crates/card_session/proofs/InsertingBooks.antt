@@ -4,7 +4,7 @@ use Rattle.std.specs.Prelude.{nat_eq, nat_lt, ◌&&◌, All}
 use Rattle.std.specs.List.{AllByRecursion}
 use Rattle.std.proofs.lemmas.Bool.Decides.{nat_tests}
 use Rattle.std.proofs.lemmas.List.Elements.{recursion_from_All, All-from_recursion}
-use Rattle.std.proofs.lemmas.Bool.{eqb-true}
+use Rattle.std.proofs.lemmas.Bool.{eqb-true, ltb-true}
 use Rattle.activity_codec.specs.declared.values.Activity.{Activity}
 use Rattle.activity_codec.specs.declared.entries.Entry.{Entry}
 use Rattle.activity_codec.specs.Words.{word_minute, word_absent, word_slot}
@@ -15,7 +15,7 @@ use Rattle.card_model.specs.Days.{Day, AreDays, last_word}
 use Rattle.card_model.specs.Changes.{OnNewest, TakesWord, date_of, trimmed, fitting, with_newest, with_word}
 use Rattle.card_model.proofs.Retention.{remain_some, remain_fitting}
 use Rattle.card_retention.specs.Shown.{is_open}
-use Rattle.card_retention.proofs.Entering.{last_append, is_less}
+use Rattle.card_retention.proofs.Entering.{last_append}
 use Rattle.card_model.proofs.Trims.{are_trimmed, trimmed_twice}
 use Rattle.card_retention.specs.Entries.{newest_word, EndsBy}
 use Rattle.card_retention.proofs.Flat.{UpTo, newest_flat}
@@ -55,7 +55,7 @@ lacked_follow m mark [] follow = tt
 lacked_follow m mark (e ∷ es) follow = by (nat_lt mark e.minute) refl (lacked_follow e.minute mark es follow.1)
   where
     by : (b : Bool) → nat_lt mark e.minute ≡ b → Follow mark (lacked mark es) → Follow mark (cond b (e ∷ es) (lacked mark es))
-    by true late rest = (is_less mark e.minute late, follow.1)
+    by true late rest = (ltb-true mark e.minute late, follow.1)
     by false early rest = rest
 
 -- each of them is one of the owed entries

@@ -1,7 +1,7 @@
 -- What a part of a keep asks of a book, once the part before it is done, and what an entry leaves.
 use Rattle.std.proofs.Common.{◌≡◌, ◌≢◌, ℕ, suc, ◌+◌, ◌-◌, ◌*◌, ◌/◌, ◌%◌, ◌<◌, ◌≤◌, max, Bool, true, false, cond, not, Option, Some, None, List, [], ◌∷◌, ◌++◌, length, refl, sym, ◌∙◌, ap, subst, inl, inr, ⊎_elim, arith}
 use Rattle.std.specs.Prelude.{nat_eq, nat_lt, ◌&&◌, ◌⊎◌}
-use Rattle.std.proofs.lemmas.Bool.{eqb-true, and_parts, not-true}
+use Rattle.std.proofs.lemmas.Bool.{eqb-true, and_parts, not-true, ltb-true}
 use Rattle.activity_codec.specs.declared.values.Activity.{Activity}
 use Rattle.activity_codec.specs.declared.values.Activity.TheVariants.{Rest}
 use Rattle.activity_codec.specs.declared.entries.Entry.{Entry}
@@ -15,7 +15,7 @@ use Rattle.card_model.proofs.Retention.{remain_some, remain_fitting}
 use Rattle.card_retention.specs.Expected.{is_newest}
 use Rattle.card_retention.specs.Shown.{sizes, is_open, with_closing}
 use Rattle.card_retention.specs.Entries.{EndsBy, newest_word}
-use Rattle.card_retention.proofs.Entering.{is_less, last_append, date_newest}
+use Rattle.card_retention.proofs.Entering.{last_append, date_newest}
 use Rattle.card_retention.proofs.Stops.{are_left}
 use Rattle.cyclic_days.proofs.Lists.{longer_day}
 use Rattle.card_session.specs.Books.{Book, mark_of, latest_of, closing_word, with_change, gap_closed, entry_word, bare_word, day_words, tells_state, entered_days, with_new_day, km_after, travelled, goes_on_in, used_until, begun_vehicle, vehicle_counter, vehicle_after}
@@ -129,7 +129,7 @@ module _ (size : ℕ) (long : 5544 ≤ size) where
             → (IsBeforeGap size (mark_of b) minute b.days ds ⊎ (ds ≡ cond g (with_newest (with_word closing) (fitting (size - 2) b.days)) b.days)) × (v ≡ b.vehicle)
         by true is adding =
             let both = and_parts (is_open (mark_of b) b.days) (nat_lt (suc (mark_of b)) minute) is in
-            (⊎_elim (λ left. inl (inr (both.0, is_less (suc (mark_of b)) minute both.1, left))) (λ done. inr done) adding.0, adding.1)
+            (⊎_elim (λ left. inl (inr (both.0, ltb-true (suc (mark_of b)) minute both.1, left))) (λ done. inr done) adding.0, adding.1)
         by false is adding = (inl (inl adding.0), adding.1)
 
     -- the days are days
@@ -152,7 +152,7 @@ module _ (size : ℕ) (long : 5544 ≤ size) where
             let takes : OnNewest (TakesWord closing) (fitting (size - 2) b.days) = remain_some (TakesWord closing) (size - 2) 0 b.days (fitting (size - 2) b.days) (omega (arith, long)) are (remain_fitting (size - 2) b.days) (gap_takes is) in
             let dated : OnNewest (λ d. d.date ≡ date_of (suc (mark_of b))) (fitting (size - 2) b.days) = remain_some (λ d. d.date ≡ date_of (suc (mark_of b))) (size - 2) 0 b.days (fitting (size - 2) b.days) (omega (arith, long)) are (remain_fitting (size - 2) b.days) (open_date (mark_of b) b.days both.0) in
             let word : newest_word (with_newest (with_word closing) (fitting (size - 2) b.days)) ≡ suc (mark_of b) = newest_with closing (suc (mark_of b)) (fitting (size - 2) b.days) (on_as (λ d. d.date ≡ date_of (suc (mark_of b))) (λ d. d.date / 60 + word_minute closing ≡ suc (mark_of b)) (fitting (size - 2) b.days) (λ d is. omega (arith, is, closing_minute (suc (mark_of b)) Rest (latest_of b.days))) dated) in
-            (strict_with closing (fitting (size - 2) b.days) takes, omega (arith, word, is_less (suc (mark_of b)) minute both.1, at))
+            (strict_with closing (fitting (size - 2) b.days) takes, omega (arith, word, ltb-true (suc (mark_of b)) minute both.1, at))
         by false is = (before.0.strict, omega (arith, before.1, at))
 
   -- ---- the words of an entry

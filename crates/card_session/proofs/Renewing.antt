@@ -2,7 +2,7 @@
 use Rattle.std.proofs.Common.{◌≡◌, ◌≢◌, inl, inr, ⊎_elim, ℕ, suc, ◌+◌, ◌*◌, ◌/◌, ◌%◌, ◌<◌, ◌≤◌, max, min, Bool, true, false, cond, Option, Some, None, List, [], ◌∷◌, ◌++◌, length, refl, sym, ◌∙◌, ap, subst, arith}
 use Rattle.std.specs.Prelude.{◌⊎◌, nat_eq, nat_lt, All}
 use Rattle.std.specs.List.{AllByRecursion}
-use Rattle.std.proofs.lemmas.Bool.{cases_lt}
+use Rattle.std.proofs.lemmas.Bool.{cases_lt, le-ltb}
 use Rattle.std.proofs.lemmas.Bool.Decides.{nat_tests}
 use Rattle.std.proofs.lemmas.List.{append-nil}
 use Rattle.std.proofs.lemmas.List.Elements.{recursion_from_All}
@@ -38,7 +38,6 @@ use Rattle.card_session.proofs.Marks.{session_same, mark_told}
 use Rattle.card_session.proofs.Preparing.{used_at}
 use Rattle.card_session.proofs.Stopping.{days_there, ended_same}
 use Rattle.card_session.proofs.Valid.{valid_words}
-use Rattle.card_session.proofs.Stored.{not_later}
 use Rattle.card_session.proofs.NewestStays.{newest_by_mark, use_before, use_at, next_newest, next_low, keep_newest, Rewrites, close_newest, closed_in, closed_open, view_newest, view_word}
 use Rattle.card_session.proofs.InsertingBooks.{lacked_follow, lacked_each, cut_ready, trimmed_low}
 use Rattle.card_session.proofs.InsertingCards.{noted_same, noting_same}
@@ -205,7 +204,7 @@ none_more m n (e ∷ es) le none = by (nat_lt m e.minute) refl none (λ rest. no
   where
     by : (t : Bool) → nat_lt m e.minute ≡ t → cond t (e ∷ es) (lacked m es) ≡ [] → (lacked m es ≡ [] → lacked n es ≡ []) → lacked n (e ∷ es) ≡ []
     by true is none more = absurd (cc)
-    by false is none more = ap (λ (t : Bool). cond t (e ∷ es) (lacked n es)) (not_later n e.minute (late_still m n e.minute le is)) ∙ more none
+    by false is none more = ap (λ (t : Bool). cond t (e ∷ es) (lacked n es)) (le-ltb n e.minute (late_still m n e.minute le is)) ∙ more none
 
 -- the rest is what is lacked then, and with it the newest minute is the one with all
 again_newest : (low mark was now is : ℕ) (owed : List Entry) → Follow low owed → mark ≤ was → NewestSoFar mark was (lacked mark owed) now is → newest_behind is (lacked now owed) ≡ newest_behind was (lacked mark owed)

@@ -1,6 +1,7 @@
 -- What a stop in an insertion leaves of a card, by the stated overwriting.
 use Rattle.std.proofs.Common.{◌≡◌, ◌≢◌, inl, inr, ⊎_elim, ℕ, suc, ◌+◌, ◌*◌, ◌/◌, ◌<◌, ◌≤◌, max, Bool, true, false, cond, Option, Some, None, List, [], ◌∷◌, ◌++◌, length, refl, sym, ◌∙◌, ap, subst, arith}
 use Rattle.std.specs.Prelude.{◌⊎◌, nat_eq, nat_lt, All}
+use Rattle.std.proofs.lemmas.Bool.{ltb-true, lt-ltb, le-ltb}
 use Rattle.std.specs.List.{AllByRecursion}
 use Rattle.std.proofs.lemmas.Bool.Decides.{nat_tests}
 use Rattle.std.proofs.lemmas.List.{append-nil}
@@ -18,7 +19,6 @@ use Rattle.card_model.proofs.Trims.{trim_from_moment, trimmed_twice}
 use Rattle.card_retention.specs.Expected.{Counted}
 use Rattle.card_retention.specs.Entries.{newest_minute, newest_word}
 use Rattle.card_retention.specs.Shown.{Bound, Rests, Lives, is_open}
-use Rattle.card_retention.proofs.Entering.{is_less, less_is}
 use Rattle.card_retention.proofs.Stops.{stop_none}
 use Rattle.card_retention.proofs.Closing.{lives_trimmed}
 use Rattle.card_retention.proofs.Moments.{rests_later}
@@ -39,7 +39,6 @@ use Rattle.card_session.proofs.Preparing.{used_at}
 use Rattle.card_session.proofs.Marks.{session_same}
 use Rattle.card_session.proofs.Stopping.{close_leaves, closed_leaves}
 use Rattle.card_session.proofs.Valid.{valid_strict}
-use Rattle.card_session.proofs.Stored.{not_later}
 use Rattle.card_session.proofs.InsertingBooks.{lacked_follow, lacked_each, each_as, follow_from, trimmed_low, cut_ready}
 use Rattle.card_session.proofs.InsertingCards.{noted_same, noting_same}
 use Rattle.card_session.proofs.InsertingUse.{use_inside}
@@ -70,9 +69,9 @@ behind_later m (d ∷ done) rest follow = omega (arith, follow.0, behind_later d
 
 rest_lacked : (m : ℕ) (done rest : List Entry) → Follow m (done ++ rest) → lacked (mark_behind m done) (done ++ rest) ≡ rest
 rest_lacked m [] [] follow = refl
-rest_lacked m [] (e ∷ es) follow = ap (λ (b : Bool). cond b (e ∷ es) (lacked m es)) (less_is m e.minute follow.0)
+rest_lacked m [] (e ∷ es) follow = ap (λ (b : Bool). cond b (e ∷ es) (lacked m es)) (lt-ltb m e.minute follow.0)
 rest_lacked m (d ∷ done) rest follow =
-    ap (λ (b : Bool). cond b (d ∷ (done ++ rest)) (lacked (mark_behind d.minute done) (done ++ rest))) (not_later (mark_behind d.minute done) d.minute (behind_later d.minute done rest follow.1))
+    ap (λ (b : Bool). cond b (d ∷ (done ++ rest)) (lacked (mark_behind d.minute done) (done ++ rest))) (le-ltb (mark_behind d.minute done) d.minute (behind_later d.minute done rest follow.1))
     ∙ rest_lacked d.minute done rest follow.1
 
 pub lacked_again : (low m : ℕ) (owed done rest : List Entry) → Follow low owed → lacked m owed ≡ done ++ rest → lacked (mark_behind m done) owed ≡ rest
@@ -82,11 +81,11 @@ lacked_again low m (e ∷ es) done rest follow is = by (nat_lt m e.minute) refl 
   where
     by : (b : Bool) → nat_lt m e.minute ≡ b → cond b (e ∷ es) (lacked m es) ≡ done ++ rest → (lacked m es ≡ done ++ rest → lacked (mark_behind m done) es ≡ rest) → lacked (mark_behind m done) (e ∷ es) ≡ rest
     by true late whole again =
-        let all : Follow m (done ++ rest) = subst (Follow m) whole (is_less m e.minute late, follow.1) in
+        let all : Follow m (done ++ rest) = subst (Follow m) whole (ltb-true m e.minute late, follow.1) in
         ap (lacked (mark_behind m done)) whole ∙ rest_lacked m done rest all
     by false early whole again =
         let all : Follow m (done ++ rest) = subst (Follow m) whole (lacked_follow e.minute m es follow.1) in
-        ap (λ (b : Bool). cond b (e ∷ es) (lacked (mark_behind m done) es)) (not_later (mark_behind m done) e.minute (early_behind m e.minute (mark_behind m done) early (behind_later m done rest all))) ∙ again whole
+        ap (λ (b : Bool). cond b (e ∷ es) (lacked (mark_behind m done) es)) (le-ltb (mark_behind m done) e.minute (early_behind m e.minute (mark_behind m done) early (behind_later m done rest all))) ∙ again whole
       where
         early_behind : (m n k : ℕ) → nat_lt m n ≡ false → m ≤ k → n ≤ k
         early_behind m n k is le = grind (arith, nat_tests)

@@ -2,7 +2,7 @@
 use Rattle.std.proofs.Common.{◌≡◌, ◌≢◌, inl, inr, ⊎_elim, ℕ, suc, ◌+◌, ◌*◌, ◌/◌, ◌%◌, ◌<◌, ◌≤◌, max, Bool, true, false, not, ◌&&◌, cond, Option, Some, None, List, [], ◌∷◌, ◌++◌, length, filter, refl, sym, ◌∙◌, ap, subst, arith}
 use Rattle.std.specs.Prelude.{◌⊎◌, nat_eq, nat_lt, nat_le}
 use Rattle.std.specs.List.{AllByRecursion}
-use Rattle.std.proofs.lemmas.Bool.{eq-eqb}
+use Rattle.std.proofs.lemmas.Bool.{eq-eqb, le-ltb}
 use Rattle.std.proofs.lemmas.Bool.Decides.{nat_tests}
 use Rattle.std.proofs.lemmas.List.Elements.{filter-append}
 use Rattle.activity_codec.specs.declared.values.Activity.TheVariants.{Rest}
@@ -54,9 +54,6 @@ use Rattle.card_session.proofs.Repairing.{lacked_many, mark_beside}
 
 -- ---- no word stands behind the end mark
 
-not_less : (m n : ℕ) → n ≤ m → nat_lt m n ≡ false
-not_less m n le = grind (arith, nat_tests)
-
 first_last : (low w : ℕ) (ws : List ℕ) → Ascend low (w ∷ ws) → word_minute w ≤ word_minute (last_word (w ∷ ws))
 first_last low w [] up = omega arith
 first_last low w (v ∷ ws) up = omega (arith, up.2.0, first_last (word_minute w) v ws up.2)
@@ -67,10 +64,10 @@ module _ (mark size oldest : ℕ) where
 
   quiet_words : (k date low w : ℕ) (ws : List ℕ) → Ascend low (w ∷ ws) → date / 60 + word_minute (last_word (w ∷ ws)) ≤ mark → filter late (words_placed size oldest k date (w ∷ ws)) ≡ []
   quiet_words k date low w [] up le =
-      ap (λ (t : Bool). cond t ((let p : PlacedWord = record { date = date; word = w; place = file_place size oldest k } in p) ∷ []) []) (not_less mark (date / 60 + word_minute w) le)
+      ap (λ (t : Bool). cond t ((let p : PlacedWord = record { date = date; word = w; place = file_place size oldest k } in p) ∷ []) []) (le-ltb mark (date / 60 + word_minute w) le)
   quiet_words k date low w (v ∷ ws) up le =
       ap (λ (t : Bool). cond t ((let p : PlacedWord = record { date = date; word = w; place = file_place size oldest k } in p) ∷ filter late (words_placed size oldest (k + 2) date (v ∷ ws))) (filter late (words_placed size oldest (k + 2) date (v ∷ ws))))
-      (not_less mark (date / 60 + word_minute w) (omega (arith, first_last low w (v ∷ ws) up, le)))
+      (le-ltb mark (date / 60 + word_minute w) (omega (arith, first_last low w (v ∷ ws) up, le)))
       ∙ quiet_words (k + 2) date (word_minute w) v ws up.2 le
 
   quiet_day : (k date : ℕ) (ws : List ℕ) → AreWords ws → date / 60 + word_minute (last_word ws) ≤ mark → filter late (words_placed size oldest k date ws) ≡ []
@@ -116,7 +113,7 @@ module _ (mark size oldest : ℕ) where
       let p : PlacedWord = record { date = date; word = v; place = file_place size oldest k } in
       let q : PlacedWord = record { date = date; word = w; place = file_place size oldest (k + 2) } in (
         q,
-        ap (λ (t : Bool). cond t (p ∷ filter late (q ∷ [])) (filter late (q ∷ []))) (not_less mark (date / 60 + word_minute v) le)
+        ap (λ (t : Bool). cond t (p ∷ filter late (q ∷ [])) (filter late (q ∷ []))) (le-ltb mark (date / 60 + word_minute v) le)
             ∙ ap (λ (t : Bool). cond t (q ∷ []) []) (just_late (date / 60 + word_minute w) at),
         refl,
         at,
@@ -125,7 +122,7 @@ module _ (mark size oldest : ℕ) where
       let p : PlacedWord = record { date = date; word = v; place = file_place size oldest k } in
       let more : List PlacedWord = filter late (words_placed size oldest (k + 2) date ((u ∷ ws) ++ w ∷ [])) in
       let rest = closing_words (k + 2) date (word_minute v) w u ws up.2 le at in
-      (rest.0, ap (λ (t : Bool). cond t (p ∷ more) more) (not_less mark (date / 60 + word_minute v) (omega (arith, first_last low v (u ∷ ws) up, le))) ∙ rest.1, rest.2, rest.3)
+      (rest.0, ap (λ (t : Bool). cond t (p ∷ more) more) (le-ltb mark (date / 60 + word_minute v) (omega (arith, first_last low v (u ∷ ws) up, le))) ∙ rest.1, rest.2, rest.3)
 
   closing_day : (k date w : ℕ) (ws : List ℕ) → AreWords ws → date / 60 + word_minute (last_word ws) ≤ mark → date / 60 + word_minute w ≡ suc mark
       → IsAlone w (filter late (words_placed size oldest k date (ws ++ w ∷ [])))

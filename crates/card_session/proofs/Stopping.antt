@@ -1,6 +1,7 @@
 -- What a stop in a keep or in a withdrawal leaves of the days, by the stated overwriting.
 use Rattle.std.proofs.Common.{◌≡◌, inl, inr, ⊎_elim, ℕ, suc, ◌+◌, ◌-◌, ◌*◌, ◌/◌, ◌%◌, ◌<◌, ◌≤◌, max, Bool, true, false, cond, ◌&&◌, Option, Some, None, List, [], ◌∷◌, length, refl, sym, ◌∙◌, ap, subst, arith}
 use Rattle.std.specs.Prelude.{◌⊎◌, ◌==◌, nat_eq, nat_lt}
+use Rattle.std.proofs.lemmas.Bool.{lt-ltb}
 use Rattle.activity_codec.specs.declared.values.Activity.{Activity}
 use Rattle.activity_codec.specs.declared.values.Activity.TheVariants.{Rest, Available, Work, Driving}
 use Rattle.activity_codec.specs.declared.entries.Entry.{Entry}
@@ -16,7 +17,6 @@ use Rattle.card_model.proofs.Trims.{are_trimmed}
 use Rattle.card_retention.specs.Expected.{Counted, is_newest, with_entry as counted_with}
 use Rattle.card_retention.specs.Shown.{Bound, AllUpTo, Rests, Lives, sizes, is_open, with_closing}
 use Rattle.card_retention.specs.Entries.{newest_minute, newest_word}
-use Rattle.card_retention.proofs.Entering.{less_is}
 use Rattle.card_retention.proofs.Stops.{stop_none, stop_first, stop_between, stop_after}
 use Rattle.card_retention.proofs.Closing.{kept_lives, closed_lives}
 use Rattle.card_retention.proofs.Listing.{Lists}
@@ -170,7 +170,7 @@ module _ (size : ℕ) (slack : Bound) (covered from : ℕ) (c : Counted) (b : Bo
     closing_as : is_open (mark_of b) b.days ≡ true → with_closing size v (mark_of b) next b.days ≡ with_newest (with_word v) (fitting (size - 2) b.days)
     closing_as is =
         ap (λ (o : Bool). cond (o && nat_lt (suc (mark_of b)) next) (with_newest (with_word v) (fitting (size - 2) b.days)) b.days) is
-        ∙ ap (λ (g : Bool). cond g (with_newest (with_word v) (fitting (size - 2) b.days)) b.days) (less_is (suc (mark_of b)) next (open_before is))
+        ∙ ap (λ (g : Bool). cond g (with_newest (with_word v) (fitting (size - 2) b.days)) b.days) (lt-ltb (suc (mark_of b)) next (open_before is))
 
     abbrev Torn : List Day → Type 0
     Torn kept = Rests size slack covered next (mark_of b) c (trimmed (mark_of b) kept)

@@ -1,6 +1,7 @@
 -- The stored time of a card, by what was judged of it; and the owed entries that it lacks.
 use Rattle.std.proofs.Common.{◌≡◌, ℕ, ◌+◌, ◌*◌, ◌<◌, ◌≤◌, max, min, Bool, true, false, cond, Option, Some, None, List, [], ◌∷◌, length, drop, get_or, refl, sym, ◌∙◌, ap, arith}
 use Rattle.std.specs.Prelude.{nat_eq, nat_lt}
+use Rattle.std.proofs.lemmas.Bool.{lt-ltb, le-ltb}
 use Rattle.std.proofs.lemmas.Bool.Decides.{nat_tests}
 use Rattle.activity_codec.specs.declared.entries.Entry.{Entry}
 use Rattle.card_layout.specs.declared.files.Application.{Application}
@@ -8,7 +9,6 @@ use Rattle.card_records.specs.declared.current_use.CurrentUse.{CurrentUse}
 use Rattle.card_model.specs.Days.{Day, total}
 use Rattle.card_model.specs.Image.{newest_pointer}
 use Rattle.card_retention.specs.Entries.{newest_word}
-use Rattle.card_retention.proofs.Entering.{less_is}
 use Rattle.cyclic_days.specs.declared.head.Tail.{Tail}
 use Rattle.cyclic_days.specs.Held.{tail_in, tail_by}
 use Rattle.card_image.specs.Fields.{last_use_of, last_use, session_time, card_days}
@@ -46,15 +46,12 @@ module _ (app : Application) (x : List ℕ) (j : Judged) (known : IsKnown app x 
 
 -- ---- what a card lacks
 
-pub not_later : (m n : ℕ) → n ≤ m → nat_lt m n ≡ false
-not_later m n is = grind (arith, nat_tests)
-
 module _ (mark : ℕ) (es : List Entry) (i : ℕ) (low : i < length es) where
   here : lacked mark (drop i es) ≡ cond (nat_lt mark (this es i low).minute) (this es i low ∷ drop (i + 1) es) (lacked mark (drop (i + 1) es))
   here = ap (lacked mark) (rest_is es i low)
 
   pub lacked_from : mark < (this es i low).minute → lacked mark (drop i es) ≡ drop i es
-  lacked_from is = here ∙ ap (λ (b : Bool). cond b (this es i low ∷ drop (i + 1) es) (lacked mark (drop (i + 1) es))) (less_is mark (this es i low).minute is) ∙ sym (rest_is es i low)
+  lacked_from is = here ∙ ap (λ (b : Bool). cond b (this es i low ∷ drop (i + 1) es) (lacked mark (drop (i + 1) es))) (lt-ltb mark (this es i low).minute is) ∙ sym (rest_is es i low)
 
   pub lacked_next : (this es i low).minute ≤ mark → lacked mark (drop i es) ≡ lacked mark (drop (i + 1) es)
-  lacked_next is = here ∙ ap (λ (b : Bool). cond b (this es i low ∷ drop (i + 1) es) (lacked mark (drop (i + 1) es))) (not_later mark (this es i low).minute is)
+  lacked_next is = here ∙ ap (λ (b : Bool). cond b (this es i low ∷ drop (i + 1) es) (lacked mark (drop (i + 1) es))) (le-ltb mark (this es i low).minute is)

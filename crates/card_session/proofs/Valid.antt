@@ -1,6 +1,7 @@
 -- A valid card is valid at each moment of a keep or of a withdrawal that leaves its session open.
 use Rattle.std.proofs.Common.{◌≡◌, inl, inr, ⊎_elim, ℕ, suc, ◌+◌, ◌-◌, ◌*◌, ◌/◌, ◌%◌, ◌<◌, ◌≤◌, max, Bool, true, false, cond, Option, Some, None, option_map, List, [], ◌∷◌, ◌++◌, length, refl, sym, ◌∙◌, ap, subst, arith}
 use Rattle.std.specs.Prelude.{◌⊎◌, nat_eq, nat_lt}
+use Rattle.std.proofs.lemmas.Bool.{lt-ltb, ltb-true}
 use Rattle.std.proofs.lemmas.Bool.Decides.{nat_tests}
 use Rattle.std.proofs.lemmas.List.{append-nil}
 use Rattle.byte_fields.specs.Images.{big_number}
@@ -25,7 +26,6 @@ use Rattle.card_model.proofs.Trims.{are_trimmed}
 use Rattle.card_retention.specs.Expected.{is_newest}
 use Rattle.card_retention.specs.Shown.{sizes, is_open}
 use Rattle.card_retention.specs.Entries.{newest_word}
-use Rattle.card_retention.proofs.Entering.{less_is, is_less}
 use Rattle.card_retention.proofs.Flat.{UpTo, flat_newest, early_all}
 use Rattle.card_retention.proofs.ListTrims.{words_ascend}
 use Rattle.card_image.specs.Fields.{file, file_bytes, day_string, vehicle_ring, place_ring, last_use_of, card_days, end_mark, session_time}
@@ -50,7 +50,7 @@ use Rattle.card_session.proofs.Stopping.{book_days, mark_at, before_use, mark_mo
 rising_more : (size oldest so_far date w : ℕ) (ws : List ℕ) → Increase (word_minute w) ws → first_failing (rising_checks (words_placed size oldest so_far date (w ∷ ws))) ≡ None
 rising_more size oldest so_far date w [] up = refl
 rising_more size oldest so_far date w (v ∷ ws) up =
-    ap (λ (t : Bool). cond t (first_failing (rising_checks (words_placed size oldest (so_far + 2) date (v ∷ ws)))) (Some (file_place size oldest (so_far + 2)))) (less_is (word_minute w) (word_minute v) up.0)
+    ap (λ (t : Bool). cond t (first_failing (rising_checks (words_placed size oldest (so_far + 2) date (v ∷ ws)))) (Some (file_place size oldest (so_far + 2)))) (lt-ltb (word_minute w) (word_minute v) up.0)
     ∙ rising_more size oldest (so_far + 2) date v ws up.2
 
 pub strict_passes : (size oldest so_far : ℕ) (ds : List Day) → EndsStrictly ds → first_failing (newest_rises size oldest so_far ds) ≡ None
@@ -70,7 +70,7 @@ more_rising : (size oldest so_far date w : ℕ) (ws : List ℕ) → Ascend (word
 more_rising size oldest so_far date w [] up pass = tt
 more_rising size oldest so_far date w (v ∷ ws) up pass =
     let both = split_pass (nat_lt (word_minute w) (word_minute v)) (first_failing (rising_checks (words_placed size oldest (so_far + 2) date (v ∷ ws)))) (file_place size oldest (so_far + 2)) pass in
-    (is_less (word_minute w) (word_minute v) both.0, up.1, more_rising size oldest (so_far + 2) date v ws up.2 both.1)
+    (ltb-true (word_minute w) (word_minute v) both.0, up.1, more_rising size oldest (so_far + 2) date v ws up.2 both.1)
 
 pub passes_strict : (size oldest so_far date : ℕ) (ds : List Day) → AreDays date ds → first_failing (newest_rises size oldest so_far ds) ≡ None → EndsStrictly ds
 passes_strict size oldest so_far date [] are pass = tt
@@ -136,7 +136,7 @@ module _ (app : Application) (x : List ℕ) (valid : IsValid app x) where
       ∙ all_pass (option_map place_of_field (first_bad_field (file_bytes app 0x0501 y))) (first_bad (day_string app) y) (pointer_bad (vehicle_ring app) y) (pointer_bad (place_ring app) y) (words_of app y)
       (ap (λ (l : List ℕ). option_map place_of_field (first_bad_field l)) sizes ∙ parts.0)
       days
-      (ap (λ (t : Bool). cond t None (Some 0)) (less_is (pointer (vehicle_ring app) y) (vehicle_ring app).count points))
+      (ap (λ (t : Bool). cond t None (Some 0)) (lt-ltb (pointer (vehicle_ring app) y) (vehicle_ring app).count points))
       (ap (λ (l : List ℕ). cond (nat_lt (big_number 1 l) app.places) None (Some 0)) places ∙ parts.1)
       words
 

@@ -9,7 +9,7 @@ use Rattle.card_model.specs.Changes.{OnNewest, with_newest, with_word, TakesWord
 use Rattle.card_model.specs.Image.{StringShape, IsStringShape, circle_of, oldest_pointer, newest_pointer, IsPointer, IsPlace, Holds, at}
 use Rattle.card_model.proofs.Lists.{total-append, far_last, last_is, last_len_last}
 use Rattle.card_model.proofs.Trims.{with_last}
-use Rattle.cyclic_days.proofs.Lists.{Split, split, newest_on, longer_day}
+use Rattle.cyclic_days.proofs.Lists.{Split, some_appended, split, newest_on, longer_day}
 use Rattle.cyclic_days.proofs.Places.{Stands, stands, stands_front}
 use Rattle.card_model.proofs.Reading.{place_then}
 use Rattle.cyclic_days.proofs.Holding.{beyond, longer}
@@ -55,11 +55,7 @@ module _ (r : StringShape) (shape : IsStringShape r) (x : List ℕ) (inside : r.
     word_stands = stands r x inside (total older + len_of d) p (two_bytes w) h.oldest.below word_place p_fits room
 
     some : older ++ d ∷ [] ≡ [] → ⊥
-    some none = nothing older none
-      where
-        nothing : (older : List Day) → older ++ d ∷ [] ≡ [] → ⊥
-        nothing [] none = cc
-        nothing (g ∷ older) none = cc
+    some none = some_appended older d none
 
     written : (g : Holds r y (older ++ d ∷ [])) × (g.rest ≡ put 0 (two_bytes w) h.rest) × (g.previous ≡ h.previous)
     written = beyond r shape x inside (older ++ d ∷ []) (total older + len_of d) 0 (two_bytes w) y h (omega (arith, total-append older (d ∷ []))) word_stands (λ none. absurd (some none))

@@ -12,7 +12,7 @@ use Rattle.card_model.specs.Image.{StringShape, IsStringShape, oldest_pointer, n
 use Rattle.cyclic_days.specs.Steps.{preceded, day_filled, measured, begun, IsBeginStep}
 use Rattle.card_model.proofs.Circle.{put_back}
 use Rattle.card_model.proofs.Lists.{records_length, previous_of, records-append, far_last}
-use Rattle.cyclic_days.proofs.Lists.{strict_words, few_strict}
+use Rattle.cyclic_days.proofs.Lists.{some_appended, strict_words, few_strict}
 use Rattle.cyclic_days.proofs.Places.{Stands, stands, points, stands_front}
 use Rattle.card_model.proofs.Circle.{circle_length}
 use Rattle.card_model.proofs.Reading.{place_then, fills}
@@ -24,9 +24,6 @@ use Rattle.card_model.proofs.Lists.{last_len_is}
 precedes : (q : ℕ) (d : Day) (ds : List Day) → previous_of q (d ∷ ds) ≡ last_len (d ∷ ds)
 precedes q d [] = refl
 precedes q d (e ∷ ds) = precedes (len_of d) e ds
-
-far_more : (days : List Day) (d : Day) → far (days ++ d ∷ []) ≡ total days
-far_more = far_last
 
 -- the days before a later date
 before_later : (date : ℕ) (d : Day) (ds : List Day) (m : ℕ) → AreDays date (d ∷ ds) → IsLater m (d ∷ ds) → date < m
@@ -212,13 +209,9 @@ module _ (r : StringShape) (shape : IsStringShape r) (x : List ℕ) (inside : r.
           previous = first_of days h.previous;
           rest = drop (length bytes) (drop 4 h.rest);
           spelled = circle ∙ circle_3 ∙ spelled_with days h.previous (drop (length bytes) (drop 4 h.rest)) len_is;
-          empty = λ none. absurd (nothing days none);
+          empty = λ none. absurd (some_appended days new none);
           ordered = follows_any days new h.ordered next.later (new_is days date words next);
         }
-      where
-        nothing : (ds : List Day) → ds ++ new ∷ [] ≡ [] → ⊥
-        nothing [] none = cc
-        nothing (g ∷ ds) none = cc
 
     -- before the pointer is moved
     pub held_3 : (days ≡ [] → ⊥) → Holds r y3 days

@@ -11,7 +11,7 @@ use Rattle.card_model.specs.Changes.{early, with_early}
 use Rattle.card_model.proofs.Circle.{put_back}
 use Rattle.card_model.proofs.Lists.{word_bytes-append, previous_of, records_length, far_last, last_is}
 use Rattle.card_model.proofs.Trims.{early_few, early_words}
-use Rattle.cyclic_days.proofs.Lists.{another_newest}
+use Rattle.cyclic_days.proofs.Lists.{some_appended, another_newest}
 use Rattle.cyclic_days.proofs.Places.{Stands}
 use Rattle.card_model.proofs.Reading.{spelled_at}
 
@@ -82,10 +82,6 @@ cut_last r x y older d m h s =
           ∙ ap (λ (k : ℕ). put (k + 2) (two_bytes (len_of f)) (a ++ back)) (sym (records_length h.previous older)) ∙ put_back 2 (two_bytes (len_of f)) a back
           ∙ ap (λ (l : List ℕ). a ++ (two_bytes e ++ (two_bytes (len_of f) ++ (body (record d { words = [] }) ++ l)))) words
           ∙ sym (spelled_at h.previous older f [] (word_bytes (late m d.words) ++ h.rest));
-      empty = λ none. absurd (nothing older f none);
+      empty = λ none. absurd (some_appended older f none);
       ordered = another_newest 0 older d f refl (early_day m d (last_is 0 older d h.ordered)) h.ordered;
     }
-  where
-    nothing : (older : List Day) (f : Day) → older ++ f ∷ [] ≡ [] → ⊥
-    nothing [] f none = cc
-    nothing (g ∷ older) f none = cc

@@ -7,7 +7,7 @@ use Rattle.card_model.specs.Changes.{with_word}
 use Rattle.card_model.specs.Image.{StringShape, IsStringShape, turned, oldest_pointer, newest_pointer, circle_of, IsPointer, IsPlace, Holds}
 use Rattle.card_model.proofs.Circle.{put_back, turned_front}
 use Rattle.card_model.proofs.Lists.{word_bytes-append, record_length, records_length, previous_of, far_last, days_after}
-use Rattle.cyclic_days.proofs.Lists.{another_newest, longer_by_two}
+use Rattle.cyclic_days.proofs.Lists.{some_appended, another_newest, longer_by_two}
 use Rattle.cyclic_days.proofs.Places.{Stands, Turned}
 use Rattle.card_model.proofs.Reading.{place_between, spelled_at}
 
@@ -54,13 +54,9 @@ module _ (r : StringShape) (shape : IsStringShape r) (x : List ℕ) (inside : r.
             ∙ ap (λ (n : ℕ). a ++ (two_bytes e ++ (two_bytes n ++ (body d ++ (two_bytes w ++ rest))))) (sym (longer_by_two w d))
             ∙ ap (λ (l : List ℕ). a ++ (two_bytes e ++ (two_bytes (len_of f) ++ (body (record d { words = [] }) ++ l)))) words
             ∙ sym (spelled_at h.previous older f [] rest);
-        empty = λ none. absurd (nothing older f none);
+        empty = λ none. absurd (some_appended older f none);
         ordered = another_newest 0 older d f refl is h.ordered;
       }
-    where
-      nothing : (older : List Day) (f : Day) → older ++ f ∷ [] ≡ [] → ⊥
-      nothing [] f none = cc
-      nothing (g ∷ older) f none = cc
 
   -- the oldest pointer moved behind the first of several days
   pub without_first : (d e : Day) (ds : List Day) (p : ℕ) (y : List ℕ) → Holds r x (d ∷ e ∷ ds) → IsPointer r.size p → IsPlace r.size (oldest_pointer r x) (len_of d) p → Turned r (len_of d) p x y → Holds r y (e ∷ ds)

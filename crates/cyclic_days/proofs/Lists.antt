@@ -11,6 +11,11 @@ pub record Split (days : List Day) : Type 0 where
   pub newest : Day
   pub is : days ≡ older ++ newest ∷ []
 
+-- days with one more are some
+pub some_appended : (ds : List Day) (d : Day) → ds ++ d ∷ [] ≢ []
+some_appended [] d none = cc
+some_appended (e ∷ ds) d none = cc
+
 pub split : (P : Day → Type 0) (days : List Day) → OnNewest P days → Split days
 split P [] on = absurd on
 split P (d ∷ []) on = record { older = []; newest = d; is = refl }

@@ -10,6 +10,7 @@ use Rattle.card_model.specs.Image.{StringShape, IsStringShape, turned, oldest_po
 use Rattle.card_model.specs.Walk.{days_of}
 use Rattle.card_model.specs.Checks.{Check, check, first_failing, is_pointer, day_checks, distance_of, is_empty, first_bad}
 use Rattle.card_model.proofs.Numbers.{number_two, number_four}
+use Rattle.cyclic_days.proofs.Lists.{some_appended}
 use Rattle.card_model.proofs.Lists.{record_length, records_length, previous_of, previous_last, records-append, total-append, far_last, len_least}
 use Rattle.card_model.proofs.Circle.{turned_front, turned_twice, string_length, circle_length}
 use Rattle.card_model.proofs.Walking.{walked}
@@ -30,10 +31,6 @@ days_more date (e ∷ ds) d are later is = (are.0, are.1, days_more e.date ds d 
 last_date_last : (date : ℕ) (ds : List Day) (d : Day) → last_date date (ds ++ d ∷ []) ≡ d.date
 last_date_last date [] d = refl
 last_date_last date (e ∷ ds) d = last_date_last e.date ds d
-
-not_none : (ds : List Day) (d : Day) → ds ++ d ∷ [] ≢ []
-not_none [] d none = cc
-not_none (e ∷ ds) d none = cc
 
 cons_none : (e : Day) (es : List Day) → e ∷ es ≡ [] → ⊥
 cons_none e es none = cc
@@ -168,7 +165,7 @@ module _ (r : StringShape) (shape : IsStringShape r) (x : List ℕ) (inside : r.
       previous = longer.0;
       rest = longer.1;
       spelled = longer.2;
-      empty = λ none. absurd (not_none w.done one.day none);
+      empty = λ none. absurd (some_appended w.done one.day none);
       ordered = days_too;
     }
 

@@ -10,7 +10,7 @@ use Rattle.cyclic_days.specs.Steps.{SameDays, IsMeasured, IsMeasuring}
 use Rattle.card_model.proofs.Circle.{put_back}
 use Rattle.card_model.proofs.Lists.{previous_of, records_length, total-append, far_last, last_is}
 use Rattle.card_model.proofs.Trims.{with_last}
-use Rattle.cyclic_days.proofs.Lists.{another_newest, split, some_newest}
+use Rattle.cyclic_days.proofs.Lists.{some_appended, another_newest, split, some_newest}
 use Rattle.cyclic_days.proofs.Places.{Stands, stands}
 use Rattle.card_model.proofs.Reading.{place_then, spelled_at, fills}
 use Rattle.card_model.proofs.Lists.{len_least}
@@ -65,13 +65,9 @@ module _ (r : StringShape) (shape : IsStringShape r) (x : List ℕ) (inside : r.
           spelled = s.circle ∙ ap (λ (l : List ℕ). put (total older + 10) (two_bytes m) l) (h.spelled ∙ spelled_at h.previous older d [] h.rest)
               ∙ ap (λ (k : ℕ). put (k + 10) (two_bytes m) (a ++ back)) (sym (records_length h.previous older)) ∙ put_back 10 (two_bytes m) a back
               ∙ sym (spelled_at h.previous older f [] h.rest);
-          empty = λ none. absurd (nothing older f none);
+          empty = λ none. absurd (some_appended older f none);
           ordered = another_newest 0 older d f refl (record { midnight = day.midnight; decimal = day.decimal; most = day.most; ordered = day.ordered }) h.ordered;
         }
-      where
-        nothing : (older : List Day) (f : Day) → older ++ f ∷ [] ≡ [] → ⊥
-        nothing [] f none = cc
-        nothing (g ∷ older) f none = cc
 
     pub measured_one : IsMeasured r m x y
     measured_one = record {

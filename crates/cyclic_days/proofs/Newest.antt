@@ -12,7 +12,7 @@ use Rattle.card_model.specs.Image.{StringShape, IsStringShape, oldest_pointer, n
 use Rattle.card_model.proofs.Circle.{part_back}
 use Rattle.card_model.proofs.Lists.{total-append, records_length, previous_of, far_last, last_is}
 use Rattle.card_model.proofs.Walking.{far_below}
-use Rattle.cyclic_days.proofs.Lists.{split}
+use Rattle.cyclic_days.proofs.Lists.{split, some_newest}
 use Rattle.card_model.proofs.Reading.{place_then, fills, circle_part, spelled_at}
 use Rattle.card_model.proofs.Lists.{len_least}
 use Rattle.cyclic_days.proofs.Using.{used_is}
@@ -24,10 +24,6 @@ pub counter_last : (ds : List Day) (d : Day) → next_counter (ds ++ d ∷ []) �
 counter_last [] d = refl
 counter_last (e ∷ []) d = refl
 counter_last (e ∷ f ∷ ds) d = counter_last (f ∷ ds) d
-
-any_newest : (d : Day) (ds : List Day) → OnNewest (λ e. Unit {0}) (d ∷ ds)
-any_newest d [] = tt
-any_newest d (e ∷ ds) = any_newest e ds
 
 module _ (r : StringShape) (shape : IsStringShape r) (x : List ℕ) (inside : r.base + (4 + r.size) ≤ length x) (n len : ℕ)
     (n_is : IsPointer r.size (newest_pointer r x) → n ≡ newest_pointer r x) (n_pointer : IsPointer r.size n) where
@@ -57,7 +53,7 @@ module _ (r : StringShape) (shape : IsStringShape r) (x : List ℕ) (inside : r.
   pub counter_known : (q : ℕ) → IsPlace r.size n 8 q → IsPointer r.size q → 0 < len → (days : List Day) → Holds r x days → len ≡ last_len days → counter_after (decimal (number (bytes_at x (at r q) 2))) ≡ next_counter days
   counter_known q place pointer some [] h known = absurd (omega (arith, known, some))
   counter_known q place pointer some (d ∷ ds) h known =
-      let s = split (λ e. Unit {0}) (d ∷ ds) (any_newest d ds) in
+      let s = split (λ e. Unit {0}) (d ∷ ds) (some_newest (d ∷ ds) (λ none. cc)) in
       counter_at q place pointer s.older s.newest (subst (λ (l : List Day). Holds r x l) s.is h) ∙ sym (ap next_counter s.is)
 
   pub counter_first : len ≡ 0 → (days : List Day) → Holds r x days → len ≡ last_len days → 1 ≡ next_counter days
@@ -90,7 +86,7 @@ module _ (r : StringShape) (shape : IsStringShape r) (x : List ℕ) (inside : r.
       → 0 < len → (days : List Day) → Holds r x days → len ≡ last_len days → nat_lt date v ≡ newest_later date days
   later_known date v q s q_place q_pointer s_place s_pointer v_is some [] h known = absurd (omega (arith, known, some))
   later_known date v q s q_place q_pointer s_place s_pointer v_is some (d ∷ ds) h known =
-      let f = split (λ e. Unit {0}) (d ∷ ds) (any_newest d ds) in
+      let f = split (λ e. Unit {0}) (d ∷ ds) (some_newest (d ∷ ds) (λ none. cc)) in
       let found : v ≡ f.newest.date = v_is ∙ date_of q s q_place q_pointer s_place s_pointer f.older f.newest (subst (λ (l : List Day). Holds r x l) f.is h) in
       ap (λ (m : ℕ). nat_lt date m) found ∙ tests date f.newest.date ∙ sym (ap (λ (l : List Day). newest_later date l) f.is ∙ later_last date f.older f.newest)
     where

@@ -9,6 +9,7 @@ use Rattle.card_model.specs.Bytes.{number, two_bytes}
 use Rattle.card_model.specs.Days.{Day, len_of, total, far, record_of, records, IsDay, AreDays}
 use Rattle.card_model.specs.Image.{StringShape, IsStringShape, oldest_pointer, newest_pointer, circle_of, IsPointer, IsPlace, Holds, at}
 use Rattle.std.specs.Prelude.{nat_le, not}
+use Rattle.cyclic_days.proofs.Lists.{some_appended}
 use Rattle.card_model.proofs.Lists.{count_least}
 use Rattle.card_model.proofs.Trims.{until_none}
 use Rattle.cyclic_days.specs.Trim.{newest_later, ShorterBy, IsTrimming, IsTrimmed, IsWithoutLast, IsLosingLast}
@@ -124,13 +125,9 @@ module _ (r : StringShape) (shape : IsStringShape r) (x : List ℕ) (inside : r.
           previous = h.previous;
           rest = record_of q d ++ h.rest;
           spelled = s.circle ∙ h.spelled ∙ spelled_at h.previous older d [] h.rest;
-          empty = λ none. absurd (nothing before e none);
+          empty = λ none. absurd (some_appended before e none);
           ordered = front_days 0 older (d ∷ []) h.ordered;
         }
-      where
-        nothing : (older : List Day) (f : Day) → older ++ f ∷ [] ≡ [] → ⊥
-        nothing [] f none = cc
-        nothing (g ∷ older) f none = cc
 
     pub one_gone : IsWithoutLast r x z
     one_gone = record { outside = moved.outside; list = by }

@@ -6,14 +6,9 @@ use Rattle.card_model.specs.Days.{Day, len_of, total, IsDay}
 use Rattle.card_model.specs.Changes.{OnNewest}
 use Rattle.card_model.specs.Image.{StringShape, IsStringShape, oldest_pointer, newest_pointer, IsPointer, IsPlace, Holds, at}
 use Rattle.card_model.proofs.Lists.{total-append, far_last, last_is}
-use Rattle.cyclic_days.proofs.Lists.{split}
+use Rattle.cyclic_days.proofs.Lists.{split, some_newest}
 use Rattle.card_model.proofs.Reading.{place_then, same_distance, field_place, fills, circle_part, len_read}
 use Rattle.card_model.proofs.Lists.{len_even, len_most, len_least}
-
--- there is a newest day
-some_newest : (d : Day) (ds : List Day) → OnNewest (λ e. Unit {0}) (d ∷ ds)
-some_newest d [] = tt
-some_newest d (e ∷ ds) = some_newest e ds
 
 module _ (r : StringShape) (shape : IsStringShape r) (x : List ℕ) (inside : r.base + (4 + r.size) ≤ length x) (o n len k : ℕ) (o_is : o ≡ oldest_pointer r x)
     (n_is : IsPointer r.size (newest_pointer r x) → n ≡ newest_pointer r x) (n_pointer : IsPointer r.size n)
@@ -49,5 +44,5 @@ module _ (r : StringShape) (shape : IsStringShape r) (x : List ℕ) (inside : r.
   pub used_is : (days : List Day) → Holds r x days → k + len ≡ total days
   used_is [] h = of_none h
   used_is (d ∷ ds) h =
-      let s = split (λ e. Unit {0}) (d ∷ ds) (some_newest d ds) in
+      let s = split (λ e. Unit {0}) (d ∷ ds) (some_newest (d ∷ ds) (λ none. cc)) in
       of_one s.older s.newest (subst (λ (l : List Day). Holds r x l) s.is h) ∙ sym (ap total s.is)

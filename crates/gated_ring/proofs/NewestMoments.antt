@@ -103,6 +103,14 @@ with_same : (r : Shape) (x : List ℕ) (i : ℕ) → is_there r x i ≡ true →
 unfolding indices indices_with
 with_same r x i was = with_there (is_there r x) i was (order r (next r (pointer r x)))
 
+-- what is there stays there
+still_there : (r : Shape) (i : ℕ) (head x y : List ℕ) → IsReplaced r i head x y → (j : ℕ) → j < r.count → is_there r x j ≡ true → is_there r y j ≡ true
+still_there r i head x y replaced j below is = by (j == i) refl
+  where
+    by : (b : Bool) → (j == i) ≡ b → is_there r y j ≡ true
+    by true same = let here : j ≡ i = grind (arith, nat_tests) in ap (is_there r y) here ∙ replaced.there
+    by false same = (replaced.others j below (λ here. grind (arith, nat_tests))).1 ∙ is
+
 -- An entry that is there and is replaced stays where it stood.
 pub newest_replaced : (r : Shape) (i : ℕ) (head x y : List ℕ) → PointsInside r x → is_there r x i ≡ true → IsReplaced r i head x y → (o : Option ℕ) → IsNewest r x o → IsNewest r y o
 newest_replaced r i head x y known was replaced o newest = by o newest
@@ -110,13 +118,9 @@ newest_replaced r i head x y known was replaced o newest = by o newest
     are : indices r y ≡ indices r x
     are = replaced.indices_are known ∙ with_same r x i was
 
-    there : (j : ℕ) → j < r.count → is_there r x j ≡ true → (b : Bool) → (j == i) ≡ b → is_there r y j ≡ true
-    there j below is true same = let here : j ≡ i = grind (arith, nat_tests) in ap (is_there r y) here ∙ replaced.there
-    there j below is false same = (replaced.others j below (λ here. grind (arith, nat_tests))).1 ∙ is
-
     by : (o : Option ℕ) → IsNewest r x o → IsNewest r y o
     by None none = are ∙ none
-    by (Some j) last = record { below = last.below; there = there j last.below last.there (j == i) refl; older = last.older; indices_are = are ∙ last.indices_are }
+    by (Some j) last = record { below = last.below; there = still_there r i head x y replaced j last.below last.there; older = last.older; indices_are = are ∙ last.indices_are }
 
 -- the last of more stays the last where another is left out
 without_other : (i j : ℕ) (l : List ℕ) → j ≢ i → filter (λ k. not (k == i)) (l ++ j ∷ []) ≡ filter (λ k. not (k == i)) l ++ j ∷ []
@@ -135,7 +139,86 @@ newest_absent r i x c known absent j other last = record {
   indices_are = absent.indices_are known ∙ ap (filter (λ k. not (k == i))) last.indices_are ∙ without_other i j last.older other;
 }
 
--- So at each moment of a `put_at` over an entry that is there another newest one stays,
+-- ---- where a list takes one index more, its last is that one, or the last of before
+
+abbrev EndsAt : ℕ → List ℕ → Type 0
+EndsAt i l = (older : List ℕ) × (l ≡ older ++ i ∷ [])
+
+ends_behind : (k i : ℕ) (l : List ℕ) → EndsAt i l → EndsAt i (k ∷ l)
+ends_behind k i l ends = (k ∷ ends.0, ap (λ (t : List ℕ). k ∷ t) ends.1)
+
+module _ (p : ℕ → Bool) (i : ℕ) where
+  abbrev or_this : ℕ → Bool
+  or_this j = (j == i) || p j
+
+  none_more : (js : List ℕ) → filter p js ≡ [] → (filter or_this js ≡ []) ⊎ EndsAt i (filter or_this js)
+  none_more [] none = inl refl
+  none_more (k ∷ ks) none = by (none_more ks) (p k) (k == i) refl none
+    where
+      by : (filter p ks ≡ [] → (filter or_this ks ≡ []) ⊎ EndsAt i (filter or_this ks)) → (a b : Bool) → (k == i) ≡ b → cond a (k ∷ filter p ks) (filter p ks) ≡ []
+          → (cond (b || a) (k ∷ filter or_this ks) (filter or_this ks) ≡ []) ⊎ EndsAt i (cond (b || a) (k ∷ filter or_this ks) (filter or_this ks))
+      by rest true b is none = absurd (cc)
+      by rest false true is none =
+          let at : k ≡ i = grind (arith, nat_tests) in
+          ⊎_elim
+          (λ same. inr ([], ap (λ (t : List ℕ). k ∷ t) same ∙ ap (λ (n : ℕ). n ∷ []) at))
+          (λ ends. inr (ends_behind k i (filter or_this ks) ends)) (rest none)
+      by rest false false is none = rest none
+
+  some_more : (j : ℕ) (js : List ℕ) → EndsAt j (filter p js) → EndsAt j (filter or_this js) ⊎ EndsAt i (filter or_this js)
+  some_more j [] ends = absurd (nothing ends.0 ends.1)
+    where
+      nothing : (older : List ℕ) → [] ≡ older ++ j ∷ [] → ⊥
+      nothing [] is = cc
+      nothing (o ∷ older) is = cc
+  some_more j (k ∷ ks) ends = by (some_more j ks) (p k) (k == i) ends
+    where
+      first : (EndsAt j (filter p ks) → EndsAt j (filter or_this ks) ⊎ EndsAt i (filter or_this ks)) → (older : List ℕ) → k ∷ filter p ks ≡ older ++ j ∷ []
+          → EndsAt j (k ∷ filter or_this ks) ⊎ EndsAt i (k ∷ filter or_this ks)
+      first rest [] is =
+          let head : k ≡ j = cc in
+          let tail : filter p ks ≡ [] = cc in
+          ⊎_elim
+          (λ same. inl ([], ap (λ (t : List ℕ). k ∷ t) same ∙ ap (λ (n : ℕ). n ∷ []) head))
+          (λ ends. inr (ends_behind k i (filter or_this ks) ends)) (none_more ks tail)
+      first rest (o ∷ older) is =
+          let tail : filter p ks ≡ older ++ j ∷ [] = cc in
+          ⊎_elim (λ ends. inl (ends_behind k j (filter or_this ks) ends)) (λ ends. inr (ends_behind k i (filter or_this ks) ends)) (rest (older, tail))
+
+      by : (EndsAt j (filter p ks) → EndsAt j (filter or_this ks) ⊎ EndsAt i (filter or_this ks)) → (a b : Bool) → EndsAt j (cond a (k ∷ filter p ks) (filter p ks))
+          → EndsAt j (cond (b || a) (k ∷ filter or_this ks) (filter or_this ks)) ⊎ EndsAt i (cond (b || a) (k ∷ filter or_this ks) (filter or_this ks))
+      by rest true true ends = first rest ends.0 ends.1
+      by rest true false ends = first rest ends.0 ends.1
+      by rest false true ends = ⊎_elim (λ ends. inl (ends_behind k j (filter or_this ks) ends)) (λ ends. inr (ends_behind k i (filter or_this ks) ends)) (rest ends)
+      by rest false false ends = rest ends
+
+-- So once an entry stands anywhere in a ring, it is the newest, or the newest is the one before.
+pub newest_placed : (r : Shape) (i : ℕ) (head x y : List ℕ) → PointsInside r x → i < r.count → IsReplaced r i head x y → (o : Option ℕ) → IsNewest r x o → IsNewest r y o ⊎ IsNewest r y (Some i)
+unfolding indices indices_with
+newest_placed r i head x y known below replaced None none = ⊎_elim
+    (λ same. inl (replaced.indices_are known ∙ same))
+    (λ ends. inr (record { below = below; there = replaced.there; older = ends.0; indices_are = replaced.indices_are known ∙ ends.1 }))
+    (none_more (is_there r x) i (order r (next r (pointer r x))) none)
+newest_placed r i head x y known below replaced (Some j) last = ⊎_elim
+    (λ ends. inl (record { below = last.below; there = still_there r i head x y replaced j last.below last.there; older = ends.0; indices_are = replaced.indices_are known ∙ ends.1 }))
+    (λ ends. inr (record { below = below; there = replaced.there; older = ends.0; indices_are = replaced.indices_are known ∙ ends.1 }))
+    (some_more (is_there r x) i j (order r (next r (pointer r x))) (last.older, last.indices_are))
+
+-- At each moment of a `put_at` at another index, also an empty one, the newest entry is the one before, or the new one.
+pub newest_placing : (r : Shape) (i : ℕ) (head x c : List ℕ) → PointsInside r x → i < r.count → IsReplacingEntry r i head x c → (o : Option ℕ) → o ≢ Some i → IsNewest r x o → IsNewest r c o ⊎ IsNewest r c (Some i)
+unfolding indices_without
+newest_placing r i head x c known below moment o other newest = ⊎_elim
+    (λ same. inl (subst (λ (l : List ℕ). IsNewest r l o) (sym same) newest))
+    (λ changed. ⊎_elim
+    (λ absent. inl (without o other newest absent))
+    (λ replaced. newest_placed r i head x c known below replaced o newest) changed)
+    moment
+  where
+    without : (o : Option ℕ) → o ≢ Some i → IsNewest r x o → IsAbsent r i x c → IsNewest r c o
+    without None other none absent = absent.indices_are known ∙ ap (filter (λ k. not (k == i))) none
+    without (Some j) other newest absent = newest_absent r i x c known absent j (λ same. other (ap Some same)) newest
+
+-- At each moment of a `put_at` over an entry that is there another newest one stays,
 pub newest_replacing : (r : Shape) (i : ℕ) (head x c : List ℕ) → PointsInside r x → is_there r x i ≡ true → IsReplacingEntry r i head x c → (j : ℕ) → j ≢ i → IsNewest r x (Some j) → IsNewest r c (Some j)
 newest_replacing r i head x c known was moment j other newest = ⊎_elim
     (λ same. subst (λ (l : List ℕ). IsNewest r l (Some j)) (sym same) newest)
