@@ -11,6 +11,7 @@ use Rattle.tach_media.proofs.Images.{put_outside, part_before, part_after, part_
 use Rattle.gated_ring.specs.Ring.{number_at}
 use Rattle.write_plan.specs.Plan.{Piece, piece, put_all, IsPartway, IsInside}
 use Rattle.write_plan.proofs.Plans.{partway_either, partway_outside, puts_outside}
+use Rattle.unit_model.specs.declared.layout.TheConstants.{IMAGE_SIZE, OWED, OWED_ROW_SIZE}
 use Rattle.unit_model.specs.Days.{word_minute}
 use Rattle.unit_model.specs.Decoding.{cell_check}
 use Rattle.unit_model.proofs.Numbers.{number_same, part_in, number_before, number_after, number_put4}
@@ -30,23 +31,23 @@ eq_cases : (a b : ℕ) → (a ≡ b) ⊎ (a ≢ b)
 eq_cases a b = ⊎_elim (λ less. inr (λ is. absurd (omega (arith, less, is)))) (λ not_less. ⊎_elim (λ more. inr (λ is. absurd (omega (arith, more, is)))) (λ not_more. inl (omega (arith, not_less, not_more))) (cases_lt b a)) (cases_lt a b)
 
 -- an image in which one row may have changed
-module _ (x c : List ℕ) (r : ℕ) (low : r < 8) (same : SameOutside (624 + r * 48) 48 x c) where
-  pub row_wide : SameOutside 624 384 x c
-  row_wide = outside_wider 624 384 (624 + r * 48) 48 x c same (omega arith) (omega (arith, low))
+module _ (x c : List ℕ) (r : ℕ) (low : r < 8) (same : SameOutside (OWED.place + r * OWED_ROW_SIZE) OWED_ROW_SIZE x c) where
+  pub row_wide : SameOutside OWED.place OWED.size x c
+  row_wide = outside_wider OWED.place OWED.size (OWED.place + r * OWED_ROW_SIZE) OWED_ROW_SIZE x c same (omega arith) (omega (arith, low))
 
-  part : (s q n : ℕ) → s < 8 → s ≢ r → s * 48 ≤ q → q + n ≤ s * 48 + 48 → bytes_at (rows_in c) q n ≡ bytes_at (rows_in x) q n
+  part : (s q n : ℕ) → s < 8 → s ≢ r → s * OWED_ROW_SIZE ≤ q → q + n ≤ s * OWED_ROW_SIZE + OWED_ROW_SIZE → bytes_at (rows_in c) q n ≡ bytes_at (rows_in x) q n
   part s q n below differ from to =
-      part_in c 624 384 q n (omega (arith, below, to))
-      ∙ ⊎_elim (λ less. part_before (624 + r * 48) 48 (624 + q) n x c same (omega (arith, less, to)))
-      (λ not_less. ⊎_elim (λ more. part_after (624 + r * 48) 48 (624 + q) n x c same (omega (arith, more, from))) (λ not_more. absurd (differ (omega (arith, not_less, not_more)))) (cases_lt r s))
+      part_in c OWED.place OWED.size q n (omega (arith, below, to))
+      ∙ ⊎_elim (λ less. part_before (OWED.place + r * OWED_ROW_SIZE) OWED_ROW_SIZE (OWED.place + q) n x c same (omega (arith, less, to)))
+      (λ not_less. ⊎_elim (λ more. part_after (OWED.place + r * OWED_ROW_SIZE) OWED_ROW_SIZE (OWED.place + q) n x c same (omega (arith, more, from))) (λ not_more. absurd (differ (omega (arith, not_less, not_more)))) (cases_lt r s))
       (cases_lt s r)
-      ∙ sym (part_in x 624 384 q n (omega (arith, below, to)))
+      ∙ sym (part_in x OWED.place OWED.size q n (omega (arith, below, to)))
 
   pub other_session : (s : ℕ) → s < 8 → s ≢ r → session_in (rows_in c) s ≡ session_in (rows_in x) s
-  other_session s below differ = number_same (rows_in x) (rows_in c) (s * 48) 4 (part s (s * 48) 4 below differ (omega arith) (omega arith))
+  other_session s below differ = number_same (rows_in x) (rows_in c) (s * OWED_ROW_SIZE) 4 (part s (s * OWED_ROW_SIZE) 4 below differ (omega arith) (omega arith))
 
   pub other_number : (s : ℕ) → s < 8 → s ≢ r → number_in (rows_in c) s ≡ number_in (rows_in x) s
-  other_number s below differ = part s (s * 48 + 4) 18 below differ (omega arith) (omega arith)
+  other_number s below differ = part s (s * OWED_ROW_SIZE + 4) 18 below differ (omega arith) (omega arith)
 
   pub other_cell : (s j : ℕ) → s < 8 → s ≢ r → j < 4 → cell_in (rows_in c) s j ≡ cell_in (rows_in x) s j
   other_cell s j below differ small = λ t. record {
@@ -93,15 +94,15 @@ find_none p a (suc n) s is from to = by (p a) refl (λ there next. find_none p (
     by false fails rest none = ⊎_elim (λ more. rest none (omega (arith, more))) (λ not_more. let same : s ≡ a = omega (arith, from, not_more) in ap p same ∙ fails) (cases_lt a s)
 
 -- the writes of a row
-module _ (x : List ℕ) (sized : length x ≡ 2485808) (r : ℕ) (low : r < 8) (number : List ℕ) (wide : length number ≡ 18) (session : ℕ) (small : session < 4294967296) where
+module _ (x : List ℕ) (sized : length x ≡ IMAGE_SIZE) (r : ℕ) (low : r < 8) (number : List ℕ) (wide : length number ≡ 18) (session : ℕ) (small : session < 4294967296) where
   abbrev base : ℕ
-  base = 624 + r * 48
+  base = OWED.place + r * OWED_ROW_SIZE
 
   abbrev zero4 : List ℕ
   zero4 = to_be_bytes w32 0
 
   abbrev at_cell : ℕ → ℕ
-  at_cell k = 624 + cell_begin r k
+  at_cell k = OWED.place + cell_begin r k
 
   abbrev mid : List Piece
   mid = piece (at_cell 0) zero4 ∷ piece (at_cell 1) zero4 ∷ piece (at_cell 2) zero4 ∷ piece (at_cell 3) zero4 ∷ piece (base + 4) number ∷ []
@@ -118,10 +119,10 @@ module _ (x : List ℕ) (sized : length x ≡ 2485808) (r : ℕ) (low : r < 8) (
   abbrev y : List ℕ
   y = put base (to_be_bytes w32 session) filled
 
-  inside : (p : Piece) → 0 < length p.bytes → length p.bytes ≤ 255 → base ≤ p.place → p.place + length p.bytes ≤ base + 48 → IsInside base (base + 48) p
+  inside : (p : Piece) → 0 < length p.bytes → length p.bytes ≤ 255 → base ≤ p.place → p.place + length p.bytes ≤ base + OWED_ROW_SIZE → IsInside base (base + OWED_ROW_SIZE) p
   inside p some short from to = record { some = some; short = short; behind = from; inside = to }
 
-  all_inside : AllByRecursion (IsInside base (base + 48)) (row_pieces r number session)
+  all_inside : AllByRecursion (IsInside base (base + OWED_ROW_SIZE)) (row_pieces r number session)
   all_inside =
       let a = inside (piece base zero4) (omega arith) (omega arith) (omega arith) (omega arith) in
       let b0 = inside (piece (at_cell 0) zero4) (omega arith) (omega arith) (omega arith) (omega arith) in
@@ -141,11 +142,11 @@ module _ (x : List ℕ) (sized : length x ≡ 2485808) (r : ℕ) (low : r < 8) (
       let n : IsInside (base + 4) (base + 4 + 44) (piece (base + 4) number) = record { some = omega (arith, wide); short = omega (arith, wide); behind = omega arith; inside = omega (arith, wide) } in
       (b0, (b1, (b2, (b3, (n, tt)))))
 
-  pub near : (c : List ℕ) → IsPartway (row_pieces r number session) x c → SameOutside base 48 x c
-  near c here = partway_outside base 48 (row_pieces r number session) all_inside x c (omega (arith, sized, low)) here
+  pub near : (c : List ℕ) → IsPartway (row_pieces r number session) x c → SameOutside base OWED_ROW_SIZE x c
+  near c here = partway_outside base OWED_ROW_SIZE (row_pieces r number session) all_inside x c (omega (arith, sized, low)) here
 
-  pub near_end : SameOutside base 48 x y
-  near_end = puts_outside base 48 (row_pieces r number session) all_inside x (omega (arith, sized, low))
+  pub near_end : SameOutside base OWED_ROW_SIZE x y
+  near_end = puts_outside base OWED_ROW_SIZE (row_pieces r number session) all_inside x (omega (arith, sized, low))
 
   one : SameOutside base 4 x cleared
   one = put_outside base zero4 x (omega (arith, sized, low))
@@ -157,7 +158,7 @@ module _ (x : List ℕ) (sized : length x ≡ 2485808) (r : ℕ) (low : r < 8) (
   two = puts_outside (base + 4) 44 mid mid_inside cleared (omega (arith, sized, low, one.same_length))
 
   session_of : (c : List ℕ) → session_in (rows_in c) r ≡ number_at c base 4
-  session_of c = numbers.number_in c 624 384 (r * 48) 4 (omega (arith, low))
+  session_of c = numbers.number_in c OWED.place OWED.size (r * OWED_ROW_SIZE) 4 (omega (arith, low))
 
   -- the session time at each moment
   pub session_moment : (c : List ℕ) → IsPartway (row_pieces r number session) x c → (c ≡ x) ⊎ ((session_in (rows_in c) r ≡ 0) ⊎ (c ≡ y))
@@ -177,34 +178,34 @@ module _ (x : List ℕ) (sized : length x ≡ 2485808) (r : ℕ) (low : r < 8) (
   word_apart j = (inl (omega arith), (word_side j 0, (word_side j 1, (word_side j 2, (word_side j 3, (inl (omega (arith, wide)), (inl (omega arith), tt)))))))
 
   -- their minutes stay or are turned to 0
-  minute_side : (j k : ℕ) → IsApartOrZero base (base + 48) (at_cell j) (piece (at_cell k) zero4)
+  minute_side : (j k : ℕ) → IsApartOrZero base (base + OWED_ROW_SIZE) (at_cell j) (piece (at_cell k) zero4)
   minute_side j k = ⊎_elim (λ less. inl (inr (omega (arith, less)))) (λ not_less. ⊎_elim (λ more. inl (inl (omega (arith, more)))) (λ not_more. inr (omega (arith, not_less, not_more), refl)) (cases_lt k j)) (cases_lt j k)
 
-  minute_apart : (j : ℕ) → AllByRecursion (IsApartOrZero base (base + 48) (at_cell j)) (row_pieces r number session)
+  minute_apart : (j : ℕ) → AllByRecursion (IsApartOrZero base (base + OWED_ROW_SIZE) (at_cell j)) (row_pieces r number session)
   minute_apart j = (inl (inl (omega arith)), (minute_side j 0, (minute_side j 1, (minute_side j 2, (minute_side j 3, (inl (inl (omega (arith, wide))), (inl (inl (omega arith)), tt)))))))
 
-  fits : base + 48 ≤ length x
+  fits : base + OWED_ROW_SIZE ≤ length x
   fits = omega (arith, sized, low)
 
   minute_of : (c : List ℕ) (j : ℕ) → j < 4 → (cell_in (rows_in c) r j).minute ≡ number_at c (at_cell j) 4
-  minute_of c j few = numbers.number_in c 624 384 (cell_begin r j) 4 (omega (arith, low, few))
+  minute_of c j few = numbers.number_in c OWED.place OWED.size (cell_begin r j) 4 (omega (arith, low, few))
 
   word_of : (c : List ℕ) (j : ℕ) → j < 4 → (cell_in (rows_in c) r j).word ≡ number_at c (at_cell j + 4) 2
-  word_of c j few = numbers.number_in c 624 384 (cell_begin r j + 4) 2 (omega (arith, low, few)) ∙ ap (λ (q : ℕ). number_at c q 2) next
+  word_of c j few = numbers.number_in c OWED.place OWED.size (cell_begin r j + 4) 2 (omega (arith, low, few)) ∙ ap (λ (q : ℕ). number_at c q 2) next
     where
-      next : 624 + (cell_begin r j + 4) ≡ at_cell j + 4
+      next : OWED.place + (cell_begin r j + 4) ≡ at_cell j + 4
       next = omega arith
 
   pub word_moment : (c : List ℕ) → IsPartway (row_pieces r number session) x c → (j : ℕ) → j < 4 → (cell_in (rows_in c) r j).word ≡ (cell_in (rows_in x) r j).word
-  word_moment c here j few = word_of c j few ∙ number_same x c (at_cell j + 4) 2 (partway_apart base (base + 48) (row_pieces r number session) (at_cell j + 4) 2 x c all_inside (word_apart j) fits here) ∙ sym (word_of x j few)
+  word_moment c here j few = word_of c j few ∙ number_same x c (at_cell j + 4) 2 (partway_apart base (base + OWED_ROW_SIZE) (row_pieces r number session) (at_cell j + 4) 2 x c all_inside (word_apart j) fits here) ∙ sym (word_of x j few)
 
   pub minute_moment : (c : List ℕ) → IsPartway (row_pieces r number session) x c → (j : ℕ) → j < 4 → ((cell_in (rows_in c) r j).minute ≡ 0) ⊎ ((cell_in (rows_in c) r j).minute ≡ (cell_in (rows_in x) r j).minute)
   minute_moment c here j few = ⊎_elim (λ empty. inl (minute_of c j few ∙ empty)) (λ is. inr (minute_of c j few ∙ is ∙ sym (minute_of x j few)))
-      (partway_held base (base + 48) (row_pieces r number session) (at_cell j) (number_at x (at_cell j) 4) x c all_inside (minute_apart j) fits (inr refl) here)
+      (partway_held base (base + OWED_ROW_SIZE) (row_pieces r number session) (at_cell j) (number_at x (at_cell j) 4) x c all_inside (minute_apart j) fits (inr refl) here)
 
   -- at the end
   word_end : (j : ℕ) → j < 4 → (cell_in (rows_in y) r j).word ≡ (cell_in (rows_in x) r j).word
-  word_end j few = word_of y j few ∙ number_same x y (at_cell j + 4) 2 (puts_apart base (base + 48) (row_pieces r number session) (at_cell j + 4) 2 x all_inside (word_apart j) fits) ∙ sym (word_of x j few)
+  word_end j few = word_of y j few ∙ number_same x y (at_cell j + 4) 2 (puts_apart base (base + OWED_ROW_SIZE) (row_pieces r number session) (at_cell j + 4) 2 x all_inside (word_apart j) fits) ∙ sym (word_of x j few)
 
   abbrev z0 : List ℕ
   z0 = put (at_cell 0) zero4 cleared
@@ -218,41 +219,41 @@ module _ (x : List ℕ) (sized : length x ≡ 2485808) (r : ℕ) (low : r < 8) (
   abbrev z3 : List ℕ
   z3 = put (at_cell 3) zero4 z2
 
-  len_0 : length z0 ≡ 2485808
+  len_0 : length z0 ≡ IMAGE_SIZE
   len_0 = omega (arith, sized, one.same_length, (put_outside (at_cell 0) zero4 cleared (omega (arith, sized, low, one.same_length))).same_length)
 
-  len_1 : length z1 ≡ 2485808
+  len_1 : length z1 ≡ IMAGE_SIZE
   len_1 = omega (arith, len_0, (put_outside (at_cell 1) zero4 z0 (omega (arith, len_0, low))).same_length)
 
-  len_2 : length z2 ≡ 2485808
+  len_2 : length z2 ≡ IMAGE_SIZE
   len_2 = omega (arith, len_1, (put_outside (at_cell 2) zero4 z1 (omega (arith, len_1, low))).same_length)
 
-  len_3 : length z3 ≡ 2485808
+  len_3 : length z3 ≡ IMAGE_SIZE
   len_3 = omega (arith, len_2, (put_outside (at_cell 3) zero4 z2 (omega (arith, len_2, low))).same_length)
 
-  zero_at : (a : ℕ) → IsHeld base (base + 48) a 0 y → number_at y a 4 ≡ 0
+  zero_at : (a : ℕ) → IsHeld base (base + OWED_ROW_SIZE) a 0 y → number_at y a 4 ≡ 0
   zero_at a held = ⊎_elim (λ is. is) (λ is. is) held
 
   minute_0 : number_at y (at_cell 0) 4 ≡ 0
-  minute_0 = zero_at (at_cell 0) (puts_held base (base + 48) (piece (at_cell 1) zero4 ∷ piece (at_cell 2) zero4 ∷ piece (at_cell 3) zero4 ∷ piece (base + 4) number ∷ last) (at_cell 0) 0 z0 all_inside.1.1 (minute_apart 0).1.1 (omega (arith, len_0, low))
+  minute_0 = zero_at (at_cell 0) (puts_held base (base + OWED_ROW_SIZE) (piece (at_cell 1) zero4 ∷ piece (at_cell 2) zero4 ∷ piece (at_cell 3) zero4 ∷ piece (base + 4) number ∷ last) (at_cell 0) 0 z0 all_inside.1.1 (minute_apart 0).1.1 (omega (arith, len_0, low))
       (inl (number_put4 (at_cell 0) 0 cleared (omega (arith, sized, low, one.same_length)) (omega arith))))
 
   minute_1 : number_at y (at_cell 1) 4 ≡ 0
-  minute_1 = zero_at (at_cell 1) (puts_held base (base + 48) (piece (at_cell 2) zero4 ∷ piece (at_cell 3) zero4 ∷ piece (base + 4) number ∷ last) (at_cell 1) 0 z1 all_inside.1.1.1 (minute_apart 1).1.1.1 (omega (arith, len_1, low))
+  minute_1 = zero_at (at_cell 1) (puts_held base (base + OWED_ROW_SIZE) (piece (at_cell 2) zero4 ∷ piece (at_cell 3) zero4 ∷ piece (base + 4) number ∷ last) (at_cell 1) 0 z1 all_inside.1.1.1 (minute_apart 1).1.1.1 (omega (arith, len_1, low))
       (inl (number_put4 (at_cell 1) 0 z0 (omega (arith, len_0, low)) (omega arith))))
 
   minute_2 : number_at y (at_cell 2) 4 ≡ 0
-  minute_2 = zero_at (at_cell 2) (puts_held base (base + 48) (piece (at_cell 3) zero4 ∷ piece (base + 4) number ∷ last) (at_cell 2) 0 z2 all_inside.1.1.1.1 (minute_apart 2).1.1.1.1 (omega (arith, len_2, low))
+  minute_2 = zero_at (at_cell 2) (puts_held base (base + OWED_ROW_SIZE) (piece (at_cell 3) zero4 ∷ piece (base + 4) number ∷ last) (at_cell 2) 0 z2 all_inside.1.1.1.1 (minute_apart 2).1.1.1.1 (omega (arith, len_2, low))
       (inl (number_put4 (at_cell 2) 0 z1 (omega (arith, len_1, low)) (omega arith))))
 
   minute_3 : number_at y (at_cell 3) 4 ≡ 0
-  minute_3 = zero_at (at_cell 3) (puts_held base (base + 48) (piece (base + 4) number ∷ last) (at_cell 3) 0 z3 all_inside.1.1.1.1.1 (minute_apart 3).1.1.1.1.1 (omega (arith, len_3, low))
+  minute_3 = zero_at (at_cell 3) (puts_held base (base + OWED_ROW_SIZE) (piece (base + 4) number ∷ last) (at_cell 3) 0 z3 all_inside.1.1.1.1.1 (minute_apart 3).1.1.1.1.1 (omega (arith, len_3, low))
       (inl (number_put4 (at_cell 3) 0 z2 (omega (arith, len_2, low)) (omega arith))))
 
   cell_end : (j : ℕ) → j < 4 → number_at y (at_cell j) 4 ≡ 0 → cell_in (rows_in y) r j ≡ record { minute = 0; word = (cell_in (rows_in x) r j).word }
   cell_end j few empty = λ t. record { minute = (minute_of y j few ∙ empty) t; word = word_end j few t }
 
-  filled_sized : length filled ≡ 2485808
+  filled_sized : length filled ≡ IMAGE_SIZE
   filled_sized = omega (arith, sized, one.same_length, two.same_length)
 
   pub session_end : session_in (rows_in y) r ≡ session
@@ -260,7 +261,7 @@ module _ (x : List ℕ) (sized : length x ≡ 2485808) (r : ℕ) (low : r < 8) (
 
   pub taken : IsTaken number session r x y
   taken = record {
-    named = part_in y 624 384 (r * 48 + 4) 18 (omega (arith, low)) ∙ ap (λ (q : ℕ). bytes_at y q 18) next
+    named = part_in y OWED.place OWED.size (r * OWED_ROW_SIZE + 4) 18 (omega (arith, low)) ∙ ap (λ (q : ℕ). bytes_at y q 18) next
         ∙ part_after base 4 (base + 4) 18 filled y (put_outside base (to_be_bytes w32 session) filled (omega (arith, filled_sized, low))) (omega arith)
         ∙ ap (λ (n : ℕ). bytes_at filled (base + 4) n) (sym wide) ∙ part_put (base + 4) number z3 (omega (arith, len_3, low, wide));
     row = λ t. record {
@@ -269,7 +270,7 @@ module _ (x : List ℕ) (sized : length x ≡ 2485808) (r : ℕ) (low : r < 8) (
     };
   }
     where
-      next : 624 + (r * 48 + 4) ≡ base + 4
+      next : OWED.place + (r * OWED_ROW_SIZE + 4) ≡ base + 4
       next = omega arith
 
 -- the minute of a cell of a list
@@ -279,7 +280,7 @@ cell_at (c ∷ cs) zero = c.minute
 cell_at (c ∷ cs) (suc j) = cell_at cs j
 
 -- a row that is begun for a number
-module _ (number : List ℕ) (session : ℕ) (spared : Option (List ℕ)) (x : List ℕ) (sized : length x ≡ 2485808) (wide : length number ≡ 18) (some : 0 < session) (small : session < 4294967296) where
+module _ (number : List ℕ) (session : ℕ) (spared : Option (List ℕ)) (x : List ℕ) (sized : length x ≡ IMAGE_SIZE) (wide : length number ≡ 18) (some : 0 < session) (small : session < 4294967296) where
   abbrev begun : (r : ℕ) × ((begun_index number spared (rows_in x) ≡ Some r) × ((r < 8)
       × ((row_index number (rows_in x) ≡ Some r) ⊎ ((row_index number (rows_in x) ≡ None) × ((empty_index (rows_in x) ≡ Some r) ⊎ (is_this_row (spared_index spared (rows_in x)) r ≡ false))))))
   begun = begun_is number spared (rows_in x)
@@ -301,7 +302,7 @@ module _ (number : List ℕ) (session : ℕ) (spared : Option (List ℕ)) (x : L
 
   -- what a moment is
   record Moment (c : List ℕ) : Type 0 where
-    near : SameOutside (624 + r * 48) 48 x c
+    near : SameOutside (OWED.place + r * OWED_ROW_SIZE) OWED_ROW_SIZE x c
     words : (j : ℕ) → j < 4 → (cell_in (rows_in c) r j).word ≡ (cell_in (rows_in x) r j).word
     minutes : (j : ℕ) → j < 4 → ((cell_in (rows_in c) r j).minute ≡ 0) ⊎ ((cell_in (rows_in c) r j).minute ≡ (cell_in (rows_in x) r j).minute)
     own : (c ≡ x) ⊎ ((session_in (rows_in c) r ≡ 0) ⊎ (c ≡ end))

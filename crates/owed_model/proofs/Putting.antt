@@ -12,6 +12,7 @@ use Rattle.gated_ring.specs.Ring.{number_at}
 use Rattle.write_plan.specs.Plan.{put_all, IsPartway}
 use Rattle.write_plan.proofs.Plans.{after_some}
 use Rattle.activity_codec.specs.declared.entries.Entry.{Entry}
+use Rattle.unit_model.specs.declared.layout.TheConstants.{IMAGE_SIZE, OWED, OWED_ROW_SIZE}
 use Rattle.unit_model.specs.Days.{word_minute}
 use Rattle.unit_model.specs.Decoding.{Decodes, cell_check, cell_minute, cell_word, cell_place}
 use Rattle.unit_model.proofs.Numbers.{number_same, part_in, number_before, number_after, number_put4, number_put2}
@@ -69,30 +70,30 @@ rows_apart n number rows s r differ his mine same =
     differ (sym first ∙ ap (number_in rows) same ∙ second)
 
 -- an image in which one cell may have changed
-module _ (x c : List ℕ) (r i : ℕ) (low : r < 8) (few : i < 4) (same : SameOutside (624 + cell_begin r i) 6 x c) where
-  pub wide : SameOutside 624 384 x c
-  wide = outside_wider 624 384 (624 + cell_begin r i) 6 x c same (omega arith) (omega (arith, low, few))
+module _ (x c : List ℕ) (r i : ℕ) (low : r < 8) (few : i < 4) (same : SameOutside (OWED.place + cell_begin r i) 6 x c) where
+  pub wide : SameOutside OWED.place OWED.size x c
+  wide = outside_wider OWED.place OWED.size (OWED.place + cell_begin r i) 6 x c same (omega arith) (omega (arith, low, few))
 
   abbrev Apart : (q n : ℕ) → Type 0
   Apart q n = (q + n ≤ cell_begin r i) ⊎ (cell_begin r i + 6 ≤ q)
 
-  part : (q n : ℕ) → q + n ≤ 384 → Apart q n → bytes_at (rows_in c) q n ≡ bytes_at (rows_in x) q n
+  part : (q n : ℕ) → q + n ≤ OWED.size → Apart q n → bytes_at (rows_in c) q n ≡ bytes_at (rows_in x) q n
   part q n fits apart =
-      part_in c 624 384 q n fits
-      ∙ ⊎_elim (λ front. part_before (624 + cell_begin r i) 6 (624 + q) n x c same (omega (arith, front))) (λ behind. part_after (624 + cell_begin r i) 6 (624 + q) n x c same (omega (arith, behind))) apart
-      ∙ sym (part_in x 624 384 q n fits)
+      part_in c OWED.place OWED.size q n fits
+      ∙ ⊎_elim (λ front. part_before (OWED.place + cell_begin r i) 6 (OWED.place + q) n x c same (omega (arith, front))) (λ behind. part_after (OWED.place + cell_begin r i) 6 (OWED.place + q) n x c same (omega (arith, behind))) apart
+      ∙ sym (part_in x OWED.place OWED.size q n fits)
 
-  number : (q n : ℕ) → q + n ≤ 384 → Apart q n → number_at (rows_in c) q n ≡ number_at (rows_in x) q n
+  number : (q n : ℕ) → q + n ≤ OWED.size → Apart q n → number_at (rows_in c) q n ≡ number_at (rows_in x) q n
   number q n fits apart = number_same (rows_in x) (rows_in c) q n (part q n fits apart)
 
-  head_apart : (s q n : ℕ) → s * 48 ≤ q → q + n ≤ s * 48 + 24 → Apart q n
+  head_apart : (s q n : ℕ) → s * OWED_ROW_SIZE ≤ q → q + n ≤ s * OWED_ROW_SIZE + 24 → Apart q n
   head_apart s q n from to = ⊎_elim (λ less. inr (omega (arith, less, few, from))) (λ more. inl (omega (arith, more, to))) (cases_lt r s)
 
   pub sessions : (s : ℕ) → s < 8 → session_in (rows_in c) s ≡ session_in (rows_in x) s
-  sessions s below = number (s * 48) 4 (omega (arith, below)) (head_apart s (s * 48) 4 (omega arith) (omega arith))
+  sessions s below = number (s * OWED_ROW_SIZE) 4 (omega (arith, below)) (head_apart s (s * OWED_ROW_SIZE) 4 (omega arith) (omega arith))
 
   pub heads : (s : ℕ) → s < 8 → number_in (rows_in c) s ≡ number_in (rows_in x) s
-  heads s below = part (s * 48 + 4) 18 (omega (arith, below)) (head_apart s (s * 48 + 4) 18 (omega arith) (omega arith))
+  heads s below = part (s * OWED_ROW_SIZE + 4) 18 (omega (arith, below)) (head_apart s (s * OWED_ROW_SIZE + 4) 18 (omega arith) (omega arith))
 
   is_row_same : (n : List ℕ) (s : ℕ) → s < 8 → is_row_of n (rows_in c) s ≡ is_row_of n (rows_in x) s
   is_row_same n s below = λ t. not (sessions s below t == 0) && pointwise nat_eq (heads s below t) n
@@ -162,18 +163,18 @@ cell_passes c = c.minute == 0 || nat_lt (word_minute c.word) 1440
 
 pub passes_is : (x : List ℕ) (n : ℕ) → n < 32 → (cell_check x n).passes ≡ cell_passes (cell_in (rows_in x) (n / 4) (n % 4))
 passes_is x n below =
-    let minute : cell_minute x n ≡ number_at (rows_in x) (cell_begin (n / 4) (n % 4)) 4 = ap (λ (p : ℕ). number_at x p 4) place ∙ sym (numbers.number_in x 624 384 (cell_begin (n / 4) (n % 4)) 4 (omega (arith, below))) in
-    let word : cell_word x n ≡ number_at (rows_in x) (cell_begin (n / 4) (n % 4) + 4) 2 = ap (λ (p : ℕ). number_at x (p + 4) 2) place ∙ ap (λ (p : ℕ). number_at x p 2) next ∙ sym (numbers.number_in x 624 384 (cell_begin (n / 4) (n % 4) + 4) 2 (omega (arith, below))) in
+    let minute : cell_minute x n ≡ number_at (rows_in x) (cell_begin (n / 4) (n % 4)) 4 = ap (λ (p : ℕ). number_at x p 4) place ∙ sym (numbers.number_in x OWED.place OWED.size (cell_begin (n / 4) (n % 4)) 4 (omega (arith, below))) in
+    let word : cell_word x n ≡ number_at (rows_in x) (cell_begin (n / 4) (n % 4) + 4) 2 = ap (λ (p : ℕ). number_at x (p + 4) 2) place ∙ ap (λ (p : ℕ). number_at x p 2) next ∙ sym (numbers.number_in x OWED.place OWED.size (cell_begin (n / 4) (n % 4) + 4) 2 (omega (arith, below))) in
     λ t. minute t == 0 || nat_lt (word_minute (word t)) 1440
   where
-    place : cell_place n ≡ 624 + cell_begin (n / 4) (n % 4)
+    place : cell_place n ≡ OWED.place + cell_begin (n / 4) (n % 4)
     place = omega arith
 
-    next : 624 + cell_begin (n / 4) (n % 4) + 4 ≡ 624 + (cell_begin (n / 4) (n % 4) + 4)
+    next : OWED.place + cell_begin (n / 4) (n % 4) + 4 ≡ OWED.place + (cell_begin (n / 4) (n % 4) + 4)
     next = omega arith
 
 -- the image still decodes where the cell passes
-pub cell_decodes : (x c : List ℕ) (r i : ℕ) (low : r < 8) (few : i < 4) (same : SameOutside (624 + cell_begin r i) 6 x c)
+pub cell_decodes : (x c : List ℕ) (r i : ℕ) (low : r < 8) (few : i < 4) (same : SameOutside (OWED.place + cell_begin r i) 6 x c)
     → (cell_passes (cell_in (rows_in x) r i) ≡ true → cell_passes (cell_in (rows_in c) r i) ≡ true) → Decodes x → Decodes c
 cell_decodes x c r i low few same passes = still x c (rows_pass x c (wide x c r i low few same) good)
   where
@@ -192,12 +193,12 @@ cell_decodes x c r i low few same passes = still x c (rows_pass x c (wide x c r 
     good n below = ⊎_elim (λ one. ⊎_elim (λ two. this n below one two) (λ differ. other n below (inr differ)) (eq_cases (n % 4) i)) (λ differ. other n below (inl differ)) (eq_cases (n / 4) r)
 
 -- the three writes of an entry
-module _ (x : List ℕ) (sized : length x ≡ 2485808) (r m w : ℕ) (low : r < 8) (small : m < 4294967296) (short : w < 65536) where
+module _ (x : List ℕ) (sized : length x ≡ IMAGE_SIZE) (r m w : ℕ) (low : r < 8) (small : m < 4294967296) (short : w < 65536) where
   abbrev i : ℕ
   i = m % 4
 
   abbrev p : ℕ
-  p = 624 + cell_begin r i
+  p = OWED.place + cell_begin r i
 
   abbrev emptied : List ℕ
   emptied = put p (to_be_bytes w32 0) x
@@ -227,12 +228,12 @@ module _ (x : List ℕ) (sized : length x ≡ 2485808) (r m w : ℕ) (low : r < 
   near_3 = outside_then p 6 x worded entered near_2 (outside_wider p 6 p 4 worded entered three (omega arith) (omega arith))
 
   minute_of : (c : List ℕ) → (cell_in (rows_in c) r i).minute ≡ number_at c p 4
-  minute_of c = numbers.number_in c 624 384 (cell_begin r i) 4 (omega (arith, low))
+  minute_of c = numbers.number_in c OWED.place OWED.size (cell_begin r i) 4 (omega (arith, low))
 
   word_of_cell : (c : List ℕ) → (cell_in (rows_in c) r i).word ≡ number_at c (p + 4) 2
-  word_of_cell c = numbers.number_in c 624 384 (cell_begin r i + 4) 2 (omega (arith, low)) ∙ ap (λ (q : ℕ). number_at c q 2) next
+  word_of_cell c = numbers.number_in c OWED.place OWED.size (cell_begin r i + 4) 2 (omega (arith, low)) ∙ ap (λ (q : ℕ). number_at c q 2) next
     where
-      next : 624 + (cell_begin r i + 4) ≡ p + 4
+      next : OWED.place + (cell_begin r i + 4) ≡ p + 4
       next = omega arith
 
   pub empty_1 : (cell_in (rows_in emptied) r i).minute ≡ 0
@@ -248,7 +249,7 @@ module _ (x : List ℕ) (sized : length x ≡ 2485808) (r m w : ℕ) (low : r < 
       λ t. record { minute = minute t; word = word t }
 
 -- an entry that is put into the row of a number
-module _ (number : List ℕ) (e : Entry) (x : List ℕ) (sized : length x ≡ 2485808) (r : ℕ) (mine : row_index number (rows_in x) ≡ Some r)
+module _ (number : List ℕ) (e : Entry) (x : List ℕ) (sized : length x ≡ IMAGE_SIZE) (r : ℕ) (mine : row_index number (rows_in x) ≡ Some r)
     (small : e.minute < 4294967296) (short : entry_word e < 65536) (good : word_minute (entry_word e) < 1440) where
   abbrev m : ℕ
   m = e.minute
@@ -257,7 +258,7 @@ module _ (number : List ℕ) (e : Entry) (x : List ℕ) (sized : length x ≡ 24
   w = entry_word e
 
   abbrev place : ℕ
-  place = 624 + cell_begin r (m % 4)
+  place = OWED.place + cell_begin r (m % 4)
 
   low : r < 8
   low = found_below (is_row_of number (rows_in x)) 0 8 r mine

@@ -6,6 +6,7 @@ use Rattle.std.proofs.lemmas.List.{append-nil, length-replicate, take-replicate,
 use Rattle.tach_media.specs.Medium.{State, put, SameOutside, IsPartlyWritten, HasCause}
 use Rattle.tach_media.proofs.Images.{put_outside, part_before, part_put, outside_wider, outside_then}
 use Rattle.tach_media.proofs.Chunks.{put_behind, chunk_more, chunk_next}
+use Rattle.unit_model.specs.declared.layout.TheConstants.{IDENTIFICATION, IMAGE_SIZE}
 use Rattle.unit_model.specs.NewImage.{zeros, new_image}
 use Rattle.unit_memory.specs.Formats.{IsBlank, IsFormatting, identified}
 
@@ -75,7 +76,7 @@ still_blank p n x y c blank low same = record {
   version = ap (λ (b : List ℕ). big_number 4 b) (part_before p n 0 4 y c same low) ∙ blank.version;
 }
 
-module _ (x : List ℕ) (sized : length x ≡ 2485808) where
+module _ (x : List ℕ) (sized : length x ≡ IMAGE_SIZE) where
   abbrev pub unversioned : List ℕ
   unversioned = put 0 (to_be_bytes w32 0) x
 
@@ -89,7 +90,7 @@ module _ (x : List ℕ) (sized : length x ≡ 2485808) where
     abbrev pub named : List ℕ → List ℕ
     named y = identified v r l y
 
-    named_is : (y : List ℕ) → length y ≡ 2485808 → named y ≡ put 4 ((v ++ r) ++ l ∷ []) y
+    named_is : (y : List ℕ) → length y ≡ IMAGE_SIZE → named y ≡ put 4 ((v ++ r) ++ l ∷ []) y
     named_is y len =
         let vr : length (v ++ r) ≡ 32 = omega (arith, length-append v r, v_length, r_length) in
         let first : put 21 r (put 4 v y) ≡ put 4 (v ++ r) y = ap (λ (p : ℕ). put p r (put 4 v y)) (let e : 21 ≡ 4 + length v = omega (arith, v_length) in e) ∙ put_behind 4 v r y (omega (arith, v_length, r_length, len)) in
@@ -97,40 +98,40 @@ module _ (x : List ℕ) (sized : length x ≡ 2485808) where
         ∙ ap (λ (p : ℕ). put p (l ∷ []) (put 4 (v ++ r) y)) (let e : 36 ≡ 4 + length (v ++ r) = omega (arith, vr) in e)
         ∙ put_behind 4 (v ++ r) (l ∷ []) y (omega (arith, vr, len))
 
-    pub named_outside : (y : List ℕ) → length y ≡ 2485808 → SameOutside 4 33 y (named y)
+    pub named_outside : (y : List ℕ) → length y ≡ IMAGE_SIZE → SameOutside 4 33 y (named y)
     named_outside y len =
         let all : length ((v ++ r) ++ l ∷ []) ≡ 33 = omega (arith, length-append (v ++ r) (l ∷ []), length-append v r, v_length, r_length) in
         subst (λ (z : List ℕ). SameOutside 4 33 y z) (sym (named_is y len))
         (subst (λ (n : ℕ). SameOutside 4 n y (put 4 ((v ++ r) ++ l ∷ []) y)) all (put_outside 4 ((v ++ r) ++ l ∷ []) y (omega (arith, all, len))))
 
     abbrev pub cleared : List ℕ
-    cleared = put 37 (zeros 2485771) (named unversioned)
+    cleared = put 37 (zeros (IMAGE_SIZE - IDENTIFICATION.place)) (named unversioned)
 
     pub all_written : put 0 (to_be_bytes w32 1) cleared ≡ new_image v r l
     unfolding new_image
     all_written =
         let y = unversioned in
-        let y_length : length y ≡ 2485808 = version_blank.same_length ∙ sized in
+        let y_length : length y ≡ IMAGE_SIZE = version_blank.same_length ∙ sized in
         let name = (v ++ r) ++ l ∷ [] in
         let name_length : length name ≡ 33 = omega (arith, length-append (v ++ r) (l ∷ []), length-append v r, v_length, r_length) in
-        let z_length : length (zeros 2485771) ≡ 2485771 = zeros_length 2485771 in
-        let rest = name ++ zeros 2485771 in
-        let rest_length : length rest ≡ 2485804 = omega (arith, length-append name (zeros 2485771), name_length, z_length) in
+        let z_length : length (zeros (IMAGE_SIZE - IDENTIFICATION.place)) ≡ (IMAGE_SIZE - IDENTIFICATION.place) = zeros_length (IMAGE_SIZE - IDENTIFICATION.place) in
+        let rest = name ++ zeros (IMAGE_SIZE - IDENTIFICATION.place) in
+        let rest_length : length rest ≡ 2485804 = omega (arith, length-append name (zeros (IMAGE_SIZE - IDENTIFICATION.place)), name_length, z_length) in
         let at_4 : cleared ≡ put 4 rest y =
-        ap (put 37 (zeros 2485771)) (named_is y y_length) ∙ ap (λ (p : ℕ). put p (zeros 2485771) (put 4 name y)) (let e : 37 ≡ 4 + length name = omega (arith, name_length) in e)
-        ∙ put_behind 4 name (zeros 2485771) y (omega (arith, name_length, z_length, y_length)) in
+        ap (put 37 (zeros (IMAGE_SIZE - IDENTIFICATION.place))) (named_is y y_length) ∙ ap (λ (p : ℕ). put p (zeros (IMAGE_SIZE - IDENTIFICATION.place)) (put 4 name y)) (let e : 37 ≡ 4 + length name = omega (arith, name_length) in e)
+        ∙ put_behind 4 name (zeros (IMAGE_SIZE - IDENTIFICATION.place)) y (omega (arith, name_length, z_length, y_length)) in
         let at_0 : put 4 rest y ≡ put 0 (to_be_bytes w32 0 ++ rest) x = put_behind 0 (to_be_bytes w32 0) rest x (omega (arith, rest_length, sized)) in
-        let whole_length : length (to_be_bytes w32 0 ++ rest) ≡ 2485808 = omega (arith, length-append (to_be_bytes w32 0) rest, rest_length) in
+        let whole_length : length (to_be_bytes w32 0 ++ rest) ≡ IMAGE_SIZE = omega (arith, length-append (to_be_bytes w32 0) rest, rest_length) in
         let nothing : drop (0 + length (to_be_bytes w32 0 ++ rest)) x ≡ [] = drop_all (0 + length (to_be_bytes w32 0 ++ rest)) x (omega (arith, whole_length, sized)) in
         let whole : cleared ≡ to_be_bytes w32 0 ++ rest = at_4 ∙ at_0 ∙ ap (λ (t : List ℕ). (to_be_bytes w32 0 ++ rest) ++ t) nothing ∙ append-nil (to_be_bytes w32 0 ++ rest) in
         ap (put 0 (to_be_bytes w32 1)) whole
-        ∙ ap (λ (t : List ℕ). to_be_bytes w32 1 ++ t) (append_assoc (v ++ r) (l ∷ []) (zeros 2485771) ∙ append_assoc v r (l ∷ zeros 2485771))
+        ∙ ap (λ (t : List ℕ). to_be_bytes w32 1 ++ t) (append_assoc (v ++ r) (l ∷ []) (zeros (IMAGE_SIZE - IDENTIFICATION.place)) ∙ append_assoc v r (l ∷ zeros (IMAGE_SIZE - IDENTIFICATION.place)))
 
 -- the writes of the identity, one after the other
 pub part_1 : (v : List ℕ) → length v ≡ 17 → (x c : List ℕ) → IsPartlyWritten 4 v x c → SameOutside 4 33 x c
 part_1 v v_length x c part = outside_wider 4 33 4 (length v) x c part.outside (omega arith) (omega (arith, v_length))
 
-module _ (v r : List ℕ) (l : ℕ) (v_length : length v ≡ 17) (r_length : length r ≡ 15) (x : List ℕ) (sized : length x ≡ 2485808) where
+module _ (v r : List ℕ) (l : ℕ) (v_length : length v ≡ 17) (r_length : length r ≡ 15) (x : List ℕ) (sized : length x ≡ IMAGE_SIZE) where
   name_1 : SameOutside 4 33 x (put 4 v x)
   name_1 = outside_wider 4 33 4 (length v) x (put 4 v x) (put_outside 4 v x (omega (arith, v_length, sized))) (omega arith) (omega (arith, v_length))
 
@@ -145,7 +146,7 @@ module _ (v r : List ℕ) (l : ℕ) (v_length : length v ≡ 17) (r_length : len
   part_3 c part = outside_then 4 33 x (put 21 r (put 4 v x)) c name_2 (outside_wider 4 33 36 1 (put 21 r (put 4 v x)) c part.outside (omega arith) (omega arith))
 
 -- the moments of the first writes
-module _ (new x : List ℕ) (sized : length x ≡ 2485808) where
+module _ (new x : List ℕ) (sized : length x ≡ IMAGE_SIZE) where
   pub moment_1 : (c : List ℕ) → IsPartlyWritten 0 (to_be_bytes w32 0) x c → IsFormatting new x c
   moment_1 c part = ⊎_elim (λ same. inl same) (λ put. inr (inl (subst (IsBlank x) (sym put) (version_blank x sized)))) (part.whole (lit≤ tt))
 
@@ -153,7 +154,7 @@ module _ (new x : List ℕ) (sized : length x ≡ 2485808) where
   moment_2 c same = inr (inl (still_blank 4 33 x (unversioned x sized) c (version_blank x sized) (lit≤ tt) same))
 
 -- the moments of the whole
-module _ (v r : List ℕ) (l : ℕ) (v_length : length v ≡ 17) (r_length : length r ≡ 15) (x : List ℕ) (sized : length x ≡ 2485808) where
+module _ (v r : List ℕ) (l : ℕ) (v_length : length v ≡ 17) (r_length : length r ≡ 15) (x : List ℕ) (sized : length x ≡ IMAGE_SIZE) where
   abbrev new : List ℕ
   new = new_image v r l
 
@@ -164,7 +165,7 @@ module _ (v r : List ℕ) (l : ℕ) (v_length : length v ≡ 17) (r_length : len
   y2 = identified v r l y1
 
   abbrev y3 : List ℕ
-  y3 = put 37 (zeros 2485771) y2
+  y3 = put 37 (zeros (IMAGE_SIZE - IDENTIFICATION.place)) y2
 
   y2_outside : SameOutside 4 33 y1 y2
   y2_outside = named_outside x sized v r l v_length r_length y1 ((version_blank x sized).same_length ∙ sized)
@@ -173,10 +174,10 @@ module _ (v r : List ℕ) (l : ℕ) (v_length : length v ≡ 17) (r_length : len
   y2_blank = still_blank 4 33 x y1 y2 (version_blank x sized) (lit≤ tt) y2_outside
 
   y3_blank : IsBlank x y3
-  y3_blank = still_blank 37 (length (zeros 2485771)) x y2 y3 y2_blank (lit≤ tt) (put_outside 37 (zeros 2485771) y2 (omega (arith, zeros_length 2485771, y2_blank.same_length, sized)))
+  y3_blank = still_blank 37 (length (zeros (IMAGE_SIZE - IDENTIFICATION.place))) x y2 y3 y2_blank (lit≤ tt) (put_outside 37 (zeros (IMAGE_SIZE - IDENTIFICATION.place)) y2 (omega (arith, zeros_length (IMAGE_SIZE - IDENTIFICATION.place), y2_blank.same_length, sized)))
 
-  pub moment_3 : (c : List ℕ) → IsPartlyWritten 37 (zeros 2485771) y2 c → IsFormatting new x c
-  moment_3 c part = inr (inl (still_blank 37 (length (zeros 2485771)) x y2 c y2_blank (lit≤ tt) part.outside))
+  pub moment_3 : (c : List ℕ) → IsPartlyWritten 37 (zeros (IMAGE_SIZE - IDENTIFICATION.place)) y2 c → IsFormatting new x c
+  moment_3 c part = inr (inl (still_blank 37 (length (zeros (IMAGE_SIZE - IDENTIFICATION.place))) x y2 c y2_blank (lit≤ tt) part.outside))
 
   pub moment_4 : (c : List ℕ) → IsPartlyWritten 0 (to_be_bytes w32 1) y3 c → IsFormatting new x c
   moment_4 c part = ⊎_elim (λ same. inr (inl (subst (IsBlank x) (sym same) y3_blank))) (λ put. inr (inr (put ∙ all_written x sized v r l v_length r_length))) (part.whole (lit≤ tt))

@@ -1,7 +1,8 @@
 -- The image of a new unit says what the unit was told of its vehicle.
-use Rattle.std.proofs.Common.{◌≡◌, ℕ, List, ◌∷◌, ◌++◌, length, take, drop, refl, sym, ◌∙◌, ap}
+use Rattle.std.proofs.Common.{◌≡◌, ℕ, ◌-◌, List, ◌∷◌, ◌++◌, length, take, drop, refl, sym, ◌∙◌, ap}
 use Rattle.std.specs.Prelude.{slice_index}
 use Rattle.std.proofs.lemmas.List.{take_at, drop_at, drop-drop}
+use Rattle.unit_model.specs.declared.layout.TheConstants.{IDENTIFICATION, IMAGE_SIZE}
 use Rattle.unit_model.specs.NewImage.{zeros, new_image}
 use Rattle.unit_memory.specs.Identified.{IsIdentity}
 use Rattle.unit_memory.specs.declared.format.Identity.{Identity}
@@ -11,7 +12,7 @@ module _ (i : Identity) (vin_long : length i.vin ≡ 17) (registration_long : le
   x = new_image i.vin i.registration.0 i.limit
 
   abbrev behind : List ℕ
-  behind = i.limit ∷ zeros 2485771
+  behind = i.limit ∷ zeros (IMAGE_SIZE - IDENTIFICATION.place)
 
   from_vin : drop 4 x ≡ i.vin ++ (i.registration.0 ++ behind)
   unfolding new_image

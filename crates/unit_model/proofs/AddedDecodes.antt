@@ -11,6 +11,7 @@ use Rattle.gated_ring.specs.Change.{IsShortened, IsExtended}
 use Rattle.gated_ring.proofs.Listing.{staying_there}
 use Rattle.gated_ring.proofs.Orders as orders
 use Rattle.gated_ring.proofs.Orders.{rest, rest_each, order_first, order_last, each_append, each_weaker, each_filter, range_each, filter_same, map_same}
+use Rattle.unit_model.specs.declared.layout.TheConstants.{DAYS, DAY_SLOTS, DAY_SLOT_SIZE, DAY_WORDS, HIGHEST_ODOMETER, INSERTIONS, INSERTION_SLOTS, LAST_MINUTE, OVER_COUNT, PLACES, PLACE_SLOTS}
 use Rattle.unit_model.specs.Days.{word_minute, day_of, Each}
 use Rattle.unit_model.specs.Image.{last_kept, odometer_at, day_ring, slot_place, indices, slot_date, slot_odometer, slot_count, slot_words}
 use Rattle.unit_model.specs.Decoding.{check, cell_place, slot_checks, slot_day, day_checks, has_day, is_last_good, are_dense, is_filled_on, indices_before, is_date_good, word_checks}
@@ -85,45 +86,45 @@ dense_fill (false ∷ bs) b is = dense_fill bs b is
 
 -- the indices before one, in the list's order
 abbrev L : (q i : ℕ) → List ℕ
-L q i = cond (nat_le (q + 1) i) (range_with_len (q + 1) (i - (q + 1))) (range_with_len (q + 1) (366 - (q + 1)) ++ range_with_len 0 i)
+L q i = cond (nat_le (q + 1) i) (range_with_len (q + 1) (i - (q + 1))) (range_with_len (q + 1) (DAY_SLOTS - (q + 1)) ++ range_with_len 0 i)
 
-in_before : (s i : ℕ) → i < 366 → s < 366 → (b : Bool) → nat_le (s + 1) i ≡ b → orders.Each (λ j. (j < 366) × (j ≢ s)) (cond b (range_with_len (s + 1) (i - (s + 1))) (range_with_len (s + 1) (366 - (s + 1)) ++ range_with_len 0 i))
+in_before : (s i : ℕ) → i < DAY_SLOTS → s < DAY_SLOTS → (b : Bool) → nat_le (s + 1) i ≡ b → orders.Each (λ j. (j < DAY_SLOTS) × (j ≢ s)) (cond b (range_with_len (s + 1) (i - (s + 1))) (range_with_len (s + 1) (DAY_SLOTS - (s + 1)) ++ range_with_len 0 i))
 in_before s i below s_below true is =
     let le : s + 1 ≤ i = le_of (s + 1) i is in
-    range_each (λ j. (j < 366) × (j ≢ s)) (s + 1) (i - (s + 1)) (λ j low high. (omega (arith, high, below, le), λ is_s. absurd (omega (arith, low, is_s))))
+    range_each (λ j. (j < DAY_SLOTS) × (j ≢ s)) (s + 1) (i - (s + 1)) (λ j low high. (omega (arith, high, below, le), λ is_s. absurd (omega (arith, low, is_s))))
 in_before s i below s_below false is =
     let low_i : i ≤ s = omega (arith, gt_of (s + 1) i is) in
-    each_append (λ j. (j < 366) × (j ≢ s)) (range_with_len (s + 1) (366 - (s + 1))) (range_with_len 0 i)
-    (range_each (λ j. (j < 366) × (j ≢ s)) (s + 1) (366 - (s + 1)) (λ j low high. (omega (arith, high, s_below), λ is_s. absurd (omega (arith, low, is_s)))))
-    (range_each (λ j. (j < 366) × (j ≢ s)) 0 i (λ j low high. (omega (arith, high, below), λ is_s. absurd (omega (arith, high, low_i, is_s)))))
+    each_append (λ j. (j < DAY_SLOTS) × (j ≢ s)) (range_with_len (s + 1) (DAY_SLOTS - (s + 1))) (range_with_len 0 i)
+    (range_each (λ j. (j < DAY_SLOTS) × (j ≢ s)) (s + 1) (DAY_SLOTS - (s + 1)) (λ j low high. (omega (arith, high, s_below), λ is_s. absurd (omega (arith, low, is_s)))))
+    (range_each (λ j. (j < DAY_SLOTS) × (j ≢ s)) 0 i (λ j low high. (omega (arith, high, below), λ is_s. absurd (omega (arith, high, low_i, is_s)))))
 
 -- the indices before one, where the pointer goes on by one
-shift_on : (p j : ℕ) → p + 1 < 366 → j ≢ p + 1 → L p j ≡ (p + 1) ∷ L (p + 1) j
+shift_on : (p j : ℕ) → p + 1 < DAY_SLOTS → j ≢ p + 1 → L p j ≡ (p + 1) ∷ L (p + 1) j
 shift_on p j less other = by (nat_le (p + 1) j) refl
   where
-    by : (b : Bool) → nat_le (p + 1) j ≡ b → cond b (range_with_len (p + 1) (j - (p + 1))) (range_with_len (p + 1) (366 - (p + 1)) ++ range_with_len 0 j) ≡ (p + 1) ∷ L (p + 1) j
+    by : (b : Bool) → nat_le (p + 1) j ≡ b → cond b (range_with_len (p + 1) (j - (p + 1))) (range_with_len (p + 1) (DAY_SLOTS - (p + 1)) ++ range_with_len 0 j) ≡ (p + 1) ∷ L (p + 1) j
     by true is =
         let le : p + 1 ≤ j = le_of (p + 1) j is in
         let more : p + 1 + 1 ≤ j = omega (arith, le, other) in
         let len : j - (p + 1) ≡ suc (j - (p + 1 + 1)) = omega (arith, more) in
         ap (range_with_len (p + 1)) len
-        ∙ sym (ap (λ (b : Bool). (p + 1) ∷ cond b (range_with_len (p + 1 + 1) (j - (p + 1 + 1))) (range_with_len (p + 1 + 1) (366 - (p + 1 + 1)) ++ range_with_len 0 j)) (le_true (p + 1 + 1) j more))
+        ∙ sym (ap (λ (b : Bool). (p + 1) ∷ cond b (range_with_len (p + 1 + 1) (j - (p + 1 + 1))) (range_with_len (p + 1 + 1) (DAY_SLOTS - (p + 1 + 1)) ++ range_with_len 0 j)) (le_true (p + 1 + 1) j more))
     by false is =
         let gt : j < p + 1 = gt_of (p + 1) j is in
-        let len : 366 - (p + 1) ≡ suc (366 - (p + 1 + 1)) = omega (arith, less) in
+        let len : DAY_SLOTS - (p + 1) ≡ suc (DAY_SLOTS - (p + 1 + 1)) = omega (arith, less) in
         ap (λ (n : ℕ). range_with_len (p + 1) n ++ range_with_len 0 j) len
-        ∙ sym (ap (λ (b : Bool). (p + 1) ∷ cond b (range_with_len (p + 1 + 1) (j - (p + 1 + 1))) (range_with_len (p + 1 + 1) (366 - (p + 1 + 1)) ++ range_with_len 0 j)) (le_false (p + 1 + 1) j (omega (arith, gt))))
+        ∙ sym (ap (λ (b : Bool). (p + 1) ∷ cond b (range_with_len (p + 1 + 1) (j - (p + 1 + 1))) (range_with_len (p + 1 + 1) (DAY_SLOTS - (p + 1 + 1)) ++ range_with_len 0 j)) (le_false (p + 1 + 1) j (omega (arith, gt))))
 
-shift_round : (j : ℕ) → j < 366 → j ≢ 0 → L 365 j ≡ 0 ∷ L 0 j
+shift_round : (j : ℕ) → j < DAY_SLOTS → j ≢ 0 → L (DAY_SLOTS - 1) j ≡ 0 ∷ L 0 j
 shift_round j below other =
-    let off : nat_le 366 j ≡ false = le_false 366 j below in
+    let off : nat_le DAY_SLOTS j ≡ false = le_false DAY_SLOTS j below in
     let on : nat_le 1 j ≡ true = le_true 1 j (omega (arith, other)) in
     let len : j ≡ suc (j - 1) = omega (arith, other) in
-    ap (λ (b : Bool). cond b (range_with_len 366 (j - 366)) (range_with_len 0 j)) off ∙ ap (range_with_len 0) len
-    ∙ sym (ap (λ (b : Bool). 0 ∷ cond b (range_with_len 1 (j - 1)) (range_with_len 1 365 ++ range_with_len 0 j)) on)
+    ap (λ (b : Bool). cond b (range_with_len DAY_SLOTS (j - DAY_SLOTS)) (range_with_len 0 j)) off ∙ ap (range_with_len 0) len
+    ∙ sym (ap (λ (b : Bool). 0 ∷ cond b (range_with_len 1 (j - 1)) (range_with_len 1 (DAY_SLOTS - 1) ++ range_with_len 0 j)) on)
 
-shift : (p t j : ℕ) → p < 366 → t ≡ next day_ring p → j < 366 → j ≢ t → L p j ≡ t ∷ L t j
-shift p t j known is below other = by (p + 1 == 366) refl is
+shift : (p t j : ℕ) → p < DAY_SLOTS → t ≡ next day_ring p → j < DAY_SLOTS → j ≢ t → L p j ≡ t ∷ L t j
+shift p t j known is below other = by (p + 1 == DAY_SLOTS) refl is
   where
     eq_of : (a b : ℕ) → (a == b) ≡ true → a ≡ b
     eq_of a b same = grind (arith, nat_tests)
@@ -131,12 +132,12 @@ shift p t j known is below other = by (p + 1 == 366) refl is
     ne_of : (a b : ℕ) → (a == b) ≡ false → a ≢ b
     ne_of a b isnt = grind (arith, nat_tests)
 
-    by : (b : Bool) → (p + 1 == 366) ≡ b → t ≡ cond b 0 (p + 1) → L p j ≡ t ∷ L t j
+    by : (b : Bool) → (p + 1 == DAY_SLOTS) ≡ b → t ≡ cond b 0 (p + 1) → L p j ≡ t ∷ L t j
     by true last t_is =
-        let p_is : p ≡ 365 = omega (arith, eq_of (p + 1) 366 last) in
+        let p_is : p ≡ (DAY_SLOTS - 1) = omega (arith, eq_of (p + 1) DAY_SLOTS last) in
         ap (λ (q : ℕ). L q j) p_is ∙ shift_round j below (λ zero_j. other (zero_j ∙ sym t_is)) ∙ sym (ap (λ (q : ℕ). q ∷ L q j) t_is)
     by false more t_is =
-        let ne : p + 1 ≢ 366 = ne_of (p + 1) 366 more in
+        let ne : p + 1 ≢ DAY_SLOTS = ne_of (p + 1) DAY_SLOTS more in
         shift_on p j (omega (arith, ne, known)) (λ at. other (at ∙ sym t_is)) ∙ sym (ap (λ (q : ℕ). q ∷ L q j) t_is)
 
 -- a date is no worse without the first of those before it
@@ -189,13 +190,13 @@ map_cond f true d js = refl
 map_cond f false d js = refl
 
 entry_date : (x : List ℕ) (j : ℕ) → number_at (entry_at day_ring x j) 0 4 ≡ slot_date x j
-entry_date x j = number_in x (slot_place j) 5776 0 4 (omega arith) ∙ ap (λ (p : ℕ). number_at x p 4) (omega arith)
+entry_date x j = number_in x (slot_place j) DAY_SLOT_SIZE 0 4 (omega arith) ∙ ap (λ (p : ℕ). number_at x p 4) (omega arith)
 
 dates_each : (x : List ℕ) (a : ℕ) (js : List ℕ) → Each (λ d. day_of d ≤ a) (map (day_at x) js) → orders.Each (λ j. slot_date x j / 86400 ≤ a) js
 dates_each x a [] all = tt
 dates_each x a (j ∷ js) all = (omega (arith, all.0, entry_date x j), dates_each x a js all.1)
 
-module _ (x c : List ℕ) (known : pointer day_ring x < 366) (others : (j : ℕ) → j < 366 → j ≢ taken day_ring x → (entry_at day_ring c j ≡ entry_at day_ring x j) × (is_there day_ring c j ≡ is_there day_ring x j))
+module _ (x c : List ℕ) (known : pointer day_ring x < DAY_SLOTS) (others : (j : ℕ) → j < DAY_SLOTS → j ≢ taken day_ring x → (entry_at day_ring c j ≡ entry_at day_ring x j) × (is_there day_ring c j ≡ is_there day_ring x j))
     (which : (pointer day_ring c ≡ pointer day_ring x) ⊎ (pointer day_ring c ≡ taken day_ring x)) (kept : last_kept c ≡ last_kept x) where
   abbrev t : ℕ
   t = taken day_ring x
@@ -215,11 +216,11 @@ module _ (x c : List ℕ) (known : pointer day_ring x < 366) (others : (j : ℕ)
   chosen : Chosen
   chosen = Rattle.gated_ring.proofs.Listing.taken_chosen day_ring x
 
-  t_below : t < 366
+  t_below : t < DAY_SLOTS
   t_below = taken_below x known
 
   abbrev Other : ℕ → Type 0
-  Other j = (j < 366) × (j ≢ t)
+  Other j = (j < DAY_SLOTS) × (j ≢ t)
 
   there_each : (js : List ℕ) → orders.Each Other js → orders.Each (λ j. is_there day_ring c j ≡ is_there day_ring x j) js
   there_each js each = each_weaker Other (λ j. is_there day_ring c j ≡ is_there day_ring x j) js (λ j other. (others j other.0 other.1).1) each
@@ -274,17 +275,17 @@ module _ (x c : List ℕ) (known : pointer day_ring x < 366) (others : (j : ℕ)
   abbrev X : ℕ → List ℕ
   X j = filter (is_there day_ring x) (L t j)
 
-  L_each : (j : ℕ) → j < 366 → orders.Each Other (L t j)
+  L_each : (j : ℕ) → j < DAY_SLOTS → orders.Each Other (L t j)
   L_each j below = in_before t j below t_below (nat_le (t + 1) j) refl
 
-  kept_X : (j : ℕ) → j < 366 → filter (is_there day_ring c) (L t j) ≡ X j
+  kept_X : (j : ℕ) → j < DAY_SLOTS → filter (is_there day_ring c) (L t j) ≡ X j
   kept_X j below = filter_same (is_there day_ring x) (is_there day_ring c) (L t j) (there_each (L t j) (L_each j below))
 
-  before_x : (j : ℕ) → j < 366 → j ≢ t → Chosen → (b : Bool) × (indices_before x j ≡ cond b (t ∷ X j) (X j))
+  before_x : (j : ℕ) → j < DAY_SLOTS → j ≢ t → Chosen → (b : Bool) × (indices_before x j ≡ cond b (t ∷ X j) (X j))
   before_x j below other (inl first) = (is_there day_ring x t, ap (filter (is_there day_ring x)) (shift p t j known first.1 below other))
   before_x j below other (inr last) = (false, ap (λ (q : ℕ). filter (is_there day_ring x) (L q j)) (sym last.1))
 
-  before_c : (j : ℕ) → j < 366 → j ≢ t → (is_there day_ring c t ≡ false) ⊎ (pointer day_ring c ≡ t) → Chosen → (pointer day_ring c ≡ p) ⊎ (pointer day_ring c ≡ t) → indices_before c j ≡ X j
+  before_c : (j : ℕ) → j < DAY_SLOTS → j ≢ t → (is_there day_ring c t ≡ false) ⊎ (pointer day_ring c ≡ t) → Chosen → (pointer day_ring c ≡ p) ⊎ (pointer day_ring c ≡ t) → indices_before c j ≡ X j
   before_c j below other turned taken_is (inr moved) = ap (λ (q : ℕ). filter (is_there day_ring c) (L q j)) moved ∙ kept_X j below
   before_c j below other turned (inr last) (inl same) = ap (λ (q : ℕ). filter (is_there day_ring c) (L q j)) (same ∙ sym last.1) ∙ kept_X j below
   before_c j below other (inr moved) (inl first) (inl same) = ap (λ (q : ℕ). filter (is_there day_ring c) (L q j)) moved ∙ kept_X j below
@@ -292,10 +293,10 @@ module _ (x c : List ℕ) (known : pointer day_ring x < 366) (others : (j : ℕ)
       ap (λ (q : ℕ). filter (is_there day_ring c) (L q j)) same ∙ ap (filter (is_there day_ring c)) (shift p t j known first.1 below other)
       ∙ ap (λ (b : Bool). cond b (t ∷ filter (is_there day_ring c) (L t j)) (filter (is_there day_ring c) (L t j))) shut ∙ kept_X j below
 
-  dates_X : (j : ℕ) → j < 366 → map (slot_date c) (X j) ≡ map (slot_date x) (X j)
+  dates_X : (j : ℕ) → j < DAY_SLOTS → map (slot_date c) (X j) ≡ map (slot_date x) (X j)
   dates_X j below = map_same (slot_date x) (slot_date c) (X j) (each_filter (λ i. slot_date c i ≡ slot_date x i) (is_there day_ring x) (L t j) (each_weaker Other (λ i. slot_date c i ≡ slot_date x i) (L t j) date_same (L_each j below)))
 
-  date_other : (j : ℕ) → j < 366 → j ≢ t → (is_there day_ring c t ≡ false) ⊎ (pointer day_ring c ≡ t)
+  date_other : (j : ℕ) → j < DAY_SLOTS → j ≢ t → (is_there day_ring c t ≡ false) ⊎ (pointer day_ring c ≡ t)
       → is_date_good (last_kept x) (map (slot_date x) (indices_before x j)) (slot_date x j) ≡ true → is_date_good (last_kept c) (map (slot_date c) (indices_before c j)) (slot_date c j) ≡ true
   date_other j below other turned good =
       let before = before_x j below other chosen in
@@ -304,44 +305,44 @@ module _ (x c : List ℕ) (known : pointer day_ring x < 366) (others : (j : ℕ)
       ∙ date_less (last_kept x) before.0 (slot_date x t) (map (slot_date x) (X j)) (slot_date x j)
       (ap (λ (ds : List ℕ). is_date_good (last_kept x) ds (slot_date x j)) (sym (ap (map (slot_date x)) before.1 ∙ map_cond (slot_date x) before.0 t (X j))) ∙ good)
 
-  slot_other : (j : ℕ) → j < 366 → j ≢ t → (is_there day_ring c t ≡ false) ⊎ (pointer day_ring c ≡ t) → list_all passes (slot_checks x j) ≡ true → list_all passes (slot_checks c j) ≡ true
+  slot_other : (j : ℕ) → j < DAY_SLOTS → j ≢ t → (is_there day_ring c t ≡ false) ⊎ (pointer day_ring c ≡ t) → list_all passes (slot_checks x j) ≡ true → list_all passes (slot_checks c j) ≡ true
   slot_other j below other turned = slot_by x c j (others j below other).1 (λ day. entry_as x c j (others j below other).0 (date_other j below other turned day.date) day)
 
   -- all but what stands in the slot that is taken
-  all_good : SameOutside 1024 2114020 x c → (b : Bool) → is_there day_ring c t ≡ b → (b ≡ false) ⊎ (pointer day_ring c ≡ t) → is_last_good c (pointer day_ring c) (indices c) ≡ true
-      → list_all passes (slot_checks c t) ≡ true → (last_kept c == 0 || has_day c (last_kept c / 1440)) ≡ true → last_kept c ≤ 71582788 → odometer_at c ≤ 9999999 → IsGood x → IsGood c
+  all_good : SameOutside DAYS.place DAYS.size x c → (b : Bool) → is_there day_ring c t ≡ b → (b ≡ false) ⊎ (pointer day_ring c ≡ t) → is_last_good c (pointer day_ring c) (indices c) ≡ true
+      → list_all passes (slot_checks c t) ≡ true → (last_kept c == 0 || has_day c (last_kept c / 1440)) ≡ true → last_kept c ≤ LAST_MINUTE → odometer_at c ≤ HIGHEST_ODOMETER → IsGood x → IsGood c
   all_good same b is turned last here today low far good =
-      let a = nat_lt p 366 in
+      let a = nat_lt p DAY_SLOTS in
       let d = are_dense (map (is_there day_ring x) (order day_ring (next day_ring p))) in
       let l = is_last_good x p (indices x) in
       let dense : Dense x p = (and_split d l (and_split a (d && l) good.point).1).0 in
       let q = pointer day_ring c in
-      let q_below : q < 366 = ⊎_elim (λ at. omega (arith, at, known)) (λ at. omega (arith, at, t_below)) which in
+      let q_below : q < DAY_SLOTS = ⊎_elim (λ at. omega (arith, at, known)) (λ at. omega (arith, at, t_below)) which in
       let turned_c : (is_there day_ring c t ≡ false) ⊎ (q ≡ t) = ⊎_elim (λ shut. inl (is ∙ shut)) (λ moved. inr moved) turned in
       record {
-        front = front_by x c (number_before 1024 2114020 0 4 x c same (omega arith)) (number_before 1024 2114020 576 4 x c same (omega arith)) low far today good.front;
-        cells = λ n below. (λ i. number_before 1024 2114020 (cell_place n) 4 x c same (omega (arith, below)) i == 0 || nat_lt (word_minute (number_before 1024 2114020 (cell_place n + 4) 2 x c same (omega (arith, below)) i)) 1440) ∙ good.cells n below;
-        point = and_join (nat_lt q 366) (are_dense (map (is_there day_ring c) (order day_ring (next day_ring q))) && is_last_good c q (indices c)) (lt_true q 366 q_below)
+        front = front_by x c (number_before DAYS.place DAYS.size 0 4 x c same (omega arith)) (number_before DAYS.place DAYS.size OVER_COUNT.place OVER_COUNT.size x c same (omega arith)) low far today good.front;
+        cells = λ n below. (λ i. number_before DAYS.place DAYS.size (cell_place n) 4 x c same (omega (arith, below)) i == 0 || nat_lt (word_minute (number_before DAYS.place DAYS.size (cell_place n + 4) 2 x c same (omega (arith, below)) i)) 1440) ∙ good.cells n below;
+        point = and_join (nat_lt q DAY_SLOTS) (are_dense (map (is_there day_ring c) (order day_ring (next day_ring q))) && is_last_good c q (indices c)) (lt_true q DAY_SLOTS q_below)
             (and_join (are_dense (map (is_there day_ring c) (order day_ring (next day_ring q)))) (is_last_good c q (indices c)) (added_dense b is turned dense) last);
         slots = λ j below. slot_at j below turned_c (good.slots j below) (cases_eq j t);
-        rings = (λ i. list_all passes (check 2115044 (nat_lt (number_after 1024 2114020 2115044 4 x c same (omega arith) i) 2048) ∷ check 2379240 (nat_lt (number_after 1024 2114020 2379240 4 x c same (omega arith) i) 255) ∷ [])) ∙ good.rings;
+        rings = (λ i. list_all passes (check INSERTIONS.place (nat_lt (number_after DAYS.place DAYS.size INSERTIONS.place 4 x c same (omega arith) i) INSERTION_SLOTS) ∷ check PLACES.place (nat_lt (number_after DAYS.place DAYS.size PLACES.place 4 x c same (omega arith) i) PLACE_SLOTS) ∷ [])) ∙ good.rings;
       }
     where
-      slot_at : (j : ℕ) → j < 366 → (is_there day_ring c t ≡ false) ⊎ (pointer day_ring c ≡ t) → list_all passes (slot_checks x j) ≡ true → (j ≡ t) ⊎ (j ≢ t) → list_all passes (slot_checks c j) ≡ true
+      slot_at : (j : ℕ) → j < DAY_SLOTS → (is_there day_ring c t ≡ false) ⊎ (pointer day_ring c ≡ t) → list_all passes (slot_checks x j) ≡ true → (j ≡ t) ⊎ (j ≢ t) → list_all passes (slot_checks c j) ≡ true
       slot_at j below turned_c good_j (inl at) = ap (λ (i : ℕ). list_all passes (slot_checks c i)) at ∙ here
       slot_at j below turned_c good_j (inr other) = slot_other j below other turned_c good_j
 
   -- a day of the last-kept minute that stays
-  today_still : (last_kept x ≡ 0) ⊎ ((i : ℕ) × (i < 366) × (i ≢ t) × (is_there day_ring x i ≡ true) × (slot_date x i / 86400 ≡ last_kept x / 1440)) → (last_kept c == 0 || has_day c (last_kept c / 1440)) ≡ true
+  today_still : (last_kept x ≡ 0) ⊎ ((i : ℕ) × (i < DAY_SLOTS) × (i ≢ t) × (is_there day_ring x i ≡ true) × (slot_date x i / 86400 ≡ last_kept x / 1440)) → (last_kept c == 0 || has_day c (last_kept c / 1440)) ≡ true
   today_still (inl none) = ap (λ (b : Bool). b || has_day c (last_kept c / 1440)) (eq_true (last_kept c) 0 (kept ∙ none))
   today_still (inr (i, below, other, there, day)) =
       or_right (last_kept c == 0) (has_day c (last_kept c / 1440))
-      (any_at (λ j. is_there day_ring c j && slot_day c j == last_kept c / 1440) 0 366 i (omega arith) (omega (arith, below))
+      (any_at (λ j. is_there day_ring c j && slot_day c j == last_kept c / 1440) 0 DAY_SLOTS i (omega arith) (omega (arith, below))
       (and_join (is_there day_ring c i) (slot_day c i == last_kept c / 1440) ((others i below other).1 ∙ there) (eq_true (slot_day c i) (last_kept c / 1440) (omega (arith, date_same i (below, other), day, kept)))))
 
   -- the oldest is gone, or none was there
-  pub shut_good : SameOutside 1024 2114020 x c → IsShortened day_ring x c → Each (λ d. day_of d ≤ last_kept x / 1440) (map (day_at x) F)
-      → (last_kept x ≡ 0) ⊎ ((i : ℕ) × (i < 366) × (i ≢ t) × (is_there day_ring x i ≡ true) × (slot_date x i / 86400 ≡ last_kept x / 1440)) → last_kept c ≤ 71582788 → odometer_at c ≤ 9999999 → IsGood x → IsGood c
+  pub shut_good : SameOutside DAYS.place DAYS.size x c → IsShortened day_ring x c → Each (λ d. day_of d ≤ last_kept x / 1440) (map (day_at x) F)
+      → (last_kept x ≡ 0) ⊎ ((i : ℕ) × (i < DAY_SLOTS) × (i ≢ t) × (is_there day_ring x i ≡ true) × (slot_date x i / 86400 ≡ last_kept x / 1440)) → last_kept c ≤ LAST_MINUTE → odometer_at c ≤ HIGHEST_ODOMETER → IsGood x → IsGood c
   unfolding indices
   shut_good same s days today low far good =
       let F_each : orders.Each Other F = each_filter Other (is_there day_ring x) R R_each in
@@ -354,9 +355,9 @@ module _ (x c : List ℕ) (known : pointer day_ring x < 366) (others : (j : ℕ)
       both_each (j ∷ js) all low_all = (omega (arith, date_same j all.0, kept, low_all.0), both_each js all.1 low_all.1)
 
   -- the new day is there
-  pub open_good : SameOutside 1024 2114020 x c → (head : List ℕ) → IsExtended day_ring head x c → Each (λ d. day_of d ≤ last_kept x / 1440) (map (day_at x) F)
-      → (last_kept x ≡ 0) ⊎ ((i : ℕ) × (i < 366) × (i ≢ t) × (is_there day_ring x i ≡ true) × (slot_date x i / 86400 ≡ last_kept x / 1440)) → last_kept c ≤ 71582788 → odometer_at c ≤ 9999999
-      → slot_date c t % 86400 ≡ 0 → last_kept x / 1440 < slot_date c t / 86400 → slot_odometer c t ≤ 9999999 → slot_count c t ≡ 2 → list_all passes (word_checks (slot_place t + 16) [] (slot_words c t 2)) ≡ true → IsGood x → IsGood c
+  pub open_good : SameOutside DAYS.place DAYS.size x c → (head : List ℕ) → IsExtended day_ring head x c → Each (λ d. day_of d ≤ last_kept x / 1440) (map (day_at x) F)
+      → (last_kept x ≡ 0) ⊎ ((i : ℕ) × (i < DAY_SLOTS) × (i ≢ t) × (is_there day_ring x i ≡ true) × (slot_date x i / 86400 ≡ last_kept x / 1440)) → last_kept c ≤ LAST_MINUTE → odometer_at c ≤ HIGHEST_ODOMETER
+      → slot_date c t % 86400 ≡ 0 → last_kept x / 1440 < slot_date c t / 86400 → slot_odometer c t ≤ HIGHEST_ODOMETER → slot_count c t ≡ 2 → list_all passes (word_checks (slot_place t + DAY_WORDS.place) [] (slot_words c t 2)) ≡ true → IsGood x → IsGood c
   unfolding indices
   open_good same head e days today low far whole later odometer count words good =
       let F_each : orders.Each Other F = each_filter Other (is_there day_ring x) R R_each in
@@ -370,10 +371,10 @@ module _ (x c : List ℕ) (known : pointer day_ring x < 366) (others : (j : ℕ)
       ∙ date_new (last_kept x) (map (slot_date x) F) (slot_date c t) whole later (each_map (λ d. d / 86400 ≤ last_kept x / 1440) (slot_date x) F (dates_each x (last_kept x / 1440) F days)) in
       let day : DayPasses c t = record {
         date = date;
-        odometer = le_true (slot_odometer c t) 9999999 odometer;
+        odometer = le_true (slot_odometer c t) HIGHEST_ODOMETER odometer;
         low = omega (arith, count);
         high = omega (arith, count);
-        words = ap (λ (n : ℕ). list_all passes (word_checks (slot_place t + 16) [] (slot_words c t n))) count ∙ words;
+        words = ap (λ (n : ℕ). list_all passes (word_checks (slot_place t + DAY_WORDS.place) [] (slot_words c t n))) count ∙ words;
       } in
       all_good same true e.there (inr e.pointer_is)
       ((λ i. is_last_good c (e.pointer_is i) ((e.indices_are ∙ ap (λ (js : List ℕ). js ++ t ∷ []) (staying_there day_ring x known)) i)) ∙ last_good_at c t F t
@@ -382,4 +383,4 @@ module _ (x c : List ℕ) (known : pointer day_ring x < 366) (others : (j : ℕ)
 
 -- a day of the last-kept minute that stays while a new one is added
 abbrev pub HasToday : List ℕ → Type 0
-HasToday x = (last_kept x ≡ 0) ⊎ ((i : ℕ) × (i < 366) × (i ≢ taken day_ring x) × (is_there day_ring x i ≡ true) × (slot_date x i / 86400 ≡ last_kept x / 1440))
+HasToday x = (last_kept x ≡ 0) ⊎ ((i : ℕ) × (i < DAY_SLOTS) × (i ≢ taken day_ring x) × (is_there day_ring x i ≡ true) × (slot_date x i / 86400 ≡ last_kept x / 1440))

@@ -5,7 +5,7 @@ use Rattle.std.specs.List.{list_all, range_with_len}
 use Rattle.std.proofs.lemmas.Bool.{cases_lt}
 use Rattle.std.proofs.lemmas.Bool.Decides.{nat_tests}
 use Rattle.std.proofs.lemmas.List.Folds.{list_all-append}
-use Rattle.unit_model.specs.declared.layout.TheConstants.{VERSION, OVER_COUNT}
+use Rattle.unit_model.specs.declared.layout.TheConstants.{DAYS, DAY_SLOTS, HIGHEST_ODOMETER, LAST_MINUTE, MOST_OVERS, OVER_COUNT, VERSION}
 use Rattle.unit_model.specs.Image.{number_of, last_kept, odometer_at}
 use Rattle.unit_model.specs.Decoding.{Check, check, front_checks, cell_check, cell_checks, ring_checks, slot_checks, is_pointer_good, has_day, checks, Decodes}
 
@@ -68,15 +68,15 @@ pub record IsGood (x : List ℕ) : Type 0 where
   pub front : list_all passes (front_checks x) ≡ true
   pub cells : (n : ℕ) → n < 32 → (cell_check x n).passes ≡ true
   pub point : is_pointer_good x ≡ true
-  pub slots : (i : ℕ) → i < 366 → list_all passes (slot_checks x i) ≡ true
+  pub slots : (i : ℕ) → i < DAY_SLOTS → list_all passes (slot_checks x i) ≡ true
   pub rings : list_all passes (ring_checks x) ≡ true
 
 module _ (x : List ℕ) where
   abbrev S : List Check
-  S = flat_map (slot_checks x) (range_with_len 0 366)
+  S = flat_map (slot_checks x) (range_with_len 0 DAY_SLOTS)
 
   abbrev P : Check
-  P = check 1024 (is_pointer_good x)
+  P = check DAYS.place (is_pointer_good x)
 
   pub good_of : Decodes x → IsGood x
   unfolding checks Decodes
@@ -89,7 +89,7 @@ module _ (x : List ℕ) where
         front = front.0;
         cells = λ n below. map_each (cell_check x) 0 32 cells.0 n (omega arith) (omega (arith, below));
         point = point.0;
-        slots = λ i below. flat_each (slot_checks x) 0 366 slots.0 i (omega arith) (omega (arith, below));
+        slots = λ i below. flat_each (slot_checks x) 0 DAY_SLOTS slots.0 i (omega arith) (omega (arith, below));
         rings = slots.1;
       }
 
@@ -99,21 +99,21 @@ module _ (x : List ℕ) where
       append_join (front_checks x) (cell_checks x ++ (P ∷ (S ++ ring_checks x))) good.front
       (append_join (cell_checks x) (P ∷ (S ++ ring_checks x)) (map_all (cell_check x) 0 32 (λ n low high. good.cells n (omega (arith, high))))
       (and_join (is_pointer_good x) (list_all passes (S ++ ring_checks x)) good.point
-      (append_join S (ring_checks x) (flat_all (slot_checks x) 0 366 (λ i low high. good.slots i (omega (arith, high)))) good.rings)))
+      (append_join S (ring_checks x) (flat_all (slot_checks x) 0 DAY_SLOTS (λ i low high. good.slots i (omega (arith, high)))) good.rings)))
 
 -- the first fields, where no number of them has changed and the last-kept minute's day is there as before
 abbrev front_of : (version kept : ℕ) (today : Bool) (odometer overs : ℕ) → Bool
-front_of version kept today odometer overs = (version == 1) && ((nat_le kept 71582788 && (kept == 0 || today)) && (nat_le odometer 9999999 && (nat_le overs 255 && true)))
+front_of version kept today odometer overs = (version == 1) && ((nat_le kept LAST_MINUTE && (kept == 0 || today)) && (nat_le odometer HIGHEST_ODOMETER && (nat_le overs MOST_OVERS && true)))
 
 front_more : (version kept : ℕ) (today today' : Bool) (odometer overs : ℕ) → (today ≡ true → today' ≡ true) → front_of version kept today odometer overs ≡ true → front_of version kept today' odometer overs ≡ true
 front_more version kept today today' odometer overs more all =
-    let rest : Bool = nat_le odometer 9999999 && (nat_le overs 255 && true) in
-    let first = and_split (version == 1) ((nat_le kept 71582788 && (kept == 0 || today)) && rest) all in
-    let second = and_split (nat_le kept 71582788 && (kept == 0 || today)) rest first.1 in
-    let kept_good = and_split (nat_le kept 71582788) (kept == 0 || today) second.0 in
-    and_join (version == 1) ((nat_le kept 71582788 && (kept == 0 || today')) && rest) first.0
-    (and_join (nat_le kept 71582788 && (kept == 0 || today')) rest
-    (and_join (nat_le kept 71582788) (kept == 0 || today') kept_good.0 (or_more (kept == 0) today today' more kept_good.1)) second.1)
+    let rest : Bool = nat_le odometer HIGHEST_ODOMETER && (nat_le overs MOST_OVERS && true) in
+    let first = and_split (version == 1) ((nat_le kept LAST_MINUTE && (kept == 0 || today)) && rest) all in
+    let second = and_split (nat_le kept LAST_MINUTE && (kept == 0 || today)) rest first.1 in
+    let kept_good = and_split (nat_le kept LAST_MINUTE) (kept == 0 || today) second.0 in
+    and_join (version == 1) ((nat_le kept LAST_MINUTE && (kept == 0 || today')) && rest) first.0
+    (and_join (nat_le kept LAST_MINUTE && (kept == 0 || today')) rest
+    (and_join (nat_le kept LAST_MINUTE) (kept == 0 || today') kept_good.0 (or_more (kept == 0) today today' more kept_good.1)) second.1)
 
 pub front_still : (x c : List ℕ) → number_of c VERSION ≡ number_of x VERSION → last_kept c ≡ last_kept x → odometer_at c ≡ odometer_at x → number_of c OVER_COUNT ≡ number_of x OVER_COUNT
     → (has_day x (last_kept x / 1440) ≡ true → has_day c (last_kept x / 1440) ≡ true) → list_all passes (front_checks x) ≡ true → list_all passes (front_checks c) ≡ true
@@ -125,39 +125,39 @@ front_still x c version kept odometer overs today all =
 pub front_today : (x : List ℕ) → list_all passes (front_checks x) ≡ true → (last_kept x == 0 || has_day x (last_kept x / 1440)) ≡ true
 front_today x all =
     let k = last_kept x in
-    let good = nat_le k 71582788 && (k == 0 || has_day x (k / 1440)) in
-    let rest : Bool = nat_le (odometer_at x) 9999999 && (nat_le (number_of x OVER_COUNT) 255 && true) in
+    let good = nat_le k LAST_MINUTE && (k == 0 || has_day x (k / 1440)) in
+    let rest : Bool = nat_le (odometer_at x) HIGHEST_ODOMETER && (nat_le (number_of x OVER_COUNT) MOST_OVERS && true) in
     let second = and_split good rest (and_split (number_of x VERSION == 1) (good && rest) all).1 in
-    (and_split (nat_le k 71582788) (k == 0 || has_day x (k / 1440)) second.0).1
+    (and_split (nat_le k LAST_MINUTE) (k == 0 || has_day x (k / 1440)) second.0).1
 
-pub front_by : (x c : List ℕ) → number_of c VERSION ≡ number_of x VERSION → number_of c OVER_COUNT ≡ number_of x OVER_COUNT → last_kept c ≤ 71582788 → odometer_at c ≤ 9999999
+pub front_by : (x c : List ℕ) → number_of c VERSION ≡ number_of x VERSION → number_of c OVER_COUNT ≡ number_of x OVER_COUNT → last_kept c ≤ LAST_MINUTE → odometer_at c ≤ HIGHEST_ODOMETER
     → (last_kept c == 0 || has_day c (last_kept c / 1440)) ≡ true → list_all passes (front_checks x) ≡ true → list_all passes (front_checks c) ≡ true
 front_by x c version overs kept odometer today all =
     let k = last_kept x in
-    let good = nat_le k 71582788 && (k == 0 || has_day x (k / 1440)) in
-    let rest : Bool = nat_le (odometer_at x) 9999999 && (nat_le (number_of x OVER_COUNT) 255 && true) in
+    let good = nat_le k LAST_MINUTE && (k == 0 || has_day x (k / 1440)) in
+    let rest : Bool = nat_le (odometer_at x) HIGHEST_ODOMETER && (nat_le (number_of x OVER_COUNT) MOST_OVERS && true) in
     let first = and_split (number_of x VERSION == 1) (good && rest) all in
     let second = and_split good rest first.1 in
-    let third = and_split (nat_le (odometer_at x) 9999999) (nat_le (number_of x OVER_COUNT) 255 && true) second.1 in
-    let now = nat_le (last_kept c) 71582788 && (last_kept c == 0 || has_day c (last_kept c / 1440)) in
-    let overs_now : Bool = nat_le (number_of c OVER_COUNT) 255 && true in
-    and_join (number_of c VERSION == 1) (now && (nat_le (odometer_at c) 9999999 && overs_now)) (ap (λ (n : ℕ). n == 1) version ∙ first.0)
-    (and_join now (nat_le (odometer_at c) 9999999 && overs_now) (and_join (nat_le (last_kept c) 71582788) (last_kept c == 0 || has_day c (last_kept c / 1440)) (le_true (last_kept c) 71582788 kept) today)
-    (and_join (nat_le (odometer_at c) 9999999) overs_now (le_true (odometer_at c) 9999999 odometer) (ap (λ (n : ℕ). nat_le n 255 && true) overs ∙ third.1)))
+    let third = and_split (nat_le (odometer_at x) HIGHEST_ODOMETER) (nat_le (number_of x OVER_COUNT) MOST_OVERS && true) second.1 in
+    let now = nat_le (last_kept c) LAST_MINUTE && (last_kept c == 0 || has_day c (last_kept c / 1440)) in
+    let overs_now : Bool = nat_le (number_of c OVER_COUNT) MOST_OVERS && true in
+    and_join (number_of c VERSION == 1) (now && (nat_le (odometer_at c) HIGHEST_ODOMETER && overs_now)) (ap (λ (n : ℕ). n == 1) version ∙ first.0)
+    (and_join now (nat_le (odometer_at c) HIGHEST_ODOMETER && overs_now) (and_join (nat_le (last_kept c) LAST_MINUTE) (last_kept c == 0 || has_day c (last_kept c / 1440)) (le_true (last_kept c) LAST_MINUTE kept) today)
+    (and_join (nat_le (odometer_at c) HIGHEST_ODOMETER) overs_now (le_true (odometer_at c) HIGHEST_ODOMETER odometer) (ap (λ (n : ℕ). nat_le n 255 && true) overs ∙ third.1)))
 
-pub front_kept : (x : List ℕ) → list_all passes (front_checks x) ≡ true → last_kept x ≤ 71582788
+pub front_kept : (x : List ℕ) → list_all passes (front_checks x) ≡ true → last_kept x ≤ LAST_MINUTE
 front_kept x all =
     let k = last_kept x in
-    let good = nat_le k 71582788 && (k == 0 || has_day x (k / 1440)) in
-    let rest : Bool = nat_le (odometer_at x) 9999999 && (nat_le (number_of x OVER_COUNT) 255 && true) in
-    le_of k 71582788 (and_split (nat_le k 71582788) (k == 0 || has_day x (k / 1440)) (and_split good rest (and_split (number_of x VERSION == 1) (good && rest) all).1).0).0
+    let good = nat_le k LAST_MINUTE && (k == 0 || has_day x (k / 1440)) in
+    let rest : Bool = nat_le (odometer_at x) HIGHEST_ODOMETER && (nat_le (number_of x OVER_COUNT) MOST_OVERS && true) in
+    le_of k LAST_MINUTE (and_split (nat_le k LAST_MINUTE) (k == 0 || has_day x (k / 1440)) (and_split good rest (and_split (number_of x VERSION == 1) (good && rest) all).1).0).0
 
-pub front_odometer : (x : List ℕ) → list_all passes (front_checks x) ≡ true → odometer_at x ≤ 9999999
+pub front_odometer : (x : List ℕ) → list_all passes (front_checks x) ≡ true → odometer_at x ≤ HIGHEST_ODOMETER
 front_odometer x all =
     let k = last_kept x in
-    let good = nat_le k 71582788 && (k == 0 || has_day x (k / 1440)) in
-    let overs : Bool = nat_le (number_of x OVER_COUNT) 255 && true in
-    le_of (odometer_at x) 9999999 (and_split (nat_le (odometer_at x) 9999999) overs (and_split good (nat_le (odometer_at x) 9999999 && overs) (and_split (number_of x VERSION == 1) (good && (nat_le (odometer_at x) 9999999 && overs)) all).1).1).0
+    let good = nat_le k LAST_MINUTE && (k == 0 || has_day x (k / 1440)) in
+    let overs : Bool = nat_le (number_of x OVER_COUNT) MOST_OVERS && true in
+    le_of (odometer_at x) HIGHEST_ODOMETER (and_split (nat_le (odometer_at x) HIGHEST_ODOMETER) overs (and_split good (nat_le (odometer_at x) HIGHEST_ODOMETER && overs) (and_split (number_of x VERSION == 1) (good && (nat_le (odometer_at x) HIGHEST_ODOMETER && overs)) all).1).1).0
 
 -- what decodes still does where its parts do
 pub still : (x c : List ℕ) → (IsGood x → IsGood c) → Decodes x → Decodes c

@@ -5,6 +5,7 @@ use Rattle.std.specs.List.{list_all, range_with_len}
 use Rattle.std.proofs.lemmas.Bool.Decides.{nat_tests}
 use Rattle.std.proofs.lemmas.Bool.{cases_lt}
 use Rattle.gated_ring.specs.Ring.{pointer, is_there, next, order}
+use Rattle.unit_model.specs.declared.layout.TheConstants.{DAYS, DAY_SLOTS, DAY_WORDS, DAY_WORD_LIMIT, HIGHEST_ODOMETER, LAST_KEPT, LAST_MINUTE, MOST_OVERS, ODOMETER, OVER_COUNT}
 use Rattle.unit_model.specs.Image.{last_kept, odometer_at, day_ring, slot_place, slot_date, slot_count, slot_words, indices}
 use Rattle.unit_model.specs.Decoding.{Check, check, first_failing, front_checks, cell_checks, ring_checks, slot_checks, day_checks, word_checks, checks, first_bad_place, Decodes, has_day, is_pointer_good, is_last_good, are_dense, indices_before, is_date_good}
 use Rattle.unit_model.specs.Decoding.{or_else}
@@ -36,17 +37,17 @@ none_flat f from (suc n) none i low high =
 pub record IsGoodSlot (x : List ℕ) (i : ℕ) : Type 0 where
   pub date : is_date_good (last_kept x) (map (slot_date x) (indices_before x i)) (slot_date x i) ≡ true
   pub count_low : 2 ≤ slot_count x i
-  pub count_high : slot_count x i ≤ 2880
-  pub words : first_failing (word_checks (slot_place i + 16) [] (slot_words x i (slot_count x i))) ≡ None
+  pub count_high : slot_count x i ≤ DAY_WORD_LIMIT
+  pub words : first_failing (word_checks (slot_place i + DAY_WORDS.place) [] (slot_words x i (slot_count x i))) ≡ None
 
 pub record IsDecoded (x : List ℕ) : Type 0 where
-  pub kept : last_kept x ≤ 71582788
+  pub kept : last_kept x ≤ LAST_MINUTE
   pub today : 0 < last_kept x → has_day x (last_kept x / 1440) ≡ true
-  pub odometer : odometer_at x ≤ 9999999
-  pub known : pointer day_ring x < 366
+  pub odometer : odometer_at x ≤ HIGHEST_ODOMETER
+  pub known : pointer day_ring x < DAY_SLOTS
   pub dense : are_dense (map (is_there day_ring x) (order day_ring (next day_ring (pointer day_ring x)))) ≡ true
   pub last : is_last_good x (pointer day_ring x) (indices x) ≡ true
-  pub slots : (i : ℕ) → i < 366 → is_there day_ring x i ≡ true → IsGoodSlot x i
+  pub slots : (i : ℕ) → i < DAY_SLOTS → is_there day_ring x i ≡ true → IsGoodSlot x i
 
 both_true : (a b : Bool) → (a && b) ≡ true → (a ≡ true) × (b ≡ true)
 both_true true b is = (refl, is)
@@ -70,10 +71,10 @@ module _ (x : List ℕ) (none : first_bad_place x ≡ None) where
   C = cell_checks x
 
   abbrev P : Check
-  P = check 1024 (is_pointer_good x)
+  P = check DAYS.place (is_pointer_good x)
 
   abbrev S : List Check
-  S = flat_map (slot_checks x) (range_with_len 0 366)
+  S = flat_map (slot_checks x) (range_with_len 0 DAY_SLOTS)
 
   abbrev R : List Check
   R = ring_checks x
@@ -88,39 +89,39 @@ module _ (x : List ℕ) (none : first_bad_place x ≡ None) where
   point : (is_pointer_good x ≡ true) × (first_failing (S ++ R) ≡ None)
   point = none_head P (S ++ R) behind
 
-  good_slot : (i : ℕ) → i < 366 → is_there day_ring x i ≡ true → IsGoodSlot x i
+  good_slot : (i : ℕ) → i < DAY_SLOTS → is_there day_ring x i ≡ true → IsGoodSlot x i
   good_slot i below there =
       let all : first_failing (day_checks x i) ≡ None =
-      sym (ap (λ (b : Bool). first_failing (cond b (day_checks x i) [])) there) ∙ none_flat (slot_checks x) 0 366 (none_append S R point.1).0 i (omega arith) (omega (arith, below)) in
+      sym (ap (λ (b : Bool). first_failing (cond b (day_checks x i) [])) there) ∙ none_flat (slot_checks x) 0 DAY_SLOTS (none_append S R point.1).0 i (omega arith) (omega (arith, below)) in
       let place = slot_place i in
       let words = word_checks (place + 16) [] (slot_words x i (slot_count x i)) in
       let c1 = check place (is_date_good (last_kept x) (map (slot_date x) (indices_before x i)) (slot_date x i)) in
-      let c2 = check (place + 4) (nat_le (Rattle.unit_model.specs.Image.slot_odometer x i) 9999999) in
-      let c3 = check (place + 8) (nat_le 2 (slot_count x i) && nat_le (slot_count x i) 2880) in
+      let c2 = check (place + 4) (nat_le (Rattle.unit_model.specs.Image.slot_odometer x i) HIGHEST_ODOMETER) in
+      let c3 = check (place + 8) (nat_le 2 (slot_count x i) && nat_le (slot_count x i) DAY_WORD_LIMIT) in
       let date = none_head c1 (c2 ∷ c3 ∷ words) all in
       let odometer = none_head c2 (c3 ∷ words) date.1 in
       let count = none_head c3 words odometer.1 in
-      let range = both_true (nat_le 2 (slot_count x i)) (nat_le (slot_count x i) 2880) count.0 in
-      record { date = date.0; count_low = le_of 2 (slot_count x i) range.0; count_high = le_of (slot_count x i) 2880 range.1; words = count.1 }
+      let range = both_true (nat_le 2 (slot_count x i)) (nat_le (slot_count x i) DAY_WORD_LIMIT) count.0 in
+      record { date = date.0; count_low = le_of 2 (slot_count x i) range.0; count_high = le_of (slot_count x i) DAY_WORD_LIMIT range.1; words = count.1 }
 
   pub decoded : IsDecoded x
   decoded =
       let c1 = check 0 (Rattle.unit_model.specs.Image.number_of x Rattle.unit_model.specs.declared.layout.TheConstants.VERSION == 1) in
-      let c2 = check 564 (nat_le (last_kept x) 71582788 && (last_kept x == 0 || has_day x (last_kept x / 1440))) in
-      let c3 = check 568 (nat_le (odometer_at x) 9999999) in
-      let c4 = check 576 (nat_le (Rattle.unit_model.specs.Image.number_of x Rattle.unit_model.specs.declared.layout.TheConstants.OVER_COUNT) 255) in
+      let c2 = check LAST_KEPT.place (nat_le (last_kept x) LAST_MINUTE && (last_kept x == 0 || has_day x (last_kept x / 1440))) in
+      let c3 = check ODOMETER.place (nat_le (odometer_at x) HIGHEST_ODOMETER) in
+      let c4 = check OVER_COUNT.place (nat_le (Rattle.unit_model.specs.Image.number_of x Rattle.unit_model.specs.declared.layout.TheConstants.OVER_COUNT) MOST_OVERS) in
       let version = none_head c1 (c2 ∷ c3 ∷ c4 ∷ []) split.0 in
       let kept = none_head c2 (c3 ∷ c4 ∷ []) version.1 in
       let odometer = none_head c3 (c4 ∷ []) kept.1 in
-      let kept_is = both_true (nat_le (last_kept x) 71582788) (last_kept x == 0 || has_day x (last_kept x / 1440)) kept.0 in
+      let kept_is = both_true (nat_le (last_kept x) LAST_MINUTE) (last_kept x == 0 || has_day x (last_kept x / 1440)) kept.0 in
       let p = pointer day_ring x in
-      let first = both_true (nat_lt p 366) (are_dense (map (is_there day_ring x) (order day_ring (next day_ring p))) && is_last_good x p (indices x)) point.0 in
+      let first = both_true (nat_lt p DAY_SLOTS) (are_dense (map (is_there day_ring x) (order day_ring (next day_ring p))) && is_last_good x p (indices x)) point.0 in
       let next_two = both_true (are_dense (map (is_there day_ring x) (order day_ring (next day_ring p)))) (is_last_good x p (indices x)) first.1 in
       record {
-        kept = le_of (last_kept x) 71582788 kept_is.0;
+        kept = le_of (last_kept x) LAST_MINUTE kept_is.0;
         today = λ some. either_true (last_kept x == 0) (has_day x (last_kept x / 1440)) kept_is.1 (not_zero (last_kept x) some);
-        odometer = le_of (odometer_at x) 9999999 odometer.0;
-        known = lt_of p 366 first.0;
+        odometer = le_of (odometer_at x) HIGHEST_ODOMETER odometer.0;
+        known = lt_of p DAY_SLOTS first.0;
         dense = next_two.0;
         last = next_two.1;
         slots = good_slot;

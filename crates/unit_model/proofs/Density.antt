@@ -5,6 +5,7 @@ use Rattle.std.proofs.lemmas.Bool.{cases_lt}
 use Rattle.gated_ring.specs.Ring.{pointer, is_there, next, order, indices as ring_indices, up_to, IsRun, IsDense}
 use Rattle.gated_ring.proofs.Dense.{before_one, up_to_first, up_to_all, drop_all}
 use Rattle.gated_ring.proofs.Orders.{Each, range_each, order_last, filter_last, filter_short, rest, rest_others}
+use Rattle.unit_model.specs.declared.layout.TheConstants.{DAY_SLOTS}
 use Rattle.unit_model.specs.Image.{day_ring}
 use Rattle.unit_model.specs.Decoding.{are_dense, is_filled_on}
 use Rattle.unit_model.specs.Writing.{behind_index}
@@ -40,10 +41,10 @@ join_apart c (j ∷ a) b high low first second =
     (each_join (λ k. k ≢ j) a b first.0 (each_weaker (λ k. k < c) (λ k. k ≢ j) b (λ k less is. absurd (omega (arith, less, high.0, is))) low), join_apart c a b high.1 low first.1 second)
 
 behind_apart : (i : ℕ) → Apart (behind_index i)
-behind_apart i = join_apart i (range_with_len (i + 1) (366 - (i + 1))) (range_with_len 0 i)
-    (range_each (λ j. i ≤ j) (i + 1) (366 - (i + 1)) (λ j low high. omega (arith, low)))
+behind_apart i = join_apart i (range_with_len (i + 1) (DAY_SLOTS - (i + 1))) (range_with_len 0 i)
+    (range_each (λ j. i ≤ j) (i + 1) (DAY_SLOTS - (i + 1)) (λ j low high. omega (arith, low)))
     (range_each (λ j. j < i) 0 i (λ j low high. omega (arith, high)))
-    (range_apart (i + 1) (366 - (i + 1))) (range_apart 0 i)
+    (range_apart (i + 1) (DAY_SLOTS - (i + 1))) (range_apart 0 i)
 
 push_apart : (l : List ℕ) (i : ℕ) → Each (λ j. j ≢ i) l → Apart l → Apart (l ++ i ∷ [])
 push_apart [] i others apart = (tt, tt)
@@ -119,7 +120,7 @@ drop_append zero a b le = refl
 drop_append (suc m) [] b le = absurd (omega (arith, le))
 drop_append (suc m) (x ∷ a) b le = drop_append m a b (omega (arith, le))
 
-module _ (x : List ℕ) (known : pointer day_ring x < 366) where
+module _ (x : List ℕ) (known : pointer day_ring x < DAY_SLOTS) where
   abbrev p : ℕ
   p = pointer day_ring x
 
@@ -139,7 +140,7 @@ module _ (x : List ℕ) (known : pointer day_ring x < 366) where
   unfolding ring_indices
   list_is = ap (filter t) order_is
 
-  len : length B ≡ 365
+  len : length B ≡ (DAY_SLOTS - 1)
   len = behind_length p known
 
   -- what is judged so is dense
@@ -154,13 +155,13 @@ module _ (x : List ℕ) (known : pointer day_ring x < 366) where
 
       by : (b : Bool) → t p ≡ b → IsDense day_ring x
       by true on =
-          let n_is : 366 - (366 - tail.0) ≡ tail.0 = omega (arith, tail.1, len) in
+          let n_is : DAY_SLOTS - (DAY_SLOTS - tail.0) ≡ tail.0 = omega (arith, tail.1, len) in
           inr (
             p,
             record {
               below = known;
               at_pointer = inl refl;
-              len = 366 - tail.0;
+              len = DAY_SLOTS - tail.0;
               few = omega arith;
               indices_are =
                   list_is ∙ filter_last t B p on ∙ ap (λ (l : List ℕ). l ++ p ∷ []) before ∙ sym (drop_append tail.0 B (p ∷ []) tail.1)
@@ -170,19 +171,19 @@ module _ (x : List ℕ) (known : pointer day_ring x < 366) where
       by false off = ⊎_elim
           (λ some.
           let one = before_one day_ring p known in
-          let n_is : 366 - 1 - (365 - tail.0) ≡ tail.0 = omega (arith, some) in
+          let n_is : DAY_SLOTS - 1 - ((DAY_SLOTS - 1) - tail.0) ≡ tail.0 = omega (arith, some) in
           inr (
             one.0,
             record {
               below = one.1;
               at_pointer = inr one.2;
-              len = 365 - tail.0;
+              len = (DAY_SLOTS - 1) - tail.0;
               few = omega arith;
-              indices_are = list_is ∙ filter_short t B p off ∙ before ∙ ap (λ (k : ℕ). drop k B) (sym n_is) ∙ sym (up_to_first day_ring one.0 p (365 - tail.0) known one.2 (omega arith));
+              indices_are = list_is ∙ filter_short t B p off ∙ before ∙ ap (λ (k : ℕ). drop k B) (sym n_is) ∙ sym (up_to_first day_ring one.0 p ((DAY_SLOTS - 1) - tail.0) known one.2 (omega arith));
             },
           ))
           (λ none. inl (list_is ∙ filter_short t B p off ∙ before ∙ drop_all tail.0 B (omega (arith, none, len))))
-          (cases_lt tail.0 366)
+          (cases_lt tail.0 DAY_SLOTS)
 
   apart : Apart B
   apart = behind_apart p
@@ -198,18 +199,18 @@ module _ (x : List ℕ) (known : pointer day_ring x < 366) where
   judged_of dense = ⊎_elim empty (λ run. standing run.0 run.1) dense
     where
       empty : ring_indices day_ring x ≡ [] → Judged
-      empty none = judge (tail_whole t (B ++ p ∷ []) 366 (push_apart B p others apart) (sym list_is ∙ none ∙ sym (drop_all 366 (B ++ p ∷ []) (omega (arith, length-append B (p ∷ []), len)))))
+      empty none = judge (tail_whole t (B ++ p ∷ []) DAY_SLOTS (push_apart B p others apart) (sym list_is ∙ none ∙ sym (drop_all DAY_SLOTS (B ++ p ∷ []) (omega (arith, length-append B (p ∷ []), len)))))
 
       -- the run ends before the pointer
-      short : (last n : ℕ) → next day_ring last ≡ p → n < 366 → ring_indices day_ring x ≡ up_to day_ring last n → (b : Bool) → t p ≡ b → Judged
+      short : (last n : ℕ) → next day_ring last ≡ p → n < DAY_SLOTS → ring_indices day_ring x ≡ up_to day_ring last n → (b : Bool) → t p ≡ b → Judged
       short last n is few are true on =
-          let ends : filter t B ++ p ∷ [] ≡ drop (366 - 1 - n) B = sym (filter_last t B p on) ∙ sym list_is ∙ are ∙ up_to_first day_ring last p n known is few in
-          absurd (each_last (λ j. j ≢ p) (filter t B) p (subst (Each (λ j. j ≢ p)) (sym ends) (each_drop (λ j. j ≢ p) (366 - 1 - n) B others)) refl)
+          let ends : filter t B ++ p ∷ [] ≡ drop (DAY_SLOTS - 1 - n) B = sym (filter_last t B p on) ∙ sym list_is ∙ are ∙ up_to_first day_ring last p n known is few in
+          absurd (each_last (λ j. j ≢ p) (filter t B) p (subst (Each (λ j. j ≢ p)) (sym ends) (each_drop (λ j. j ≢ p) (DAY_SLOTS - 1 - n) B others)) refl)
       short last n is few are false off =
-          judge (tail_short t B p (366 - 1 - n) off apart (sym (filter_short t B p off) ∙ sym list_is ∙ are ∙ up_to_first day_ring last p n known is few))
+          judge (tail_short t B p (DAY_SLOTS - 1 - n) off apart (sym (filter_short t B p off) ∙ sym list_is ∙ are ∙ up_to_first day_ring last p n known is few))
 
       -- each place is there: then the pointer's is the last
-      whole : (last n : ℕ) → next day_ring last ≡ p → n ≡ 366 → ring_indices day_ring x ≡ up_to day_ring last n → Judged
+      whole : (last n : ℕ) → next day_ring last ≡ p → n ≡ DAY_SLOTS → ring_indices day_ring x ≡ up_to day_ring last n → Judged
       whole last n is all are = absurd (by (t p) refl)
         where
           run : filter t (B ++ p ∷ []) ≡ p ∷ B
@@ -231,10 +232,10 @@ module _ (x : List ℕ) (known : pointer day_ring x < 366) where
       standing : (last : ℕ) → IsRun day_ring x last → Judged
       standing last run = ⊎_elim
           (λ at.
-          judge (tail_whole t (B ++ p ∷ []) (366 - run.len) (push_apart B p others apart)
-          (sym list_is ∙ run.indices_are ∙ ap (λ (k : ℕ). drop (366 - run.len) (order day_ring (next day_ring k))) at ∙ ap (drop (366 - run.len)) order_is)))
+          judge (tail_whole t (B ++ p ∷ []) (DAY_SLOTS - run.len) (push_apart B p others apart)
+          (sym list_is ∙ run.indices_are ∙ ap (λ (k : ℕ). drop (DAY_SLOTS - run.len) (order day_ring (next day_ring k))) at ∙ ap (drop (DAY_SLOTS - run.len)) order_is)))
           (λ before. ⊎_elim
           (λ few. short last run.len before few run.indices_are (t p) refl)
           (λ all. whole last run.len before (omega (arith, all, run.few)) run.indices_are)
-          (cases_lt run.len 366))
+          (cases_lt run.len DAY_SLOTS))
           run.at_pointer

@@ -5,6 +5,7 @@ use Rattle.byte_fields.specs.Images.{big_number}
 use Rattle.std.proofs.lemmas.Bool.{cases_lt}
 use Rattle.tach_media.specs.Medium.{put, SameOutside}
 use Rattle.tach_media.proofs.Images.{put_outside, part_before, part_after, part_put, outside_same, outside_wider, outside_then}
+use Rattle.unit_model.specs.declared.layout.TheConstants.{IMAGE_SIZE, OWED, OWED_ROW_SIZE, SPARE_ROWS}
 use Rattle.unit_model.specs.Decoding.{cell_place, cell_minute, cell_word}
 use Rattle.unit_model.specs.Cells.{row_head, minute_kept, cells_emptied, cell_emptied, IsEmptying, IsEmptyingAll}
 use Rattle.unit_model.proofs.Numbers.{number_before, number_after}
@@ -13,11 +14,11 @@ use Rattle.unit_model.proofs.Numbers.{number_before, number_after}
 cell_order : (m n : ℕ) → m < n → cell_place m + 6 ≤ cell_place n
 cell_order m n less = omega arith
 
-cell_last : (n : ℕ) → n < 32 → cell_place n + 6 ≤ 1008
+cell_last : (n : ℕ) → n < 32 → cell_place n + 6 ≤ SPARE_ROWS.place
 cell_last n below = omega arith
 
 -- a cell is emptied
-module _ (n : ℕ) (below : n < 32) (y : List ℕ) (sized : length y ≡ 2485808) where
+module _ (n : ℕ) (below : n < 32) (y : List ℕ) (sized : length y ≡ IMAGE_SIZE) where
   abbrev c : List ℕ
   c = put (cell_place n) (replicate 4 0) y
 
@@ -44,14 +45,14 @@ module _ (n : ℕ) (below : n < 32) (y : List ℕ) (sized : length y ≡ 2485808
 
   cell_heads : (r : ℕ) → row_head c r ≡ row_head y r
   cell_heads r = ⊎_elim
-      (λ less. part_after (cell_place n) 4 (624 + r * 48) 24 y c cell_outside (omega (arith, less)))
-      (λ more. part_before (cell_place n) 4 (624 + r * 48) 24 y c cell_outside (omega (arith, more)))
+      (λ less. part_after (cell_place n) 4 (OWED.place + r * OWED_ROW_SIZE) 24 y c cell_outside (omega (arith, less)))
+      (λ more. part_before (cell_place n) 4 (OWED.place + r * OWED_ROW_SIZE) 24 y c cell_outside (omega (arith, more)))
       (cases_lt (n / 4) r)
 
-module _ (kept : ℕ) (x : List ℕ) (sized : length x ≡ 2485808) where
+module _ (kept : ℕ) (x : List ℕ) (sized : length x ≡ IMAGE_SIZE) where
   -- the first n cells are emptied where they are later
   pub record IsEmptied (n : ℕ) (c : List ℕ) : Type 0 where
-    pub outside : SameOutside 624 384 x c
+    pub outside : SameOutside OWED.place OWED.size x c
     pub heads : (r : ℕ) → row_head c r ≡ row_head x r
     pub words : (m : ℕ) → cell_word c m ≡ cell_word x m
     pub done : (m : ℕ) → m < n → cell_minute c m ≡ minute_kept kept (cell_minute x m)
@@ -62,12 +63,12 @@ module _ (kept : ℕ) (x : List ℕ) (sized : length x ≡ 2485808) where
 
   one_more : (n : ℕ) → n < 32 → (y : List ℕ) → IsEmptied n y → (b : Bool) → nat_lt kept (cell_minute y n) ≡ b → IsEmptied (suc n) (cond b (put (cell_place n) (replicate 4 0) y) y)
   one_more n below y was true is =
-      let y_sized : length y ≡ 2485808 = was.outside.same_length ∙ sized in
+      let y_sized : length y ≡ IMAGE_SIZE = was.outside.same_length ∙ sized in
       let same = cell_outside n below y y_sized in
       let c = put (cell_place n) (replicate 4 0) y in
       let test : nat_lt kept (cell_minute x n) ≡ true = ap (nat_lt kept) (sym (was.left n (omega arith))) ∙ is in
       record {
-        outside = outside_then 624 384 x y c was.outside (outside_wider 624 384 (cell_place n) 4 y c same (omega arith) (omega (arith, cell_last n below)));
+        outside = outside_then OWED.place OWED.size x y c was.outside (outside_wider OWED.place OWED.size (cell_place n) 4 y c same (omega arith) (omega (arith, cell_last n below)));
         heads = λ r. cell_heads n below y y_sized r ∙ was.heads r;
         words = λ m. cell_words n below y y_sized m ∙ was.words m;
         done = λ m less. ⊎_elim
@@ -93,7 +94,7 @@ module _ (kept : ℕ) (x : List ℕ) (sized : length x ≡ 2485808) where
 
   pub emptied : (n : ℕ) → n ≤ 32 → IsEmptied n (cells_emptied kept n x)
   unfolding cells_emptied
-  emptied zero le = record { outside = outside_same 624 384 x; heads = λ r. refl; words = λ m. refl; done = λ m less. absurd (omega (arith, less)); left = λ m more. refl }
+  emptied zero le = record { outside = outside_same OWED.place OWED.size x; heads = λ r. refl; words = λ m. refl; done = λ m less. absurd (omega (arith, less)); left = λ m more. refl }
   emptied (suc n) le = one_more n (omega (arith, le)) (cells_emptied kept n x) (emptied n (omega (arith, le))) (nat_lt kept (cell_minute (cells_emptied kept n x) n)) refl
 
 pub cells_none : (kept : ℕ) (x : List ℕ) → cells_emptied kept 0 x ≡ x
@@ -114,5 +115,5 @@ emptying_more kept n x c below (inl absent) = (n, omega (arith, below), absent)
 emptying_more kept n x c below (inr whole) = (n + 1, omega (arith, below), whole ∙ sym (cells_more kept n x))
 
 -- where none is later, the next cell is not
-pub next_not_later : (kept n : ℕ) (x : List ℕ) → length x ≡ 2485808 → n < 32 → cell_minute x n ≤ kept → cell_minute (cells_emptied kept n x) n ≤ kept
+pub next_not_later : (kept n : ℕ) (x : List ℕ) → length x ≡ IMAGE_SIZE → n < 32 → cell_minute x n ≤ kept → cell_minute (cells_emptied kept n x) n ≤ kept
 next_not_later kept n x sized below low = omega (arith, (emptied kept x sized n (omega (arith, below))).left n (omega arith), low)

@@ -8,6 +8,7 @@ use Rattle.std.proofs.lemmas.List.{append-nil, length-map}
 use Rattle.gated_ring.specs.Ring.{number_at, pointer, is_there, entry_at, next, order, taken, indices as ring_indices}
 use Rattle.gated_ring.proofs.Orders as orders
 use Rattle.gated_ring.proofs.Orders.{order_first, order_last, rest_each, range_split, filter_last, filter_short}
+use Rattle.unit_model.specs.declared.layout.TheConstants.{DAY_SLOTS, DAY_SLOT_SIZE}
 use Rattle.unit_model.specs.Days.{day_of, Each}
 use Rattle.unit_model.specs.Image.{last_kept, day_ring, slot_place, unit_day, indices, slot_date}
 use Rattle.unit_model.specs.Decoding.{are_dense, is_filled_on, is_last_good, is_date_good, indices_before, slot_day}
@@ -150,15 +151,15 @@ days_before_date x d k [] day whole all = tt
 days_before_date x d k (i ∷ l) day whole all =
     let both = both_true (nat_lt (slot_date x i) d) (list_all (λ i. nat_lt (slot_date x i) d) l) all in
     let less : slot_date x i < d = grind (arith, nat_tests, both.0) in
-    let same : number_at (entry_at day_ring x i) 0 4 ≡ slot_date x i = number_in x (slot_place i) 5776 0 4 (omega arith) ∙ ap (λ (q : ℕ). number_at x q 4) (let e : slot_place i + 0 ≡ slot_place i = omega arith in e) in
+    let same : number_at (entry_at day_ring x i) 0 4 ≡ slot_date x i = number_in x (slot_place i) DAY_SLOT_SIZE 0 4 (omega arith) ∙ ap (λ (q : ℕ). number_at x q 4) (let e : slot_place i + 0 ≡ slot_place i = omega arith in e) in
     (omega (arith, same, less, day, whole), days_before_date x d k l day whole both.1)
 
 -- where the last-kept minute's day stands, and the later day behind it
 pub record IsPlaced (x : List ℕ) (i : ℕ) (stray : Option ℕ) (older : List ℕ) : Type 0 where
   pub order_is : indices x ≡ (older ++ i ∷ []) ++ stray_list stray
   pub next_is : MatchOption stray (taken day_ring x ≡ next day_ring i) (λ s. s ≡ next day_ring i)
-  pub dense : (missing : ℕ) × (missing ≤ 365) × (older ≡ drop missing (behind_index i))
-  pub others : Each (λ j. (j < 366) × (j ≢ i)) older
+  pub dense : (missing : ℕ) × (missing ≤ (DAY_SLOTS - 1)) × (older ≡ drop missing (behind_index i))
+  pub others : Each (λ j. (j < DAY_SLOTS) × (j ≢ i)) older
   pub earlier : Each (λ d. day_of d < last_kept x / 1440) (map (λ i. unit_day (entry_at day_ring x i)) older)
 
 module _ (x : List ℕ) (ok : IsDecoded x) where
@@ -182,33 +183,33 @@ module _ (x : List ℕ) (ok : IsDecoded x) where
 
   -- the index before the pointer, round the end
   abbrev u : ℕ
-  u = if p == 0 then 365 else p - 1
+  u = if p == 0 then (DAY_SLOTS - 1) else p - 1
 
-  known : p < 366
+  known : p < DAY_SLOTS
   known = ok.known
 
-  u_below : u < 366
+  u_below : u < DAY_SLOTS
   u_below = by (p == 0)
     where
-      by : (b : Bool) → cond b 365 (p - 1) < 366
+      by : (b : Bool) → cond b (DAY_SLOTS - 1) (p - 1) < DAY_SLOTS
       by true = omega arith
       by false = omega (arith, known)
 
   u_next : next day_ring u ≡ p
   u_next = by (p == 0) refl
     where
-      by : (b : Bool) → (p == 0) ≡ b → next day_ring (cond b 365 (p - 1)) ≡ p
+      by : (b : Bool) → (p == 0) ≡ b → next day_ring (cond b (DAY_SLOTS - 1) (p - 1)) ≡ p
       by true is = let none : p ≡ 0 = grind (arith, nat_tests, is) in sym none
       by false is =
           let some : p ≢ 0 = grind (arith, nat_tests, is) in
           let one : p - 1 + 1 ≡ p = omega (arith, some) in
-          let off : (p - 1 + 1 == 366) ≡ false = grind (arith, nat_tests, one, known) in
+          let off : (p - 1 + 1 == DAY_SLOTS) ≡ false = grind (arith, nat_tests, one, known) in
           ap (λ (b : Bool). cond b 0 (p - 1 + 1)) off ∙ one
 
   u_other : u ≢ p
   u_other is = by (p == 0) refl is
     where
-      by : (b : Bool) → (p == 0) ≡ b → cond b 365 (p - 1) ≡ p → ⊥
+      by : (b : Bool) → (p == 0) ≡ b → cond b (DAY_SLOTS - 1) (p - 1) ≡ p → ⊥
       by true zero_p same = let none : p ≡ 0 = grind (arith, nat_tests, zero_p) in absurd (omega (arith, none, same))
       by false some_p same = let some : p ≢ 0 = grind (arith, nat_tests, some_p) in absurd (omega (arith, some, same))
 
@@ -244,54 +245,54 @@ module _ (x : List ℕ) (ok : IsDecoded x) where
   F_ends : n ≤ 364 → F ≡ drop (suc n) (behind_index u) ++ u ∷ []
   F_ends le = tail.2 ∙ ap (drop (suc n)) (sym turned) ∙ drop_append (suc n) (behind_index u) (u ∷ []) (omega (arith, le, behind_length u u_below))
 
-  F_none : 365 ≤ n → F ≡ []
+  F_none : (DAY_SLOTS - 1) ≤ n → F ≡ []
   F_none le = tail.2 ∙ drop_none n B (omega (arith, le, behind_length p known))
 
   -- the indices before those two
   before_p : indices_before x p ≡ F
   before_p =
       let off : nat_le (p + 1) p ≡ false = le_false (p + 1) p (omega arith) in
-      ap (λ (b : Bool). filter t (cond b (range_with_len (p + 1) (p - (p + 1))) (range_with_len (p + 1) (366 - (p + 1)) ++ range_with_len 0 p))) off
+      ap (λ (b : Bool). filter t (cond b (range_with_len (p + 1) (p - (p + 1))) (range_with_len (p + 1) (DAY_SLOTS - (p + 1)) ++ range_with_len 0 p))) off
 
   abbrev U : List ℕ
-  U = if nat_le (p + 1) u then range_with_len (p + 1) (u - (p + 1)) else range_with_len (p + 1) (366 - (p + 1)) ++ range_with_len 0 u
+  U = if nat_le (p + 1) u then range_with_len (p + 1) (u - (p + 1)) else range_with_len (p + 1) (DAY_SLOTS - (p + 1)) ++ range_with_len 0 u
 
   before_u : indices_before x u ≡ filter t U
   before_u = refl
 
   abbrev Cut : ℕ → List ℕ
-  Cut v = if nat_le (p + 1) v then range_with_len (p + 1) (v - (p + 1)) else range_with_len (p + 1) (366 - (p + 1)) ++ range_with_len 0 v
+  Cut v = if nat_le (p + 1) v then range_with_len (p + 1) (v - (p + 1)) else range_with_len (p + 1) (DAY_SLOTS - (p + 1)) ++ range_with_len 0 v
 
   B_is : B ≡ U ++ u ∷ []
   B_is = by (p == 0) refl
     where
-      by : (b : Bool) → (p == 0) ≡ b → B ≡ Cut (cond b 365 (p - 1)) ++ cond b 365 (p - 1) ∷ []
+      by : (b : Bool) → (p == 0) ≡ b → B ≡ Cut (cond b (DAY_SLOTS - 1) (p - 1)) ++ cond b (DAY_SLOTS - 1) (p - 1) ∷ []
       by true is =
           let none : p ≡ 0 = eq_of p 0 is in
-          let on : nat_le (p + 1) 365 ≡ true = le_true (p + 1) 365 (omega (arith, none)) in
-          ap (λ (q : ℕ). range_with_len (q + 1) (366 - (q + 1)) ++ range_with_len 0 q) none
-          ∙ append-nil (range_with_len 1 365) ∙ range_split 1 364 1
-          ∙ ap (λ (q : ℕ). range_with_len (q + 1) (365 - (q + 1)) ++ 365 ∷ []) (sym none)
-          ∙ ap (λ (b : Bool). cond b (range_with_len (p + 1) (365 - (p + 1))) (range_with_len (p + 1) (366 - (p + 1)) ++ range_with_len 0 365) ++ 365 ∷ []) (sym on)
+          let on : nat_le (p + 1) (DAY_SLOTS - 1) ≡ true = le_true (p + 1) (DAY_SLOTS - 1) (omega (arith, none)) in
+          ap (λ (q : ℕ). range_with_len (q + 1) (DAY_SLOTS - (q + 1)) ++ range_with_len 0 q) none
+          ∙ append-nil (range_with_len 1 (DAY_SLOTS - 1)) ∙ range_split 1 364 1
+          ∙ ap (λ (q : ℕ). range_with_len (q + 1) ((DAY_SLOTS - 1) - (q + 1)) ++ (DAY_SLOTS - 1) ∷ []) (sym none)
+          ∙ ap (λ (b : Bool). cond b (range_with_len (p + 1) ((DAY_SLOTS - 1) - (p + 1))) (range_with_len (p + 1) (DAY_SLOTS - (p + 1)) ++ range_with_len 0 (DAY_SLOTS - 1)) ++ (DAY_SLOTS - 1) ∷ []) (sym on)
       by false is =
           let some : p ≢ 0 = ne_of p 0 is in
           let one : p ≡ p - 1 + 1 = omega (arith, some) in
           let off : nat_le (p + 1) (p - 1) ≡ false = le_false (p + 1) (p - 1) (omega arith) in
-          ap (λ (q : ℕ). range_with_len (p + 1) (366 - (p + 1)) ++ range_with_len 0 q) one
-          ∙ ap (λ (l : List ℕ). range_with_len (p + 1) (366 - (p + 1)) ++ l) (range_split 0 (p - 1) 1 ∙ ap (λ (q : ℕ). range_with_len 0 (p - 1) ++ q ∷ []) (let e : 0 + (p - 1) ≡ p - 1 = omega arith in e))
-          ∙ sym (append_assoc (range_with_len (p + 1) (366 - (p + 1))) (range_with_len 0 (p - 1)) ((p - 1) ∷ []))
-          ∙ ap (λ (b : Bool). cond b (range_with_len (p + 1) (p - 1 - (p + 1))) (range_with_len (p + 1) (366 - (p + 1)) ++ range_with_len 0 (p - 1)) ++ (p - 1) ∷ []) (sym off)
+          ap (λ (q : ℕ). range_with_len (p + 1) (DAY_SLOTS - (p + 1)) ++ range_with_len 0 q) one
+          ∙ ap (λ (l : List ℕ). range_with_len (p + 1) (DAY_SLOTS - (p + 1)) ++ l) (range_split 0 (p - 1) 1 ∙ ap (λ (q : ℕ). range_with_len 0 (p - 1) ++ q ∷ []) (let e : 0 + (p - 1) ≡ p - 1 = omega arith in e))
+          ∙ sym (append_assoc (range_with_len (p + 1) (DAY_SLOTS - (p + 1))) (range_with_len 0 (p - 1)) ((p - 1) ∷ []))
+          ∙ ap (λ (b : Bool). cond b (range_with_len (p + 1) (p - 1 - (p + 1))) (range_with_len (p + 1) (DAY_SLOTS - (p + 1)) ++ range_with_len 0 (p - 1)) ++ (p - 1) ∷ []) (sym off)
 
   -- a test of all in F, at one that is there
-  member_F : (P : ℕ → Bool) → list_all P F ≡ true → (i : ℕ) → i < 366 → i ≢ p → t i ≡ true → P i ≡ true
+  member_F : (P : ℕ → Bool) → list_all P F ≡ true → (i : ℕ) → i < DAY_SLOTS → i ≢ p → t i ≡ true → P i ≡ true
   member_F P all i below other there =
-      let parts = all_split P (filter t (range_with_len (p + 1) (366 - (p + 1)))) (filter t (range_with_len 0 p)) (ap (list_all P) (sym (filter_split t (range_with_len (p + 1) (366 - (p + 1))) (range_with_len 0 p))) ∙ all) in
+      let parts = all_split P (filter t (range_with_len (p + 1) (DAY_SLOTS - (p + 1)))) (filter t (range_with_len 0 p)) (ap (list_all P) (sym (filter_split t (range_with_len (p + 1) (DAY_SLOTS - (p + 1))) (range_with_len 0 p))) ∙ all) in
       ⊎_elim
       (λ less. all_at t P 0 p parts.1 i (omega arith) (omega (arith, less)) there)
-      (λ more. all_at t P (p + 1) (366 - (p + 1)) parts.0 i (omega (arith, more, other)) (omega (arith, below, more, other)) there)
+      (λ more. all_at t P (p + 1) (DAY_SLOTS - (p + 1)) parts.0 i (omega (arith, more, other)) (omega (arith, below, more, other)) there)
       (cases_lt i p)
 
-  member_U : (P : ℕ → Bool) → list_all P (filter t U) ≡ true → (i : ℕ) → i < 366 → i ≢ p → i ≢ u → t i ≡ true → P i ≡ true
+  member_U : (P : ℕ → Bool) → list_all P (filter t U) ≡ true → (i : ℕ) → i < DAY_SLOTS → i ≢ p → i ≢ u → t i ≡ true → P i ≡ true
   member_U P all i below other apart there =
       let at_u : (P u || u == u) ≡ true = or_same (P u) u in
       let wide : list_all (λ j. P j || j == u) F ≡ true =
@@ -313,7 +314,7 @@ module _ (x : List ℕ) (ok : IsDecoded x) where
     pub order : list_all (λ i. nat_lt (date i) (date j)) before ≡ true
     pub only : (date j / 86400 ≤ K) ⊎ (list_all (λ i. nat_le (date i / 86400) K) before ≡ true)
 
-  pub dated : (j : ℕ) (before : List ℕ) → j < 366 → t j ≡ true → indices_before x j ≡ before → IsDated j before
+  pub dated : (j : ℕ) (before : List ℕ) → j < DAY_SLOTS → t j ≡ true → indices_before x j ≡ before → IsDated j before
   dated j before below there is =
       let slot = ok.slots j below there in
       let good : is_date_good (last_kept x) (map date before) (date j) ≡ true = ap (λ (l : List ℕ). is_date_good (last_kept x) (map date l) (date j)) (sym is) ∙ slot.date in
@@ -343,11 +344,11 @@ module _ (x : List ℕ) (ok : IsDecoded x) where
   u_there : (a : List ℕ) → F ≡ a ++ u ∷ [] → t u ≡ true
   u_there a is = each_last (λ j. t j ≡ true) a u (subst (Each (λ j. t j ≡ true)) is (all_there t B))
 
-  F_not_empty : (i : ℕ) → i < 366 → i ≢ p → t i ≡ true → n ≤ 364
+  F_not_empty : (i : ℕ) → i < DAY_SLOTS → i ≢ p → t i ≡ true → n ≤ 364
   F_not_empty i below other there = ⊎_elim
       (λ few. omega (arith, few))
       (λ many. let bad : false ≡ true = member_F (λ j. false) (ap (list_all (λ j. false)) (F_none many)) i below other there in absurd (cc))
-      (cases_lt n 365)
+      (cases_lt n (DAY_SLOTS - 1))
 
   abbrev older_u : List ℕ
   older_u = drop (suc n) (behind_index u)
@@ -414,11 +415,11 @@ module _ (x : List ℕ) (ok : IsDecoded x) where
       by true is = eq_of a b is
       by false is = absurd (never (ne_of a b is))
 
-  whole_of : (j : ℕ) → j < 366 → t j ≡ true → date j % 86400 ≡ 0
+  whole_of : (j : ℕ) → j < DAY_SLOTS → t j ≡ true → date j % 86400 ≡ 0
   whole_of j j_below j_there = (dated j (indices_before x j) j_below j_there refl).whole
 
   -- the last-kept minute's day
-  module _ (i : ℕ) (below : i < 366) (there : t i ≡ true) (today : date i / 86400 ≡ K) where
+  module _ (i : ℕ) (below : i < DAY_SLOTS) (there : t i ≡ true) (today : date i / 86400 ≡ K) where
     -- at the pointer
     at_pointer : i ≡ p → t p ≡ true → date p / 86400 ≡ K → Placed p
     at_pointer is p_there p_today =
@@ -429,17 +430,17 @@ module _ (x : List ℕ) (ok : IsDecoded x) where
             order_is = no_stray p F (list_there p_there);
             next_is = taken_there p_there;
             dense = (n, omega (arith, tail.1, behind_length p known), tail.2);
-            others = subst (Each (λ j. (j < 366) × (j ≢ p))) (sym tail.2) (each_drop_n (λ j. (j < 366) × (j ≢ p)) n B (each_from (λ j. (j < 366) × (j ≢ p)) B (rest_each day_ring p known)));
+            others = subst (Each (λ j. (j < DAY_SLOTS) × (j ≢ p))) (sym tail.2) (each_drop_n (λ j. (j < DAY_SLOTS) × (j ≢ p)) n B (each_from (λ j. (j < DAY_SLOTS) × (j ≢ p)) B (rest_each day_ring p known)));
             earlier = days_before_date x (date p) K F p_today d.whole d.order;
           },
         )
 
     -- before the pointer
-    dense_u : n ≤ 364 → (missing : ℕ) × (missing ≤ 365) × (older_u ≡ drop missing (behind_index u))
+    dense_u : n ≤ 364 → (missing : ℕ) × (missing ≤ (DAY_SLOTS - 1)) × (older_u ≡ drop missing (behind_index u))
     dense_u le = (suc n, omega (arith, le), refl)
 
-    others_u : Each (λ j. (j < 366) × (j ≢ u)) older_u
-    others_u = each_drop_n (λ j. (j < 366) × (j ≢ u)) (suc n) (behind_index u) (each_from (λ j. (j < 366) × (j ≢ u)) (behind_index u) (rest_each day_ring u u_below))
+    others_u : Each (λ j. (j < DAY_SLOTS) × (j ≢ u)) older_u
+    others_u = each_drop_n (λ j. (j < DAY_SLOTS) × (j ≢ u)) (suc n) (behind_index u) (each_from (λ j. (j < DAY_SLOTS) × (j ≢ u)) (behind_index u) (rest_each day_ring u u_below))
 
     earlier_u : n ≤ 364 → t u ≡ true → date u / 86400 ≡ K → Each (λ d. day_of d < K) (map (λ i. unit_day (entry_at day_ring x i)) older_u)
     earlier_u le u_is u_today =
@@ -510,7 +511,7 @@ module _ (x : List ℕ) (ok : IsDecoded x) where
 
   -- before the first minute there is a later day at most
   module _ (first : last_kept x ≡ 0) where
-    all_later : (j : ℕ) → j < 366 → t j ≡ true → K < date j / 86400
+    all_later : (j : ℕ) → j < DAY_SLOTS → t j ≡ true → K < date j / 86400
     all_later j below there =
         let whole = (dated j (indices_before x j) below there refl).whole in
         let more = positive j there in
@@ -530,7 +531,7 @@ module _ (x : List ℕ) (ok : IsDecoded x) where
         (either (nat_le (date u / 86400) K) (u == p) (sym (ap (is_last_good x p) (list_shut shut ∙ F_ends le) ∙ last_good_at x p older_u u) ∙ ok.last)))
         which))
         (λ many. F_none many)
-        (cases_lt n 365)
+        (cases_lt n (DAY_SLOTS - 1))
 
     pub first_indices : indices x ≡ stray_list (stray_of (last_kept x) p (date p))
     first_indices = by (t p) refl
@@ -542,13 +543,13 @@ module _ (x : List ℕ) (ok : IsDecoded x) where
         by false shut = list_shut shut ∙ no_others (inr shut) ∙ ap stray_list (sym (stray_shut shut))
 
   -- a later day stands at the pointer
-  pub apart : MatchOption (stray_of (last_kept x) p (date p)) (Unit {0}) (λ s. (s < 366) × (p ≡ s) × (K < day_of (unit_day (entry_at day_ring x s))))
+  pub apart : MatchOption (stray_of (last_kept x) p (date p)) (Unit {0}) (λ s. (s < DAY_SLOTS) × (p ≡ s) × (K < day_of (unit_day (entry_at day_ring x s))))
   apart = by (date p == 0) (nat_le (date p / 86400) K) refl
     where
-      by : (a b : Bool) → nat_le (date p / 86400) K ≡ b → MatchOption (cond a None (cond b None (Some p))) (Unit {0}) (λ s. (s < 366) × (p ≡ s) × (K < day_of (unit_day (entry_at day_ring x s))))
+      by : (a b : Bool) → nat_le (date p / 86400) K ≡ b → MatchOption (cond a None (cond b None (Some p))) (Unit {0}) (λ s. (s < DAY_SLOTS) × (p ≡ s) × (K < day_of (unit_day (entry_at day_ring x s))))
       by true b is = tt
       by false true is = tt
       by false false is =
           let later : K < date p / 86400 = gt_of (date p / 86400) K is in
-          let same : number_at (entry_at day_ring x p) 0 4 ≡ date p = number_in x (slot_place p) 5776 0 4 (omega arith) ∙ ap (λ (q : ℕ). number_at x q 4) (let e : slot_place p + 0 ≡ slot_place p = omega arith in e) in
+          let same : number_at (entry_at day_ring x p) 0 4 ≡ date p = number_in x (slot_place p) DAY_SLOT_SIZE 0 4 (omega arith) ∙ ap (λ (q : ℕ). number_at x q 4) (let e : slot_place p + 0 ≡ slot_place p = omega arith in e) in
           (known, refl, omega (arith, later, same))

@@ -8,6 +8,7 @@ use Rattle.std.proofs.lemmas.List.Elements.{filter-append}
 use Rattle.std.proofs.lemmas.List.FromFn.{length-map-range_with_len}
 use Rattle.gated_ring.specs.Ring.{pointer, is_there, entry_at}
 use Rattle.gated_ring.proofs.Orders.{filter_last, filter_none}
+use Rattle.unit_model.specs.declared.layout.TheConstants.{DAY_SLOTS}
 use Rattle.unit_model.specs.Days.{ShownDay, day_of, day_shown, minutes_shown, minute_at, Each}
 use Rattle.unit_model.specs.Image.{day_ring, last_kept, unit_day, indices, recorded, slot_date}
 use Rattle.unit_model.specs.Decoding.{Decodes, slot_day}
@@ -60,7 +61,7 @@ module _ (x : List ℕ) where
   stray = stray_of (last_kept x) (pointer day_ring x) (slot_date x (pointer day_ring x))
 
   -- a later day is not recorded
-  stray_out : (s : Option ℕ) → MatchOption s (Unit {0}) (λ s. (s < 366) × (pointer day_ring x ≡ s) × (K < day_of (unit_day (entry_at day_ring x s)))) → filter p (stray_list s) ≡ []
+  stray_out : (s : Option ℕ) → MatchOption s (Unit {0}) (λ s. (s < DAY_SLOTS) × (pointer day_ring x ≡ s) × (K < day_of (unit_day (entry_at day_ring x s)))) → filter p (stray_list s) ≡ []
   stray_out None later = refl
   stray_out (Some s) later = filter_none p s (le_false (slot_date x s / 86400) K (omega (arith, later.2, date_in x s)))
 
@@ -78,7 +79,7 @@ module _ (x : List ℕ) where
   last_recorded : IsDecoded x → 0 < last_kept x → (older : List ℕ) × (i : ℕ) × (slot_date x i / 86400 ≡ K) × (recorded_indices x ≡ older ++ i ∷ []) × (indices x ≡ (older ++ i ∷ []) ++ stray_list stray)
   unfolding recorded_indices
   last_recorded ok some =
-      let at = any_of (λ i. is_there day_ring x i && slot_day x i == K) 0 366 (ok.today some) in
+      let at = any_of (λ i. is_there day_ring x i && slot_day x i == K) 0 DAY_SLOTS (ok.today some) in
       let i : ℕ = at.0 in
       let parts = both_true (is_there day_ring x i) (slot_day x i == K) at.2 in
       let day_is : slot_date x i / 86400 ≡ K = eq_of (slot_date x i / 86400) K parts.1 in

@@ -8,7 +8,7 @@ use Rattle.tach_media.specs.Medium.{bytes_at}
 use Rattle.gated_ring.specs.Ring.{number_at, pointer, is_there, entry_at, next, order, indices as ring_indices}
 use Rattle.gated_ring.proofs.Orders as orders
 use Rattle.gated_ring.proofs.Orders.{order_each, map_same}
-use Rattle.unit_model.specs.declared.layout.TheConstants.{VERSION, OVER_COUNT}
+use Rattle.unit_model.specs.declared.layout.TheConstants.{DAYS, DAY_SLOTS, HIGHEST_ODOMETER, IDENTIFICATION, IMAGE_SIZE, INSERTIONS, INSERTION_SLOTS, LAST_KEPT, LAST_MINUTE, MOST_OVERS, ODOMETER, OVER_COUNT, PLACES, PLACE_SLOTS, VERSION}
 use Rattle.unit_model.specs.Days.{days_shown, word_minute}
 use Rattle.unit_model.specs.Image.{number_of, last_kept, odometer_at, day_ring, slot_place, unit_day, unit_days, indices, recorded}
 use Rattle.unit_model.specs.Decoding.{Decodes, front_checks, has_day, cell_place, cell_minute, cell_word, is_pointer_good, is_last_good, are_dense, day_checks}
@@ -45,23 +45,23 @@ module _ (vin registration : List ℕ) (limit : ℕ) (vin_long : length vin ≡ 
   front_long : length front ≡ 37
   front_long = omega (arith, length-append vin (registration ++ limit ∷ []), length-append registration (limit ∷ []), vin_long, registration_long)
 
-  in_two : x ≡ front ++ zeros 2485771
+  in_two : x ≡ front ++ zeros (IMAGE_SIZE - IDENTIFICATION.place)
   unfolding new_image
   in_two = ap (λ (l : List ℕ). (0 ∷ 0 ∷ 0 ∷ 1 ∷ []) ++ l)
-      (ap (λ (l : List ℕ). vin ++ l) (sym (append_assoc registration (limit ∷ []) (zeros 2485771))) ∙ sym (append_assoc vin (registration ++ limit ∷ []) (zeros 2485771)))
+      (ap (λ (l : List ℕ). vin ++ l) (sym (append_assoc registration (limit ∷ []) (zeros (IMAGE_SIZE - IDENTIFICATION.place)))) ∙ sym (append_assoc vin (registration ++ limit ∷ []) (zeros (IMAGE_SIZE - IDENTIFICATION.place))))
 
-  pub new_length : length x ≡ 2485808
-  new_length = omega (arith, ap length in_two, length-append front (zeros 2485771), front_long, zeros_length 2485771)
+  pub new_length : length x ≡ IMAGE_SIZE
+  new_length = omega (arith, ap length in_two, length-append front (zeros (IMAGE_SIZE - IDENTIFICATION.place)), front_long, zeros_length (IMAGE_SIZE - IDENTIFICATION.place))
 
   -- behind the speed limit there are zeros
-  pub new_zeros : (p n : ℕ) → 37 ≤ p → p + n ≤ 2485808 → bytes_at x p n ≡ zeros n
+  pub new_zeros : (p n : ℕ) → 37 ≤ p → p + n ≤ IMAGE_SIZE → bytes_at x p n ≡ zeros n
   new_zeros p n low high =
       let k = p - 37 in
       let is : 37 + k ≡ p = omega (arith, low) in
       ap (λ (q : ℕ). take n (drop q x)) (sym is) ∙ ap (take n) (sym (drop-drop k 37 x)) ∙ ap (λ (l : List ℕ). take n (drop k (drop 37 l))) in_two
-      ∙ ap (λ (l : List ℕ). take n (drop k l)) (drop_at front (zeros 2485771) 37 front_long) ∙ zeros_part k n 2485771 (omega (arith, low, high))
+      ∙ ap (λ (l : List ℕ). take n (drop k l)) (drop_at front (zeros (IMAGE_SIZE - IDENTIFICATION.place)) 37 front_long) ∙ zeros_part k n (IMAGE_SIZE - IDENTIFICATION.place) (omega (arith, low, high))
 
-  zero : (p : ℕ) → 37 ≤ p → p + 4 ≤ 2485808 → number_at x p 4 ≡ 0
+  zero : (p : ℕ) → 37 ≤ p → p + 4 ≤ IMAGE_SIZE → number_at x p 4 ≡ 0
   zero p low high = ap (big_number 4) (new_zeros p 4 low high) ∙ zeros_four
 
   version : number_of x VERSION ≡ 1
@@ -70,26 +70,26 @@ module _ (vin registration : List ℕ) (limit : ℕ) (vin_long : length vin ≡ 
 
   pub new_kept : last_kept x ≡ 0
   unfolding last_kept
-  new_kept = zero 564 (omega arith) (omega arith)
+  new_kept = zero LAST_KEPT.place (omega arith) (omega arith)
 
   pub new_odometer : odometer_at x ≡ 0
   unfolding odometer_at
-  new_odometer = zero 568 (omega arith) (omega arith)
+  new_odometer = zero ODOMETER.place (omega arith) (omega arith)
 
   new_pointer : pointer day_ring x ≡ 0
-  new_pointer = zero 1024 (omega arith) (omega arith)
+  new_pointer = zero DAYS.place (omega arith) (omega arith)
 
   pub new_cells : (n : ℕ) → n < 32 → cell_minute x n ≡ 0
   new_cells n below = zero (cell_place n) (omega arith) (omega (arith, below))
 
-  no_slot : (i : ℕ) → i < 366 → is_there day_ring x i ≡ false
+  no_slot : (i : ℕ) → i < DAY_SLOTS → is_there day_ring x i ≡ false
   no_slot i below = ap (λ (n : ℕ). not (n == 0)) (zero (slot_place i + 0) (omega arith) (omega (arith, below)))
 
   abbrev turn : List ℕ
   turn = order day_ring (next day_ring 0)
 
   no_slots : orders.Each (λ j. is_there day_ring x j ≡ false) turn
-  no_slots = orders.each_weaker (λ j. j < 366) (λ j. is_there day_ring x j ≡ false) turn no_slot (order_each day_ring (next day_ring 0) (omega arith))
+  no_slots = orders.each_weaker (λ j. j < DAY_SLOTS) (λ j. is_there day_ring x j ≡ false) turn no_slot (order_each day_ring (next day_ring 0) (omega arith))
 
   pub new_indices : indices x ≡ []
   unfolding indices ring_indices
@@ -100,15 +100,15 @@ module _ (vin registration : List ℕ) (limit : ℕ) (vin_long : length vin ≡ 
   new_recorded = ap (λ (js : List ℕ). days_shown (last_kept x) (map unit_day (map (entry_at day_ring x) js))) new_indices
 
   overs : number_of x OVER_COUNT ≡ 0
-  overs = zero 576 (omega arith) (omega arith)
+  overs = zero OVER_COUNT.place (omega arith) (omega arith)
 
   front_good : list_all passes (front_checks x) ≡ true
   front_good = λ t.
-      (version t == 1) && ((nat_le (new_kept t) 71582788 && (new_kept t == 0 || has_day x (new_kept t / 1440))) && (nat_le (new_odometer t) 9999999 && (nat_le (overs t) 255 && true)))
+      (version t == 1) && ((nat_le (new_kept t) LAST_MINUTE && (new_kept t == 0 || has_day x (new_kept t / 1440))) && (nat_le (new_odometer t) HIGHEST_ODOMETER && (nat_le (overs t) MOST_OVERS && true)))
 
   point_good : is_pointer_good x ≡ true
   point_good =
-      (λ t. nat_lt (new_pointer t) 366 && (are_dense (map (is_there day_ring x) (order day_ring (next day_ring (new_pointer t)))) && is_last_good x (new_pointer t) (new_indices t)))
+      (λ t. nat_lt (new_pointer t) DAY_SLOTS && (are_dense (map (is_there day_ring x) (order day_ring (next day_ring (new_pointer t)))) && is_last_good x (new_pointer t) (new_indices t)))
       ∙ ap (λ (l : List Bool). are_dense l && true) (map_same (λ j. false) (is_there day_ring x) turn no_slots)
       ∙ ap (λ (b : Bool). b && true) (none_dense turn)
 
@@ -118,7 +118,7 @@ module _ (vin registration : List ℕ) (limit : ℕ) (vin_long : length vin ≡ 
     cells = λ n below. ap (λ (m : ℕ). m == 0 || nat_lt (word_minute (cell_word x n)) 1440) (new_cells n below);
     point = point_good;
     slots = λ i below. ap (λ (b : Bool). list_all passes (cond b (day_checks x i) [])) (no_slot i below);
-    rings = λ t. nat_lt (zero 2115044 (omega arith) (omega arith) t) 2048 && (nat_lt (zero 2379240 (omega arith) (omega arith) t) 255 && true);
+    rings = λ t. nat_lt (zero INSERTIONS.place (omega arith) (omega arith) t) INSERTION_SLOTS && (nat_lt (zero PLACES.place (omega arith) (omega arith) t) PLACE_SLOTS && true);
   }
 
   pub new_decodes : Decodes x

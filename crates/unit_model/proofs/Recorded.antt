@@ -3,6 +3,7 @@ use Rattle.std.proofs.Common.{◌≡◌, not, refl, ℕ, zero, suc, ◌+◌, ◌
 use Rattle.std.specs.Prelude.{◌==◌, nat_le, slice_get}
 use Rattle.std.proofs.lemmas.List.{length-map}
 use Rattle.gated_ring.specs.Ring.{number_at, entry_at, is_there}
+use Rattle.unit_model.specs.declared.layout.TheConstants.{DAY_SLOT_SIZE}
 use Rattle.unit_model.specs.Days.{day_of, day_shown, days_shown, Each}
 use Rattle.unit_model.specs.Image.{last_kept, day_ring, slot_place, slot_date, indices, recorded, recorded_indices}
 use Rattle.unit_model.proofs.Numbers.{number_in}
@@ -16,7 +17,7 @@ each_get P (x ∷ xs) (suc k) i all is = each_get P xs k i all.1 is
 
 -- the date of a slot, in its bytes
 pub date_in : (x : List ℕ) (i : ℕ) → number_at (entry_at day_ring x i) 0 4 ≡ slot_date x i
-date_in x i = number_in x (slot_place i) 5776 0 4 (omega arith) ∙ ap (λ (q : ℕ). number_at x q 4) (let e : slot_place i + 0 ≡ slot_place i = omega arith in e)
+date_in x i = number_in x (slot_place i) DAY_SLOT_SIZE 0 4 (omega arith) ∙ ap (λ (q : ℕ). number_at x q 4) (let e : slot_place i + 0 ≡ slot_place i = omega arith in e)
 
 pub recorded_is : (x : List ℕ) (k : ℕ) → last_kept x ≡ k → recorded x ≡ days_shown k (Rattle.unit_model.specs.Image.unit_days x)
 unfolding recorded

@@ -5,6 +5,7 @@ use Rattle.std.proofs.lemmas.Bool.{cases_lt}
 use Rattle.std.proofs.lemmas.Bool.Decides.{nat_tests}
 use Rattle.std.proofs.lemmas.List.{drop-drop}
 use Rattle.std.proofs.lemmas.List.Elements.{Contains-append_left, Contains-append_right, Contains-append_cases}
+use Rattle.unit_model.specs.declared.layout.TheConstants.{DAY_SLOTS}
 use Rattle.unit_model.specs.Days.{UnitMinute, ShownDay, padded, with_minute, day_from, filled, newest_days, minutes_of, Each}
 use Rattle.unit_model.specs.Retention.{retained, last_day, begins_day, UnitRetains}
 
@@ -107,27 +108,27 @@ begins_one m days is = begins_by m (m ∷ []) days (omega arith, tt) is
 pub retains_more : (m : ℕ) (all : List ShownDay) (next : List ℕ) (shown : List ShownDay) → UnitRetains all next shown → UnitRetains all (m ∷ next) shown
 retains_more m all next shown (inl whole) = inl whole
 retains_more m all next shown (inr (begun, less)) =
-    let both = both_true (begins_day next all) (nat_le 366 (length all)) begun in
+    let both = both_true (begins_day next all) (nat_le DAY_SLOTS (length all)) begun in
     inr ((λ t. or_right (nat_lt (last_day all) (m / 1440)) (begins_day next all) both.0 t && both.1 t), less)
 
 -- the oldest of 366 days is given up
-pub given_retains : (m : ℕ) (all : List ShownDay) (next : List ℕ) (shown : List ShownDay) → UnitRetains all next shown → length shown ≡ 366 → last_day shown < m / 1440 → UnitRetains all (m ∷ next) (newest_days 365 shown)
+pub given_retains : (m : ℕ) (all : List ShownDay) (next : List ℕ) (shown : List ShownDay) → UnitRetains all next shown → length shown ≡ DAY_SLOTS → last_day shown < m / 1440 → UnitRetains all (m ∷ next) (newest_days (DAY_SLOTS - 1) shown)
 given_retains m all next shown (inl whole) full later =
-    let few : length all - (length all - 366) ≡ 366 = sym (length-drop (length all - 366) all) ∙ sym (ap length whole) ∙ full in
-    let last_is : last_day shown ≡ last_day all = ap last_day whole ∙ last_drop (length all - 366) all (omega (arith, few)) in
+    let few : length all - (length all - DAY_SLOTS) ≡ DAY_SLOTS = sym (length-drop (length all - DAY_SLOTS) all) ∙ sym (ap length whole) ∙ full in
+    let last_is : last_day shown ≡ last_day all = ap last_day whole ∙ last_drop (length all - DAY_SLOTS) all (omega (arith, few)) in
     inr (
-      (λ t. (nat_lt (last_day all) (m / 1440) || begins_day next all) && le_true 366 (length all) (omega (arith, few)) t)
+      (λ t. (nat_lt (last_day all) (m / 1440) || begins_day next all) && le_true DAY_SLOTS (length all) (omega (arith, few)) t)
           ∙ (λ t. (lt_true (last_day all) (m / 1440) (omega (arith, later, last_is)) t || begins_day next all) && true),
-      ap (newest_days 365) whole ∙ newest_drop 365 (length all - 366) all (omega arith),
+      ap (newest_days (DAY_SLOTS - 1)) whole ∙ newest_drop (DAY_SLOTS - 1) (length all - DAY_SLOTS) all (omega arith),
     )
 given_retains m all next shown (inr (begun, less)) full later =
-    let few : length all - (length all - 365) ≡ 366 = sym (length-drop (length all - 365) all) ∙ sym (ap length less) ∙ full in absurd (omega (arith, few))
+    let few : length all - (length all - (DAY_SLOTS - 1)) ≡ DAY_SLOTS = sym (length-drop (length all - (DAY_SLOTS - 1)) all) ∙ sym (ap length less) ∙ full in absurd (omega (arith, few))
 
 -- and a minute is kept, not earlier than those that were begun
-pub kept_retains : (all : List ShownDay) (next : List ℕ) (shown : List ShownDay) (k : UnitMinute) → UnitRetains all next shown → Each (λ m. m ≤ k.minute) next → retained shown k ≡ newest_days 366 (filled all k)
-kept_retains all next shown k (inl whole) low = ap (λ (days : List ShownDay). retained days k) whole ∙ newest_kept 365 all k
+pub kept_retains : (all : List ShownDay) (next : List ℕ) (shown : List ShownDay) (k : UnitMinute) → UnitRetains all next shown → Each (λ m. m ≤ k.minute) next → retained shown k ≡ newest_days DAY_SLOTS (filled all k)
+kept_retains all next shown k (inl whole) low = ap (λ (days : List ShownDay). retained days k) whole ∙ newest_kept (DAY_SLOTS - 1) all k
 kept_retains all next shown k (inr (begun, less)) low =
-    let both = both_true (begins_day next all) (nat_le 366 (length all)) begun in
+    let both = both_true (begins_day next all) (nat_le DAY_SLOTS (length all)) begun in
     ap (λ (days : List ShownDay). retained days k) less ∙ newest_further 364 all k (begins_by k.minute next all low both.0)
 
 -- the minutes that the days have stay, but for those of a day that is given up
@@ -148,7 +149,7 @@ pub drop_holds : (days : List ShownDay) (m : UnitMinute) → Contains (minutes_o
 drop_holds [] m has = absurd (omega (arith, has.1))
 drop_holds (d ∷ days) m has = ⊎_elim (λ here. inl (Contains-append_left d.minutes [] m here)) (λ later. inr later) (Contains-append_cases d.minutes (minutes_of days) m has)
 
-pub kept_holds : (days : List ShownDay) (k m : UnitMinute) → length days ≤ 366 → Contains (minutes_of days) m
+pub kept_holds : (days : List ShownDay) (k m : UnitMinute) → length days ≤ DAY_SLOTS → Contains (minutes_of days) m
     → Contains (minutes_of (retained days k)) m ⊎ ((length (filled days k) ≡ 367) × Contains (minutes_of (take 1 days)) m)
 kept_holds days k m few has = ⊎_elim
     (λ more.
@@ -156,14 +157,14 @@ kept_holds days k m few has = ⊎_elim
     let two : 1 < length days = omega (arith, full, filled_most days k) in
     ⊎_elim
     (λ first. inr (full, first))
-    (λ rest. inl (subst (λ (n : ℕ). Contains (minutes_of (drop n (filled days k))) m) (let e : 1 ≡ length (filled days k) - 366 = omega (arith, full) in e)
+    (λ rest. inl (subst (λ (n : ℕ). Contains (minutes_of (drop n (filled days k))) m) (let e : 1 ≡ length (filled days k) - DAY_SLOTS = omega (arith, full) in e)
     (subst (λ (ds : List ShownDay). Contains (minutes_of ds) m) (drop_filled 1 days k two) (filled_holds (drop 1 days) k m rest))))
     (drop_holds days m has))
-    (λ fits. inl (subst (λ (n : ℕ). Contains (minutes_of (drop n (filled days k))) m) (let e : 0 ≡ length (filled days k) - 366 = omega (arith, fits) in e) (filled_holds days k m has)))
-    (cases_lt 366 (length (filled days k)))
+    (λ fits. inl (subst (λ (n : ℕ). Contains (minutes_of (drop n (filled days k))) m) (let e : 0 ≡ length (filled days k) - DAY_SLOTS = omega (arith, fits) in e) (filled_holds days k m has)))
+    (cases_lt DAY_SLOTS (length (filled days k)))
 
-pub given_holds : (days : List ShownDay) (m : UnitMinute) → length days ≡ 366 → Contains (minutes_of days) m → Contains (minutes_of (newest_days 365 days)) m ⊎ Contains (minutes_of (take 1 days)) m
+pub given_holds : (days : List ShownDay) (m : UnitMinute) → length days ≡ DAY_SLOTS → Contains (minutes_of days) m → Contains (minutes_of (newest_days (DAY_SLOTS - 1) days)) m ⊎ Contains (minutes_of (take 1 days)) m
 given_holds days m full has = ⊎_elim
     (λ first. inr first)
-    (λ rest. inl (subst (λ (n : ℕ). Contains (minutes_of (drop n days)) m) (let e : 1 ≡ length days - 365 = omega (arith, full) in e) rest))
+    (λ rest. inl (subst (λ (n : ℕ). Contains (minutes_of (drop n days)) m) (let e : 1 ≡ length days - (DAY_SLOTS - 1) = omega (arith, full) in e) rest))
     (drop_holds days m has)

@@ -7,6 +7,7 @@ use Rattle.std.proofs.lemmas.List.{append-nil}
 use Rattle.std.proofs.lemmas.List.Elements.{filter-append}
 use Rattle.gated_ring.specs.Ring.{pointer, is_there}
 use Rattle.gated_ring.proofs.Orders.{range_split, filter_last, filter_short}
+use Rattle.unit_model.specs.declared.layout.TheConstants.{DAY_SLOTS}
 use Rattle.unit_model.specs.Days.{StoredDay, day_of, Each}
 use Rattle.unit_model.specs.Image.{day_ring, indices, slot_date}
 use Rattle.unit_model.specs.Decoding.{indices_before}
@@ -52,7 +53,7 @@ module _ (x : List ℕ) (ok : IsDecoded x) where
   date = slot_date x
 
   -- a part of the turn, where those before each are known
-  rising_range : (front : ℕ → List ℕ) (a n : ℕ) → a + n ≤ 366 → ((j : ℕ) → a ≤ j → j < a + n → (indices_before x j ≡ filter t (front j)) × (front (j + 1) ≡ front j ++ j ∷ []))
+  rising_range : (front : ℕ → List ℕ) (a n : ℕ) → a + n ≤ DAY_SLOTS → ((j : ℕ) → a ≤ j → j < a + n → (indices_before x j ≡ filter t (front j)) × (front (j + 1) ≡ front j ++ j ∷ []))
       → AreRising date (filter t (front a)) (filter t (range_with_len a n))
   rising_range front a zero fits known = tt
   rising_range front a (suc n) fits known =
@@ -69,7 +70,7 @@ module _ (x : List ℕ) (ok : IsDecoded x) where
       by rest false off = subst (λ (l : List ℕ). AreRising date l (filter t (range_with_len (a + 1) n))) (ap (filter t) here.1 ∙ filter_short t (front a) a off) rest
 
   abbrev R : List ℕ
-  R = range_with_len (p + 1) (366 - (p + 1))
+  R = range_with_len (p + 1) (DAY_SLOTS - (p + 1))
 
   range_push : (a j : ℕ) → a ≤ j → range_with_len a (j + 1 - a) ≡ range_with_len a (j - a) ++ j ∷ []
   range_push a j le =
@@ -78,7 +79,7 @@ module _ (x : List ℕ) (ok : IsDecoded x) where
 
   first_part : AreRising date [] (filter t R)
   first_part = subst (λ (n : ℕ). AreRising date (filter t (range_with_len (p + 1) n)) (filter t R)) (let e : p + 1 - (p + 1) ≡ 0 = omega arith in e)
-      (rising_range (λ j. range_with_len (p + 1) (j - (p + 1))) (p + 1) (366 - (p + 1)) (omega (arith, ok.known)) (λ j low high. (
+      (rising_range (λ j. range_with_len (p + 1) (j - (p + 1))) (p + 1) (DAY_SLOTS - (p + 1)) (omega (arith, ok.known)) (λ j low high. (
         ap (λ (b : Bool). filter t (cond b (range_with_len (p + 1) (j - (p + 1))) (R ++ range_with_len 0 j))) (le_true (p + 1) j low),
         range_push (p + 1) j low,
       )))

@@ -11,6 +11,7 @@ use Rattle.tach_media.proofs.Images.{outside_wider}
 use Rattle.gated_ring.specs.Ring.{number_at, pointer, is_there, next, order}
 use Rattle.gated_ring.proofs.Orders as orders
 use Rattle.gated_ring.proofs.Orders.{rest, rest_others, order_last, each_append, each_weaker, each_filter, range_each, filter_same, map_same}
+use Rattle.unit_model.specs.declared.layout.TheConstants.{DAYS, DAY_COUNT, DAY_SLOTS, DAY_SLOT_SIZE, DAY_WORDS, DAY_WORD_LIMIT, HIGHEST_ODOMETER, INSERTIONS, INSERTION_SLOTS, LAST_KEPT, ODOMETER, OVER_COUNT, OWED, PLACES, PLACE_SLOTS, SPARE_ROWS}
 use Rattle.unit_model.specs.Days.{slot_bit, word_minute, Each}
 use Rattle.unit_model.specs.Image.{last_kept, odometer_at, day_ring, slot_place, indices, slot_date, slot_odometer, slot_count, slot_words, words_at}
 use Rattle.unit_model.specs.Decoding.{check, cell_place, cell_minute, cell_word, cell_check, slot_checks, slot_day, has_day, is_pointer_good, is_last_good, are_dense, indices_before, is_date_good, is_filled_on, is_word_good, is_first_good, day_checks, word_checks}
@@ -28,7 +29,7 @@ pub record SameDates (x c : List ℕ) : Type 0 where
 
 module _ (x c : List ℕ) (same : SameDates x c) where
   pub same_day : (day : ℕ) → has_day c day ≡ has_day x day
-  same_day day = λ t. list_any (λ i. same.there i t && same.date i t / 86400 == day) (range_with_len 0 366)
+  same_day day = λ t. list_any (λ i. same.there i t && same.date i t / 86400 == day) (range_with_len 0 DAY_SLOTS)
 
   last_same : (p : ℕ) (js : List ℕ) → is_last_good c p js ≡ is_last_good x p js
   last_same p [] = refl
@@ -43,12 +44,12 @@ module _ (x c : List ℕ) (same : SameDates x c) where
   last_is = (λ t. is_last_good c (same.pointer_is t) (all_same t)) ∙ last_same (pointer day_ring x) (indices x)
 
   pub same_point : is_pointer_good c ≡ is_pointer_good x
-  same_point = λ t. nat_lt (same.pointer_is t) 366 && (are_dense (map (λ i. same.there i t) (order day_ring (next day_ring (same.pointer_is t)))) && last_is t)
+  same_point = λ t. nat_lt (same.pointer_is t) DAY_SLOTS && (are_dense (map (λ i. same.there i t) (order day_ring (next day_ring (same.pointer_is t)))) && last_is t)
 
   same_before : (i : ℕ) → map (slot_date c) (indices_before c i) ≡ map (slot_date x) (indices_before x i)
   same_before i = λ t.
       let q : ℕ = same.pointer_is t + 1 in
-      map (λ j. same.date j t) (filter (λ j. same.there j t) (cond (nat_le q i) (range_with_len q (i - q)) (range_with_len q (366 - q) ++ range_with_len 0 i)))
+      map (λ j. same.date j t) (filter (λ j. same.there j t) (cond (nat_le q i) (range_with_len q (i - q)) (range_with_len q (DAY_SLOTS - q) ++ range_with_len 0 i)))
 
   pub date_good : (i : ℕ) → is_date_good (last_kept c) (map (slot_date c) (indices_before c i)) (slot_date c i) ≡ is_date_good (last_kept x) (map (slot_date x) (indices_before x i)) (slot_date x i)
   date_good i = λ t. is_date_good (same.kept t) (same_before i t) (same.date i t)
@@ -60,21 +61,21 @@ slot_same : (x c : List ℕ) (i : ℕ) → is_there day_ring c i ≡ is_there da
     → slot_checks c i ≡ slot_checks x i
 slot_same x c i there date odometer count words =
     let p : ℕ = slot_place i in
-    (λ t. cond (there t) (check p (date t) ∷ check (p + 4) (nat_le (odometer t) 9999999) ∷ check (p + 8) (nat_le 2 (count t) && nat_le (count t) 2880) ∷ word_checks (p + 16) [] (slot_words c i (count t))) [])
-    ∙ (λ t. cond (is_there day_ring x i) (check p (is_date_good (last_kept x) (map (slot_date x) (indices_before x i)) (slot_date x i)) ∷ check (p + 4) (nat_le (slot_odometer x i) 9999999) ∷ check (p + 8) (nat_le 2 (slot_count x i) && nat_le (slot_count x i) 2880) ∷ word_checks (p + 16) [] (words t)) [])
+    (λ t. cond (there t) (check p (date t) ∷ check (p + 4) (nat_le (odometer t) HIGHEST_ODOMETER) ∷ check (p + 8) (nat_le 2 (count t) && nat_le (count t) DAY_WORD_LIMIT) ∷ word_checks (p + 16) [] (slot_words c i (count t))) [])
+    ∙ (λ t. cond (is_there day_ring x i) (check p (is_date_good (last_kept x) (map (slot_date x) (indices_before x i)) (slot_date x i)) ∷ check (p + 4) (nat_le (slot_odometer x i) HIGHEST_ODOMETER) ∷ check (p + 8) (nat_le 2 (slot_count x i) && nat_le (slot_count x i) DAY_WORD_LIMIT) ∷ word_checks (p + 16) [] (words t)) [])
 
 -- writes in the owed rows whose cells pass
-module _ (x c : List ℕ) (same : SameOutside 624 384 x c) (cells : (n : ℕ) → n < 32 → (cell_check x n).passes ≡ true → (cell_check c n).passes ≡ true) where
+module _ (x c : List ℕ) (same : SameOutside OWED.place OWED.size x c) (cells : (n : ℕ) → n < 32 → (cell_check x n).passes ≡ true → (cell_check c n).passes ≡ true) where
   but : SameButOne 0 x c
-  but = in_front 0 624 384 x c (omega arith) same
+  but = in_front 0 OWED.place OWED.size x c (omega arith) same
 
-  behind : (a n : ℕ) → 1008 ≤ a → number_at c a n ≡ number_at x a n
-  behind a n le = number_after 624 384 a n x c same (omega (arith, le))
+  behind : (a n : ℕ) → SPARE_ROWS.place ≤ a → number_at c a n ≡ number_at x a n
+  behind a n le = number_after OWED.place OWED.size a n x c same (omega (arith, le))
 
   dates : SameDates x c
   unfolding last_kept
   dates = record {
-    kept = number_before 624 384 564 4 x c same (omega arith);
+    kept = number_before OWED.place OWED.size LAST_KEPT.place LAST_KEPT.size x c same (omega arith);
     pointer_is = but.pointer_is;
     there = but.there;
     date = λ i. behind (slot_place i) 4 (omega arith);
@@ -83,18 +84,18 @@ module _ (x c : List ℕ) (same : SameOutside 624 384 x c) (cells : (n : ℕ) �
   pub rows_pass : IsGood x → IsGood c
   unfolding odometer_at
   rows_pass good = record {
-    front = front_still x c (number_before 624 384 0 4 x c same (omega arith)) dates.kept (number_before 624 384 568 4 x c same (omega arith)) (number_before 624 384 576 4 x c same (omega arith))
+    front = front_still x c (number_before OWED.place OWED.size 0 4 x c same (omega arith)) dates.kept (number_before OWED.place OWED.size ODOMETER.place ODOMETER.size x c same (omega arith)) (number_before OWED.place OWED.size OVER_COUNT.place OVER_COUNT.size x c same (omega arith))
         (λ there. same_day x c dates (last_kept x / 1440) ∙ there) good.front;
     cells = λ n below. cells n below (good.cells n below);
     point = same_point x c dates ∙ good.point;
     slots = λ i below.
         let p : ℕ = slot_place i in
-        ap (list_all passes) (slot_same x c i (but.there i) (date_good x c dates i) (behind (p + 4) 4 (omega arith)) (behind (p + 8) 2 (omega arith)) (words_after 624 384 (p + 16) (slot_count x i) x c same (omega arith))) ∙ good.slots i below;
-    rings = (λ t. list_all passes (check 2115044 (nat_lt (behind 2115044 4 (omega arith) t) 2048) ∷ check 2379240 (nat_lt (behind 2379240 4 (omega arith) t) 255) ∷ [])) ∙ good.rings;
+        ap (list_all passes) (slot_same x c i (but.there i) (date_good x c dates i) (behind (p + 4) 4 (omega arith)) (behind (p + 8) 2 (omega arith)) (words_after OWED.place OWED.size (p + 16) (slot_count x i) x c same (omega arith))) ∙ good.slots i below;
+    rings = (λ t. list_all passes (check INSERTIONS.place (nat_lt (behind INSERTIONS.place 4 (omega arith) t) INSERTION_SLOTS) ∷ check PLACES.place (nat_lt (behind PLACES.place 4 (omega arith) t) PLACE_SLOTS) ∷ [])) ∙ good.rings;
   }
 
 -- writes in the owed rows that leave the words of cells, and empty cells or leave them
-module _ (x c : List ℕ) (same : SameOutside 624 384 x c) (words : (n : ℕ) → cell_word c n ≡ cell_word x n) (minutes : (n : ℕ) → n < 32 → (cell_minute c n ≡ 0) ⊎ (cell_minute c n ≡ cell_minute x n)) where
+module _ (x c : List ℕ) (same : SameOutside OWED.place OWED.size x c) (words : (n : ℕ) → cell_word c n ≡ cell_word x n) (minutes : (n : ℕ) → n < 32 → (cell_minute c n ≡ 0) ⊎ (cell_minute c n ≡ cell_minute x n)) where
   cell_good : (n : ℕ) → n < 32 → (cell_check x n).passes ≡ true → (cell_check c n).passes ≡ true
   cell_good n below good = ⊎_elim
       (λ empty. ap (λ (m : ℕ). m == 0 || nat_lt (word_minute (cell_word c n)) 1440) empty)
@@ -107,10 +108,10 @@ module _ (x c : List ℕ) (same : SameOutside 624 384 x c) (words : (n : ℕ) �
 -- the checks of a slot that is there
 pub record DayPasses (x : List ℕ) (i : ℕ) : Type 0 where
   pub date : is_date_good (last_kept x) (map (slot_date x) (indices_before x i)) (slot_date x i) ≡ true
-  pub odometer : nat_le (slot_odometer x i) 9999999 ≡ true
+  pub odometer : nat_le (slot_odometer x i) HIGHEST_ODOMETER ≡ true
   pub low : 2 ≤ slot_count x i
-  pub high : slot_count x i ≤ 2880
-  pub words : list_all passes (word_checks (slot_place i + 16) [] (slot_words x i (slot_count x i))) ≡ true
+  pub high : slot_count x i ≤ DAY_WORD_LIMIT
+  pub words : list_all passes (word_checks (slot_place i + DAY_WORDS.place) [] (slot_words x i (slot_count x i))) ≡ true
 
 eq_of : (a b : ℕ) → (a == b) ≡ true → a ≡ b
 eq_of a b is = grind (arith, nat_tests)
@@ -118,20 +119,20 @@ eq_of a b is = grind (arith, nat_tests)
 pub day_split : (x : List ℕ) (i : ℕ) → list_all passes (day_checks x i) ≡ true → DayPasses x i
 day_split x i all =
     let n : ℕ = slot_count x i in
-    let words : Bool = list_all passes (word_checks (slot_place i + 16) [] (slot_words x i n)) in
-    let date = and_split (is_date_good (last_kept x) (map (slot_date x) (indices_before x i)) (slot_date x i)) (nat_le (slot_odometer x i) 9999999 && ((nat_le 2 n && nat_le n 2880) && words)) all in
-    let odometer = and_split (nat_le (slot_odometer x i) 9999999) ((nat_le 2 n && nat_le n 2880) && words) date.1 in
-    let count = and_split (nat_le 2 n && nat_le n 2880) words odometer.1 in
-    let range = and_split (nat_le 2 n) (nat_le n 2880) count.0 in
-    record { date = date.0; odometer = odometer.0; low = le_of 2 n range.0; high = le_of n 2880 range.1; words = count.1 }
+    let words : Bool = list_all passes (word_checks (slot_place i + DAY_WORDS.place) [] (slot_words x i n)) in
+    let date = and_split (is_date_good (last_kept x) (map (slot_date x) (indices_before x i)) (slot_date x i)) (nat_le (slot_odometer x i) HIGHEST_ODOMETER && ((nat_le 2 n && nat_le n DAY_WORD_LIMIT) && words)) all in
+    let odometer = and_split (nat_le (slot_odometer x i) HIGHEST_ODOMETER) ((nat_le 2 n && nat_le n DAY_WORD_LIMIT) && words) date.1 in
+    let count = and_split (nat_le 2 n && nat_le n DAY_WORD_LIMIT) words odometer.1 in
+    let range = and_split (nat_le 2 n) (nat_le n DAY_WORD_LIMIT) count.0 in
+    record { date = date.0; odometer = odometer.0; low = le_of 2 n range.0; high = le_of n DAY_WORD_LIMIT range.1; words = count.1 }
 
 pub day_join : (x : List ℕ) (i : ℕ) → DayPasses x i → list_all passes (day_checks x i) ≡ true
 day_join x i day =
     let n : ℕ = slot_count x i in
-    let words : Bool = list_all passes (word_checks (slot_place i + 16) [] (slot_words x i n)) in
-    and_join (is_date_good (last_kept x) (map (slot_date x) (indices_before x i)) (slot_date x i)) (nat_le (slot_odometer x i) 9999999 && ((nat_le 2 n && nat_le n 2880) && words)) day.date
-    (and_join (nat_le (slot_odometer x i) 9999999) ((nat_le 2 n && nat_le n 2880) && words) day.odometer
-    (and_join (nat_le 2 n && nat_le n 2880) words (and_join (nat_le 2 n) (nat_le n 2880) (le_true 2 n day.low) (le_true n 2880 day.high)) day.words))
+    let words : Bool = list_all passes (word_checks (slot_place i + DAY_WORDS.place) [] (slot_words x i n)) in
+    and_join (is_date_good (last_kept x) (map (slot_date x) (indices_before x i)) (slot_date x i)) (nat_le (slot_odometer x i) HIGHEST_ODOMETER && ((nat_le 2 n && nat_le n DAY_WORD_LIMIT) && words)) day.date
+    (and_join (nat_le (slot_odometer x i) HIGHEST_ODOMETER) ((nat_le 2 n && nat_le n DAY_WORD_LIMIT) && words) day.odometer
+    (and_join (nat_le 2 n && nat_le n DAY_WORD_LIMIT) words (and_join (nat_le 2 n) (nat_le n DAY_WORD_LIMIT) (le_true 2 n day.low) (le_true n DAY_WORD_LIMIT day.high)) day.words))
 
 pub slot_by : (x c : List ℕ) (i : ℕ) → is_there day_ring c i ≡ is_there day_ring x i → (DayPasses x i → DayPasses c i) → list_all passes (slot_checks x i) ≡ true → list_all passes (slot_checks c i) ≡ true
 slot_by x c i there day all = by (is_there day_ring x i) refl
@@ -145,35 +146,35 @@ slot_by x c i there day all = by (is_there day_ring x i) refl
 -- a day of which nothing has changed
 pub day_still : (x c : List ℕ) (i : ℕ)
     → is_date_good (last_kept c) (map (slot_date c) (indices_before c i)) (slot_date c i) ≡ is_date_good (last_kept x) (map (slot_date x) (indices_before x i)) (slot_date x i)
-    → slot_odometer c i ≡ slot_odometer x i → slot_count c i ≡ slot_count x i → (slot_count x i ≤ 2880 → slot_words c i (slot_count x i) ≡ slot_words x i (slot_count x i)) → DayPasses x i → DayPasses c i
+    → slot_odometer c i ≡ slot_odometer x i → slot_count c i ≡ slot_count x i → (slot_count x i ≤ DAY_WORD_LIMIT → slot_words c i (slot_count x i) ≡ slot_words x i (slot_count x i)) → DayPasses x i → DayPasses c i
 day_still x c i date odometer count words day = record {
   date = date ∙ day.date;
-  odometer = ap (λ (n : ℕ). nat_le n 9999999) odometer ∙ day.odometer;
+  odometer = ap (λ (n : ℕ). nat_le n HIGHEST_ODOMETER) odometer ∙ day.odometer;
   low = omega (arith, count, day.low);
   high = omega (arith, count, day.high);
-  words = ap (λ (n : ℕ). list_all passes (word_checks (slot_place i + 16) [] (slot_words c i n))) count
-      ∙ ap (λ (ws : List ℕ). list_all passes (word_checks (slot_place i + 16) [] ws)) (words day.high) ∙ day.words;
+  words = ap (λ (n : ℕ). list_all passes (word_checks (slot_place i + DAY_WORDS.place) [] (slot_words c i n))) count
+      ∙ ap (λ (ws : List ℕ). list_all passes (word_checks (slot_place i + DAY_WORDS.place) [] ws)) (words day.high) ∙ day.words;
 }
 
 -- writes in the day slots
-module _ (x c : List ℕ) (same : SameOutside 1028 2114016 x c) where
-  out_front : (a n : ℕ) → a + n ≤ 1028 → number_at c a n ≡ number_at x a n
-  out_front a n le = number_before 1028 2114016 a n x c same le
+module _ (x c : List ℕ) (same : SameOutside (slot_place 0) (DAYS.size - 4) x c) where
+  out_front : (a n : ℕ) → a + n ≤ (slot_place 0) → number_at c a n ≡ number_at x a n
+  out_front a n le = number_before (slot_place 0) (DAYS.size - 4) a n x c same le
 
-  out_behind : (a n : ℕ) → 2115044 ≤ a → number_at c a n ≡ number_at x a n
-  out_behind a n le = number_after 1028 2114016 a n x c same le
+  out_behind : (a n : ℕ) → INSERTIONS.place ≤ a → number_at c a n ≡ number_at x a n
+  out_behind a n le = number_after (slot_place 0) (DAYS.size - 4) a n x c same le
 
   out_cell : (n : ℕ) → n < 32 → (cell_check c n).passes ≡ (cell_check x n).passes
   out_cell n below = λ t. out_front (cell_place n) 4 (omega (arith, below)) t == 0 || nat_lt (word_minute (out_front (cell_place n + 4) 2 (omega (arith, below)) t)) 1440
 
-  pub out_good : (has_day x (last_kept x / 1440) ≡ true → has_day c (last_kept x / 1440) ≡ true) → is_pointer_good c ≡ true → ((i : ℕ) → i < 366 → list_all passes (slot_checks c i) ≡ true) → IsGood x → IsGood c
+  pub out_good : (has_day x (last_kept x / 1440) ≡ true → has_day c (last_kept x / 1440) ≡ true) → is_pointer_good c ≡ true → ((i : ℕ) → i < DAY_SLOTS → list_all passes (slot_checks c i) ≡ true) → IsGood x → IsGood c
   unfolding last_kept odometer_at
   out_good today point slots good = record {
-    front = front_still x c (out_front 0 4 (omega arith)) (out_front 564 4 (omega arith)) (out_front 568 4 (omega arith)) (out_front 576 4 (omega arith)) today good.front;
+    front = front_still x c (out_front 0 4 (omega arith)) (out_front LAST_KEPT.place LAST_KEPT.size (omega arith)) (out_front ODOMETER.place ODOMETER.size (omega arith)) (out_front OVER_COUNT.place OVER_COUNT.size (omega arith)) today good.front;
     cells = λ n below. out_cell n below ∙ good.cells n below;
     point = point;
     slots = slots;
-    rings = (λ t. list_all passes (check 2115044 (nat_lt (out_behind 2115044 4 (omega arith) t) 2048) ∷ check 2379240 (nat_lt (out_behind 2379240 4 (omega arith) t) 255) ∷ [])) ∙ good.rings;
+    rings = (λ t. list_all passes (check INSERTIONS.place (nat_lt (out_behind INSERTIONS.place 4 (omega arith) t) INSERTION_SLOTS) ∷ check PLACES.place (nat_lt (out_behind PLACES.place 4 (omega arith) t) PLACE_SLOTS) ∷ [])) ∙ good.rings;
   }
 
 -- words in front of others are as good without these
@@ -202,23 +203,23 @@ two_first place k (u ∷ []) (w ∷ b) all late some =
     absurd (not_first (u ∷ []) k 1 w refl refl (and_split (is_word_good (u ∷ []) w) (list_all passes (word_checks (place + 2 + 2) (u ∷ w ∷ []) b)) rest).0 late.0)
 
 -- a write of a slot's count
-module _ (x c : List ℕ) (i : ℕ) (below : i < 366) (same : SameOutside (slot_place i + 8) 2 x c) where
+module _ (x c : List ℕ) (i : ℕ) (below : i < DAY_SLOTS) (same : SameOutside (slot_place i + DAY_COUNT.place) 2 x c) where
   abbrev q : ℕ
-  q = slot_place i + 8
+  q = slot_place i + DAY_COUNT.place
 
   count_but : SameButOne i x c
   count_but = in_slot i q 2 x c (omega arith) (omega arith) same
 
-  count_elsewhere : (j a m : ℕ) → j ≢ i → a + m ≤ 5776 → number_at c (slot_place j + a) m ≡ number_at x (slot_place j + a) m
+  count_elsewhere : (j a m : ℕ) → j ≢ i → a + m ≤ DAY_SLOT_SIZE → number_at c (slot_place j + a) m ≡ number_at x (slot_place j + a) m
   count_elsewhere j a m other le = ⊎_elim
       (λ less. number_before q 2 (slot_place j + a) m x c same (omega (arith, less, le)))
       (λ more. let greater : i < j = omega (arith, more, other) in number_after q 2 (slot_place j + a) m x c same (omega (arith, greater)))
       (cases_lt j i)
 
-  count_words : (j m : ℕ) → j ≢ i → m ≤ 2880 → slot_words c j m ≡ slot_words x j m
+  count_words : (j m : ℕ) → j ≢ i → m ≤ DAY_WORD_LIMIT → slot_words c j m ≡ slot_words x j m
   count_words j m other le = ⊎_elim
-      (λ less. words_before q 2 (slot_place j + 16) m x c same (omega (arith, less, le)))
-      (λ more. let greater : i < j = omega (arith, more, other) in words_after q 2 (slot_place j + 16) m x c same (omega (arith, greater)))
+      (λ less. words_before q 2 (slot_place j + DAY_WORDS.place) m x c same (omega (arith, less, le)))
+      (λ more. let greater : i < j = omega (arith, more, other) in words_after q 2 (slot_place j + DAY_WORDS.place) m x c same (omega (arith, greater)))
       (cases_lt j i)
 
   count_date : (j : ℕ) → slot_date c j ≡ slot_date x j
@@ -229,7 +230,7 @@ module _ (x c : List ℕ) (i : ℕ) (below : i < 366) (same : SameOutside (slot_
 
   count_dates : SameDates x c
   unfolding last_kept
-  count_dates = record { kept = number_before q 2 564 4 x c same (omega arith); pointer_is = count_but.pointer_is; there = count_but.there; date = count_date }
+  count_dates = record { kept = number_before q 2 LAST_KEPT.place LAST_KEPT.size x c same (omega arith); pointer_is = count_but.pointer_is; there = count_but.there; date = count_date }
 
   count_slot : (DayPasses x i → DayPasses c i) → (j : ℕ) → list_all passes (slot_checks x j) ≡ true → list_all passes (slot_checks c j) ≡ true
   count_slot here j all = by (cases_eq j i)
@@ -241,25 +242,25 @@ module _ (x c : List ℕ) (i : ℕ) (below : i < 366) (same : SameOutside (slot_
       by (inr other) = slot_by x c j (count_but.there j) (day_still x c j (date_good x c count_dates j) (count_elsewhere j 4 4 other (omega arith)) (count_elsewhere j 8 2 other (omega arith)) (count_words j (slot_count x j) other)) all
 
   count_good : (DayPasses x i → DayPasses c i) → IsGood x → IsGood c
-  count_good here good = out_good x c (outside_wider 1028 2114016 q 2 x c same (omega arith) (omega (arith, below))) (λ there. same_day x c count_dates (last_kept x / 1440) ∙ there) (same_point x c count_dates ∙ good.point) (λ j less. count_slot here j (good.slots j less)) good
+  count_good here good = out_good x c (outside_wider (slot_place 0) (DAYS.size - 4) q 2 x c same (omega arith) (omega (arith, below))) (λ there. same_day x c count_dates (last_kept x / 1440) ∙ there) (same_point x c count_dates ∙ good.point) (λ j less. count_slot here j (good.slots j less)) good
 
   -- with this count its words are good
-  counted_here : (n : ℕ) → slot_count c i ≡ n → 2 ≤ n → n ≤ 2880 → list_all passes (word_checks (slot_place i + 16) [] (slot_words c i n)) ≡ true → DayPasses x i → DayPasses c i
+  counted_here : (n : ℕ) → slot_count c i ≡ n → 2 ≤ n → n ≤ DAY_WORD_LIMIT → list_all passes (word_checks (slot_place i + DAY_WORDS.place) [] (slot_words c i n)) ≡ true → DayPasses x i → DayPasses c i
   counted_here n count two few words day = record {
     date = date_good x c count_dates i ∙ day.date;
-    odometer = ap (λ (m : ℕ). nat_le m 9999999) (number_before q 2 (slot_place i + 4) 4 x c same (omega arith)) ∙ day.odometer;
+    odometer = ap (λ (m : ℕ). nat_le m HIGHEST_ODOMETER) (number_before q 2 (slot_place i + 4) 4 x c same (omega arith)) ∙ day.odometer;
     low = omega (arith, two, count);
     high = omega (arith, few, count);
-    words = ap (λ (m : ℕ). list_all passes (word_checks (slot_place i + 16) [] (slot_words c i m))) count ∙ words;
+    words = ap (λ (m : ℕ). list_all passes (word_checks (slot_place i + DAY_WORDS.place) [] (slot_words c i m))) count ∙ words;
   }
 
-  pub counted_good : (n : ℕ) → slot_count c i ≡ n → 2 ≤ n → n ≤ 2880 → list_all passes (word_checks (slot_place i + 16) [] (slot_words c i n)) ≡ true → IsGood x → IsGood c
+  pub counted_good : (n : ℕ) → slot_count c i ≡ n → 2 ≤ n → n ≤ DAY_WORD_LIMIT → list_all passes (word_checks (slot_place i + DAY_WORDS.place) [] (slot_words c i n)) ≡ true → IsGood x → IsGood c
   counted_good n count two few words = count_good (counted_here n count two few words)
 
   -- the count is cut to the words that are not later
-  pub cut_good : (stored n k : ℕ) → n ≤ stored → slot_count x i ≡ stored → slot_count c i ≡ n → Each (λ w. k < word_minute w) (words_at x (slot_place i + 16 + 2 * n) (stored - n)) → IsGood x → IsGood c
+  pub cut_good : (stored n k : ℕ) → n ≤ stored → slot_count x i ≡ stored → slot_count c i ≡ n → Each (λ w. k < word_minute w) (words_at x (slot_place i + DAY_WORDS.place + 2 * n) (stored - n)) → IsGood x → IsGood c
   cut_good stored n k few count count' late = count_good (λ day.
-      let p : ℕ = slot_place i + 16 in
+      let p : ℕ = slot_place i + DAY_WORDS.place in
       let whole : n + (stored - n) ≡ slot_count x i = omega (arith, few, count) in
       let front = slot_words x i n in
       let rest = words_at x (p + 2 * n) (stored - n) in
@@ -320,18 +321,18 @@ dense_short t u s off (j ∷ js) all is = by (dense_short t u s off js all.1) (t
         ∙ more (sym (ap (λ (b : Bool). are_dense (b ∷ map t (js ++ s ∷ []))) none) ∙ is)
 
 -- the gate of the later day, which stands at the pointer, is shut
-module _ (x c : List ℕ) (s : ℕ) (below : s < 366) (same : SameOutside (slot_place s) 4 x c) (off : is_there day_ring c s ≡ false) (at : pointer day_ring x ≡ s)
+module _ (x c : List ℕ) (s : ℕ) (below : s < DAY_SLOTS) (same : SameOutside (slot_place s) 4 x c) (off : is_there day_ring c s ≡ false) (at : pointer day_ring x ≡ s)
     (there : (j : ℕ) → j ≢ s → is_there day_ring c j ≡ is_there day_ring x j) (later : last_kept x / 1440 < slot_day x s) (last : is_last_good c s (indices c) ≡ true) where
-  shut_elsewhere : (j a m : ℕ) → j ≢ s → a + m ≤ 5776 → number_at c (slot_place j + a) m ≡ number_at x (slot_place j + a) m
+  shut_elsewhere : (j a m : ℕ) → j ≢ s → a + m ≤ DAY_SLOT_SIZE → number_at c (slot_place j + a) m ≡ number_at x (slot_place j + a) m
   shut_elsewhere j a m other le = ⊎_elim
       (λ less. number_before (slot_place s) 4 (slot_place j + a) m x c same (omega (arith, less, le)))
       (λ more. let greater : s < j = omega (arith, more, other) in number_after (slot_place s) 4 (slot_place j + a) m x c same (omega (arith, greater)))
       (cases_lt j s)
 
-  shut_words : (j m : ℕ) → j ≢ s → m ≤ 2880 → slot_words c j m ≡ slot_words x j m
+  shut_words : (j m : ℕ) → j ≢ s → m ≤ DAY_WORD_LIMIT → slot_words c j m ≡ slot_words x j m
   shut_words j m other le = ⊎_elim
-      (λ less. words_before (slot_place s) 4 (slot_place j + 16) m x c same (omega (arith, less, le)))
-      (λ more. let greater : s < j = omega (arith, more, other) in words_after (slot_place s) 4 (slot_place j + 16) m x c same (omega (arith, greater)))
+      (λ less. words_before (slot_place s) 4 (slot_place j + DAY_WORDS.place) m x c same (omega (arith, less, le)))
+      (λ more. let greater : s < j = omega (arith, more, other) in words_after (slot_place s) 4 (slot_place j + DAY_WORDS.place) m x c same (omega (arith, greater)))
       (cases_lt j s)
 
   shut_date : (j : ℕ) → j ≢ s → slot_date c j ≡ slot_date x j
@@ -339,15 +340,15 @@ module _ (x c : List ℕ) (s : ℕ) (below : s < 366) (same : SameOutside (slot_
 
   kept_same : last_kept c ≡ last_kept x
   unfolding last_kept
-  kept_same = number_before (slot_place s) 4 564 4 x c same (omega arith)
+  kept_same = number_before (slot_place s) 4 LAST_KEPT.place LAST_KEPT.size x c same (omega arith)
 
   point_same : pointer day_ring c ≡ pointer day_ring x
-  point_same = number_before (slot_place s) 4 1024 4 x c same (omega arith)
+  point_same = number_before (slot_place s) 4 DAYS.place 4 x c same (omega arith)
 
   today : has_day x (last_kept x / 1440) ≡ true → has_day c (last_kept x / 1440) ≡ true
   today there_x = any_but (λ i. is_there day_ring x i && slot_day x i == last_kept x / 1440) (λ i. is_there day_ring c i && slot_day c i == last_kept x / 1440) s
       (and_false (is_there day_ring x s) (slot_day x s == last_kept x / 1440) (ne_false (slot_day x s) (last_kept x / 1440) later))
-      (λ j other t. there j other t && shut_date j other t / 86400 == last_kept x / 1440) (range_with_len 0 366) there_x
+      (λ j other t. there j other t && shut_date j other t / 86400 == last_kept x / 1440) (range_with_len 0 DAY_SLOTS) there_x
 
   others : orders.Each (λ j. is_there day_ring c j ≡ is_there day_ring x j) (rest day_ring s)
   others = each_weaker (λ j. j ≢ s) (λ j. is_there day_ring c j ≡ is_there day_ring x j) (rest day_ring s) there (rest_others day_ring s below)
@@ -359,37 +360,37 @@ module _ (x c : List ℕ) (s : ℕ) (below : s < 366) (same : SameOutside (slot_
 
   shut_point : is_pointer_good x ≡ true → is_pointer_good c ≡ true
   shut_point good =
-      let a = nat_lt s 366 in
+      let a = nat_lt s DAY_SLOTS in
       let d = are_dense (map (is_there day_ring x) (order day_ring (next day_ring s))) in
       let l = is_last_good x s (indices x) in
       let d' = are_dense (map (is_there day_ring c) (order day_ring (next day_ring s))) in
       let l' = is_last_good c s (indices c) in
-      let at_s : (a && (d && l)) ≡ true = ap (λ (p : ℕ). nat_lt p 366 && (are_dense (map (is_there day_ring x) (order day_ring (next day_ring p))) && is_last_good x p (indices x))) (sym at) ∙ good in
+      let at_s : (a && (d && l)) ≡ true = ap (λ (p : ℕ). nat_lt p DAY_SLOTS && (are_dense (map (is_there day_ring x) (order day_ring (next day_ring p))) && is_last_good x p (indices x))) (sym at) ∙ good in
       let first = and_split a (d && l) at_s in
       let second = and_split d l first.1 in
-      ap (λ (p : ℕ). nat_lt p 366 && (are_dense (map (is_there day_ring c) (order day_ring (next day_ring p))) && is_last_good c p (indices c))) (point_same ∙ at)
+      ap (λ (p : ℕ). nat_lt p DAY_SLOTS && (are_dense (map (is_there day_ring c) (order day_ring (next day_ring p))) && is_last_good c p (indices c))) (point_same ∙ at)
       ∙ and_join a (d' && l') first.0 (and_join d' l' (shut_dense second.0) last)
 
   -- the slots before one are as before: the pointer's is none of them
   abbrev befores : ℕ → List ℕ
-  befores i = cond (nat_le (s + 1) i) (range_with_len (s + 1) (i - (s + 1))) (range_with_len (s + 1) (366 - (s + 1)) ++ range_with_len 0 i)
+  befores i = cond (nat_le (s + 1) i) (range_with_len (s + 1) (i - (s + 1))) (range_with_len (s + 1) (DAY_SLOTS - (s + 1)) ++ range_with_len 0 i)
 
-  not_in : (i : ℕ) → (b : Bool) → nat_le (s + 1) i ≡ b → orders.Each (λ j. j ≢ s) (cond b (range_with_len (s + 1) (i - (s + 1))) (range_with_len (s + 1) (366 - (s + 1)) ++ range_with_len 0 i))
+  not_in : (i : ℕ) → (b : Bool) → nat_le (s + 1) i ≡ b → orders.Each (λ j. j ≢ s) (cond b (range_with_len (s + 1) (i - (s + 1))) (range_with_len (s + 1) (DAY_SLOTS - (s + 1)) ++ range_with_len 0 i))
   not_in i true is = range_each (λ j. j ≢ s) (s + 1) (i - (s + 1)) (λ j low high is_s. absurd (omega (arith, low, is_s)))
   not_in i false is =
       let low_i : i ≤ s = omega (arith, gt_of (s + 1) i is) in
-      each_append (λ j. j ≢ s) (range_with_len (s + 1) (366 - (s + 1))) (range_with_len 0 i)
-      (range_each (λ j. j ≢ s) (s + 1) (366 - (s + 1)) (λ j low high is_s. absurd (omega (arith, low, is_s))))
+      each_append (λ j. j ≢ s) (range_with_len (s + 1) (DAY_SLOTS - (s + 1))) (range_with_len 0 i)
+      (range_each (λ j. j ≢ s) (s + 1) (DAY_SLOTS - (s + 1)) (λ j low high is_s. absurd (omega (arith, low, is_s))))
       (range_each (λ j. j ≢ s) 0 i (λ j low high is_s. absurd (omega (arith, high, low_i, is_s))))
 
   before_same : (i : ℕ) → map (slot_date c) (indices_before c i) ≡ map (slot_date x) (indices_before x i)
   before_same i =
       let away = not_in i (nat_le (s + 1) i) refl in
       let js : List ℕ = befores i in
-      ap (λ (p : ℕ). map (slot_date c) (filter (is_there day_ring c) (cond (nat_le (p + 1) i) (range_with_len (p + 1) (i - (p + 1))) (range_with_len (p + 1) (366 - (p + 1)) ++ range_with_len 0 i)))) (point_same ∙ at)
+      ap (λ (p : ℕ). map (slot_date c) (filter (is_there day_ring c) (cond (nat_le (p + 1) i) (range_with_len (p + 1) (i - (p + 1))) (range_with_len (p + 1) (DAY_SLOTS - (p + 1)) ++ range_with_len 0 i)))) (point_same ∙ at)
       ∙ ap (map (slot_date c)) (filter_same (is_there day_ring x) (is_there day_ring c) js (each_weaker (λ j. j ≢ s) (λ j. is_there day_ring c j ≡ is_there day_ring x j) js there away))
       ∙ map_same (slot_date x) (slot_date c) (filter (is_there day_ring x) js) (each_filter (λ j. slot_date c j ≡ slot_date x j) (is_there day_ring x) js (each_weaker (λ j. j ≢ s) (λ j. slot_date c j ≡ slot_date x j) js shut_date away))
-      ∙ ap (λ (p : ℕ). map (slot_date x) (filter (is_there day_ring x) (cond (nat_le (p + 1) i) (range_with_len (p + 1) (i - (p + 1))) (range_with_len (p + 1) (366 - (p + 1)) ++ range_with_len 0 i)))) (sym at)
+      ∙ ap (λ (p : ℕ). map (slot_date x) (filter (is_there day_ring x) (cond (nat_le (p + 1) i) (range_with_len (p + 1) (i - (p + 1))) (range_with_len (p + 1) (DAY_SLOTS - (p + 1)) ++ range_with_len 0 i)))) (sym at)
 
   shut_slot : (j : ℕ) → list_all passes (slot_checks x j) ≡ true → list_all passes (slot_checks c j) ≡ true
   shut_slot j all = by (cases_eq j s)
@@ -399,4 +400,4 @@ module _ (x c : List ℕ) (s : ℕ) (below : s < 366) (same : SameOutside (slot_
       by (inr other) = slot_by x c j (there j other) (day_still x c j (λ t. is_date_good (kept_same t) (before_same j t) (shut_date j other t)) (shut_elsewhere j 4 4 other (omega arith)) (shut_elsewhere j 8 2 other (omega arith)) (shut_words j (slot_count x j) other)) all
 
   pub shut_good : IsGood x → IsGood c
-  shut_good good = out_good x c (outside_wider 1028 2114016 (slot_place s) 4 x c same (omega arith) (omega (arith, below))) today (shut_point good.point) (λ j less. shut_slot j (good.slots j less)) good
+  shut_good good = out_good x c (outside_wider (slot_place 0) (DAYS.size - 4) (slot_place s) 4 x c same (omega arith) (omega (arith, below))) today (shut_point good.point) (λ j less. shut_slot j (good.slots j less)) good

@@ -10,6 +10,7 @@ use Rattle.gated_ring.specs.Change.{IsAdding, IsAdded}
 use Rattle.gated_ring.proofs.Orders as orders
 use Rattle.gated_ring.proofs.Orders.{rest_each, order_first, order_last}
 use Rattle.gated_ring.proofs.Listing.{Chosen, chosen_below, ordered, taken_chosen, staying_there}
+use Rattle.unit_model.specs.declared.layout.TheConstants.{DAY_SLOTS}
 use Rattle.unit_model.specs.Days.{StoredDay, Each}
 use Rattle.unit_model.specs.Image.{day_ring, unit_day, indices, unit_days}
 use Rattle.unit_model.specs.Writing.{behind_index}
@@ -56,16 +57,16 @@ drop_none zero (x ∷ a) le = absurd (omega arith)
 drop_none (suc m) [] le = refl
 drop_none (suc m) (x ∷ a) le = drop_none m a (omega arith)
 
-pub behind_length : (i : ℕ) → i < 366 → length (behind_index i) ≡ 365
-behind_length i below = omega (arith, length-append (range_with_len (i + 1) (366 - (i + 1))) (range_with_len 0 i), length-range_with_len (i + 1) (366 - (i + 1)), length-range_with_len 0 i)
+pub behind_length : (i : ℕ) → i < DAY_SLOTS → length (behind_index i) ≡ (DAY_SLOTS - 1)
+behind_length i below = omega (arith, length-append (range_with_len (i + 1) (DAY_SLOTS - (i + 1))) (range_with_len 0 i), length-range_with_len (i + 1) (DAY_SLOTS - (i + 1)), length-range_with_len 0 i)
 
-next_below : (p : ℕ) → p < 366 → next day_ring p < 366
+next_below : (p : ℕ) → p < DAY_SLOTS → next day_ring p < DAY_SLOTS
 next_below p below = grind (arith, nat_tests)
 
 abbrev pub others_of : List ℕ → List ℕ
 others_of x = filter (is_there day_ring x) (behind_index (taken day_ring x))
 
-module _ (x : List ℕ) (known : pointer day_ring x < 366) where
+module _ (x : List ℕ) (known : pointer day_ring x < DAY_SLOTS) where
   abbrev t : ℕ
   t = taken day_ring x
 
@@ -78,14 +79,14 @@ module _ (x : List ℕ) (known : pointer day_ring x < 366) where
   chosen : Chosen day_ring x p t
   chosen = taken_chosen day_ring x
 
-  pub taken_below : t < 366
+  pub taken_below : t < DAY_SLOTS
   taken_below = chosen_below day_ring x p t known chosen
 
-  behind_each : Each (λ j. (j < 366) × (j ≢ t)) (behind_index t)
-  behind_each = each_from (λ j. (j < 366) × (j ≢ t)) (behind_index t) (rest_each day_ring t taken_below)
+  behind_each : Each (λ j. (j < DAY_SLOTS) × (j ≢ t)) (behind_index t)
+  behind_each = each_from (λ j. (j < DAY_SLOTS) × (j ≢ t)) (behind_index t) (rest_each day_ring t taken_below)
 
-  pub others_each : Each (λ j. (j < 366) × (j ≢ t)) F
-  others_each = each_filter (λ j. (j < 366) × (j ≢ t)) (is_there day_ring x) (behind_index t) behind_each
+  pub others_each : Each (λ j. (j < DAY_SLOTS) × (j ≢ t)) F
+  others_each = each_filter (λ j. (j < DAY_SLOTS) × (j ≢ t)) (is_there day_ring x) (behind_index t) behind_each
 
   -- the next index comes first where its slot is there
   pub indices_cases : ((is_there day_ring x t ≡ true) × (indices x ≡ t ∷ F)) ⊎ ((is_there day_ring x t ≡ false) × (indices x ≡ F))
@@ -102,22 +103,22 @@ module _ (x : List ℕ) (known : pointer day_ring x < 366) where
 
   -- what a layer above needs: the days that stay are the newest 365
   pub record IsReady : Type 0 where
-    pub dense : (missing : ℕ) × (missing ≤ 365) × (F ≡ drop missing (behind_index t))
-    pub days : map (day_at x) F ≡ drop (length (unit_days x) - 365) (unit_days x)
+    pub dense : (missing : ℕ) × (missing ≤ (DAY_SLOTS - 1)) × (F ≡ drop missing (behind_index t))
+    pub days : map (day_at x) F ≡ drop (length (unit_days x) - (DAY_SLOTS - 1)) (unit_days x)
 
-  few_others : (m : ℕ) → F ≡ drop m (behind_index t) → length F ≤ 365
+  few_others : (m : ℕ) → F ≡ drop m (behind_index t) → length F ≤ (DAY_SLOTS - 1)
   few_others m is = omega (arith, ap length is, length-drop m (behind_index t), behind_length t taken_below)
 
-  days_full : (l : List ℕ) → indices x ≡ t ∷ F → length F ≡ 365 → map (day_at x) F ≡ drop (length (unit_days x) - 365) (unit_days x)
+  days_full : (l : List ℕ) → indices x ≡ t ∷ F → length F ≡ (DAY_SLOTS - 1) → map (day_at x) F ≡ drop (length (unit_days x) - (DAY_SLOTS - 1)) (unit_days x)
   days_full l is full =
       let all : unit_days x ≡ day_at x t ∷ map (day_at x) F = all_days x ∙ ap (map (day_at x)) is in
-      let one : length (unit_days x) - 365 ≡ 1 = omega (arith, ap length all, length-map F (day_at x), full) in
+      let one : length (unit_days x) - (DAY_SLOTS - 1) ≡ 1 = omega (arith, ap length all, length-map F (day_at x), full) in
       sym (ap (λ (n : ℕ). drop n (unit_days x)) one ∙ ap (drop 1) all)
 
-  days_room : indices x ≡ F → length F ≤ 365 → map (day_at x) F ≡ drop (length (unit_days x) - 365) (unit_days x)
+  days_room : indices x ≡ F → length F ≤ (DAY_SLOTS - 1) → map (day_at x) F ≡ drop (length (unit_days x) - (DAY_SLOTS - 1)) (unit_days x)
   days_room is few =
       let all : unit_days x ≡ map (day_at x) F = all_days x ∙ ap (map (day_at x)) is in
-      let none : length (unit_days x) - 365 ≡ 0 = omega (arith, ap length all, length-map F (day_at x), few) in
+      let none : length (unit_days x) - (DAY_SLOTS - 1) ≡ 0 = omega (arith, ap length all, length-map F (day_at x), few) in
       sym (ap (λ (n : ℕ). drop n (unit_days x)) none ∙ all)
 
   pub ready_empty : indices x ≡ [] → IsReady
@@ -126,32 +127,32 @@ module _ (x : List ℕ) (known : pointer day_ring x < 366) where
       (λ shut.
       let empty : F ≡ [] = sym shut.1 ∙ none in
       record {
-        dense = (365, omega arith, empty ∙ sym (drop_none 365 (behind_index t) (omega (arith, behind_length t taken_below))));
+        dense = ((DAY_SLOTS - 1), omega arith, empty ∙ sym (drop_none (DAY_SLOTS - 1) (behind_index t) (omega (arith, behind_length t taken_below))));
         days = days_room shut.1 (omega (arith, ap length empty));
       })
       indices_cases
 
-  pub ready_behind : (i m : ℕ) → i < 366 → m ≤ 365 → indices x ≡ drop m (behind_index i) ++ i ∷ [] → t ≡ next day_ring i → IsReady
+  pub ready_behind : (i m : ℕ) → i < DAY_SLOTS → m ≤ (DAY_SLOTS - 1) → indices x ≡ drop m (behind_index i) ++ i ∷ [] → t ≡ next day_ring i → IsReady
   ready_behind i m below le is next_is = by m le is
     where
       turned : behind_index i ++ i ∷ [] ≡ t ∷ behind_index t
       turned = sym (order_last day_ring i below) ∙ ap (order day_ring) (sym next_is) ∙ order_first day_ring t taken_below
 
-      all : (m : ℕ) → m ≤ 365 → indices x ≡ drop m (behind_index i) ++ i ∷ [] → indices x ≡ drop m (t ∷ behind_index t)
+      all : (m : ℕ) → m ≤ (DAY_SLOTS - 1) → indices x ≡ drop m (behind_index i) ++ i ∷ [] → indices x ≡ drop m (t ∷ behind_index t)
       all m le is = is ∙ sym (drop_append m (behind_index i) (i ∷ []) (omega (arith, behind_length i below))) ∙ ap (drop m) turned
 
-      no_t : (l : List ℕ) → Each (λ j. (j < 366) × (j ≢ t)) (t ∷ l) → ⊥
+      no_t : (l : List ℕ) → Each (λ j. (j < DAY_SLOTS) × (j ≢ t)) (t ∷ l) → ⊥
       no_t l each = each.0.1 refl
 
-      by : (m : ℕ) → m ≤ 365 → indices x ≡ drop m (behind_index i) ++ i ∷ [] → IsReady
+      by : (m : ℕ) → m ≤ (DAY_SLOTS - 1) → indices x ≡ drop m (behind_index i) ++ i ∷ [] → IsReady
       by zero le is = ⊎_elim
           (λ there.
           let same : F ≡ behind_index t = ap (drop 1) (sym there.1 ∙ all 0 le is) in
           record { dense = (0, omega arith, same); days = days_full [] there.1 (ap length same ∙ behind_length t taken_below) })
-          (λ shut. absurd (no_t (behind_index t) (subst (Each (λ j. (j < 366) × (j ≢ t))) (sym shut.1 ∙ all 0 le is) others_each)))
+          (λ shut. absurd (no_t (behind_index t) (subst (Each (λ j. (j < DAY_SLOTS) × (j ≢ t))) (sym shut.1 ∙ all 0 le is) others_each)))
           indices_cases
       by (suc m) le is = ⊎_elim
-          (λ there. absurd (no_t F (subst (Each (λ j. (j < 366) × (j ≢ t))) (sym (all (suc m) le is) ∙ there.1) (each_drop (λ j. (j < 366) × (j ≢ t)) m (behind_index t) behind_each))))
+          (λ there. absurd (no_t F (subst (Each (λ j. (j < DAY_SLOTS) × (j ≢ t))) (sym (all (suc m) le is) ∙ there.1) (each_drop (λ j. (j < DAY_SLOTS) × (j ≢ t)) m (behind_index t) behind_each))))
           (λ shut.
           let same : F ≡ drop m (behind_index t) = sym shut.1 ∙ all (suc m) le is in
           record { dense = (m, omega arith, same); days = days_room shut.1 (few_others m same) })
@@ -185,7 +186,7 @@ module _ (x : List ℕ) (known : pointer day_ring x < 366) where
     added_indices = (added.list known).indices_are ∙ ap (λ (l : List ℕ). l ++ t ∷ []) (staying_there day_ring x known)
 
     pub added_older : map (day_at y) F ≡ map (day_at x) F
-    added_older = days_same (day_at y) (day_at x) F (each_map (λ j. (j < 366) × (j ≢ t)) (λ j. day_at y j ≡ day_at x j) F (λ j both. ap unit_day (added.others known j both.0 both.1).0) others_each)
+    added_older = days_same (day_at y) (day_at x) F (each_map (λ j. (j < DAY_SLOTS) × (j ≢ t)) (λ j. day_at y j ≡ day_at x j) F (λ j both. ap unit_day (added.others known j both.0 both.1).0) others_each)
 
     pub added_next : taken day_ring y ≡ next day_ring t
     added_next = (added.list known).next_is

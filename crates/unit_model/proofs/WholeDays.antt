@@ -6,6 +6,7 @@ use Rattle.std.proofs.lemmas.Bool.Decides.{nat_tests}
 use Rattle.gated_ring.specs.Ring.{pointer, is_there, next, order, indices as ring_indices}
 use Rattle.gated_ring.proofs.Orders as orders
 use Rattle.gated_ring.proofs.Orders.{order_each, next_below}
+use Rattle.unit_model.specs.declared.layout.TheConstants.{DAY_SLOTS, HIGHEST_ODOMETER}
 use Rattle.unit_model.specs.Days.{Each}
 use Rattle.unit_model.specs.Image.{last_kept, day_ring, indices, slot_date, slot_odometer}
 use Rattle.unit_model.specs.Decoding.{Check, first_failing, first_bad_place, checks, day_checks, Decodes, indices_before}
@@ -28,9 +29,9 @@ unfolding Decodes first_bad_place
 decoded_of x whole = decoded x (none_fails (checks x) whole)
 
 abbrev IsSlot : List ℕ → ℕ → Type 0
-IsSlot x i = (i < 366) × (is_there day_ring x i ≡ true)
+IsSlot x i = (i < DAY_SLOTS) × (is_there day_ring x i ≡ true)
 
-slots_there : (x : List ℕ) (l : List ℕ) → orders.Each (λ i. i < 366) l → Each (IsSlot x) (filter (is_there day_ring x) l)
+slots_there : (x : List ℕ) (l : List ℕ) → orders.Each (λ i. i < DAY_SLOTS) l → Each (IsSlot x) (filter (is_there day_ring x) l)
 slots_there x [] below = tt
 slots_there x (i ∷ l) below = by (is_there day_ring x i) refl (slots_there x l below.1)
   where
@@ -79,10 +80,10 @@ module _ (x : List ℕ) (ok : IsDecoded x) where
       by (i ∷ js) all = (whole_at i all.0, by js all.1)
 
 -- and no recorded day has a higher odometer than the highest
-pub odometer_whole : (x : List ℕ) → Decodes x → (n i : ℕ) → slice_get (recorded_indices x) n ≡ Some i → min (slot_odometer x i) 9999999 ≡ slot_odometer x i
+pub odometer_whole : (x : List ℕ) → Decodes x → (n i : ℕ) → slice_get (recorded_indices x) n ≡ Some i → min (slot_odometer x i) HIGHEST_ODOMETER ≡ slot_odometer x i
 odometer_whole x decodes n i is =
     let slot = each_get (IsSlot x) (recorded_indices x) n i (recorded_each x (decoded_of x decodes)) is in
     let good = good_of x decodes in
     let passes = day_split x i (sym (ap (λ (b : Bool). list_all (λ c. c.passes) (cond b (day_checks x i) [])) slot.1) ∙ good.slots i slot.0) in
-    let low : slot_odometer x i ≤ 9999999 = le_of (slot_odometer x i) 9999999 passes.odometer in
+    let low : slot_odometer x i ≤ HIGHEST_ODOMETER = le_of (slot_odometer x i) HIGHEST_ODOMETER passes.odometer in
     omega (arith, low)

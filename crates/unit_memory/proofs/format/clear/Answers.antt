@@ -2,6 +2,7 @@ use Rattle.std.proofs.Common.{◌≡◌, ℕ, ◌+◌, ◌-◌, ◌≤◌, List,
 use Rattle.tach_media.specs.Medium.{put}
 use Rattle.tach_media.proofs.Ranges.{lies_still}
 use Rattle.tach_media.proofs.Runs.{starts, goes_by, image_both, cause_after}
+use Rattle.unit_model.specs.declared.layout.TheConstants.{IMAGE_SIZE}
 use Rattle.unit_model.proofs.Sized.{unit_sized}
 use Rattle.unit_model.specs.NewImage.{zeros}
 use Rattle.unit_memory.proofs.Formatting.{idle, nothing_written, chunk_put, chunk_part, chunk_length}
@@ -21,7 +22,7 @@ write_at-requires-clause-writable g c =
     let size = c.min-size.result in
     let few : size ≤ 4096 = omega arith in
     let len = ap Rattle.std.proofs.Common.length (ap (Rattle.std.proofs.Common.take size) c.chunk-zeros.ensures) ∙ chunk_length size few in
-    lies_still _ _ 0 2485808 _ _ c.loop-at.invariant.moments.writable (omega arith) (omega (arith, len, c.requires.inside, c.loop-at-test.true)) c.requires.unit.writable
+    lies_still _ _ 0 IMAGE_SIZE _ _ c.loop-at.invariant.moments.writable (omega arith) (omega (arith, len, c.requires.inside, c.loop-at-test.true)) c.requires.unit.writable
 
 pub returns-in_err-write_at-clause-moments : goal.returns-in_err-write_at-clause-moments
 returns-in_err-write_at-clause-moments g c =

@@ -1,8 +1,9 @@
-use Rattle.std.proofs.Common.{◌≡◌, ℕ, List, ◌∙◌, arith, Some}
+use Rattle.std.proofs.Common.{◌≡◌, ℕ, ◌-◌, List, ◌∙◌, arith, Some}
 use Rattle.std.specs.Int.{to_be_bytes, w32}
 use Rattle.tach_media.specs.Medium.{put}
 use Rattle.tach_media.proofs.Ranges.{lies_part, lies_still}
 use Rattle.tach_media.proofs.Runs.{weaken, goes_by, image_then, image_both}
+use Rattle.unit_model.specs.declared.layout.TheConstants.{IDENTIFICATION, IMAGE_SIZE}
 use Rattle.unit_model.proofs.Sized.{unit_sized}
 use Rattle.unit_model.specs.NewImage.{zeros, new_image}
 use Rattle.unit_memory.specs.Formats.{identified}
@@ -10,11 +11,11 @@ use Rattle.unit_memory.proofs.Formatting.{moment_1, moment_2, moment_3, moment_4
 use Rattle.unit_memory.proofs.format.format_unit.Goals as goal
 
 pub write_at-requires-clause-writable : goal.write_at-requires-clause-writable
-write_at-requires-clause-writable g c = lies_part _ 0 2485808 _ _ (omega arith) (omega arith) c.requires.unit.writable
+write_at-requires-clause-writable g c = lies_part _ 0 IMAGE_SIZE _ _ (omega arith) (omega arith) c.requires.unit.writable
 
 pub write_at-requires-2-clause-writable : goal.write_at-requires-2-clause-writable
 write_at-requires-2-clause-writable g c =
-    lies_still _ _ 0 2485808 _ _ (c.clear.ensures.moments.writable ∙ c.identify.ensures.moments.writable ∙ c.write_at.ensures.moments.writable) (omega arith) (omega arith) c.requires.unit.writable
+    lies_still _ _ 0 IMAGE_SIZE _ _ (c.clear.ensures.moments.writable ∙ c.identify.ensures.moments.writable ∙ c.write_at.ensures.moments.writable) (omega arith) (omega arith) c.requires.unit.writable
 
 pub returns-in_err-identify-clause-moments : goal.returns-in_err-identify-clause-moments
 returns-in_err-identify-clause-moments g c =
@@ -49,12 +50,12 @@ returns-in_err-write_at-2-clause-moments g c =
     let first = put 0 (to_be_bytes w32 0) in
     let o = (g.M.Medium.state c.args.unit.now).image in
     let named = image_then o _ _ first (identified v r l) c.in_ok-write_at.ensures.written c.in_ok-identify.ensures.identified in
-    goes_by (λ x. put 37 (zeros 2485771) (identified v r l (first x)))
+    goes_by (λ x. put 37 (zeros (IMAGE_SIZE - IDENTIFICATION.place)) (identified v r l (first x)))
     (goes_by (λ x. identified v r l (first x))
     (goes_by first (weaken c.write_at.ensures.moments (λ x d is part. moment_1 (new_image v r l) x (sized x is) d part)) c.in_ok-write_at.ensures.written c.identify.ensures.moments (λ x d is same.
     moment_2 (new_image v r l) x (sized x is) d same))
     named c.clear.ensures.moments (λ x d is part. moment_3 v r l e.vin e.registration x (sized x is) d part))
-    (image_then o _ _ (λ x. identified v r l (first x)) (put 37 (zeros 2485771)) named c.in_ok-clear.ensures.cleared)
+    (image_then o _ _ (λ x. identified v r l (first x)) (put 37 (zeros (IMAGE_SIZE - IDENTIFICATION.place))) named c.in_ok-clear.ensures.cleared)
     c.write_at-2.ensures.moments (λ x d is part. moment_4 v r l e.vin e.registration x (sized x is) d part)
 
 pub returns-clause-formatted : goal.returns-clause-formatted
@@ -67,8 +68,8 @@ returns-clause-formatted g c =
     let first = put 0 (to_be_bytes w32 0) in
     let o = (g.M.Medium.state c.args.unit.now).image in
     let named = image_then o _ _ first (identified v r l) c.in_ok-write_at.ensures.written c.in_ok-identify.ensures.identified in
-    image_both o _ _ (λ x. put 37 (zeros 2485771) (identified v r l (first x))) (put 0 (to_be_bytes w32 1)) (λ x. new_image v r l)
-    (image_then o _ _ (λ x. identified v r l (first x)) (put 37 (zeros 2485771)) named c.in_ok-clear.ensures.cleared)
+    image_both o _ _ (λ x. put 37 (zeros (IMAGE_SIZE - IDENTIFICATION.place)) (identified v r l (first x))) (put 0 (to_be_bytes w32 1)) (λ x. new_image v r l)
+    (image_then o _ _ (λ x. identified v r l (first x)) (put 37 (zeros (IMAGE_SIZE - IDENTIFICATION.place))) named c.in_ok-clear.ensures.cleared)
     c.in_ok-write_at-2.ensures.written (λ x is. all_written x (sized x is) v r l e.vin e.registration)
 
 pub returns-clause-moments : goal.returns-clause-moments
@@ -81,10 +82,10 @@ returns-clause-moments g c =
     let first = put 0 (to_be_bytes w32 0) in
     let o = (g.M.Medium.state c.args.unit.now).image in
     let named = image_then o _ _ first (identified v r l) c.in_ok-write_at.ensures.written c.in_ok-identify.ensures.identified in
-    goes_by (λ x. put 37 (zeros 2485771) (identified v r l (first x)))
+    goes_by (λ x. put 37 (zeros (IMAGE_SIZE - IDENTIFICATION.place)) (identified v r l (first x)))
     (goes_by (λ x. identified v r l (first x))
     (goes_by first (weaken c.write_at.ensures.moments (λ x d is part. moment_1 (new_image v r l) x (sized x is) d part)) c.in_ok-write_at.ensures.written c.identify.ensures.moments (λ x d is same.
     moment_2 (new_image v r l) x (sized x is) d same))
     named c.clear.ensures.moments (λ x d is part. moment_3 v r l e.vin e.registration x (sized x is) d part))
-    (image_then o _ _ (λ x. identified v r l (first x)) (put 37 (zeros 2485771)) named c.in_ok-clear.ensures.cleared)
+    (image_then o _ _ (λ x. identified v r l (first x)) (put 37 (zeros (IMAGE_SIZE - IDENTIFICATION.place))) named c.in_ok-clear.ensures.cleared)
     c.write_at-2.ensures.moments (λ x d is part. moment_4 v r l e.vin e.registration x (sized x is) d part)

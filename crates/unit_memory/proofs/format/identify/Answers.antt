@@ -2,19 +2,20 @@ use Rattle.std.proofs.Common.{◌≡◌, ℕ, [], ◌∷◌, List, length, ◌�
 use Rattle.tach_media.specs.Medium.{put}
 use Rattle.tach_media.proofs.Ranges.{lies_part, lies_still}
 use Rattle.tach_media.proofs.Runs.{weaken, goes_by, image_then}
+use Rattle.unit_model.specs.declared.layout.TheConstants.{IMAGE_SIZE}
 use Rattle.unit_model.proofs.Sized.{unit_sized}
 use Rattle.unit_memory.proofs.Formatting.{part_1, part_2, part_3}
 use Rattle.unit_memory.proofs.format.identify.Goals as goal
 
 pub write_at-requires-clause-writable : goal.write_at-requires-clause-writable
-write_at-requires-clause-writable g c = lies_part _ 0 2485808 _ _ (omega arith) (omega arith) c.requires.unit.writable
+write_at-requires-clause-writable g c = lies_part _ 0 IMAGE_SIZE _ _ (omega arith) (omega arith) c.requires.unit.writable
 
 pub write_at-requires-2-clause-writable : goal.write_at-requires-2-clause-writable
-write_at-requires-2-clause-writable g c = lies_still _ _ 0 2485808 _ _ c.write_at.ensures.moments.writable (omega arith) (omega arith) c.requires.unit.writable
+write_at-requires-2-clause-writable g c = lies_still _ _ 0 IMAGE_SIZE _ _ c.write_at.ensures.moments.writable (omega arith) (omega arith) c.requires.unit.writable
 
 pub write_at-requires-3-clause-writable : goal.write_at-requires-3-clause-writable
 write_at-requires-3-clause-writable g c =
-    lies_still _ _ 0 2485808 _ _ (c.write_at-2.ensures.moments.writable ∙ c.write_at.ensures.moments.writable) (omega arith) (omega arith) c.requires.unit.writable
+    lies_still _ _ 0 IMAGE_SIZE _ _ (c.write_at-2.ensures.moments.writable ∙ c.write_at.ensures.moments.writable) (omega arith) (omega arith) c.requires.unit.writable
 
 pub returns-in_err-write_at-clause-moments : goal.returns-in_err-write_at-clause-moments
 returns-in_err-write_at-clause-moments g c =

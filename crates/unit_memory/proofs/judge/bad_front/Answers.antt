@@ -1,5 +1,6 @@
 use Rattle.std.proofs.Common.{◌≡◌, refl, ◌∙◌, IfSome}
 use Rattle.gated_ring.specs.Ring.{number_at}
+use Rattle.unit_model.specs.declared.layout.TheConstants.{ODOMETER, OVER_COUNT}
 use Rattle.unit_model.specs.Image.{odometer_at}
 use Rattle.unit_model.specs.Decoding.{first_failing}
 use Rattle.unit_memory.specs.Judging.{front_of}
@@ -16,7 +17,7 @@ returns-clause-found g c =
     let same_1 = c.in_ok-version.ensures.reads.same refl in
     let same_2 = c.in_ok-odometer.ensures.reads.same refl ∙ same_1 in
     let version : IfSome image (λ x. v ≡ number_at x 0 4) = c.in_ok-version.ensures.value in
-    let odometer : IfSome image (λ x. o ≡ number_at x 568 4) = carried (λ x. o ≡ number_at x 568 4) same_1 c.in_ok-odometer.ensures.value in
-    let overs : IfSome image (λ x. n ≡ number_at x 576 4) = carried (λ x. n ≡ number_at x 576 4) same_2 c.in_ok-overs.ensures.value in
+    let odometer : IfSome image (λ x. o ≡ number_at x ODOMETER.place ODOMETER.size) = carried (λ x. o ≡ number_at x ODOMETER.place ODOMETER.size) same_1 c.in_ok-odometer.ensures.value in
+    let overs : IfSome image (λ x. n ≡ number_at x OVER_COUNT.place OVER_COUNT.size) = carried (λ x. n ≡ number_at x OVER_COUNT.place OVER_COUNT.size) same_2 c.in_ok-overs.ensures.value in
     three_told image _ version odometer overs
     (λ x version odometer overs. c.front_place.ensures ∙ (λ i. first_failing (front_of (version i) c.args.kept c.args.has_today (odometer i) (overs i))))

@@ -1,6 +1,7 @@
 use Rattle.std.proofs.Common.{◌≡◌, refl, ◌∙◌, IfSome}
 use Rattle.gated_ring.specs.Ring.{number_at}
 use Rattle.tach_media.proofs.Runs.{reads_then, both_told}
+use Rattle.unit_model.specs.declared.layout.TheConstants.{INSERTIONS, PLACES}
 use Rattle.unit_model.specs.Decoding.{first_failing}
 use Rattle.unit_memory.specs.Judging.{rings_of}
 use Rattle.unit_memory.proofs.Told.{carried}
@@ -11,8 +12,8 @@ returns-clause-found g c =
     let image = (g.M.Medium.state c.args.unit.now).image in
     let n = c.in_ok-insertion.insertion in
     let p = c.in_ok-place.place in
-    let insertion : IfSome image (λ x. n ≡ number_at x 2115044 4) = c.in_ok-insertion.ensures.value in
-    let place : IfSome image (λ x. p ≡ number_at x 2379240 4) = carried (λ x. p ≡ number_at x 2379240 4) (c.in_ok-insertion.ensures.reads.same refl) c.in_ok-place.ensures.value in
+    let insertion : IfSome image (λ x. n ≡ number_at x INSERTIONS.place 4) = c.in_ok-insertion.ensures.value in
+    let place : IfSome image (λ x. p ≡ number_at x PLACES.place 4) = carried (λ x. p ≡ number_at x PLACES.place 4) (c.in_ok-insertion.ensures.reads.same refl) c.in_ok-place.ensures.value in
     both_told image _ insertion place (λ x is insertion place. c.ring_place.ensures ∙ (λ i. first_failing (rings_of (insertion i) (place i))))
 
 pub returns-clause-reads : goal.returns-clause-reads

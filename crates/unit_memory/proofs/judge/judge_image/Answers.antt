@@ -2,6 +2,7 @@ use Rattle.std.proofs.Common.{◌≡◌, ◌-◌, ◌/◌, None, is_some, refl, 
 use Rattle.std.specs.List.{range_with_len}
 use Rattle.gated_ring.specs.Ring.{number_at, pointer}
 use Rattle.tach_media.proofs.Runs.{reads_then, at_image}
+use Rattle.unit_model.specs.declared.layout.TheConstants.{DAYS, DAY_SLOTS, LAST_KEPT}
 use Rattle.unit_model.specs.Image.{last_kept, day_ring}
 use Rattle.unit_model.specs.Decoding.{first_failing, cell_checks, ring_checks}
 use Rattle.unit_memory.specs.Walks.{walk_start, walk_from}
@@ -52,20 +53,20 @@ returns-clause-judged g c =
     let cell = c.in_ok-cell.cell in
     let ring = c.in_ok-ring.ring in
     told_all image _ (λ x is.
-    let kept_is : kept ≡ last_kept x = at_image (λ x. kept ≡ number_at x 564 4) is c.in_ok-kept.ensures.value in
-    let p_is : p ≡ pointer day_ring x = at_image (λ x. p ≡ number_at x 1024 4) is (carried (λ x. p ≡ number_at x 1024 4) (r1.same refl) c.in_ok-pointer.ensures.value) in
+    let kept_is : kept ≡ last_kept x = at_image (λ x. kept ≡ number_at x LAST_KEPT.place LAST_KEPT.size) is c.in_ok-kept.ensures.value in
+    let p_is : p ≡ pointer day_ring x = at_image (λ x. p ≡ number_at x DAYS.place 4) is (carried (λ x. p ≡ number_at x DAYS.place 4) (r1.same refl) c.in_ok-pointer.ensures.value) in
     let q_is : q ≡ turn_at (pointer day_ring x) = c.turn_at-turn.ensures.turn ∙ ap turn_at p_is in
-    let oldest_is : oldest ≡ walk_from (last_kept x / 1440) x walk_start (range_with_len (turn_at (pointer day_ring x)) (366 - turn_at (pointer day_ring x))) =
-    at_image (λ x. oldest ≡ walk_from (kept / 1440) x walk_start (range_with_len q (366 - q))) is (carried (λ x. oldest ≡ walk_from (kept / 1440) x walk_start (range_with_len q (366 - q))) (r2.same refl) c.in_ok-oldest.ensures.walk)
-    ∙ (λ t. walk_from (kept_is t / 1440) x walk_start (range_with_len (q_is t) (366 - q_is t))) in
-    let high_is : high ≡ first_failing (slots_by (last_kept x) x 0 (range_with_len (turn_at (pointer day_ring x)) (366 - turn_at (pointer day_ring x)))) =
-    at_image (λ x. high ≡ first_failing (slots_by kept x 0 (range_with_len q (366 - q)))) is (carried (λ x. high ≡ first_failing (slots_by kept x 0 (range_with_len q (366 - q)))) (r2.same refl) c.in_ok-oldest.ensures.bad)
-    ∙ (λ t. first_failing (slots_by (kept_is t) x 0 (range_with_len (q_is t) (366 - q_is t)))) in
+    let oldest_is : oldest ≡ walk_from (last_kept x / 1440) x walk_start (range_with_len (turn_at (pointer day_ring x)) (DAY_SLOTS - turn_at (pointer day_ring x))) =
+    at_image (λ x. oldest ≡ walk_from (kept / 1440) x walk_start (range_with_len q (DAY_SLOTS - q))) is (carried (λ x. oldest ≡ walk_from (kept / 1440) x walk_start (range_with_len q (DAY_SLOTS - q))) (r2.same refl) c.in_ok-oldest.ensures.walk)
+    ∙ (λ t. walk_from (kept_is t / 1440) x walk_start (range_with_len (q_is t) (DAY_SLOTS - q_is t))) in
+    let high_is : high ≡ first_failing (slots_by (last_kept x) x 0 (range_with_len (turn_at (pointer day_ring x)) (DAY_SLOTS - turn_at (pointer day_ring x)))) =
+    at_image (λ x. high ≡ first_failing (slots_by kept x 0 (range_with_len q (DAY_SLOTS - q)))) is (carried (λ x. high ≡ first_failing (slots_by kept x 0 (range_with_len q (DAY_SLOTS - q)))) (r2.same refl) c.in_ok-oldest.ensures.bad)
+    ∙ (λ t. first_failing (slots_by (kept_is t) x 0 (range_with_len (q_is t) (DAY_SLOTS - q_is t)))) in
     let none : q - 0 ≡ q = omega arith in
     let walk_is : walk ≡ walk_round (last_kept x / 1440) (turn_at (pointer day_ring x)) x =
     at_image (λ x. walk ≡ walk_from (kept / 1440) x oldest (range_with_len 0 (q - 0))) is (carried (λ x. walk ≡ walk_from (kept / 1440) x oldest (range_with_len 0 (q - 0))) (r3.same refl) c.in_ok-walk.ensures.walk)
     ∙ (λ t. walk_from (kept_is t / 1440) x (oldest_is t) (range_with_len 0 ((none ∙ q_is) t))) in
-    let low_is : low ≡ first_failing (slots_by (last_kept x) x (walk_from (last_kept x / 1440) x walk_start (range_with_len (turn_at (pointer day_ring x)) (366 - turn_at (pointer day_ring x)))).latest (range_with_len 0 (turn_at (pointer day_ring x)))) =
+    let low_is : low ≡ first_failing (slots_by (last_kept x) x (walk_from (last_kept x / 1440) x walk_start (range_with_len (turn_at (pointer day_ring x)) (DAY_SLOTS - turn_at (pointer day_ring x)))).latest (range_with_len 0 (turn_at (pointer day_ring x)))) =
     at_image (λ x. low ≡ first_failing (slots_by kept x oldest.latest (range_with_len 0 (q - 0)))) is (carried (λ x. low ≡ first_failing (slots_by kept x oldest.latest (range_with_len 0 (q - 0)))) (r3.same refl) c.in_ok-walk.ensures.bad)
     ∙ (λ t. first_failing (slots_by (kept_is t) x (oldest_is t).latest (range_with_len 0 ((none ∙ q_is) t)))) in
     let b_is : c.has_today-has_day.result ≡ is_some walk.today = c.has_today-has_day.ensures in
@@ -74,7 +75,7 @@ returns-clause-judged g c =
     ∙ (λ t. first_failing (front_by (kept_is t) (b_is t) x)) in
     let cell_is : cell ≡ first_failing (cell_checks x) = at_image (λ x. cell ≡ first_failing (cell_checks x)) is (carried (λ x. cell ≡ first_failing (cell_checks x)) (r5.same refl) c.in_ok-cell.ensures.found) in
     let ring_is : ring ≡ first_failing (ring_checks x) = at_image (λ x. ring ≡ first_failing (ring_checks x)) is (carried (λ x. ring ≡ first_failing (ring_checks x)) (r6.same refl) c.in_ok-ring.ensures.found) in
-    let point : c.or_failing-point.result ≡ or_failing None 1024 (pointer_passes (last_kept x) (pointer day_ring x) walk) = c.or_failing-point.ensures ∙ (λ t. or_failing None 1024 ((c.pointer_passes.ensures ∙ (λ i. pointer_passes (kept_is i) (p_is i) walk)) t)) in
+    let point : c.or_failing-point.result ≡ or_failing None DAYS.place (pointer_passes (last_kept x) (pointer day_ring x) walk) = c.or_failing-point.ensures ∙ (λ t. or_failing None DAYS.place ((c.pointer_passes.ensures ∙ (λ i. pointer_passes (kept_is i) (p_is i) walk)) t)) in
     record {
       bad = c.or_else-bad.ensures
           ∙ (λ t. or_else front ((c.or_else-from_cells.ensures ∙ (λ u. or_else cell ((c.or_else-from_days.ensures ∙ (λ v. or_else (point v) ((c.or_else-behind.ensures ∙ (λ w. or_else (c.or_else-slots.ensures w) ring)) v))) u))) t))

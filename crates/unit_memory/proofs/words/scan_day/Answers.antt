@@ -1,6 +1,7 @@
 use Rattle.std.proofs.Common.{◌≡◌, ℕ, ◌+◌, ◌-◌, ◌*◌, ◌≤◌, min, IfOk, Ok, Err, Result, arith, refl, sym, ap, subst, ◌∙◌}
 use Rattle.std.specs.Prelude.{IfSome}
 use Rattle.tach_media.proofs.Runs.{reads_then, both_told}
+use Rattle.unit_model.specs.declared.layout.TheConstants.{DAY_WORDS}
 use Rattle.unit_model.specs.Image.{slot_place, slot_words, words_at}
 use Rattle.unit_model.proofs.Words.{words_split}
 use Rattle.unit_memory.specs.Scans.{start, scan_from}
@@ -12,7 +13,7 @@ use Rattle.unit_memory.proofs.words.scan_day.Goals as goal
 pub loop-block-preserved : goal.loop-block-preserved
 loop-block-preserved g c =
     let i = c.args.index in
-    let base = slot_place i + 16 in
+    let base = slot_place i + DAY_WORDS.place in
     let k = c.args.kept in
     let b = c.loop-block.block in
     let n = b * 240 in
@@ -35,7 +36,7 @@ loop-block-preserved g c =
 pub returns-in-Err-clause-scan : goal.returns-in-Err-clause-scan
 returns-in-Err-clause-scan g c =
     let i = c.args.index in
-    let base = slot_place i + 16 in
+    let base = slot_place i + DAY_WORDS.place in
     let k = c.args.kept in
     let b = c.loop-block.block in
     let n = b * 240 in
