@@ -1,14 +1,14 @@
 -- Where the day of the next entry is new, it is later than the end mark's, or no day so far is as late.
 use Rattle.std.proofs.Common.{◌≡◌, ◌⊎◌, inl, inr, ⊎_elim, ℕ, suc, ◌/◌, ◌<◌, ◌≤◌, Bool, true, false, cond, ◌&&◌, ◌||◌, Option, Some, None, List, [], ◌∷◌, ◌++◌, refl, sym, ◌∙◌, ap, subst, arith}
 use Rattle.std.specs.Prelude.{nat_eq, nat_lt}
-use Rattle.std.proofs.lemmas.Bool.{cases_lt}
+use Rattle.std.proofs.lemmas.Bool.{cases_lt, eqb-true}
 use Rattle.std.proofs.lemmas.Bool.Decides.{nat_tests}
 use Rattle.activity_codec.specs.declared.entries.Entry.{Entry}
 use Rattle.card_model.specs.Days.{Day}
 use Rattle.card_retention.specs.Expected.{WordDay, more, is_newest, goes_on, closes, adds, is_closed, first_words, Counted, with_entry, expected_days}
 use Rattle.card_retention.specs.Shown.{Bound, InDays, AllFrom, AllBefore, AllIn, Rising, Shows, sizes, is_open, owing, Rests}
 use Rattle.card_retention.specs.Retains.{entries_in, begun_on}
-use Rattle.card_retention.proofs.Entering.{is_same, rising_more, newest_more, shows_before, rising_sizes, closes_is}
+use Rattle.card_retention.proofs.Entering.{rising_more, newest_more, shows_before, rising_sizes, closes_is}
 use Rattle.card_retention.proofs.Growing.{in_more, in_front, still_in}
 use Rattle.card_steps.specs.Since.{HasOn, IsByEntries}
 
@@ -28,7 +28,7 @@ newest_side k (w ∷ v ∷ ws) r = ⊎_elim
 -- all are up to the newest
 newest_most : (k : ℕ) (ws : List WordDay) → Rising ws → is_newest k ws ≡ true → AllBefore (suc k) ws
 newest_most k [] r is = tt
-newest_most k (w ∷ []) r is = (omega (arith, is_same w.day k is), tt)
+newest_most k (w ∷ []) r is = (omega (arith, eqb-true w.day k is), tt)
 newest_most k (w ∷ v ∷ ws) r is = let rest = newest_most k (v ∷ ws) r.1 is in (omega (arith, r.0, rest.0), rest)
 
 -- a day that is there, behind which none is, is the newest
@@ -62,7 +62,7 @@ newest_back k (g ∷ gone) there t ts some is = newest_back k gone there t ts so
 
 newest_from : (o k : ℕ) (ws : List WordDay) → AllFrom o ws → is_newest k ws ≡ true → o ≤ k
 newest_from o k [] f is = absurd (cc)
-newest_from o k (w ∷ []) f is = omega (arith, f.0, is_same w.day k is)
+newest_from o k (w ∷ []) f is = omega (arith, f.0, eqb-true w.day k is)
 newest_from o k (w ∷ v ∷ ws) f is = newest_from o k (v ∷ ws) f.1 is
 
 -- the newest expected day is there
@@ -161,7 +161,7 @@ module _ (size : ℕ) (slack : Bound) (covered from mark : ℕ) (c : Counted) (a
         where
           last_in : (k : ℕ) (ws : List WordDay) → is_newest k ws ≡ true → AllBefore (suc (r.top / 1440)) ws → k ≤ r.top / 1440
           last_in k [] is b = absurd (cc)
-          last_in k (w ∷ []) is b = omega (arith, is_same w.day k is, b.0)
+          last_in k (w ∷ []) is b = omega (arith, eqb-true w.day k is, b.0)
           last_in k (w ∷ v ∷ ws) is b = last_in k (v ∷ ws) is b.1
 
       by : (k : ℕ) → is_newest k c.days ≡ true → mark / 1440 ≤ k → is_newest (e.minute / 1440) (sizes days) ≡ false → HasOn k slack.all ⊎ (mark / 1440 < k) → mark / 1440 < e.minute / 1440
@@ -179,13 +179,13 @@ module _ (size : ℕ) (slack : Bound) (covered from mark : ℕ) (c : Counted) (a
 -- ---- one more
 
 newest_one : (k : ℕ) (ws : List WordDay) (v : WordDay) → is_newest k (ws ++ v ∷ []) ≡ true → v.day ≡ k
-newest_one k [] v is = is_same v.day k is
+newest_one k [] v is = eqb-true v.day k is
 newest_one k (w ∷ []) v is = newest_one k [] v is
 newest_one k (w ∷ x ∷ ws) v is = newest_one k (x ∷ ws) v is
 
 newest_same : (j k : ℕ) (ws : List WordDay) → is_newest j ws ≡ true → is_newest k ws ≡ true → j ≡ k
 newest_same j k [] a b = absurd (cc)
-newest_same j k (w ∷ []) a b = omega (arith, is_same w.day j a, is_same w.day k b)
+newest_same j k (w ∷ []) a b = omega (arith, eqb-true w.day j a, eqb-true w.day k b)
 newest_same j k (w ∷ v ∷ ws) a b = newest_same j k (v ∷ ws) a b
 
 in_last : (k : ℕ) (ws : List WordDay) (v : WordDay) → v.day ≡ k → InDays k (ws ++ v ∷ [])
@@ -194,7 +194,7 @@ in_last k (w ∷ ws) v at = inr (in_last k ws v at)
 
 newest_is : (k : ℕ) (ws : List WordDay) → is_newest k ws ≡ true → InDays k ws
 newest_is k [] is = absurd (cc)
-newest_is k (w ∷ []) is = inl (is_same w.day k is)
+newest_is k (w ∷ []) is = inl (eqb-true w.day k is)
 newest_is k (w ∷ v ∷ ws) is = inr (newest_is k (v ∷ ws) is)
 
 all_append : (o : ℕ) (es : List Entry) (e : Entry) (ws : List WordDay) → AllIn o es ws → InDays (e.minute / 1440) ws → AllIn o (es ++ e ∷ []) ws
