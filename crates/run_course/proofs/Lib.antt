@@ -12,4 +12,5 @@ pub mod New
 pub mod Deciding
 pub mod Complete
 pub mod Staying
+pub mod Caused
 pub mod Rows

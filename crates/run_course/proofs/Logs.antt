@@ -135,12 +135,15 @@ torn-found (suc i) k (b ∷ bs) u p slot = ap (λ (t : Bool). tears_here u p slo
 abbrev pub found_log : ℕ → ℕ → RunLog → RunLog
 found_log i k log = record log { breaks = found_from i k log.breaks }
 
-pub went-found : (log : RunLog) (i k from : ℕ) (done : List TraceSecond) → AreInOrder from done → went (found_log i k log) done ≡ went log done
-went-found log i k from done order = went-same log (found_log i k log) done (all-before (λ u. SameAt log (found_log i k log) u) from done order (λ u lt. record {
+pub same-found : (log : RunLog) (i k u : ℕ) → SameAt log (found_log i k log) u
+same-found log i k u = record {
   cut = cut-by (found_log i k log) u ∙ cut-found i k log.breaks u ∙ sym (cut-by log u);
   torn = λ p slot. torn-by (found_log i k log) u p slot ∙ torn-found i k log.breaks u p slot ∙ sym (torn-by log u p slot);
   found = λ p slot. found-by (found_log i k log) u p slot ∙ sym (found-by log u p slot);
-}))
+}
+
+pub went-found : (log : RunLog) (i k from : ℕ) (done : List TraceSecond) → AreInOrder from done → went (found_log i k log) done ≡ went log done
+went-found log i k from done order = went-same log (found_log i k log) done (all-before (λ u. SameAt log (found_log i k log) u) from done order (λ u lt. same-found log i k u))
 
 pub kept-found : (log : RunLog) (i k u : ℕ) → tells_cut u (take i log.breaks) ≡ true → kept_after log u ≡ kept_after (found_log i k log) u
 kept-found log i k u tells =

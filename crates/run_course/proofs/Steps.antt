@@ -58,7 +58,7 @@ with-supply rule start from first done p s is f = subst (λ (s : Supply). Follow
 pub with-waiting : (rule : Rule) (start : Start) (from first : ℕ) (done : List TraceSecond) (p : Progress) (w : List HistoryMinute) → p.waiting ≡ w → Followed rule start from first done p → Followed rule start from first done (record p { waiting = w })
 with-waiting rule start from first done p w is f = subst (λ (w : List HistoryMinute). Followed rule start from first done (record p { waiting = w })) is f
 
-cuts-bound : (s : Supply) (next : ℕ) → cuts_from s next ≤ next
+pub cuts-bound : (s : Supply) (next : ℕ) → cuts_from s next ≤ next
 cuts-bound (Lit []) next = omega arith
 cuts-bound (Lit (t ∷ span)) next = omega arith
 cuts-bound Due next = omega arith
@@ -672,7 +672,17 @@ module _ (rule : Rule) (start : Start) (from first : ℕ) (done : List TraceSeco
 
   -- the seconds so far but the last, and that
   pub cut-parts : (front_ : List Told) × (x_ : Told) × ((went p.log done).told ≡ front_ ++ x_ ∷ []) × ((went cut_log done).told ≡ front_ ++ cut_at_end x_ ∷ [])
-  cut-parts = (front.told, x, ap (λ (w : Went). w.told) told-is, ap (λ (w : Went). w.told) cut-is)
+      × (x_.lit ≡ true) × (x_.cut ≡ false) × (x_.second.number ≡ p.next - 1) × (cut_in p.log x_.second.number ≡ None)
+  cut-parts = (
+    front.told,
+    x,
+    ap (λ (w : Went). w.told) told-is,
+    ap (λ (w : Went). w.told) cut-is,
+    lit-uncut.0,
+    lit-uncut.1,
+    x-lit.number ∙ number,
+    ap (cut_in p.log) x-lit.number ∙ uncut,
+  )
 
   pub cut-ends : Core rule start from first done cut_log p.unfound p.next Due p.book []
   cut-ends =

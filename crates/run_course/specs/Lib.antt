@@ -4,3 +4,4 @@ pub mod Followed
 pub mod Seconds
 pub mod Within
 pub mod Complete
+pub mod Caused

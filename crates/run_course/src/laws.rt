@@ -2,6 +2,7 @@ ghost use Rattle.run_course.specs.Moments.{ABreakMoreIsSeen, AFindMoreIsSeen, AR
 ghost use Rattle.run_course.specs.Seconds.{ARunBegins, APowerOnFinds, APowerOnFails, ASecondGoesOn, ASecondBreaksOff, RulesSeeTheSecond, DecidedMinutesAreNew, AMinuteStaysDark, AnOffLineIsDark, AnOffLineCuts};
 ghost use Rattle.run_course.specs.Within.{ASecondBegins, AnActionIsAMoment, ASecondEnds, ACutEndsTheSecond, ATearIsTold, AFindIsTold, SlotsTellATear, SlotsTellAnAcceptance};
 ghost use Rattle.run_course.specs.Complete.{NothingIsDecidedYet, ASecondIsAcknowledged, PowerAloneDecidesNothing, FoundStaysComplete, AFailureStaysComplete, RefusalsStayComplete, ACutStaysComplete, MoreMarksStay};
+ghost use Rattle.run_course.specs.Caused.{ARunIsCaused, ASecondIsCaused, FoundStaysCaused, AnOffLineIsCaused, AnOffCutIsCaused};
 ghost use Rattle.run_course.specs.Presence.{SlotsAgree, SlotsTellWhoIsPresent, NobodySits, ACardIsPutIn, ACardIsTakenOut, PowerIsLost, ASecondHasGone, TheLastSecondIsCut, TheMinuteGoesOn, AMinuteEnds, TimePasses, MinutesAreKept, WhatWasKeptIsFound};
 
 /// A run begins with nothing kept.
@@ -227,4 +228,29 @@ pub fn refusals_stay_complete()
 /// Nor where the last second turns out to be a cut's.
 pub fn a_cut_stays_complete()
     ensures { ACutStaysComplete }
+{}
+
+/// A run begins with an empty log.
+pub fn a_run_is_caused()
+    ensures { ARunIsCaused }
+{}
+
+/// One second more whose new lines tell exactly what happened in it.
+pub fn a_second_is_caused()
+    ensures { ASecondIsCaused }
+{}
+
+/// At a power-on that finds what was kept, each line has its cause still.
+pub fn found_stays_caused()
+    ensures { FoundStaysCaused }
+{}
+
+/// An `off` line while there is no power asks no line.
+pub fn an_off_line_is_caused()
+    ensures { AnOffLineIsCaused }
+{}
+
+/// An `off` line while there is power is a cut of the last second.
+pub fn an_off_cut_is_caused()
+    ensures { AnOffCutIsCaused }
 {}
