@@ -9,7 +9,7 @@ ghost use Rattle.card_layout.specs.Files.{image_size_of};
 ghost use Rattle.card_model.specs.Days.{AreDays};
 ghost use Rattle.card_image.specs.Fields.{card_days};
 ghost use Rattle.card_image.specs.Judging.{IsValid};
-ghost use Rattle.card_image.specs.Own.{own_view};
+ghost use Rattle.card_image.specs.Own.{own_sizes, own_view, own_covered};
 ghost use Rattle.card_image.specs.View.{card_view};
 ghost use Rattle.card_session.specs.Inserting.{IsCardInserted};
 ghost use Rattle.unit_model.specs.Image.{last_kept};
@@ -25,6 +25,7 @@ ghost use Rattle.card_retention.specs.Expected.{with_entry};
 ghost use Rattle.card_session.specs.Sessions.{Session, IsSession};
 ghost use Rattle.card_session.specs.Overwriting.{and_entry};
 ghost use Rattle.card_steps.specs.Shows.{IsDone};
+ghost use Rattle.card_steps.specs.Since.{all_since, bound_since, counted_since, GoesSince};
 ghost use Rattle.device_steps.specs.Rule.{Both, opened, card_seen, CardHolds, CardRests};
 ghost use Rattle.device_steps.specs.CardNotes.{IsNote, IsSound};
 ghost use Rattle.device_steps.specs.OnCard.{IsCarried, IsReady};
@@ -65,6 +66,12 @@ pub fn a_card_sits_on<C: Chip, D: Chip>(before: &C, after: &D)
         → IfSome (C.state before.now).image (λ x. IfSome (D.state after.now).image (λ y. IsReady s w.slack w.covered w.from w.counted w.all e x → IsDone s.application w.slack w.covered w.counted w.all e x y
         × IsCarried t (and_entry w.slack e) w.covered (suc e.minute) (with_entry w.covered w.counted e) (w.all ++ e ∷ []) y))
         → IsSitting t (and_kept w e) (D.state after.now) }
+{}
+
+/// A card whose string goes on since the start of a run may keep an entry that comes no earlier than it may: what `keep_on_card` asks.
+pub fn a_string_that_goes_on_is_ready<C: Chip>(card: &C)
+    ensures { (t : Session) (image : List ℕ) (done : List Entry) (n : ℕ) (e : Entry) → IsApplication t.application → n ≤ e.minute → IfSome (C.state card.now).image (λ x. (own_sizes x ≡ t.application) × IsSession t x × GoesSince t.application image done n x)
+        → (from : ℕ) × IfSome (C.state card.now).image (IsReady t (bound_since image done) (own_covered image) from (counted_since image done) (all_since image done) e) }
 {}
 
 /// A note on the unit, of an insertion, a withdrawal, a place or an event, leaves the unit's rule and that of a card.
