@@ -33,14 +33,14 @@ not_open mark [] b on = on
 not_open mark (d ∷ []) b on = omega (arith, b.0, on)
 not_open mark (d ∷ e ∷ ds) b on = not_open mark (e ∷ ds) b.1 on
 
-shut_of : (mark : ℕ) (ds : List Day) → AllBefore (mark / 1440) (sizes ds) → is_open mark ds ≡ false
+pub shut_of : (mark : ℕ) (ds : List Day) → AllBefore (mark / 1440) (sizes ds) → is_open mark ds ≡ false
 shut_of mark ds b = by (is_open mark ds) refl
   where
     by : (o : Bool) → is_open mark ds ≡ o → is_open mark ds ≡ false
     by false is = is
     by true is = absurd (not_open mark ds b (open_date mark ds is))
 
-word_before : (mark date : ℕ) (ds : List Day) → AreDays date ds → AllBefore (mark / 1440) (sizes ds) → newest_word ds ≤ mark
+pub word_before : (mark date : ℕ) (ds : List Day) → AreDays date ds → AllBefore (mark / 1440) (sizes ds) → newest_word ds ≤ mark
 word_before mark date [] are b = omega arith
 word_before mark date (d ∷ []) are b = let below = words_below d.words are.1.ordered in omega (arith, below, are.1.midnight, b.0)
 word_before mark date (d ∷ e ∷ ds) are b = word_before mark d.date (e ∷ ds) are.2 b.1
@@ -56,7 +56,7 @@ newest_of_before mark ds are b =
 
 -- ---- a day more
 
-shut_first : (mark : ℕ) (ds : List Day) (y : Day) → y.words ≡ bare_word ∷ [] → is_open mark (ds ++ y ∷ []) ≡ false
+pub shut_first : (mark : ℕ) (ds : List Day) (y : Day) → y.words ≡ bare_word ∷ [] → is_open mark (ds ++ y ∷ []) ≡ false
 shut_first mark [] y words = ap (λ (ws : List ℕ). nat_eq y.date (date_of (suc mark)) && not (word_absent (last_word ws))) words ∙ none (nat_eq y.date (date_of (suc mark)))
   where
     none : (b : Bool) → b && false ≡ false
@@ -65,7 +65,7 @@ shut_first mark [] y words = ap (λ (ws : List ℕ). nat_eq y.date (date_of (suc
 shut_first mark (d ∷ []) y words = shut_first mark [] y words
 shut_first mark (d ∷ e ∷ ds) y words = shut_first mark (e ∷ ds) y words
 
-word_first : (ds : List Day) (y : Day) → y.words ≡ bare_word ∷ [] → newest_word (ds ++ y ∷ []) ≡ y.date / 60
+pub word_first : (ds : List Day) (y : Day) → y.words ≡ bare_word ∷ [] → newest_word (ds ++ y ∷ []) ≡ y.date / 60
 word_first [] y words = ap (λ (ws : List ℕ). y.date / 60 + word_minute (last_word ws)) words ∙ zero (y.date / 60) (word_minute bare_word) refl
   where
     zero : (n m : ℕ) → m ≡ 0 → n + m ≡ n
@@ -107,26 +107,28 @@ module _ (mark : ℕ) (days : List Day) (d : Day) (begun : IsBegunOn mark days d
   pub begun_strict : EndsStrictly (trimmed mark (days ++ d ∷ []))
   begun_strict = subst EndsStrictly (sym cut_is) (strict_first days (cut mark d) begun.first)
 
--- ---- the words that begin the day of an entry behind the mark
+-- ---- words of a day of the mark, the second of them behind it
 
-pub cut_first : (mark : ℕ) (d : Day) (e : Entry) → d.date ≡ date_of mark → d.words ≡ day_words e → mark % 1440 < e.minute % 1440 → (cut mark d).words ≡ bare_word ∷ []
-cut_first mark d e at words lt =
+above : (m n : ℕ) → n < m → nat_le m n ≡ false
+above m n lt = grind (arith, nat_tests)
+
+at_most : (m n : ℕ) → m ≤ n → nat_le m n ≡ true
+at_most m n le = grind (arith, nat_tests)
+
+same : (m n : ℕ) → m ≡ n → nat_eq m n ≡ true
+same m n is = grind (arith, nat_tests)
+
+apart : (m n : ℕ) → n < m → nat_eq m n ≡ false
+apart m n lt = grind (arith, nat_tests)
+
+pub cut_first : (mark : ℕ) (d : Day) (w v : ℕ) → d.date ≡ date_of mark → d.words ≡ w ∷ v ∷ [] → word_minute w ≡ 0 → mark % 1440 < word_minute v → (cut mark d).words ≡ w ∷ []
+cut_first mark d w v at words first lt =
     ap (λ (c : Bool). (cond c (with_early (mark % 1440) d) d).words) (same d.date (date_of mark) at)
-    ∙ ap (λ (ws : List ℕ). early (mark % 1440) ws) (words ∙ ap (λ (c : Bool). cond c (entry_word e ∷ []) (bare_word ∷ entry_word e ∷ [])) (apart (e.minute % 1440) 0 (omega (arith, lt))))
-    ∙ ap (λ (c : Bool). cond c (bare_word ∷ cond (nat_le (word_minute (entry_word e)) (mark % 1440)) (entry_word e ∷ []) []) []) (at_most (word_minute bare_word) (mark % 1440) (least (word_minute bare_word) refl))
-    ∙ ap (λ (c : Bool). bare_word ∷ cond c (entry_word e ∷ []) []) (above (word_minute (entry_word e)) (mark % 1440) (omega (arith, lt, entry_minute e)))
-  where
-    same : (m n : ℕ) → m ≡ n → nat_eq m n ≡ true
-    same m n is = grind (arith, nat_tests)
+    ∙ ap (λ (ws : List ℕ). early (mark % 1440) ws) words
+    ∙ ap (λ (c : Bool). cond c (w ∷ cond (nat_le (word_minute v) (mark % 1440)) (v ∷ []) []) []) (at_most (word_minute w) (mark % 1440) (omega (arith, first)))
+    ∙ ap (λ (c : Bool). w ∷ cond c (v ∷ []) []) (above (word_minute v) (mark % 1440) lt)
 
-    apart : (m n : ℕ) → n < m → nat_eq m n ≡ false
-    apart m n lt = grind (arith, nat_tests)
-
-    at_most : (m n : ℕ) → m ≤ n → nat_le m n ≡ true
-    at_most m n le = grind (arith, nat_tests)
-
-    above : (m n : ℕ) → n < m → nat_le m n ≡ false
-    above m n lt = grind (arith, nat_tests)
-
-    least : (m : ℕ) → m ≡ 0 → m ≤ mark % 1440
-    least m is = omega (arith, is)
+-- those that begin the day of an entry
+pub cut_entry : (mark : ℕ) (d : Day) (e : Entry) → d.date ≡ date_of mark → d.words ≡ day_words e → mark % 1440 < e.minute % 1440 → (cut mark d).words ≡ bare_word ∷ []
+cut_entry mark d e at words lt =
+    cut_first mark d bare_word (entry_word e) at (words ∙ ap (λ (c : Bool). cond c (entry_word e ∷ []) (bare_word ∷ entry_word e ∷ [])) (apart (e.minute % 1440) 0 (omega (arith, lt)))) refl (omega (arith, lt, entry_minute e))

@@ -24,7 +24,7 @@ use Rattle.card_session.specs.Moments.{IsBeforeGap, IsBeforeWords, IsBeforeMark,
 use Rattle.card_session.specs.Parts.{IsBeforeGapOf}
 use Rattle.card_session.proofs.Following.{closing_minute, entry_minute}
 use Rattle.card_session.proofs.Preparing.{gap_are, gap_ready, open_date, on_as}
-use Rattle.card_session.proofs.OnMark.{IsBegunOn, all_before, before_left, cut_first}
+use Rattle.card_session.proofs.OnMark.{IsBegunOn, all_before, before_left, cut_entry}
 use Rattle.card_session.proofs.Alike.{Alike, alike_km, trimmed_alike, strict_alike, entries_alike, sizes_alike}
 
 -- It survives that the oldest days go, but for the newest, and a word behind the mark; what follows from it survives a day behind the
@@ -181,7 +181,7 @@ module _ (size : ℕ) (long : 5544 ≤ size) (b : Book) (ordered : AreDays 0 b.d
             before = before_left (mark_of b / 1440) room gapped older (remain_fitting room gapped)
                 (all_before (mark_of b / 1440) e.minute 0 gapped are (gap_ready size long b ordered e.minute before e refl).1 at (subst (λ (n : ℕ). is_newest n (sizes gapped) ≡ false) at other));
             date = date;
-            first = cut_first (mark_of b) (new_day gapped (date_of e.minute) (day_words e)) e date refl (omega (arith, at, mark_before));
+            first = cut_entry (mark_of b) (new_day gapped (date_of e.minute) (day_words e)) e date refl (omega (arith, at, mark_before));
           }) older_q
 
       pub keep_survives_begun : (registration : Registration) (odometer more : ℕ) (kept : List Day) → IsBeforeMark size b (with_entry size registration odometer more b e) e kept → R kept

@@ -24,7 +24,8 @@ use Rattle.card_session.proofs.Alike.{alike_km, are_bare, lives_alike}
 use Rattle.card_session.proofs.Following.{entry_minute, entry_top}
 use Rattle.card_session.proofs.Valid.{flat_of}
 use Rattle.card_steps.specs.Carried.{BegunOf}
-use Rattle.card_steps.proofs.Begun.{same, shut_first, none_day, bare_tells, entries_more, with_last, Stops, bare_stop, begun_stop, begun_lists}
+use Rattle.card_session.proofs.OnMark.{shut_first}
+use Rattle.card_steps.proofs.Begun.{same, none_day, bare_tells, entries_more, with_last, Stops, bare_stop, begun_stop, begun_lists}
 
 -- of a string that ends with such a day the oldest go, but that one stays
 total_more : (ds : List Day) (y : Day) → total (ds ++ y ∷ []) ≡ total ds + len_of y

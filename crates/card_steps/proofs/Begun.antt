@@ -1,17 +1,16 @@
 -- A keep on the day of the end mark, where that is later than each day that the string has: a stop leaves it with its first word.
-use Rattle.std.proofs.Common.{◌≡◌, ◌⊎◌, inl, inr, ⊎_elim, ℕ, suc, ◌+◌, ◌-◌, ◌*◌, ◌/◌, ◌%◌, ◌<◌, ◌≤◌, max, Bool, true, false, cond, ◌&&◌, ◌||◌, not, Option, Some, None, List, [], ◌∷◌, ◌++◌, length, refl, sym, ◌∙◌, ap, subst, arith}
+use Rattle.std.proofs.Common.{◌≡◌, ◌⊎◌, inl, inr, ⊎_elim, ℕ, suc, ◌+◌, ◌-◌, ◌*◌, ◌/◌, ◌%◌, ◌<◌, ◌≤◌, max, Bool, true, false, cond, ◌&&◌, ◌||◌, Option, Some, None, List, [], ◌∷◌, ◌++◌, length, refl, sym, ◌∙◌, ap, subst, arith}
 use Rattle.std.specs.Prelude.{nat_eq, nat_lt, nat_le}
 use Rattle.std.proofs.lemmas.Bool.Decides.{nat_tests}
-use Rattle.std.proofs.lemmas.Bool.{eqb-false}
 use Rattle.activity_codec.specs.declared.entries.Entry.{Entry}
 use Rattle.activity_codec.specs.declared.values.Activity.TheVariants.{Rest}
-use Rattle.activity_codec.specs.Words.{word_minute, word_absent}
-use Rattle.card_model.specs.Days.{Day, AreDays, last_word}
-use Rattle.card_model.specs.Changes.{OnNewest, Remain, fitting, with_newest, with_word, with_km, with_early, early, cut, new_day, date_of, trimmed}
+use Rattle.activity_codec.specs.Words.{word_minute}
+use Rattle.card_model.specs.Days.{Day, AreDays}
+use Rattle.card_model.specs.Changes.{Remain, fitting, with_newest, with_word, with_km, with_early, early, cut, new_day, date_of, trimmed}
 use Rattle.card_model.proofs.Retention.{remain_fitting}
 use Rattle.card_model.proofs.Trims.{cut_date}
 use Rattle.card_retention.specs.Expected.{WordDay, Counted, is_newest, with_entry as counted_with}
-use Rattle.card_retention.specs.Shown.{Bound, AllUpTo, AllBefore, Rests, Lives, sizes, size_day, is_open}
+use Rattle.card_retention.specs.Shown.{Bound, AllUpTo, AllBefore, Rests, Lives, sizes, size_day}
 use Rattle.card_retention.specs.Entries.{latest, told_by, entry_at, day_entries, entries_up_to, newest_word, newest_minute}
 use Rattle.card_retention.specs.Retains.{is_day, entries_in, begun_on}
 use Rattle.card_retention.proofs.Closing.{kept_lives}
@@ -26,10 +25,11 @@ use Rattle.card_session.specs.Moments.{IsBeforeMark, entry_len}
 use Rattle.card_session.specs.Overwriting.{and_entry}
 use Rattle.card_session.specs.Parts.{IsBeforeGapOf}
 use Rattle.card_session.proofs.Alike.{alike_km, are_bare, lives_alike}
-use Rattle.card_session.proofs.Following.{entry_minute, entry_top, words_below}
+use Rattle.card_session.proofs.Following.{entry_minute, entry_top}
 use Rattle.card_session.proofs.Lasting.{entered_as}
-use Rattle.card_session.proofs.Preparing.{gap_are, open_date}
+use Rattle.card_session.proofs.Preparing.{gap_are}
 use Rattle.card_session.proofs.Stopping.{closing_absent}
+use Rattle.card_session.proofs.OnMark.{all_before, before_left, shut_of, newest_of_before, cut_first, shut_first, word_first}
 use Rattle.card_session.proofs.Surviving.{few_bytes}
 use Rattle.tacho_types.specs.declared.texts.Registration.{Registration}
 use Rattle.card_steps.specs.Carried.{BrokeOf, BegunOf}
@@ -46,42 +46,7 @@ same m n is = grind (arith, nat_tests)
 pub apart : (m n : ℕ) → n < m → nat_eq m n ≡ false
 apart m n lt = grind (arith, nat_tests)
 
--- ---- days that are all before one
-
--- where the newest day is another, and no word is as late
-all_before : (day minute date : ℕ) (ds : List Day) → AreDays date ds → newest_word ds < minute → minute / 1440 ≡ day → is_newest day (sizes ds) ≡ false → AllBefore day (sizes ds)
-all_before day minute date [] are low at other = tt
-all_before day minute date (d ∷ []) are low at other = let another = eqb-false (d.date / 86400) day other in (omega (arith, another, low, at), tt)
-all_before day minute date (d ∷ f ∷ ds) are low at other = let rest = all_before day minute d.date (f ∷ ds) are.2 low at other in (omega (arith, are.2.0, rest.0), rest)
-
-pub before_left : (k room : ℕ) (ds kept : List Day) → Remain room ds kept → AllBefore k (sizes ds) → AllBefore k (sizes kept)
-before_left k room [] kept left b = subst (λ (l : List Day). AllBefore k (sizes l)) (sym left) tt
-before_left k room (d ∷ ds) kept left b = ⊎_elim (λ whole. subst (λ (l : List Day). AllBefore k (sizes l)) (sym whole) b) (λ gone. before_left k room ds kept gone.1 b.1) left
-
-pub not_open : (mark : ℕ) (ds : List Day) → AllBefore (mark / 1440) (sizes ds) → OnNewest (λ d. d.date ≡ date_of (suc mark)) ds → ⊥
-not_open mark [] b on = on
-not_open mark (d ∷ []) b on = omega (arith, b.0, on)
-not_open mark (d ∷ e ∷ ds) b on = not_open mark (e ∷ ds) b.1 on
-
-pub shut_of : (mark : ℕ) (ds : List Day) → AllBefore (mark / 1440) (sizes ds) → is_open mark ds ≡ false
-shut_of mark ds b = by (is_open mark ds) refl
-  where
-    by : (o : Bool) → is_open mark ds ≡ o → is_open mark ds ≡ false
-    by false is = is
-    by true is = absurd (not_open mark ds b (open_date mark ds is))
-
-word_before : (mark date : ℕ) (ds : List Day) → AreDays date ds → AllBefore (mark / 1440) (sizes ds) → newest_word ds ≤ mark
-word_before mark date [] are b = omega arith
-word_before mark date (d ∷ []) are b = let below = words_below d.words are.1.ordered in omega (arith, below, are.1.midnight, b.0)
-word_before mark date (d ∷ e ∷ ds) are b = word_before mark d.date (e ∷ ds) are.2 b.1
-
--- the newest minute is the mark
-newest_before : (mark : ℕ) (ds : List Day) → AreDays 0 ds → AllBefore (mark / 1440) (sizes ds) → newest_minute mark (trimmed mark ds) ≡ mark
-newest_before mark ds are b =
-    ap (newest_minute mark) (trimmed_before mark ds are b) ∙ ap (λ (o : Bool). cond o (suc mark) (max mark (newest_word ds))) (shut_of mark ds b) ∙ highest (newest_word ds) (word_before mark 0 ds are b)
-  where
-    highest : (n : ℕ) → n ≤ mark → max mark n ≡ mark
-    highest n le = omega (arith, le)
+-- ---- days that are all before the mark's
 
 -- no minute of them is behind the mark
 quiet_before : (mark next date : ℕ) (ds : List Day) → AreDays date ds → AllBefore (mark / 1440) (sizes ds) → Quiet mark next ds
@@ -125,13 +90,6 @@ pub entries_more : (mark : ℕ) (ds : List Day) (d : Day) → day_entries mark d
 entries_more mark [] d none = ap (λ (l : List Entry). l ++ []) none
 entries_more mark (e ∷ ds) d none = ap (λ (l : List Entry). day_entries mark e ++ l) (entries_more mark ds d none)
 
-cut_first : (mark : ℕ) (d : Day) (w v : ℕ) → d.date ≡ date_of mark → d.words ≡ w ∷ v ∷ [] → word_minute w ≡ 0 → mark % 1440 < word_minute v → (cut mark d).words ≡ w ∷ []
-cut_first mark d w v at words first lt =
-    ap (λ (c : Bool). (cond c (with_early (mark % 1440) d) d).words) (same d.date (date_of mark) at)
-    ∙ ap (λ (ws : List ℕ). early (mark % 1440) ws) words
-    ∙ ap (λ (c : Bool). cond c (w ∷ cond (nat_le (word_minute v) (mark % 1440)) (v ∷ []) []) []) (at_most (word_minute w) (mark % 1440) (omega (arith, first)))
-    ∙ ap (λ (c : Bool). w ∷ cond c (v ∷ []) []) (above (word_minute v) (mark % 1440) lt)
-
 cut_bare : (mark : ℕ) (d : Day) → d.date ≡ date_of mark → d.words ≡ bare_word ∷ [] → (cut mark d).words ≡ bare_word ∷ []
 cut_bare mark d at one =
     ap (λ (c : Bool). (cond c (with_early (mark % 1440) d) d).words) (same d.date (date_of mark) at)
@@ -147,23 +105,6 @@ with_last f (e ∷ []) d = refl
 with_last f (e ∷ g ∷ ds) d = ap (λ (l : List Day). e ∷ l) (with_last f (g ∷ ds) d)
 
 -- behind its first word the mark is the newest minute
-pub shut_first : (mark : ℕ) (ds : List Day) (y : Day) → y.words ≡ bare_word ∷ [] → is_open mark (ds ++ y ∷ []) ≡ false
-shut_first mark [] y words = ap (λ (ws : List ℕ). nat_eq y.date (date_of (suc mark)) && not (word_absent (last_word ws))) words ∙ none (nat_eq y.date (date_of (suc mark)))
-  where
-    none : (b : Bool) → b && false ≡ false
-    none true = refl
-    none false = refl
-shut_first mark (d ∷ []) y words = shut_first mark [] y words
-shut_first mark (d ∷ e ∷ ds) y words = shut_first mark (e ∷ ds) y words
-
-pub word_first : (ds : List Day) (y : Day) → y.words ≡ bare_word ∷ [] → newest_word (ds ++ y ∷ []) ≡ y.date / 60
-word_first [] y words = ap (λ (ws : List ℕ). y.date / 60 + word_minute (last_word ws)) words ∙ zero (y.date / 60) (word_minute bare_word) refl
-  where
-    zero : (n m : ℕ) → m ≡ 0 → n + m ≡ n
-    zero n m is = omega (arith, is)
-word_first (d ∷ []) y words = word_first [] y words
-word_first (d ∷ e ∷ ds) y words = word_first (e ∷ ds) y words
-
 pub newest_first : (mark : ℕ) (ds : List Day) (y : Day) → y.date ≡ date_of mark → y.words ≡ bare_word ∷ [] → newest_minute mark (ds ++ y ∷ []) ≡ mark
 newest_first mark ds y at words =
     ap (λ (o : Bool). cond o (suc mark) (max mark (newest_word (ds ++ y ∷ [])))) (shut_first mark ds y words) ∙ highest (newest_word (ds ++ y ∷ [])) (omega (arith, word_first ds y words, at))
@@ -229,7 +170,7 @@ module _ (size : ℕ) (slack : Bound) (covered from : ℕ) (c : Counted) (all : 
         until = until;
         lists = lists_kept ∙ ap (λ (ds : List Day). entries_in (sizes ds) all) (sym (trimmed_before mark kept are_kept low_kept));
       });
-      newest = newest_before mark kept are_kept low_kept;
+      newest = newest_of_before mark kept are_kept low_kept;
     }
 
     -- a day that is left with its first word
@@ -287,7 +228,7 @@ module _ (size : ℕ) (slack : Bound) (covered from : ℕ) (c : Counted) (all : 
       until = until;
       lists = lists ∙ ap (λ (ds : List Day). entries_in (sizes ds) all) (sym (trimmed_before mark days ordered low));
     });
-    newest = newest_before mark days ordered low;
+    newest = newest_of_before mark days ordered low;
   }
 
 -- ---- the keep that begins the day

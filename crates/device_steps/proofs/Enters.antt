@@ -52,7 +52,6 @@ use Rattle.device_steps.specs.declared.entering.Entered.{Entered}
 use Rattle.device_steps.specs.declared.entering.NotEntered.{NotEntered}
 use Rattle.device_steps.specs.Entering.{owed_on, IsAsked, IsEntering}
 use Rattle.device_steps.proofs.EntryOwed.{worked}
-use Rattle.device_steps.proofs.Passed.{valid-days}
 use Rattle.device_steps.specs.Rule.{Both, opened, number_of, unit_seen, card_seen, AnyString, CardHolds}
 use Rattle.device_steps.proofs.OnCard.{AnyStep, any-goes, own-is, session-is, mark-is, sizes-same}
 use Rattle.device_steps.proofs.Inserted.{inserting_open, inserted_open, inserting_shut, inserted_shut, bound_of, renews-mark}
@@ -226,9 +225,9 @@ module _ (r : Both) (c : Card) (s : Started) (due : ℕ) (b : Book) (marks : Lis
     at-exit = ⊎_elim
         (λ only. card-read r c b [] V X Y whole only read)
         (λ both.
-        let known = at_image (λ x. IsValid app x × (AreDays 0 (card_days app x) → AreOwed now (owed_on app u x))) is
-        (at_image (λ u. IfSome X.image (λ x. IsValid app x × (AreDays 0 (card_days app x) → AreOwed now (owed_on app u x)))) told both.3) in
-        by-insertion both.0 both.1 both.2 known.0 (known.1 (valid-days app sound x room_ known.0)))
+        let known = at_image (λ x. IsValid app x × AreOwed now (owed_on app u x)) is
+        (at_image (λ u. IfSome X.image (λ x. IsValid app x × AreOwed now (owed_on app u x))) told both.3) in
+        by-insertion both.0 both.1 both.2 known.0 known.1)
         enters.begun
 
   -- at each exit
@@ -274,6 +273,20 @@ pub entered-answer : (r : Both) (c : Card) (s : Started) (due : ℕ) (b : Book) 
 entered-answer r c s due b marks app sound registration long odometer now few h none late unit unit_after whole after fits tells tells_card asked rule (Ok e) enters =
     entering-entered r c s due b marks app sound registration long odometer now few h none late unit unit_after whole after fits tells tells_card asked rule e enters
 entered-answer r c s due b marks app sound registration long odometer now few h none late unit unit_after whole after fits tells tells_card asked rule (Err f) enters = tt
+
+-- at each moment, of the entries that were owed then
+pub entering-moments : (app : Application) (registration : Registration) (odometer now : ℕ) (U V X Y : State) (answer : Result Entered NotEntered) (u x : List ℕ) → IsEntering app registration odometer now U V X Y answer → U.image ≡ Some u → X.image ≡ Some x
+    → LeavesOnly X Y Unchanged ⊎ (IsValid app x × AreOwed now (owed_on app u x) × LeavesOnly X Y (IsCardInserting app registration odometer (owed_on app u x) now))
+entering-moments app registration odometer now U V X Y answer u x enters told is = ⊎_elim
+    (λ only. inl only)
+    (λ both.
+    let known = at_image (λ x. IsValid app x × AreOwed now (owed_on app u x)) is (at_image (λ u. IfSome X.image (λ x. IsValid app x × AreOwed now (owed_on app u x))) told both.3) in
+    inr (known.0, known.1, run))
+    enters.begun
+  where
+    run : LeavesOnly X Y (IsCardInserting app registration odometer (owed_on app u x) now)
+    run = weaken (at_image (λ u. LeavesOnly X Y (λ x c. IsCardInserting app registration odometer (owed_on app u x) now x c)) told enters.moments)
+        (λ w y this k. let at : x ≡ w = same-one x w (sym is ∙ this) in subst (λ (l : List ℕ). IsCardInserting app registration odometer (owed_on app u l) now w y) (sym at) k)
 
 -- ---- a withdrawal
 

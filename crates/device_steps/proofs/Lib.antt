@@ -15,3 +15,4 @@ pub mod CardNoted
 pub mod Told
 pub mod TornOut
 pub mod SizesRead
+pub mod StringReady

@@ -11,6 +11,7 @@ use Rattle.tacho_types.specs.CardNumber.{card_number_bytes, card_number_of, card
 use Rattle.tach_media.specs.Medium.{State, IsCoherent, HasCause, LeavesOnly, Reads, Unchanged, IsSettled, last_count, bytes_at}
 use Rattle.tach_media.proofs.Runs.{starts, weaken, from_reads, after_reads, goes_same, reads_then, cause_after, at_image, if_told, where_told, no_reads}
 use Rattle.card_layout.specs.declared.files.Application.{Application}
+use Rattle.card_layout.specs.Application.{IsApplication}
 use Rattle.card_layout.specs.Files.{files_of, image_size_of, place_of}
 use Rattle.card_model.specs.Days.{Day, AreDays}
 use Rattle.card_model.specs.Changes.{trimmed}
@@ -33,6 +34,7 @@ use Rattle.owed_model.specs.Owed.{owed_to, row_view}
 use Rattle.owed_rows.specs.Searching.{IsSane}
 use Rattle.unit_model.specs.Image.{last_kept}
 use Rattle.device_steps.proofs.EntryOwed.{worked}
+use Rattle.device_steps.proofs.Passed.{valid-days}
 use Rattle.device_steps.specs.declared.entering.Entered.{Entered}
 use Rattle.device_steps.specs.declared.entering.NotEntered.{NotEntered}
 use Rattle.device_steps.specs.declared.entering.NotEntered.TheVariants.{UnitFailed, CardFailed, NotValid as NotValidCard, TimeOverlap as LaterCard}
@@ -123,31 +125,14 @@ owed_told app x u l fits are look =
         let at : l.newest_minute ≡ end_mark app x = omega (arith, told, low) in
         ap (λ (n : ℕ). owed_to u (card_number app x) (session_time app x) n) at
 
--- ---- the days of a card that is put in
-
-still_are : (app : Application) (x y : List ℕ) → IsStill app x y → AreDays 0 (card_days app x)
-unfolding book_of
-still_are app x y still = subst (λ (ds : List Day). AreDays 0 ds) still.told.0 still.holds.ordered
-
-pub inserting_are : (app : Application) (registration : Registration) (odometer now : ℕ) (es : List Entry) (x c : List ℕ) → IsCardInserting app registration odometer es now x c → AreDays 0 (card_days app x)
-inserting_are app registration odometer now es x c (inl closed) = ⊎_elim (λ still. still_are app x c still) (λ rest. still_are app x rest.0 rest.1) closed.1
-inserting_are app registration odometer now es x c (inr open_) = ⊎_elim (λ still. still_are app x c still) (λ rest. still_are app x rest.0 rest.1) open_.1
-
-pub inserted_are : (app : Application) (registration : Registration) (odometer now : ℕ) (es : List Entry) (x y : List ℕ) → IsCardInserted app registration odometer es now x y → AreDays 0 (card_days app x)
-inserted_are app registration odometer now es x y (inl closed) = still_are app x closed.1.0 closed.1.1
-inserted_are app registration odometer now es x y (inr open_) = still_are app x open_.1.0 open_.1.1
-
 -- ---- what an insertion leaves, with what the unit's image owes
 
-module _ (app : Application) (registration : Registration) (odometer now : ℕ) (es : List Entry) (l : CardLook) (u x : List ℕ) (fits : image_size_of app ≤ length x) (look : IsLook app x l) (is : es ≡ owed_to u (card_number_bytes l.number) l.session l.newest_minute) where
-  pub owed_is : AreDays 0 (card_days app x) → es ≡ owed_on app u x
-  owed_is are = is ∙ owed_told app x u l fits are look
+module _ (app : Application) (registration : Registration) (odometer now : ℕ) (es : List Entry) (l : CardLook) (u x : List ℕ) (sound : IsApplication app) (fits : image_size_of app ≤ length x) (look : IsLook app x l) (is : es ≡ owed_to u (card_number_bytes l.number) l.session l.newest_minute) where
+  pub owed_is : es ≡ owed_on app u x
+  owed_is = is ∙ owed_told app x u l fits (valid-days app sound x fits look.valid) look
 
   pub inserting_owed : (c : List ℕ) → IsCardInserting app registration odometer es now x c → IsCardInserting app registration odometer (owed_on app u x) now x c
-  inserting_owed c moment = subst (λ (o : List Entry). IsCardInserting app registration odometer o now x c) (owed_is (inserting_are app registration odometer now es x c moment)) moment
-
-  pub owed_same : (y : List ℕ) → IsCardInserted app registration odometer es now x y → es ≡ owed_on app u x
-  owed_same y done = owed_is (inserted_are app registration odometer now es x y done)
+  inserting_owed c moment = subst (λ (o : List Entry). IsCardInserting app registration odometer o now x c) owed_is moment
 
 -- ---- a card that is not accepted
 
@@ -232,8 +217,8 @@ module _ (app : Application) (registration : Registration) (odometer now : ℕ) 
           both.0,
           (worked refl reads.cause).1,
           both.2,
-          if_told U.image _ (λ u told. subst (λ (o : Option (List ℕ)). IfSome o (λ x. IsValid app x × (AreDays 0 (card_days app x) → AreOwed now (owed_on app u x)))) (reads.same refl)
-              (at_image (λ u. IfSome M.image (λ x. IsValid app x × (AreDays 0 (card_days app x) → AreOwed now (owed_on app u x)))) told both.3)),
+          if_told U.image _ (λ u told. subst (λ (o : Option (List ℕ)). IfSome o (λ x. IsValid app x × AreOwed now (owed_on app u x))) (reads.same refl)
+              (at_image (λ u. IfSome M.image (λ x. IsValid app x × AreOwed now (owed_on app u x))) told both.3)),
         )) enters.begun;
     settled = enters.settled;
     cause = cause_after reads.cause enters.cause;
@@ -260,13 +245,13 @@ module _ (app : Application) (registration : Registration) (odometer now : ℕ) 
   }
 
   -- the card is inserted
-  pub enters_inserted : (U V X Y : State) (l : CardLook) (es : List Entry) (r : Result Entered NotEntered) → IsCoherent X → X.works ≡ true → image_size_of app ≤ X.size → Reads U V false → IfSome X.image (λ x. IsLook app x l)
+  pub enters_inserted : (U V X Y : State) (l : CardLook) (es : List Entry) (r : Result Entered NotEntered) → IsApplication app → IsCoherent X → X.works ≡ true → image_size_of app ≤ X.size → Reads U V false → IfSome X.image (λ x. IsLook app x l)
       → IfSome U.image (λ u. es ≡ owed_to u (card_number_bytes l.number) l.session l.newest_minute) → AreOwed now es → IsInsertedWith app registration odometer now es l X Y r → IsEntering app registration odometer now U V X Y r
-  enters_inserted U V X Y l es r whole works fits reads looked owes fit inserted = record {
+  enters_inserted U V X Y l es r sound whole works fits reads looked owes fit inserted = record {
     unit = read_well U V (unit_failed r) (unit_called r) inserted.unit reads;
     accepted = by r inserted.looked inserted.valid inserted.inserted inserted.number inserted.few inserted.knows inserted.values;
     refused = inserted.refused;
-    moments = if_told U.image _ (λ u told. weaken inserted.moments (λ x c this k. inserting_owed app registration odometer now es l u x (room x this) (at_image (λ x. IsLook app x l) this looked)
+    moments = if_told U.image _ (λ u told. weaken inserted.moments (λ x c this k. inserting_owed app registration odometer now es l u x sound (room x this) (at_image (λ x. IsLook app x l) this looked)
         (at_image (λ u. es ≡ owed_to u (card_number_bytes l.number) l.session l.newest_minute) told owes) c k));
     begun = inr (
       (worked refl reads.cause).0,
@@ -274,8 +259,8 @@ module _ (app : Application) (registration : Registration) (odometer now : ℕ) 
       reads.same refl,
       if_told U.image _ (λ u told. if_told X.image _ (λ x this. (
         (at_image (λ x. IsLook app x l) this looked).valid,
-        λ ordered. subst (AreOwed now) (owed_is app registration odometer now es l u x (room x this) (at_image (λ x. IsLook app x l) this looked)
-            (at_image (λ u. es ≡ owed_to u (card_number_bytes l.number) l.session l.newest_minute) told owes) ordered) fit,
+        subst (AreOwed now) (owed_is app registration odometer now es l u x sound (room x this) (at_image (λ x. IsLook app x l) this looked)
+            (at_image (λ u. es ≡ owed_to u (card_number_bytes l.number) l.session l.newest_minute) told owes)) fit,
       ))),
     );
     settled = inserted.settled;
@@ -294,9 +279,8 @@ module _ (app : Application) (registration : Registration) (odometer now : ℕ) 
           subst (λ (os : List Entry). IsAccepted app registration odometer now U.image X.image Y.image e.look os e.session e.replayed) (sym same.1) (record {
             looked = subst (λ (k : CardLook). IfSome X.image (λ x. IsLook app x k)) (sym same.0) looked;
             valid = valid;
-            owes = if_told U.image _ (λ u told. where_told X.image Y.image _ (λ x y this now_. owed_same app registration odometer now es l u x (room x this) (at_image (λ x. IsLook app x l) this looked)
-                (at_image (λ u. es ≡ owed_to u (card_number_bytes l.number) l.session l.newest_minute) told owes) y
-                (at_image (IsCardInserted app registration odometer es now x) now_ (at_image (λ x. IfSome Y.image (IsCardInserted app registration odometer es now x)) this done))));
+            owes = if_told U.image _ (λ u told. where_told X.image Y.image _ (λ x y this now_. owed_is app registration odometer now es l u x sound (room x this) (at_image (λ x. IsLook app x l) this looked)
+                (at_image (λ u. es ≡ owed_to u (card_number_bytes l.number) l.session l.newest_minute) told owes)));
             inserted = done;
             number = number;
             few = most;

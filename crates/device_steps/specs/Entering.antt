@@ -10,10 +10,9 @@ use Rattle.card_judge.specs.declared.fault.InsertFault.TheVariants as card
 use Rattle.card_judge.specs.declared.looking.CardLook.{CardLook}
 use Rattle.card_judge.specs.Judged.{IsLook}
 use Rattle.trace_model.specs.declared.Card.{Card}
-use Rattle.card_model.specs.Days.{AreDays}
 use Rattle.card_image.specs.Own.{own_sizes, own_number}
 use Rattle.device_steps.specs.Rule.{Both, number_of}
-use Rattle.card_image.specs.Fields.{card_days, card_number, end_mark, session_time}
+use Rattle.card_image.specs.Fields.{card_number, end_mark, session_time}
 use Rattle.card_image.specs.Judging.{first_bad_file, IsValid}
 use Rattle.card_image.specs.View.{card_view}
 use Rattle.card_session.specs.Sessions.{Session, IsSession}
@@ -97,7 +96,7 @@ pub record IsEntering (app : Application) (registration : Registration) (odomete
   pub moments : IfSome unit_old.image (λ u. LeavesOnly card_old card_new (λ x c. IsCardInserting app registration odometer (owed_on app u x) now x c))
   -- the card was only read, or both devices worked when its insertion began, and it was valid
   pub begun : LeavesOnly card_old card_new Unchanged ⊎ ((unit_new.works ≡ true) × (card_old.works ≡ true) × (unit_new.image ≡ unit_old.image)
-      × IfSome unit_old.image (λ u. IfSome card_old.image (λ x. IsValid app x × (AreDays 0 (card_days app x) → AreOwed now (owed_on app u x)))))
+      × IfSome unit_old.image (λ u. IfSome card_old.image (λ x. IsValid app x × AreOwed now (owed_on app u x))))
   pub settled : IsOk r → card_new.clock < last_count → IsSettled card_new
   pub cause : HasCause card_old card_new (card_failed r)
 

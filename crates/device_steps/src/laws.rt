@@ -1,4 +1,4 @@
-ghost use Rattle.std.specs.Prelude.{◌≡◌, ◌↔◌, ℕ, suc, ◌/◌, ◌<◌, ◌≤◌, true, Some, None, IfSome, is_some, List, [], ◌∷◌, ◌++◌, length, All};
+ghost use Rattle.std.specs.Prelude.{◌≡◌, ◌⊎◌, ◌↔◌, ℕ, suc, ◌/◌, ◌<◌, ◌≤◌, true, Some, None, IfSome, is_some, List, [], ◌∷◌, ◌++◌, length, All};
 ghost use Rattle.activity_codec.specs.declared.entries.Entry.{Entry};
 ghost use Rattle.trace_model.specs.declared.Card.{Card};
 ghost use Rattle.tach_media.specs.Medium.{LeavesOnly, Unchanged};
@@ -9,9 +9,9 @@ ghost use Rattle.card_layout.specs.Files.{image_size_of};
 ghost use Rattle.card_model.specs.Days.{AreDays};
 ghost use Rattle.card_image.specs.Fields.{card_days};
 ghost use Rattle.card_image.specs.Judging.{IsValid};
-ghost use Rattle.card_image.specs.Own.{own_view};
+ghost use Rattle.card_image.specs.Own.{own_sizes, own_view, own_covered};
 ghost use Rattle.card_image.specs.View.{card_view};
-ghost use Rattle.card_session.specs.Inserting.{IsCardInserted};
+ghost use Rattle.card_session.specs.Inserting.{AreOwed, IsCardInserting, IsCardInserted};
 ghost use Rattle.unit_model.specs.Image.{last_kept};
 ghost use Rattle.unit_notes.specs.Journal.{LeavesJournal};
 ghost use Rattle.log_model.specs.declared.lines.Mark.{Mark};
@@ -25,11 +25,14 @@ ghost use Rattle.card_retention.specs.Expected.{with_entry};
 ghost use Rattle.card_session.specs.Sessions.{Session, IsSession};
 ghost use Rattle.card_session.specs.Overwriting.{and_entry};
 ghost use Rattle.card_steps.specs.Shows.{IsDone};
+ghost use Rattle.card_steps.specs.Since.{all_since, bound_since, counted_since, GoesSince};
 ghost use Rattle.device_steps.specs.Rule.{Both, opened, card_seen, CardHolds, CardRests};
 ghost use Rattle.device_steps.specs.CardNotes.{IsNote, IsSound};
+ghost use Rattle.device_steps.specs.Entering.{owed_on, IsEntering};
 ghost use Rattle.device_steps.specs.OnCard.{IsCarried, IsReady};
 ghost use Rattle.device_steps.specs.Minute.{Carry, and_kept, IsSitting, IsNotIn};
 
+use crate::entering::{Entered, NotEntered};
 use tach_media::{Chip, Medium};
 
 /// A card to which nothing is owed may be torn out between two calls: what is owed to it from then on is not earlier than any minute
@@ -65,6 +68,25 @@ pub fn a_card_sits_on<C: Chip, D: Chip>(before: &C, after: &D)
         → IfSome (C.state before.now).image (λ x. IfSome (D.state after.now).image (λ y. IsReady s w.slack w.covered w.from w.counted w.all e x → IsDone s.application w.slack w.covered w.counted w.all e x y
         × IsCarried t (and_entry w.slack e) w.covered (suc e.minute) (with_entry w.covered w.counted e) (w.all ++ e ∷ []) y))
         → IsSitting t (and_kept w e) (D.state after.now) }
+{}
+
+/// A card whose string goes on since the start of a run may keep an entry that comes no earlier than it may: what `keep_on_card` asks.
+pub fn a_string_that_goes_on_is_ready<C: Chip>(card: &C)
+    ensures { (t : Session) (image : List ℕ) (done : List Entry) (n : ℕ) (e : Entry) → IsApplication t.application → n ≤ e.minute → IfSome (C.state card.now).image (λ x. (own_sizes x ≡ t.application) × IsSession t x × GoesSince t.application image done n x)
+        → (from : ℕ) × IfSome (C.state card.now).image (IsReady t (bound_since image done) (own_covered image) from (counted_since image done) (all_since image done) e) }
+{}
+
+/// An insertion only read the card; or that was valid, and each image that it leaves since is one of an insertion with the entries that the
+/// unit's image owed to it.
+pub fn an_insertion_puts_what_is_owed<M: Medium, N: Medium, C: Chip, D: Chip>(
+    unit: &M,
+    later: &N,
+    before: &C,
+    after: &D,
+    answer: &Result<Entered, NotEntered>,
+)
+    ensures { (app : Application) (registration : Registration) (odometer now : ℕ) (u x : List ℕ) → IsEntering app registration odometer now (M.state unit.now) (N.state later.now) (C.state before.now) (D.state after.now) answer.now → (M.state unit.now).image ≡ Some u → (C.state before.now).image ≡ Some x
+        → LeavesOnly (C.state before.now) (D.state after.now) Unchanged ⊎ (IsValid app x × AreOwed now (owed_on app u x) × LeavesOnly (C.state before.now) (D.state after.now) (IsCardInserting app registration odometer (owed_on app u x) now)) }
 {}
 
 /// A note on the unit, of an insertion, a withdrawal, a place or an event, leaves the unit's rule and that of a card.

@@ -13,7 +13,7 @@ insert_by-requires-clause-owed g c = owed_fit _ _ c.args.now.0 c.in-Ok.owed.item
 pub returns-in-Ok-clause-enters : goal.returns-in-Ok-clause-enters
 returns-in-Ok-clause-enters g c =
     enters_inserted c.args.app.now c.args.registration.now c.args.odometer.0 c.args.now.0 (g.M.Medium.state c.args.unit.now) (g.M.Medium.state c.owed.new.unit) (g.C.Medium.state c.args.card.now) (g.C.Medium.state c.insert_by.new.card)
-    c.args.look c.in-Ok.owed.items c.insert_by.result (g.met.C.Medium.coherent c.args.card.now) c.requires.works c.requires.card.keep.fits c.in-Ok.ensures.reads c.requires.looked c.in-Ok.ensures.owed
+    c.args.look c.in-Ok.owed.items c.insert_by.result c.requires.sizes (g.met.C.Medium.coherent c.args.card.now) c.requires.works c.requires.card.keep.fits c.in-Ok.ensures.reads c.requires.looked c.in-Ok.ensures.owed
     (owed_fit _ _ c.args.now.0 c.in-Ok.owed.items c.requires.late c.in-Ok.ensures.sane) c.insert_by.ensures.inserted
 
 pub returns-in-Err-clause-enters : goal.returns-in-Err-clause-enters
