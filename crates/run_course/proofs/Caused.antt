@@ -1,8 +1,7 @@
 -- The causes of a run with cards, over its steps.
-use Rattle.std.proofs.Common.{◌≡◌, ◌⊎◌, inl, inr, ⊎_elim, ℕ, zero, suc, ◌+◌, ◌-◌, ◌^◌, ◌<◌, ◌≤◌, Bool, true, false, cond, not, ◌&&◌, ◌||◌, nat_eq, Option, Some, None, List, [], ◌∷◌, ◌++◌, Contains, length, map, filter, take, drop, refl, ap, sym, subst, ◌∙◌, arith, append_assoc, append-nil, length-append}
+use Rattle.std.proofs.Common.{◌≡◌, ◌⊎◌, inl, inr, ⊎_elim, ℕ, zero, suc, ◌+◌, ◌-◌, ◌^◌, ◌<◌, ◌≤◌, Bool, true, false, cond, not, ◌&&◌, ◌||◌, nat_eq, Option, None, List, [], ◌∷◌, ◌++◌, Contains, length, map, filter, refl, ap, sym, subst, ◌∙◌, arith, append_assoc, append-nil, length-append}
 use Rattle.std.specs.Prelude.{flat_map}
 use Rattle.std.specs.List.{AllByRecursion, list_any}
-use Rattle.std.proofs.lemmas.Bool.Decides.{nat_tests}
 use Rattle.std.proofs.lemmas.List.{map-append}
 use Rattle.std.proofs.lemmas.List.Elements.{filter-append, Contains-append_left, Contains-append_cases, Contains-push, Contains-push_cases}
 use Rattle.std.proofs.lemmas.Grind.{flat_map-append}
@@ -23,24 +22,23 @@ use Rattle.log_model.specs.declared.lines.Verdict.{Verdict}
 use Rattle.log_model.specs.Log.{RunLog, Phase, In, cut_in, tears_here, is_torn_in}
 use Rattle.log_model.specs.Same.{SameAt}
 use Rattle.log_model.specs.Slots.{same_card}
-use Rattle.log_model.specs.Course.{Told, Visit, Went, Before, has_power, second_told, dark_course, went}
-use Rattle.log_model.specs.Causes.{device_of, is_cut, has_failed, second_of, cuts, tears, places, visit_places, in_the_slot, refusals_of, pulled_of, torn_of, cards_torn, finds_of, off_cuts, RoseBy, IsBegun, CutBy, IsJudged, HasCauses}
+use Rattle.log_model.specs.Course.{Told, Visit, Went, Before, has_power, second_told, went}
+use Rattle.log_model.specs.Causes.{device_of, is_cut, has_failed, second_of, cuts, tears, places, visit_places, in_the_slot, refusals_of, pulled_of, torn_of, cards_torn, finds_of, off_cuts, RoseBy, IsBegun, CutBy, IsJudged}
 use Rattle.log_model.specs.Spans.{seconds_in, AreInOrder}
-use Rattle.log_model.proofs.Growth.{went-more}
 use Rattle.log_model.proofs.Spanning.{spanned, order-parts}
 use Rattle.history_model.specs.Presence.{Start}
-use Rattle.unit_course.specs.Turn.{cut_at_end, cut_last}
-use Rattle.unit_course.specs.Lines.{log_of, cut_at, with_kept, found_from}
+use Rattle.unit_course.specs.Turn.{cut_at_end}
+use Rattle.unit_course.specs.Lines.{log_of, cut_at, found_from}
 use Rattle.unit_course.specs.Caused.{IsOver}
-use Rattle.unit_course.specs.Followed.{Supply, Lit, Due, Lost, IsDark, cuts_from}
+use Rattle.unit_course.specs.Followed.{cuts_from}
 use Rattle.history_model.proofs.Told.{more-told}
 use Rattle.unit_course.proofs.Causing.{told-found, told-added}
 use Rattle.unit_course.proofs.Offs.{pair, off-given, off-later, off-same, over-failed, any-last, by-same, by-other, by-found}
 use Rattle.unit_course.proofs.Spans.{cuts_of, cuts-append, cut-push}
 use Rattle.run_course.specs.Moments.{and_break}
-use Rattle.run_course.specs.Followed.{Progress, IsBreakBefore, AreBefore, Followed, HadActions}
-use Rattle.run_course.specs.Seconds.{GoesOnBy, next_told}
-use Rattle.run_course.specs.Caused.{failures, AreCaused, AreNewCauses, WellCaused, ASecondIsCaused, FoundStaysCaused, AnOffLineIsCaused, AnOffCutIsCaused, ARunIsCaused}
+use Rattle.run_course.specs.Followed.{Progress, Followed, HadActions}
+use Rattle.run_course.specs.Seconds.{next_told}
+use Rattle.run_course.specs.Caused.{failures, AreCaused, WellCaused, ASecondIsCaused, FoundStaysCaused, AnOffLineIsCaused, AnOffCutIsCaused, ARunIsCaused}
 use Rattle.run_course.proofs.Lookups.{break-more}
 use Rattle.run_course.proofs.Logs.{BreaksBefore, same-at, other-number, breaks-later, breaks-push, found_log, went-found, same-found}
 use Rattle.run_course.proofs.Steps.{now-told, lit-parts, cut-parts, cuts-bound}
