@@ -13,4 +13,5 @@ pub mod Deciding
 pub mod Complete
 pub mod Staying
 pub mod Caused
+pub mod Travelled
 pub mod Rows

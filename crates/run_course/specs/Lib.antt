@@ -5,3 +5,4 @@ pub mod Seconds
 pub mod Within
 pub mod Complete
 pub mod Caused
+pub mod Travelled

@@ -3,6 +3,7 @@ ghost use Rattle.run_course.specs.Seconds.{ARunBegins, APowerOnFinds, APowerOnFa
 ghost use Rattle.run_course.specs.Within.{ASecondBegins, AnActionIsAMoment, ASecondEnds, ACutEndsTheSecond, ATearIsTold, AFindIsTold, SlotsTellATear, SlotsTellAnAcceptance};
 ghost use Rattle.run_course.specs.Complete.{NothingIsDecidedYet, ASecondIsAcknowledged, PowerAloneDecidesNothing, FoundStaysComplete, AFailureStaysComplete, RefusalsStayComplete, ACutStaysComplete, MoreMarksStay};
 ghost use Rattle.run_course.specs.Caused.{ARunIsCaused, ASecondIsCaused, FoundStaysCaused, AnOffLineIsCaused, AnOffCutIsCaused};
+ghost use Rattle.run_course.specs.Travelled.{NothingIsTravelled, FoundIsTravelled, AFailureIsTravelled, ASecondIsTravelled, ABrokenSecondIsTravelled, ADarkMinuteIsTravelled, AnOffLineIsTravelled, AnOffCutIsTravelled, ShownLegsAreThose};
 ghost use Rattle.run_course.specs.Presence.{SlotsAgree, SlotsTellWhoIsPresent, NobodySits, ACardIsPutIn, ACardIsTakenOut, PowerIsLost, ASecondHasGone, TheLastSecondIsCut, TheMinuteGoesOn, AMinuteEnds, TimePasses, MinutesAreKept, WhatWasKeptIsFound};
 
 /// A run begins with nothing kept.
@@ -253,4 +254,49 @@ pub fn an_off_line_is_caused()
 /// An `off` line while there is power is a cut of the last second.
 pub fn an_off_cut_is_caused()
     ensures { AnOffCutIsCaused }
+{}
+
+/// Nothing is travelled at the start.
+pub fn nothing_is_travelled()
+    ensures { NothingIsTravelled }
+{}
+
+/// At a power-on what was travelled before has its leg.
+pub fn found_is_travelled()
+    ensures { FoundIsTravelled }
+{}
+
+/// A power-on that fails leaves what was travelled.
+pub fn a_failure_is_travelled()
+    ensures { AFailureIsTravelled }
+{}
+
+/// One second more with power, all whose minutes are kept.
+pub fn a_second_is_travelled()
+    ensures { ASecondIsTravelled }
+{}
+
+/// One second more that is a cut's.
+pub fn a_broken_second_is_travelled()
+    ensures { ABrokenSecondIsTravelled }
+{}
+
+/// Seconds after a failed call leave what was travelled.
+pub fn a_dark_minute_is_travelled()
+    ensures { ADarkMinuteIsTravelled }
+{}
+
+/// So does an `off` line,
+pub fn an_off_line_is_travelled()
+    ensures { AnOffLineIsTravelled }
+{}
+
+/// also where it takes the power.
+pub fn an_off_cut_is_travelled()
+    ensures { AnOffCutIsTravelled }
+{}
+
+/// Whatever the unit may show, the legs that come of it are those of the spans.
+pub fn shown_legs_are_those()
+    ensures { ShownLegsAreThose }
 {}
