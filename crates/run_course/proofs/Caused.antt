@@ -59,25 +59,25 @@ refusals_in t = map (λ (r : SlotFault). (t.second.number, r)) t.course.refused
 abbrev finds_in : Told → List (ℕ × Phase × Slot × Verdict)
 finds_in t = map (λ (f : Visit × Verdict). (t.second.number, f.0.phase, f.0.slot, f.1)) t.course.found
 
-abbrev refused_as : Refused → ℕ × SlotFault
+abbrev pub refused_as : Refused → ℕ × SlotFault
 refused_as r = (r.second, r.fault)
 
 abbrev find_as : Find → ℕ × Phase × Slot × Verdict
 find_as f = (f.second, In f.begun, f.slot, f.verdict)
 
-refusals-more : (xs ys : List Told) → refusals_of (xs ++ ys) ≡ refusals_of xs ++ refusals_of ys
+pub refusals-more : (xs ys : List Told) → refusals_of (xs ++ ys) ≡ refusals_of xs ++ refusals_of ys
 refusals-more xs ys = flat_map-append refusals_in xs ys
 
-pulled-more : (xs ys : List Told) → pulled_of (xs ++ ys) ≡ pulled_of xs ++ pulled_of ys
+pub pulled-more : (xs ys : List Told) → pulled_of (xs ++ ys) ≡ pulled_of xs ++ pulled_of ys
 pulled-more xs ys = flat_map-append pulled_in xs ys
 
-torn-more : (xs ys : List Told) → torn_of (xs ++ ys) ≡ torn_of xs ++ torn_of ys
+pub torn-more : (xs ys : List Told) → torn_of (xs ++ ys) ≡ torn_of xs ++ torn_of ys
 torn-more xs ys = flat_map-append torn_in xs ys
 
-cards-more : (xs ys : List Told) → cards_torn (xs ++ ys) ≡ cards_torn xs ++ cards_torn ys
+pub cards-more : (xs ys : List Told) → cards_torn (xs ++ ys) ≡ cards_torn xs ++ cards_torn ys
 cards-more xs ys = flat_map-append cards_in xs ys
 
-finds-more : (xs ys : List Told) → finds_of (xs ++ ys) ≡ finds_of xs ++ finds_of ys
+pub finds-more : (xs ys : List Told) → finds_of (xs ++ ys) ≡ finds_of xs ++ finds_of ys
 finds-more xs ys = flat_map-append finds_in xs ys
 
 -- WHAT BREAKS TELL
@@ -114,7 +114,7 @@ numbers-from n (x ∷ ss) s order at =
     (Contains-append_cases (x ∷ []) ss s at)
 
 -- of an earlier second, and seconds behind it
-begun-old : (next : ℕ) (done more : List TraceSecond) (bs : List Break) → ((s : TraceSecond) → Contains more s → next ≤ s.number) → BreaksBefore next next bs → AllByRecursion (IsBegun done) bs → AllByRecursion (IsBegun (done ++ more)) bs
+pub begun-old : (next : ℕ) (done more : List TraceSecond) (bs : List Break) → ((s : TraceSecond) → Contains more s → next ≤ s.number) → BreaksBefore next next bs → AllByRecursion (IsBegun done) bs → AllByRecursion (IsBegun (done ++ more)) bs
 begun-old next done more [] later before h = tt
 begun-old next done more (Cut second kept failed begun ∷ bs) later before h = (
   λ s at is. ⊎_elim (λ old. h.0 s old is)
@@ -159,7 +159,7 @@ begun-found ss (suc i) k [] h = tt
 begun-found ss (suc i) k (b ∷ bs) h = (h.0, begun-found ss i k bs h.1)
 
 -- SECONDS THAT ARE OVER
-over-last : (failed : List ℕ) (told : List Told) (t : Told) → (t.lit && not (list_any (nat_eq t.second.number) failed)) ≡ false → IsOver failed (told ++ t ∷ [])
+pub over-last : (failed : List ℕ) (told : List Told) (t : Told) → (t.lit && not (list_any (nat_eq t.second.number) failed)) ≡ false → IsOver failed (told ++ t ∷ [])
 over-last failed [] t is = is
 over-last failed (x ∷ []) t is = is
 over-last failed (x ∷ y ∷ told) t is = over-last failed (y ∷ told) t is
@@ -170,7 +170,7 @@ without true false m h = refl
 without false g m h = refl
 
 -- nothing comes of a second behind them
-off-behind : (failed : List ℕ) (told : List Told) (t : Told) → IsOver failed told → off_cuts failed (told ++ t ∷ []) ≡ off_cuts failed told
+pub off-behind : (failed : List ℕ) (told : List Told) (t : Told) → IsOver failed told → off_cuts failed (told ++ t ∷ []) ≡ off_cuts failed told
 off-behind failed [] t over = refl
 off-behind failed (x ∷ []) t over =
     ap (λ (b : Bool). cond b (x.second.number ∷ []) [] ++ []) (without x.lit (not t.given) (not (list_any (nat_eq x.second.number) failed)) over)
@@ -218,14 +218,14 @@ number-of n (x ∷ told) t h at =
     (λ rest. let lt = number-of (n + 1) told t h.1 rest in omega (arith, lt))
     (Contains-append_cases (x ∷ []) told t at)
 
-judged-same : (log later : RunLog) (t : Told) (e : Visit) → SameAt log later t.second.number → IsJudged log t e → IsJudged later t e
+pub judged-same : (log later : RunLog) (t : Told) (e : Visit) → SameAt log later t.second.number → IsJudged log t e → IsJudged later t e
 judged-same log later t e same j = record {
   once = j.once;
   missing = λ none. ⊎_elim (λ torn. inl (same.torn e.phase e.slot ∙ torn)) (λ cut. inr (subst (λ (o : Option ℕ). CutBy o e.phase) (sym same.cut) cut)) (j.missing none);
 }
 
 -- breaks so far
-breaks-next : (rule : Rule) (start : Start) (from first : ℕ) (done : List TraceSecond) (p : Progress) → Followed rule start from first done p → BreaksBefore p.next p.next p.log.breaks
+pub breaks-next : (rule : Rule) (start : Start) (from first : ℕ) (done : List TraceSecond) (p : Progress) → Followed rule start from first done p → BreaksBefore p.next p.next p.log.breaks
 breaks-next rule start from first done p f = breaks-later (cuts_from p.supply p.next) p.next p.next p.next p.log.breaks (cuts-bound p.supply p.next) (omega arith) f.lines.breaks
 
 -- ONE SECOND MORE

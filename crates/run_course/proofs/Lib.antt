@@ -14,4 +14,6 @@ pub mod Complete
 pub mod Staying
 pub mod Caused
 pub mod Travelled
+pub mod Quiet
+pub mod Dark
 pub mod Rows

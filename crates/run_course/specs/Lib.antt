@@ -6,3 +6,5 @@ pub mod Within
 pub mod Complete
 pub mod Caused
 pub mod Travelled
+pub mod Quiet
+pub mod Dark
