@@ -1,8 +1,7 @@
 -- The causes of a run with cards, over its steps.
-use Rattle.std.proofs.Common.{◌≡◌, ◌⊎◌, inl, inr, ⊎_elim, ℕ, zero, suc, ◌+◌, ◌-◌, ◌^◌, ◌<◌, ◌≤◌, Bool, true, false, cond, not, ◌&&◌, ◌||◌, nat_eq, Option, Some, None, List, [], ◌∷◌, ◌++◌, Contains, length, map, filter, take, drop, refl, ap, sym, subst, ◌∙◌, arith, append_assoc, append-nil, length-append}
+use Rattle.std.proofs.Common.{◌≡◌, ◌⊎◌, inl, inr, ⊎_elim, ℕ, zero, suc, ◌+◌, ◌-◌, ◌^◌, ◌<◌, ◌≤◌, Bool, true, false, cond, not, ◌&&◌, ◌||◌, nat_eq, Option, None, List, [], ◌∷◌, ◌++◌, Contains, length, map, filter, refl, ap, sym, subst, ◌∙◌, arith, append_assoc, append-nil, length-append}
 use Rattle.std.specs.Prelude.{flat_map}
 use Rattle.std.specs.List.{AllByRecursion, list_any}
-use Rattle.std.proofs.lemmas.Bool.Decides.{nat_tests}
 use Rattle.std.proofs.lemmas.List.{map-append}
 use Rattle.std.proofs.lemmas.List.Elements.{filter-append, Contains-append_left, Contains-append_cases, Contains-push, Contains-push_cases}
 use Rattle.std.proofs.lemmas.Grind.{flat_map-append}
@@ -23,24 +22,23 @@ use Rattle.log_model.specs.declared.lines.Verdict.{Verdict}
 use Rattle.log_model.specs.Log.{RunLog, Phase, In, cut_in, tears_here, is_torn_in}
 use Rattle.log_model.specs.Same.{SameAt}
 use Rattle.log_model.specs.Slots.{same_card}
-use Rattle.log_model.specs.Course.{Told, Visit, Went, Before, has_power, second_told, dark_course, went}
-use Rattle.log_model.specs.Causes.{device_of, is_cut, has_failed, second_of, cuts, tears, places, visit_places, in_the_slot, refusals_of, pulled_of, torn_of, cards_torn, finds_of, off_cuts, RoseBy, IsBegun, CutBy, IsJudged, HasCauses}
+use Rattle.log_model.specs.Course.{Told, Visit, Went, Before, has_power, second_told, went}
+use Rattle.log_model.specs.Causes.{device_of, is_cut, has_failed, second_of, cuts, tears, places, visit_places, in_the_slot, refusals_of, pulled_of, torn_of, cards_torn, finds_of, off_cuts, RoseBy, IsBegun, CutBy, IsJudged}
 use Rattle.log_model.specs.Spans.{seconds_in, AreInOrder}
-use Rattle.log_model.proofs.Growth.{went-more}
 use Rattle.log_model.proofs.Spanning.{spanned, order-parts}
 use Rattle.history_model.specs.Presence.{Start}
-use Rattle.unit_course.specs.Turn.{cut_at_end, cut_last}
-use Rattle.unit_course.specs.Lines.{log_of, cut_at, with_kept, found_from}
+use Rattle.unit_course.specs.Turn.{cut_at_end}
+use Rattle.unit_course.specs.Lines.{log_of, cut_at, found_from}
 use Rattle.unit_course.specs.Caused.{IsOver}
-use Rattle.unit_course.specs.Followed.{Supply, Lit, Due, Lost, IsDark, cuts_from}
+use Rattle.unit_course.specs.Followed.{cuts_from}
 use Rattle.history_model.proofs.Told.{more-told}
 use Rattle.unit_course.proofs.Causing.{told-found, told-added}
 use Rattle.unit_course.proofs.Offs.{pair, off-given, off-later, off-same, over-failed, any-last, by-same, by-other, by-found}
 use Rattle.unit_course.proofs.Spans.{cuts_of, cuts-append, cut-push}
 use Rattle.run_course.specs.Moments.{and_break}
-use Rattle.run_course.specs.Followed.{Progress, IsBreakBefore, AreBefore, Followed, HadActions}
-use Rattle.run_course.specs.Seconds.{GoesOnBy, next_told}
-use Rattle.run_course.specs.Caused.{failures, AreCaused, AreNewCauses, WellCaused, ASecondIsCaused, FoundStaysCaused, AnOffLineIsCaused, AnOffCutIsCaused, ARunIsCaused}
+use Rattle.run_course.specs.Followed.{Progress, Followed, HadActions}
+use Rattle.run_course.specs.Seconds.{next_told}
+use Rattle.run_course.specs.Caused.{failures, AreCaused, WellCaused, ASecondIsCaused, FoundStaysCaused, AnOffLineIsCaused, AnOffCutIsCaused, ARunIsCaused}
 use Rattle.run_course.proofs.Lookups.{break-more}
 use Rattle.run_course.proofs.Logs.{BreaksBefore, same-at, other-number, breaks-later, breaks-push, found_log, went-found, same-found}
 use Rattle.run_course.proofs.Steps.{now-told, lit-parts, cut-parts, cuts-bound}
@@ -61,25 +59,25 @@ refusals_in t = map (λ (r : SlotFault). (t.second.number, r)) t.course.refused
 abbrev finds_in : Told → List (ℕ × Phase × Slot × Verdict)
 finds_in t = map (λ (f : Visit × Verdict). (t.second.number, f.0.phase, f.0.slot, f.1)) t.course.found
 
-abbrev refused_as : Refused → ℕ × SlotFault
+abbrev pub refused_as : Refused → ℕ × SlotFault
 refused_as r = (r.second, r.fault)
 
 abbrev find_as : Find → ℕ × Phase × Slot × Verdict
 find_as f = (f.second, In f.begun, f.slot, f.verdict)
 
-refusals-more : (xs ys : List Told) → refusals_of (xs ++ ys) ≡ refusals_of xs ++ refusals_of ys
+pub refusals-more : (xs ys : List Told) → refusals_of (xs ++ ys) ≡ refusals_of xs ++ refusals_of ys
 refusals-more xs ys = flat_map-append refusals_in xs ys
 
-pulled-more : (xs ys : List Told) → pulled_of (xs ++ ys) ≡ pulled_of xs ++ pulled_of ys
+pub pulled-more : (xs ys : List Told) → pulled_of (xs ++ ys) ≡ pulled_of xs ++ pulled_of ys
 pulled-more xs ys = flat_map-append pulled_in xs ys
 
-torn-more : (xs ys : List Told) → torn_of (xs ++ ys) ≡ torn_of xs ++ torn_of ys
+pub torn-more : (xs ys : List Told) → torn_of (xs ++ ys) ≡ torn_of xs ++ torn_of ys
 torn-more xs ys = flat_map-append torn_in xs ys
 
-cards-more : (xs ys : List Told) → cards_torn (xs ++ ys) ≡ cards_torn xs ++ cards_torn ys
+pub cards-more : (xs ys : List Told) → cards_torn (xs ++ ys) ≡ cards_torn xs ++ cards_torn ys
 cards-more xs ys = flat_map-append cards_in xs ys
 
-finds-more : (xs ys : List Told) → finds_of (xs ++ ys) ≡ finds_of xs ++ finds_of ys
+pub finds-more : (xs ys : List Told) → finds_of (xs ++ ys) ≡ finds_of xs ++ finds_of ys
 finds-more xs ys = flat_map-append finds_in xs ys
 
 -- WHAT BREAKS TELL
@@ -116,7 +114,7 @@ numbers-from n (x ∷ ss) s order at =
     (Contains-append_cases (x ∷ []) ss s at)
 
 -- of an earlier second, and seconds behind it
-begun-old : (next : ℕ) (done more : List TraceSecond) (bs : List Break) → ((s : TraceSecond) → Contains more s → next ≤ s.number) → BreaksBefore next next bs → AllByRecursion (IsBegun done) bs → AllByRecursion (IsBegun (done ++ more)) bs
+pub begun-old : (next : ℕ) (done more : List TraceSecond) (bs : List Break) → ((s : TraceSecond) → Contains more s → next ≤ s.number) → BreaksBefore next next bs → AllByRecursion (IsBegun done) bs → AllByRecursion (IsBegun (done ++ more)) bs
 begun-old next done more [] later before h = tt
 begun-old next done more (Cut second kept failed begun ∷ bs) later before h = (
   λ s at is. ⊎_elim (λ old. h.0 s old is)
@@ -161,7 +159,7 @@ begun-found ss (suc i) k [] h = tt
 begun-found ss (suc i) k (b ∷ bs) h = (h.0, begun-found ss i k bs h.1)
 
 -- SECONDS THAT ARE OVER
-over-last : (failed : List ℕ) (told : List Told) (t : Told) → (t.lit && not (list_any (nat_eq t.second.number) failed)) ≡ false → IsOver failed (told ++ t ∷ [])
+pub over-last : (failed : List ℕ) (told : List Told) (t : Told) → (t.lit && not (list_any (nat_eq t.second.number) failed)) ≡ false → IsOver failed (told ++ t ∷ [])
 over-last failed [] t is = is
 over-last failed (x ∷ []) t is = is
 over-last failed (x ∷ y ∷ told) t is = over-last failed (y ∷ told) t is
@@ -172,7 +170,7 @@ without true false m h = refl
 without false g m h = refl
 
 -- nothing comes of a second behind them
-off-behind : (failed : List ℕ) (told : List Told) (t : Told) → IsOver failed told → off_cuts failed (told ++ t ∷ []) ≡ off_cuts failed told
+pub off-behind : (failed : List ℕ) (told : List Told) (t : Told) → IsOver failed told → off_cuts failed (told ++ t ∷ []) ≡ off_cuts failed told
 off-behind failed [] t over = refl
 off-behind failed (x ∷ []) t over =
     ap (λ (b : Bool). cond b (x.second.number ∷ []) [] ++ []) (without x.lit (not t.given) (not (list_any (nat_eq x.second.number) failed)) over)
@@ -220,14 +218,14 @@ number-of n (x ∷ told) t h at =
     (λ rest. let lt = number-of (n + 1) told t h.1 rest in omega (arith, lt))
     (Contains-append_cases (x ∷ []) told t at)
 
-judged-same : (log later : RunLog) (t : Told) (e : Visit) → SameAt log later t.second.number → IsJudged log t e → IsJudged later t e
+pub judged-same : (log later : RunLog) (t : Told) (e : Visit) → SameAt log later t.second.number → IsJudged log t e → IsJudged later t e
 judged-same log later t e same j = record {
   once = j.once;
   missing = λ none. ⊎_elim (λ torn. inl (same.torn e.phase e.slot ∙ torn)) (λ cut. inr (subst (λ (o : Option ℕ). CutBy o e.phase) (sym same.cut) cut)) (j.missing none);
 }
 
 -- breaks so far
-breaks-next : (rule : Rule) (start : Start) (from first : ℕ) (done : List TraceSecond) (p : Progress) → Followed rule start from first done p → BreaksBefore p.next p.next p.log.breaks
+pub breaks-next : (rule : Rule) (start : Start) (from first : ℕ) (done : List TraceSecond) (p : Progress) → Followed rule start from first done p → BreaksBefore p.next p.next p.log.breaks
 breaks-next rule start from first done p f = breaks-later (cuts_from p.supply p.next) p.next p.next p.next p.log.breaks (cuts-bound p.supply p.next) (omega arith) f.lines.breaks
 
 -- ONE SECOND MORE

@@ -110,12 +110,15 @@ module _ (log later : RunLog) (n : ℕ) (breaks : List Break) (more_breaks : lat
       longer (b ∷ bs) (suc i) le = let rest = longer bs i (omega (arith, le)) in omega (arith, rest)
 
 -- REFUSALS alone
-pub went-refused : (log later : RunLog) → later.breaks ≡ log.breaks → later.finds ≡ log.finds → (ss : List TraceSecond) → went later ss ≡ went log ss
-went-refused log later breaks finds ss = went-same log later ss (all-of (λ u. SameAt log later u) ss (λ u. record {
+pub refused-at : (log later : RunLog) → later.breaks ≡ log.breaks → later.finds ≡ log.finds → (u : ℕ) → SameAt log later u
+refused-at log later breaks finds u = record {
   cut = cut-by later u ∙ ap (λ (bs : List Break). cut_in (log_of bs) u) breaks ∙ sym (cut-by log u);
   torn = λ p slot. torn-by later u p slot ∙ ap (list_any (tears_here u p slot)) breaks ∙ sym (torn-by log u p slot);
   found = λ p slot. found-by later u p slot ∙ ap (λ (fs : List Find). map (λ (f : Find). f.verdict) (filter (finds_here u p slot) fs)) finds ∙ sym (found-by log u p slot);
-}))
+}
+
+pub went-refused : (log later : RunLog) → later.breaks ≡ log.breaks → later.finds ≡ log.finds → (ss : List TraceSecond) → went later ss ≡ went log ss
+went-refused log later breaks finds ss = went-same log later ss (all-of (λ u. SameAt log later u) ss (refused-at log later breaks finds))
   where
     all-of : (P : ℕ → Type 0) (ss : List TraceSecond) → ((u : ℕ) → P u) → All (λ s. P s.number) ss
     all-of P [] each = All-nil (λ (s : TraceSecond). P s.number)

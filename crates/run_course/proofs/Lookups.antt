@@ -30,11 +30,11 @@ pub found-by : (log : RunLog) (u : ℕ) (p : Phase) (slot : Slot) → found_in l
 unfolding found_in
 found-by log u p slot = refl
 
-cut-first : (b : Break) (bs : List Break) (u : ℕ) → cut_in (log_of (b ∷ bs)) u ≡ cond (is_some (cut_of u b)) (cut_of u b) (cut_in (log_of bs) u)
+pub cut-first : (b : Break) (bs : List Break) (u : ℕ) → cut_in (log_of (b ∷ bs)) u ≡ cond (is_some (cut_of u b)) (cut_of u b) (cut_in (log_of bs) u)
 unfolding cut_in
 cut-first b bs u = refl
 
-cut-nothing : (u : ℕ) → cut_in (log_of []) u ≡ None
+pub cut-nothing : (u : ℕ) → cut_in (log_of []) u ≡ None
 unfolding cut_in
 cut-nothing u = refl
 

@@ -5,14 +5,14 @@ use Rattle.activity_codec.specs.declared.values.Slot.TheVariants.{Driver}
 use Rattle.trace_model.specs.declared.Card.{Card}
 use Rattle.trace_model.specs.declared.Card.TheVariants.{A}
 use Rattle.trace_model.specs.declared.Action.TheVariants.{Insert}
-use Rattle.trace_model.specs.Trace.{TraceSecond, dark}
+use Rattle.trace_model.specs.Trace.{TraceSecond, driven, dark}
 use Rattle.minute_model.specs.declared.Rule.TheVariants.{Original}
 use Rattle.minute_model.specs.declared.Minute.{Minute}
 use Rattle.log_model.specs.declared.lines.Break.TheVariants.{Cut}
 use Rattle.log_model.specs.declared.lines.Verdict.TheVariants.{Accepted}
 use Rattle.log_model.specs.Log.{RunLog, cut_in, is_torn_in, found_in}
 use Rattle.log_model.specs.Slots.{Slots}
-use Rattle.log_model.specs.Course.{Told, Before}
+use Rattle.log_model.specs.Course.{Told, Before, Went, went}
 use Rattle.event_model.specs.Events.{course_by}
 use Rattle.history_model.specs.Minutes.{HistoryMinute, card_history}
 use Rattle.history_model.specs.Presence.{Start, newest_minute, present_in as present_by_history}
@@ -21,13 +21,16 @@ use Rattle.history_model.specs.Book.{not_begun, found}
 use Rattle.history_model.proofs.Deciding.{short-none}
 use Rattle.slot_machine.specs.Calls.{present_in}
 use Rattle.slot_machine.specs.Kept.{nothing_yet, put_in, taken, minute_ended}
-use Rattle.unit_course.specs.Followed.{Lit, Due}
+use Rattle.unit_course.specs.Followed.{Lit, Due, Lost}
 use Rattle.unit_course.proofs.Alike.{decided-empty}
 use Rattle.run_course.specs.Followed.{Progress, Followed}
 use Rattle.run_course.specs.Seconds.{next_told}
 use Rattle.run_course.specs.Presence.{present_at, SlotsTell}
+use Rattle.run_course.specs.Quiet.{quiet_on}
 use Rattle.run_course.proofs.Presence.{nobody-sits, put-in}
-use Rattle.run_course.proofs.Steps.{begins_run, power_finds, goes_on, off_cuts}
+use Rattle.run_course.proofs.Steps.{begins_run, power_finds, goes_on, breaks_off, off_cuts}
+use Rattle.run_course.proofs.Quiet.{quiet-go-on}
+use Rattle.run_course.proofs.Dark.{lost-are-told}
 
 -- cards that bring nothing
 abbrev fresh_cards : Start
@@ -155,6 +158,30 @@ found_again =
       book = found 9 not_begun;
       waiting = [];
     }) cut_off_line tt 9 (inl refl) (All-nil (λ (i : HistoryMinute). i.minute ≤ 9))
+
+-- Or half a minute goes on without actions,
+quiet : Followed Original fresh_cards 600 9 ((inserting ∷ []) ++ driven 30 601 0 []) (quiet_on 30 0 (next_told accepting [] inserting ∷ []) (went accepting (inserting ∷ [])).before.slots entered)
+quiet = (quiet-go-on Original fresh_cards 600 9 (inserting ∷ []) entered second_on (next_told accepting [] inserting) [] refl refl 30 0 (omega arith)).1
+
+-- or a failed call takes the power, up to the minute's end.
+abbrev failing : RunLog
+failing = record { breaks = Cut 600 0 true 1 ∷ []; refused = []; finds = accepting.finds }
+
+fails : cut_in failing 600 ≡ Some 1
+unfolding cut_in
+fails = refl
+
+abbrev lost_at : Progress
+lost_at = record { log = failing; unfound = 0; next = 601; begun = 1; supply = Lost; book = found 9 not_begun; waiting = [] }
+
+second_off : Followed Original fresh_cards 600 9 (inserting ∷ []) lost_at
+second_off =
+    breaks_off Original fresh_cards 600 9 [] lit_at powered [] refl refl inserting failing
+    (record { number = refl; given = refl; breaks = (Cut 600 0 true 1 ∷ [], refl, (refl, tt)); finds = (record { second = 600; slot = Driver; verdict = Accepted 0; begun = 1 } ∷ [], refl, (refl, tt)) })
+    1 fails [] [] [] None ([], nothing (next_told failing [] inserting), refl) refl
+
+dark_row : (went failing ((inserting ∷ []) ++ driven 59 601 0 [])).before ≡ (went failing (inserting ∷ [])).before
+dark_row = ap (λ (w : Went). w.before) (lost-are-told Original fresh_cards 600 9 (inserting ∷ []) lost_at second_off refl 59 0 [] (omega arith) (omega arith))
 
 -- WHAT THE SLOTS TELL of that second
 newest_row : newest_minute fresh_cards [] A 600 ≡ 0

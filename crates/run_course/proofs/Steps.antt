@@ -52,7 +52,7 @@ pub followed-by : (rule : Rule) (start : Start) (from first : ℕ) (done : List 
 followed-by rule start from first done log unfound next begun s b w c lines power last_ =
     record { early = c.early; order = c.order; next = c.number; lines = lines; unfound = c.within; power = power; last = last_; ended = c.ended; spans = c.spans; tied = c.tied; follows = c.follows }
 
-with-supply : (rule : Rule) (start : Start) (from first : ℕ) (done : List TraceSecond) (p : Progress) (s : Supply) → p.supply ≡ s → Followed rule start from first done p → Followed rule start from first done (record p { supply = s })
+pub with-supply : (rule : Rule) (start : Start) (from first : ℕ) (done : List TraceSecond) (p : Progress) (s : Supply) → p.supply ≡ s → Followed rule start from first done p → Followed rule start from first done (record p { supply = s })
 with-supply rule start from first done p s is f = subst (λ (s : Supply). Followed rule start from first done (record p { supply = s })) is f
 
 pub with-waiting : (rule : Rule) (start : Start) (from first : ℕ) (done : List TraceSecond) (p : Progress) (w : List HistoryMinute) → p.waiting ≡ w → Followed rule start from first done p → Followed rule start from first done (record p { waiting = w })
@@ -264,6 +264,22 @@ goes_on rule start from first done p g span is none s later by uncut new decides
 cut-second : (span : List Told) (t : Told) (n : ℕ) → t.cut ≡ true → t.second.number ≡ n → cut_second (last (span ++ t ∷ [])) ≡ Some n
 cut-second span t n cut is =
     ap cut_second (last-push span t) ∙ ap (λ (b : Bool). if b then Some t.second.number else None) cut ∙ ap (λ (k : ℕ). Some k) is
+
+-- where it is, and that nothing is known of it
+pub break-facts : (rule : Rule) (start : Start) (from first : ℕ) (done : List TraceSecond) (p : Progress) (s : TraceSecond) (later : RunLog) (by : GoesOnBy p later s) (span : List Told) →
+    Followed rule start from first done (record p { supply = Lit span; waiting = [] }) → (begun : ℕ) → cut_in later s.number ≡ Some begun →
+    (cut_second (last (span ++ next_told later done s ∷ [])) ≡ Some s.number) × (tells_cut s.number later.breaks ≡ true) × (tells_cut s.number (take p.unfound later.breaks) ≡ false)
+break-facts rule start from first done p s later by span f begun cut =
+    let c = core-of rule start from first done (record p { supply = Lit span; waiting = [] }) f in
+    let lit_ = lit rule start from first done p f.order f.next f.unfound s later by span c f.power in
+    let lines = f.lines in
+    let number = by.number in (
+      cut-second span (next_told later done s) s.number (lit_.cut ∙ ap (λ (o : Option ℕ). is_some o) cut) lit_.number,
+      tells-cut later.breaks s.number begun (sym (cut-by later s.number) ∙ cut),
+      ap (tells_cut s.number) (front-now rule start from first done p f.order f.next f.unfound s later by)
+          ∙ tells-none (cuts_from (Lit span) p.next) p.next (take p.unfound p.log.breaks) s.number (breaks-front (cuts_from (Lit span) p.next) p.next p.unfound p.log.breaks lines.breaks)
+          (let le = cuts-bound (Lit span) p.next in omega (arith, le, number)),
+    )
 
 pub breaks_off : ASecondBreaksOff
 breaks_off rule start from first done p g span is none s later by begun cut new front rest i decides are =
@@ -477,6 +493,37 @@ module _ (rule : Rule) (start : Start) (from first : ℕ) (log : RunLog) (unfoun
       subst (λ (ss : List TraceSecond). Core rule start from first ss log unfound (next + suc (suc n)) Due b w × IsOff (went log ss).before) (append_assoc done (off_second next ∷ []) (dark (suc n) (next + 1)))
       (subst (λ (m : ℕ). Core rule start from first ((done ++ off_second next ∷ []) ++ dark (suc n) (next + 1)) log unfound m Due b w × IsOff (went log ((done ++ off_second next ∷ []) ++ dark (suc n) (next + 1))).before) (omega arith) rest)
 
+-- THE SPANS over seconds without power
+dark-span : (log : RunLog) (done : List TraceSecond) (s : TraceSecond) → has_power (went log done).before s ≡ false → spans_of (went log (done ++ s ∷ [])).told ≡ spans_of (went log done).told
+dark-span log done s none =
+    ap (λ (w : Went). spans_of w.told) (went-more log done s) ∙ spans-more (went log done).told (second_told log (went log done).before s)
+    ∙ spans-dark (spans_of (went log done).told) (second_told log (went log done).before s) (dark-told log (went log done).before s none).lit
+
+pub dark-spans : (log : RunLog) (n : ℕ) (done : List TraceSecond) (next speed : ℕ) (actions : List Action) → IsLost (went log done).before → 0 < next % 60 → next % 60 + n ≤ 60 →
+    spans_of (went log (done ++ driven n next speed actions)).told ≡ spans_of (went log done).told
+dark-spans log zero done next speed actions lost some within = ap (λ (ss : List TraceSecond). spans_of (went log ss).told) (append-nil done)
+dark-spans log (suc zero) done next speed actions lost some within =
+    let s : TraceSecond = record { number = next; has_power = true; speed = speed; actions = actions } in
+    dark-span log done s (lost-dark (went log done).before s lost some)
+dark-spans log (suc (suc n)) done next speed actions lost some within =
+    let s : TraceSecond = record { number = next; has_power = true; speed = speed; actions = actions } in
+    let none = lost-dark (went log done).before s lost some in
+    let dark_ = dark-told log (went log done).before s none in
+    let step : (next + 1) % 60 ≡ next % 60 + 1 = omega (arith, within) in
+    ap (λ (ss : List TraceSecond). spans_of (went log ss).told) (sym (append_assoc done (s ∷ []) (driven (suc n) (next + 1) speed [])))
+    ∙ dark-spans log (suc n) (done ++ s ∷ []) (next + 1) speed []
+    (subst (λ (w : Went). IsLost w.before) (sym (went-more log done s)) (next-dark (went log done).before (second_told log (went log done).before s) lost dark_.lit dark_.cut dark_.given))
+    (omega (arith, step)) (omega (arith, step, within))
+    ∙ dark-span log done s none
+
+pub off-spans : (log : RunLog) (n : ℕ) (done : List TraceSecond) (next : ℕ) → spans_of (went log (done ++ dark n next)).told ≡ spans_of (went log done).told
+off-spans log zero done next = ap (λ (ss : List TraceSecond). spans_of (went log ss).told) (append-nil done)
+off-spans log (suc n) done next =
+    let s : TraceSecond = record { number = next; has_power = false; speed = 0; actions = [] } in
+    ap (λ (ss : List TraceSecond). spans_of (went log ss).told) (sym (append_assoc done (s ∷ []) (dark n (next + 1))))
+    ∙ off-spans log n (done ++ s ∷ []) (next + 1)
+    ∙ dark-span log done s refl
+
 -- refusals alone
 refused-core : (rule : Rule) (start : Start) (from first : ℕ) (done : List TraceSecond) (log : RunLog) (unfound next : ℕ) (b : Book) (w : List HistoryMinute) (refused : List Refused) →
     Core rule start from first done log unfound next Due b w → Core rule start from first done (record log { refused = refused }) unfound next Due b w
@@ -653,7 +700,7 @@ module _ (rule : Rule) (start : Start) (from first : ℕ) (done : List TraceSeco
   within-cut : p.unfound ≤ length cut_log.breaks
   within-cut = within-later p.log cut_log (p.next - 1) (cut ∷ []) refl (refl, tt) [] finds-same tt p.unfound f.unfound
 
-  cut-core : Core rule start from first done cut_log p.unfound p.next (Lit (cut_last (t ∷ span))) p.book []
+  pub cut-core : Core rule start from first done cut_log p.unfound p.next (Lit (cut_last (t ∷ span))) p.book []
   cut-core =
       shifted rule start from first done p.log p.unfound p.next (t ∷ span) p.book (core-of rule start from first done (record p { supply = Lit (t ∷ span); waiting = [] }) f) done cut_log p.next (cut_last (t ∷ span)) []
       f.order f.next front-cut within-cut (kept-later p.log cut_log (p.next - 1) (cut ∷ []) refl (refl, tt) [] finds-same tt p.unfound)
@@ -682,6 +729,16 @@ module _ (rule : Rule) (start : Start) (from first : ℕ) (done : List TraceSeco
     lit-uncut.1,
     x-lit.number ∙ number,
     ap (cut_in p.log) x-lit.number ∙ uncut,
+  )
+
+  pub cut-facts : (cut_second (last (cut_last (t ∷ span))) ≡ Some (p.next - 1)) × (tells_cut (p.next - 1) cut_log.breaks ≡ true) × (tells_cut (p.next - 1) (take p.unfound cut_log.breaks) ≡ false)
+      × (take p.unfound cut_log.breaks ≡ take p.unfound p.log.breaks) × ((u : ℕ) → tells_cut u (take p.unfound p.log.breaks) ≡ true → kept_after p.log u ≡ kept_after cut_log u)
+  cut-facts = (
+    cut-number t span numbered ∙ ap (λ (k : ℕ). Some (k - 1)) end,
+    tells-here p.log.breaks (p.next - 1) false p.begun,
+    ap (tells_cut (p.next - 1)) front-cut ∙ tells-none (p.next - 1) p.next (take p.unfound p.log.breaks) (p.next - 1) (breaks-front (p.next - 1) p.next p.unfound p.log.breaks f.lines.breaks) (omega arith),
+    front-cut,
+    kept-later p.log cut_log (p.next - 1) (cut ∷ []) refl (refl, tt) [] finds-same tt p.unfound,
   )
 
   pub cut-ends : Core rule start from first done cut_log p.unfound p.next Due p.book []

@@ -1,5 +1,5 @@
 -- The causes of a run with cards: its log tells what happened, and no more, over each of its steps (profile).
-use Rattle.std.specs.Prelude.{◌≡◌, ◌⊎◌, ℕ, suc, ◌+◌, ◌-◌, ◌≤◌, false, true, List, [], ◌∷◌, ◌++◌, Contains, map, filter, flat_map, length}
+use Rattle.std.specs.Prelude.{◌≡◌, ◌⊎◌, ℕ, suc, ◌-◌, false, true, List, [], ◌∷◌, ◌++◌, Contains, map, filter, flat_map, length}
 use Rattle.std.specs.List.{AllByRecursion}
 use Rattle.activity_codec.specs.declared.values.Slot.{Slot}
 use Rattle.trace_model.specs.declared.Card.{Card}
@@ -10,16 +10,14 @@ use Rattle.minute_model.specs.declared.Rule.{Rule}
 use Rattle.log_model.specs.declared.lines.Break.{Break}
 use Rattle.log_model.specs.declared.lines.Find.{Find}
 use Rattle.log_model.specs.declared.lines.Refused.{Refused}
-use Rattle.log_model.specs.Log.{RunLog, In, cut_in}
+use Rattle.log_model.specs.Log.{RunLog, In}
 use Rattle.log_model.specs.Slots.{same_card}
 use Rattle.log_model.specs.Course.{Told, Visit, went}
 use Rattle.log_model.specs.Causes.{device_of, is_cut, second_of, cuts, tears, places, in_the_slot, refusals_of, pulled_of, torn_of, cards_torn, finds_of, off_cuts, RoseBy, IsBegun, IsJudged}
-use Rattle.history_model.specs.Minutes.{HistoryMinute}
 use Rattle.history_model.specs.Presence.{Start}
-use Rattle.history_model.specs.Book.{all, IsMark}
 use Rattle.unit_course.specs.Caused.{IsOver}
 use Rattle.unit_course.specs.Lines.{log_of, cut_at, found_from}
-use Rattle.unit_course.specs.Followed.{Lit, MayPower, IsDark}
+use Rattle.unit_course.specs.Followed.{Lit, IsDark}
 use Rattle.run_course.specs.Moments.{and_break}
 use Rattle.run_course.specs.Followed.{Progress, Followed}
 use Rattle.run_course.specs.Seconds.{GoesOnBy, next_told}

@@ -5,3 +5,6 @@ pub mod Seconds
 pub mod Within
 pub mod Complete
 pub mod Caused
+pub mod Travelled
+pub mod Quiet
+pub mod Dark

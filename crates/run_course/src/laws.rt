@@ -3,6 +3,9 @@ ghost use Rattle.run_course.specs.Seconds.{ARunBegins, APowerOnFinds, APowerOnFa
 ghost use Rattle.run_course.specs.Within.{ASecondBegins, AnActionIsAMoment, ASecondEnds, ACutEndsTheSecond, ATearIsTold, AFindIsTold, SlotsTellATear, SlotsTellAnAcceptance};
 ghost use Rattle.run_course.specs.Complete.{NothingIsDecidedYet, ASecondIsAcknowledged, PowerAloneDecidesNothing, FoundStaysComplete, AFailureStaysComplete, RefusalsStayComplete, ACutStaysComplete, MoreMarksStay};
 ghost use Rattle.run_course.specs.Caused.{ARunIsCaused, ASecondIsCaused, FoundStaysCaused, AnOffLineIsCaused, AnOffCutIsCaused};
+ghost use Rattle.run_course.specs.Travelled.{NothingIsTravelled, FoundIsTravelled, AFailureIsTravelled, ASecondIsTravelled, ABrokenSecondIsTravelled, ADarkMinuteIsTravelled, AnOffLineIsTravelled, AnOffCutIsTravelled, ShownLegsAreThose};
+ghost use Rattle.run_course.specs.Quiet.{QuietSecondsAreTold, RulesSeeQuietSeconds, QuietSecondsGoOn, QuietSecondsStayTravelled, QuietSecondsStayCaused, QuietSecondsStayComplete, QuietSecondsTell};
+ghost use Rattle.run_course.specs.Dark.{LostSecondsAreTold, OffSecondsAreTold, ADarkMinuteIsCaused, ADarkMinuteStaysComplete, OffSecondsStayComplete, DarkSecondsTell};
 ghost use Rattle.run_course.specs.Presence.{SlotsAgree, SlotsTellWhoIsPresent, NobodySits, ACardIsPutIn, ACardIsTakenOut, PowerIsLost, ASecondHasGone, TheLastSecondIsCut, TheMinuteGoesOn, AMinuteEnds, TimePasses, MinutesAreKept, WhatWasKeptIsFound};
 
 /// A run begins with nothing kept.
@@ -253,4 +256,114 @@ pub fn an_off_line_is_caused()
 /// An `off` line while there is power is a cut of the last second.
 pub fn an_off_cut_is_caused()
     ensures { AnOffCutIsCaused }
+{}
+
+/// Nothing is travelled at the start.
+pub fn nothing_is_travelled()
+    ensures { NothingIsTravelled }
+{}
+
+/// At a power-on what was travelled before has its leg.
+pub fn found_is_travelled()
+    ensures { FoundIsTravelled }
+{}
+
+/// A power-on that fails leaves what was travelled.
+pub fn a_failure_is_travelled()
+    ensures { AFailureIsTravelled }
+{}
+
+/// One second more with power, all whose minutes are kept.
+pub fn a_second_is_travelled()
+    ensures { ASecondIsTravelled }
+{}
+
+/// One second more that is a cut's.
+pub fn a_broken_second_is_travelled()
+    ensures { ABrokenSecondIsTravelled }
+{}
+
+/// Seconds after a failed call leave what was travelled.
+pub fn a_dark_minute_is_travelled()
+    ensures { ADarkMinuteIsTravelled }
+{}
+
+/// So does an `off` line,
+pub fn an_off_line_is_travelled()
+    ensures { AnOffLineIsTravelled }
+{}
+
+/// also where it takes the power.
+pub fn an_off_cut_is_travelled()
+    ensures { AnOffCutIsTravelled }
+{}
+
+/// Whatever the unit may show, the legs that come of it are those of the spans.
+pub fn shown_legs_are_those()
+    ensures { ShownLegsAreThose }
+{}
+
+/// Seconds with power of which the log tells nothing go as such.
+pub fn quiet_seconds_are_told()
+    ensures { QuietSecondsAreTold }
+{}
+
+/// For the rules of minutes they are so many seconds at their speed.
+pub fn rules_see_quiet_seconds()
+    ensures { RulesSeeQuietSeconds }
+{}
+
+/// Within a minute they decide nothing, and the run is followed behind them.
+pub fn quiet_seconds_go_on()
+    ensures { QuietSecondsGoOn }
+{}
+
+/// What was travelled so far is so behind them,
+pub fn quiet_seconds_stay_travelled()
+    ensures { QuietSecondsStayTravelled }
+{}
+
+/// each line has its cause,
+pub fn quiet_seconds_stay_caused()
+    ensures { QuietSecondsStayCaused }
+{}
+
+/// what is decided is acknowledged,
+pub fn quiet_seconds_stay_complete()
+    ensures { QuietSecondsStayComplete }
+{}
+
+/// and who is present is told.
+pub fn quiet_seconds_tell()
+    ensures { QuietSecondsTell }
+{}
+
+/// Seconds after a failed call go without power.
+pub fn lost_seconds_are_told()
+    ensures { LostSecondsAreTold }
+{}
+
+/// So do those that the trace gives none.
+pub fn off_seconds_are_told()
+    ensures { OffSecondsAreTold }
+{}
+
+/// What is refused in them is so for lack of power, and each line has its cause;
+pub fn a_dark_minute_is_caused()
+    ensures { ADarkMinuteIsCaused }
+{}
+
+/// what is decided is acknowledged as before,
+pub fn a_dark_minute_stays_complete()
+    ensures { ADarkMinuteStaysComplete }
+{}
+
+/// also behind an `off` line,
+pub fn off_seconds_stay_complete()
+    ensures { OffSecondsStayComplete }
+{}
+
+/// and who is present is told.
+pub fn dark_seconds_tell()
+    ensures { DarkSecondsTell }
 {}
