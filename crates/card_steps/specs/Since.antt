@@ -63,11 +63,10 @@ pub record BrokeSince (app : Application) (image : List ℕ) (more rest : List E
   pub tied : IsTied app image more x
 
 -- IN ANY CASE: of the entries that came since the first are on the card, and the others, which it lacks, are later than its end mark. No
--- further one comes earlier than `next`. Without a session its words are closed.
+-- further one comes earlier than `next`.
 pub record HoldsSince (app : Application) (image : List ℕ) (brought : List Entry) (next : ℕ) (x : List ℕ) : Type 0 where
   pub more : List Entry
   pub rest : List Entry
   pub split : brought ≡ more ++ rest
   pub behind : Follow (end_mark app x) rest
-  pub stands : (GoesSince app image more (first_minute next rest) x × (session_time app x ≡ 0 → is_open (end_mark app x) (card_days app x) ≡ false))
-      ⊎ BrokeSince app image more rest next x
+  pub stands : GoesSince app image more (first_minute next rest) x ⊎ BrokeSince app image more rest next x
