@@ -16,7 +16,7 @@ use Rattle.card_model.proofs.Trims.{early_front}
 use Rattle.card_retention.specs.Entries.{IsChecked, latest, told_by}
 use Rattle.card_retention.specs.Shown.{is_open}
 use Rattle.card_image.specs.Fields.{last_of}
-use Rattle.card_image.specs.Judging.{PlacedWord, minute_at, words_placed, days_placed, tells_none, leaves_gap, closing_checks}
+use Rattle.card_image.specs.Judging.{PlacedWord, minute_at, words_placed, days_placed, tells_none, leaves_gap, closing_checks, words_behind_mark}
 use Rattle.card_session.specs.Overwriting.{IsSilentBehind}
 
 -- ---- the words in their order: those up to the mark, and those behind it
@@ -30,7 +30,7 @@ module _ (mark : ℕ) where
 
   -- None of those behind it is an entry's, and the first of them stands at the minute after it, where the latest up to it is an entry's of
   -- the mark's day.
-  pub record Closes (before behind : List PlacedWord) : Type 0 where
+  record Closes (before behind : List PlacedWord) : Type 0 where
     pub absent : AllByRecursion (λ (v : PlacedWord). tells_none v ≡ true) behind
     pub gap : (p : PlacedWord) → last_of before ≡ Some p → p.date ≡ date_of mark → tells_none p ≡ false → (w : PlacedWord) (ws : List PlacedWord) → behind ≡ w ∷ ws → minute_at w ≡ suc mark
 
@@ -59,7 +59,7 @@ module _ (mark : ℕ) where
       by true true c told here there none = absurd (cc)
       by false b c told here there none = absurd (cc)
 
-  pub closes_of : (before behind : List PlacedWord) → first_failing (closing_checks mark (last_of before) behind) ≡ None → Closes before behind
+  closes_of : (before behind : List PlacedWord) → first_failing (closing_checks mark (last_of before) behind) ≡ None → Closes before behind
   closes_of before behind is = record { absent = closing_none (last_of before) behind is; gap = gap }
     where
       gap : (p : PlacedWord) → last_of before ≡ Some p → p.date ≡ date_of mark → tells_none p ≡ false → (w : PlacedWord) (ws : List PlacedWord) → behind ≡ w ∷ ws → minute_at w ≡ suc mark
@@ -513,7 +513,7 @@ module _ (mark : ℕ) where
             filter-append late (placed (k + 12) d.date d.words) (days (k + len_of d) ds)
             ∙ ap (λ (l : List PlacedWord). l ++ filter late (days (k + len_of d) ds)) (none_late (k + 12) d.date 0 d.words (ascends d.words words) (omega (arith, before, midnight)))
 
-    pub quiet_behind : (k date : ℕ) (ds : List Day) → AreDays date ds → Closes (filter up (days k ds)) (filter late (days k ds)) → IsChecked mark ds × (is_open mark ds ≡ false → IsSilentBehind mark ds)
+    quiet_behind : (k date : ℕ) (ds : List Day) → AreDays date ds → Closes (filter up (days k ds)) (filter late (days k ds)) → IsChecked mark ds × (is_open mark ds ≡ false → IsSilentBehind mark ds)
     quiet_behind k date [] are closes = (tt, λ shut. tt)
     quiet_behind k date (d ∷ ds) are closes = ⊎_elim
         (λ before.
@@ -541,3 +541,7 @@ module _ (mark : ℕ) where
       where
         whole_later : date_of mark < d.date → IsSilentBehind mark (d ∷ ds)
         whole_later after = silent_later k (date_of mark) (d ∷ ds) (after, are.1, are.2) (omega arith) (omega arith) closes.absent
+
+    -- of all days whose words pass
+    pub quiet_all : (ds : List Day) → AreDays 0 ds → first_failing (words_behind_mark mark (days_placed size oldest 0 ds)) ≡ None → IsChecked mark ds × (is_open mark ds ≡ false → IsSilentBehind mark ds)
+    quiet_all ds are pass = quiet_behind 0 0 ds are (closes_of (filter up (days 0 ds)) (filter late (days 0 ds)) pass)

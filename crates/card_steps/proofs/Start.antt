@@ -33,7 +33,7 @@ use Rattle.card_session.proofs.InsertingBooks.{trimmed_low}
 use Rattle.card_session.proofs.InsertingValid.{closed_by_words}
 use Rattle.card_session.proofs.Valid.{valid_words}
 use Rattle.card_steps.specs.Since.{HasOn, day_marks, all_since, bound_since, counted_since, IsTied, HoldsSince}
-use Rattle.card_steps.proofs.BehindMark.{closes_of, quiet_behind}
+use Rattle.card_steps.proofs.BehindMark.{quiet_all}
 use Rattle.card_steps.proofs.Clear.{newest_is}
 use Rattle.card_steps.proofs.Lists.{up_both}
 use Rattle.card_steps.proofs.Replayed.{follow_first}
@@ -218,7 +218,7 @@ module _ (app : Application) (x : List ℕ) (are : AreDays 0 (card_days app x)) 
       (both_pass (cond (nat_eq (session_time app x) 0) (words_behind_mark (end_mark app x) (days_placed app.activity (oldest_pointer (day_string app) x) 0 (card_days app x))) []) _ (valid_words app x valid)).0
 
   pub quiet_card : IsChecked (end_mark app x) (card_days app x) × (is_open (end_mark app x) (card_days app x) ≡ false → IsSilentBehind (end_mark app x) (card_days app x))
-  quiet_card = quiet_behind (end_mark app x) app.activity (oldest_pointer (day_string app) x) 0 0 (card_days app x) are (closes_of (end_mark app x) _ _ words_pass)
+  quiet_card = quiet_all (end_mark app x) app.activity (oldest_pointer (day_string app) x) (card_days app x) are words_pass
 
   pub ends_card : EndsBy (end_mark app x) (card_days app x)
   ends_card = (closed_by_words app x are (valid_words app x valid) (ap (λ (n : ℕ). nat_eq n 0) none)).0
