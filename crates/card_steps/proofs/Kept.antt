@@ -90,7 +90,7 @@ module _ (app : Application) (sound : IsApplication app) (image : List ℕ) (x :
   pub holds_kept : (brought : List Entry) (next : ℕ) → HoldsSince app image brought next x → KeepsOf image (all_since image (filter (λ (e : Entry). nat_le e.minute (own_view x).mark) brought)) (own_view x).held
   holds_kept brought next h =
       subst (λ (l : List Entry). KeepsOf image (all_since image l) (own_view x).held) (sym counted)
-      (⊎_elim (λ goes. goes_keeps h.more (first_minute next h.rest) goes.0) (λ broke. broke_keeps h.more h.rest next broke) h.stands)
+      (⊎_elim (λ goes. goes_keeps h.more (first_minute next h.rest) goes) (λ broke. broke_keeps h.more h.rest next broke) h.stands)
     where
       counted : filter (λ (e : Entry). nat_le e.minute (own_view x).mark) brought ≡ h.more
       counted =

@@ -18,7 +18,7 @@ use Rattle.card_model.proofs.Trims.{are_trimmed, trimmed_twice}
 use Rattle.card_retention.specs.Expected.{WordDay, more, is_newest, Counted, counted}
 use Rattle.card_retention.specs.Entries.{entries_up_to, last_entry, newest_word, EndsBy, IsChecked}
 use Rattle.card_retention.specs.Retains.{entries_in}
-use Rattle.card_retention.specs.Shown.{Bound, InDays, AllIn, AllUpTo, IsFull, Rests, Sound.Flat, sizes, is_open, owing}
+use Rattle.card_retention.specs.Shown.{Bound, InDays, AllIn, AllUpTo, EndsAbsent, IsFull, Rests, Sound.Flat, sizes, is_open, owing}
 use Rattle.card_retention.proofs.Checked.{closed_lives}
 use Rattle.card_retention.proofs.Growing.{in_more, still_in}
 use Rattle.card_retention.proofs.ListTrims.{entries_trimmed, ends_flat}
@@ -29,6 +29,8 @@ use Rattle.card_image.specs.Judging.{days_placed, words_behind_mark, IsValid}
 use Rattle.card_image.specs.Own.{own_sizes, own_view, own_covered}
 use Rattle.card_image.specs.View.{card_view, counting}
 use Rattle.card_session.specs.Inserting.{Follow}
+use Rattle.card_session.specs.Overwriting.{IsSilentBehind}
+use Rattle.card_session.specs.Repairs.{first_minute}
 use Rattle.card_session.proofs.InsertingBooks.{trimmed_low}
 use Rattle.card_session.proofs.InsertingValid.{closed_by_words}
 use Rattle.card_session.proofs.Valid.{valid_words}
