@@ -1,6 +1,6 @@
 -- What the judging of a card without a session makes sure of behind its end mark: no minute there tells an entry, and what a repair would
 -- cut closes it.
-use Rattle.std.proofs.Common.{◌≡◌, ◌≢◌, ◌⊎◌, inl, inr, ⊎_elim, ℕ, suc, ◌+◌, ◌*◌, ◌/◌, ◌%◌, ◌<◌, ◌≤◌, Bool, true, false, cond, not, ◌&&◌, Option, Some, None, List, [], ◌∷◌, ◌++◌, length, map, filter, refl, sym, ◌∙◌, ap, subst, arith, length-append}
+use Rattle.std.proofs.Common.{◌≡◌, ◌⊎◌, inl, inr, ⊎_elim, ℕ, suc, ◌+◌, ◌/◌, ◌%◌, ◌<◌, ◌≤◌, Bool, true, false, cond, not, ◌&&◌, Option, Some, None, List, [], ◌∷◌, ◌++◌, length, map, filter, refl, sym, ◌∙◌, ap, subst, arith, length-append}
 use Rattle.std.specs.Prelude.{nat_eq, nat_le, nat_lt}
 use Rattle.std.specs.List.{AllByRecursion}
 use Rattle.std.proofs.lemmas.Bool.{cases_lt, and_parts, not-true}
@@ -10,7 +10,7 @@ use Rattle.activity_codec.specs.declared.entries.Entry.{Entry}
 use Rattle.activity_codec.specs.Words.{word_minute, word_absent, word_slot, word_crew, word_act}
 use Rattle.card_model.specs.Days.{Day, AreDays, AreWords, Ascend, last_word, len_of}
 use Rattle.card_model.specs.Changes.{early, date_of}
-use Rattle.card_model.specs.Checks.{Check, check, first_failing, file_place}
+use Rattle.card_model.specs.Checks.{check, first_failing, file_place}
 use Rattle.card_model.proofs.Judging.{first_passes}
 use Rattle.card_model.proofs.Trims.{early_front}
 use Rattle.card_retention.specs.Entries.{IsChecked, latest, told_by}

@@ -1,5 +1,5 @@
 -- A card's string since the start, at each moment of a keep, a withdrawal and an insertion.
-use Rattle.std.proofs.Common.{◌≡◌, ◌⊎◌, inl, inr, ⊎_elim, ℕ, suc, ◌/◌, ◌<◌, ◌≤◌, max, false, List, [], ◌∷◌, ◌++◌, length, refl, sym, ◌∙◌, ap, subst, arith}
+use Rattle.std.proofs.Common.{◌≡◌, ◌⊎◌, inl, inr, ⊎_elim, ℕ, suc, ◌/◌, ◌<◌, ◌≤◌, max, List, [], ◌∷◌, ◌++◌, length, refl, sym, ◌∙◌, ap, subst, arith}
 use Rattle.std.proofs.lemmas.List.{append-nil}
 use Rattle.activity_codec.specs.declared.entries.Entry.{Entry}
 use Rattle.activity_codec.specs.declared.values.Activity.{Activity}
@@ -8,7 +8,7 @@ use Rattle.card_layout.specs.declared.files.Application.{Application}
 use Rattle.card_layout.specs.Application.{IsApplication}
 use Rattle.card_layout.specs.Files.{image_size_of}
 use Rattle.card_retention.specs.Entries.{newest_minute, newest_word}
-use Rattle.card_retention.specs.Shown.{AllUpTo, is_open}
+use Rattle.card_retention.specs.Shown.{AllUpTo}
 use Rattle.card_image.specs.Fields.{card_days, end_mark, session_time}
 use Rattle.card_image.specs.Judging.{IsValid}
 use Rattle.card_image.specs.Own.{own_covered}

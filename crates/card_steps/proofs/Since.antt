@@ -10,7 +10,7 @@ use Rattle.card_model.specs.Days.{Day}
 use Rattle.card_model.specs.Changes.{trimmed}
 use Rattle.card_retention.specs.Expected.{Counted, with_entry}
 use Rattle.card_retention.specs.Entries.{closed_at}
-use Rattle.card_retention.specs.Shown.{Bound, InDays, AllUpTo, is_open}
+use Rattle.card_retention.specs.Shown.{Bound, InDays, AllUpTo}
 use Rattle.card_image.specs.Fields.{card_days, end_mark, session_time}
 use Rattle.card_image.specs.Own.{own_view, own_covered}
 use Rattle.card_session.specs.Inserting.{Follow}

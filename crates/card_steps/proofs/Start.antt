@@ -18,7 +18,7 @@ use Rattle.card_model.proofs.Trims.{are_trimmed, trimmed_twice}
 use Rattle.card_retention.specs.Expected.{WordDay, more, is_newest, Counted, counted}
 use Rattle.card_retention.specs.Entries.{entries_up_to, last_entry, newest_word, EndsBy, IsChecked}
 use Rattle.card_retention.specs.Retains.{entries_in}
-use Rattle.card_retention.specs.Shown.{Bound, InDays, AllIn, AllUpTo, EndsAbsent, IsFull, Rests, Sound.Flat, sizes, is_open, owing}
+use Rattle.card_retention.specs.Shown.{Bound, InDays, AllIn, AllUpTo, EndsAbsent, IsFull, Rests, sizes, is_open, owing}
 use Rattle.card_retention.proofs.Checked.{closed_lives}
 use Rattle.card_retention.proofs.Growing.{in_more, still_in}
 use Rattle.card_retention.proofs.ListTrims.{entries_trimmed, ends_flat}

@@ -6,8 +6,8 @@ use Rattle.activity_codec.specs.declared.values.Activity.TheVariants.{Rest}
 use Rattle.activity_codec.specs.declared.values.Slot.TheVariants.{Driver}
 use Rattle.card_layout.specs.declared.files.Application.{Application}
 use Rattle.card_retention.specs.Expected.{WordDay, Counted, is_newest, counted}
-use Rattle.card_retention.specs.Shown.{Bound, InDays, AllIn, is_open}
-use Rattle.card_image.specs.Fields.{card_days, end_mark, session_time}
+use Rattle.card_retention.specs.Shown.{Bound, InDays, AllIn}
+use Rattle.card_image.specs.Fields.{end_mark, session_time}
 use Rattle.card_image.specs.Own.{own_view, own_covered, counted_view}
 use Rattle.card_session.specs.Inserting.{Follow}
 use Rattle.card_session.specs.Repairs.{first_minute}
