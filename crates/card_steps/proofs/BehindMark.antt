@@ -405,6 +405,13 @@ module _ (mark : ℕ) where
       closed_next present w ws first =
           closes.gap last_here.p (ap last_of up_is ∙ last_here.is) (last_here.date_is ∙ here) (ap word_absent last_here.word ∙ present) w ws (late_is ∙ first)
 
+      -- or the first of the next day, where none of its own is behind it
+      closed_after : word_absent (last_word (early (mark % 1440) d.words)) ≡ false → filter late (placed (k + 12) d.date d.words) ≡ [] → (f : Day) (fs : List Day) → ds ≡ f ∷ fs → AreDays d.date (f ∷ fs) → f.date / 60 ≡ suc mark
+      closed_after present none f fs some days_are = by (first_later (k + len_of d) f fs (omega (arith, here, days_are.0, midnight, days_are.1.midnight)) days_are.1.ordered)
+        where
+          by : FirstLater (k + len_of d) f fs → f.date / 60 ≡ suc mark
+          by l = omega (arith, l.minute, closed_next present l.w l.rest (ap (λ (l : List PlacedWord). l ++ filter late (days (k + len_of d) ds)) none ∙ (ap (λ (l : List Day). filter late (days (k + len_of d) l)) some ∙ l.is)))
+
       -- what a repair would cut closes it
       checked_here : word_absent (last_word (early (mark % 1440) d.words)) ≡ false → (ds ≡ [] × (early (mark % 1440) d.words ≡ d.words)) ⊎ ((length (early (mark % 1440) d.words) < length d.words) ⊎ (suc mark % 1440 ≡ 0))
       checked_here present = by (early_front (mark % 1440) d.words).0 (early_front (mark % 1440) d.words).1
@@ -417,11 +424,8 @@ module _ (mark : ℕ) where
           whole same [] none = inl (none, same)
           whole same (f ∷ fs) some =
               let days_are : AreDays d.date (f ∷ fs) = subst (AreDays d.date) some are in
-              let first = first_later (k + len_of d) f fs (omega (arith, here, days_are.0, midnight, days_are.1.midnight)) days_are.1.ordered in
               let none : filter late (placed (k + 12) d.date d.words) ≡ [] = all_early d.date (mark % 1440) at_mark (k + 12) d.words same in
-              let next : minute_at first.w ≡ suc mark =
-              closed_next present first.w first.rest (ap (λ (l : List PlacedWord). l ++ filter late (days (k + len_of d) ds)) none ∙ ap (λ (l : List Day). filter late (days (k + len_of d) l)) some ∙ first.is) in
-              inr (inr (omega (arith, next, first.minute, days_are.1.midnight)))
+              inr (inr (omega (arith, closed_after present none f fs some days_are, days_are.1.midnight)))
 
           by : (rest : List ℕ) → d.words ≡ early (mark % 1440) d.words ++ rest → (ds ≡ [] × (early (mark % 1440) d.words ≡ d.words)) ⊎ ((length (early (mark % 1440) d.words) < length d.words) ⊎ (suc mark % 1440 ≡ 0))
           by [] split = whole (sym (split ∙ nil (early (mark % 1440) d.words))) ds refl
@@ -472,9 +476,7 @@ module _ (mark : ℕ) where
               by later open_ last [] first [] none = open_still v (ap last_word (sym (early_all d.date (mark % 1440) at_mark (k + 12) d.words first)) ∙ last) present none
               by later open_ last [] first (f ∷ fs) some =
                   let days_are : AreDays d.date (f ∷ fs) = subst (AreDays d.date) some are in
-                  let one_later = first_later (k + len_of d) f fs (omega (arith, here, days_are.0, midnight, days_are.1.midnight)) days_are.1.ordered in
-                  let next = closed_next open_ one_later.w one_later.rest (ap (λ (l : List PlacedWord). l ++ filter late (days (k + len_of d) ds)) first ∙ ap (λ (l : List Day). filter late (days (k + len_of d) l)) some ∙ one_later.is) in
-                  omega (arith, next, one_later.minute, days_are.0, midnight, days_are.1.midnight, behind, few)
+                  omega (arith, closed_after open_ first f fs some days_are, days_are.0, midnight, days_are.1.midnight, behind, few)
 
           absent : (v : ℕ) → latest d.words t ≡ Some v → (b : Bool) → word_absent v ≡ b → word_absent v ≡ true
           absent v is true told = told
