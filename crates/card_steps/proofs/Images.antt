@@ -77,10 +77,12 @@ module _ (app : Application) (sound : IsApplication app) (image : List ℕ) (sta
       abbrev MayInsert : List ℕ → Type 0
       MayInsert x = (image_size_of app ≤ length x) × IsValid app x
           × (0 < session_time app x → (newest_behind (card_view app x).newest (lacked_by app x owed) < next) × ((done : List Entry) × AllUpTo (end_mark app x) done × (brought ≡ done ++ lacked_by app x owed)))
+          × (session_time app x ≡ 0 → AllUpTo (end_mark app x) brought × (newest_minute (end_mark app x) (card_days app x) < next))
 
       inserted_one : (x y : List ℕ) → old.image ≡ Some x → MayInsert x → IsCardInserting app registration odometer owed now x y → HoldsSince app image brought next y
       inserted_one x y is may (inl closed) =
-          later_holds app image brought n next y le (shut_inserting app registration now image brought n x sound may.0 long closed.0 (told x is).1 y closed.1)
+          let ready = may.3 closed.0 in
+          shut_inserting app registration now image brought n x sound may.0 long may.1 closed.0 ready.0 (told x is).1 next le ready.1 y closed.1
       inserted_one x y is may (inr open_) = by (may.2 (some (session_time app x) open_.0))
         where
           some : (m : ℕ) → m ≢ 0 → 0 < m

@@ -9,10 +9,12 @@ pub mod Withdrawn
 pub mod Clear
 pub mod Lists
 pub mod Replayed
+pub mod Unclosed
 pub mod Inserted
 pub mod Since
 pub mod Kept
 pub mod OfCards
 pub mod Images
 pub mod Small
+pub mod BehindMark
 pub mod Start

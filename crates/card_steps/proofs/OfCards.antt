@@ -1,5 +1,5 @@
 -- A card's string since the start, at each moment of a keep, a withdrawal and an insertion.
-use Rattle.std.proofs.Common.{◌≡◌, ◌⊎◌, inl, inr, ⊎_elim, ℕ, suc, ◌/◌, ◌<◌, ◌≤◌, max, false, List, [], ◌∷◌, ◌++◌, length, refl, sym, ◌∙◌, ap, subst, arith}
+use Rattle.std.proofs.Common.{◌≡◌, ◌⊎◌, inl, inr, ⊎_elim, ℕ, suc, ◌/◌, ◌<◌, ◌≤◌, max, List, [], ◌∷◌, ◌++◌, length, refl, sym, ◌∙◌, ap, subst, arith}
 use Rattle.std.proofs.lemmas.List.{append-nil}
 use Rattle.activity_codec.specs.declared.entries.Entry.{Entry}
 use Rattle.activity_codec.specs.declared.values.Activity.{Activity}
@@ -8,7 +8,7 @@ use Rattle.card_layout.specs.declared.files.Application.{Application}
 use Rattle.card_layout.specs.Application.{IsApplication}
 use Rattle.card_layout.specs.Files.{image_size_of}
 use Rattle.card_retention.specs.Entries.{newest_minute, newest_word}
-use Rattle.card_retention.specs.Shown.{AllUpTo, is_open}
+use Rattle.card_retention.specs.Shown.{AllUpTo}
 use Rattle.card_image.specs.Fields.{card_days, end_mark, session_time}
 use Rattle.card_image.specs.Judging.{IsValid}
 use Rattle.card_image.specs.Own.{own_covered}
@@ -30,9 +30,10 @@ use Rattle.card_steps.specs.Inserts.{IsAllShown, IsInsertionShown}
 use Rattle.card_steps.specs.Since.{all_since, bound_since, counted_since, IsTied, GoesSince, BrokeSince, HoldsSince}
 use Rattle.card_steps.proofs.Moments.{keep_shown}
 use Rattle.card_steps.proofs.Withdrawn.{close_shown}
-use Rattle.card_steps.proofs.Inserted.{mark_day, days_of_open, shows_moments, shows_all, closed_shown}
+use Rattle.card_steps.proofs.Inserted.{mark_day, days_of_open, shows_moments, shows_all}
+use Rattle.card_steps.proofs.Unclosed.{unclosed_shown, answered_late}
 use Rattle.card_steps.proofs.Lists.{same_parts}
-use Rattle.card_steps.proofs.Since.{may_come, since_replay, keep_holds, kept_goes, close_holds, replay_holds, all_goes, all_holds, goes_still, goes_wider, shut_holds, later_holds, holds_up}
+use Rattle.card_steps.proofs.Since.{may_come, since_replay, keep_holds, kept_goes, close_holds, replay_holds, all_goes, all_holds, tied_still, none_goes, later_holds, holds_up}
 
 -- ---- a keep
 
@@ -100,8 +101,8 @@ module _ (app : Application) (registration : Registration) (odometer now : ℕ) 
     apart k =
         let parts = same_parts (end_mark app x) k.more k.rest done (lacked_by app x owed) (sym k.split) (holds_up app image (done ++ lacked_by app x owed) next x k) up k.behind ordered in
         ⊎_elim
-        (λ goes. both (subst (λ (l : List Entry). IsTied app image l x) parts.first goes.0.tied)
-        (inl (subst (λ (l : List Entry). GoesSince app image l (first_minute next (lacked_by app x owed)) x) parts.first (subst (λ (l : List Entry). GoesSince app image k.more (first_minute next l) x) parts.second goes.0))))
+        (λ goes. both (subst (λ (l : List Entry). IsTied app image l x) parts.first goes.tied)
+        (inl (subst (λ (l : List Entry). GoesSince app image l (first_minute next (lacked_by app x owed)) x) parts.first (subst (λ (l : List Entry). GoesSince app image k.more (first_minute next l) x) parts.second goes))))
         (λ broke. both (subst (λ (l : List Entry). IsTied app image l x) parts.first broke.tied)
         (inr (subst (λ (l : List Entry). BrokeSince app image l (lacked_by app x owed) next x) parts.first (subst (λ (l : List Entry). BrokeSince app image k.more l next x) parts.second broke)))) k.stands
       where
@@ -122,7 +123,7 @@ module _ (app : Application) (registration : Registration) (odometer now : ℕ) 
     pub open_holds : (y : List ℕ) → InsertingOpen app registration odometer owed now x y → HoldsSince app image (done ++ lacked_by app x owed) next y
     open_holds y inserting = ⊎_elim
         (λ first. replay_holds app image done (lacked_by app x owed) next x y ordered session there.tied first)
-        (λ all. all_holds app image done (lacked_by app x owed) next x y ordered session there.tied (card_view app x).newest (same_day y inserting) all.mark all.goes all.shut) (shown_at y inserting)
+        (λ all. all_holds app image done (lacked_by app x owed) next x y ordered session there.tied (card_view app x).newest (same_day y inserting) all.mark all.goes) (shown_at y inserting)
 
     all_at : (y : List ℕ) → InsertsOpen app registration odometer owed now x y → IsAllShown app (bound_since image done) (own_covered image) next (counted_since image done) (all_since image done) (lacked_by app x owed) x y
     all_at y inserts =
@@ -139,25 +140,29 @@ module _ (app : Application) (registration : Registration) (odometer now : ℕ) 
       let at : t.minute ≡ newest_behind (card_view app x).newest (lacked_by app x owed) = omega (arith, minute_is app y t same knows, all.mark, all.word, view_word app y) in
       (subst (λ (m : ℕ). GoesSince app image (done ++ lacked_by app x owed) (suc m) y) (sym at) (sits_at (suc (newest_behind (card_view app x).newest (lacked_by app x owed))) le (omega arith) y inserts), at)
 
--- ---- of a card without a session
+-- ---- of a card without a session, to which nothing is owed
 
-module _ (app : Application) (registration : Registration) (now : ℕ) (image : List ℕ) (brought : List Entry) (n : ℕ) (x : List ℕ) (sound : IsApplication app) (fits : image_size_of app ≤ length x) (long : length registration.0 ≡ 15) (none : session_time app x ≡ 0)
-    (h : HoldsSince app image brought n x) where
-  goes_there : GoesSince app image h.more (first_minute n h.rest) x × (is_open (end_mark app x) (card_days app x) ≡ false)
-  goes_there = ⊎_elim (λ goes. (goes.0, goes.1 none)) (λ broke. absurd (omega (arith, broke.session, none))) h.stands
-
-  pub shut_inserting : (y : List ℕ) → InsertingClosed app registration now x y → HoldsSince app image brought n y
-  shut_inserting y inserting =
-      let s = goes_there.0 in
-      let still = closed_shown app sound x fits registration long now (bound_since image h.more) (own_covered image) s.from (counted_since image h.more) (all_since image h.more) s.goes goes_there.1 y inserting in
-      shut_holds app image x y still.days still.mark brought n none h
-
-  pub shut_sits : AllUpTo (end_mark app x) brought → (y : List ℕ) (t : Session) → InsertsClosed app registration now x y → n ≤ suc t.minute → GoesSince app image brought (suc t.minute) y
-  shut_sits up y t inserts le =
-      let s = goes_there.0 in
-      let still =
-      closed_shown app sound x fits registration long now (bound_since image h.more) (own_covered image) s.from (counted_since image h.more) (all_since image h.more) s.goes goes_there.1 y (closed_end app registration 0 now [] x y inserts) in
+module _ (app : Application) (registration : Registration) (now : ℕ) (image : List ℕ) (brought : List Entry) (n : ℕ) (x : List ℕ) (sound : IsApplication app) (fits : image_size_of app ≤ length x) (long : length registration.0 ≡ 15) (valid : IsValid app x)
+    (none : session_time app x ≡ 0) (up : AllUpTo (end_mark app x) brought) (h : HoldsSince app image brought n x) where
+  goes_here : GoesSince app image brought n x
+  goes_here =
       let parts = same_parts (end_mark app x) h.more h.rest brought [] (sym h.split ∙ sym (append-nil brought)) (holds_up app image brought n x h) up h.behind tt in
-      let here : GoesSince app image brought n x =
-      subst (λ (l : List Entry). GoesSince app image l n x) parts.first (subst (λ (l : List Entry). GoesSince app image h.more (first_minute n l) x) parts.second s) in
-      goes_wider app image brought n (suc t.minute) y le (goes_still app image x y still.days still.mark brought n here)
+      subst (λ (l : List Entry). GoesSince app image l n x) parts.first (subst (λ (l : List Entry). GoesSince app image h.more (first_minute n l) x) parts.second (none_goes app image brought n x none h))
+
+  shut_goes : (next : ℕ) → n ≤ next → newest_minute (end_mark app x) (card_days app x) < next → (y : List ℕ) → InsertingClosed app registration now x y → GoesSince app image brought next y
+  shut_goes next le late y inserting =
+      let s = goes_here in
+      let shown =
+      unclosed_shown app sound x fits registration long now valid none (bound_since image brought) (own_covered image) s.from next (counted_since image brought) (all_since image brought) (omega arith) (omega (arith, s.later, le)) late s.goes y inserting in
+      record { from = next; later = omega arith; goes = shown.0; tied = tied_still app image brought x y shown.1 s.tied }
+
+  pub shut_inserting : (next : ℕ) → n ≤ next → newest_minute (end_mark app x) (card_days app x) < next → (y : List ℕ) → InsertingClosed app registration now x y → HoldsSince app image brought next y
+  shut_inserting next le late y inserting = record { more = brought; rest = []; split = sym (append-nil brought); behind = tt; stands = inl (shut_goes next le late y inserting) }
+
+  pub shut_sits : (y : List ℕ) (t : Session) → InsertsClosed app registration now x y → t.application ≡ app → IsSession t y → n ≤ suc t.minute → GoesSince app image brought (suc t.minute) y
+  shut_sits y t inserts same knows le =
+      let s = goes_here in
+      let at : t.minute ≡ newest_in (book_of app y) = knows.minute ∙ ap (λ (a : Application). newest_in (book_of a y)) same in
+      let late = answered_late app sound x fits registration long now valid none (bound_since image brought) (own_covered image) s.from (max s.from (suc (newest_minute (end_mark app x) (card_days app x)))) (counted_since image brought) (all_since image brought) (omega arith)
+      (omega arith) (omega arith) s.goes y inserts in
+      shut_goes (suc t.minute) le (omega (arith, late, at)) y (closed_end app registration 0 now [] x y inserts)

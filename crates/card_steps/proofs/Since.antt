@@ -10,7 +10,7 @@ use Rattle.card_model.specs.Days.{Day}
 use Rattle.card_model.specs.Changes.{trimmed}
 use Rattle.card_retention.specs.Expected.{Counted, with_entry}
 use Rattle.card_retention.specs.Entries.{closed_at}
-use Rattle.card_retention.specs.Shown.{Bound, InDays, AllUpTo, is_open}
+use Rattle.card_retention.specs.Shown.{Bound, InDays, AllUpTo}
 use Rattle.card_image.specs.Fields.{card_days, end_mark, session_time}
 use Rattle.card_image.specs.Own.{own_view, own_covered}
 use Rattle.card_session.specs.Inserting.{Follow}
@@ -53,7 +53,7 @@ module _ (app : Application) (image : List ℕ) (more es : List Entry) (from : �
 -- ---- what ties them to the end mark
 
 -- the mark of another image, on the same day
-tied_still : (app : Application) (image : List ℕ) (more : List Entry) (x y : List ℕ) → end_mark app y / 1440 ≡ end_mark app x / 1440 → IsTied app image more x → IsTied app image more y
+pub tied_still : (app : Application) (image : List ℕ) (more : List Entry) (x y : List ℕ) → end_mark app y / 1440 ≡ end_mark app x / 1440 → IsTied app image more x → IsTied app image more y
 tied_still app image more x y same t = record {
   told = told_still (bound_since image more) (end_mark app x) (end_mark app y) (counted_since image more) (all_since image more) same t.told;
   day = ⊎_elim (λ first. inl (same ∙ first)) (λ in_. inr (subst (λ (k : ℕ). InDays k (counted_since image more).days) (sym same) in_)) t.day;
@@ -104,7 +104,7 @@ broke_up app image more rest next x s = up_back (end_mark app x) (own_view image
 
 pub holds_up : (app : Application) (image : List ℕ) (brought : List Entry) (next : ℕ) (x : List ℕ) (h : HoldsSince app image brought next x) → AllUpTo (end_mark app x) h.more
 holds_up app image brought next x h = ⊎_elim
-    (λ goes. goes_up app image h.more (first_minute next h.rest) x goes.0)
+    (λ goes. goes_up app image h.more (first_minute next h.rest) x goes)
     (λ broke. broke_up app image h.more h.rest next x broke) h.stands
 
 -- ---- A NEXT ENTRY MAY COME
@@ -173,7 +173,7 @@ module _ (app : Application) (image : List ℕ) (done es : List Entry) (e : Entr
     rest = es;
     split = append_one done;
     behind = subst (λ (m : ℕ). Follow m es) (sym new.mark) follow;
-    stands = inl (goes_wider app image (done ++ e ∷ []) (suc e.minute) (first_minute next es) y (follow_first e.minute next es follow after) (kept_goes new), λ none. absurd (omega (arith, none, kept_session)));
+    stands = inl (goes_wider app image (done ++ e ∷ []) (suc e.minute) (first_minute next es) y (follow_first e.minute next es follow after) (kept_goes new));
   }
 
   pub keep_holds : HoldsSince app image (done ++ e ∷ es) next y
@@ -198,7 +198,7 @@ module _ (app : Application) (image : List ℕ) (done : List Entry) (next : ℕ)
     rest = [];
     split = sym (append-nil done);
     behind = tt;
-    stands = inl (closed_goes shut, λ none. shut.shut);
+    stands = inl (closed_goes shut);
   }
 
 -- ---- AN INSERTION
@@ -254,13 +254,13 @@ module _ (app : Application) (image : List ℕ) (more rest : List Entry) (next :
     }
 
     pub all_holds : end_mark app y ≡ newest_behind newest rest → Goes app (and_entries (bound_since image more) rest) (own_covered image) next (with_entries (own_covered image) (counted_since image more) rest) (all_since image more ++ rest) y
-        → is_open (end_mark app y) (card_days app y) ≡ false → HoldsSince app image (more ++ rest) next y
-    all_holds at goes shut = record {
+        → HoldsSince app image (more ++ rest) next y
+    all_holds at goes = record {
       more = more ++ rest;
       rest = [];
       split = sym (append-nil (more ++ rest));
       behind = tt;
-      stands = inl (all_goes at goes, λ none. shut);
+      stands = inl (all_goes at goes);
     }
 
 -- ---- the days, the end mark and the session stay, and a later bound
@@ -292,11 +292,7 @@ module _ (app : Application) (image : List ℕ) (x y : List ℕ) (days : card_da
     split = h.split;
     behind = subst (λ (m : ℕ). Follow m h.rest) (sym mark) h.behind;
     stands = ⊎_elim
-        (λ goes.
-        inl (
-          goes_still h.more (first_minute next h.rest) goes.0,
-          λ none. ap (λ (n : ℕ). is_open n (card_days app y)) mark ∙ ap (is_open (end_mark app x)) days ∙ goes.1 (sym session ∙ none),
-        ))
+        (λ goes. inl (goes_still h.more (first_minute next h.rest) goes))
         (λ broke.
         inr (record {
           session = omega (arith, session, broke.session);
@@ -309,20 +305,9 @@ module _ (app : Application) (image : List ℕ) (x y : List ℕ) (days : card_da
         })) h.stands;
   }
 
-  -- without a session, in another one then
-  pub shut_holds : (brought : List Entry) (next : ℕ) → session_time app x ≡ 0 → HoldsSince app image brought next x → HoldsSince app image brought next y
-  shut_holds brought next none h = ⊎_elim
-      (λ goes. record {
-        more = h.more;
-        rest = h.rest;
-        split = h.split;
-        behind = subst (λ (m : ℕ). Follow m h.rest) (sym mark) h.behind;
-        stands = inl (
-          goes_still h.more (first_minute next h.rest) goes.0,
-          λ still. ap (λ (n : ℕ). is_open n (card_days app y)) mark ∙ ap (is_open (end_mark app x)) days ∙ goes.1 none,
-        );
-      })
-      (λ broke. absurd (omega (arith, broke.session, none))) h.stands
+-- without a session nothing was broken off
+pub none_goes : (app : Application) (image : List ℕ) (brought : List Entry) (n : ℕ) (x : List ℕ) → session_time app x ≡ 0 → (h : HoldsSince app image brought n x) → GoesSince app image h.more (first_minute n h.rest) x
+none_goes app image brought n x none h = ⊎_elim (λ goes. goes) (λ broke. absurd (omega (arith, broke.session, none))) h.stands
 
 module _ (app : Application) (image : List ℕ) (brought : List Entry) (n next : ℕ) (x : List ℕ) (le : n ≤ next) where
   wider : (es : List Entry) → first_minute n es ≤ first_minute next es
@@ -336,7 +321,7 @@ module _ (app : Application) (image : List ℕ) (brought : List Entry) (n next :
     split = h.split;
     behind = h.behind;
     stands = ⊎_elim
-        (λ goes. inl (record { from = goes.0.from; later = omega (arith, goes.0.later, wider h.rest); goes = goes.0.goes; tied = goes.0.tied }, goes.1))
+        (λ goes. inl (record { from = goes.from; later = omega (arith, goes.later, wider h.rest); goes = goes.goes; tied = goes.tied }))
         (λ broke. inr (record { session = broke.session; from = broke.from; later = omega (arith, broke.later, wider h.rest); left = broke.left; tied = broke.tied })) h.stands;
   }
 
@@ -361,7 +346,7 @@ brought_holds app image brought es m n next x whole after h = record {
   split = ap (λ (l : List Entry). l ++ es) h.split ∙ append_three h.more h.rest es;
   behind = follow_on tail.0 (end_mark app x) n h.rest es tail.1 h.behind low after_es;
   stands = ⊎_elim
-      (λ goes. inl (record { from = goes.0.from; later = omega (arith, goes.0.later, first_on n next h.rest es after); goes = goes.0.goes; tied = goes.0.tied }, goes.1))
+      (λ goes. inl (record { from = goes.from; later = omega (arith, goes.later, first_on n next h.rest es after); goes = goes.goes; tied = goes.tied }))
       (λ broke. inr (record {
         session = broke.session;
         from = broke.from;
@@ -376,7 +361,7 @@ brought_holds app image brought es m n next x whole after h = record {
 
     low : end_mark app x < first_minute n h.rest
     low = ⊎_elim
-        (λ goes. omega (arith, goes.0.goes.lives.rests.later, goes.0.later))
+        (λ goes. omega (arith, goes.goes.lives.rests.later, goes.later))
         (λ broke. ⊎_elim (λ old. omega (arith, old.rests.later, broke.later)) (λ begun. omega (arith, begun.0.rests.later, broke.later)) broke.left) h.stands
 
     after_es : n ≤ first_minute n es

@@ -1,5 +1,5 @@
 -- A card at the start of a run: nothing has come yet.
-use Rattle.std.proofs.Common.{◌≡◌, ◌⊎◌, inl, inr, ⊎_elim, ℕ, suc, ◌*◌, ◌/◌, ◌<◌, ◌≤◌, Bool, true, false, cond, ◌&&◌, List, [], ◌∷◌, ◌++◌, refl, sym, ◌∙◌, ap, subst, arith}
+use Rattle.std.proofs.Common.{◌≡◌, ◌⊎◌, inl, inr, ⊎_elim, ℕ, suc, ◌*◌, ◌/◌, ◌<◌, ◌≤◌, Bool, true, false, cond, ◌&&◌, max, None, List, [], ◌∷◌, ◌++◌, refl, sym, ◌∙◌, ap, subst, arith}
 use Rattle.std.specs.Prelude.{nat_eq, nat_lt, nat_le}
 use Rattle.std.proofs.lemmas.Bool.{cases_lt}
 use Rattle.std.proofs.lemmas.Bool.Decides.{nat_tests}
@@ -7,27 +7,35 @@ use Rattle.std.proofs.lemmas.List.{append-nil}
 use Rattle.activity_codec.specs.declared.entries.Entry.{Entry}
 use Rattle.activity_codec.specs.declared.values.Activity.TheVariants.{Rest}
 use Rattle.activity_codec.specs.declared.values.Slot.TheVariants.{Driver}
+use Rattle.activity_codec.specs.Words.{word_absent}
 use Rattle.card_layout.specs.declared.files.Application.{Application}
 use Rattle.card_model.specs.Days.{Day, AreDays, last_word}
 use Rattle.card_model.specs.Changes.{OnNewest, trimmed}
+use Rattle.card_model.specs.Checks.{first_failing}
+use Rattle.card_model.specs.Image.{oldest_pointer}
+use Rattle.card_model.proofs.Judging.{both_pass}
 use Rattle.card_model.proofs.Trims.{are_trimmed, trimmed_twice}
 use Rattle.card_retention.specs.Expected.{WordDay, more, is_newest, Counted, counted}
-use Rattle.card_retention.specs.Entries.{entries_up_to, last_entry, newest_word, EndsBy}
+use Rattle.card_retention.specs.Entries.{entries_up_to, last_entry, newest_word, EndsBy, IsChecked}
 use Rattle.card_retention.specs.Retains.{entries_in}
-use Rattle.card_retention.specs.Shown.{Bound, InDays, AllIn, AllUpTo, IsFull, Rests, Sound.Flat, sizes, is_open, owing}
+use Rattle.card_retention.specs.Shown.{Bound, InDays, AllIn, AllUpTo, EndsAbsent, IsFull, Rests, sizes, is_open, owing}
+use Rattle.card_retention.proofs.Checked.{closed_lives}
 use Rattle.card_retention.proofs.Growing.{in_more, still_in}
 use Rattle.card_retention.proofs.ListTrims.{entries_trimmed, ends_flat}
 use Rattle.card_retention.proofs.Retaining.{day_in}
 use Rattle.card_retention.proofs.Starting.{start_of, start_bound, starts, entries_by, entries_there}
-use Rattle.card_image.specs.Fields.{card_days, end_mark, session_time}
+use Rattle.card_image.specs.Fields.{day_string, card_days, end_mark, session_time}
+use Rattle.card_image.specs.Judging.{days_placed, words_behind_mark, IsValid}
 use Rattle.card_image.specs.Own.{own_sizes, own_view, own_covered}
 use Rattle.card_image.specs.View.{card_view, counting}
 use Rattle.card_session.specs.Inserting.{Follow}
-use Rattle.card_session.proofs.Committed.{silent_end}
+use Rattle.card_session.specs.Overwriting.{IsSilentBehind}
+use Rattle.card_session.specs.Repairs.{first_minute}
 use Rattle.card_session.proofs.InsertingBooks.{trimmed_low}
-use Rattle.card_session.proofs.Preparing.{ends_by}
-use Rattle.card_session.proofs.Valid.{flat_of}
+use Rattle.card_session.proofs.InsertingValid.{closed_by_words}
+use Rattle.card_session.proofs.Valid.{valid_words}
 use Rattle.card_steps.specs.Since.{HasOn, day_marks, all_since, bound_since, counted_since, IsTied, HoldsSince}
+use Rattle.card_steps.proofs.BehindMark.{quiet_all}
 use Rattle.card_steps.proofs.Clear.{newest_is}
 use Rattle.card_steps.proofs.Lists.{up_both}
 use Rattle.card_steps.proofs.Replayed.{follow_first}
@@ -133,7 +141,7 @@ module _ (image : List ℕ) where
   unfolding own_view card_view
   mark_is = refl
 
-  module _ (D : List Day) (is : counting (session_time (own_sizes image) image) (end_mark (own_sizes image) image) (card_days (own_sizes image) image) ≡ D) (are : AreDays 0 D) (ends : EndsBy (end_mark (own_sizes image) image) D) (low : newest_word D ≤ end_mark (own_sizes image) image)
+  module _ (D : List Day) (is : counting (session_time (own_sizes image) image) (end_mark (own_sizes image) image) (card_days (own_sizes image) image) ≡ D) (are : AreDays 0 D) (ends : EndsBy (end_mark (own_sizes image) image) D) (from : ℕ) (above : end_mark (own_sizes image) image < from) (behind : newest_word D < from)
       (small : (d : Day) (es : List Day) → D ≡ d ∷ es → OnNewest (λ d. last_word d.words < 65536) D) (same : entries_up_to (end_mark (own_sizes image) image) D ≡ entries_up_to (end_mark (own_sizes image) image) (card_days (own_sizes image) image)) where
     days_is : (own_view image).held.days ≡ sizes D
     unfolding own_view card_view
@@ -168,12 +176,12 @@ module _ (image : List ℕ) where
     bound_in = in_append 0 (sizes D) (day_marks (own_view image).mark (own_view image).held.days) (all_since image [])
         (marks_in (own_view image).mark (own_view image).held.days (sizes D) (λ k i. subst (λ (ws : List WordDay). InDays k ws) days_is i)) there
 
-    pub start_rests : Rests (own_sizes image).activity (bound_since image []) (own_covered image) (suc (end_mark (own_sizes image) image)) (end_mark (own_sizes image) image) (counted_since image []) D
+    pub start_rests : Rests (own_sizes image).activity (bound_since image []) (own_covered image) from (end_mark (own_sizes image) image) (counted_since image []) D
     start_rests =
-        subst (λ (n : ℕ). Rests (own_sizes image).activity (bound_since image []) n (suc (end_mark (own_sizes image) image)) (end_mark (own_sizes image) image) (counted_since image []) D) (sym covered_is)
-        (subst (λ (c : Counted). Rests (own_sizes image).activity (bound_since image []) (newest_word D) (suc (end_mark (own_sizes image) image)) (end_mark (own_sizes image) image) c D) (sym counted_is)
-        (rests_all (own_sizes image).activity (start_bound 16 (end_mark (own_sizes image) image) D) (bound_since image []) (newest_word D) (suc (end_mark (own_sizes image) image)) (end_mark (own_sizes image) image) (start_of (end_mark (own_sizes image) image) D) D refl bound_up bound_in
-        (starts (own_sizes image).activity 16 (suc (end_mark (own_sizes image) image)) (end_mark (own_sizes image) image) D are ends small (omega arith) (omega (arith, low)))))
+        subst (λ (n : ℕ). Rests (own_sizes image).activity (bound_since image []) n from (end_mark (own_sizes image) image) (counted_since image []) D) (sym covered_is)
+        (subst (λ (c : Counted). Rests (own_sizes image).activity (bound_since image []) (newest_word D) from (end_mark (own_sizes image) image) c D) (sym counted_is)
+        (rests_all (own_sizes image).activity (start_bound 16 (end_mark (own_sizes image) image) D) (bound_since image []) (newest_word D) from (end_mark (own_sizes image) image) (start_of (end_mark (own_sizes image) image) D) D refl bound_up bound_in
+        (starts (own_sizes image).activity 16 from (end_mark (own_sizes image) image) D are ends small above behind)))
 
     pub start_tied : IsTied (own_sizes image) image [] image
     start_tied = record {
@@ -193,9 +201,33 @@ module _ (image : List ℕ) where
     start_lists : entries_up_to (end_mark (own_sizes image) image) (card_days (own_sizes image) image) ≡ entries_in (sizes D) (all_since image [])
     start_lists = sym same ∙ sym all_is ∙ sym (entries_all (all_since image []) (sizes D) there)
 
+-- ---- a valid card without a session
+
+-- words behind the mark end with one that is no entry's
+absent_end : (mark : ℕ) (ds : List Day) → EndsBy mark ds → mark < newest_word ds → EndsAbsent ds
+absent_end mark [] ends lt = absurd (omega (arith, lt))
+absent_end mark (d ∷ []) ends lt = by (word_absent (last_word d.words)) refl
+  where
+    by : (b : Bool) → word_absent (last_word d.words) ≡ b → word_absent (last_word d.words) ≡ true
+    by true is = is
+    by false is = absurd (omega (arith, ends is, lt))
+absent_end mark (d ∷ e ∷ ds) ends lt = absent_end mark (e ∷ ds) ends lt
+
+module _ (app : Application) (x : List ℕ) (are : AreDays 0 (card_days app x)) (valid : IsValid app x) (none : session_time app x ≡ 0) where
+  words_pass : first_failing (words_behind_mark (end_mark app x) (days_placed app.activity (oldest_pointer (day_string app) x) 0 (card_days app x))) ≡ None
+  words_pass =
+      subst (λ (n : ℕ). first_failing (cond (nat_eq n 0) (words_behind_mark (end_mark app x) (days_placed app.activity (oldest_pointer (day_string app) x) 0 (card_days app x))) []) ≡ None) none
+      (both_pass (cond (nat_eq (session_time app x) 0) (words_behind_mark (end_mark app x) (days_placed app.activity (oldest_pointer (day_string app) x) 0 (card_days app x))) []) _ (valid_words app x valid)).0
+
+  pub quiet_card : IsChecked (end_mark app x) (card_days app x) × (is_open (end_mark app x) (card_days app x) ≡ false → IsSilentBehind (end_mark app x) (card_days app x))
+  quiet_card = quiet_all (end_mark app x) app.activity (oldest_pointer (day_string app) x) (card_days app x) are words_pass
+
+  pub ends_card : EndsBy (end_mark app x) (card_days app x)
+  ends_card = (closed_by_words app x are (valid_words app x valid) (ap (λ (n : ℕ). nat_eq n 0) none)).0
+
 -- ---- with its session left open, and without one
 
-module _ (image : List ℕ) (brought : List Entry) (next : ℕ) (follow : Follow (end_mark (own_sizes image) image) brought) (after : end_mark (own_sizes image) image < next) (are : AreDays 0 (card_days (own_sizes image) image)) where
+module _ (image : List ℕ) (brought : List Entry) (next : ℕ) (follow : Follow (end_mark (own_sizes image) image) brought) (are : AreDays 0 (card_days (own_sizes image) image)) where
   open_is : 0 < session_time (own_sizes image) image → counting (session_time (own_sizes image) image) (end_mark (own_sizes image) image) (card_days (own_sizes image) image) ≡ trimmed (end_mark (own_sizes image) image) (card_days (own_sizes image) image)
   open_is session = ap (λ (b : Bool). cond b (card_days (own_sizes image) image) (trimmed (end_mark (own_sizes image) image) (card_days (own_sizes image) image))) (apart (session_time (own_sizes image) image) session)
     where
@@ -205,10 +237,10 @@ module _ (image : List ℕ) (brought : List Entry) (next : ℕ) (follow : Follow
   shut_is : session_time (own_sizes image) image ≡ 0 → counting (session_time (own_sizes image) image) (end_mark (own_sizes image) image) (card_days (own_sizes image) image) ≡ card_days (own_sizes image) image
   shut_is none = ap (λ (n : ℕ). cond (nat_eq n 0) (card_days (own_sizes image) image) (trimmed (end_mark (own_sizes image) image) (card_days (own_sizes image) image))) none
 
-  pub starts_open : 0 < session_time (own_sizes image) image
+  pub starts_open : end_mark (own_sizes image) image < next → 0 < session_time (own_sizes image) image
       → ((d : Day) (es : List Day) → trimmed (end_mark (own_sizes image) image) (card_days (own_sizes image) image) ≡ d ∷ es → OnNewest (λ d. last_word d.words < 65536) (trimmed (end_mark (own_sizes image) image) (card_days (own_sizes image) image)))
       → HoldsSince (own_sizes image) image brought next image
-  starts_open session small =
+  starts_open after session small =
       let m : ℕ = end_mark (own_sizes image) image in
       let cut : List Day = trimmed (end_mark (own_sizes image) image) (card_days (own_sizes image) image) in
       let whole : AreDays 0 cut = are_trimmed m 0 (card_days (own_sizes image) image) are in
@@ -225,37 +257,38 @@ module _ (image : List ℕ) (brought : List Entry) (next : ℕ) (follow : Follow
           from = suc m;
           later = follow_first m next brought follow after;
           left = inl (record {
-            rests = start_rests image cut (open_is session) whole ends low small same;
-            until = up image cut (open_is session) whole ends low small same;
-            lists = start_lists image cut (open_is session) whole ends low small same;
+            rests = start_rests image cut (open_is session) whole ends (suc m) (omega arith) (omega (arith, low)) small same;
+            until = up image cut (open_is session) whole ends (suc m) (omega arith) (omega (arith, low)) small same;
+            lists = start_lists image cut (open_is session) whole ends (suc m) (omega arith) (omega (arith, low)) small same;
           });
-          tied = start_tied image cut (open_is session) whole ends low small same;
+          tied = start_tied image cut (open_is session) whole ends (suc m) (omega arith) (omega (arith, low)) small same;
         });
       }
 
-  pub starts_shut : session_time (own_sizes image) image ≡ 0 → newest_word (card_days (own_sizes image) image) ≤ end_mark (own_sizes image) image → is_open (end_mark (own_sizes image) image) (card_days (own_sizes image) image) ≡ false
+  pub starts_shut : IsValid (own_sizes image) image → session_time (own_sizes image) image ≡ 0 → max (end_mark (own_sizes image) image) (newest_word (card_days (own_sizes image) image)) < first_minute next brought
       → ((d : Day) (es : List Day) → card_days (own_sizes image) image ≡ d ∷ es → OnNewest (λ d. last_word d.words < 65536) (card_days (own_sizes image) image)) → HoldsSince (own_sizes image) image brought next image
-  starts_shut none low shut small =
+  starts_shut valid none after small =
       let m : ℕ = end_mark (own_sizes image) image in
       let days : List Day = card_days (own_sizes image) image in
-      let ends : EndsBy m days = ends_by m days low in
+      let from : ℕ = suc (max m (newest_word days)) in
+      let ends : EndsBy m days = ends_card (own_sizes image) image are valid none in
+      let silent = quiet_card (own_sizes image) image are valid none in
+      let rests = start_rests image days (shut_is none) are ends from (omega arith) (omega arith) small refl in
       record {
         more = [];
         rest = brought;
         split = refl;
         behind = follow;
-        stands = inl (
-          record {
-            from = suc m;
-            later = follow_first m next brought follow after;
-            goes = record {
-              lives = record { rests = start_rests image days (shut_is none) are ends low small refl; sound = Flat (flat_of m 0 days are low) };
-              until = up image days (shut_is none) are ends low small refl;
-              lists = start_lists image days (shut_is none) are ends low small refl;
-              silent = silent_end m days are low;
-            };
-            tied = start_tied image days (shut_is none) are ends low small refl;
-          },
-          λ n. shut,
-        );
+        stands = inl (record {
+          from = from;
+          later = omega (arith, after);
+          goes = record {
+            lives = closed_lives (own_sizes image).activity (bound_since image []) (own_covered image) from m (counted_since image []) days rests (omega (arith, covered_is image days (shut_is none) are ends from (omega arith) (omega arith) small refl)) silent.0
+                (absent_end m days ends);
+            until = up image days (shut_is none) are ends from (omega arith) (omega arith) small refl;
+            lists = start_lists image days (shut_is none) are ends from (omega arith) (omega arith) small refl;
+            silent = silent.1;
+          };
+          tied = start_tied image days (shut_is none) are ends from (omega arith) (omega arith) small refl;
+        });
       }

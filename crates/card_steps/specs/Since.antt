@@ -6,8 +6,8 @@ use Rattle.activity_codec.specs.declared.values.Activity.TheVariants.{Rest}
 use Rattle.activity_codec.specs.declared.values.Slot.TheVariants.{Driver}
 use Rattle.card_layout.specs.declared.files.Application.{Application}
 use Rattle.card_retention.specs.Expected.{WordDay, Counted, is_newest, counted}
-use Rattle.card_retention.specs.Shown.{Bound, InDays, AllIn, is_open}
-use Rattle.card_image.specs.Fields.{card_days, end_mark, session_time}
+use Rattle.card_retention.specs.Shown.{Bound, InDays, AllIn}
+use Rattle.card_image.specs.Fields.{end_mark, session_time}
 use Rattle.card_image.specs.Own.{own_view, own_covered, counted_view}
 use Rattle.card_session.specs.Inserting.{Follow}
 use Rattle.card_session.specs.Repairs.{first_minute}
@@ -63,11 +63,10 @@ pub record BrokeSince (app : Application) (image : List ℕ) (more rest : List E
   pub tied : IsTied app image more x
 
 -- IN ANY CASE: of the entries that came since the first are on the card, and the others, which it lacks, are later than its end mark. No
--- further one comes earlier than `next`. Without a session its words are closed.
+-- further one comes earlier than `next`.
 pub record HoldsSince (app : Application) (image : List ℕ) (brought : List Entry) (next : ℕ) (x : List ℕ) : Type 0 where
   pub more : List Entry
   pub rest : List Entry
   pub split : brought ≡ more ++ rest
   pub behind : Follow (end_mark app x) rest
-  pub stands : (GoesSince app image more (first_minute next rest) x × (session_time app x ≡ 0 → is_open (end_mark app x) (card_days app x) ≡ false))
-      ⊎ BrokeSince app image more rest next x
+  pub stands : GoesSince app image more (first_minute next rest) x ⊎ BrokeSince app image more rest next x

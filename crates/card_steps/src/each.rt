@@ -41,7 +41,8 @@ pub fn an_insertion_keeps_each_image<C: Chip, D: Chip>(before: &C, after: &D)
     ensures { (app : Application) (registration : Registration) (odometer now : ℕ) (owed : List Entry) (image : List ℕ) (brought : List Entry) (n next began : ℕ) → IsApplication app → own_sizes image ≡ app → began ≤ (C.state before.now).clock → n ≤ next →
         length registration.0 ≡ 15 → AreOwed now owed →
         ((x : List ℕ) → (C.state before.now).image ≡ Some x → (image_size_of app ≤ length x) × IsValid app x × (0 < session_time app x →
-        (newest_behind (card_view app x).newest (lacked_by app x owed) < next) × ((done : List Entry) × AllUpTo (end_mark app x) done × (brought ≡ done ++ lacked_by app x owed)))) →
+        (newest_behind (card_view app x).newest (lacked_by app x owed) < next) × ((done : List Entry) × AllUpTo (end_mark app x) done × (brought ≡ done ++ lacked_by app x owed))) ×
+        (session_time app x ≡ 0 → AllUpTo (end_mark app x) brought × (newest_minute (end_mark app x) (card_days app x) < next))) →
         LeavesOnly (C.state before.now) (D.state after.now) (IsCardInserting app registration odometer owed now) → EachHolds app image brought n began (C.state before.now) → EachHolds app image brought next began (D.state after.now) }
 {}
 

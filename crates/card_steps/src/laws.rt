@@ -1,4 +1,4 @@
-ghost use Rattle.std.specs.Prelude.{◌≡◌, ◌⊎◌, ℕ, suc, ◌/◌, ◌<◌, ◌≤◌, false, List, [], ◌∷◌, ◌++◌, length, filter, nat_le, All};
+ghost use Rattle.std.specs.Prelude.{◌≡◌, ◌⊎◌, ℕ, suc, ◌/◌, ◌<◌, ◌≤◌, max, false, List, [], ◌∷◌, ◌++◌, length, filter, nat_le, All};
 ghost use Rattle.activity_codec.specs.declared.entries.Entry.{Entry};
 ghost use Rattle.activity_codec.specs.declared.values.Activity.{Activity};
 ghost use Rattle.tacho_types.specs.declared.texts.Registration.{Registration};
@@ -73,6 +73,9 @@ pub fn an_insertion_is_shown()
         (shown : IsReplayShown app slack covered next c all (lacked_by app x owed) x y) → lacked_by app y owed ≡ shown.first.rest }
     ensures shut { (app : Application) (registration : Registration) (odometer now : ℕ) (owed : List Entry) (x y : List ℕ) → IsApplication app → image_size_of app ≤ length x → length registration.0 ≡ 15 → session_time app x ≡ 0 → is_open (end_mark app x) (card_days app x) ≡ false →
         (slack : Bound) (covered from : ℕ) (c : Counted) (all : List Entry) → Goes app slack covered from c all x → IsCardInserting app registration odometer owed now x y → IsStillShown app slack covered from c all x y }
+    ensures unclosed { (app : Application) (registration : Registration) (odometer now : ℕ) (owed : List Entry) (x y : List ℕ) → IsApplication app → image_size_of app ≤ length x → length registration.0 ≡ 15 → IsValid app x → session_time app x ≡ 0 →
+        (slack : Bound) (covered from next : ℕ) (c : Counted) (all : List Entry) → 16 ≤ slack.bytes → from ≤ next → newest_minute (end_mark app x) (card_days app x) < next → Goes app slack covered from c all x → IsCardInserting app registration odometer owed now x y →
+        Goes app slack covered next c all y × (end_mark app y / 1440 ≡ end_mark app x / 1440) }
 {}
 
 /// What is carried of a string gives what is stated of it, where the next entry is not earlier than it may come, in a session and where
@@ -89,13 +92,13 @@ pub fn what_is_carried_is_stated()
         (n : ℕ) → from ≤ n → IsStated app slack covered (end_mark app x / 1440) c first all n x }
 {}
 
-/// At the start a card holds its string, and lacks all that came: one whose session is open, and one without a session whose words are
-/// closed and none of which stands behind its end mark.
+/// At the start a card holds its string, and lacks all that came: one whose session is open, and a valid one without a session, behind whose
+/// words the first entry comes.
 pub fn a_card_holds_its_string_at_the_start()
     ensures open { (image : List ℕ) (brought : List Entry) (next : ℕ) → All (λ b. b < 256) image → AreDays 0 (card_days (own_sizes image) image) → Follow (end_mark (own_sizes image) image) brought → end_mark (own_sizes image) image < next →
         0 < session_time (own_sizes image) image → HoldsSince (own_sizes image) image brought next image }
-    ensures shut { (image : List ℕ) (brought : List Entry) (next : ℕ) → All (λ b. b < 256) image → AreDays 0 (card_days (own_sizes image) image) → Follow (end_mark (own_sizes image) image) brought → end_mark (own_sizes image) image < next →
-        session_time (own_sizes image) image ≡ 0 → newest_word (card_days (own_sizes image) image) ≤ end_mark (own_sizes image) image → is_open (end_mark (own_sizes image) image) (card_days (own_sizes image) image) ≡ false →
+    ensures shut { (image : List ℕ) (brought : List Entry) (next : ℕ) → All (λ b. b < 256) image → AreDays 0 (card_days (own_sizes image) image) → Follow (end_mark (own_sizes image) image) brought →
+        IsValid (own_sizes image) image → session_time (own_sizes image) image ≡ 0 → max (end_mark (own_sizes image) image) (newest_word (card_days (own_sizes image) image)) < first_minute next brought →
         HoldsSince (own_sizes image) image brought next image }
 {}
 
@@ -124,9 +127,9 @@ pub fn an_insertion_keeps_the_string()
         IsValid app x → 0 < session_time app x → AllUpTo (end_mark app x) done → n ≤ suc (newest_behind (card_view app x).newest (lacked_by app x owed)) → HoldsSince app image (done ++ lacked_by app x owed) n x →
         IsCardInserted app registration odometer owed now x y → t.application ≡ app → IsSession t y →
         GoesSince app image (done ++ lacked_by app x owed) (suc t.minute) y × (t.minute ≡ newest_behind (card_view app x).newest (lacked_by app x owed)) }
-    ensures shut { (app : Application) (registration : Registration) (odometer now : ℕ) (owed : List Entry) (image : List ℕ) (done : List Entry) (n : ℕ) (x y : List ℕ) → IsApplication app → image_size_of app ≤ length x → length registration.0 ≡ 15 → session_time app x ≡ 0 →
-        HoldsSince app image done n x → IsCardInserting app registration odometer owed now x y → HoldsSince app image done n y }
-    ensures shut_sits { (app : Application) (registration : Registration) (odometer now : ℕ) (owed : List Entry) (image : List ℕ) (done : List Entry) (n : ℕ) (x y : List ℕ) (t : Session) → IsApplication app → image_size_of app ≤ length x → length registration.0 ≡ 15 → session_time app x ≡ 0 →
+    ensures shut { (app : Application) (registration : Registration) (odometer now : ℕ) (owed : List Entry) (image : List ℕ) (done : List Entry) (n next : ℕ) (x y : List ℕ) → IsApplication app → image_size_of app ≤ length x → length registration.0 ≡ 15 → IsValid app x → session_time app x ≡ 0 →
+        AllUpTo (end_mark app x) done → n ≤ next → newest_minute (end_mark app x) (card_days app x) < next → HoldsSince app image done n x → IsCardInserting app registration odometer owed now x y → HoldsSince app image done next y }
+    ensures shut_sits { (app : Application) (registration : Registration) (odometer now : ℕ) (owed : List Entry) (image : List ℕ) (done : List Entry) (n : ℕ) (x y : List ℕ) (t : Session) → IsApplication app → image_size_of app ≤ length x → length registration.0 ≡ 15 → IsValid app x → session_time app x ≡ 0 →
         AllUpTo (end_mark app x) done → HoldsSince app image done n x → IsCardInserted app registration odometer owed now x y → t.application ≡ app → IsSession t y → n ≤ suc t.minute → GoesSince app image done (suc t.minute) y }
 {}
 

@@ -3,6 +3,7 @@ use Rattle.card_image.specs.Fields.{session_time, end_mark}
 use Rattle.card_session.specs.Inserting.{lacked}
 use Rattle.card_session.proofs.Valid.{above_zero}
 use Rattle.card_session.proofs.Repairing.{lacked_again}
+use Rattle.card_steps.proofs.Unclosed.{unclosed_shown}
 use Rattle.card_steps.proofs.Inserted.{shows_moments, shows_all, closed_shown}
 use Rattle.card_steps.proofs.laws.an_insertion_is_shown.Goals as goal
 
@@ -23,3 +24,7 @@ returns-clause-rest c = λ app now owed x y are slack covered next counted all s
 pub returns-clause-shut : goal.returns-clause-shut
 returns-clause-shut c = λ app registration odometer now owed x y sound fits long none shut slack covered from counted all goes inserting.
     ⊎_elim (λ closed. closed_shown app sound x fits registration long now slack covered from counted all goes shut y closed.1) (λ some. absurd (some.0 none)) inserting
+
+pub returns-clause-unclosed : goal.returns-clause-unclosed
+returns-clause-unclosed c = λ app registration odometer now owed x y sound fits long valid none slack covered from next counted all least later late goes inserting.
+    ⊎_elim (λ closed. unclosed_shown app sound x fits registration long now valid none slack covered from next counted all least later late goes y closed.1) (λ some. absurd (some.0 none)) inserting

@@ -13,9 +13,9 @@ returns-clause-sits c = λ app registration odometer now owed image done n x y t
     (λ some. open_sits app registration odometer now owed image done n x sound fits long are valid session up holds le y t some.1 same knows) inserted
 
 pub returns-clause-shut : goal.returns-clause-shut
-returns-clause-shut c = λ app registration odometer now owed image done n x y sound fits long none holds inserting.
-    ⊎_elim (λ closed. shut_inserting app registration now image done n x sound fits long none holds y closed.1) (λ some. absurd (some.0 none)) inserting
+returns-clause-shut c = λ app registration odometer now owed image done n next x y sound fits long valid none up le late holds inserting.
+    ⊎_elim (λ closed. shut_inserting app registration now image done n x sound fits long valid none up holds next le late y closed.1) (λ some. absurd (some.0 none)) inserting
 
 pub returns-clause-shut_sits : goal.returns-clause-shut_sits
-returns-clause-shut_sits c = λ app registration odometer now owed image done n x y t sound fits long none up holds inserted same knows le.
-    ⊎_elim (λ closed. shut_sits app registration now image done n x sound fits long none holds up y t closed.1 le) (λ some. absurd (some.0 none)) inserted
+returns-clause-shut_sits c = λ app registration odometer now owed image done n x y t sound fits long valid none up holds inserted same knows le.
+    ⊎_elim (λ closed. shut_sits app registration now image done n x sound fits long valid none up holds y t closed.1 same knows le) (λ some. absurd (some.0 none)) inserted
