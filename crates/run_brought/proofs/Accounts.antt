@@ -78,7 +78,7 @@ module _ (r : Recording) (c : Card) (from : ℕ) (b : Book) (order : AreInOrder 
 none-lost : (u m : ℕ) (b : Break) → u ≤ second_of b → shows_lost u m b ≡ false
 none-lost u m (Cut second kept failed begun) le = go (nat_lt second u) refl
   where
-    go : (t : Bool) → nat_lt second u ≡ t → (t && (nat_lt kept m && nat_le m (second / 60))) ≡ false
+    go : (t : Bool) → nat_lt second u ≡ t → ((t && nat_lt kept m) && nat_le m (second / 60)) ≡ false
     go true is = absurd (let lt : second < u = grind (arith, nat_tests) in omega (arith, lt, le))
     go false is = refl
 none-lost u m (Tear second slot failed begun late) le = refl

@@ -49,7 +49,7 @@ or-true : (b : Bool) → (b || true) ≡ true
 or-true true = refl
 or-true false = refl
 
-three : (q kept m u : ℕ) → q < u → kept < m → m ≤ q / 60 → (nat_lt q u && (nat_lt kept m && nat_le m (q / 60))) ≡ true
+three : (q kept m u : ℕ) → q < u → kept < m → m ≤ q / 60 → ((nat_lt q u && nat_lt kept m) && nat_le m (q / 60)) ≡ true
 three q kept m u a b c = grind (arith, nat_tests)
 
 shown-by : (bs : List Break) (q m u : ℕ) → tells_cut q bs ≡ true → kept_after (log_of bs) q < m → m ≤ q / 60 → q < u → list_any (shows_lost u m) bs ≡ true
