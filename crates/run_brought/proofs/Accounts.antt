@@ -1,5 +1,5 @@
 -- Accounts of acceptances give what the theorem asks of them, and go on with the run.
-use Rattle.std.proofs.Common.{◌≡◌, ◌≢◌, ◌⊎◌, inl, inr, ⊎_elim, ℕ, ◌+◌, ◌/◌, ◌<◌, ◌≤◌, Bool, true, false, cond, List, [], ◌∷◌, ◌++◌, All, Contains, refl, ap, subst, ◌∙◌, sym, arith, length, nat_eq, nat_lt, nat_le, not}
+use Rattle.std.proofs.Common.{◌≡◌, ◌⊎◌, inl, inr, ⊎_elim, ℕ, ◌+◌, ◌/◌, ◌<◌, ◌≤◌, Bool, true, false, List, [], ◌∷◌, ◌++◌, All, Contains, refl, ap, subst, ◌∙◌, sym, arith, length, nat_lt, nat_le, not}
 use Rattle.std.specs.Prelude.{◌&&◌, ◌||◌, option_to_list, map, take, drop}
 use Rattle.std.specs.List.{AllByRecursion, list_any}
 use Rattle.std.proofs.lemmas.Bool.Decides.{nat_tests}
@@ -9,7 +9,6 @@ use Rattle.activity_codec.specs.declared.entries.Entry.{Entry}
 use Rattle.trace_model.specs.declared.Card.{Card}
 use Rattle.log_model.specs.declared.lines.Break.{Break}
 use Rattle.log_model.specs.declared.lines.Break.TheVariants.{Cut, Tear}
-use Rattle.log_model.specs.Log.{RunLog}
 use Rattle.log_model.specs.Spans.{AreInOrder}
 use Rattle.log_model.specs.Causes.{second_of}
 use Rattle.unit_model.specs.Image.{last_kept}
@@ -22,7 +21,7 @@ use Rattle.card_image.specs.Own.{own_view, own_number}
 use Rattle.unit_course.specs.Lines.{with_kept, found_from}
 use Rattle.joint_rule.specs.Views.{unit_view}
 use Rattle.safety_model.specs.Recording.{Recording, card_image, brought, start_of, history_of, lost_of, unit_seen}
-use Rattle.safety_model.specs.Cards.{shows_lost, acceptances, was_kept}
+use Rattle.safety_model.specs.Cards.{shows_lost, was_kept}
 use Rattle.run_rule.specs.Between.{AreBrought}
 use Rattle.run_rule.proofs.Entries.{all-by}
 use Rattle.run_rule.proofs.Behind.{said-by, owed-until}

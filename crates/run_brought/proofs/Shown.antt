@@ -1,5 +1,5 @@
 -- While power has just come back, what the history has beyond the book is shown to be lost.
-use Rattle.std.proofs.Common.{◌≡◌, ◌⊎◌, inl, inr, ⊎_elim, ℕ, suc, ◌+◌, ◌-◌, ◌*◌, ◌/◌, ◌<◌, ◌≤◌, Bool, true, false, cond, Option, Some, None, List, [], ◌∷◌, ◌++◌, All, Contains, refl, ap, subst, ◌∙◌, sym, arith, length, map, filter, nat_eq, nat_lt, nat_le, take, length-append}
+use Rattle.std.proofs.Common.{◌≡◌, ◌⊎◌, inl, inr, ⊎_elim, ℕ, suc, ◌+◌, ◌*◌, ◌/◌, ◌<◌, ◌≤◌, Bool, true, false, cond, Option, Some, None, List, [], ◌∷◌, ◌++◌, All, Contains, refl, ap, subst, ◌∙◌, sym, arith, length, nat_eq, nat_lt, nat_le, take, length-append}
 use Rattle.std.specs.Prelude.{◌&&◌, ◌||◌, is_some, unwrap_or}
 use Rattle.std.specs.List.{AllByRecursion, list_any}
 use Rattle.std.proofs.lemmas.Bool.Decides.{nat_tests}
@@ -13,7 +13,7 @@ use Rattle.minute_model.proofs.Numbered.{numbered-parts}
 use Rattle.minute_model.proofs.Ranges.{last-push}
 use Rattle.log_model.specs.declared.lines.Break.{Break}
 use Rattle.log_model.specs.declared.lines.Break.TheVariants.{Cut, Tear}
-use Rattle.log_model.specs.Log.{RunLog, kept_after, kept_by, cut_of}
+use Rattle.log_model.specs.Log.{RunLog, kept_after, kept_by}
 use Rattle.log_model.specs.Course.{Told, went}
 use Rattle.log_model.specs.Spans.{spans_of, seconds_in, first_in, end_in, AreApart}
 use Rattle.log_model.proofs.Spanning.{spanned}
@@ -22,12 +22,11 @@ use Rattle.history_model.specs.Minutes.{HistoryMinute, up_to}
 use Rattle.history_model.specs.Presence.{Start}
 use Rattle.history_model.specs.History.{seated, minutes_after, decided_of, span_minutes, limited_to, limit_by, cut_second, limit_of, any_long, history_by, unit_history}
 use Rattle.history_model.specs.Growth.{closed_limit, closed_history}
-use Rattle.history_model.specs.Book.{Book}
 use Rattle.history_model.proofs.Books.{contains-up_to}
 use Rattle.history_model.proofs.Closing.{shorts-none, history-none}
 use Rattle.history_model.proofs.Deciding.{counted, span-ended, apart-until}
 use Rattle.unit_course.specs.Lines.{log_of, tells_cut}
-use Rattle.unit_course.specs.Followed.{Lit, IsKnown, as_spans}
+use Rattle.unit_course.specs.Followed.{Lit, IsKnown}
 use Rattle.unit_course.proofs.Lines.{tells-front}
 use Rattle.unit_course.proofs.Alike.{decided-empty}
 use Rattle.unit_course.proofs.Spans.{snoc}
