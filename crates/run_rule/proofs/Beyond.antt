@@ -25,14 +25,14 @@ splits from until (x ∷ xs) ys h =
     let first : from ≤ x.minute = h.0 in
     record { at = s.at; behind = s.behind; above = omega (arith, s.above, first); before = All-cons (λ (i : HistoryMinute). i.minute < s.at) x xs (omega (arith, s.above)) s.before }
 
-rises-above : (from until : ℕ) (ys : List HistoryMinute) → Rises from ys until → All (λ (j : HistoryMinute). from ≤ j.minute) ys
+pub rises-above : (from until : ℕ) (ys : List HistoryMinute) → Rises from ys until → All (λ (j : HistoryMinute). from ≤ j.minute) ys
 rises-above from until [] h = All-nil (λ (j : HistoryMinute). from ≤ j.minute)
 rises-above from until (y ∷ ys) h =
     let first : from ≤ y.minute = h.0 in
     All-cons (λ (j : HistoryMinute). from ≤ j.minute) y ys first (All-weaker (λ (j : HistoryMinute). y.minute + 1 ≤ j.minute) (λ j. from ≤ j.minute) (λ j le. omega (arith, le, first)) ys (rises-above (y.minute + 1) until ys h.1))
 
 -- what comes behind the marks of minutes that rise is later than these
-later-than : (first from until last : ℕ) (xs ys : List HistoryMinute) → first < from → Rises from (xs ++ ys) until → IsMark first xs last → All (λ (j : HistoryMinute). last < j.minute) ys
+pub later-than : (first from until last : ℕ) (xs ys : List HistoryMinute) → first < from → Rises from (xs ++ ys) until → IsMark first xs last → All (λ (j : HistoryMinute). last < j.minute) ys
 later-than first from until last xs ys early h mark =
     let s = splits from until xs ys h in
     let low : last < s.at = go s mark in

@@ -1,0 +1,54 @@
+ghost use Rattle.std.specs.Prelude.{◌≡◌, ◌⊎◌, ℕ, ◌/◌, ◌<◌, ◌≤◌, true, List, [], ◌++◌, All, Contains, drop};
+ghost use Rattle.std.specs.List.{AllByRecursion, list_any};
+ghost use Rattle.trace_model.specs.declared.Card.{Card};
+ghost use Rattle.trace_model.specs.Trace.{TraceSecond};
+ghost use Rattle.minute_model.specs.declared.Rule.{Rule};
+ghost use Rattle.log_model.specs.declared.lines.Break.{Break};
+ghost use Rattle.log_model.specs.Causes.{second_of};
+ghost use Rattle.log_model.specs.Course.{went};
+ghost use Rattle.log_model.specs.Spans.{AreInOrder};
+ghost use Rattle.unit_model.specs.Image.{last_kept};
+ghost use Rattle.history_model.specs.Presence.{Start};
+ghost use Rattle.history_model.specs.History.{unit_history};
+ghost use Rattle.history_model.specs.Book.{Book, Follows, IsMark};
+ghost use Rattle.unit_course.specs.Lines.{found_from};
+ghost use Rattle.unit_course.specs.Followed.{Lit};
+ghost use Rattle.run_course.specs.Followed.{Progress, Followed};
+ghost use Rattle.safety_model.specs.Recording.{Recording, history_of, lost_of};
+ghost use Rattle.safety_model.specs.Cards.{shows_lost};
+ghost use Rattle.run_rule.specs.Between.{AreBrought};
+ghost use Rattle.run_brought.specs.Accounts.{IsAccount, HasAccounts, IsShownLost};
+
+/// Where each acceptance of a card is accounted for, it has its last-kept minute: what the unit had kept by then is not later, and it had
+/// kept nothing that is not sure.
+pub fn accounts_are_brought()
+    ensures { (r : Recording) (c : Card) (from : ℕ) (b : Book) (ks : List ℕ) → AreInOrder from r.trace → last_kept r.unit < from / 60 →
+        Follows (history_of r) (lost_of r) b → HasAccounts r c (last_kept r.unit) b ks → AreBrought r c b ks }
+{}
+
+/// An account goes on with the run: where the log shows no other cut before its second, each minute of the history was there before or is
+/// not earlier than that second's, and its mark stays. Neither breaks of its second and later ones change what the log shows, nor what is
+/// found after such.
+pub fn an_account_goes_on()
+    ensures goes { (r s : Recording) (c : Card) (first : ℕ) (b d : Book) (u k : ℕ) →
+        ((m : ℕ) → list_any (shows_lost u m) s.log.breaks ≡ list_any (shows_lost u m) r.log.breaks) →
+        All (λ i. Contains (history_of r) i ⊎ (u / 60 ≤ i.minute)) (history_of s) → (IsMark first b.sure k → IsMark first d.sure k) →
+        IsAccount r c first b u k → IsAccount s c first d u k }
+    ensures later { (u m : ℕ) (breaks rest : List Break) → AllByRecursion (λ (b : Break). u ≤ second_of b) rest →
+        list_any (shows_lost u m) (breaks ++ rest) ≡ list_any (shows_lost u m) breaks }
+    ensures found { (u m unfound k : ℕ) (breaks : List Break) → AllByRecursion (λ (b : Break). u ≤ second_of b) (drop unfound breaks) →
+        list_any (shows_lost u m) (found_from unfound k breaks) ≡ list_any (shows_lost u m) breaks }
+{}
+
+/// An acceptance is accounted for by the unit's last-kept minute, where each minute of the history is not later, or not earlier than the
+/// minute of its second, or shown to be lost.
+pub fn an_acceptance_is_accounted()
+    ensures { (r : Recording) (c : Card) (first : ℕ) (b : Book) (u k : ℕ) → IsMark first b.sure k →
+        All (λ i. (i.minute ≤ k) ⊎ ((u / 60 ≤ i.minute) ⊎ (list_any (shows_lost u i.minute) r.log.breaks ≡ true))) (history_of r) → IsAccount r c first b u k }
+{}
+
+/// While power has just come back, each minute of the history is a sure one, or shown to be lost.
+pub fn what_is_lost_is_shown()
+    ensures { (rule : Rule) (start : Start) (from first : ℕ) (done : List TraceSecond) (p : Progress) → Followed rule start from first done (record p { supply = Lit []; waiting = [] }) →
+        All (λ i. Contains p.book.sure i ⊎ IsShownLost p.log p.next i) (unit_history rule start p.log (went p.log done).told) }
+{}
