@@ -92,6 +92,10 @@ fn main(rt: HostRuntime) -> ExitCode {
 }
 
 #[cfg(test)]
+mod card_tests;
+#[cfg(test)]
+mod download_tests;
+#[cfg(test)]
 mod format_tests;
 #[cfg(test)]
 mod record_tests;
