@@ -2,6 +2,8 @@
 //! outcome tells which minutes were acknowledged, where the power was lost, and which actions were refused.
 #![tactic(auto)]
 
+#[cfg(test)]
+mod event_tests;
 mod keeping;
 mod lines;
 mod opening;

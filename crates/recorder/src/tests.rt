@@ -23,7 +23,7 @@ const T0: u32 = 1267401600;
 const M0: u32 = 21123360;
 
 /// A unit with this image, with room for so many writes, whose calls stop so.
-fn unit_with(
+pub fn unit_with(
     alloc: Global,
     image: Vec<u8>,
     writes: u32,
@@ -38,7 +38,7 @@ fn unit_with(
 }
 
 /// The image of a new unit.
-fn new_image(alloc: Global) -> Result<Vec<u8>, AllocError> {
+pub fn new_image(alloc: Global) -> Result<Vec<u8>, AllocError> {
     let mut image = vec![in alloc; 0u8; IMAGE_SIZE as usize]?;
     if image.len() > 3 {
         image[3] = 1;
@@ -54,7 +54,7 @@ fn new_unit(alloc: Global, stops: Vec<Stop>) -> Result<MemMedium, Memory>
 }
 
 /// Records a trace, which has no line for a card, on a unit.
-fn record<U: Medium>(
+pub fn record<U: Medium>(
     alloc: Global,
     text: &[u8],
     unit: &mut U,
