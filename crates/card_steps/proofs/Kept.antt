@@ -14,7 +14,7 @@ use Rattle.card_retention.specs.Retains.{CardRetains}
 use Rattle.card_retention.specs.Shown.{InDays, AllIn}
 use Rattle.card_image.specs.Fields.{end_mark}
 use Rattle.card_image.specs.View.{card_view}
-use Rattle.card_image.specs.Own.{own_sizes, own_view, own_covered, expected_with, StandsFrom, KeepsOf}
+use Rattle.card_image.specs.Own.{own_sizes, own_view, own_covered, expected_with, StandsFrom, KeepsFrom, KeepsOf}
 use Rattle.card_session.specs.Repairs.{first_minute}
 use Rattle.card_steps.specs.Carried.{IsStated}
 use Rattle.card_steps.specs.Since.{day_marks, all_since, bound_since, counted_since, GoesSince, BrokeSince, HoldsSince}
@@ -68,31 +68,43 @@ module _ (app : Application) (sound : IsApplication app) (image : List ℕ) (x :
   keeps_by : (more : List Entry) (from : ℕ) → ((n : ℕ) → from ≤ n → Stated more n) → KeepsOf image (all_since image more) (own_view x).held
   keeps_by more from stated = (from, record { more = more; begins = refl; keeps = λ n le. own_stated more n (stated n le) })
 
-  goes_keeps : (more : List Entry) (next : ℕ) → GoesSince app image more next x → KeepsOf image (all_since image more) (own_view x).held
-  goes_keeps more next s =
-      keeps_by more s.from
-      (λ n le. goes_stated app (bound_since image more) (own_covered image) s.from ((own_view image).mark / 1440) (counted_since image more) (day_marks (own_view image).mark (own_view image).held.days) (all_since image more) x sound (omega arith) refl s.goes n le)
+  goes_all : (more : List Entry) (next : ℕ) (s : GoesSince app image more next x) (n : ℕ) → s.from ≤ n → Stated more n
+  goes_all more next s n le =
+      goes_stated app (bound_since image more) (own_covered image) s.from ((own_view image).mark / 1440) (counted_since image more) (day_marks (own_view image).mark (own_view image).held.days) (all_since image more) x sound (omega arith) refl s.goes n le
 
-  broke_keeps : (more rest : List Entry) (next : ℕ) → BrokeSince app image more rest next x → KeepsOf image (all_since image more) (own_view x).held
-  broke_keeps more rest next s =
-      keeps_by more s.from
-      (λ n le. ⊎_elim
+  goes_keeps : (more : List Entry) (next : ℕ) → GoesSince app image more next x → KeepsOf image (all_since image more) (own_view x).held
+  goes_keeps more next s = keeps_by more s.from (goes_all more next s)
+
+  broke_all : (more rest : List Entry) (next : ℕ) (s : BrokeSince app image more rest next x) (n : ℕ) → s.from ≤ n → Stated more n
+  broke_all more rest next s n le = ⊎_elim
       (λ broke. broke_stated app (bound_since image more) (own_covered image) s.from ((own_view image).mark / 1440) (counted_since image more) (day_marks (own_view image).mark (own_view image).held.days) (all_since image more) x s.session refl broke n le)
       (λ begun.
       let at : end_mark app x / 1440 ≡ (own_view image).mark / 1440 = ⊎_elim (λ first. first) (λ in_. absurd (before_in (end_mark app x / 1440) (counted_since image more).days begun.0.fresh in_)) s.tied.day in
       subst (λ (k : ℕ). IsStated app (bound_since image more) (own_covered image) k (counted_since image more) (day_marks (own_view image).mark (own_view image).held.days) (all_since image more) n x) at
-      (begun_stated app (bound_since image more) (own_covered image) s.from (counted_since image more) (day_marks (own_view image).mark (own_view image).held.days) (all_since image more) x s.session refl begun.0 n le)) s.left)
+      (begun_stated app (bound_since image more) (own_covered image) s.from (counted_since image more) (day_marks (own_view image).mark (own_view image).held.days) (all_since image more) x s.session refl begun.0 n le)) s.left
+
+  broke_keeps : (more rest : List Entry) (next : ℕ) → BrokeSince app image more rest next x → KeepsOf image (all_since image more) (own_view x).held
+  broke_keeps more rest next s = keeps_by more s.from (broke_all more rest next s)
 
   own_mark : (own_view x).mark ≡ end_mark app x
   unfolding own_view card_view
   own_mark = ap (λ (a : Application). end_mark a x) here
 
+  pub holds_counted : (brought : List Entry) (next : ℕ) (h : HoldsSince app image brought next x) → filter (λ (e : Entry). nat_le e.minute (own_view x).mark) brought ≡ h.more
+  holds_counted brought next h =
+      ap (λ (m : ℕ). filter (λ (e : Entry). nat_le e.minute m) brought) own_mark ∙ ap (filter (λ (e : Entry). nat_le e.minute (end_mark app x))) h.split
+      ∙ counted_up (end_mark app x) h.more h.rest (holds_up app image brought next x h) h.behind
+
   pub holds_kept : (brought : List Entry) (next : ℕ) → HoldsSince app image brought next x → KeepsOf image (all_since image (filter (λ (e : Entry). nat_le e.minute (own_view x).mark) brought)) (own_view x).held
   holds_kept brought next h =
-      subst (λ (l : List Entry). KeepsOf image (all_since image l) (own_view x).held) (sym counted)
+      subst (λ (l : List Entry). KeepsOf image (all_since image l) (own_view x).held) (sym (holds_counted brought next h))
       (⊎_elim (λ goes. goes_keeps h.more (first_minute next h.rest) goes.0) (λ broke. broke_keeps h.more h.rest next broke) h.stands)
-    where
-      counted : filter (λ (e : Entry). nat_le e.minute (own_view x).mark) brought ≡ h.more
-      counted =
-          ap (λ (m : ℕ). filter (λ (e : Entry). nat_le e.minute m) brought) own_mark ∙ ap (filter (λ (e : Entry). nat_le e.minute (end_mark app x))) h.split
-          ∙ counted_up (end_mark app x) h.more h.rest (holds_up app image brought next x h) h.behind
+
+  -- and it goes on with the first entry that it lacks, or else where the next one may come
+  from_by : (more : List Entry) (from next : ℕ) → from ≤ next → ((n : ℕ) → from ≤ n → Stated more n) → KeepsFrom image next (all_since image more) (own_view x).held
+  from_by more from next le stated = record { more = more; begins = refl; keeps = λ n h. own_stated more n (stated n (omega (arith, h, le))) }
+
+  pub holds_from : (brought : List Entry) (next : ℕ) (h : HoldsSince app image brought next x) → KeepsFrom image (first_minute next h.rest) (all_since image h.more) (own_view x).held
+  holds_from brought next h = ⊎_elim
+      (λ goes. from_by h.more goes.0.from (first_minute next h.rest) goes.0.later (goes_all h.more (first_minute next h.rest) goes.0))
+      (λ broke. from_by h.more broke.from (first_minute next h.rest) broke.later (broke_all h.more h.rest next broke)) h.stands
