@@ -192,7 +192,7 @@ in_last : (k : ℕ) (ws : List WordDay) (v : WordDay) → v.day ≡ k → InDays
 in_last k [] v at = inl at
 in_last k (w ∷ ws) v at = inr (in_last k ws v at)
 
-newest_is : (k : ℕ) (ws : List WordDay) → is_newest k ws ≡ true → InDays k ws
+pub newest_is : (k : ℕ) (ws : List WordDay) → is_newest k ws ≡ true → InDays k ws
 newest_is k [] is = absurd (cc)
 newest_is k (w ∷ []) is = inl (is_same w.day k is)
 newest_is k (w ∷ v ∷ ws) is = inr (newest_is k (v ∷ ws) is)

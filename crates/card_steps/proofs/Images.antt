@@ -1,5 +1,5 @@
 -- Each image of a card since the start of a run, over a call on it.
-use Rattle.std.proofs.Common.{◌≡◌, ◌≢◌, ◌⊎◌, inl, inr, ⊎_elim, ℕ, ◌<◌, ◌≤◌, Bool, true, false, cond, filter, Some, List, [], ◌∷◌, ◌++◌, length, refl, sym, ◌∙◌, ap, subst, arith}
+use Rattle.std.proofs.Common.{◌≡◌, ◌≢◌, inl, inr, ⊎_elim, ℕ, ◌<◌, ◌≤◌, Bool, false, cond, filter, Some, List, [], ◌∷◌, ◌++◌, length, refl, sym, ◌∙◌, ap, subst, arith}
 use Rattle.std.specs.Prelude.{nat_le}
 use Rattle.std.proofs.lemmas.Bool.Decides.{nat_tests}
 use Rattle.std.proofs.lemmas.List.{append-nil}
@@ -26,7 +26,7 @@ use Rattle.card_session.proofs.InsertingAgain.{ended_keeps, inserting_keeps}
 use Rattle.card_session.proofs.InsertingUse.{use_inside}
 use Rattle.card_session.proofs.Marks.{sizes_still}
 use Rattle.card_steps.specs.Since.{all_since, GoesSince, HoldsSince}
-use Rattle.card_steps.specs.Each.{KeepsSince, EachHolds, LeavesString}
+use Rattle.card_steps.specs.Each.{EachHolds, LeavesString}
 use Rattle.card_steps.proofs.Since.{beside_holds, later_holds, brought_holds}
 use Rattle.card_steps.proofs.Kept.{holds_kept}
 use Rattle.card_steps.proofs.OfCards.{card_keep_holds, card_close_holds, open_holds, shut_inserting}

@@ -14,3 +14,5 @@ pub mod Since
 pub mod Kept
 pub mod OfCards
 pub mod Images
+pub mod Small
+pub mod Start

@@ -1,4 +1,4 @@
-ghost use Rattle.std.specs.Prelude.{◌≡◌, ◌⊎◌, ℕ, suc, ◌/◌, ◌<◌, ◌≤◌, false, List, [], ◌∷◌, ◌++◌, length, filter, nat_le};
+ghost use Rattle.std.specs.Prelude.{◌≡◌, ◌⊎◌, ℕ, suc, ◌/◌, ◌<◌, ◌≤◌, false, List, [], ◌∷◌, ◌++◌, length, filter, nat_le, All};
 ghost use Rattle.activity_codec.specs.declared.entries.Entry.{Entry};
 ghost use Rattle.activity_codec.specs.declared.values.Activity.{Activity};
 ghost use Rattle.tacho_types.specs.declared.texts.Registration.{Registration};
@@ -6,8 +6,9 @@ ghost use Rattle.card_layout.specs.declared.files.Application.{Application};
 ghost use Rattle.card_layout.specs.Application.{IsApplication};
 ghost use Rattle.card_layout.specs.Files.{image_size_of};
 ghost use Rattle.card_model.specs.Changes.{trimmed};
+ghost use Rattle.card_model.specs.Days.{AreDays};
 ghost use Rattle.card_retention.specs.Expected.{Counted};
-ghost use Rattle.card_retention.specs.Entries.{newest_minute};
+ghost use Rattle.card_retention.specs.Entries.{newest_minute, newest_word};
 ghost use Rattle.card_retention.specs.Shown.{Bound, AllUpTo, is_open};
 ghost use Rattle.card_image.specs.Fields.{card_days, end_mark, session_time};
 ghost use Rattle.card_image.specs.Judging.{IsValid};
@@ -86,6 +87,16 @@ pub fn what_is_carried_is_stated()
     ensures begun { (app : Application) (slack : Bound) (covered from : ℕ) (c : Counted) (first all : List Entry) (x : List ℕ) →
         0 < session_time app x → slack.all ≡ first ++ all → Begun app slack covered from c all x →
         (n : ℕ) → from ≤ n → IsStated app slack covered (end_mark app x / 1440) c first all n x }
+{}
+
+/// At the start a card holds its string, and lacks all that came: one whose session is open, and one without a session whose words are
+/// closed and none of which stands behind its end mark.
+pub fn a_card_holds_its_string_at_the_start()
+    ensures open { (image : List ℕ) (brought : List Entry) (next : ℕ) → All (λ b. b < 256) image → AreDays 0 (card_days (own_sizes image) image) → Follow (end_mark (own_sizes image) image) brought → end_mark (own_sizes image) image < next →
+        0 < session_time (own_sizes image) image → HoldsSince (own_sizes image) image brought next image }
+    ensures shut { (image : List ℕ) (brought : List Entry) (next : ℕ) → All (λ b. b < 256) image → AreDays 0 (card_days (own_sizes image) image) → Follow (end_mark (own_sizes image) image) brought → end_mark (own_sizes image) image < next →
+        session_time (own_sizes image) image ≡ 0 → newest_word (card_days (own_sizes image) image) ≤ end_mark (own_sizes image) image → is_open (end_mark (own_sizes image) image) (card_days (own_sizes image) image) ≡ false →
+        HoldsSince (own_sizes image) image brought next image }
 {}
 
 /// A keep of a card in a session leaves its string as it is to stand since the start: with the old end mark the entry is lacked, and with

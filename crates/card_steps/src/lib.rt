@@ -10,8 +10,8 @@ pub use each::{
     an_insertion_keeps_each_image,
 };
 pub use laws::{
-    a_begun_day_is_kept, a_keep_is_shown, a_keep_keeps_the_string, a_string_holds_on,
-    a_string_that_holds_is_kept, a_withdrawal_is_shown, a_withdrawal_keeps_the_string,
-    an_entry_may_come, an_insertion_is_shown, an_insertion_keeps_the_string,
-    what_is_carried_is_stated,
+    a_begun_day_is_kept, a_card_holds_its_string_at_the_start, a_keep_is_shown,
+    a_keep_keeps_the_string, a_string_holds_on, a_string_that_holds_is_kept, a_withdrawal_is_shown,
+    a_withdrawal_keeps_the_string, an_entry_may_come, an_insertion_is_shown,
+    an_insertion_keeps_the_string, what_is_carried_is_stated,
 };
