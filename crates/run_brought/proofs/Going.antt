@@ -265,4 +265,5 @@ nothing-accounted r c first p is = record {
 pub end-accounted : TheEndIsAccounted
 end-accounted r c first p ks is a u at =
     let k = a.each u (subst (λ (l : RunLog). Contains (acceptances (so_far r r.trace l) c) u) (sym is) at) in
-    (k.0, k.1, subst (λ (l : RunLog). IsAccount (so_far r r.trace l) c first p.book u k.0) is k.2.account)
+    let mine : IsAccount (so_far r r.trace r.log) c first p.book u k.0 = subst (λ (l : RunLog). IsAccount (so_far r r.trace l) c first p.book u k.0) is k.2.account in
+    (k.0, k.1, record { mark = mine.mark; kept = mine.kept })

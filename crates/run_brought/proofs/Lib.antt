@@ -5,3 +5,4 @@ pub mod Settled
 pub mod Going
 pub mod Quiet
 pub mod Stays
+pub mod Ends

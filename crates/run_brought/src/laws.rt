@@ -7,6 +7,7 @@ ghost use Rattle.log_model.specs.declared.lines.Break.{Break};
 ghost use Rattle.log_model.specs.Causes.{second_of};
 ghost use Rattle.log_model.specs.Course.{went};
 ghost use Rattle.log_model.specs.Spans.{AreInOrder};
+ghost use Rattle.unit_model.specs.Decoding.{Decodes};
 ghost use Rattle.unit_model.specs.Image.{last_kept};
 ghost use Rattle.history_model.specs.Presence.{Start, CardStart};
 ghost use Rattle.history_model.specs.Minutes.{HistoryMinute};
@@ -15,15 +16,17 @@ ghost use Rattle.history_model.specs.Book.{Book, Follows, IsMark, kept, broken};
 ghost use Rattle.unit_course.specs.Lines.{found_from};
 ghost use Rattle.unit_course.specs.Followed.{Lit};
 ghost use Rattle.run_course.specs.Followed.{Progress, Followed};
-ghost use Rattle.safety_model.specs.Recording.{Recording, history_of, lost_of};
+ghost use Rattle.card_image.specs.Own.{IsOwnValid};
+ghost use Rattle.safety_model.specs.Safe.{IsSafe};
+ghost use Rattle.safety_model.specs.Recording.{Recording, card_image, start_of, history_of, lost_of};
 ghost use Rattle.safety_model.specs.Cards.{shows_lost};
 ghost use Rattle.joint_rule.specs.Rules.{Standing};
 ghost use Rattle.joint_rule.specs.Marked.{HasBrought};
 ghost use Rattle.run_rule.specs.Found.{Found};
-ghost use Rattle.run_rule.specs.Between.{AreBrought};
+ghost use Rattle.run_rule.specs.Between.{Carried, IsCarried, IsFound, AreBrought, AreUntouched, devices};
 ghost use Rattle.run_brought.specs.Accounts.{IsAccount, HasAccounts, IsShownLost};
 ghost use Rattle.run_brought.specs.Stays.{AddsLater, IsStep};
-ghost use Rattle.run_brought.specs.Going.{ASecondIsAccounted, KeptMinutesAreSure, FoundStaysAccounted, AFailureStaysAccounted, ADarkMinuteStaysAccounted, AnOffLineStaysAccounted, AnOffCutStaysAccounted, NothingIsAccountedYet, TheEndIsAccounted};
+ghost use Rattle.run_brought.specs.Going.{AreAccounted, ASecondIsAccounted, KeptMinutesAreSure, FoundStaysAccounted, AFailureStaysAccounted, ADarkMinuteStaysAccounted, AnOffLineStaysAccounted, AnOffCutStaysAccounted, NothingIsAccountedYet, TheEndIsAccounted};
 
 use tach_media::{Chip, Medium};
 
@@ -108,4 +111,23 @@ pub fn what_a_minute_adds_is_its_own()
     ensures none { (c : Card) (start : CardStart) (k : ℕ) (b : Book) → b.maybe ≡ None → AddsLater c start k b b }
     ensures kept { (c : Card) (start : CardStart) (k : ℕ) (b : Book) (i : HistoryMinute) → k < i.minute → AddsLater c start k b (kept i b) }
     ensures broken { (c : Card) (start : CardStart) (k : ℕ) (b : Book) (i : HistoryMinute) → k < i.minute → AddsLater c start k b (broken i b) }
+{}
+
+/// THE END OF A RUN: where a book is followed, with its log, and carried by unit and cards, and each acceptance of a card that was valid is
+/// accounted for, the crash-safety theorem holds.
+pub fn what_is_followed_and_carried_is_safe<
+    M: Medium,
+    C: Chip,
+    D: Chip,
+    N: Medium,
+    E: Chip,
+    F: Chip,
+>(old_unit: &M, old_a: &C, old_b: &D, unit: &N, card_a: &E, card_b: &F)
+    ensures { (r : Recording) (f : Found) (w : Carried) (from : ℕ) (p : Progress) → Decodes r.unit →
+        IsFound r f (devices (M.state old_unit.now) (C.state old_a.now) (D.state old_b.now)) →
+        Followed r.rule (start_of r) from (last_kept r.unit) r.trace p → p.log ≡ r.log → w.book ≡ p.book →
+        IsCarried f w (devices (N.state unit.now) (E.state card_a.now) (F.state card_b.now)) →
+        ((c : Card) → IsOwnValid (card_image r c) → AreAccounted r c (last_kept r.unit) r.trace p (w.brought c)) →
+        AreUntouched r f (devices (N.state unit.now) (E.state card_a.now) (F.state card_b.now)) →
+        IsSafe r w.marks (devices (M.state old_unit.now) (C.state old_a.now) (D.state old_b.now)) (devices (N.state unit.now) (E.state card_a.now) (F.state card_b.now)) }
 {}
