@@ -1,13 +1,12 @@
 -- Accounts of acceptances over a second with power, at the start and at the end.
-use Rattle.std.proofs.Common.{◌≡◌, ◌⊎◌, inl, inr, ⊎_elim, ℕ, zero, suc, ◌+◌, ◌/◌, ◌<◌, ◌≤◌, Bool, true, false, nat_lt, Option, Some, None, List, [], ◌∷◌, ◌++◌, All, Contains, length, drop, refl, ap, sym, subst, ◌∙◌, arith, append-nil, append_assoc}
+use Rattle.std.proofs.Common.{◌≡◌, ◌⊎◌, inl, inr, ⊎_elim, ℕ, suc, ◌/◌, ◌≤◌, true, false, nat_lt, Some, None, List, [], ◌∷◌, ◌++◌, All, Contains, length, drop, refl, ap, sym, subst, ◌∙◌, arith, append-nil, append_assoc}
 use Rattle.std.specs.Prelude.{flat_map}
 use Rattle.std.specs.List.{AllByRecursion, list_any}
 use Rattle.std.proofs.lemmas.Bool.Decides.{nat_tests}
 use Rattle.std.proofs.lemmas.List.{drop-append-le}
-use Rattle.std.proofs.lemmas.List.Elements.{All-weaker, All-contains, All-contains_itself, Contains-append_left, Contains-append_right, Contains-append_cases}
+use Rattle.std.proofs.lemmas.List.Elements.{All-weaker, All-contains, All-contains_itself, Contains-append_left, Contains-append_cases}
 use Rattle.trace_model.specs.declared.Card.{Card}
 use Rattle.trace_model.specs.Trace.{TraceSecond}
-use Rattle.minute_model.specs.declared.Rule.{Rule}
 use Rattle.minute_model.specs.Span.{ungiven_of}
 use Rattle.log_model.specs.declared.lines.Break.{Break}
 use Rattle.log_model.specs.Log.{RunLog}
@@ -20,14 +19,14 @@ use Rattle.history_model.proofs.Books.{all-none, mark-more}
 use Rattle.unit_course.specs.Followed.{Supply, Lit, Due, Lost, going_on, cuts_from}
 use Rattle.unit_course.specs.Turn.{span_at}
 use Rattle.run_course.specs.Followed.{Progress, Followed, IsGoing, IsSupplied, IsBreakBefore}
-use Rattle.run_course.specs.Seconds.{GoesOnBy, next_told, DecidedBy, kept_all, broken_at}
+use Rattle.run_course.specs.Seconds.{GoesOnBy, next_told, DecidedBy, kept_all}
 use Rattle.run_course.proofs.Core.{Core, IsShort, waits}
 use Rattle.run_course.proofs.New.{are-new}
 use Rattle.run_course.proofs.Steps.{core-of, lit, lit-parts, now-told, on-lines, went-same_, feeds, fed-short, which}
 use Rattle.run_course.proofs.Told.{lit-power, solid-push}
-use Rattle.safety_model.specs.Recording.{Recording, start_of, history_of}
+use Rattle.safety_model.specs.Recording.{Recording, start_of}
 use Rattle.safety_model.specs.Cards.{shows_lost, acceptances}
-use Rattle.run_brought.specs.Accounts.{so_far, IsAccount, HasAccounts, IsShownLost}
+use Rattle.run_brought.specs.Accounts.{so_far, IsAccount, IsShownLost}
 use Rattle.run_brought.specs.Going.{acceptances_in, IsCutFrom, StandsFor, AreAccounted, IsTakenAt, IsBehind, ASecondIsAccounted, KeptMinutesAreSure, NothingIsAccountedYet, TheEndIsAccounted}
 use Rattle.run_brought.proofs.Accounts.{account-on, account-new}
 use Rattle.run_brought.proofs.Shown.{lost-is_shown}

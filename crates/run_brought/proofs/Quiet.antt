@@ -1,5 +1,5 @@
 -- Accounts of acceptances over the steps that accept no card.
-use Rattle.std.proofs.Common.{◌≡◌, ◌⊎◌, inl, inr, ⊎_elim, ℕ, zero, suc, ◌+◌, ◌-◌, ◌%◌, ◌/◌, ◌<◌, ◌≤◌, Bool, true, false, Option, Some, None, List, [], ◌∷◌, ◌++◌, All, Contains, length, drop, refl, ap, sym, subst, ◌∙◌, arith, append-nil, append_assoc, length-append}
+use Rattle.std.proofs.Common.{◌≡◌, ◌⊎◌, inl, inr, ⊎_elim, ℕ, zero, suc, ◌+◌, ◌-◌, ◌%◌, ◌/◌, ◌<◌, ◌≤◌, true, false, Option, Some, None, List, [], ◌∷◌, ◌++◌, All, Contains, length, drop, refl, ap, sym, subst, ◌∙◌, arith, append-nil, append_assoc, length-append}
 use Rattle.std.specs.Prelude.{flat_map, option_to_list}
 use Rattle.std.specs.List.{AllByRecursion, list_any}
 use Rattle.std.proofs.lemmas.List.{drop-append-le}
@@ -13,7 +13,7 @@ use Rattle.minute_model.specs.Span.{ungiven_of}
 use Rattle.log_model.specs.declared.lines.Break.{Break}
 use Rattle.log_model.specs.Log.{RunLog, kept_after}
 use Rattle.log_model.specs.Causes.{is_cut}
-use Rattle.log_model.specs.Course.{Told, Went, Before, has_power, second_told, before_next, went}
+use Rattle.log_model.specs.Course.{Told, Went, Before, has_power, second_told, went}
 use Rattle.log_model.specs.Spans.{spans_of, AreInOrder}
 use Rattle.log_model.proofs.Growth.{went-more}
 use Rattle.history_model.specs.Minutes.{HistoryMinute, up_to}
@@ -25,12 +25,12 @@ use Rattle.history_model.proofs.BySeconds.{same-history}
 use Rattle.history_model.proofs.Growing.{dark-history}
 use Rattle.history_model.proofs.Told.{more-told, spanned-so_far, told-next}
 use Rattle.unit_course.specs.Lines.{log_of, cut_at, found_from}
-use Rattle.unit_course.specs.Followed.{Supply, Lit, Due, Lost, MayPower, MayFail, IsDark}
+use Rattle.unit_course.specs.Followed.{Supply, Lit, Due, Lost, MayPower, MayFail}
 use Rattle.unit_course.specs.Turn.{cut_at_end, span_at}
 use Rattle.unit_course.proofs.Parts.{order-behind}
 use Rattle.run_course.specs.Moments.{and_break}
 use Rattle.run_course.specs.Followed.{Progress, Followed, Comes, IsLost}
-use Rattle.run_course.specs.Seconds.{GoesOnBy, next_told}
+use Rattle.run_course.specs.Seconds.{next_told}
 use Rattle.run_course.proofs.Lookups.{kept-by}
 use Rattle.run_course.proofs.Logs.{went-refused, found_log}
 use Rattle.run_course.proofs.Core.{Core, lit-due, found-told, found-minutes}

@@ -11,7 +11,7 @@ use Rattle.log_model.specs.declared.lines.SlotFault.{SlotFault}
 use Rattle.log_model.specs.declared.lines.Verdict.{Verdict}
 use Rattle.log_model.specs.Log.{RunLog, Phase, In, Keeping, cut_in, is_torn_in, found_in, is_accepting}
 use Rattle.log_model.specs.Slots.{Slots, Sitting, in_slot, refusal}
-use Rattle.log_model.specs.Course.{Visit, Course, Before, Moved, visits, with_slot, leaves, carried_out, answered, unmoved, moved_by, slot_told, both_told, begins, is_settling, acted, all_acted, cut_told, fresh, lit_course, has_power, second_told}
+use Rattle.log_model.specs.Course.{Visit, Course, Before, Moved, visits, with_slot, leaves, answered, unmoved, moved_by, slot_told, both_told, begins, is_settling, acted, all_acted, cut_told, fresh, lit_course, has_power, second_told}
 
 -- nothing was found yet, or there was a settling
 abbrev IsFine : Course → Type 0

@@ -10,16 +10,15 @@ use Rattle.card_image.specs.View.{CardView}
 use Rattle.history_model.specs.Minutes.{HistoryMinute, card_history, on_card, up_to}
 use Rattle.history_model.specs.Presence.{CardStart}
 use Rattle.history_model.specs.Book.{Book, all, kept, broken}
-use Rattle.history_model.proofs.Books.{history-append, history-one, history-none, on_card-minute, up_to-all, all-none, all-kept}
+use Rattle.history_model.proofs.Books.{history-append, history-one, on_card-minute, up_to-all, all-none, all-kept}
 use Rattle.history_model.proofs.Filters.{all-front, all-back}
 use Rattle.joint_rule.specs.Views.{UnitView, unit_view, owed}
 use Rattle.joint_rule.specs.Rules.{Standing, Meets}
 use Rattle.joint_rule.specs.Marked.{of_card, HasBrought}
 use Rattle.joint_rule.proofs.Pairs.{owed-above}
 use Rattle.joint_rule.proofs.Repairing.{repaired-holds}
-use Rattle.run_rule.specs.Found.{CardFound, Found, found_of, unit_seen, AnyKept}
-use Rattle.run_rule.specs.Cards.{brought_by}
-use Rattle.run_brought.specs.Stays.{NoMarkFalls, AddsLater, IsStep}
+use Rattle.run_rule.specs.Found.{Found, found_of, unit_seen, AnyKept}
+use Rattle.run_brought.specs.Stays.{AddsLater, IsStep}
 
 -- THE ENTRIES OF SOME MINUTES are among those of all
 history-front : (c : Card) (i : HistoryMinute) (is : List HistoryMinute) → card_history c (i ∷ is) ≡ on_card c i ++ card_history c is

@@ -1,10 +1,9 @@
 -- What is known of unit and card before a step and behind it, where of the step itself the rules alone are known (profile).
-use Rattle.std.specs.Prelude.{◌≡◌, ◌⊎◌, ℕ, ◌<◌, ◌≤◌, List, ◌++◌, All, Contains}
-use Rattle.activity_codec.specs.declared.entries.Entry.{Entry}
+use Rattle.std.specs.Prelude.{◌⊎◌, ℕ, ◌<◌, ◌≤◌, List, ◌++◌, All, Contains}
 use Rattle.trace_model.specs.declared.Card.{Card}
 use Rattle.tach_media.specs.Medium.{State}
 use Rattle.card_image.specs.View.{CardView}
-use Rattle.history_model.specs.Minutes.{HistoryMinute, card_history}
+use Rattle.history_model.specs.Minutes.{card_history}
 use Rattle.history_model.specs.Presence.{CardStart}
 use Rattle.history_model.specs.Book.{Book}
 use Rattle.joint_rule.specs.Views.{UnitView}
