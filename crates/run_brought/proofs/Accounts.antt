@@ -74,7 +74,7 @@ module _ (r : Recording) (c : Card) (from : ℕ) (b : Book) (order : AreInOrder 
       )
 
 -- THE LOG: a break that is not earlier shows nothing lost
-none-lost : (u m : ℕ) (b : Break) → u ≤ second_of b → shows_lost u m b ≡ false
+pub none-lost : (u m : ℕ) (b : Break) → u ≤ second_of b → shows_lost u m b ≡ false
 none-lost u m (Cut second kept failed begun) le = go (nat_lt second u) refl
   where
     go : (t : Bool) → nat_lt second u ≡ t → ((t && nat_lt kept m) && nat_le m (second / 60)) ≡ false
@@ -82,7 +82,7 @@ none-lost u m (Cut second kept failed begun) le = go (nat_lt second u) refl
     go false is = refl
 none-lost u m (Tear second slot failed begun late) le = refl
 
-or-false : (b : Bool) → (b || false) ≡ b
+pub or-false : (b : Bool) → (b || false) ≡ b
 or-false true = refl
 or-false false = refl
 
