@@ -1,5 +1,5 @@
 -- Over devices that have one image each the opening finds what a run carries.
-use Rattle.std.proofs.Common.{◌≡◌, ◌≢◌, inl, inr, ⊎_elim, ℕ, ◌/◌, ◌<◌, ◌≤◌, true, Option, Some, None, IfSome, IfOk, IfErr, List, [], ◌∷◌, is_some, Result, Ok, Err, refl, ap, subst, sym, ◌∙◌, arith}
+use Rattle.std.proofs.Common.{◌≡◌, ◌≢◌, ⊎_elim, ℕ, ◌/◌, ◌<◌, true, Option, Some, None, IfSome, IfOk, IfErr, List, [], ◌∷◌, is_some, Result, Ok, Err, refl, ap, subst, sym, ◌∙◌, arith}
 use Rattle.trace_model.specs.declared.Card.{Card}
 use Rattle.trace_model.specs.declared.Card.TheVariants.{A, B}
 use Rattle.card_layout.specs.declared.files.Fid.{Fid}
@@ -16,11 +16,10 @@ use Rattle.unit_model.specs.Image.{last_kept}
 use Rattle.unit_model.specs.Decoding.{Decodes, first_bad_place}
 use Rattle.unit_memory.specs.Identified.{IsIdentity}
 use Rattle.unit_journal.specs.Image.{IsFoundBy}
-use Rattle.history_model.specs.Presence.{CardStart}
 use Rattle.joint_rule.specs.Views.{unit_view, owed}
 use Rattle.unit_rule.specs.Rule.{started}
 use Rattle.safety_model.specs.Recording.{Recording, card_image, unit_seen}
-use Rattle.safety_model.specs.Safe.{Devices, card_of, MayBegin}
+use Rattle.safety_model.specs.Safe.{Devices, card_of}
 use Rattle.run_crew.specs.declared.cards.Known.{Known}
 use Rattle.run_rule.specs.Found.{found_of}
 use Rattle.run_rule.specs.Between.{IsCarried, IsFound, devices}
@@ -32,7 +31,7 @@ use Rattle.run_opening.specs.declared.opening.Opened.{Opened}
 use Rattle.run_opening.specs.Units.{IsLoaded}
 use Rattle.run_opening.specs.Cards.{number_by, IsTold, IsFoundOn, AreTwo, HasNumber}
 use Rattle.run_opening.specs.Opening.{IsAsItWas, MayGoOn, IsRefused}
-use Rattle.run_opening.specs.Begun.{Begin, no_number, named_by, name_of, found_in, known_of, StartsAt, IsReady, IsRefusedBy, IsBegun}
+use Rattle.run_opening.specs.Begun.{Begin, no_number, named_by, name_of, found_in, known_of, IsReady, IsRefusedBy, IsBegun}
 use Rattle.run_opening.proofs.Told.{found-days}
 
 told-one : (o p : Option (List ℕ)) → is_some p ≡ is_some o → is_some o ≡ true → (x : List ℕ) × (p ≡ Some x)

@@ -1,6 +1,6 @@
 -- What is known of a card is what its image tells.
 use Rattle.std.proofs.Common.{◌≡◌, ℕ, ◌≤◌, Option, Some, None, option_map, IfSome, List, Result, Ok, Err, length, refl, ap, subst, sym, ◌∙◌, arith}
-use Rattle.std.specs.Prelude.{is_some, is_ok}
+use Rattle.std.specs.Prelude.{is_ok}
 use Rattle.card_layout.specs.declared.files.Application.{Application}
 use Rattle.card_layout.specs.declared.files.Fid.{Fid}
 use Rattle.card_layout.specs.declared.files.TheConstants.{LARGEST_IMAGE}
@@ -15,7 +15,7 @@ use Rattle.tach_media.proofs.Runs.{both_told, from_told}
 use Rattle.card_commands.specs.Ports.{IsPort, IsJudged}
 use Rattle.card_model.specs.Days.{AreDays}
 use Rattle.card_image.specs.Fields.{file_bytes, card_days, card_number}
-use Rattle.card_image.specs.Judging.{first_bad_file, IsValid}
+use Rattle.card_image.specs.Judging.{first_bad_file}
 use Rattle.card_image.specs.Own.{own_sizes, own_number, own_bad_file, IsOwnValid}
 use Rattle.card_judge.specs.declared.looking.CardLook.{CardLook}
 use Rattle.card_judge.specs.Judged.{TellsSizes, IsLook}

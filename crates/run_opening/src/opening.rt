@@ -2,6 +2,7 @@
 ghost use Rattle.std.specs.Prelude.{◌≡◌, ◌≤◌, ◌<◌, ◌/◌, false, IfOk, OnOk, IfErr, IfSome};
 ghost use Rattle.tach_media.specs.Medium.{HasCause, revivable};
 ghost use Rattle.unit_model.specs.declared.layout.TheConstants.{IMAGE_SIZE};
+ghost use Rattle.unit_model.specs.Image.{IsUnit};
 ghost use Rattle.unit_memory.specs.Identified.{IsIdentity};
 ghost use Rattle.safety_model.specs.Recording.{Recording};
 ghost use Rattle.run_rule.specs.Between.{devices};
@@ -44,6 +45,7 @@ fn judge_each<M: Medium, C: Chip, D: Chip>(
     ensures two { IfOk result (λ opened. AreTwo opened.card_a.number opened.card_b.number) }
     ensures refused { IfErr result (IsRefused start (devices (M.state unit.old) (C.state card_a.old) (D.state card_b.old)) (devices (M.state unit.new) (C.state card_a.new) (D.state card_b.new))) }
     ensures unit { IsAsItWas (M.state unit.old) (M.state unit.new) }
+    ensures is_unit { IsUnit (M.state unit.old) → IsUnit (M.state unit.new) }
     ensures card_a { IsAsItWas (C.state card_a.old) (C.state card_a.new) }
     ensures card_b { IsAsItWas (D.state card_b.old) (D.state card_b.new) }
     ensures unit_works { OnOk result (HasCause (revivable (M.state unit.old)) (M.state unit.new) false) }
@@ -84,6 +86,7 @@ pub fn judge<M: Medium, C: Chip, D: Chip>(
     ensures two { IfOk result (λ opened. AreTwo opened.card_a.number opened.card_b.number) }
     ensures refused { IfErr result (IsRefused start (devices (M.state unit.old) (C.state card_a.old) (D.state card_b.old)) (devices (M.state unit.new) (C.state card_a.new) (D.state card_b.new))) }
     ensures unit { IsAsItWas (M.state unit.old) (M.state unit.new) }
+    ensures is_unit { IsUnit (M.state unit.old) → IsUnit (M.state unit.new) }
     ensures card_a { IsAsItWas (C.state card_a.old) (C.state card_a.new) }
     ensures card_b { IsAsItWas (D.state card_b.old) (D.state card_b.new) }
     ensures unit_works { OnOk result (HasCause (revivable (M.state unit.old)) (M.state unit.new) false) }

@@ -1,4 +1,4 @@
-use Rattle.std.proofs.Common.{◌≡◌, Result, Err, IfSome, ap, subst, sym, ◌∙◌}
+use Rattle.std.proofs.Common.{Result, Err, IfSome, ap, subst, sym, ◌∙◌}
 use Rattle.card_layout.specs.declared.files.Application.{Application}
 use Rattle.card_layout.specs.Application.{application_in}
 use Rattle.card_commands.specs.declared.loading.PortFault.{PortFault}

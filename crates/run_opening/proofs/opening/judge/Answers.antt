@@ -1,4 +1,3 @@
-use Rattle.std.proofs.Common.{◌≡◌}
 use Rattle.run_opening.proofs.Began.{begun}
 use Rattle.run_opening.proofs.opening.judge.Goals as goal
 
