@@ -1,0 +1,4 @@
+pub mod Units
+pub mod Cards
+pub mod Opening
+pub mod Begun
