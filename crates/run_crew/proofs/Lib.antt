@@ -1,2 +1,3 @@
 pub mod Sessions
 pub mod Moves
+pub mod Ended

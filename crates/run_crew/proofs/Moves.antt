@@ -421,25 +421,31 @@ dark_card : (seat : Option Seat) → card_in (powerless seat) ≡ card_in seat
 dark_card None = refl
 dark_card (Some seat) = refl
 
-pub cut-stands : (cabin : Cabin) (second from : ℕ) (leaving : Option Card) → cabin.slots.minute ≤ second / 60 → KnowsNewest (cut_off second cabin.slots) → Stands from leaving cabin → Stands from None (with_power_lost second cabin)
-cut-stands cabin second from leaving le newest h =
-    record {
-      a = record { sized = tt; numbered = tt };
-      b = record { sized = tt; numbered = tt };
-      driver = dark_seat from (with_session B None (with_session A None cabin.cards)) cabin.slots.seats.driver (all_gone cabin.cards);
-      codriver = dark_seat from (with_session B None (with_session A None cabin.cards)) cabin.slots.seats.codriver (all_gone cabin.cards);
-      apart = subst (λ (o : Option Card). AreTwo o (card_in (powerless cabin.slots.seats.codriver))) (sym (dark_card cabin.slots.seats.driver))
-          (subst (λ (o : Option Card). AreTwo (card_in cabin.slots.seats.driver) o) (sym (dark_card cabin.slots.seats.codriver)) h.apart);
-      only = λ c some. absurd (none c some);
-      left = tt;
-      past = All-weaker (EndedStands from cabin.slots.minute cabin.cards) (EndedStands from (second / 60) (with_session B None (with_session A None cabin.cards)))
-          (λ e was. ended_less from cabin.slots.minute (second / 60) cabin.cards (with_session B None (with_session A None cabin.cards)) le (λ c. inl (all_gone cabin.cards c)) e was) cabin.slots.past h.past;
-      newest = newest;
-    }
+pub cut-stands : (cabin : Cabin) (second from to : ℕ) (leaving : Option Card) → cabin.slots.minute ≤ second / 60 → KnowsNewest (cut_off second cabin.slots) → Stands from leaving cabin → Stands to None (with_power_lost second cabin)
+cut-stands cabin second from to leaving le newest h = record {
+  a = record { sized = tt; numbered = tt };
+  b = record { sized = tt; numbered = tt };
+  driver = dark_seat to (with_session B None (with_session A None cabin.cards)) cabin.slots.seats.driver (all_gone cabin.cards);
+  codriver = dark_seat to (with_session B None (with_session A None cabin.cards)) cabin.slots.seats.codriver (all_gone cabin.cards);
+  apart = subst (λ (o : Option Card). AreTwo o (card_in (powerless cabin.slots.seats.codriver))) (sym (dark_card cabin.slots.seats.driver))
+      (subst (λ (o : Option Card). AreTwo (card_in cabin.slots.seats.driver) o) (sym (dark_card cabin.slots.seats.codriver)) h.apart);
+  only = λ c some. absurd (none c some);
+  left = tt;
+  past = All-weaker (EndedStands from cabin.slots.minute cabin.cards) (EndedStands to (second / 60) (with_session B None (with_session A None cabin.cards))) (λ e was. dark e was) cabin.slots.past h.past;
+  newest = newest;
+}
   where
     none : (c : Card) → is_some (session_of (with_session B None (with_session A None cabin.cards)) c) ≡ true → ⊥
     none A some = cc
     none B some = cc
+
+    dark : (e : Ended) → EndedStands from cabin.slots.minute cabin.cards e → EndedStands to (second / 60) (with_session B None (with_session A None cabin.cards)) e
+    dark e was = record {
+      over = let over = was.over in omega (arith, over, le);
+      driver = λ late. behind_none (with_session B None (with_session A None cabin.cards)) e.minute e.present.driver (all_gone cabin.cards);
+      codriver = λ late. behind_none (with_session B None (with_session A None cabin.cards)) e.minute e.present.codriver (all_gone cabin.cards);
+      apart = was.apart;
+    }
 
 -- ---- a minute has ended
 
@@ -602,3 +608,30 @@ module _ (from m : ℕ) (card : Card) (old new : Accepted) (cabin : Cabin) (leav
         (λ e was. ended_on cabin.slots.minute e was) cabin.slots.past h.past;
     newest = h.newest;
   }
+
+-- ---- from a later minute on
+
+later_answers : (from to : ℕ) → from ≤ to → (newest : Option ℕ) (session : Option Accepted) → AnswersTo from newest session → AnswersTo to newest session
+later_answers from to le None None answers = tt
+later_answers from to le None (Some a) answers = absurd answers
+later_answers from to le (Some n) None answers = absurd answers
+later_answers from to le (Some n) (Some a) (inl below) = inl below
+later_answers from to le (Some n) (Some a) (inr kept) = inr (omega (arith, kept, le))
+
+later_seat : (from to : ℕ) (cards : Cards) → from ≤ to → (seat : Option Seat) → SeatAnswers from cards seat → SeatAnswers to cards seat
+later_seat from to cards le None answers = tt
+later_seat from to cards le (Some seat) answers = later_answers from to le seat.newest (session_of cards seat.card) answers
+
+pub later-stands : (from to : ℕ) (leaving : Option Card) (cabin : Cabin) → from ≤ to → Stands from leaving cabin → Stands to leaving cabin
+later-stands from to leaving cabin le h = record {
+  a = h.a;
+  b = h.b;
+  driver = later_seat from to cabin.cards le cabin.slots.seats.driver h.driver;
+  codriver = later_seat from to cabin.cards le cabin.slots.seats.codriver h.codriver;
+  apart = h.apart;
+  only = h.only;
+  left = h.left;
+  past = All-weaker (EndedStands from cabin.slots.minute cabin.cards) (EndedStands to cabin.slots.minute cabin.cards)
+      (λ e was. record { over = was.over; driver = λ late. was.driver (omega (arith, late, le)); codriver = λ late. was.codriver (omega (arith, late, le)); apart = was.apart }) cabin.slots.past h.past;
+  newest = h.newest;
+}

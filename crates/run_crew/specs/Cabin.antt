@@ -1,5 +1,5 @@
 -- Which card is in which slot with which session (profile).
-use Rattle.std.specs.Prelude.{◌≡◌, ◌⊎◌, ℕ, ◌+◌, ◌/◌, ◌<◌, ◌≤◌, Bool, true, false, Option, Some, None, Result, IfSome, List, All, is_some, if◌then◌else◌}
+use Rattle.std.specs.Prelude.{◌≡◌, ◌⊎◌, ℕ, ◌+◌, ◌/◌, ◌<◌, ◌≤◌, Bool, true, false, Option, Some, None, Result, IfSome, List, All, is_some, slice_get, if◌then◌else◌}
 use Rattle.activity_codec.specs.declared.values.Slot.{Slot}
 use Rattle.activity_codec.specs.declared.values.Slot.TheVariants.{Driver, CoDriver}
 use Rattle.trace_model.specs.declared.Card.{Card}
@@ -133,6 +133,11 @@ pub record Stands (from : ℕ) (leaving : Option Card) (cabin : Cabin) : Type 0 
   pub left : IfSome leaving (SitsNowhere cabin.slots.seats)
   pub past : All (EndedStands from cabin.slots.minute cabin.cards) cabin.slots.past
   pub newest : KnowsNewest cabin.slots
+
+-- The minutes from one on and before another have ended one after the other, and are the newest that are kept.
+pub record KnowsEnded (from to : ℕ) (slots : Kept) : Type 0 where
+  pub few : to ≤ from + 4
+  pub each : (k : ℕ) → k + from < to → (ended : Ended) × (slice_get slots.past k ≡ Some ended) × (ended.minute + k + 1 ≡ to)
 
 -- who was present in a minute: two cards at most, and each that has a session can keep it
 pub record MayBeKept (cards : Cards) (minute : ℕ) (present : Present) : Type 0 where

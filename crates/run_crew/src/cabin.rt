@@ -1,11 +1,11 @@
 //! The two slots of a run, with the sessions of the cards in them.
-ghost use Rattle.std.specs.Prelude.{◌≡◌, ℕ, ◌/◌, ◌≤◌, true, false, Option, Some, None, Ok, is_some};
+ghost use Rattle.std.specs.Prelude.{◌≡◌, ℕ, ◌+◌, ◌/◌, ◌<◌, ◌≤◌, true, false, Option, Some, None, Ok, is_some};
 ghost use Rattle.trace_model.specs.declared.Card.{Card};
 ghost use Rattle.slot_machine.specs.Calls.{seat_in, card_in, is_card, present_in};
 ghost use Rattle.slot_machine.specs.Kept.{IsFree, nothing_yet};
 ghost use Rattle.log_model.specs.Slots.{other_slot};
 ghost use Rattle.run_crew.specs.Cards.{known_of, session_of};
-ghost use Rattle.run_crew.specs.Cabin.{Stands, SitsNowhere, MayBeKept, with_card_in, with_sizes_of, with_accepted, with_slot_left, with_session_of, torn_out, with_power_lost, with_minute_ended, slot_with, number_of_seat, crew_of};
+ghost use Rattle.run_crew.specs.Cabin.{Stands, SitsNowhere, MayBeKept, KnowsEnded, with_card_in, with_sizes_of, with_accepted, with_slot_left, with_session_of, torn_out, with_power_lost, with_minute_ended, slot_with, number_of_seat, crew_of};
 
 use crate::cards::{Accepted, Cards, Crew, Known};
 use activity_codec::Slot;
@@ -105,7 +105,7 @@ impl Cabin {
     pub fn cut(&mut self, second: u32)
         requires minute { self.old.slots.minute ≤ second / 60 }
         ensures kept { self.new ≡ with_power_lost second self.old }
-        ensures stands { (from : ℕ) (leaving : Option Card) → Stands from leaving self.old → Stands from None self.new }
+        ensures stands { (from to : ℕ) (leaving : Option Card) → Stands from leaving self.old → Stands to None self.new }
     {
         self.slots.cut(second);
         self.cards.set_session(Card::A, None);
@@ -117,6 +117,7 @@ impl Cabin {
         requires minute { self.old.slots.minute ≤ minute }
         ensures kept { self.new ≡ with_minute_ended minute self.old }
         ensures stands { (from : ℕ) → from ≤ minute → Stands from None self.old → Stands from None self.new }
+        ensures ended { (from : ℕ) → minute < from + 4 → KnowsEnded from minute self.old.slots → KnowsEnded from (minute + 1) self.new.slots }
     {
         self.slots.end_minute(minute);
     }
