@@ -7,3 +7,10 @@ pub mod PowerBack
 pub mod PutIn
 pub mod Ported
 pub mod Noted
+pub mod Inserted
+pub mod Enters
+pub mod RowAlone
+pub mod Passed
+pub mod CardNoted
+pub mod Told
+pub mod TornOut

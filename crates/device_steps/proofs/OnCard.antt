@@ -46,21 +46,21 @@ use Rattle.unit_rule.proofs.Moves.{ended}
 use Rattle.device_steps.specs.Rule.{Both, opened, number_of, unit_seen, card_seen, AnyString, CardHolds}
 use Rattle.device_steps.specs.OnCard.{IsCarried, IsReady, IsOnItsCard}
 
-abbrev AnyStep : ℕ → Held → List Entry → Held → Type 0
+abbrev pub AnyStep : ℕ → Held → List Entry → Held → Type 0
 AnyStep next old taken new = Unit {0}
 
-any-goes : EntriesGoOn AnyString AnyStep
+pub any-goes : EntriesGoOn AnyString AnyStep
 any-goes = record { later = λ next n full x le is. tt; added = λ next full taken x y is step. tt }
 
-own-is : (app : Application) (x : List ℕ) → own_sizes x ≡ app → own_view x ≡ card_view app x
+pub own-is : (app : Application) (x : List ℕ) → own_sizes x ≡ app → own_view x ≡ card_view app x
 unfolding own_view
 own-is app x is = ap (λ (a : Application). card_view a x) is
 
-session-is : (app : Application) (x : List ℕ) → (card_view app x).session ≡ session_time app x
+pub session-is : (app : Application) (x : List ℕ) → (card_view app x).session ≡ session_time app x
 unfolding card_view
 session-is app x = refl
 
-mark-is : (app : Application) (x : List ℕ) → (card_view app x).mark ≡ end_mark app x
+pub mark-is : (app : Application) (x : List ℕ) → (card_view app x).mark ≡ end_mark app x
 unfolding card_view
 mark-is app x = refl
 
@@ -69,7 +69,7 @@ unfolding card_view
 word-is app x = refl
 
 -- a keep leaves the sizes
-sizes-same : (app : Application) (P : List Day → Option Vehicle → Type 0) (x y : List ℕ) → IsCard app P x y → own_sizes y ≡ own_sizes x
+pub sizes-same : (app : Application) (P : List Day → Option Vehicle → Type 0) (x y : List ℕ) → IsCard app P x y → own_sizes y ≡ own_sizes x
 unfolding own_sizes files_of
 sizes-same app P x y is = ap application_of (before_days app P x y is APPLICATION_RANGE.base APPLICATION_RANGE.len (omega arith))
 

@@ -1,4 +1,4 @@
--- A card's row is begun: the rules of the unit and of both cards.
+-- A card's row is begun: the rules of the unit and of the other card.
 use Rattle.std.proofs.Common.{◌≡◌, ◌≢◌, ℕ, ◌/◌, ◌<◌, ◌≤◌, Bool, true, false, Option, Some, None, is_some, option_map, List, [], ◌∷◌, ◌++◌, IfSome, refl, ap, subst, ◌∙◌, sym, arith}
 use Rattle.std.specs.Prelude.{OnOk, Result, Ok, Err}
 use Rattle.activity_codec.specs.declared.entries.Entry.{Entry}
@@ -14,20 +14,17 @@ use Rattle.unit_journal.specs.declared.notes.Notes.{Notes}
 use Rattle.unit_journal.specs.Image.{Agrees}
 use Rattle.log_model.specs.declared.lines.Mark.{Mark}
 use Rattle.history_model.specs.Book.{Book}
-use Rattle.history_model.proofs.Books.{mark-earlier}
 use Rattle.joint_rule.specs.Views.{UnitView, unit_view, other}
-use Rattle.joint_rule.specs.Device.{LeavesViews, EndsWith}
-use Rattle.joint_rule.specs.Steps.{IsBeginning, IsBegun}
-use Rattle.joint_rule.specs.Rules.{Standing, Out, In, IsEntered}
+use Rattle.joint_rule.specs.Device.{LeavesViews}
+use Rattle.joint_rule.specs.Steps.{IsBeginning}
+use Rattle.joint_rule.specs.Rules.{Standing}
 use Rattle.joint_rule.proofs.Viewed.{seen-run}
-use Rattle.joint_rule.proofs.EnterLaws.{begin-dark, begin-card, begin-other, begin-other_dark}
-use Rattle.joint_steps.proofs.Beginning.{first_beginning, second_beginning, first_begun, second_begun}
+use Rattle.joint_rule.proofs.EnterLaws.{begin-other, begin-other_dark}
+use Rattle.joint_steps.proofs.Beginning.{first_beginning, second_beginning}
 use Rattle.unit_rule.specs.Rule.{Started}
 use Rattle.unit_rule.specs.Marks.{Holds}
-use Rattle.unit_rule.proofs.Moves.{ended}
 use Rattle.unit_rule.proofs.Elsewhere.{rows-elsewhere, holds-elsewhere}
-use Rattle.device_steps.specs.Rule.{Both, opened, number_of, unit_seen, card_seen, AnyString, CardHolds, IsKeptUp, IsRowTaken}
-use Rattle.device_steps.proofs.MinuteKept.{any-later}
+use Rattle.device_steps.specs.Rule.{Both, opened, number_of, unit_seen, AnyString, CardHolds, IsKeptUp}
 
 -- the unit's rule, whatever the cards
 pub begun-holds : (s : Started) {U V : State} (due : ℕ) (b : Book) (marks : List Mark) (number : List ℕ) (session : ℕ) (spared : Option (List ℕ)) → IsCoherent U → LeavesOnly U V (IsRowBeginning number session spared) → Holds s due b marks U → Holds s due b marks V
@@ -60,34 +57,6 @@ module _ (r : Both) (c : Card) (number : List ℕ) (named : number ≡ number_of
   begins : LeavesViews (unit_seen r U) (unit_seen r V) (IsBeginning c)
   begins = seen-run (unit_view (number_of r A) (number_of r B)) (λ x d. IsBeginning c (unit_view (number_of r A) (number_of r B) x) (unit_view (number_of r A) (number_of r B) d)) (IsBeginning c) U V whole
       (weaken run (λ x d told k. beginning c x d told (subst (λ (o : Option (List ℕ)). IsRowBeginning (number_of r c) session o x d) others (subst (λ (n : List ℕ). IsRowBeginning n session spared x d) named k)))) (λ x d k. k)
-
-  begun : (c' : Card) (x d : List ℕ) → U.image ≡ Some x → IsRowBegun (number_of r c') session (Some (number_of r (other c'))) x d → IsBegun c' session (unit_view (number_of r A) (number_of r B) x) (unit_view (number_of r A) (number_of r B) d)
-  begun A x d told k = first_begun (number_of r A) (number_of r B) session x d r.two (known x told) k
-  begun B x d told k = second_begun (number_of r A) (number_of r B) session x d r.two (known x told) k
-
-  pub ends : IsCoherent V → V.works ≡ true → IfSome U.image (λ x. IfSome V.image (IsRowBegun number session spared x)) → U.works ≡ true → EndsWith (unit_seen r U) (unit_seen r V) (IsBegun c session)
-  ends after works said before = record {
-    works = works;
-    now = λ v on.
-        let was = ended (IsRowBegun number session spared) whole after works run said on.0 on.1 in
-        let told : U.image ≡ Some was.0 = whole.only was.0 before was.1 in (
-          unit_view (number_of r A) (number_of r B) was.0,
-          (was.0, was.1, refl),
-          subst (IsBegun c session (unit_view (number_of r A) (number_of r B) was.0)) on.2
-              (begun c was.0 on.0 told (subst (λ (o : Option (List ℕ)). IsRowBegun (number_of r c) session o was.0 on.0) others (subst (λ (n : List ℕ). IsRowBegun n session spared was.0 on.0) named was.2))),
-        );
-  }
-
-  -- the card's own rule
-  pub taken-mine : (X : State) (s : Started) (due : ℕ) (b : Book) (marks : List Mark) → Holds s due b marks U → due ≤ session / 60 → 0 < session → (newest : ℕ) → CardHolds r c b Out [] [] U X → IsEntered (opened r c).start (opened r c).began session newest (card_seen X) → (failed : Bool)
-      → (failed ≡ false → EndsWith (unit_seen r U) (unit_seen r V) (IsBegun c session)) → IsRowTaken r c b session newest failed V X
-  taken-mine X s due b marks h late positive newest rule entered failed ends_ = record {
-    lit = λ well. begin-card c (opened r c).start AnyString (opened r c).began b session newest early entered begins any-later (ends_ well) positive rule;
-    dark = begin-dark c (opened r c).start AnyString (opened r c).began b session newest early entered begins rule.dark;
-  }
-    where
-      early : (u : UnitView) → (unit_seen r U).may_leave u → u.last < session / 60
-      early u on = let held = h.unit_holds (number_of r A) (number_of r B) in omega (arith, late, mark-earlier s.first due b u.last held.order (held.now u on).mark)
 
   -- and the other card's
   pub taken-other : (Z : State) (b : Book) (z : Standing) (m d : List Entry) (failed : Bool) → CardHolds r (other c) b z m d U Z → IsKeptUp r (other c) b z m d failed V Z

@@ -2,3 +2,4 @@ pub mod Rule
 pub mod OnCard
 pub mod Minute
 pub mod Entering
+pub mod CardNotes

@@ -10,16 +10,17 @@ use Rattle.history_model.specs.Minutes.{HistoryMinute, on_card}
 use Rattle.history_model.specs.Presence.{CardStart}
 use Rattle.history_model.specs.Book.{Book, kept, broken}
 use Rattle.card_image.specs.View.{CardView, Held}
-use Rattle.card_image.specs.Own.{own_view, own_number}
+use Rattle.card_image.specs.Own.{own_view}
 use Rattle.joint_rule.specs.Views.{UnitView, unit_view, other}
 use Rattle.joint_rule.specs.Device.{Seen, seen}
 use Rattle.joint_rule.specs.Rules.{Standing, In, Out, CardDark, CardRule}
 use Rattle.unit_rule.specs.Rule.{Started}
 use Rattle.unit_rule.specs.Marks.{Holds}
 
--- a card as the opening found it: its image, what it brings, and the clock
+-- A card as the opening found it: its number, what it brings, and the clock. A card that is not valid may be named by any list that is no
+-- card's number: no row is its own then.
 pub record Opened : Type 0 where
-  pub image : List ℕ
+  pub number : List ℕ
   pub start : CardStart
   pub began : ℕ
 
@@ -27,14 +28,14 @@ pub record Opened : Type 0 where
 pub record Both : Type 0 where
   pub card_a : Opened
   pub card_b : Opened
-  pub two : own_number card_a.image ≢ own_number card_b.image
+  pub two : card_a.number ≢ card_b.number
 
 abbrev pub opened : Both → Card → Opened
 opened r A = r.card_a
 opened r B = r.card_b
 
 abbrev pub number_of : Both → Card → List ℕ
-number_of r c = own_number (opened r c).image
+number_of r c = (opened r c).number
 
 -- the unit, by what its images show where the cards have these numbers
 abbrev pub unit_seen : Both → State → Seen UnitView

@@ -19,7 +19,8 @@ use tacho_types::FullCardNumber;
 use trace_model::Card;
 use unit_journal::Journal;
 
-/// Begins the row of a card that was inserted, whose session began then. The row of the other card's number is spared.
+/// Begins the row of a card that was inserted, whose session began then. The row of the number that is spared stays: the other card's,
+/// where that has one.
 ///
 /// # Errors
 ///
@@ -43,8 +44,7 @@ pub fn begin<M: Medium, C: Chip, D: Chip>(
     ensures row { OnOk result (IfSome (M.state unit.new).image (HasRow (card_number_bytes number.now))) }
     ensures spares { (n : List ℕ) → option_map (λ s. card_number_bytes s.now) spared.entry ≡ Some n → n ≢ card_number_bytes number.now → IfSome (M.state unit.old).image (HasRow n) → OnOk result (IfSome (M.state unit.new).image (HasRow n)) }
     ensures holds { (s : Started) (due : ℕ) (b : Book) (marks : List Mark) → Holds s due b marks (M.state unit.old) → Holds s due b marks (M.state unit.new) }
-    ensures mine { (r : Both) (s : Started) (due : ℕ) (b : Book) (marks : List Mark) (newest : ℕ) → card_number_bytes number.now ≡ number_of r which → option_map (λ s. card_number_bytes s.now) spared.entry ≡ Some (number_of r (other which))
-        → Holds s due b marks (M.state unit.old) → due ≤ session / 60 → CardHolds r which b Out [] [] (M.state unit.old) (C.state mine.now) → IsEntered (opened r which).start (opened r which).began session newest (card_seen (C.state mine.now))
+    ensures mine { (r : Both) (s : Started) (due : ℕ) (b : Book) (marks : List Mark) (newest : ℕ) → card_number_bytes number.now ≡ number_of r which → Holds s due b marks (M.state unit.old) → due ≤ session / 60 → CardHolds r which b Out [] [] (M.state unit.old) (C.state mine.now) → IsEntered (opened r which).start (opened r which).began session newest (card_seen (C.state mine.now))
         → IsRowTaken r which b session newest (is_err result) (M.state unit.new) (C.state mine.now) }
     ensures other { (r : Both) (s : Started) (due : ℕ) (b : Book) (marks : List Mark) (z : Standing) (m d : List Entry) → card_number_bytes number.now ≡ number_of r which → option_map (λ s. card_number_bytes s.now) spared.entry ≡ Some (number_of r (other which))
         → CardHolds r (other which) b z m d (M.state unit.old) (D.state others.now) → IsKeptUp r (other which) b z m d (is_err result) (M.state unit.new) (D.state others.now) }

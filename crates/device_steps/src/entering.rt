@@ -1,5 +1,6 @@
 //! A card is put into a slot.
-ghost use Rattle.std.specs.Prelude.{◌≡◌, ◌<◌, ◌≤◌, ◌+◌, ◌/◌, ◌^◌, true, IfSome};
+ghost use Rattle.std.specs.Prelude.{◌≡◌, ◌<◌, ◌≤◌, ◌+◌, ◌/◌, ◌^◌, ℕ, length, true, None, List, [], IfOk, IfSome, is_some};
+ghost use Rattle.activity_codec.specs.declared.entries.Entry.{Entry};
 ghost use Rattle.tach_media.specs.Medium.{LeavesOnly};
 ghost use Rattle.card_commands.specs.Ports.{IsPort};
 ghost use Rattle.card_layout.specs.Application.{IsApplication};
@@ -9,8 +10,15 @@ ghost use Rattle.card_session.specs.declared.words.TheConstants.{LATEST_MINUTE};
 ghost use Rattle.card_session.specs.Inserting.{MayInsert, AreOwed};
 ghost use Rattle.unit_model.specs.Image.{IsUnit};
 ghost use Rattle.unit_journal.specs.Image.{Agrees};
+ghost use Rattle.log_model.specs.declared.lines.Mark.{Mark};
+ghost use Rattle.history_model.specs.Book.{Book};
+ghost use Rattle.joint_rule.specs.Rules.{Standing, Out, IsEntered};
+ghost use Rattle.joint_rule.specs.Views.{other};
+ghost use Rattle.unit_rule.specs.Rule.{Started};
+ghost use Rattle.unit_rule.specs.Marks.{Holds};
+ghost use Rattle.device_steps.specs.Rule.{Both, opened, card_seen, CardHolds};
 ghost use Rattle.device_steps.specs.OnCard.{Anything};
-ghost use Rattle.device_steps.specs.Entering.{of_card, IsEntering, IsInsertedWith};
+ghost use Rattle.device_steps.specs.Entering.{of_card, IsEntering, IsInsertedWith, IsAsked};
 
 use activity_codec::Owed;
 use card_commands::Port;
@@ -147,6 +155,14 @@ fn enter_by<M: Medium, C: Medium>(
     }
 }
 
+// How many bytes a registration has, which is 15.
+fn length_of(registration: &Registration) -> usize
+    ensures { length registration.now.0 ≡ 15 }
+{
+    let bytes: &[u8] = &registration.0;
+    bytes.len()
+}
+
 /// Puts in a card of these sizes: it is judged, the entries that the unit owes to it are put on it, and a session is opened. The
 /// row of its number is not begun yet: that comes behind the note of the insertion (`begin`).
 ///
@@ -174,9 +190,18 @@ pub fn enter<M: Medium, C: Chip, D: Chip>(
     requires last { now.0 / 60 < LATEST_MINUTE }
     requires fits { odometer.0 < 2 ^ 24 }
     ensures enters { IsEntering app registration.now odometer.0 now.0 (M.state unit.old) (M.state unit.new) (C.state card.old) (C.state card.new) result }
+    ensures holds { (s : Started) (due : ℕ) (b : Book) (marks : List Mark) → Holds s due b marks (M.state unit.old) → Holds s due b marks (M.state unit.new) }
+    ensures other { (r : Both) (b : Book) (z : Standing) (m d : List Entry) → CardHolds r (other which) b z m d (M.state unit.old) (D.state others.now) → CardHolds r (other which) b z m d (M.state unit.new) (D.state others.now) }
+    ensures mine { (r : Both) (s : Started) (due : ℕ) (b : Book) (marks : List Mark) → Holds s due b marks (M.state unit.old) → b.maybe ≡ None → due ≤ now.0 / 60 → is_some (M.state unit.old).image ≡ true → is_some (C.state card.old).image ≡ true
+        → IfSome (M.state unit.old).image (λ u. IfSome (C.state card.old).image (IsAsked r which app u)) → CardHolds r which b Out [] [] (M.state unit.old) (C.state card.old) → CardHolds r which b Out [] [] (M.state unit.new) (C.state card.new) }
+    ensures entered { (r : Both) (s : Started) (due : ℕ) (b : Book) (marks : List Mark) → Holds s due b marks (M.state unit.old) → b.maybe ≡ None → due ≤ now.0 / 60 → is_some (M.state unit.old).image ≡ true → is_some (C.state card.old).image ≡ true
+        → IfSome (M.state unit.old).image (λ u. IfSome (C.state card.old).image (IsAsked r which app u)) → CardHolds r which b Out [] [] (M.state unit.old) (C.state card.old)
+        → IfOk result (λ e. IsEntered (opened r which).start (opened r which).began now.0 e.session.minute (card_seen (C.state card.new))) }
     ensures port { IsPort app None (C.card card.new) (C.state card.new) }
+    ensures long { length registration.now.0 ≡ 15 }
     ensures most { (C.state card.new).clock ≤ (C.state card.old).clock + (DAYS_MOST + 84) }
 {
+    let _bytes = length_of(registration);
     let mut port = Port::resume(&mut *card, app);
     enter_by(unit, journal, &mut port, &app, now, registration, odometer)
 }

@@ -1,19 +1,35 @@
-ghost use Rattle.std.specs.Prelude.{◌≡◌, ℕ, suc, ◌<◌, true, Some, IfSome, is_some, List, [], ◌∷◌, ◌++◌};
+ghost use Rattle.std.specs.Prelude.{◌≡◌, ◌↔◌, ℕ, suc, ◌/◌, ◌<◌, ◌≤◌, true, Some, None, IfSome, is_some, List, [], ◌∷◌, ◌++◌, length, All};
 ghost use Rattle.activity_codec.specs.declared.entries.Entry.{Entry};
 ghost use Rattle.trace_model.specs.declared.Card.{Card};
 ghost use Rattle.tach_media.specs.Medium.{LeavesOnly, Unchanged};
+ghost use Rattle.tacho_types.specs.declared.texts.Registration.{Registration};
+ghost use Rattle.card_layout.specs.declared.files.Application.{Application};
+ghost use Rattle.card_layout.specs.Application.{IsApplication};
+ghost use Rattle.card_layout.specs.Files.{image_size_of};
+ghost use Rattle.card_model.specs.Changes.{trimmed};
+ghost use Rattle.card_model.specs.Days.{AreDays};
+ghost use Rattle.card_image.specs.Fields.{card_days, end_mark};
+ghost use Rattle.card_image.specs.Judging.{IsValid};
+ghost use Rattle.card_image.specs.Own.{own_view};
+ghost use Rattle.card_image.specs.View.{card_view};
+ghost use Rattle.card_session.specs.Inserting.{AreOwed, IsCardInserted};
+ghost use Rattle.card_session.specs.Repairs.{BeginsLater, lacked_by};
 ghost use Rattle.unit_model.specs.Image.{last_kept};
 ghost use Rattle.unit_notes.specs.Journal.{LeavesJournal};
 ghost use Rattle.log_model.specs.declared.lines.Mark.{Mark};
 ghost use Rattle.history_model.specs.Book.{Book, found};
-ghost use Rattle.joint_rule.specs.Rules.{Standing, In, Torn};
+ghost use Rattle.history_model.specs.Presence.{Start, card_start, newest_minute};
+ghost use Rattle.joint_rule.specs.Rules.{Standing, In, Out, Torn, IsEntered};
+ghost use Rattle.joint_rule.specs.Views.{beyond};
 ghost use Rattle.unit_rule.specs.Rule.{Started};
 ghost use Rattle.unit_rule.specs.Marks.{Holds};
 ghost use Rattle.card_retention.specs.Expected.{with_entry};
-ghost use Rattle.card_session.specs.Sessions.{Session};
+ghost use Rattle.card_session.specs.Sessions.{Session, IsSession};
 ghost use Rattle.card_session.specs.Overwriting.{and_entry};
 ghost use Rattle.card_steps.specs.Shows.{IsDone};
-ghost use Rattle.device_steps.specs.Rule.{Both, CardHolds, CardRests};
+ghost use Rattle.device_steps.specs.Rule.{Both, opened, card_seen, CardHolds, CardRests};
+ghost use Rattle.device_steps.specs.CardNotes.{IsNote, IsSound};
+ghost use Rattle.device_steps.specs.Entering.{HasMarkedDay};
 ghost use Rattle.device_steps.specs.OnCard.{IsCarried, IsReady};
 ghost use Rattle.device_steps.specs.Minute.{Carry, and_kept, IsSitting, IsNotIn};
 
@@ -65,4 +81,53 @@ pub fn a_note_on_the_unit_leaves_the_rules<M: Medium, N: Medium, C: Chip>(
         → CardHolds r c b z m d (M.state before.now) (C.state card.now) → CardHolds r c b z m d (N.state after.now) (C.state card.now) }
     ensures rests { (r : Both) (c : Card) (s : Started) (due : ℕ) (b : Book) (marks : List Mark) (z : Standing) → LeavesOnly (M.state before.now) (N.state after.now) LeavesJournal → Holds s due b marks (M.state before.now)
         → CardRests r c b z (M.state before.now) (C.state card.now) → CardRests r c b z (N.state after.now) (C.state card.now) }
+{}
+
+/// A card that was torn out, or accepted until then, stands as one that was never there: what an insertion asks.
+pub fn a_torn_card_is_out<M: Medium, C: Chip>(unit: &M, card: &C)
+    ensures { (r : Both) (c : Card) (b : Book) (z : Standing) (d : List Entry) → CardHolds r c b z [] d (M.state unit.now) (C.state card.now) → CardHolds r c b Out [] [] (M.state unit.now) (C.state card.now) }
+{}
+
+/// A note on a card, of an event or a place, leaves its rule: while it works, that of a card which is accepted too. Where it failed such
+/// a card is torn out.
+pub fn a_note_on_a_card_leaves_the_rules<M: Medium, C: Chip, D: Chip>(
+    unit: &M,
+    before: &C,
+    after: &D,
+)
+    ensures card { (r : Both) (c : Card) (b : Book) (z : Standing) (m d : List Entry) (app : Application) → IsApplication app → IfSome (C.state before.now).image (IsSound app) → LeavesOnly (C.state before.now) (D.state after.now) (IsNote app)
+        → (D.state after.now).works ≡ true → CardHolds r c b z m d (M.state unit.now) (C.state before.now) → CardHolds r c b z m d (M.state unit.now) (D.state after.now) }
+    ensures torn { (r : Both) (c : Card) (b : Book) (time newest floor : ℕ) (app : Application) → IsApplication app → IfSome (C.state before.now).image (IsSound app) → LeavesOnly (C.state before.now) (D.state after.now) (IsNote app)
+        → CardHolds r c b (In time newest) [] [] (M.state unit.now) (C.state before.now) → CardHolds r c b (Torn time newest floor) [] [] (M.state unit.now) (D.state after.now) }
+    ensures rests { (r : Both) (c : Card) (b : Book) (z : Standing) (app : Application) → IsApplication app → IfSome (C.state before.now).image (IsSound app) → LeavesOnly (C.state before.now) (D.state after.now) (IsNote app)
+        → CardRests r c b z (M.state unit.now) (C.state before.now) → CardRests r c b z (M.state unit.now) (D.state after.now) }
+{}
+
+/// A valid card is valid at each moment of a note of an event or a place, shows the same, and goes by the same sizes.
+pub fn a_noted_card_is_valid()
+    ensures { (app : Application) (x y : List ℕ) → IsApplication app → IsSound app x → IsNote app x y → IsSound app y × (card_view app y ≡ card_view app x) }
+{}
+
+/// The days of a valid card are days, each later than the one before it.
+pub fn a_valid_card_has_days()
+    ensures { (app : Application) (x : List ℕ) → IsApplication app → image_size_of app ≤ length x → IsValid app x → AreDays 0 (card_days app x) }
+{}
+
+/// What an insertion asks of the entries that are owed to a card holds where the newest day up to its end mark is that of the mark.
+pub fn a_marked_day_begins_later()
+    ensures { (app : Application) (x : List ℕ) (now : ℕ) (owed : List Entry) → AreOwed now owed → HasMarkedDay app x → BeginsLater (end_mark app x) (lacked_by app x owed) (trimmed (end_mark app x) (card_days app x)) }
+{}
+
+/// A card that was put in answers a newest minute that is earlier than a minute behind the words at its start exactly where that of the
+/// history is.
+pub fn an_accepted_card_is_told<M: Medium, C: Chip>(unit: &M, card: &C)
+    ensures { (start : Start) (r : Both) (c : Card) (b : Book) (now newest : ℕ) → card_start start c ≡ (opened r c).start → b.maybe ≡ None → CardHolds r c b Out [] [] (M.state unit.now) (C.state card.now)
+        → IsEntered (opened r c).start (opened r c).began now newest (card_seen (C.state card.now)) → (u x : List ℕ) → (M.state unit.now).may_leave u → (C.state card.now).may_leave x → All (λ i. i.minute ≤ last_kept u) b.sure → last_kept u < now / 60
+        → (m : ℕ) → (card_start start c).word < m → (newest < m) ↔ (newest_minute start b.sure c now < m) }
+{}
+
+/// The first time a card answers no minute that is earlier than the words at its start.
+pub fn a_first_acceptance_knows_its_words()
+    ensures { (app : Application) (registration : Registration) (odometer now : ℕ) (owed : List Entry) (x y : List ℕ) (t : Session) → IsApplication app → image_size_of app ≤ length x → length registration.0 ≡ 15 → IsSound app x
+        → IsCardInserted app registration odometer owed now x y → t.application ≡ app → IsSession t y → beyond (own_view x) ≤ t.minute }
 {}

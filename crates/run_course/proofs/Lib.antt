@@ -7,3 +7,6 @@ pub mod Ties
 pub mod Core
 pub mod Told
 pub mod Steps
+pub mod Within
+pub mod New
+pub mod Rows

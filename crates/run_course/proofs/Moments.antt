@@ -60,7 +60,7 @@ pub later-lines : LaterLinesChangeNoMoment
 later-lines log later before s n same = course-same log later s n same before
 
 -- AN ACTION MORE
-all-acted_parts : (log : RunLog) (s : TraceSecond) (k : ℕ) (xs ys : List Action) (c : Course) → all_acted log s k (xs ++ ys) c ≡ all_acted log s (k + length xs) ys (all_acted log s k xs c)
+pub all-acted_parts : (log : RunLog) (s : TraceSecond) (k : ℕ) (xs ys : List Action) (c : Course) → all_acted log s k (xs ++ ys) c ≡ all_acted log s (k + length xs) ys (all_acted log s k xs c)
 all-acted_parts log s k [] ys c = let e : k ≡ k + 0 = omega arith in ap (λ (m : ℕ). all_acted log s m ys c) e
 all-acted_parts log s k (x ∷ xs) ys c =
     let e : k + 1 + length xs ≡ k + suc (length xs) = omega arith in

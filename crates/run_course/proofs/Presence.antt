@@ -18,8 +18,9 @@ use Rattle.log_model.specs.Slots.{Slots, Sitting, same_card, in_slot, is_accepte
 use Rattle.log_model.specs.Course.{Told, with_slot, powerless, card_in}
 use Rattle.history_model.specs.Minutes.{HistoryMinute}
 use Rattle.history_model.specs.Presence.{Start, card_start, expected_entries, newest_by, newest_minute, is_present, present_sitting, in_minute, present_in as present_by_history}
-use Rattle.history_model.proofs.Filters.{filter-none}
+use Rattle.history_model.proofs.Filters.{filter-none, all-front}
 use Rattle.history_model.proofs.Stilled.{present-still}
+use Rattle.unit_course.specs.Turn.{cut_at_end}
 use Rattle.slot_machine.specs.declared.seats.Seat.{Seat}
 use Rattle.slot_machine.specs.declared.seats.Ended.{Ended}
 use Rattle.slot_machine.specs.declared.seats.Lefts.{Lefts}
@@ -28,7 +29,7 @@ use Rattle.slot_machine.specs.Calls.{Seats, SitsAlike, Agrees, present_in, prese
 use Rattle.slot_machine.specs.Calls as seats
 use Rattle.slot_machine.specs.Kept.{Kept, IsFree, left_in, with_left, put_in, taken, cut_off, minute_ended}
 use Rattle.slot_machine.proofs.Newest.{new-knows, put-knows, take-knows, cut-knows, end-knows}
-use Rattle.run_course.specs.Presence.{IsNewestAt, IsNewest, SitsAs, Falls, has_left, present_at, EndsWith, SlotsTell, SlotsAgree, SlotsTellWhoIsPresent, NobodySits, ACardIsPutIn, ACardIsTakenOut, PowerIsLost, ASecondHasGone, TheMinuteGoesOn, AMinuteEnds, TimePasses, MinutesAreKept, WhatWasKeptIsFound}
+use Rattle.run_course.specs.Presence.{IsNewestAt, IsNewest, SitsAs, Falls, has_left, present_at, EndsWith, SlotsTell, SlotsAgree, SlotsTellWhoIsPresent, NobodySits, ACardIsPutIn, ACardIsTakenOut, PowerIsLost, ASecondHasGone, TheLastSecondIsCut, TheMinuteGoesOn, AMinuteEnds, TimePasses, MinutesAreKept, WhatWasKeptIsFound}
 
 -- CARDS
 same-self : (c : Card) → same_card c c ≡ true
@@ -482,6 +483,67 @@ second-gone start told past from t k h = record {
   newest = h.newest;
   minute = h.minute;
 }
+
+-- what a second of the minute adds to those that left
+left-with : (told : List Told) (t : Told) (left : List Card) (card : Card) (m : ℕ) → minute_of t.second ≡ m → has_left left (told ++ t ∷ []) card m ≡ (list_any (same_card card) left || (list_any (λ t. list_any (same_card card) t.course.left) (in_minute m told) || list_any (same_card card) t.course.left))
+left-with told t left card m is =
+    ap (λ (b : Bool). list_any (same_card card) left || b)
+    (ap (list_any (λ (t : Told). list_any (same_card card) t.course.left)) (filter-append (λ (x : Told). nat_eq (minute_of x.second) m) told (t ∷ []) ∙ ap (λ (ts : List Told). in_minute m told ++ ts) one)
+    ∙ list_any-append (λ (t : Told). list_any (same_card card) t.course.left) (in_minute m told) (t ∷ [])
+    ∙ ap (λ (b : Bool). list_any (λ (t : Told). list_any (same_card card) t.course.left) (in_minute m told) || b) (or-nothing (list_any (same_card card) t.course.left)))
+  where
+    same : nat_eq (minute_of t.second) m ≡ true
+    same = grind (arith, nat_tests)
+
+    one : in_minute m (t ∷ []) ≡ t ∷ []
+    one = rw same refl
+
+pub last-cut : TheLastSecondIsCut
+last-cut start told past from t k h =
+    let lost = power-lost start (told ++ t ∷ []) past [] t.second.number from t.course.slots k h in record {
+      driver = lost.driver;
+      codriver = lost.codriver;
+      apart = lost.apart;
+      gone = λ card. lost.gone card
+          ∙ left-with told t (([] ++ card_in t.course.slots.driver) ++ card_in t.course.slots.codriver) card (t.second.number / 60) refl
+          ∙ turned card
+          ∙ sym (left-with told (cut_at_end t) [] card (t.second.number / 60) refl);
+      latest = lost.latest;
+      ended = λ m le lt more each. lost.ended m le lt more each
+          ∙ ap (λ (p : Present). Some p) (present-at_still start told t (past ++ more) m lt ∙ sym (present-at_still start told (cut_at_end t) (past ++ more) m lt));
+      so_far = All-push (λ (x : Told). x.second.number ≤ t.second.number) told (cut_at_end t) (all-front (λ (x : Told). x.second.number ≤ t.second.number) told (t ∷ []) h.so_far) (omega arith);
+      falls = lost.falls;
+      newest = lost.newest;
+      minute = lost.minute;
+    }
+  where
+    swapped : (a b c d : Bool) → ((a || b) || (c || d)) ≡ (c || ((d || a) || b))
+    swapped true true true d = refl
+    swapped true false true d = refl
+    swapped true true false true = refl
+    swapped true true false false = refl
+    swapped true false false true = refl
+    swapped true false false false = refl
+    swapped false true true d = refl
+    swapped false true false true = refl
+    swapped false true false false = refl
+    swapped false false true d = refl
+    swapped false false false true = refl
+    swapped false false false false = refl
+
+    turned : (card : Card) →
+        (list_any (same_card card) (([] ++ card_in t.course.slots.driver) ++ card_in t.course.slots.codriver) || (list_any (λ t. list_any (same_card card) t.course.left) (in_minute (t.second.number / 60) told) || list_any (same_card card) t.course.left))
+        ≡ (list_any (same_card card) [] || (list_any (λ t. list_any (same_card card) t.course.left) (in_minute (t.second.number / 60) told) || list_any (same_card card) (cut_at_end t).course.left))
+    turned card =
+        let d : Bool = list_any (same_card card) (card_in t.course.slots.driver) in
+        let c : Bool = list_any (same_card card) (card_in t.course.slots.codriver) in
+        let told_ : Bool = list_any (λ (t : Told). list_any (same_card card) t.course.left) (in_minute (t.second.number / 60) told) in
+        let left : Bool = list_any (same_card card) t.course.left in
+        ap (λ (b : Bool). b || (told_ || left)) (list_any-append (same_card card) (card_in t.course.slots.driver) (card_in t.course.slots.codriver))
+        ∙ swapped d c told_ left
+        ∙ sym (ap (λ (b : Bool). told_ || b)
+        (list_any-append (same_card card) (t.course.left ++ card_in t.course.slots.driver) (card_in t.course.slots.codriver)
+        ∙ ap (λ (b : Bool). b || c) (list_any-append (same_card card) t.course.left (card_in t.course.slots.driver))))
 
 pub goes-on : TheMinuteGoesOn
 goes-on start told past left number later from slots k h le same = record {

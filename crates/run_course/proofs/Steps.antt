@@ -188,7 +188,7 @@ module _ (rule : Rule) (start : Start) (from first : ℕ) (done : List TraceSeco
     starts : t.starts ≡ begins_with span
     starts = lit.starts ∙ ap (λ (w : Went). not w.before.running) went-same_ ∙ lit-starts span (went p.log done).before p.next supplied
 
-    spans-now : spans_of now ≡ c.ended ++ (span ++ t ∷ []) ∷ []
+    pub spans-now : spans_of now ≡ c.ended ++ (span ++ t ∷ []) ∷ []
     spans-now =
         ap spans_of now-told ∙ spans-more (went p.log done).told t ∙ ap (λ (ss : List (List Told)). spans_with ss t) c.spans ∙ spans-lit c.ended span t lit.lit starts
 
@@ -237,7 +237,7 @@ module _ (rule : Rule) (start : Start) (from first : ℕ) (done : List TraceSeco
           (stays-now c.ended lit.number (early-first rule ((from + length done) / 60) c.ended (as_spans span) early-ended)) on which
 
 -- a second with power
-lit-parts : (rule : Rule) (start : Start) (from first : ℕ) (done : List TraceSecond) (p : Progress) → Followed rule start from first done p → (span : List Told) → p.supply ≡ Lit span → p.waiting ≡ [] →
+pub lit-parts : (rule : Rule) (start : Start) (from first : ℕ) (done : List TraceSecond) (p : Progress) → Followed rule start from first done p → (span : List Told) → p.supply ≡ Lit span → p.waiting ≡ [] →
     Followed rule start from first done (record p { supply = Lit span; waiting = [] })
 lit-parts rule start from first done p g span is none = with-waiting rule start from first done (record p { supply = Lit span }) [] none (with-supply rule start from first done p (Lit span) is g)
 

@@ -2,3 +2,4 @@ pub mod Moments
 pub mod Presence
 pub mod Followed
 pub mod Seconds
+pub mod Within

@@ -12,6 +12,7 @@ use Rattle.slot_machine.specs.declared.seats.Seat.{Seat}
 use Rattle.slot_machine.specs.declared.seats.Ended.{Ended}
 use Rattle.slot_machine.specs.declared.seats.Present.{Present}
 use Rattle.slot_machine.specs.Calls.{Agrees, present_in, seat_in, is_card}
+use Rattle.unit_course.specs.Turn.{cut_at_end}
 use Rattle.slot_machine.specs.Kept.{Kept, IsFree, KnowsNewest, left_in, nothing_yet, put_in, taken, cut_off, minute_ended}
 
 -- The newest minute that a card answered in the second of its acceptance is earlier than a minute exactly where that of the history
@@ -115,6 +116,12 @@ abbrev pub ASecondHasGone : Type 0
 ASecondHasGone = (start : Start) (told : List Told) (past : List HistoryMinute) (from : ℕ) (t : Told) (k : Kept) →
     SlotsTell start told past t.course.left t.second.number from t.course.slots k →
     SlotsTell start (told ++ t ∷ []) past [] t.second.number from t.course.slots k
+
+-- THE LAST SECOND TURNS OUT TO BE A CUT'S, as an `off` line says: power is lost behind all of it.
+abbrev pub TheLastSecondIsCut : Type 0
+TheLastSecondIsCut = (start : Start) (told : List Told) (past : List HistoryMinute) (from : ℕ) (t : Told) (k : Kept) →
+    SlotsTell start (told ++ t ∷ []) past [] t.second.number from t.course.slots k →
+    SlotsTell start (told ++ cut_at_end t ∷ []) past [] t.second.number from (cut_at_end t).course.slots (cut_off t.second.number k)
 
 -- The next second of THE SAME MINUTE begins.
 abbrev pub TheMinuteGoesOn : Type 0

@@ -1,11 +1,11 @@
 -- The steps of a run with cards, each from what is followed before it to what is followed behind it (profile).
-use Rattle.std.specs.Prelude.{◌≡◌, ℕ, suc, ◌+◌, ◌-◌, ◌%◌, ◌/◌, ◌<◌, ◌≤◌, false, true, Option, Some, None, List, [], ◌∷◌, ◌++◌, All, length, option_to_list}
+use Rattle.std.specs.Prelude.{◌≡◌, ℕ, suc, ◌+◌, ◌-◌, ◌%◌, ◌/◌, ◌<◌, ◌≤◌, false, true, Option, Some, None, List, [], ◌∷◌, ◌++◌, All, length, map, option_to_list}
 use Rattle.std.specs.List.{AllByRecursion}
 use Rattle.trace_model.specs.declared.Action.{Action}
 use Rattle.trace_model.specs.Trace.{TraceSecond, driven, dark}
 use Rattle.minute_model.specs.declared.Rule.{Rule}
 use Rattle.minute_model.specs.declared.Minute.{Minute}
-use Rattle.minute_model.specs.Span.{fed}
+use Rattle.minute_model.specs.Span.{fed, count_from, ungiven_of}
 use Rattle.log_model.specs.declared.lines.Break.{Break}
 use Rattle.log_model.specs.declared.lines.Find.{Find}
 use Rattle.log_model.specs.declared.lines.Refused.{Refused}
@@ -112,6 +112,19 @@ ASecondBreaksOff = (rule : Rule) (start : Start) (from first : ℕ) (done : List
       book = broken_at i (kept_all front p.book);
       waiting = [];
     })
+
+-- THE MINUTES that a second decides come one after another from the first that was not decided before, and are over as it begins: so
+-- who was present in them is told by the seconds before it.
+pub record AreNew (rule : Rule) (start : Start) (next : ℕ) (span told : List Told) (t : Told) (ds : List Minute) : Type 0 where
+  pub due : map (λ (d : Minute). d.minute) ds ≡ count_from (ungiven_of (span_at rule next span)) (length ds)
+  pub over : All (λ (d : Minute). d.minute < next / 60) ds
+  pub told_before : (past : List HistoryMinute) → minutes_after start (told ++ t ∷ []) past ds ≡ minutes_after start told past ds
+
+abbrev pub DecidedMinutesAreNew : Type 0
+DecidedMinutesAreNew = (rule : Rule) (start : Start) (from first : ℕ) (done : List TraceSecond) (p : Progress) → Followed rule start from first done p →
+    (span : List Told) → p.supply ≡ Lit span → p.waiting ≡ [] → (s : TraceSecond) (later : RunLog) → GoesOnBy p later s →
+    (ds : List Minute) → decided_of rule (span ++ next_told later done s ∷ []) ≡ decided_of rule span ++ ds →
+    AreNew rule start p.next span (went later done).told (next_told later done s) ds
 
 -- FOR THE RULES OF MINUTES a second with power is that span with its settling, its selections and its speed.
 abbrev pub RulesSeeTheSecond : Type 0

@@ -1,6 +1,7 @@
 ghost use Rattle.run_course.specs.Moments.{ABreakMoreIsSeen, AFindMoreIsSeen, ARefusalMoreIsNotSeen, LaterLinesChangeNoMoment, AnActionMoreIsActed, OneActionMore};
-ghost use Rattle.run_course.specs.Seconds.{ARunBegins, APowerOnFinds, APowerOnFails, ASecondGoesOn, ASecondBreaksOff, RulesSeeTheSecond, AMinuteStaysDark, AnOffLineIsDark, AnOffLineCuts};
-ghost use Rattle.run_course.specs.Presence.{SlotsAgree, SlotsTellWhoIsPresent, NobodySits, ACardIsPutIn, ACardIsTakenOut, PowerIsLost, ASecondHasGone, TheMinuteGoesOn, AMinuteEnds, TimePasses, MinutesAreKept, WhatWasKeptIsFound};
+ghost use Rattle.run_course.specs.Seconds.{ARunBegins, APowerOnFinds, APowerOnFails, ASecondGoesOn, ASecondBreaksOff, RulesSeeTheSecond, DecidedMinutesAreNew, AMinuteStaysDark, AnOffLineIsDark, AnOffLineCuts};
+ghost use Rattle.run_course.specs.Within.{ASecondBegins, AnActionIsAMoment, ASecondEnds, ACutEndsTheSecond, ATearIsTold, AFindIsTold, SlotsTellATear, SlotsTellAnAcceptance};
+ghost use Rattle.run_course.specs.Presence.{SlotsAgree, SlotsTellWhoIsPresent, NobodySits, ACardIsPutIn, ACardIsTakenOut, PowerIsLost, ASecondHasGone, TheLastSecondIsCut, TheMinuteGoesOn, AMinuteEnds, TimePasses, MinutesAreKept, WhatWasKeptIsFound};
 
 /// A run begins with nothing kept.
 pub fn a_run_begins()
@@ -25,6 +26,11 @@ pub fn a_second_goes_on()
 /// One second more that is a cut's: some of the minutes that it decides are kept, one more may be, or none was begun.
 pub fn a_second_breaks_off()
     ensures { ASecondBreaksOff }
+{}
+
+/// The minutes that a second decides: from the first undecided one on, and over as it begins.
+pub fn decided_minutes_are_new()
+    ensures { DecidedMinutesAreNew }
 {}
 
 /// What the rules of minutes see of a second with power.
@@ -112,6 +118,11 @@ pub fn a_second_has_gone()
     ensures { ASecondHasGone }
 {}
 
+/// The last second turns out to be a cut's.
+pub fn the_last_second_is_cut()
+    ensures { TheLastSecondIsCut }
+{}
+
 /// The next second of the same minute begins.
 pub fn the_minute_goes_on()
     ensures { TheMinuteGoesOn }
@@ -135,4 +146,44 @@ pub fn minutes_are_kept()
 /// At a power-on it is found what was kept, before a card is accepted.
 pub fn what_was_kept_is_found()
     ensures { WhatWasKeptIsFound }
+{}
+
+/// A second begins with its power-on, if it is one.
+pub fn a_second_begins()
+    ensures { ASecondBegins }
+{}
+
+/// It goes on with an action.
+pub fn an_action_is_a_moment()
+    ensures { AnActionIsAMoment }
+{}
+
+/// It ends with its keeping.
+pub fn a_second_ends()
+    ensures { ASecondEnds }
+{}
+
+/// A cut ends it behind one of its actions.
+pub fn a_cut_ends_the_second()
+    ensures { ACutEndsTheSecond }
+{}
+
+/// A tear is told at a moment.
+pub fn a_tear_is_told()
+    ensures { ATearIsTold }
+{}
+
+/// What was found of a card is told at the moment at which it entered.
+pub fn a_find_is_told()
+    ensures { AFindIsTold }
+{}
+
+/// What the slots tell behind a tear.
+pub fn slots_tell_a_tear()
+    ensures { SlotsTellATear }
+{}
+
+/// What they tell behind an acceptance.
+pub fn slots_tell_an_acceptance()
+    ensures { SlotsTellAnAcceptance }
 {}

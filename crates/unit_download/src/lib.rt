@@ -10,3 +10,6 @@ mod wire;
 pub use fault::DownloadFault;
 pub use loading::download;
 pub use wire::{Passed, Wire};
+
+#[cfg(test)]
+mod tests;

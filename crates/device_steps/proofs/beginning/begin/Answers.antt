@@ -1,7 +1,8 @@
 use Rattle.std.proofs.Common.{◌≡◌, Bool, true, false}
 use Rattle.tach_media.proofs.Runs.{ok_gives}
 use Rattle.device_steps.proofs.EntryOwed.{worked}
-use Rattle.device_steps.proofs.RowBegun.{begun-holds, row-spared, ends, taken-mine, taken-other}
+use Rattle.device_steps.proofs.RowBegun.{begun-holds, row-spared, taken-other}
+use Rattle.device_steps.proofs.RowAlone.{ends-alone, taken-alone}
 use Rattle.device_steps.proofs.beginning.begin.Goals as goal
 
 pub returns-clause-holds : goal.returns-clause-holds
@@ -11,9 +12,9 @@ pub returns-clause-spares : goal.returns-clause-spares
 returns-clause-spares g c = row-spared c.begin_owed.result _ _ _ _ _ c.begin_owed.ensures.moments.tells c.begin_owed.ensures.begun
 
 pub returns-clause-mine : goal.returns-clause-mine
-returns-clause-mine g c = λ r s due b marks newest named others h late rule entered.
-    taken-mine r c.args.which _ named _ others c.args.session (g.met.M.Medium.coherent c.args.unit.now) _ c.requires.agrees c.begin_owed.ensures.moments (g.C.Chip.state c.args.mine.now) s due b marks h late c.requires.session newest rule entered _
-    (λ well. ends r c.args.which _ named _ others c.args.session (g.met.M.Medium.coherent c.args.unit.now) _ c.requires.agrees c.begin_owed.ensures.moments (g.met.M.Medium.coherent c.begin_owed.new.unit) (worked well c.begin_owed.ensures.cause).0 (ok_gives _ c.begin_owed.ensures.begun well)
+returns-clause-mine g c = λ r s due b marks newest named h late rule entered.
+    taken-alone r c.args.which _ named _ c.args.session (g.met.M.Medium.coherent c.args.unit.now) _ c.requires.agrees c.begin_owed.ensures.moments (g.C.Chip.state c.args.mine.now) s due b marks h late c.requires.session newest rule entered _
+    (λ well. ends-alone r c.args.which _ named _ c.args.session (g.met.M.Medium.coherent c.args.unit.now) _ c.requires.agrees c.begin_owed.ensures.moments (g.met.M.Medium.coherent c.begin_owed.new.unit) (worked well c.begin_owed.ensures.cause).0 (ok_gives _ c.begin_owed.ensures.begun well)
     (worked well c.begin_owed.ensures.cause).1)
 
 pub returns-clause-other : goal.returns-clause-other

@@ -1,4 +1,8 @@
-use Rattle.std.proofs.Common.{rules, ◌≡◌, sym, ◌∙◌, subst}
+use Rattle.std.proofs.Common.{rules, ◌≡◌, ◌/◌, ◌<◌, ◌≤◌, ◌^◌, sym, ◌∙◌, subst, arith}
+use Rattle.card_layout.proofs.Sizes.{largest_image}
+use Rattle.joint_rule.specs.Views.{other}
+use Rattle.unit_rule.proofs.Marking.{holds-read}
+use Rattle.device_steps.proofs.Enters.{unit-read, entering-rule, entered-answer}
 use Rattle.card_layout.specs.declared.files.Application.{Application}
 use Rattle.tach_media.specs.Medium.{State, lent}
 use Rattle.card_commands.specs.Ports.{port_state}
@@ -23,3 +27,19 @@ returns-clause-enters g c =
     c.enter_by.result c.enter_by.ensures.enters in
     let moved = subst (λ (k : State). IsEntering c.args.app c.args.registration.now c.args.odometer.0 c.args.now.0 (g.M.Medium.state c.args.unit.now) (g.M.Medium.state c.enter_by.new.unit) k (g.C.Chip.state c.enter_by.new.card.chip.now) c.enter_by.result) was enters in
     search (rules, moved)
+
+pub returns-clause-holds : goal.returns-clause-holds
+returns-clause-holds g c = λ s due b marks h. holds-read s due b marks h (g.met.M.Medium.coherent c.args.unit.now) c.enter_by.ensures.enters.unit.leaves
+
+pub returns-clause-other : goal.returns-clause-other
+returns-clause-other g c = λ r b z m d rule. unit-read r (other c.args.which) b z m d (g.M.Medium.state c.args.unit.now) (g.M.Medium.state c.enter_by.new.unit) (g.D.Chip.state c.args.others.now) (g.met.M.Medium.coherent c.args.unit.now) c.enter_by.ensures.enters.unit.leaves rule
+
+pub returns-clause-mine : goal.returns-clause-mine
+returns-clause-mine g c = λ r s due b marks h none late tells tells_card asked rule.
+    entering-rule r c.args.which s due b marks c.args.app c.requires.port.good c.args.registration.now c.length_of-bytes.ensures c.args.odometer.0 c.args.now.0 (omega (arith, c.requires.last)) h none late (g.met.M.Medium.coherent c.args.unit.now) (g.met.M.Medium.coherent c.enter_by.new.unit)
+    (g.met.C.Chip.coherent c.args.card.now) (omega (arith, largest_image c.args.app c.requires.port.good, c.requires.port.size)) tells tells_card asked rule c.enter_by.result (returns-clause-enters g c)
+
+pub returns-clause-entered : goal.returns-clause-entered
+returns-clause-entered g c = λ r s due b marks h none late tells tells_card asked rule.
+    entered-answer r c.args.which s due b marks c.args.app c.requires.port.good c.args.registration.now c.length_of-bytes.ensures c.args.odometer.0 c.args.now.0 (omega (arith, c.requires.last)) h none late (g.met.M.Medium.coherent c.args.unit.now) (g.met.M.Medium.coherent c.enter_by.new.unit)
+    (g.met.C.Chip.coherent c.args.card.now) (g.met.C.Chip.coherent _) (omega (arith, largest_image c.args.app c.requires.port.good, c.requires.port.size)) tells tells_card asked rule c.enter_by.result (returns-clause-enters g c)

@@ -1,0 +1,4 @@
+pub mod Found
+pub mod Cards
+pub mod Between
+pub mod Opening
