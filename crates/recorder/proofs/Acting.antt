@@ -12,9 +12,9 @@ use Rattle.recorder.specs.declared.run.Run.{Run}
 use Rattle.recorder.specs.declared.run.Power.{Power}
 use Rattle.recorder.specs.declared.run.Power.TheVariants.{Lit, Due, Lost}
 use Rattle.recorder.specs.Going.{IsGoing, IsLit, waiting, cuts_within}
-use Rattle.recorder.specs.Lines.{Listed}
+use Rattle.run_outcome.specs.Lines.{Listed}
 use Rattle.log_model.specs.declared.lines.Refused.{Refused}
-use Rattle.recorder.specs.declared.outcome.Outcome.{Outcome}
+use Rattle.run_outcome.specs.declared.outcome.Outcome.{Outcome}
 use Rattle.recorder.specs.Power.{IsAsLate}
 use Rattle.recorder.specs.Booked.{Booked, due_of}
 use Rattle.recorder.specs.Turn.{OnlyMinutes, HasRoomWithin}

@@ -6,9 +6,9 @@ use Rattle.log_model.specs.declared.lines.Break.{Break}
 use Rattle.recorder.specs.declared.run.Run.{Run}
 use Rattle.recorder.specs.declared.run.Power.{Power}
 use Rattle.recorder.specs.declared.run.Power.TheVariants.{Lit, Due, Lost}
-use Rattle.recorder.specs.Lines.{Listed}
+use Rattle.run_outcome.specs.Lines.{Listed}
 use Rattle.recorder.specs.Power.{is_lit, has_power, IsCutOnce, IsAsLate}
-use Rattle.recorder.specs.declared.outcome.Outcome.{Outcome}
+use Rattle.run_outcome.specs.declared.outcome.Outcome.{Outcome}
 use Rattle.recorder.specs.Turn.{HasRoom, HasRoomWithin}
 use Rattle.recorder.specs.Going.{HasBreakRoom, cuts_from, cuts_within}
 

@@ -9,7 +9,7 @@ use Rattle.log_model.specs.Log.{RunLog}
 use Rattle.log_model.specs.Causes.{cuts, second_of, RoseBy}
 use Rattle.unit_course.specs.Caused.{cuts_by}
 use Rattle.unit_course.proofs.Offs.{by-same, by-other, by-found}
-use Rattle.recorder.specs.Lines.{cut_at, found_from}
+use Rattle.run_outcome.specs.Lines.{cut_at, found_from}
 use Rattle.recorder.specs.Power.{off_cut}
 use Rattle.recorder.specs.Broken.{failed_cuts, BreaksDown}
 

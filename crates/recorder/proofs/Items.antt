@@ -9,19 +9,10 @@ use Rattle.trace_model.specs.declared.Item.TheVariants.{Run as Driven, Off, Act}
 use Rattle.trace_model.specs.Trace.{item_seconds, total_seconds}
 use Rattle.trace_text.specs.Line.{InRange}
 use Rattle.recorder.specs.declared.run.Run.{Run}
-use Rattle.recorder.specs.declared.outcome.Outcome.{Outcome}
-use Rattle.recorder.specs.Room.{offs, off_count, has_seconds, first_waiting}
+use Rattle.run_outcome.specs.declared.outcome.Outcome.{Outcome}
+use Rattle.run_outcome.specs.Room.{off_count}
+use Rattle.recorder.specs.Room.{has_seconds, first_waiting}
 use Rattle.recorder.specs.Turn.{HasRoom}
-
-module _ (items : List Item) (i : ℕ) (item : Item) (here : slice_get items i ≡ Some item) where
-  pub left-here : drop i items ≡ item ∷ drop (i + 1) items
-  left-here = drop_more items i item (slice_get_within items i item here) ∙ ap (λ (x : Item). x ∷ drop (i + 1) items) (get_or_from_slice_get items i item item here)
-
-  pub seconds-here : total_seconds (drop i items) ≡ item_seconds item + total_seconds (drop (i + 1) items)
-  seconds-here = ap total_seconds left-here ∙ sum_by-cons item_seconds item (drop (i + 1) items)
-
-  pub offs-here : offs (drop i items) ≡ off_count item + offs (drop (i + 1) items)
-  offs-here = ap offs left-here ∙ sum_by-cons off_count item (drop (i + 1) items)
 
 -- the seconds of the items so far, and of those that are left
 pub total-parts : (items : List Item) (i : ℕ) → total_seconds (take i items) + total_seconds (drop i items) ≡ total_seconds items
@@ -63,10 +54,3 @@ room-behind (Act action) old new o p left offs n first i le low h idle room =
     subst (λ (r : Run). HasRoom r p left offs (n - first)) (sym same.0)
     (subst (λ (q : Outcome). HasRoom old q left offs (n - first)) (sym same.1)
     (room-less old o (0 + left) left (0 + offs) offs (n - first) (n - first) (omega arith) (omega arith) (omega arith) h))
-
--- each `off` line has a second at least
-pub offs-most : (items : List Item) → AllByRecursion InRange items → offs items ≤ total_seconds items
-offs-most [] all = omega arith
-offs-most (Driven seconds speed ∷ items) all = let rest = offs-most items all.1 in omega (arith, rest, sum_by-cons item_seconds (Driven seconds speed) items, sum_by-cons off_count (Driven seconds speed) items)
-offs-most (Off seconds ∷ items) all = let rest = offs-most items all.1 in let some = all.0.0 in omega (arith, rest, some, sum_by-cons item_seconds (Off seconds) items, sum_by-cons off_count (Off seconds) items)
-offs-most (Act action ∷ items) all = let rest = offs-most items all.1 in omega (arith, rest, sum_by-cons item_seconds (Act action) items, sum_by-cons off_count (Act action) items)

@@ -8,7 +8,6 @@ pub mod Items
 pub mod Keep
 pub mod Opened
 pub mod Recording
-pub mod Seams
 pub mod Showing
 pub mod Standing
 pub mod Staying

@@ -20,7 +20,7 @@ use Rattle.recorder.specs.declared.run.Power.{Power}
 use Rattle.recorder.specs.declared.run.Power.TheVariants.{Lit, Due, Lost}
 use Rattle.unit_model.specs.declared.layout.TheConstants.{IMAGE_SIZE}
 use Rattle.recorder.specs.Going.{first_second, end_of_seconds, waiting, IsLit, IsGoing, HasMarkRoom, cuts_from, cuts_within}
-use Rattle.recorder.specs.Lines.{Listed}
+use Rattle.run_outcome.specs.Lines.{Listed}
 use Rattle.recorder.specs.Keeping.{plain, AreFrom, due_after, kept_all, IsBrokenOff}
 use Rattle.recorder.proofs.Due.{Decides, decides, due-among}
 use Rattle.recorder.proofs.Keep.{kept_all-none}

@@ -22,7 +22,7 @@ use Rattle.unit_rule.specs.Rule.{started}
 use Rattle.unit_rule.specs.Marks.{Holds}
 use Rattle.unit_rule.specs.Odometer.{OdometerSafe}
 use Rattle.unit_model.specs.Image.{odometer_at}
-use Rattle.recorder.specs.declared.outcome.Outcome.{Outcome}
+use Rattle.run_outcome.specs.declared.outcome.Outcome.{Outcome}
 use Rattle.event_course.specs.Shown.{ShowsRun}
 use Rattle.recorder.specs.Recorded.{progress}
 

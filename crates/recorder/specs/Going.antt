@@ -12,7 +12,7 @@ use Rattle.log_model.specs.declared.lines.Mark.{Mark}
 use Rattle.recorder.specs.declared.run.Run.{Run}
 use Rattle.recorder.specs.declared.run.Power.{Power}
 use Rattle.recorder.specs.declared.run.Power.TheVariants.{Lit, Due, Lost}
-use Rattle.recorder.specs.Lines.{Listed}
+use Rattle.run_outcome.specs.Lines.{Listed}
 
 -- the largest number of four bytes
 abbrev pub largest_number : ℕ

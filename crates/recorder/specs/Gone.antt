@@ -4,7 +4,7 @@ use Rattle.tach_media.specs.Medium.{State, last_count}
 use Rattle.unit_model.specs.Image.{IsUnit}
 use Rattle.history_model.specs.Book.{Book}
 use Rattle.recorder.specs.declared.opening.RunFault.{RunFault}
-use Rattle.recorder.specs.declared.outcome.Outcome.{Outcome}
+use Rattle.run_outcome.specs.declared.outcome.Outcome.{Outcome}
 use Rattle.recorder.specs.declared.run.Run.{Run}
 use Rattle.recorder.specs.Opening.{IsFoundLater}
 use Rattle.recorder.specs.Going.{IsGoing}

@@ -5,7 +5,6 @@ pub mod Followed
 pub mod Going
 pub mod Gone
 pub mod Keeping
-pub mod Lines
 pub mod Opening
 pub mod Power
 pub mod Recorded

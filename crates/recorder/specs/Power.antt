@@ -4,7 +4,7 @@ use Rattle.log_model.specs.declared.lines.Break.{Break}
 use Rattle.recorder.specs.declared.run.Run.{Run}
 use Rattle.recorder.specs.declared.run.Power.{Power}
 use Rattle.recorder.specs.declared.run.Power.TheVariants.{Lit, Due, Lost}
-use Rattle.recorder.specs.Lines.{Listed, cut_at}
+use Rattle.run_outcome.specs.Lines.{Listed, cut_at}
 use Rattle.recorder.specs.Going.{waiting}
 
 abbrev pub is_lit : Power → Bool

@@ -14,7 +14,7 @@ use Rattle.unit_course.specs.Travelled.{MayShow}
 use Rattle.recorder.specs.Standing.{Began, Travel, resumed, all_travelled}
 use Rattle.recorder.specs.declared.run.Run.{Run}
 use Rattle.recorder.specs.declared.run.Power.TheVariants.{Lit, Lost}
-use Rattle.recorder.specs.Lines.{cut_at, found_from}
+use Rattle.run_outcome.specs.Lines.{cut_at, found_from}
 use Rattle.recorder.specs.Keeping.{plain, kept_all, MarksStay, AreAllMarked}
 use Rattle.recorder.specs.Power.{is_lit, has_power}
 use Rattle.recorder.specs.Booked.{Booked}

@@ -1,13 +1,10 @@
 -- The traces that are recorded on a unit alone (profile).
-use Rattle.std.specs.Prelude.{◌≡◌, ℕ, Bool, true, false, IsTrue, List, []}
+use Rattle.std.specs.Prelude.{Bool, true, false, IsTrue, List}
 use Rattle.std.specs.List.{AllByRecursion}
 use Rattle.trace_model.specs.declared.Action.{Action}
 use Rattle.trace_model.specs.declared.Action.TheVariants.{Select, Insert, Withdraw, Tear, Place}
 use Rattle.trace_model.specs.declared.Item.{Item}
 use Rattle.trace_model.specs.declared.Item.TheVariants.{Run, Off, Act}
-use Rattle.recorder.specs.Lines.{Listed}
-use Rattle.recorder.specs.Room.{most_marks, most_breaks, most_refused}
-use Rattle.recorder.specs.declared.outcome.Outcome.{Outcome}
 
 -- a line that no card bears on: a run, an `off` or a selection
 abbrev pub needs_no_card : Item → Bool
@@ -22,10 +19,3 @@ needs_no_card (Act (Place slot ending country region)) = false
 -- a trace for the unit alone: none of its lines is a card's
 abbrev pub IsForUnit : List Item → Type 0
 IsForUnit items = AllByRecursion (λ item. IsTrue (needs_no_card item)) items
-
--- an outcome has no line, and was reserved for a trace
-pub record IsReserved (items : List Item) (o : Outcome) : Type 0 where
-  pub marks : o.marks ≡ record { items = []; room = most_marks items }
-  pub breaks : o.breaks ≡ record { items = []; room = most_breaks items }
-  pub refused : o.refused ≡ record { items = []; room = most_refused items }
-  pub finds : o.finds ≡ record { items = []; room = 0 }

@@ -1,7 +1,7 @@
 -- Room for what is to come of a run.
 use Rattle.std.specs.Prelude.{◌≡◌, ℕ, ◌+◌, ◌≤◌, length}
 use Rattle.recorder.specs.declared.run.Run.{Run}
-use Rattle.recorder.specs.declared.outcome.Outcome.{Outcome}
+use Rattle.run_outcome.specs.declared.outcome.Outcome.{Outcome}
 use Rattle.recorder.specs.Going.{HasMarkRoom, HasBreakRoom, cuts_from, cuts_within}
 
 -- between two seconds: for so many more of them, `off` lines and actions

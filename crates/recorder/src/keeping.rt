@@ -11,11 +11,11 @@ ghost use Rattle.recorder.specs.Standing.{Began, Travel, travelled, stranded, od
 ghost use Rattle.recorder.specs.Watching.{StaysNoted};
 ghost use Rattle.run_model.specs.declared.Device.TheVariants.{Unit as Recorder};
 
-use crate::lines::Lines;
 use activity_codec::Activity;
 use log_model::Mark;
 use minute_rules::Minute;
 use run_model::Device;
+use run_outcome::Lines;
 use tach_media::{Failed, Medium};
 use tacho_types::Odometer;
 use unit_journal::{Journal, KeptMinute, State};

@@ -3,17 +3,14 @@
 #![tactic(auto)]
 
 mod keeping;
-mod lines;
 mod opening;
-mod outcome;
 mod power;
 mod run;
 #[cfg(test)]
 mod tests;
 mod turn;
 
-pub use lines::Lines;
 pub use log_model::{Break, Find, Mark, Refused, SlotFault, Verdict};
 pub use opening::RunFault;
-pub use outcome::Outcome;
 pub use run::{is_for_unit, run_trace};
+pub use run_outcome::{Lines, Outcome};

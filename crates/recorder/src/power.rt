@@ -13,19 +13,19 @@ ghost use Rattle.recorder.specs.Steps.{IsPoweredOn, IsMendedOn, IsSecondBegun};
 ghost use Rattle.recorder.specs.Going.{first_second, end_of_seconds, IsGoing, HasMarkRoom, HasBreakRoom, cuts_from, cuts_within};
 ghost use Rattle.recorder.specs.declared.run.Power.TheVariants.{Lit, Due, Lost};
 
-use crate::lines::Lines;
 use crate::opening::{RunFault, judge_clock, load};
 use crate::run::{Power, Run};
 use event_notes::{Watch, note_gap};
 use log_model::Break;
 use minute_rules::{Minutes, Rule};
+use run_outcome::Lines;
 use tach_media::{Failed, Medium};
 use unit_journal::{Journal, UnitFault};
 
 impl Run {
     ghost use Rattle.recorder.specs.Power.{is_lit, has_power};
     ghost use Rattle.recorder.specs.Power.{off_cut, IsAsLate, IsFresh, IsCutOnce};
-    ghost use Rattle.recorder.specs.Lines.{cut_at};
+    ghost use Rattle.run_outcome.specs.Lines.{cut_at};
     ghost use Rattle.std.specs.Prelude.{IfSome, is_err};
     ghost use Rattle.tach_media.specs.Medium.{HasCause};
     ghost use Rattle.unit_journal.specs.Image.{Agrees};

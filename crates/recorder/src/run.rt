@@ -14,13 +14,14 @@ ghost use Rattle.recorder.specs.Going.{largest_number};
 ghost use Rattle.recorder.specs.Booked.{StartsAs, started};
 ghost use Rattle.recorder.specs.Followed.{IsFollowed, NoVerdict, breakdowns_of, run_log};
 ghost use Rattle.trace_text.specs.Trace.{IsWellFormed};
-ghost use Rattle.recorder.specs.Trace.{IsForUnit, IsReserved, needs_no_card};
+ghost use Rattle.run_outcome.specs.Room.{IsReserved};
+ghost use Rattle.recorder.specs.Trace.{IsForUnit, needs_no_card};
 ghost use Rattle.recorder.specs.Room.{first_waiting};
 
 use crate::opening::{Opened, RunFault, judge};
-use crate::outcome::Outcome;
 use event_notes::Watch;
 use minute_rules::{Minutes, Rule};
+use run_outcome::Outcome;
 use tach_media::{Chip, Medium};
 use trace_text::{Action, Item, Items, Trace};
 use unit_journal::Journal;
@@ -154,7 +155,8 @@ impl Run {
     ghost use Rattle.trace_text.specs.Line.{InRange};
     ghost use Rattle.recorder.specs.Going.{end_of_seconds, IsGoing};
     ghost use Rattle.recorder.specs.Turn.{HasRoom};
-    ghost use Rattle.recorder.specs.Room.{off_count, has_seconds};
+    ghost use Rattle.run_outcome.specs.Room.{off_count};
+    ghost use Rattle.recorder.specs.Room.{has_seconds};
     ghost use Rattle.recorder.specs.Standing.{Began};
     ghost use Rattle.recorder.specs.Gone.{HasGone};
     ghost use Rattle.recorder.specs.declared.run.Power.TheVariants.{Due};

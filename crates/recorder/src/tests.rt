@@ -2,11 +2,10 @@ ghost use Rattle.std.specs.Prelude.{IfOk, ◌≡◌, ◌+◌, ◌*◌, ◌<◌, 
 ghost use Rattle.tach_media.specs.MemMedium.{memory_state};
 ghost use Rattle.unit_model.specs.Image.{IsUnit};
 
-use crate::lines::Lines;
 use crate::opening::{RunFault, load};
-use crate::outcome::Outcome;
 use crate::run::{is_for_unit, run_trace};
 use log_model::{Break, Mark, Refused, SlotFault};
+use run_outcome::{Lines, Outcome};
 use std::alloc::{AllocError, Global};
 use std::process::Abort;
 use std::rt::HostRuntime;

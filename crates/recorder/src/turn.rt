@@ -5,13 +5,12 @@ ghost use Rattle.minute_rules.specs.Kept.{StandsFor};
 ghost use Rattle.recorder.specs.Going.{largest_number};
 
 use crate::keeping::keep_all;
-use crate::lines::Lines;
 use crate::opening::RunFault;
-use crate::outcome::Outcome;
 use crate::run::Run;
 use activity_codec::Steps;
 use log_model::{Mark, Refused, SlotFault};
 use minute_rules::{Decided, Minute, Minutes};
+use run_outcome::{Lines, Outcome};
 use std::marker::Brand;
 use std::sync::ledger::{Blank, Ledger};
 use tach_media::{Failed, Medium};

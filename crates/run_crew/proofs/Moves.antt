@@ -1,6 +1,6 @@
 -- Slots and sessions go together after each call.
 use Rattle.std.proofs.Common.{◌≡◌, ◌∙◌, inl, inr, ℕ, ◌+◌, ◌/◌, ◌<◌, ◌≤◌, Bool, true, false, cond, Option, Some, None, IfSome, List, [], ◌∷◌, refl, sym, ap, subst, arith, is_some, All, take}
-use Rattle.std.specs.Prelude.{◌⊎◌, Ok, nat_eq, not, ◌&&◌}
+use Rattle.std.specs.Prelude.{◌⊎◌, Result, Ok, nat_eq, not, ◌&&◌}
 use Rattle.std.proofs.lemmas.Bool.{eqb-true, ltb-true}
 use Rattle.std.proofs.lemmas.List.Elements.{All-nil, All-cons, All-head, All-tail, All-take, All-weaker}
 use Rattle.activity_codec.proofs.ByTest.{by_test}
@@ -8,6 +8,7 @@ use Rattle.activity_codec.specs.declared.values.Slot.{Slot}
 use Rattle.activity_codec.specs.declared.values.Slot.TheVariants.{Driver, CoDriver}
 use Rattle.trace_model.specs.declared.Card.{Card}
 use Rattle.trace_model.specs.declared.Card.TheVariants.{A, B}
+use Rattle.card_layout.specs.declared.files.Application.{Application}
 use Rattle.tacho_types.specs.declared.card_number.FullCardNumber.{FullCardNumber}
 use Rattle.log_model.specs.Slots.{same_card, other_slot}
 use Rattle.slot_machine.specs.declared.seats.Seat.{Seat}
@@ -20,8 +21,8 @@ use Rattle.run_crew.specs.declared.cards.Accepted.{Accepted}
 use Rattle.run_crew.specs.declared.cards.Known.{Known}
 use Rattle.run_crew.specs.declared.cards.Cards.{Cards}
 use Rattle.run_crew.specs.declared.cabin.Cabin.{Cabin}
-use Rattle.run_crew.specs.Cards.{known_of, session_of, with_session, with_number, IsKnown}
-use Rattle.run_crew.specs.Cabin.{Stands, AnswersTo, SeatAnswers, AreTwo, IsBehind, EndedStands, SitsThere, SitsNowhere, MayBeKept, slot_with, left_from, with_card_in, with_accepted, with_slot_left, with_session_of, torn_out, with_power_lost, with_minute_ended}
+use Rattle.run_crew.specs.Cards.{known_of, session_of, with_session, with_number, with_sizes, IsKnown}
+use Rattle.run_crew.specs.Cabin.{Stands, AnswersTo, SeatAnswers, AreTwo, IsBehind, EndedStands, SitsThere, SitsNowhere, MayBeKept, slot_with, left_from, with_card_in, with_sizes_of, with_accepted, with_slot_left, with_session_of, torn_out, with_power_lost, with_minute_ended}
 use Rattle.run_crew.proofs.Sessions.{same_self, same_is, session_set, session_apart, session_named, sized_of, numbered_of, SameBut, seat_apart, two_first, two_second, two_none, off_first, off_second, sits_is, is_sits, behind_none, behind_less, ended_less, gone_or_same, all_gone, kept_is_apart}
 
 -- ---- a card that has no session
@@ -115,6 +116,42 @@ put-stands cabin CoDriver card from empty off newest h =
     sits c (inl (inl here)) = inl (inl here)
     sits c (inl (inr here)) = let e : is_card cabin.slots.seats.codriver c ≡ false = ap (λ (o : Option Seat). is_card o c) empty in absurd (cc)
     sits c (inr gone) = absurd (cc)
+
+-- ---- a card has told its sizes
+
+seat_same : (from : ℕ) (cards new : Cards) → ((c : Card) → session_of new c ≡ session_of cards c) → (seat : Option Seat) → SeatAnswers from cards seat → SeatAnswers from new seat
+seat_same from cards new same None answers = tt
+seat_same from cards new same (Some seat) answers = subst (λ (s : Option Accepted). AnswersTo from seat.newest s) (sym (same seat.card)) answers
+
+-- where each session is as it was
+same-stands : (cabin : Cabin) (new : Cards) (from : ℕ) (leaving : Option Card) → ((c : Card) → session_of new c ≡ session_of cabin.cards c) → IsKnown new.a → IsKnown new.b → Stands from leaving cabin
+    → Stands from leaving (record { slots = cabin.slots; cards = new })
+same-stands cabin new from leaving same a b h = record {
+  a = a;
+  b = b;
+  driver = seat_same from cabin.cards new same cabin.slots.seats.driver h.driver;
+  codriver = seat_same from cabin.cards new same cabin.slots.seats.codriver h.codriver;
+  apart = h.apart;
+  only = λ c some. h.only c (ap is_some (sym (same c)) ∙ some);
+  left = h.left;
+  past = All-weaker (EndedStands from cabin.slots.minute cabin.cards) (EndedStands from cabin.slots.minute new)
+      (λ e was. ended_less from cabin.slots.minute cabin.slots.minute cabin.cards new (omega arith) (λ c. inr (same c)) e was) cabin.slots.past h.past;
+  newest = h.newest;
+}
+
+pub measure-stands : (cabin : Cabin) (card : Card) (sizes : Result Application ℕ) (from : ℕ) (leaving : Option Card) → session_of cabin.cards card ≡ None → Stands from leaving cabin → Stands from leaving (with_sizes_of card sizes cabin)
+measure-stands cabin A sizes from leaving bare h =
+    same-stands cabin (with_sizes A sizes cabin.cards) from leaving same (known_bare (record cabin.cards.a { sizes = sizes }) bare) h.b h
+  where
+    same : (c : Card) → session_of (with_sizes A sizes cabin.cards) c ≡ session_of cabin.cards c
+    same A = refl
+    same B = refl
+measure-stands cabin B sizes from leaving bare h =
+    same-stands cabin (with_sizes B sizes cabin.cards) from leaving same h.a (known_bare (record cabin.cards.b { sizes = sizes }) bare) h
+  where
+    same : (c : Card) → session_of (with_sizes B sizes cabin.cards) c ≡ session_of cabin.cards c
+    same A = refl
+    same B = refl
 
 -- ---- a card is accepted
 

@@ -1,9 +1,10 @@
 -- Which card is in which slot with which session (profile).
-use Rattle.std.specs.Prelude.{◌≡◌, ◌⊎◌, ℕ, ◌+◌, ◌/◌, ◌<◌, ◌≤◌, Bool, true, false, Option, Some, None, IfSome, List, All, is_some, if◌then◌else◌}
+use Rattle.std.specs.Prelude.{◌≡◌, ◌⊎◌, ℕ, ◌+◌, ◌/◌, ◌<◌, ◌≤◌, Bool, true, false, Option, Some, None, Result, IfSome, List, All, is_some, if◌then◌else◌}
 use Rattle.activity_codec.specs.declared.values.Slot.{Slot}
 use Rattle.activity_codec.specs.declared.values.Slot.TheVariants.{Driver, CoDriver}
 use Rattle.trace_model.specs.declared.Card.{Card}
 use Rattle.trace_model.specs.declared.Card.TheVariants.{A, B}
+use Rattle.card_layout.specs.declared.files.Application.{Application}
 use Rattle.tacho_types.specs.declared.card_number.FullCardNumber.{FullCardNumber}
 use Rattle.log_model.specs.Slots.{same_card}
 use Rattle.slot_machine.specs.declared.seats.Seat.{Seat}
@@ -15,7 +16,7 @@ use Rattle.run_crew.specs.declared.cards.Accepted.{Accepted}
 use Rattle.run_crew.specs.declared.cards.Cards.{Cards}
 use Rattle.run_crew.specs.declared.cards.Crew.{Crew}
 use Rattle.run_crew.specs.declared.cabin.Cabin.{Cabin}
-use Rattle.run_crew.specs.Cards.{known_of, session_of, with_session, with_number, accepted_number, IsKnown}
+use Rattle.run_crew.specs.Cards.{known_of, session_of, with_session, with_number, with_sizes, accepted_number, IsKnown}
 
 -- ---- what the calls leave
 
@@ -29,6 +30,10 @@ with_accepted slot card number accepted cabin = record {
   slots = put_in slot card (Some accepted.session.minute) cabin.slots;
   cards = with_session card (Some accepted) (with_number card number cabin.cards);
 }
+
+-- a card has told these sizes, or a bad field
+abbrev pub with_sizes_of : Card → Result Application ℕ → Cabin → Cabin
+with_sizes_of card sizes cabin = record cabin { cards = with_sizes card sizes cabin.cards }
 
 -- the card of a slot leaves it in a second, and has its session still
 abbrev pub with_slot_left : Slot → (second : ℕ) → Cabin → Cabin

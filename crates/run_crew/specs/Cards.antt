@@ -1,7 +1,8 @@
 -- What is known of the two cards (profile).
-use Rattle.std.specs.Prelude.{◌≡◌, Bool, true, false, Option, Some, None, Ok, IfSome, is_some, if◌then◌else◌}
+use Rattle.std.specs.Prelude.{◌≡◌, ℕ, Bool, true, false, Option, Some, None, Result, Ok, IfSome, is_some, if◌then◌else◌}
 use Rattle.trace_model.specs.declared.Card.{Card}
 use Rattle.trace_model.specs.declared.Card.TheVariants.{A, B}
+use Rattle.card_layout.specs.declared.files.Application.{Application}
 use Rattle.tacho_types.specs.declared.card_number.FullCardNumber.{FullCardNumber}
 use Rattle.run_crew.specs.declared.cards.Accepted.{Accepted}
 use Rattle.run_crew.specs.declared.cards.Known.{Known}
@@ -21,6 +22,11 @@ session_of cards B = cards.b.accepted
 abbrev pub with_session : Card → Option Accepted → Cards → Cards
 with_session A session cards = record cards { a = record cards.a { accepted = session } }
 with_session B session cards = record cards { b = record cards.b { accepted = session } }
+
+-- it told these sizes, or a bad field
+abbrev pub with_sizes : Card → Result Application ℕ → Cards → Cards
+with_sizes A sizes cards = record cards { a = record cards.a { sizes = sizes } }
+with_sizes B sizes cards = record cards { b = record cards.b { sizes = sizes } }
 
 -- it told this number
 abbrev pub with_number : Card → FullCardNumber → Cards → Cards

@@ -5,10 +5,11 @@ ghost use Rattle.slot_machine.specs.Calls.{seat_in, card_in, is_card, present_in
 ghost use Rattle.slot_machine.specs.Kept.{IsFree, nothing_yet};
 ghost use Rattle.log_model.specs.Slots.{other_slot};
 ghost use Rattle.run_crew.specs.Cards.{known_of, session_of};
-ghost use Rattle.run_crew.specs.Cabin.{Stands, SitsNowhere, MayBeKept, with_card_in, with_accepted, with_slot_left, with_session_of, torn_out, with_power_lost, with_minute_ended, slot_with, number_of_seat, crew_of};
+ghost use Rattle.run_crew.specs.Cabin.{Stands, SitsNowhere, MayBeKept, with_card_in, with_sizes_of, with_accepted, with_slot_left, with_session_of, torn_out, with_power_lost, with_minute_ended, slot_with, number_of_seat, crew_of};
 
 use crate::cards::{Accepted, Cards, Crew, Known};
 use activity_codec::Slot;
+use card_layout::Application;
 use slot_machine::{Present, Slots};
 use tacho_types::FullCardNumber;
 use trace_model::Card;
@@ -43,6 +44,15 @@ impl Cabin {
         ensures stands { (from : ℕ) → Stands from None self.old → Stands from None self.new }
     {
         self.slots.put(slot, card, None);
+    }
+
+    /// A card that is not accepted has told these sizes, or the number of the first bad field of Application_Identification.
+    pub fn measure(&mut self, card: Card, sizes: Result<Application, u8>)
+        requires bare { session_of self.old.cards card ≡ None }
+        ensures kept { self.new ≡ with_sizes_of card sizes self.old }
+        ensures stands { (from : ℕ) (leaving : Option Card) → Stands from leaving self.old → Stands from leaving self.new }
+    {
+        self.cards.measure(card, sizes);
     }
 
     /// The card of a slot is accepted there, with a session by the sizes that are known of it; it has told this number.

@@ -1,6 +1,6 @@
 //! What a run knows of the two cards.
 ghost use Rattle.std.specs.Prelude.{◌≡◌, Some, None};
-ghost use Rattle.run_crew.specs.Cards.{known_of, session_of, with_session, with_number, accepted_number};
+ghost use Rattle.run_crew.specs.Cards.{known_of, session_of, with_session, with_number, with_sizes, accepted_number};
 
 use card_layout::Application;
 use card_session::CardSession;
@@ -16,10 +16,10 @@ pub struct Accepted {
     pub noted: u64,
 }
 
-/// One of the two cards: what the opening found of it, and how it stands.
+/// One of the two cards: what it has told, and how it stands.
 #[derive(Drop)]
 pub struct Known {
-    /// The sizes by which it goes, or the number of the first bad field of Application_Identification.
+    /// The sizes that it told last, or the number of the first bad field of Application_Identification.
     pub sizes: Result<Application, u8>,
     /// The card number that it told last, if it was valid.
     pub number: Option<FullCardNumber>,
@@ -83,6 +83,16 @@ impl Cards {
         match card {
             Card::A => self.a.accepted = session,
             Card::B => self.b.accepted = session,
+        }
+    }
+
+    /// A card has told these sizes, or a bad field in their place.
+    pub fn measure(&mut self, card: Card, sizes: Result<Application, u8>)
+        ensures { self.new ≡ with_sizes card sizes self.old }
+    {
+        match card {
+            Card::A => self.a.sizes = sizes,
+            Card::B => self.b.sizes = sizes,
         }
     }
 

@@ -9,7 +9,7 @@ use Rattle.card_download.specs.declared.fault.CardFileFault.{CardFileFault}
 use Rattle.card_download.specs.declared.fault.CardFileFault.TheVariants as writing
 use Rattle.card_download.specs.Faults.{has_failed}
 use Rattle.card_download.specs.Written.{Writes, IsWriteFault, IsBad}
-use Rattle.recorder.specs.declared.outcome.Outcome.{Outcome}
+use Rattle.run_outcome.specs.declared.outcome.Outcome.{Outcome}
 use Rattle.tacho.specs.declared.end.Fault.TheVariants.{Done, Usage, ReadFault, WriteFault, MediumFault, BadCard}
 use Rattle.tacho.specs.declared.forms.Form.TheVariants.{CardFile}
 use Rattle.tacho.specs.End.{ended_by, is_medium_fault}

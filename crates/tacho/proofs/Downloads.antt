@@ -14,7 +14,7 @@ use Rattle.unit_download.specs.declared.wire.Passed.{Passed}
 use Rattle.unit_download.specs.declared.fault.DownloadFault.{DownloadFault}
 use Rattle.unit_download.specs.declared.fault.DownloadFault.TheVariants as download
 use Rattle.unit_download.specs.Ending.{IsDownload, IfBad, has_failed}
-use Rattle.recorder.specs.declared.outcome.Outcome.{Outcome}
+use Rattle.run_outcome.specs.declared.outcome.Outcome.{Outcome}
 use Rattle.tacho.specs.declared.end.Fault.TheVariants.{Done, Usage, BadUnit, ReadFault, WriteFault, MediumFault, Memory, Changed}
 use Rattle.tacho.specs.declared.forms.Form.TheVariants.{Download}
 use Rattle.tacho.specs.End.{ended_with, is_medium_fault}

@@ -16,7 +16,7 @@ use Rattle.tacho.specs.End.{end_of, ended_by, IsUnread, IsUnprinted}
 use Rattle.tacho.specs.Outside.{Outside}
 use Rattle.tacho.specs.Minutes.{PrintsMinutes, IsMinutesEnd, EndsMinutes}
 use Rattle.tacho.specs.View.{PrintsFile, IsBadFile, IsViewEnd, EndsView, most_bytes}
-use Rattle.recorder.specs.declared.outcome.Outcome.{Outcome}
+use Rattle.run_outcome.specs.declared.outcome.Outcome.{Outcome}
 use Rattle.tacho.specs.Recorded.{IsEmpty}
 use Rattle.tacho.specs.Program.{Ends, EndsForm, IsUnrecorded, IsUnpassed}
 use Rattle.tacho.proofs.EndLaws.{prints-end, wanted-end, judges-trace}

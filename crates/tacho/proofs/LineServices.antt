@@ -13,7 +13,7 @@ use Rattle.link_service.specs.declared.fault.LinesFault.{LinesFault}
 use Rattle.link_service.specs.declared.fault.LinesFault.TheVariants as lines
 use Rattle.link_service.specs.Served.{IsCaused, has_failed}
 use Rattle.link_service.specs.ServedLines.{AreServed, AreCaused, have_failed}
-use Rattle.recorder.specs.declared.outcome.Outcome.{Outcome}
+use Rattle.run_outcome.specs.declared.outcome.Outcome.{Outcome}
 use Rattle.tacho.specs.declared.end.Fault.{Fault}
 use Rattle.tacho.specs.declared.end.Fault.TheVariants.{Done, Usage, BadUnit, ReadFault, WriteFault, MediumFault}
 use Rattle.tacho.specs.declared.forms.Form.TheVariants.{ServeHex}

@@ -21,8 +21,9 @@ use Rattle.unit_model.specs.Image.{last_kept}
 use Rattle.unit_model.specs.Decoding.{Decodes, Check, first_failing, first_bad_place, checks}
 use Rattle.recorder.specs.declared.opening.RunFault.{RunFault}
 use Rattle.recorder.specs.declared.opening.RunFault.TheVariants as run
-use Rattle.recorder.specs.declared.outcome.Outcome.{Outcome}
-use Rattle.recorder.specs.Trace.{IsForUnit, IsReserved}
+use Rattle.run_outcome.specs.declared.outcome.Outcome.{Outcome}
+use Rattle.run_outcome.specs.Room.{IsReserved}
+use Rattle.recorder.specs.Trace.{IsForUnit}
 use Rattle.recorder.specs.Booked.{StartsAs}
 use Rattle.recorder.specs.Opening.{IsRefused, IsUnitFault}
 use Rattle.tacho.specs.declared.end.Fault.{Fault}

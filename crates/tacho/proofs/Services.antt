@@ -11,7 +11,7 @@ use Rattle.unit_journal.specs.Reading.{ReadsIfAny}
 use Rattle.link_service.specs.declared.fault.ServeFault.{ServeFault}
 use Rattle.link_service.specs.declared.fault.ServeFault.TheVariants as service
 use Rattle.link_service.specs.Served.{IsServed, IsCaused, has_failed}
-use Rattle.recorder.specs.declared.outcome.Outcome.{Outcome}
+use Rattle.run_outcome.specs.declared.outcome.Outcome.{Outcome}
 use Rattle.tacho.specs.declared.end.Fault.{Fault}
 use Rattle.tacho.specs.declared.end.Fault.TheVariants.{Done, Usage, TooLong, BadUnit, ReadFault, WriteFault, MediumFault}
 use Rattle.tacho.specs.declared.forms.Form.TheVariants.{Serve}

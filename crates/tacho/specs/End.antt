@@ -5,7 +5,7 @@ use Rattle.trace_text.specs.declared.trace.TraceFault.TheVariants as trace
 use Rattle.tacho.specs.declared.end.Fault.{Fault}
 use Rattle.tacho.specs.declared.end.Fault.TheVariants.{Done, Usage, BadTrace, TooLong, BadUnit, ClockBack, ReadFault, WriteFault, MediumFault, Memory, BadFile, BadCard, Changed}
 use Rattle.tacho.specs.declared.end.Ended.{Ended}
-use Rattle.recorder.specs.declared.outcome.Outcome.{Outcome}
+use Rattle.run_outcome.specs.declared.outcome.Outcome.{Outcome}
 use Rattle.unit_download.specs.declared.wire.Passed.{Passed}
 
 abbrev pub status_of : Fault → ℕ

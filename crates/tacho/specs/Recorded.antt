@@ -13,7 +13,7 @@ use Rattle.recorder.specs.Booked.{StartsAs}
 use Rattle.recorder.specs.Followed.{IsFollowed, NoVerdict, breakdowns_of, run_log}
 use Rattle.recorder.specs.declared.opening.RunFault.{RunFault}
 use Rattle.recorder.specs.declared.opening.RunFault.TheVariants as run
-use Rattle.recorder.specs.declared.outcome.Outcome.{Outcome}
+use Rattle.run_outcome.specs.declared.outcome.Outcome.{Outcome}
 use Rattle.trace_model.specs.declared.Item.{Item}
 use Rattle.trace_model.specs.Trace.{seconds_of}
 use Rattle.trace_text.specs.declared.trace.Form.TheVariants.{UnitAlone}

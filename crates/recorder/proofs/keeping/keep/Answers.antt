@@ -1,7 +1,7 @@
 use Rattle.std.proofs.Common.{◌≡◌, ◌∙◌, ◌++◌, ◌∷◌, [], ℕ, ap, refl, arith}
 use Rattle.run_model.specs.declared.Device.{Device}
 use Rattle.log_model.specs.declared.lines.Mark.{Mark}
-use Rattle.recorder.specs.Lines.{Listed}
+use Rattle.run_outcome.specs.Lines.{Listed}
 use Rattle.recorder.specs.Keeping.{odometer_by}
 use Rattle.recorder.proofs.Keep.{on_err, keep-stands, keep-strands}
 use Rattle.event_course.proofs.Frames.{noted-kept}

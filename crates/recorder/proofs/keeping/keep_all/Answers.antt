@@ -7,7 +7,7 @@ use Rattle.unit_course.proofs.Legs.{travelled-earlier}
 use Rattle.recorder.specs.Keeping.{due_after, kept_all}
 use Rattle.recorder.proofs.Keep.{on_err, kept_all-none, due-here, kept-here, late-here, stands-here, broken-here}
 use Rattle.log_model.specs.declared.lines.Mark.{Mark}
-use Rattle.recorder.specs.Lines.{Listed}
+use Rattle.run_outcome.specs.Lines.{Listed}
 use Rattle.recorder.specs.Keeping.{MarksStay, AreAllMarked}
 use Rattle.recorder.proofs.Staying.{stays-same, stays-then, stays-more, marked-none, marked-more}
 use Rattle.recorder.proofs.Watching.{still-noted, noted-then-still}

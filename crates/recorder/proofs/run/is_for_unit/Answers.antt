@@ -1,6 +1,6 @@
 use Rattle.std.proofs.Common.{◌≡◌, ◌+◌, IsTrue, true, drop, sym, subst, ◌∙◌}
 use Rattle.recorder.specs.Trace.{needs_no_card, IsForUnit}
-use Rattle.recorder.proofs.Items.{left-here}
+use Rattle.run_outcome.proofs.Items.{left-here}
 use Rattle.recorder.proofs.run.is_for_unit.Goals as goal
 
 pub loop-i-preserved : goal.loop-i-preserved

@@ -38,14 +38,15 @@ use Rattle.recorder.specs.Standing.{begun_with, not_travelled, Stands}
 use Rattle.unit_rule.proofs.Safety.{unit-safe}
 use Rattle.recorder.specs.declared.run.Power.{Power}
 use Rattle.recorder.specs.declared.run.Power.TheVariants.{Lit, Due}
-use Rattle.recorder.specs.Lines.{Listed}
+use Rattle.run_outcome.specs.Lines.{Listed}
 use Rattle.unit_model.specs.declared.layout.TheConstants.{IMAGE_SIZE, SPEED_LIMIT}
 use Rattle.recorder.specs.Going.{waiting, cuts_from}
 use Rattle.recorder.specs.Booked.{StartsAs, started, due_of}
 use Rattle.recorder.proofs.Opened.{opened-stands, opened-noted, opened-limit, kept-is, decodes-is, later-is-units, refused-is-units}
-use Rattle.recorder.specs.Room.{offs, off_count}
+use Rattle.run_outcome.specs.Room.{offs, off_count}
 use Rattle.recorder.specs.Turn.{HasRoom}
-use Rattle.recorder.proofs.Items.{each-at, seconds-here, offs-here, room-less, room-behind, waiting-most, total-parts}
+use Rattle.run_outcome.proofs.Items.{seconds-here, offs-here}
+use Rattle.recorder.proofs.Items.{each-at, room-less, room-behind, waiting-most, total-parts}
 use Rattle.recorder.proofs.Standing.{may-show}
 use Rattle.recorder.proofs.Turning.{booked-at, goes-then}
 use Rattle.recorder.proofs.Broken.{broke-none, broke-then, broke-all, rose-by}

@@ -7,7 +7,7 @@ use Rattle.recorder.specs.Recorded.{Recorded}
 use Rattle.recorder.proofs.Recording.{stepped, driven-first}
 use Rattle.std.specs.Prelude.{◌&&◌}
 use Rattle.log_model.specs.declared.lines.Refused.{Refused}
-use Rattle.recorder.specs.Lines.{Listed}
+use Rattle.run_outcome.specs.Lines.{Listed}
 use Rattle.recorder.specs.Power.{is_lit, has_power}
 use Rattle.recorder.specs.Acting.{between, actions_in, picks_in, refused_in, with_picks}
 use Rattle.recorder.proofs.Acting.{going-picked, late-picked, booked-picked, acted-room}

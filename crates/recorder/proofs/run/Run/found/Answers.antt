@@ -12,7 +12,7 @@ use Rattle.recorder.specs.declared.run.Power.TheVariants.{Lit, Lost}
 use Rattle.recorder.specs.Going.{waiting}
 use Rattle.recorder.proofs.Watching.{gap-is, fresh-watches, fresh-goes, dark-goes}
 use Rattle.log_model.specs.declared.lines.Break.{Break}
-use Rattle.recorder.specs.Lines.{Listed, cut_at, found_from}
+use Rattle.run_outcome.specs.Lines.{Listed, cut_at, found_from}
 use Rattle.recorder.specs.declared.run.Run.{Run}
 use Rattle.recorder.proofs.Turning.{booked-at, lost-booked}
 use Rattle.recorder.proofs.Broken.{broke-found, broke-once, broke-then}

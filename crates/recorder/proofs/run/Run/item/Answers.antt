@@ -4,7 +4,7 @@ use Rattle.trace_model.specs.declared.Item.{Item}
 use Rattle.trace_model.specs.Trace.{TraceSecond, item_seconds, seconds_at}
 use Rattle.trace_text.specs.Line.{InRange}
 use Rattle.log_model.specs.declared.lines.Break.{Break}
-use Rattle.recorder.specs.Lines.{Listed}
+use Rattle.run_outcome.specs.Lines.{Listed}
 use Rattle.recorder.specs.Acting.{between, actions_in}
 use Rattle.recorder.specs.Recorded.{Recorded}
 use Rattle.recorder.proofs.Recording.{off-recorded, off-booked}

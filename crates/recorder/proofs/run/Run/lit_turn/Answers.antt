@@ -8,7 +8,7 @@ use Rattle.recorder.specs.Going.{waiting, IsGoing}
 use Rattle.recorder.specs.Power.{is_lit}
 use Rattle.minute_rules.specs.Kept.{StandsFor}
 use Rattle.log_model.specs.declared.lines.Break.{Break}
-use Rattle.recorder.specs.Lines.{Listed, cut_at}
+use Rattle.run_outcome.specs.Lines.{Listed, cut_at}
 use Rattle.recorder.specs.Keeping.{AreDue, kept_after, AreFrom, due_after, kept_all, IsBrokenOff, AreAllMarked}
 use Rattle.recorder.proofs.Turning.{turn-decides, turn-end, turn-low, turn-room, turn-room_lit, turn-room_lost, turn-stands, turn-kept, turn-broken, turn-unnoted, break-lit, break-lost}
 use Rattle.recorder.proofs.Broken.{broke-none, broke-once}

@@ -11,7 +11,7 @@ use Rattle.unit_course.specs.Travelled.{MayShow}
 use Rattle.recorder.proofs.Standing.{may-show, stands-read, stands-found, stands-later}
 use Rattle.recorder.specs.declared.run.Run.{Run}
 use Rattle.log_model.specs.declared.lines.Break.{Break}
-use Rattle.recorder.specs.Lines.{Listed}
+use Rattle.run_outcome.specs.Lines.{Listed}
 use Rattle.recorder.specs.Booked.{Booked, due_of}
 use Rattle.recorder.proofs.Turning.{lost-booked, left-decodes}
 use Rattle.recorder.proofs.Broken.{broke-none, broke-once, broke-then}

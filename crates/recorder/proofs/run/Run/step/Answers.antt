@@ -7,7 +7,7 @@ use Rattle.minute_rules.specs.Kept.{StandsFor}
 use Rattle.recorder.specs.Power.{is_lit, has_power}
 use Rattle.recorder.specs.Acting.{with_picks}
 use Rattle.log_model.specs.declared.lines.Refused.{Refused}
-use Rattle.recorder.specs.Lines.{Listed}
+use Rattle.run_outcome.specs.Lines.{Listed}
 use Rattle.recorder.proofs.Actions.{picks-none, with-none, refused-none}
 use Rattle.recorder.proofs.Recording.{stepped}
 use Rattle.recorder.proofs.Courses.{none-last}

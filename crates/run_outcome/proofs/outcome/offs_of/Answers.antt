@@ -1,9 +1,9 @@
 use Rattle.std.proofs.Common.{◌≡◌, ◌+◌, ◌≤◌, true, false, Bool, drop, ap, sym, ◌∙◌, arith}
 use Rattle.std.specs.Prelude.{if◌then◌else◌, ℕ}
-use Rattle.recorder.specs.Room.{offs}
-use Rattle.recorder.proofs.Items.{offs-here}
-use Rattle.recorder.proofs.outcome.offs_of.Goals as goal
-use Rattle.recorder.proofs.outcome.offs_of.Goals.{then-is_off, else-is_off}
+use Rattle.run_outcome.specs.Room.{offs}
+use Rattle.run_outcome.proofs.Items.{offs-here}
+use Rattle.run_outcome.proofs.outcome.offs_of.Goals as goal
+use Rattle.run_outcome.proofs.outcome.offs_of.Goals.{then-is_off, else-is_off}
 
 pub loop-i-preserved : goal.loop-i-preserved
 loop-i-preserved c =

@@ -2,9 +2,9 @@ use Rattle.std.proofs.Common.{◌≡◌, ◌∙◌, ℕ, ◌+◌, List, [], ◌�
 use Rattle.std.specs.Prelude.{map, slice_index_or, slice_set}
 use Rattle.std.proofs.lemmas.List.{map-append, length-map}
 use Rattle.log_model.specs.declared.lines.Break.{Break}
-use Rattle.recorder.specs.Lines.{with_kept}
-use Rattle.recorder.proofs.Seams.{at-seam, set-seam, first-left}
-use Rattle.recorder.proofs.lines.find_kept.Goals as goal
+use Rattle.run_outcome.specs.Lines.{with_kept}
+use Rattle.run_outcome.proofs.Seams.{at-seam, set-seam, first-left}
+use Rattle.run_outcome.proofs.lines.find_kept.Goals as goal
 
 pub loop-i-preserved : goal.loop-i-preserved
 loop-i-preserved c =

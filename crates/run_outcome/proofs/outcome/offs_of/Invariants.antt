@@ -1,6 +1,6 @@
 use Rattle.std.proofs.Common.{◌≡◌, ◌+◌, ◌≤◌, drop}
-use Rattle.recorder.specs.Room.{offs}
-use Rattle.recorder.proofs.outcome.offs_of.Given as goal
+use Rattle.run_outcome.specs.Room.{offs}
+use Rattle.run_outcome.proofs.outcome.offs_of.Given as goal
 
 abbrev pub invariant-loop-i : goal.invariant-loop-i
 invariant-loop-i l = record {

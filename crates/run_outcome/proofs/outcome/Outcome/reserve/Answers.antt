@@ -1,9 +1,9 @@
 use Rattle.std.proofs.Common.{◌+◌, ◌<◌, ◌≤◌, arith}
-use Rattle.recorder.proofs.Items.{offs-most}
-use Rattle.recorder.proofs.outcome.Outcome.reserve.Goals as goal
+use Rattle.run_outcome.proofs.Items.{offs-most}
+use Rattle.run_outcome.proofs.outcome.Outcome.reserve.Goals as goal
 
-pub overflow_add-minutes-2 : goal.overflow_add-minutes-2
-overflow_add-minutes-2 c =
+pub overflow_add-cuts : goal.overflow_add-cuts
+overflow_add-cuts c =
     let most = offs-most c.args.trace.now.items c.requires.well.each in
     let few = c.requires.well.within.0 in
     omega (arith, most, few)

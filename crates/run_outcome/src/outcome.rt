@@ -1,15 +1,17 @@
 //! What a run tells of itself.
-ghost use Rattle.std.specs.Prelude.{◌≡◌, ◌≤◌, [], IfOk};
+ghost use Rattle.std.specs.Prelude.{◌≡◌, ◌+◌, ◌≤◌, [], IfOk};
 ghost use Rattle.trace_model.specs.Trace.{item_seconds, total_seconds};
 ghost use Rattle.trace_text.specs.Trace.{IsWellFormed};
-ghost use Rattle.recorder.specs.Room.{offs, is_off};
-ghost use Rattle.recorder.specs.Trace.{IsReserved};
+ghost use Rattle.run_outcome.specs.Room.{offs, is_off, insertions, is_insertion, IsReserved};
 
 use crate::lines::Lines;
 use log_model::{Break, Find, Mark, Refused};
 use std::alloc::Global;
 use tach_media::Memory;
-use trace_text::{Item, Items, Trace};
+use trace_text::{Action, Item, Items, Trace};
+
+/// So many entries may be owed to a card.
+const MOST_OWED: usize = 4;
 
 /// The lines of a run, each list in order of time: what the devices have acknowledged, where power was lost or a card torn
 /// out, which actions were refused, and what insertions found.
@@ -47,15 +49,28 @@ impl Outcome {
         ensures { IfOk result (IsReserved trace.now.items) }
     {
         let minutes = seconds_of(&trace.items) / 60 + 2;
-        let marks = Lines::with_room(alloc, minutes)?;
-        let breaks = Lines::with_room(alloc, minutes + offs_of(&trace.items))?;
+        let cuts = minutes + offs_of(&trace.items);
+        let insertions = insertions_of(&trace.items);
+        let marks = Lines::with_room(alloc, 3 * minutes + 2 * MOST_OWED)?;
+        let breaks = Lines::with_room(alloc, room_for(cuts, insertions)?)?;
         let refused = Lines::with_room(alloc, trace.items.len())?;
+        let finds = Lines::with_room(alloc, room_for(2 * cuts, insertions)?)?;
         Ok(Outcome {
             marks,
             breaks,
             refused,
-            finds: Lines::new(alloc),
+            finds,
         })
+    }
+}
+
+// Room for so many lines and so many more, where a list can have as many.
+fn room_for(some: usize, more: usize) -> Result<usize, Memory>
+    ensures { IfOk result (λ room. room ≡ some + more) }
+{
+    match some.checked_add(more) {
+        Some(room) => Ok(room),
+        None => Err(Memory),
     }
 }
 
@@ -101,5 +116,28 @@ fn is_off(item: Item) -> bool
     match item {
         Item::Off { .. } => true,
         Item::Run { .. } | Item::Act(_) => false,
+    }
+}
+
+// How many of these items put a card into a slot.
+fn insertions_of(items: &Items) -> usize
+    ensures { result ≡ insertions items.now }
+{
+    let mut count = 0;
+    for i in 0..items.len() {
+        if is_insertion(*items.get(i)) {
+            count += 1;
+        }
+    }
+    count
+}
+
+// Whether an item puts a card into a slot.
+fn is_insertion(item: Item) -> bool
+    ensures { result ≡ is_insertion item }
+{
+    match item {
+        Item::Act(Action::Insert { .. }) => true,
+        Item::Run { .. } | Item::Off { .. } | Item::Act(_) => false,
     }
 }

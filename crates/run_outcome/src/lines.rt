@@ -6,7 +6,7 @@ use std::alloc::Global;
 use std::marker::Model;
 use tach_media::Memory;
 
-/// Lines in order of time. Only `run_trace` adds to them.
+/// Lines in order of time.
 #[derive(Drop)]
 pub struct Lines<T> {
     list: Vec<T>,
@@ -15,7 +15,7 @@ pub struct Lines<T> {
 
 impl<T> Model for Lines<T> {
     ghost use Rattle.std.specs.Prelude.{◌≤◌, vec_capacity, vec_len};
-    ghost use Rattle.recorder.specs.Lines.{Listed};
+    ghost use Rattle.run_outcome.specs.Lines.{Listed};
 
     ghost Value = { Listed T };
 
@@ -72,19 +72,29 @@ impl<T: Copy> Lines<T> {
     }
 
     /// Adds a line at the end.
-    pub(crate) fn add(&mut self, line: T)
+    pub fn add(&mut self, line: T)
         requires { length self.old.items < self.old.room }
         ensures { self.new ≡ record { items = self.old.items ++ line ∷ []; room = self.old.room } }
     {
         self.list.push(line).unwrap();
     }
+
+    /// Adds a line at the end, where there is room.
+    pub fn add_if_room(&mut self, line: T)
+        ensures room { length self.old.items < self.old.room → self.new ≡ record { items = self.old.items ++ line ∷ []; room = self.old.room } }
+        ensures full { self.old.room ≤ length self.old.items → self.new ≡ self.old }
+    {
+        if self.list.len() < self.room {
+            self.add(line);
+        }
+    }
 }
 
 impl Lines<Break> {
-    ghost use Rattle.recorder.specs.Lines.{found_from};
+    ghost use Rattle.run_outcome.specs.Lines.{found_from};
 
     /// The power-on that comes after these breaks, from an index on, has found this last-kept minute.
-    pub(crate) fn find(&mut self, from: usize, kept: u32)
+    pub fn find(&mut self, from: usize, kept: u32)
         requires { from ≤ length self.old.items }
         ensures { self.new ≡ record { items = found_from from kept self.old.items; room = self.old.room } }
     {
@@ -121,4 +131,4 @@ fn find_kept(breaks: &mut [Break], kept: u32)
     }
 }
 
-ghost use Rattle.recorder.specs.Lines.{with_kept};
+ghost use Rattle.run_outcome.specs.Lines.{with_kept};

@@ -1,7 +1,7 @@
 use Rattle.std.proofs.Common.{◌≡◌, ◌+◌, ◌≤◌, drop, arith}
 use Rattle.trace_model.specs.Trace.{total_seconds}
-use Rattle.recorder.proofs.Items.{seconds-here}
-use Rattle.recorder.proofs.outcome.seconds_of.Goals as goal
+use Rattle.run_outcome.proofs.Items.{seconds-here}
+use Rattle.run_outcome.proofs.outcome.seconds_of.Goals as goal
 
 pub overflow_add-total : goal.overflow_add-total
 overflow_add-total c =

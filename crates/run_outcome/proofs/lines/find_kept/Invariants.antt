@@ -1,8 +1,8 @@
 use Rattle.std.proofs.Common.{◌≡◌, List, ◌++◌, length}
 use Rattle.std.specs.Prelude.{map}
 use Rattle.log_model.specs.declared.lines.Break.{Break}
-use Rattle.recorder.specs.Lines.{with_kept}
-use Rattle.recorder.proofs.lines.find_kept.Given as goal
+use Rattle.run_outcome.specs.Lines.{with_kept}
+use Rattle.run_outcome.proofs.lines.find_kept.Given as goal
 
 abbrev pub invariant-loop-i : goal.invariant-loop-i
 invariant-loop-i l =

@@ -1,0 +1,73 @@
+-- How many lines a run can have (profile).
+use Rattle.std.specs.Prelude.{◌≡◌, ℕ, ◌+◌, ◌*◌, ◌/◌, Bool, true, false, if◌then◌else◌, List, [], length, count_by}
+use Rattle.trace_model.specs.declared.Action.{Action}
+use Rattle.trace_model.specs.declared.Action.TheVariants.{Select, Insert, Withdraw, Tear, Place}
+use Rattle.trace_model.specs.declared.Item.{Item}
+use Rattle.trace_model.specs.declared.Item.TheVariants.{Run, Off, Act}
+use Rattle.trace_model.specs.Trace.{total_seconds}
+use Rattle.run_outcome.specs.declared.outcome.Outcome.{Outcome}
+use Rattle.run_outcome.specs.declared.outcome.TheConstants.{MOST_OWED}
+
+-- seconds without power
+abbrev pub is_off : Item → Bool
+is_off (Run seconds speed) = false
+is_off (Off seconds) = true
+is_off (Act action) = false
+
+-- a card is put into a slot
+abbrev pub puts_in : Action → Bool
+puts_in (Select slot pick) = false
+puts_in (Insert slot card) = true
+puts_in (Withdraw slot) = false
+puts_in (Tear slot) = false
+puts_in (Place slot ending country region) = false
+
+abbrev pub is_insertion : Item → Bool
+is_insertion (Run seconds speed) = false
+is_insertion (Off seconds) = false
+is_insertion (Act action) = puts_in action
+
+-- how many `off` lines an item is
+abbrev pub off_count : Item → ℕ
+off_count item = if is_off item then 1 else 0
+
+abbrev pub offs : List Item → ℕ
+offs items = count_by is_off items
+
+-- and how many insertions
+abbrev pub insertion_count : Item → ℕ
+insertion_count item = if is_insertion item then 1 else 0
+
+abbrev pub insertions : List Item → ℕ
+insertions items = count_by is_insertion items
+
+-- the minutes that the seconds of these items touch, at most
+abbrev pub most_minutes : List Item → ℕ
+most_minutes items = total_seconds items / 60 + 2
+
+-- power is back at a minute or behind an `off` line, so each of these has one cut at most
+abbrev pub most_cuts : List Item → ℕ
+most_cuts items = most_minutes items + offs items
+
+-- each minute is acknowledged once by each of the three devices, and each card acknowledges what it is owed at the start
+abbrev pub most_marks : List Item → ℕ
+most_marks items = 3 * most_minutes items + 2 * MOST_OWED
+
+-- a card is torn out of a slot only where it was put in since the last tear, or sat there at its begin
+abbrev pub most_breaks : List Item → ℕ
+most_breaks items = most_cuts items + insertions items
+
+-- each action is refused once at most
+abbrev pub most_refused : List Item → ℕ
+most_refused items = length items
+
+-- a power-on finds two cards at most, and an insertion one
+abbrev pub most_finds : List Item → ℕ
+most_finds items = 2 * most_cuts items + insertions items
+
+-- an outcome has no line, and was reserved for a trace
+pub record IsReserved (items : List Item) (o : Outcome) : Type 0 where
+  pub marks : o.marks ≡ record { items = []; room = most_marks items }
+  pub breaks : o.breaks ≡ record { items = []; room = most_breaks items }
+  pub refused : o.refused ≡ record { items = []; room = most_refused items }
+  pub finds : o.finds ≡ record { items = []; room = most_finds items }
