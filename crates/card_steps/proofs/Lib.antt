@@ -13,3 +13,4 @@ pub mod Inserted
 pub mod Since
 pub mod Kept
 pub mod OfCards
+pub mod Images

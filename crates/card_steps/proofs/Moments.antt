@@ -87,7 +87,7 @@ module _ (s : Session) (e : Entry) (odometer : ℕ) (x y : List ℕ) (slack : Bo
             ∙ lists_trimmed (end_mark app y) all (card_days app y) these (up at)
             (keep_shows app sound x (days_there s x knows) all g.until g.lists s.registration odometer (grown s.odometer odometer) e y before clear keeping.card at);
       });
-      newest = newest_before app sound x (days_there s x knows) s.registration odometer (grown s.odometer odometer) e before y keeping.card clear at;
+      newest = newest_before app sound x (days_there s x knows) s.registration odometer (grown s.odometer odometer) e before y keeping.card at;
     }
 
   -- the end mark has moved, the days go on, and the entry is shown

@@ -3,3 +3,4 @@ pub mod Shows
 pub mod Closes
 pub mod Inserts
 pub mod Since
+pub mod Each

@@ -1,33 +1,29 @@
 -- What is acknowledged, over the steps of a run with cards.
-use Rattle.std.proofs.Common.{◌≡◌, ◌⊎◌, inl, inr, ⊎_elim, ℕ, zero, suc, ◌+◌, ◌-◌, ◌*◌, ◌/◌, ◌<◌, ◌≤◌, Bool, true, false, cond, nat_le, nat_lt, Option, Some, None, List, [], ◌∷◌, ◌++◌, Contains, length, map, filter, refl, ap, sym, subst, ◌∙◌, arith, append-nil, append_assoc}
-use Rattle.std.specs.Prelude.{max, option_to_list}
+use Rattle.std.proofs.Common.{◌≡◌, ◌⊎◌, inl, inr, ⊎_elim, ℕ, zero, suc, ◌+◌, ◌-◌, ◌*◌, ◌/◌, ◌<◌, ◌≤◌, Bool, true, false, cond, nat_le, Option, Some, None, List, [], ◌∷◌, ◌++◌, Contains, length, map, filter, refl, ap, sym, subst, ◌∙◌, arith, append-nil}
 use Rattle.std.specs.List.{AllByRecursion}
 use Rattle.std.proofs.lemmas.List.{map-append}
-use Rattle.std.proofs.lemmas.List.Elements.{All-contains, filter-append, Contains-append_left, Contains-append_right, Contains-append_cases, Contains-push, Contains-push_cases}
+use Rattle.std.proofs.lemmas.List.Elements.{filter-append, Contains-append_left, Contains-append_right, Contains-append_cases, Contains-push, Contains-push_cases}
 use Rattle.activity_codec.specs.declared.entries.Entry.{Entry}
 use Rattle.trace_model.specs.declared.Card.{Card}
 use Rattle.trace_model.specs.Trace.{TraceSecond}
-use Rattle.run_model.specs.declared.Device.{Device}
 use Rattle.run_model.specs.declared.Device.TheVariants.{Unit as Recorder}
 use Rattle.minute_model.specs.declared.Rule.{Rule}
 use Rattle.minute_model.specs.declared.Minute.{Minute}
 use Rattle.minute_model.specs.Minute.{minutes_ahead}
-use Rattle.minute_model.specs.Span.{Span, end_of, count_from, ungiven_of, latest, AreNumbered}
+use Rattle.minute_model.specs.Span.{count_from, ungiven_of, latest, AreNumbered}
 use Rattle.minute_model.proofs.Counted.{decided-minutes}
 use Rattle.log_model.specs.declared.lines.Mark.{Mark}
 use Rattle.log_model.specs.Log.{RunLog}
 use Rattle.log_model.specs.Causes.{device_of}
-use Rattle.log_model.specs.Course.{Told, Went, went, second_told}
-use Rattle.log_model.specs.Spans.{spans_of, spans_with, seconds_in, first_in, end_in, AreInOrder, AreApart}
-use Rattle.log_model.proofs.Growth.{went-more}
+use Rattle.log_model.specs.Course.{Told, went, second_told}
+use Rattle.log_model.specs.Spans.{spans_of, seconds_in, first_in, end_in, AreApart}
 use Rattle.log_model.proofs.Spanning.{spanned, spans-more, spans-new, spans-dark, end-on}
 use Rattle.history_model.specs.Minutes.{HistoryMinute, on_card}
 use Rattle.history_model.specs.Presence.{Start}
 use Rattle.history_model.specs.History.{seated, minutes_after, settlings_of, decided_of, span_minutes, limited_to, limit_of, history_by, unit_history}
 use Rattle.history_model.specs.Growth.{as_span}
 use Rattle.history_model.specs.Book.{all}
-use Rattle.history_model.specs.Completeness.{deciding_of, IsMarked, CutIn, TornIn, BrokenIn, IsComplete}
-use Rattle.history_model.proofs.Books.{all-none}
+use Rattle.history_model.specs.Completeness.{deciding_of, IsMarked, CutIn, BrokenIn, IsComplete}
 use Rattle.history_model.proofs.Deciding.{counted, span-settled, short-none, apart-ended}
 use Rattle.history_model.proofs.Growing.{apart-last, dark-history, begun-history}
 use Rattle.history_model.proofs.Told.{more-told, spanned-so_far, told-next}
@@ -37,7 +33,7 @@ use Rattle.unit_course.proofs.Alike.{decided-empty}
 use Rattle.run_course.specs.Followed.{Progress, Followed, IsGoing, IsSupplied}
 use Rattle.run_course.specs.Seconds.{GoesOnBy, next_told, DecidedBy}
 use Rattle.run_course.specs.Complete.{AllMarked, AreAcknowledged, NothingIsDecidedYet, ASecondIsAcknowledged, PowerAloneDecidesNothing, MoreMarksStay}
-use Rattle.run_course.proofs.Core.{Core, IsShort, waits}
+use Rattle.run_course.proofs.Core.{Core, waits}
 use Rattle.run_course.proofs.Deciding.{added, decides-now, decides-still}
 use Rattle.run_course.proofs.New.{are-new}
 use Rattle.run_course.proofs.Steps.{core-of, lit-parts, lit, spans-now, now-told, order-now, feeds, fed-short, which, apart-front, span-end}

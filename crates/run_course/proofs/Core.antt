@@ -1,10 +1,9 @@
 -- What is followed of a run, but for the lines of its log and its power: over seconds, minutes that are kept, cuts, and what is found.
-use Rattle.std.proofs.Common.{◌≡◌, ◌⊎◌, inl, inr, ⊎_elim, ℕ, ◌+◌, ◌/◌, ◌<◌, ◌≤◌, Bool, true, false, ◌||◌, nat_lt, Option, Some, None, List, [], ◌∷◌, ◌++◌, All, length, take, refl, ap, sym, subst, ◌∙◌, append_assoc, append-nil, arith}
+use Rattle.std.proofs.Common.{◌≡◌, ◌⊎◌, inl, inr, ⊎_elim, ℕ, ◌+◌, ◌/◌, ◌<◌, ◌≤◌, Bool, true, false, ◌||◌, nat_lt, Option, Some, None, List, [], ◌∷◌, ◌++◌, All, length, take, refl, ap, sym, subst, ◌∙◌, append-nil, arith}
 use Rattle.std.specs.Prelude.{option_to_list}
 use Rattle.std.specs.List.{AllByRecursion}
 use Rattle.trace_model.specs.Trace.{TraceSecond}
 use Rattle.minute_model.specs.declared.Rule.{Rule}
-use Rattle.minute_model.specs.declared.Minute.{Minute}
 use Rattle.minute_model.specs.Activity.{last}
 use Rattle.log_model.specs.declared.lines.Break.{Break}
 use Rattle.log_model.specs.Log.{RunLog, kept_after}
@@ -24,7 +23,7 @@ use Rattle.unit_course.specs.Lines.{found_from, tells_cut}
 use Rattle.unit_course.specs.Followed.{Supply, Lit, Due, Lost, going_on, as_spans}
 use Rattle.unit_course.proofs.Lines.{take-all, tells-found, tells-front}
 use Rattle.unit_course.proofs.Parts.{beyond-mark, follows-whole, follows-same, whole-lost, short-history, short-lost}
-use Rattle.run_course.specs.Followed.{IsShut, IsOpen, IsTied}
+use Rattle.run_course.specs.Followed.{IsShut, IsTied}
 use Rattle.run_course.specs.Seconds.{kept_all, broken_at}
 use Rattle.run_course.proofs.Logs.{found_log, went-found, kept-found}
 use Rattle.run_course.proofs.Alike.{Stays, stays-same, empty-minutes, known-open}

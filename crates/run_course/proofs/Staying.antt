@@ -1,37 +1,29 @@
 -- What is acknowledged stays so where nothing is decided: power-ons, refusals, and the cut of an `off` line.
-use Rattle.std.proofs.Common.{◌≡◌, ◌⊎◌, inl, inr, ⊎_elim, ℕ, suc, ◌+◌, ◌-◌, ◌*◌, ◌<◌, ◌≤◌, Bool, true, false, not, Option, Some, None, List, [], ◌∷◌, ◌++◌, All, Contains, length, refl, ap, sym, subst, ◌∙◌, arith, append-nil}
-use Rattle.std.specs.List.{AllByRecursion}
-use Rattle.std.proofs.lemmas.List.Elements.{Contains-append_left, Contains-append_cases, Contains-push, Contains-push_cases}
-use Rattle.activity_codec.specs.declared.entries.Entry.{Entry}
+use Rattle.std.proofs.Common.{◌≡◌, ◌⊎◌, inl, inr, ⊎_elim, ℕ, ◌+◌, ◌-◌, ◌*◌, ◌≤◌, false, Option, Some, None, List, [], ◌∷◌, ◌++◌, Contains, length, refl, ap, sym, subst, ◌∙◌, arith}
+use Rattle.std.proofs.lemmas.List.Elements.{Contains-append_left, Contains-push, Contains-push_cases}
 use Rattle.trace_model.specs.declared.Card.{Card}
-use Rattle.trace_model.specs.Trace.{TraceSecond}
-use Rattle.run_model.specs.declared.Device.TheVariants.{Unit as Recorder}
 use Rattle.minute_model.specs.declared.Rule.{Rule}
 use Rattle.minute_model.specs.declared.Minute.{Minute}
 use Rattle.minute_model.specs.Activity.{last}
 use Rattle.log_model.specs.declared.lines.Mark.{Mark}
-use Rattle.log_model.specs.declared.lines.Refused.{Refused}
 use Rattle.log_model.specs.declared.lines.Break.{Break}
 use Rattle.log_model.specs.Log.{RunLog, kept_after}
-use Rattle.log_model.specs.Causes.{device_of}
-use Rattle.log_model.specs.Course.{Told, Went, has_power, second_told, went}
+use Rattle.log_model.specs.Course.{Told, Went, went}
 use Rattle.log_model.specs.Spans.{spans_of, AreInOrder}
-use Rattle.log_model.proofs.Spanning.{spans-more, spans-new}
-use Rattle.history_model.specs.Minutes.{HistoryMinute, on_card}
+use Rattle.history_model.specs.Minutes.{HistoryMinute}
 use Rattle.history_model.specs.Presence.{Start}
 use Rattle.history_model.specs.History.{settlings_of, decided_of, limit_by, cut_second, unit_history}
 use Rattle.history_model.specs.Growth.{SameLimits}
-use Rattle.history_model.specs.Book.{all, IsMark}
-use Rattle.history_model.specs.Completeness.{deciding_of, IsMarked, CutIn, BrokenIn, IsComplete}
+use Rattle.history_model.specs.Completeness.{deciding_of, CutIn, BrokenIn, IsComplete}
 use Rattle.history_model.proofs.BySeconds.{same-history}
 use Rattle.history_model.proofs.Deciding.{short-none}
 use Rattle.unit_course.specs.Turn.{cut_at_end, cut_last}
-use Rattle.unit_course.specs.Lines.{log_of, cut_at, found_from}
-use Rattle.unit_course.specs.Followed.{Supply, Lit, Due, Lost, MayPower, MayFail, as_spans}
+use Rattle.unit_course.specs.Lines.{log_of, cut_at}
+use Rattle.unit_course.specs.Followed.{Supply, Lit, Due, Lost, MayPower, MayFail}
 use Rattle.unit_course.proofs.Spans.{decided-cut, settlings-cut}
 use Rattle.run_course.specs.Moments.{and_break}
-use Rattle.run_course.specs.Followed.{Progress, Followed, Comes}
-use Rattle.run_course.specs.Seconds.{GoesOnBy, next_told}
+use Rattle.run_course.specs.Followed.{Followed, Comes}
+use Rattle.run_course.specs.Seconds.{next_told}
 use Rattle.run_course.specs.Complete.{FoundStaysComplete, AFailureStaysComplete, RefusalsStayComplete, ACutStaysComplete}
 use Rattle.run_course.proofs.Lookups.{kept-by}
 use Rattle.run_course.proofs.Logs.{went-refused, found_log}

@@ -1,49 +1,45 @@
 -- THE STEPS of a run with cards, each from what is followed before it to what is followed behind it.
-use Rattle.std.proofs.Common.{◌≡◌, ◌⊎◌, inl, inr, ⊎_elim, ℕ, zero, suc, ◌+◌, ◌-◌, ◌%◌, ◌/◌, ◌<◌, ◌≤◌, Bool, true, false, cond, not, ◌&&◌, ◌||◌, nat_lt, Option, Some, None, List, [], ◌∷◌, ◌++◌, All, length, map, filter, take, nat_eq, is_some, refl, ap, sym, subst, ◌∙◌, arith, append_assoc, append-nil, length-append}
+use Rattle.std.proofs.Common.{◌≡◌, ◌⊎◌, inl, inr, ⊎_elim, ℕ, zero, suc, ◌+◌, ◌-◌, ◌%◌, ◌/◌, ◌<◌, ◌≤◌, Bool, true, false, cond, not, ◌&&◌, ◌||◌, nat_lt, Option, Some, None, List, [], ◌∷◌, ◌++◌, length, map, filter, take, nat_eq, is_some, refl, ap, sym, subst, ◌∙◌, arith, append_assoc, append-nil, length-append}
 use Rattle.std.specs.Prelude.{option_to_list, if◌then◌else◌}
 use Rattle.std.specs.List.{AllByRecursion}
 use Rattle.std.proofs.lemmas.Bool.Decides.{nat_tests}
-use Rattle.activity_codec.specs.declared.values.Slot.{Slot}
-use Rattle.activity_codec.specs.declared.values.Pick.{Pick}
 use Rattle.trace_model.specs.declared.Action.{Action}
 use Rattle.trace_model.specs.Trace.{TraceSecond, driven, dark}
 use Rattle.minute_model.specs.declared.Rule.{Rule}
 use Rattle.minute_model.specs.declared.Minute.{Minute}
-use Rattle.minute_model.specs.Second.{minute_of}
 use Rattle.minute_model.specs.Activity.{last}
-use Rattle.minute_model.specs.Span.{Span, begin, fed, AreNumbered}
+use Rattle.minute_model.specs.Span.{begin, fed, AreNumbered}
 use Rattle.minute_model.proofs.Ranges.{last-push}
 use Rattle.log_model.specs.declared.lines.Break.{Break}
-use Rattle.log_model.specs.declared.lines.Find.{Find}
 use Rattle.log_model.specs.declared.lines.Refused.{Refused}
 use Rattle.log_model.specs.Log.{RunLog, cut_in, kept_after, is_torn_in}
 use Rattle.log_model.specs.Course.{Told, Went, Before, has_power, second_told, before_next, went_on, went}
 use Rattle.log_model.specs.Spans.{spans_with, spans_of, seconds_in, first_in, end_in, AreInOrder, AreApart}
 use Rattle.log_model.proofs.Growth.{went-more}
-use Rattle.log_model.proofs.Spanning.{EndsAt, IsSpanned, spanned, spans-more, spans-new, spans-dark, order-parts}
+use Rattle.log_model.proofs.Spanning.{EndsAt, spanned, spans-more, spans-new, spans-dark, order-parts}
 use Rattle.history_model.specs.Minutes.{HistoryMinute}
 use Rattle.history_model.specs.Presence.{Start}
 use Rattle.history_model.specs.History.{decided_of, minutes_after, span_minutes, cut_second, any_long, unit_history, with_lost}
 use Rattle.history_model.specs.Growth.{as_span, settled_where, picking, closed_history}
-use Rattle.history_model.specs.Book.{Book, all, not_begun, found, IsMark}
+use Rattle.history_model.specs.Book.{Book, found}
 use Rattle.history_model.proofs.Closing.{minutes-parts}
 use Rattle.history_model.proofs.Deciding.{apart-ended, short-none, span-more}
 use Rattle.history_model.proofs.Growing.{apart-last}
 use Rattle.unit_course.specs.Turn.{cut_at_end, cut_last, begins_with, span_at}
 use Rattle.unit_course.specs.Lines.{cut_at, found_from, tells_cut}
-use Rattle.unit_course.specs.Followed.{Supply, Lit, Due, Lost, MayPower, MayFail, IsDark, going_on, as_spans, cuts_from}
+use Rattle.unit_course.specs.Followed.{Supply, Lit, Due, Lost, MayPower, MayFail, IsDark, as_spans, cuts_from}
 use Rattle.unit_course.proofs.Lines.{tells-here}
 use Rattle.unit_course.proofs.Alike.{decided-empty}
 use Rattle.unit_course.proofs.Parts.{order-behind}
 use Rattle.unit_course.proofs.Spans.{cut_spans, cut-spans-last, decided-cut, length-cut, cut-number, ends-last}
 use Rattle.run_course.specs.Moments.{and_break}
-use Rattle.run_course.specs.Followed.{Progress, Comes, IsGoing, IsLost, IsSupplied, IsLastOf, HadActions, AreBefore, IsEnded, Followed}
+use Rattle.run_course.specs.Followed.{Progress, Comes, IsGoing, IsLost, IsSupplied, IsLastOf, HadActions, AreBefore, Followed}
 use Rattle.run_course.specs.Seconds.{kept_all, broken_at, GoesOnBy, next_told, DecidedBy, ARunBegins, APowerOnFinds, APowerOnFails, ASecondGoesOn, ASecondBreaksOff, RulesSeeTheSecond, AMinuteStaysDark, AnOffLineIsDark, AnOffLineCuts}
 use Rattle.run_course.proofs.Lookups.{cut-by, kept-by, break-more}
-use Rattle.run_course.proofs.Logs.{same-number, went-later, kept-later, tells-later, front-later, within-later, went-refused, tells-none, breaks-front, tells-cut, lines-more, lines-on, lines-later, lines-found, breaks-push, finds-later, found_log}
+use Rattle.run_course.proofs.Logs.{same-number, went-later, kept-later, tells-later, front-later, within-later, went-refused, tells-none, breaks-front, tells-cut, lines-more, lines-on, lines-later, lines-found, breaks-push, found_log}
 use Rattle.run_course.proofs.Alike.{Stays, stays-same, stays-more, stays-instead, span-before}
 use Rattle.run_course.proofs.Core.{Core, IsShort, shifted, shifted-short, waits, keeps-all, ends, lit-due, lost-due, due-lost, rests, rests-minutes, found-told, rest-found}
-use Rattle.run_course.proofs.Told.{IsLitAs, lit-told, IsDarkAs, dark-told, told-lit, comes-power, lit-power, lit-starts, lost-comes, lost-dark, next-going, next-lost, next-dark, IsOff, next-off, off-comes, spans-lit, solid-push, solid-cut, cut-with, second-cut}
+use Rattle.run_course.proofs.Told.{IsLitAs, lit-told, dark-told, told-lit, comes-power, lit-power, lit-starts, lost-comes, lost-dark, next-going, next-lost, next-dark, IsOff, next-off, off-comes, spans-lit, solid-push, solid-cut, cut-with, second-cut}
 
 -- WHAT IS FOLLOWED, and its core
 abbrev pub core-of : (rule : Rule) (start : Start) (from first : ℕ) (done : List TraceSecond) (p : Progress) → Followed rule start from first done p → Core rule start from first done p.log p.unfound p.next p.supply p.book p.waiting
