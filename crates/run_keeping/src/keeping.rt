@@ -1,5 +1,5 @@
 //! A minute is kept by the unit, and then on the cards that were present in it.
-ghost use Rattle.std.specs.Prelude.{◌≡◌, ◌⊎◌, ◌×◌, ◌≢◌, ℕ, ◌+◌, ◌-◌, ◌/◌, ◌<◌, ◌≤◌, false, Option, Some, IfSome, List, ◌∷◌, [], OnOk, OnErr, length, is_some, is_err};
+ghost use Rattle.std.specs.Prelude.{◌≡◌, ◌⊎◌, ◌≢◌, ℕ, ◌+◌, ◌-◌, ◌/◌, ◌<◌, ◌≤◌, false, Option, Some, IfSome, List, ◌∷◌, [], OnOk, OnErr, length, is_some, is_err};
 ghost use Rattle.tach_media.specs.Medium.{HasCause, HasBroken};
 ghost use Rattle.cyclic_days.specs.Steps.{IsIdle};
 ghost use Rattle.card_session.specs.declared.words.TheConstants.{LATEST_MINUTE};

@@ -10,3 +10,5 @@ mod tearing;
 
 pub use keeper::{Keeper, Moment};
 
+#[cfg(test)]
+mod tests;

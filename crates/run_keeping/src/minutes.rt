@@ -1,5 +1,5 @@
 //! Decided minutes are kept, one after another.
-ghost use Rattle.std.specs.Prelude.{◌≡◌, ◌×◌, ◌≢◌, ℕ, ◌+◌, ◌-◌, ◌*◌, ◌/◌, ◌<◌, ◌≤◌, true, Option, IfSome, All, OnOk, length, is_some, is_err};
+ghost use Rattle.std.specs.Prelude.{◌≡◌, ◌≢◌, ℕ, ◌+◌, ◌-◌, ◌*◌, ◌/◌, ◌<◌, ◌≤◌, true, Option, IfSome, All, OnOk, length, is_some, is_err};
 ghost use Rattle.tach_media.specs.Medium.{HasCause, HasBroken};
 ghost use Rattle.trace_model.specs.declared.Card.{Card};
 ghost use Rattle.slot_machine.specs.Calls.{present_in};

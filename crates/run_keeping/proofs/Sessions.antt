@@ -1,0 +1,115 @@
+-- What slots and sessions are behind an entry.
+use Rattle.std.proofs.Common.{◌≡◌, ◌∙◌, inl, inr, ℕ, ◌+◌, ◌<◌, ◌≤◌, Bool, true, false, Option, Some, None, IfSome, is_some, List, All, refl, ap, sym, subst, arith}
+use Rattle.std.specs.Prelude.{◌⊎◌, Result, Ok, Err}
+use Rattle.std.proofs.lemmas.List.Elements.{All-weaker}
+use Rattle.trace_model.specs.declared.Card.{Card}
+use Rattle.trace_model.specs.declared.Card.TheVariants.{A, B}
+use Rattle.tacho_types.specs.declared.card_number.FullCardNumber.{FullCardNumber}
+use Rattle.card_layout.specs.declared.files.Application.{Application}
+use Rattle.log_model.specs.Slots.{same_card}
+use Rattle.slot_machine.specs.declared.seats.Seat.{Seat}
+use Rattle.slot_machine.specs.declared.seats.Ended.{Ended}
+use Rattle.run_crew.specs.declared.cards.Accepted.{Accepted}
+use Rattle.run_crew.specs.declared.cards.Known.{Known}
+use Rattle.run_crew.specs.declared.cards.Cards.{Cards}
+use Rattle.run_crew.specs.declared.cabin.Cabin.{Cabin}
+use Rattle.run_crew.specs.Cards.{known_of, session_of, with_session, IsKnown}
+use Rattle.run_crew.specs.Cabin.{Stands, AnswersTo, SeatAnswers, EndedStands, IsBehind, AreTwo}
+
+-- a card's session is that of what is known of it
+pub session-is : (cards : Cards) (c : Card) → session_of cards c ≡ (known_of cards c).accepted
+session-is cards A = refl
+session-is cards B = refl
+
+-- a card whose sizes are bad has none
+pub bare-sizes : (known : Known) (e : ℕ) → IsKnown known → known.sizes ≡ Err e → known.accepted ≡ None
+bare-sizes known e is bad = by known.accepted refl
+  where
+    by : (o : Option Accepted) → known.accepted ≡ o → known.accepted ≡ None
+    by None here = here
+    by (Some a) here =
+        let sized : known.sizes ≡ Ok a.session.application = subst (λ (o : Option Accepted). IfSome o (λ x. known.sizes ≡ Ok x.session.application)) here is.sized in absurd (cc)
+
+-- no session is given up where there is none
+pub none-again : (c : Card) (cards : Cards) → session_of cards c ≡ None → with_session c None cards ≡ cards
+none-again A cards is = ap (λ (o : Option Accepted). record cards { a = record cards.a { accepted = o } }) (sym is)
+none-again B cards is = ap (λ (o : Option Accepted). record cards { b = record cards.b { accepted = o } }) (sym is)
+
+-- a session behind another
+pub session-twice : (c : Card) (s t : Option Accepted) (cards : Cards) → with_session c t (with_session c s cards) ≡ with_session c t cards
+session-twice A s t cards = refl
+session-twice B s t cards = refl
+
+pub sizes-set : (c d : Card) (s : Option Accepted) (cards : Cards) → (known_of (with_session c s cards) d).sizes ≡ (known_of cards d).sizes
+sizes-set A A s cards = refl
+sizes-set A B s cards = refl
+sizes-set B A s cards = refl
+sizes-set B B s cards = refl
+
+pub number-set : (c d : Card) (s : Option Accepted) (cards : Cards) → (known_of (with_session c s cards) d).number ≡ (known_of cards d).number
+number-set A A s cards = refl
+number-set A B s cards = refl
+number-set B A s cards = refl
+number-set B B s cards = refl
+
+pub known-set : (c : Card) (s : Option Accepted) (cards : Cards) → known_of (with_session c s cards) c ≡ record (known_of cards c) { accepted = s }
+known-set A s cards = refl
+known-set B s cards = refl
+
+-- where it kept an entry it goes by the same sizes
+pub known-on : (known : Known) (old new : Accepted) → known.accepted ≡ Some old → new.session.application ≡ old.session.application → IsKnown known → IsKnown (record known { accepted = Some new })
+known-on known old new here same is = record {
+  sized = subst (λ (o : Option Accepted). IfSome o (λ x. known.sizes ≡ Ok x.session.application)) here is.sized ∙ ap (λ (app : Application). Ok app) (sym same);
+  numbered = subst (λ (o : Option Accepted). IfSome o (λ x. is_some known.number ≡ true)) here is.numbered;
+}
+
+pub known-none : (known : Known) → IsKnown (record known { accepted = None })
+known-none known = record { sized = tt; numbered = tt }
+
+pub sized-by : (known : Known) (old : Accepted) → known.accepted ≡ Some old → IsKnown known → known.sizes ≡ Ok old.session.application
+sized-by known old here is = subst (λ (o : Option Accepted). IfSome o (λ x. known.sizes ≡ Ok x.session.application)) here is.sized
+
+-- ---- minutes that are not to be kept any more
+
+module _ (from n : ℕ) (le : from ≤ n) where
+  answers-later : (newest : Option ℕ) (session : Option Accepted) → AnswersTo from newest session → AnswersTo n newest session
+  answers-later None None answers = tt
+  answers-later None (Some a) answers = absurd answers
+  answers-later (Some m) None answers = absurd answers
+  answers-later (Some m) (Some a) (inl below) = inl below
+  answers-later (Some m) (Some a) (inr kept) = inr (omega (arith, kept, le))
+
+  seat-later : (cards : Cards) (seat : Option Seat) → SeatAnswers from cards seat → SeatAnswers n cards seat
+  seat-later cards None answers = tt
+  seat-later cards (Some seat) answers = answers-later seat.newest (session_of cards seat.card) answers
+
+  ended-later : (before : ℕ) (cards : Cards) (e : Ended) → EndedStands from before cards e → EndedStands n before cards e
+  ended-later before cards e was = record {
+    over = was.over;
+    driver = λ late. was.driver (omega (arith, late, le));
+    codriver = λ late. was.codriver (omega (arith, late, le));
+    apart = was.apart;
+  }
+
+  pub stands-later : (leaving : Option Card) (cabin : Cabin) → Stands from leaving cabin → Stands n leaving cabin
+  stands-later leaving cabin h = record {
+    a = h.a;
+    b = h.b;
+    driver = seat-later cabin.cards cabin.slots.seats.driver h.driver;
+    codriver = seat-later cabin.cards cabin.slots.seats.codriver h.codriver;
+    apart = h.apart;
+    only = h.only;
+    left = h.left;
+    past = All-weaker (EndedStands from cabin.slots.minute cabin.cards) (EndedStands n cabin.slots.minute cabin.cards) (λ e was. ended-later cabin.slots.minute cabin.cards e was) cabin.slots.past h.past;
+    newest = h.newest;
+  }
+
+-- ---- the other card
+
+-- a card that is another than the one whose session has changed can keep what it could
+pub behind-other : (c : Card) (o : Option Card) (s : Option Accepted) (cards : Cards) (minute : ℕ) → AreTwo (Some c) o → IsBehind cards minute o → IsBehind (with_session c s cards) minute o
+behind-other c None s cards minute two behind = tt
+behind-other A (Some A) s cards minute two behind = absurd (cc)
+behind-other B (Some B) s cards minute two behind = absurd (cc)
+behind-other A (Some B) s cards minute two behind = behind
+behind-other B (Some A) s cards minute two behind = behind
