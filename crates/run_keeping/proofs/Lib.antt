@@ -1,3 +1,5 @@
 pub mod Units
 pub mod Sessions
 pub mod Fates
+pub mod Counts
+pub mod Rounds

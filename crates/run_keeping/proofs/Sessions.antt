@@ -1,5 +1,5 @@
 -- What slots and sessions are behind an entry.
-use Rattle.std.proofs.Common.{◌≡◌, ◌∙◌, inl, inr, ℕ, ◌+◌, ◌<◌, ◌≤◌, Bool, true, false, Option, Some, None, IfSome, is_some, List, All, refl, ap, sym, subst, arith}
+use Rattle.std.proofs.Common.{◌≡◌, ◌∙◌, inl, inr, ℕ, ◌+◌, ◌/◌, ◌<◌, ◌≤◌, Bool, true, false, Option, Some, None, IfSome, is_some, List, All, refl, ap, sym, subst, arith}
 use Rattle.std.specs.Prelude.{◌⊎◌, Result, Ok, Err}
 use Rattle.std.proofs.lemmas.List.Elements.{All-weaker}
 use Rattle.trace_model.specs.declared.Card.{Card}
@@ -9,12 +9,16 @@ use Rattle.card_layout.specs.declared.files.Application.{Application}
 use Rattle.log_model.specs.Slots.{same_card}
 use Rattle.slot_machine.specs.declared.seats.Seat.{Seat}
 use Rattle.slot_machine.specs.declared.seats.Ended.{Ended}
+use Rattle.slot_machine.specs.Kept.{Kept as Slots, KnowsNewest}
+use Rattle.slot_machine.proofs.Newest.{take-knows}
+use Rattle.activity_codec.specs.declared.values.Slot.{Slot}
 use Rattle.run_crew.specs.declared.cards.Accepted.{Accepted}
 use Rattle.run_crew.specs.declared.cards.Known.{Known}
 use Rattle.run_crew.specs.declared.cards.Cards.{Cards}
 use Rattle.run_crew.specs.declared.cabin.Cabin.{Cabin}
 use Rattle.run_crew.specs.Cards.{known_of, session_of, with_session, IsKnown}
-use Rattle.run_crew.specs.Cabin.{Stands, AnswersTo, SeatAnswers, EndedStands, IsBehind, AreTwo}
+use Rattle.run_crew.specs.Cabin.{Stands, AnswersTo, SeatAnswers, EndedStands, IsBehind, AreTwo, torn_out, left_from, slot_with}
+use Rattle.run_crew.proofs.Moves.{tear-stands}
 
 -- a card's session is that of what is known of it
 pub session-is : (cards : Cards) (c : Card) → session_of cards c ≡ (known_of cards c).accepted
@@ -113,3 +117,17 @@ behind-other A (Some A) s cards minute two behind = absurd (cc)
 behind-other B (Some B) s cards minute two behind = absurd (cc)
 behind-other A (Some B) s cards minute two behind = behind
 behind-other B (Some A) s cards minute two behind = behind
+
+-- a card that is torn out
+
+torn-knows : (o : Option Slot) (second : ℕ) (slots : Slots) → slots.minute ≤ second / 60 → KnowsNewest slots → KnowsNewest (left_from o second slots)
+torn-knows None second slots low knows = knows
+torn-knows (Some slot) second slots low knows = take-knows slots slot second low knows
+
+pub torn-stands : (cabin : Cabin) (card : Card) (second from : ℕ) (leaving : Option Card) → cabin.slots.minute ≤ second / 60 → Stands from leaving cabin → Stands from leaving (torn_out card second cabin)
+torn-stands cabin card second from leaving low h = tear-stands cabin card second from leaving low h (torn-knows (slot_with cabin.slots.seats card) second cabin.slots low h.newest)
+
+-- what holds of a card holds of one that was present
+pub some-goes : (o : Option Card) (P Q : Card → Type 0) → ((card : Card) → P card → Q card) → IfSome o P → IfSome o Q
+some-goes None P Q goes h = tt
+some-goes (Some card) P Q goes h = goes card h
