@@ -1,23 +1,20 @@
 -- What slots, sessions and lines are behind what became of an entry.
-use Rattle.std.proofs.Common.{◌≡◌, ◌∙◌, ℕ, ◌+◌, ◌/◌, ◌≤◌, Bool, true, false, List, [], ◌∷◌, ◌++◌, length, length-append, Option, None, Some, IfSome, refl, ap, sym, subst, arith}
+use Rattle.std.proofs.Common.{◌≡◌, ℕ, ◌+◌, ◌/◌, ◌≤◌, false, List, length, length-append, Option, None, Some, refl, ap, sym, subst, arith}
 use Rattle.activity_codec.specs.declared.values.Slot.{Slot}
 use Rattle.trace_model.specs.declared.Card.{Card}
 use Rattle.trace_model.specs.declared.Card.TheVariants.{A, B}
 use Rattle.tach_media.specs.Medium.{State}
 use Rattle.card_session.specs.declared.session.Kept.{Kept}
-use Rattle.log_model.specs.declared.lines.Break.{Break}
-use Rattle.log_model.specs.declared.lines.Mark.{Mark}
 use Rattle.slot_machine.specs.Kept.{Kept as Slots}
 use Rattle.run_crew.specs.declared.cards.Accepted.{Accepted}
 use Rattle.run_crew.specs.declared.cards.Cards.{Cards}
 use Rattle.run_crew.specs.declared.cabin.Cabin.{Cabin}
-use Rattle.run_crew.specs.Cards.{known_of, session_of, with_session}
+use Rattle.run_crew.specs.Cards.{session_of}
 use Rattle.run_crew.specs.Cabin.{IsBehind, AreTwo, left_from, slot_with}
 use Rattle.run_outcome.specs.Lines.{Listed}
-use Rattle.run_keeping.specs.declared.keeper.Keeper.{Keeper}
 use Rattle.run_keeping.specs.declared.keeper.Moment.{Moment}
 use Rattle.run_keeping.specs.Keeping.{Fate, Still, Has, Fell, IsFateOf, IsOnCard, cabin_by, marks_by, breaks_by, session_at, state_at, is_this, tears_of, most_tears, with_lines}
-use Rattle.run_keeping.proofs.Sessions.{behind-other, session-is}
+use Rattle.run_keeping.proofs.Sessions.{behind-other}
 
 -- ---- the slots
 
@@ -30,13 +27,17 @@ left-minute None second slots low = low
 left-minute (Some slot) second slots low = omega arith
 
 pub past-by : (fate : Fate) (o : Option Card) (second : ℕ) (cabin : Cabin) → (cabin_by fate o second cabin).slots.past ≡ cabin.slots.past
-past-by fate None second cabin = refl
+past-by Still None second cabin = refl
+past-by (Has a n) None second cabin = refl
+past-by Fell None second cabin = refl
 past-by Still (Some c) second cabin = refl
 past-by (Has a n) (Some c) second cabin = refl
 past-by Fell (Some c) second cabin = left-past (slot_with cabin.slots.seats c) second cabin.slots
 
 pub minute-by : (fate : Fate) (o : Option Card) (second : ℕ) (cabin : Cabin) → cabin.slots.minute ≤ second / 60 → (cabin_by fate o second cabin).slots.minute ≤ second / 60
-minute-by fate None second cabin low = low
+minute-by Still None second cabin low = low
+minute-by (Has a n) None second cabin low = low
+minute-by Fell None second cabin low = low
 minute-by Still (Some c) second cabin low = low
 minute-by (Has a n) (Some c) second cabin low = low
 minute-by Fell (Some c) second cabin low = left-minute (slot_with cabin.slots.seats c) second cabin.slots low
@@ -44,7 +45,9 @@ minute-by Fell (Some c) second cabin low = left-minute (slot_with cabin.slots.se
 -- ---- the sessions
 
 pub behind-by : (fate : Fate) (present o : Option Card) (second : ℕ) (cabin : Cabin) (minute : ℕ) → AreTwo present o → IsBehind cabin.cards minute o → IsBehind (cabin_by fate present second cabin).cards minute o
-behind-by fate None o second cabin minute two behind = behind
+behind-by Still None o second cabin minute two behind = behind
+behind-by (Has a n) None o second cabin minute two behind = behind
+behind-by Fell None o second cabin minute two behind = behind
 behind-by Still (Some c) o second cabin minute two behind = behind
 behind-by (Has a n) (Some c) o second cabin minute two behind = behind-other c o (Some a) cabin.cards minute two behind
 behind-by Fell (Some c) o second cabin minute two behind = behind-other c o None cabin.cards minute two behind
@@ -76,7 +79,9 @@ tears-one (Some B) cards = omega arith
 -- ---- the lines
 
 pub few-marks : (fate : Fate) (present : Option Card) (minute : ℕ) → length (marks_by fate present minute) ≤ 1
-few-marks fate None minute = omega arith
+few-marks Still None minute = omega arith
+few-marks (Has a n) None minute = omega arith
+few-marks Fell None minute = omega arith
 few-marks Still (Some c) minute = omega arith
 few-marks (Has a n) (Some c) minute = omega arith
 few-marks Fell (Some c) minute = omega arith
@@ -131,14 +136,3 @@ module _ {C D : Type 0} (c_state : C → State) (d_state : D → State) (fate : 
       by Fell is = absurd is
   second-stays o (Some A) cards two is X a b c d Z one other h = subst (λ (x : C). IsOnCard fate (c_state x) X) (one (apart-turned o (Some A) A refl two)) h
   second-stays o (Some B) cards two is X a b c d Z one other h = subst (λ (x : D). IsOnCard fate (d_state x) Z) (other (apart-turned o (Some B) B refl two)) h
-
--- the other card is known as before
-pub other-a : (fate : Fate) (second : ℕ) (cabin : Cabin) → (cabin_by fate (Some B) second cabin).cards.a ≡ cabin.cards.a
-other-a Still second cabin = refl
-other-a (Has a n) second cabin = refl
-other-a Fell second cabin = refl
-
-pub other-b : (fate : Fate) (second : ℕ) (cabin : Cabin) → (cabin_by fate (Some A) second cabin).cards.b ≡ cabin.cards.b
-other-b Still second cabin = refl
-other-b (Has a n) second cabin = refl
-other-b Fell second cabin = refl

@@ -1,5 +1,5 @@
 -- What becomes of an entry: each of the three.
-use Rattle.std.proofs.Common.{◌≡◌, ◌∙◌, ℕ, ◌+◌, Bool, true, false, List, [], ◌∷◌, ◌++◌, Option, None, Some, IfSome, refl, ap, sym, subst}
+use Rattle.std.proofs.Common.{◌≡◌, ℕ, Bool, true, false, [], ◌∷◌, Option, Some, IfSome, refl, ap, sym, subst}
 use Rattle.std.proofs.lemmas.List.{append-nil}
 use Rattle.trace_model.specs.declared.Card.{Card}
 use Rattle.tach_media.specs.Medium.{State, HasCause}
@@ -9,13 +9,12 @@ use Rattle.log_model.specs.declared.lines.Break.{Break}
 use Rattle.log_model.specs.declared.lines.Mark.{Mark}
 use Rattle.log_model.specs.Causes.{device_of}
 use Rattle.run_crew.specs.declared.cards.Accepted.{Accepted}
-use Rattle.run_crew.specs.declared.cards.Crew.{Crew}
 use Rattle.run_crew.specs.Cards.{session_of}
 use Rattle.run_crew.specs.Cabin.{crew_of, with_session_of, torn_out}
 use Rattle.run_outcome.specs.Lines.{Listed}
 use Rattle.run_keeping.specs.declared.keeper.Keeper.{Keeper}
 use Rattle.run_keeping.specs.declared.keeper.Moment.{Moment}
-use Rattle.run_keeping.specs.Keeping.{Fate, Still, Has, Fell, IsBrought, IsFateOf, IsOnCard, IsFaultNoted, GoesOnWith, with_lines, tear_of, fault_of}
+use Rattle.run_keeping.specs.Keeping.{Has, Fell, IsBrought, IsFateOf, IsOnCard, IsFaultNoted, GoesOnWith, with_lines, tear_of, fault_of}
 use Rattle.unit_notes.specs.Noting.{IsEventNoted}
 use Rattle.event_model.specs.declared.kinds.TheConstants.{CARD_FAULT}
 
@@ -24,18 +23,6 @@ pub no-lines : {T : Type 0} (l : Listed T) → l ≡ with_lines [] l
 no-lines l = ap (λ items. record { items = items; room = l.room }) (sym (append-nil l.items))
 
 module _ (which : Card) (kept : Kept) (at : Moment) (k v : Keeper) (marks : Listed Mark) (breaks : Listed Break) (U V X Y : State) where
-  -- no call was made
-  pub still-brought : session_of k.cabin.cards which ≡ None → v ≡ k → IsBrought (Some which) kept at false k v marks marks breaks breaks Still U V X Y
-  still-brought none same = record {
-    is = subst (λ (o : Option Accepted). IsFateOf o kept Still) (sym none) tt;
-    on_card = tt;
-    keeper = same;
-    marked = no-lines marks;
-    told = no-lines breaks;
-    only = λ bad. absurd (cc);
-    noted = λ well. where_told U.image V.image (IsFaultNoted Still at.second (crew_of v.cabin)) (λ x y is here. tt);
-  }
-
   -- the card has the entry
   pub has-brought : (before after : Accepted) (clock : ℕ) (marks_after : Listed Mark) → session_of k.cabin.cards which ≡ Some before → GoesOnWith before after kept → clock ≡ Y.clock → HasCause X Y false
       → v ≡ record k { cabin = with_session_of which (Some after) k.cabin } → marks_after ≡ with_lines (record { device = device_of which; minute = kept.entry.minute; clock = clock } ∷ []) marks

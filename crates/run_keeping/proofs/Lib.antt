@@ -3,3 +3,4 @@ pub mod Sessions
 pub mod Fates
 pub mod Counts
 pub mod Rounds
+pub mod Decided

@@ -1,77 +1,31 @@
 -- What slots and sessions are behind an entry.
-use Rattle.std.proofs.Common.{◌≡◌, ◌∙◌, inl, inr, ℕ, ◌+◌, ◌/◌, ◌<◌, ◌≤◌, Bool, true, false, Option, Some, None, IfSome, is_some, List, All, refl, ap, sym, subst, arith}
-use Rattle.std.specs.Prelude.{◌⊎◌, Result, Ok, Err}
+use Rattle.std.proofs.Common.{◌≡◌, inl, inr, ℕ, ◌+◌, ◌/◌, ◌<◌, ◌≤◌, Bool, true, false, Option, Some, None, IfSome, All, refl, arith}
+use Rattle.std.specs.Prelude.{◌⊎◌}
 use Rattle.std.proofs.lemmas.List.Elements.{All-weaker}
 use Rattle.trace_model.specs.declared.Card.{Card}
 use Rattle.trace_model.specs.declared.Card.TheVariants.{A, B}
-use Rattle.tacho_types.specs.declared.card_number.FullCardNumber.{FullCardNumber}
-use Rattle.card_layout.specs.declared.files.Application.{Application}
-use Rattle.log_model.specs.Slots.{same_card}
 use Rattle.slot_machine.specs.declared.seats.Seat.{Seat}
 use Rattle.slot_machine.specs.declared.seats.Ended.{Ended}
 use Rattle.slot_machine.specs.Kept.{Kept as Slots, KnowsNewest}
 use Rattle.slot_machine.proofs.Newest.{take-knows}
 use Rattle.activity_codec.specs.declared.values.Slot.{Slot}
 use Rattle.run_crew.specs.declared.cards.Accepted.{Accepted}
-use Rattle.run_crew.specs.declared.cards.Known.{Known}
 use Rattle.run_crew.specs.declared.cards.Cards.{Cards}
 use Rattle.run_crew.specs.declared.cabin.Cabin.{Cabin}
-use Rattle.run_crew.specs.Cards.{known_of, session_of, with_session, IsKnown}
+use Rattle.run_crew.specs.Cards.{known_of, session_of, with_session}
 use Rattle.run_crew.specs.Cabin.{Stands, AnswersTo, SeatAnswers, EndedStands, IsBehind, AreTwo, torn_out, left_from, slot_with}
 use Rattle.run_crew.proofs.Moves.{tear-stands}
-
--- a card's session is that of what is known of it
-pub session-is : (cards : Cards) (c : Card) → session_of cards c ≡ (known_of cards c).accepted
-session-is cards A = refl
-session-is cards B = refl
-
--- a card whose sizes are bad has none
-pub bare-sizes : (known : Known) (e : ℕ) → IsKnown known → known.sizes ≡ Err e → known.accepted ≡ None
-bare-sizes known e is bad = by known.accepted refl
-  where
-    by : (o : Option Accepted) → known.accepted ≡ o → known.accepted ≡ None
-    by None here = here
-    by (Some a) here =
-        let sized : known.sizes ≡ Ok a.session.application = subst (λ (o : Option Accepted). IfSome o (λ x. known.sizes ≡ Ok x.session.application)) here is.sized in absurd (cc)
-
--- no session is given up where there is none
-pub none-again : (c : Card) (cards : Cards) → session_of cards c ≡ None → with_session c None cards ≡ cards
-none-again A cards is = ap (λ (o : Option Accepted). record cards { a = record cards.a { accepted = o } }) (sym is)
-none-again B cards is = ap (λ (o : Option Accepted). record cards { b = record cards.b { accepted = o } }) (sym is)
 
 -- a session behind another
 pub session-twice : (c : Card) (s t : Option Accepted) (cards : Cards) → with_session c t (with_session c s cards) ≡ with_session c t cards
 session-twice A s t cards = refl
 session-twice B s t cards = refl
 
-pub sizes-set : (c d : Card) (s : Option Accepted) (cards : Cards) → (known_of (with_session c s cards) d).sizes ≡ (known_of cards d).sizes
-sizes-set A A s cards = refl
-sizes-set A B s cards = refl
-sizes-set B A s cards = refl
-sizes-set B B s cards = refl
-
 pub number-set : (c d : Card) (s : Option Accepted) (cards : Cards) → (known_of (with_session c s cards) d).number ≡ (known_of cards d).number
 number-set A A s cards = refl
 number-set A B s cards = refl
 number-set B A s cards = refl
 number-set B B s cards = refl
-
-pub known-set : (c : Card) (s : Option Accepted) (cards : Cards) → known_of (with_session c s cards) c ≡ record (known_of cards c) { accepted = s }
-known-set A s cards = refl
-known-set B s cards = refl
-
--- where it kept an entry it goes by the same sizes
-pub known-on : (known : Known) (old new : Accepted) → known.accepted ≡ Some old → new.session.application ≡ old.session.application → IsKnown known → IsKnown (record known { accepted = Some new })
-known-on known old new here same is = record {
-  sized = subst (λ (o : Option Accepted). IfSome o (λ x. known.sizes ≡ Ok x.session.application)) here is.sized ∙ ap (λ (app : Application). Ok app) (sym same);
-  numbered = subst (λ (o : Option Accepted). IfSome o (λ x. is_some known.number ≡ true)) here is.numbered;
-}
-
-pub known-none : (known : Known) → IsKnown (record known { accepted = None })
-known-none known = record { sized = tt; numbered = tt }
-
-pub sized-by : (known : Known) (old : Accepted) → known.accepted ≡ Some old → IsKnown known → known.sizes ≡ Ok old.session.application
-sized-by known old here is = subst (λ (o : Option Accepted). IfSome o (λ x. known.sizes ≡ Ok x.session.application)) here is.sized
 
 -- ---- minutes that are not to be kept any more
 

@@ -1,12 +1,8 @@
 -- The unit over a note: it is the same, what the journal knows is so still, and each row is there.
-use Rattle.std.proofs.Common.{◌≡◌, ◌∙◌, ⊎_elim, ℕ, ◌+◌, ◌-◌, ◌≤◌, Bool, true, false, List, Option, Some, None, IfSome, refl, ap, sym, subst, arith}
-use Rattle.std.specs.Prelude.{Result, Ok, Err, OnOk, is_err}
-use Rattle.trace_model.specs.declared.Card.{Card}
-use Rattle.trace_model.specs.declared.Card.TheVariants.{A, B}
+use Rattle.std.proofs.Common.{◌≡◌, ◌∙◌, ⊎_elim, ℕ, ◌+◌, ◌-◌, true, List, Some, IfSome, refl, ap, sym, subst, arith}
 use Rattle.byte_fields.proofs.Images.{part_in}
-use Rattle.tach_media.specs.Medium.{State, IsCoherent, LeavesOnly, HasCause, HasBroken, Rose, last_count, bytes_at}
+use Rattle.tach_media.specs.Medium.{State, IsCoherent, LeavesOnly, bytes_at}
 use Rattle.tach_media.proofs.Runs.{at_image, if_told}
-use Rattle.tach_media.proofs.Breakdowns.{none_broken}
 use Rattle.unit_model.specs.Image.{IsUnit}
 use Rattle.unit_model.specs.declared.layout.TheConstants.{FIRST_OVER, INSERTIONS, OWED, SPARE_COUNTS}
 use Rattle.owed_model.specs.Owed.{rows_in, row_index}
@@ -16,8 +12,6 @@ use Rattle.unit_journal.specs.Image.{Agrees}
 use Rattle.unit_journal.proofs.Beside.{agrees_beside}
 use Rattle.unit_notes.specs.Journal.{KeepsJournal, LeavesJournal}
 use Rattle.unit_notes.proofs.Journals.{same_journal}
-use Rattle.run_crew.specs.declared.cards.Accepted.{Accepted}
-use Rattle.run_keeping.specs.Keeping.{tears_of}
 
 -- it is a unit still
 pub unit-stays : {U V : State} {R : List ℕ → List ℕ → Type 0} → LeavesOnly U V R → IsUnit U → IsUnit V
@@ -46,16 +40,3 @@ module _ {U V : State} (before : IsCoherent U) (after : IsCoherent V) (works : U
 
   pub row-noted : (n : List ℕ) → IfSome U.image (HasRow n) → IfSome V.image (HasRow n)
   row-noted n said = noted-image (HasRow n) (λ x c is same. (is.0, ap (λ (rows : List ℕ). row_index n rows) (rows-noted x c same.keeps) ∙ is.1)) said
-
--- a call on a device that works breaks it where it fails, and a session is given up then
-pub broken-by : {old new : State} (failed : Bool) (n : ℕ) → old.works ≡ true → HasCause old new failed → (failed ≡ false → n ≡ 0) → n ≤ 1 → HasBroken old new n
-broken-by {old} {new} true n works cause none few = record { faults = cause.faults; breakdowns = let rose : Rose old.breakdowns new.breakdowns = cause.breaks works refl in omega (arith, rose, few) }
-broken-by {old} {new} false n works cause none few = record { faults = cause.faults; breakdowns = let zero_is : n ≡ 0 = none refl in omega (arith, cause.breakdowns, zero_is) }
-
--- no session more than one
-pub few-tears : (s : Option Accepted) → tears_of s ≤ 1
-few-tears None = omega arith
-few-tears (Some a) = omega arith
-
-pub none-broken-less : (s : State) (n : ℕ) → HasBroken s s (n - n)
-none-broken-less s n = let h = none_broken s in record { faults = omega arith; breakdowns = omega arith }

@@ -119,13 +119,13 @@ kept_after kept (m ∷ ms) = kept_after m.minute ms
 abbrev pub AllHaveRows : Cabin → (unit : State) → Type 0
 AllHaveRows cabin unit = All (λ e. HaveRows cabin.cards unit e.present) cabin.slots.past
 
--- the cards that were present in a minute
+-- the cards that were present in a minute: nobody in one that has not ended, or is not known any more
+abbrev pub or_nobody : Option Present → Present
+or_nobody None = record { driver = None; codriver = None }
+or_nobody (Some present) = present
+
 abbrev pub present_at : Cabin → (minute : ℕ) → Present
-present_at cabin minute = present_or (present_in cabin.slots.past minute)
-  where
-    present_or : Option Present → Present
-    present_or None = record { driver = None; codriver = None }
-    present_or (Some present) = present
+present_at cabin minute = or_nobody (present_in cabin.slots.past minute)
 
 -- a decided minute, with the cards that were present in it
 abbrev pub minute_of : Minute → Keeper → KeptMinute

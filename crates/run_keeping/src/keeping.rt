@@ -159,6 +159,9 @@ impl Keeper {
         requires second { at.second ≢ 0 }
         requires marks { length marks.old.items + 3 ≤ marks.old.room }
         requires breaks { length breaks.old.items + most_tears self.old.cabin.cards ≤ breaks.old.room }
+        ensures same { (self.new.memory ≡ self.old.memory) × (self.new.odometer ≡ self.old.odometer) × (self.new.cabin.slots.past ≡ self.old.cabin.slots.past) }
+        ensures last { OnOk result (self.new.journal.kept ≡ minute.now.minute) }
+        ensures minute { self.new.cabin.slots.minute ≤ at.second / 60 }
         ensures kept { (round : Option Round) × IsMinute present minute.now at (is_err result) (record { keeper = self.old; marks = marks.old; breaks = breaks.old }) (record { keeper = self.new; marks = marks.new; breaks = breaks.new }) (C.state card_a.old) (C.state card_a.new) (D.state card_b.old) (D.state card_b.new) round }
         ensures a_rests { is_this present.driver A ≡ false → is_this present.codriver A ≡ false → card_a.new ≡ card_a.old }
         ensures b_rests { is_this present.driver B ≡ false → is_this present.codriver B ≡ false → card_b.new ≡ card_b.old }

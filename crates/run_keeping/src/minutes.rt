@@ -81,7 +81,8 @@ impl Keeper {
         ensures kept { AreKeptUpTo decided.now at (is_err result) (record { keeper = self.old; marks = marks.old; breaks = breaks.old }) (record { keeper = self.new; marks = marks.new; breaks = breaks.new }) }
         ensures ready { OnOk result (IsReady self.new (M.state unit.new) (C.card card_a.new) (D.card card_b.new) (C.state card_a.new) (D.state card_b.new)) }
         ensures rows { (card : Card) → HasItsRow self.old.cabin.cards (M.state unit.old) card → OnOk result (HasItsRow self.new.cabin.cards (M.state unit.new) card) }
-        ensures past { self.new.cabin.slots.past ≡ self.old.cabin.slots.past }
+        ensures same { (self.new.memory ≡ self.old.memory) × (self.new.odometer ≡ self.old.odometer) × (self.new.cabin.slots.past ≡ self.old.cabin.slots.past) }
+        ensures minute { self.new.cabin.slots.minute ≤ at.second / 60 }
         ensures last { OnOk result (self.new.journal.kept ≡ kept_after self.old.journal.kept decided.now) }
         ensures stands { OnOk result ((from : ℕ) (leaving : Option Card) → All (λ m. from ≤ m.minute) decided.now → Stands from leaving self.old.cabin → (next : ℕ) → from ≤ next → kept_after self.old.journal.kept decided.now < next → Stands next leaving self.new.cabin) }
         ensures marks { (marks.new.room ≡ marks.old.room) × (length marks.new.items ≤ length marks.old.items + 3 * length decided.now) }

@@ -20,7 +20,7 @@ use Rattle.run_keeping.proofs.keeper.Keeper.bring_to.Goals as goal
 pub returns-then-is_err-clause-brought : goal.returns-then-is_err-clause-brought
 returns-then-is_err-clause-brought g c =
     let k = c.args.self.now in
-    let bad : is_err c.keep_on_card.result ≡ true = cc (c.is_err.ensures.value, c.if-is_err.true) in
+    let bad : is_err c.keep_on_card.result ≡ true = sym c.is_err.ensures.value ∙ c.if-is_err.true in
     let cause = subst (λ (b : Bool). HasCause (g.C.Chip.state c.args.card.now) (g.C.Chip.state c.keep_on_card.new.card) b) bad c.keep_on_card.ensures.cause in
     let keeper =
     c.tear.ensures.keeper ∙ ap (λ (cards : Cards). record k { cabin = torn_out c.args.which c.args.at.second (record { slots = k.cabin.slots; cards = cards }) }) c.take.ensures.left
@@ -45,7 +45,7 @@ returns-then-is_err-clause-stands g c = λ from leaving le h.
 pub returns-clause-brought : goal.returns-clause-brought
 returns-clause-brought g c =
     let k = c.args.self.now in
-    let well : is_err c.keep_on_card.result ≡ false = cc (c.is_err.ensures.value, c.if-is_err.false) in
+    let well : is_err c.keep_on_card.result ≡ false = sym c.is_err.ensures.value ∙ c.if-is_err.false in
     let cause = subst (λ (b : Bool). HasCause (g.C.Chip.state c.args.card.now) (g.C.Chip.state c.keep_on_card.new.card) b) well c.keep_on_card.ensures.cause in
     let after : Accepted = record { session = c.keep_on_card.new.session; entry = c.in-Some.accepted.entry; noted = c.in-Some.accepted.noted } in
     let cards = c.set_session.ensures ∙ ap (λ (q : Cards). with_session c.args.which (Some after) q) c.take.ensures.left ∙ session-twice c.args.which None (Some after) k.cabin.cards in
@@ -64,7 +64,7 @@ pub returns-clause-stands : goal.returns-clause-stands
 returns-clause-stands g c = λ from leaving le h.
     let k = c.args.self.now in
     let m : ℕ = c.args.kept.now.entry.minute in
-    let well : is_err c.keep_on_card.result ≡ false = cc (c.is_err.ensures.value, c.if-is_err.false) in
+    let well : is_err c.keep_on_card.result ≡ false = sym c.is_err.ensures.value ∙ c.if-is_err.false in
     let after : Accepted = record { session = c.keep_on_card.new.session; entry = c.in-Some.accepted.entry; noted = c.in-Some.accepted.noted } in
     let cards = c.set_session.ensures ∙ ap (λ (q : Cards). with_session c.args.which (Some after) q) c.take.ensures.left ∙ session-twice c.args.which None (Some after) k.cabin.cards in
     let last = ok_gives c.keep_on_card.result c.keep_on_card.ensures.last well in

@@ -1,14 +1,15 @@
-use Rattle.std.proofs.Common.{◌≡◌, ◌∙◌, ℕ, ◌+◌, ◌/◌, ◌≤◌, Bool, Option, true, false, List, length, Some, None, refl, ap, sym, subst, arith}
+use Rattle.std.proofs.Common.{rules, [], ◌∷◌, ◌≡◌, ◌∙◌, ℕ, ◌+◌, ◌/◌, ◌≤◌, Bool, Option, true, false, List, length, Some, None, refl, ap, sym, subst, arith}
 use Rattle.std.specs.Prelude.{is_err}
 use Rattle.activity_codec.specs.declared.values.Slot.TheVariants.{Driver, CoDriver}
 use Rattle.card_session.specs.declared.session.Kept.{Kept}
 use Rattle.log_model.specs.declared.lines.Mark.{Mark}
 use Rattle.run_outcome.specs.Lines.{Listed}
+use Rattle.tach_media.proofs.Runs.{on_ok}
 use Rattle.run_crew.specs.declared.cabin.Cabin.{Cabin}
 use Rattle.run_crew.specs.Cabin.{Stands}
 use Rattle.run_keeping.specs.declared.keeper.Keeper.{Keeper}
-use Rattle.run_keeping.specs.Keeping.{Still, IsBrought, kept_in, state_at, tears_of, session_at, most_tears}
-use Rattle.run_keeping.specs.Minutes.{Round, IsMinute}
+use Rattle.run_keeping.specs.Keeping.{Still, IsBrought, cabin_by, kept_in, state_at, most_tears}
+use Rattle.run_keeping.specs.Minutes.{Round, IsMinute, unit_mark}
 use Rattle.run_keeping.proofs.Counts.{tears-one, lines-length, first-stays, second-stays}
 use Rattle.run_keeping.proofs.Rounds.{told-of, brought-minute, brought-past, brought-tears, brought-tear-room, brought-marks, brought-mark-room, cut-is, cut-told, whole-driver, whole-codriver, whole-is, whole-told}
 use Rattle.run_keeping.proofs.keeper.Keeper.keep_minute.Goals as goal
@@ -95,7 +96,7 @@ returns-clause-kept g c =
         record {
           driver = first-stays g.C.Chip.state g.D.Chip.state was.0 (kept_in m Driver) p.driver p.codriver k.cabin.cards c.requires.kept.apart one A0 c.bring.new.card_a c.bring-2.new.card_a c.bring.new.card_b c.bring-2.new.card_b B0
               c.bring-2.ensures.a_rests c.bring-2.ensures.b_rests b.on_card;
-          codriver = second-stays g.C.Chip.state g.D.Chip.state is.0 (kept_in m CoDriver) p.driver p.codriver _ c.requires.kept.apart two A2 c.args.card_a.now c.bring.new.card_a c.args.card_b.now c.bring.new.card_b B2
+          codriver = second-stays g.C.Chip.state g.D.Chip.state is.0 (kept_in m CoDriver) p.driver p.codriver (cabin_by was.0 p.driver c.args.at.second k.cabin).cards c.requires.kept.apart two A2 c.args.card_a.now c.bring.new.card_a c.args.card_b.now c.bring.new.card_b B2
               c.bring.ensures.a_rests c.bring.ensures.b_rests d.on_card;
         },
         whole-told p m c.args.at k c.args.marks.now c.args.breaks.now j clock notes.0 notes.1 c.commit.new.self c.commit.ensures.keeper c.commit.new.marks c.in_ok-commit.ensures.marked
@@ -118,7 +119,7 @@ returns-clause-marks g c =
     let d = c.bring-2.ensures.brought.1 in
     let one = brought-marks _ _ _ _ _ _ _ _ _ _ _ _ _ _ _ b in
     let two = brought-marks _ _ _ _ _ _ _ _ _ _ _ _ _ _ _ d in
-    let here : length c.commit.new.marks.items ≡ length c.args.marks.now.items + 1 = ap (λ (l : Listed Mark). length l.items) c.in_ok-commit.ensures.marked ∙ lines-length _ c.args.marks.now in
+    let here : length c.commit.new.marks.items ≡ length c.args.marks.now.items + 1 = ap (λ (l : Listed Mark). length l.items) c.in_ok-commit.ensures.marked ∙ lines-length (unit_mark c.args.minute.now.minute (g.M.Medium.state c.commit.new.unit).clock ∷ []) c.args.marks.now in
     let room : c.commit.new.marks.room ≡ c.args.marks.now.room = ap (λ (l : Listed Mark). l.room) c.in_ok-commit.ensures.marked in
     (brought-mark-room _ _ _ _ _ _ _ _ _ _ _ _ _ _ _ d ∙ brought-mark-room _ _ _ _ _ _ _ _ _ _ _ _ _ _ _ b ∙ room, omega (arith, one, two, here))
 
@@ -130,3 +131,44 @@ returns-clause-breaks g c =
     let two = brought-tears _ _ _ _ _ _ _ _ _ _ _ _ _ _ _ d in
     let same : most_tears c.commit.new.self.cabin.cards ≡ most_tears c.args.self.now.cabin.cards = ap (λ (q : Keeper). most_tears q.cabin.cards) c.commit.ensures.keeper in
     (brought-tear-room _ _ _ _ _ _ _ _ _ _ _ _ _ _ _ d ∙ brought-tear-room _ _ _ _ _ _ _ _ _ _ _ _ _ _ _ b, omega (arith, one, two, same))
+
+-- ---- what stays
+
+pub returns-in_err-commit-clause-same : goal.returns-in_err-commit-clause-same
+returns-in_err-commit-clause-same g c =
+    let e = c.commit.ensures.keeper in (ap (λ (q : Keeper). q.memory) e, ap (λ (q : Keeper). q.odometer) e, ap (λ (q : Keeper). q.cabin.slots.past) e)
+
+pub returns-in_err-commit-clause-minute : goal.returns-in_err-commit-clause-minute
+returns-in_err-commit-clause-minute g c = subst (λ (q : Keeper). q.cabin.slots.minute ≤ c.args.at.second / 60) (sym c.commit.ensures.keeper) c.requires.minute
+
+pub returns-in_err-bring-clause-same : goal.returns-in_err-bring-clause-same
+returns-in_err-bring-clause-same g c =
+    let e = c.commit.ensures.keeper in
+    let b = c.bring.ensures.brought.1 in (
+      ap (λ (q : Keeper). q.memory) b.keeper ∙ ap (λ (q : Keeper). q.memory) e,
+      ap (λ (q : Keeper). q.odometer) b.keeper ∙ ap (λ (q : Keeper). q.odometer) e,
+      brought-past _ _ _ _ _ _ _ _ _ _ _ _ _ _ _ b ∙ ap (λ (q : Keeper). q.cabin.slots.past) e,
+    )
+
+pub returns-in_err-bring-clause-minute : goal.returns-in_err-bring-clause-minute
+returns-in_err-bring-clause-minute g c =
+    brought-minute _ _ _ _ _ _ _ _ _ _ _ _ _ _ _ c.bring.ensures.brought.1 (subst (λ (q : Keeper). q.cabin.slots.minute ≤ c.args.at.second / 60) (sym c.commit.ensures.keeper) c.requires.minute)
+
+pub returns-clause-same : goal.returns-clause-same
+returns-clause-same g c =
+    let e = c.commit.ensures.keeper in
+    let b = c.bring.ensures.brought.1 in
+    let d = c.bring-2.ensures.brought.1 in (
+      ap (λ (q : Keeper). q.memory) d.keeper ∙ ap (λ (q : Keeper). q.memory) b.keeper ∙ ap (λ (q : Keeper). q.memory) e,
+      ap (λ (q : Keeper). q.odometer) d.keeper ∙ ap (λ (q : Keeper). q.odometer) b.keeper ∙ ap (λ (q : Keeper). q.odometer) e,
+      brought-past _ _ _ _ _ _ _ _ _ _ _ _ _ _ _ d ∙ brought-past _ _ _ _ _ _ _ _ _ _ _ _ _ _ _ b ∙ ap (λ (q : Keeper). q.cabin.slots.past) e,
+    )
+
+pub returns-clause-minute : goal.returns-clause-minute
+returns-clause-minute g c =
+    brought-minute _ _ _ _ _ _ _ _ _ _ _ _ _ _ _ c.bring-2.ensures.brought.1
+    (brought-minute _ _ _ _ _ _ _ _ _ _ _ _ _ _ _ c.bring.ensures.brought.1 (subst (λ (q : Keeper). q.cabin.slots.minute ≤ c.args.at.second / 60) (sym c.commit.ensures.keeper) c.requires.minute))
+
+pub returns-clause-last : goal.returns-clause-last
+returns-clause-last g c =
+    on_ok c.bring-2.result (λ well. ap (λ (q : Keeper). q.journal.kept) c.bring-2.ensures.brought.1.keeper ∙ ap (λ (q : Keeper). q.journal.kept) c.bring.ensures.brought.1.keeper ∙ c.in_ok-commit.ensures.notes.0)
