@@ -1,7 +1,6 @@
-use Rattle.std.proofs.Common.{rules, ◌≡◌, ◌∙◌, ℕ, ◌+◌, ◌*◌, ◌/◌, ◌<◌, ◌≤◌, Bool, true, List, Option, Some, is_some, All, length, take, drop, refl, ap, sym, subst, arith}
+use Rattle.std.proofs.Common.{rules, [], ◌≡◌, ◌∙◌, ℕ, ◌+◌, ◌-◌, ◌*◌, ◌/◌, ◌<◌, ◌≤◌, Bool, true, List, Option, Some, is_some, All, length, take, drop, refl, ap, sym, subst, arith}
 use Rattle.std.specs.Prelude.{is_err}
-use Rattle.std.proofs.lemmas.List.{take_all}
-use Rattle.trace_model.specs.declared.Card.{Card}
+use Rattle.std.proofs.lemmas.List.{take_all, drop_all}
 use Rattle.tach_media.proofs.Runs.{cause_after, no_reads}
 use Rattle.tach_media.proofs.Breakdowns.{none_broken, both_broken, fewer_broken}
 use Rattle.minute_model.specs.declared.Minute.{Minute}
@@ -10,8 +9,8 @@ use Rattle.slot_machine.specs.declared.seats.Ended.{Ended}
 use Rattle.slot_machine.specs.declared.seats.Present.{Present}
 use Rattle.slot_machine.specs.Calls.{present_in}
 use Rattle.run_crew.specs.Cabin.{Stands, MayBeKept}
-use Rattle.run_keeping.specs.Keeping.{HasItsRow, HaveRows}
-use Rattle.run_keeping.specs.Minutes.{AreKept, AreKeptUpTo, or_nobody, kept_of, odometer_by, none}
+use Rattle.run_keeping.specs.Keeping.{HaveRows, tears_of}
+use Rattle.run_keeping.specs.Minutes.{AreKept, AreKeptUpTo, or_nobody, kept_after, none}
 use Rattle.run_keeping.proofs.Sessions.{stands-later}
 use Rattle.run_keeping.proofs.Rounds.{told-of}
 use Rattle.run_keeping.proofs.Decided.{this, due-here, kept-here, all-here, kept-on, cut-on, present-here, rows-on}
@@ -86,8 +85,8 @@ loop-minute-init g c = record {
   few = omega arith;
   tear_room = refl;
   tears = omega arith;
-  a_broken = fewer_broken (omega arith) (none_broken (g.C.Chip.state c.args.card_a.now));
-  b_broken = fewer_broken (omega arith) (none_broken (g.D.Chip.state c.args.card_b.now));
+  a_broken = let few : tears_of c.args.self.now.cabin.cards.a.accepted - tears_of c.args.self.now.cabin.cards.a.accepted ≤ 0 = omega arith in fewer_broken few (none_broken (g.C.Chip.state c.args.card_a.now));
+  b_broken = let few : tears_of c.args.self.now.cabin.cards.b.accepted - tears_of c.args.self.now.cabin.cards.b.accepted ≤ 0 = omega arith in fewer_broken few (none_broken (g.D.Chip.state c.args.card_b.now));
   clock = omega arith;
   tells = refl;
   cause = (no_reads (g.M.Medium.state c.args.unit.now) c.requires.ready.unit_ready.works).cause;
@@ -124,8 +123,16 @@ loop-minute-preserved g c =
       few = let one = e.marks.1 in let few = v.few in omega (arith, one, few);
       tear_room = e.breaks.0 ∙ v.tear_room;
       tears = let one = e.breaks.1 in let tears = v.tears in omega (arith, one, tears);
-      a_broken = fewer_broken (omega arith) (both_broken v.a_broken e.a_broken);
-      b_broken = fewer_broken (omega arith) (both_broken v.b_broken e.b_broken);
+      a_broken =
+          let few : tears_of c.args.self.now.cabin.cards.a.accepted - tears_of c.keep_minute.new.self.cabin.cards.a.accepted
+          ≤ (tears_of c.args.self.now.cabin.cards.a.accepted - tears_of c.loop-minute.self.cabin.cards.a.accepted) + (tears_of c.loop-minute.self.cabin.cards.a.accepted - tears_of c.keep_minute.new.self.cabin.cards.a.accepted) =
+          omega arith in
+          fewer_broken few (both_broken v.a_broken e.a_broken);
+      b_broken =
+          let few : tears_of c.args.self.now.cabin.cards.b.accepted - tears_of c.keep_minute.new.self.cabin.cards.b.accepted
+          ≤ (tears_of c.args.self.now.cabin.cards.b.accepted - tears_of c.loop-minute.self.cabin.cards.b.accepted) + (tears_of c.loop-minute.self.cabin.cards.b.accepted - tears_of c.keep_minute.new.self.cabin.cards.b.accepted) =
+          omega arith in
+          fewer_broken few (both_broken v.b_broken e.b_broken);
       clock = let k = e.clock in let was = v.clock in omega (arith, k, was);
       tells = e.tells ∙ v.tells;
       cause = cause_after v.cause e.cause;
@@ -144,3 +151,75 @@ returns-in_err-keep_minute-clause-kept g c =
     subst (λ (f : Bool). AreKeptUpTo c.args.decided.now c.args.at f (told-of c.args.self.now c.args.marks.now c.args.breaks.now) (told-of c.keep_minute.new.self c.keep_minute.new.marks c.keep_minute.new.breaks)) failed
     (cut-on c.args.decided.now c.loop-minute.minute-index c.loop-minute-test.true c.args.at (told-of c.args.self.now c.args.marks.now c.args.breaks.now) (told-of c.loop-minute.self c.loop-minute.marks c.loop-minute.breaks) (told-of c.keep_minute.new.self c.keep_minute.new.marks c.keep_minute.new.breaks)
     c.present-present.result c.kept_of-kept.result _ _ _ _ (ap or_nobody c.present-present.ensures.present) c.kept_of-kept.ensures v.kept e.kept.0 e.kept.1)
+
+-- ---- all of them are kept
+
+pub returns-clause-last : goal.returns-clause-last
+returns-clause-last g c =
+    let k = c.loop-minute.self.journal.kept in
+    let over : drop c.loop-minute.minute-index c.args.decided.now ≡ [] = drop_all c.loop-minute.minute-index c.args.decided.now (omega (arith, c.loop-minute-test.false)) in
+    sym (ap (kept_after k) over) ∙ c.loop-minute.invariant.last
+
+pub returns-clause-stands : goal.returns-clause-stands
+returns-clause-stands g c = λ from leaving all h next le late.
+    let k = c.loop-minute.self.journal.kept in
+    let over : drop c.loop-minute.minute-index c.args.decided.now ≡ [] = drop_all c.loop-minute.minute-index c.args.decided.now (omega (arith, c.loop-minute-test.false)) in
+    let last : k ≡ kept_after c.args.self.now.journal.kept c.args.decided.now = sym (ap (kept_after k) over) ∙ c.loop-minute.invariant.last in
+    c.loop-minute.invariant.stands from leaving all h next le (omega (arith, last, late))
+
+-- ---- room
+
+pub kept_of-kept-requires : goal.kept_of-kept-requires
+kept_of-kept-requires g c = let same = c.loop-minute.invariant.odometer in omega (arith, same, c.requires.odometer)
+
+pub keep_minute-requires-clause-marks : goal.keep_minute-requires-clause-marks
+keep_minute-requires-clause-marks g c =
+    let few = c.loop-minute.invariant.few in
+    let room = c.loop-minute.invariant.mark_room in
+    let low = c.loop-minute-test.true in
+    omega (arith, few, room, low, c.requires.marks)
+
+pub keep_minute-requires-clause-breaks : goal.keep_minute-requires-clause-breaks
+keep_minute-requires-clause-breaks g c =
+    let few = c.loop-minute.invariant.tears in
+    let room = c.loop-minute.invariant.tear_room in
+    omega (arith, few, room, c.requires.breaks)
+
+-- ---- the unit failed
+
+pub returns-in_err-keep_minute-clause-same : goal.returns-in_err-keep_minute-clause-same
+returns-in_err-keep_minute-clause-same g c =
+    let v = c.loop-minute.invariant in
+    let e = c.in_err-keep_minute.ensures in
+    (e.same.0 ∙ v.memory, e.same.1 ∙ v.odometer, e.same.2 ∙ v.past)
+
+pub returns-in_err-keep_minute-clause-marks : goal.returns-in_err-keep_minute-clause-marks
+returns-in_err-keep_minute-clause-marks g c =
+    let v = c.loop-minute.invariant in
+    let e = c.in_err-keep_minute.ensures in
+    let one = e.marks.1 in
+    let few = v.few in
+    let low = c.loop-minute-test.true in
+    (e.marks.0 ∙ v.mark_room, omega (arith, one, few, low))
+
+pub returns-in_err-keep_minute-clause-breaks : goal.returns-in_err-keep_minute-clause-breaks
+returns-in_err-keep_minute-clause-breaks g c =
+    let v = c.loop-minute.invariant in
+    let e = c.in_err-keep_minute.ensures in
+    let one = e.breaks.1 in
+    let few = v.tears in
+    (e.breaks.0 ∙ v.tear_room, omega (arith, one, few))
+
+pub returns-in_err-keep_minute-clause-a_broken : goal.returns-in_err-keep_minute-clause-a_broken
+returns-in_err-keep_minute-clause-a_broken g c =
+    let few : tears_of c.args.self.now.cabin.cards.a.accepted - tears_of c.keep_minute.new.self.cabin.cards.a.accepted
+    ≤ (tears_of c.args.self.now.cabin.cards.a.accepted - tears_of c.loop-minute.self.cabin.cards.a.accepted) + (tears_of c.loop-minute.self.cabin.cards.a.accepted - tears_of c.keep_minute.new.self.cabin.cards.a.accepted) =
+    omega arith in
+    fewer_broken few (both_broken c.loop-minute.invariant.a_broken c.in_err-keep_minute.ensures.a_broken)
+
+pub returns-in_err-keep_minute-clause-b_broken : goal.returns-in_err-keep_minute-clause-b_broken
+returns-in_err-keep_minute-clause-b_broken g c =
+    let few : tears_of c.args.self.now.cabin.cards.b.accepted - tears_of c.keep_minute.new.self.cabin.cards.b.accepted
+    ≤ (tears_of c.args.self.now.cabin.cards.b.accepted - tears_of c.loop-minute.self.cabin.cards.b.accepted) + (tears_of c.loop-minute.self.cabin.cards.b.accepted - tears_of c.keep_minute.new.self.cabin.cards.b.accepted) =
+    omega arith in
+    fewer_broken few (both_broken c.loop-minute.invariant.b_broken c.in_err-keep_minute.ensures.b_broken)
