@@ -1,17 +1,17 @@
 -- What the keeping of a minute leaves of unit and cards, over devices that tell their images (profile).
-use Rattle.std.specs.Prelude.{◌≡◌, ◌≢◌, ◌⊎◌, ℕ, suc, ◌≤◌, ◌<◌, ◌++◌, Bool, true, false, Option, Some, None, IfSome, List, [], if◌then◌else◌}
-use Rattle.activity_codec.specs.declared.entries.Entry.{Entry}
+use Rattle.std.specs.Prelude.{◌≡◌, ◌≢◌, ◌⊎◌, ℕ, suc, max, ◌≤◌, ◌<◌, Bool, true, false, Option, Some, None, IfSome, List, [], if◌then◌else◌}
 use Rattle.trace_model.specs.declared.Card.{Card}
-use Rattle.trace_model.specs.declared.Card.TheVariants.{A, B}
 use Rattle.tach_media.specs.Medium.{State, last_count}
 use Rattle.tacho_types.specs.CardNumber.{card_number_bytes}
-use Rattle.card_image.specs.Own.{own_sizes, IsOwnValid}
+use Rattle.card_layout.specs.Application.{IsApplication}
+use Rattle.card_image.specs.Own.{own_view, own_sizes, IsOwnValid}
 use Rattle.card_session.specs.Sessions.{Session, IsSession}
-use Rattle.card_steps.specs.Since.{GoesSince, HoldsSince}
+use Rattle.card_steps.specs.Since.{GoesSince}
+use Rattle.card_steps.specs.Each.{EachHolds}
 use Rattle.unit_journal.specs.declared.kept.KeptMinute.{KeptMinute}
 use Rattle.history_model.specs.Minutes.{HistoryMinute, on_card}
 use Rattle.history_model.specs.Book.{Book, kept, broken}
-use Rattle.joint_rule.specs.Rules.{Standing, Out, In, Torn, IsPresent}
+use Rattle.joint_rule.specs.Rules.{Standing, Out, In, Torn, since, IsPresent}
 use Rattle.safety_model.specs.Safe.{Devices, card_of}
 use Rattle.slot_machine.specs.declared.seats.Present.{Present}
 use Rattle.device_steps.specs.Minute.{IsNotIn}
@@ -23,7 +23,7 @@ use Rattle.run_rule.specs.Cards.{brought_by}
 use Rattle.run_rule.specs.Between.{Carried, IsLit, IsCarried}
 use Rattle.run_keeping.specs.declared.keeper.Moment.{Moment}
 use Rattle.run_keeping.specs.Keeping.{Fate, Still, Has, Fell, is_this}
-use Rattle.run_keeping.specs.Minutes.{Round, Told, IsMinute, marks_after, told_after}
+use Rattle.run_keeping.specs.Minutes.{Round, Told, IsMinute, marks_after}
 
 -- ---- before
 
@@ -35,13 +35,22 @@ history_minute present m = record {
   codriver = record { act = m.codriver.act; card = present.codriver };
 }
 
--- the numbers that the cards have told are those that were found, which are two
-pub record AreFoundNumbers (f : Found) (cards : Cards) : Type 0 where
+-- What was found of the cards: two numbers, which are those that they have told; and of each valid card sizes, and the entries of its image.
+pub record AreFoundCards (f : Found) (cards : Cards) : Type 0 where
   pub two : f.card_a.number ≢ f.card_b.number
   pub named : (c : Card) → IsOwnValid (found_of f c).image → IfSome (known_of cards c).number (λ n. card_number_bytes n ≡ (found_of f c).number)
+  pub sizes : (c : Card) → IsOwnValid (found_of f c).image → IsApplication (own_sizes (found_of f c).image)
+  pub entries : (c : Card) → IsOwnValid (found_of f c).image → (found_of f c).start.entries ≡ (own_view (found_of f c).image).held.entries
 
--- A card with this session stands in its slot with the session's newest minute; its image is what the session knows; and its string goes on
--- with each later minute.
+-- THE STRING OF A CARD, by its images: each that a stop may leave holds it, and each since the start keeps it; an entry may come behind the
+-- newest minute of the card as it stands.
+pub record IsHeld (f : CardFound) (c : Card) (b : Book) (z : Standing) (card : State) : Type 0 where
+  pub next : ℕ
+  pub each : EachHolds (own_sizes f.image) f.image (brought_by c f.start b) next f.began card
+  pub near : (x : List ℕ) → card.may_leave x → next ≤ suc (max f.start.word (since z (own_view x).newest))
+
+-- A CARD IN ITS SLOT, with this session: it stands with the session's newest minute, its image is what the session knows, and its string goes
+-- on with each later minute.
 pub record IsOn (f : CardFound) (c : Card) (b : Book) (z : Standing) (s : Session) (card : State) : Type 0 where
   pub time : ℕ
   pub stands : z ≡ In time s.minute
@@ -49,19 +58,15 @@ pub record IsOn (f : CardFound) (c : Card) (b : Book) (z : Standing) (s : Sessio
   pub session : IfSome card.image (IsSession s)
   pub goes : IfSome card.image (GoesSince s.application f.image (brought_by c f.start b) (suc s.minute))
 
--- one without a session is not in its slot, accepted; and its string holds of each image that a stop may leave: no minute that the unit
--- has not had yet is earlier than it may come
-pub record IsOff (f : CardFound) (c : Card) (b : Book) (due : ℕ) (z : Standing) (card : State) : Type 0 where
-  pub out : IsNotIn z
-  pub holds : (x : List ℕ) → card.may_leave x → HoldsSince (own_sizes f.image) f.image (brought_by c f.start b) due x
+-- a card goes with its session, and is in its slot, accepted, exactly where it has one
+abbrev pub GoesWith : CardFound → Card → Book → Standing → Option Accepted → State → Type 0
+GoesWith f c b z None card = IsNotIn z
+GoesWith f c b z (Some accepted) card = IsOn f c b z accepted.session card
 
--- so a valid card goes with its session
-abbrev pub GoesWith : CardFound → Card → Book → (due : ℕ) → Standing → Option Accepted → State → Type 0
-GoesWith f c b due z None card = IsOff f c b due z card
-GoesWith f c b due z (Some accepted) card = IsOn f c b z accepted.session card
-
-abbrev pub AllGo : Found → Carried → Cards → Devices → Type 0
-AllGo f w cards d = (c : Card) → IsOwnValid (found_of f c).image → GoesWith (found_of f c) c w.book w.due (w.standing c) (session_of cards c) (card_of d c)
+-- so do all that were valid
+pub record AllGo (f : Found) (w : Carried) (cards : Cards) (d : Devices) : Type 0 where
+  pub held : (c : Card) → IsOwnValid (found_of f c).image → IsHeld (found_of f c) c w.book (w.standing c) (card_of d c)
+  pub goes : (c : Card) → IsOwnValid (found_of f c).image → GoesWith (found_of f c) c w.book (w.standing c) (session_of cards c) (card_of d c)
 
 -- A minute may come: it is not earlier than it may, and says something on a card only where that is valid and present.
 pub record MayCome (f : Found) (w : Carried) (i : HistoryMinute) : Type 0 where
@@ -110,7 +115,7 @@ IsBooked f w present i true (Some round) cards d = IsCarried f (carried_after pr
 pub record MayBook (f : Found) (w : Carried) (present : Present) (m : KeptMinute) (t : Told) (d : Devices) : Type 0 where
   pub lit : IsLit f w d
   pub marks : w.marks ≡ t.marks.items
-  pub numbers : AreFoundNumbers f t.keeper.cabin.cards
+  pub found : AreFoundCards f t.keeper.cabin.cards
   pub cards : AllGo f w t.keeper.cabin.cards d
   pub comes : MayCome f w (history_minute present m)
 

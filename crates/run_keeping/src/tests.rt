@@ -19,7 +19,6 @@ use trace_model::Card;
 use unit_journal::Journal;
 use unit_memory::UnitMemory;
 use unit_model::layout::IMAGE_SIZE;
-use unit_notes::UnitNotes;
 
 /// 2010-03-01 00:00:00, and its minute.
 const MIDNIGHT: u32 = 1267401600;
@@ -162,77 +161,143 @@ fn minute(number: u32, driver: Activity, codriver: Activity, travelled: u64) -> 
     }
 }
 
-/// No line yet, and room for so many.
-fn lines<T: Copy>(alloc: Global, room: usize) -> Result<Lines<T>, Memory> {
-    Lines::with_room(alloc, room)
+/// The three devices of a run, a keeper over them with both cards accepted at midnight, and what was told.
+#[derive(Drop)]
+struct Drive {
+    unit: MemMedium,
+    a: SimCard<MemMedium>,
+    b: SimCard<MemMedium>,
+    keeper: Keeper,
+    marks: Lines<Mark>,
+    breaks: Lines<Break>,
 }
 
-/// The bytes of a card from the begin of its days on.
-fn days_of(card: SimCard<MemMedium>) -> Result<[u8; 24], Fail> {
+/// Both cards are in their slots, the first minutes have ended, and the calls on unit and co-driver's card stop so.
+fn begins(alloc: Global, unit_stops: Vec<Stop>, card_stops: Vec<Stop>) -> Result<Drive, Fail> {
+    let mut unit = new_unit(alloc, unit_stops)?;
+    let mut a = new_card(alloc, *b"DEMO000000000000", Vec::new(alloc))?;
+    let mut b = new_card(alloc, *b"DEMO111111111111", card_stops)?;
+    let mut keeper = keeper_of(&mut unit, &mut a, &mut b)?;
+    seat(&mut keeper, Card::A, Slot::Driver, &mut unit, &mut a, &b)?;
+    seat(&mut keeper, Card::B, Slot::CoDriver, &mut unit, &mut b, &a)?;
+    for minute in FIRST..FIRST + 3 {
+        keeper.cabin.end_minute(minute);
+    }
+    Ok(Drive {
+        unit,
+        a,
+        b,
+        keeper,
+        marks: Lines::with_room(alloc, 9)?,
+        breaks: Lines::with_room(alloc, 2)?,
+    })
+}
+
+/// The three minutes of the drive.
+fn minutes() -> [Minute; 3] {
+    [
+        minute(FIRST, Activity::Work, Activity::Available, 0),
+        minute(FIRST + 1, Activity::Driving, Activity::Available, 3600),
+        minute(FIRST + 2, Activity::Driving, Activity::Rest, 7200),
+    ]
+}
+
+/// Where all of them are kept.
+const AT: Moment = Moment {
+    second: MIDNIGHT + 180,
+    begun: 2,
+    late: true,
+};
+
+/// Keeps minutes.
+fn keeps(drive: &mut Drive, decided: &[Minute]) -> Result<(), Failed> {
+    drive.keeper.keep_all(
+        decided,
+        AT,
+        &mut drive.unit,
+        &mut drive.a,
+        &mut drive.b,
+        &mut drive.marks,
+        &mut drive.breaks,
+    )
+}
+
+/// Which minutes a device has marked.
+fn marked(alloc: Global, drive: &Drive, device: Device) -> Result<Vec<u32>, AllocError> {
+    let mut minutes = Vec::new(alloc);
+    for i in 0..drive.marks.len() {
+        if drive.marks.get(i).device == device {
+            minutes.push(drive.marks.get(i).minute)?;
+        }
+    }
+    Ok(minutes)
+}
+
+/// One stop.
+fn one(alloc: Global, call: u64) -> Result<Vec<Stop>, AllocError> {
+    let mut stops = Vec::new(alloc);
+    stops.push(Stop {
+        call,
+        left: Left::Before,
+    })?;
+    Ok(stops)
+}
+
+/// Bytes of a card, once it works again.
+fn bytes_of<const N: usize>(card: SimCard<MemMedium>, place: u32) -> Result<[u8; N], Fail> {
     let mut medium = card.into_medium();
-    let mut out = [0; 24];
-    if medium.revive().is_err() || medium.read_at(DAYS, &mut out).is_err() {
+    let mut out = [0; N];
+    if medium.revive().is_err() || medium.read_at(place, &mut out).is_err() {
         return Err(Fail::from("not read"));
     }
     Ok(out)
 }
 
-/// Which call of the co-driver's card fails: the first write of its second keep.
-const TORN_AT: u64 = 0;
-
 #[test]
 fn a_card_is_torn_out_in_a_keep(rt: HostRuntime) -> Result<(), Fail> {
     let alloc = rt.alloc();
-    let mut unit = new_unit(alloc, Vec::new(alloc))?;
-    let mut stops = Vec::new(alloc);
-    stops.push(Stop {
-        call: TORN_AT,
-        left: Left::Before,
-    })?;
-    let mut card_a = new_card(alloc, *b"DEMO000000000000", Vec::new(alloc))?;
-    let mut card_b = new_card(alloc, *b"DEMO111111111111", stops)?;
-    let mut keeper = keeper_of(&mut unit, &mut card_a, &mut card_b)?;
-    seat(
-        &mut keeper,
-        Card::A,
-        Slot::Driver,
-        &mut unit,
-        &mut card_a,
-        &card_b,
-    )?;
-    seat(
-        &mut keeper,
-        Card::B,
-        Slot::CoDriver,
-        &mut unit,
-        &mut card_b,
-        &card_a,
-    )?;
-    for m in FIRST..FIRST + 3 {
-        keeper.cabin.end_minute(m);
-    }
-    let decided = [
-        minute(FIRST, Activity::Work, Activity::Available, 0),
-        minute(FIRST + 1, Activity::Driving, Activity::Available, 3600),
-        minute(FIRST + 2, Activity::Driving, Activity::Rest, 7200),
-    ];
-    let at = Moment {
+    // how many calls the co-driver's card had before its second keep
+    let mut first = begins(alloc, Vec::new(alloc), Vec::new(alloc))?;
+    assert_eq!(rt; keeps(&mut first, &minutes()[..1]), Ok(()));
+    let call = first.b.medium().calls();
+    let mut drive = begins(alloc, Vec::new(alloc), one(alloc, call)?)?;
+    assert_eq!(rt; keeps(&mut drive, &minutes()), Ok(()));
+    // the unit and the driver's card have all minutes, the other card the first one
+    let all = [FIRST, FIRST + 1, FIRST + 2];
+    assert!(rt; marked(alloc, &drive, Device::Unit)?.as_slice() == all.as_slice());
+    assert!(rt; marked(alloc, &drive, Device::CardA)?.as_slice() == all.as_slice());
+    assert!(rt; marked(alloc, &drive, Device::CardB)?.as_slice() == [FIRST].as_slice());
+    let tear = Break::Tear {
         second: MIDNIGHT + 180,
-        begun: 0,
+        slot: Slot::CoDriver,
+        failed: true,
+        begun: 2,
         late: true,
     };
-    let mut marks: Lines<Mark> = lines(alloc, 9)?;
-    let mut breaks: Lines<Break> = lines(alloc, 2)?;
-    let ended = keeper.keep_all(
-        &decided,
-        at,
-        &mut unit,
-        &mut card_a,
-        &mut card_b,
-        &mut marks,
-        &mut breaks,
-    );
-    assert_eq!(rt; ended, Ok(()));
-    assert_eq!(rt; breaks.len(), 1);
+    assert_eq!(rt; drive.breaks.len(), 1);
+    assert_eq!(rt; *drive.breaks.get(0), tear);
+    // it has left its slot, and the other one sits still
+    assert_eq!(rt; drive.keeper.cabin.slot_of(Card::A), Some(Slot::Driver));
+    assert_eq!(rt; drive.keeper.cabin.slot_of(Card::B), None);
+    assert!(rt; drive.keeper.cabin.cards.b.accepted.is_none());
+    // one day, 2010-03-01, with the words of work and driving in a crew
+    let days = bytes_of::<24>(drive.a, DAYS)?;
+    assert_eq!(rt; days[8..12], [0x4Bu8, 0x8B, 0x03, 0x80]);
+    Ok(())
+}
+
+#[test]
+fn a_unit_that_fails_keeps_no_more(rt: HostRuntime) -> Result<(), Fail> {
+    let alloc = rt.alloc();
+    let mut first = begins(alloc, Vec::new(alloc), Vec::new(alloc))?;
+    assert_eq!(rt; keeps(&mut first, &minutes()[..1]), Ok(()));
+    let call = first.unit.calls();
+    let mut drive = begins(alloc, one(alloc, call)?, Vec::new(alloc))?;
+    assert_eq!(rt; keeps(&mut drive, &minutes()), Err(Failed));
+    assert!(rt; marked(alloc, &drive, Device::Unit)?.as_slice() == [FIRST].as_slice());
+    assert!(rt; marked(alloc, &drive, Device::CardA)?.as_slice() == [FIRST].as_slice());
+    assert!(rt; marked(alloc, &drive, Device::CardB)?.as_slice() == [FIRST].as_slice());
+    assert_eq!(rt; drive.breaks.len(), 0);
+    assert!(rt; drive.keeper.cabin.cards.a.accepted.is_some());
     Ok(())
 }
