@@ -21,6 +21,13 @@ unit-stays {U} {V} run is = record {
   writable = rw run.writable is.writable;
 }
 
+-- a note leaves the owed rows
+pub rows-noted : (x c : List ℕ) → KeepsJournal x c → rows_in c ≡ rows_in x
+rows-noted x c keeps =
+    sym (part_in c SPARE_COUNTS.place (INSERTIONS.place - SPARE_COUNTS.place) (OWED.place - SPARE_COUNTS.place) OWED.size (omega arith))
+    ∙ ap (λ (l : List ℕ). bytes_at l (OWED.place - SPARE_COUNTS.place) OWED.size) keeps.rest
+    ∙ part_in x SPARE_COUNTS.place (INSERTIONS.place - SPARE_COUNTS.place) (OWED.place - SPARE_COUNTS.place) OWED.size (omega arith)
+
 module _ {U V : State} (before : IsCoherent U) (after : IsCoherent V) (works : U.works ≡ true) (run : LeavesOnly U V LeavesJournal) where
   -- what holds of the image before, and of each that it is noted on, holds of that after
   noted-image : (P : List ℕ → Type 0) → ((x c : List ℕ) → P x → LeavesJournal x c → P c) → IfSome U.image P → IfSome V.image P
@@ -31,12 +38,6 @@ module _ {U V : State} (before : IsCoherent U) (after : IsCoherent V) (works : U
 
   pub agrees-noted : (j : Notes) → IfSome U.image (Agrees j) → IfSome V.image (Agrees j)
   agrees-noted j said = noted-image (Agrees j) (λ x c is same. agrees_beside x c (same_journal x c same.keeps) j is) said
-
-  rows-noted : (x c : List ℕ) → KeepsJournal x c → rows_in c ≡ rows_in x
-  rows-noted x c keeps =
-      sym (part_in c SPARE_COUNTS.place (INSERTIONS.place - SPARE_COUNTS.place) (OWED.place - SPARE_COUNTS.place) OWED.size (omega arith))
-      ∙ ap (λ (l : List ℕ). bytes_at l (OWED.place - SPARE_COUNTS.place) OWED.size) keeps.rest
-      ∙ part_in x SPARE_COUNTS.place (INSERTIONS.place - SPARE_COUNTS.place) (OWED.place - SPARE_COUNTS.place) OWED.size (omega arith)
 
   pub row-noted : (n : List ℕ) → IfSome U.image (HasRow n) → IfSome V.image (HasRow n)
   row-noted n said = noted-image (HasRow n) (λ x c is same. (is.0, ap (λ (rows : List ℕ). row_index n rows) (rows-noted x c same.keeps) ∙ is.1)) said

@@ -1,5 +1,5 @@
 -- What the keeping of a minute leaves of unit and cards, over devices that tell their images (profile).
-use Rattle.std.specs.Prelude.{◌≡◌, ◌≢◌, ◌⊎◌, ℕ, suc, max, ◌≤◌, ◌<◌, Bool, true, false, Option, Some, None, IfSome, List, [], if◌then◌else◌}
+use Rattle.std.specs.Prelude.{◌≡◌, ◌≢◌, ◌⊎◌, ℕ, suc, max, ◌≤◌, ◌<◌, Bool, true, false, Option, Some, None, IfSome, List, [], Contains, if◌then◌else◌}
 use Rattle.trace_model.specs.declared.Card.{Card}
 use Rattle.tach_media.specs.Medium.{State, last_count}
 use Rattle.tacho_types.specs.CardNumber.{card_number_bytes}
@@ -118,6 +118,8 @@ pub record MayBook (f : Found) (w : Carried) (present : Present) (m : KeptMinute
   pub found : AreFoundCards f t.keeper.cabin.cards
   pub cards : AllGo f w t.keeper.cabin.cards d
   pub comes : MayCome f w (history_minute present m)
+  -- what acceptances brought is of minutes that the unit had kept by then
+  pub early : (c : Card) (k : ℕ) → Contains (w.brought c) k → k < w.due
 
 -- no clock stands at its last value
 pub record HaveTime (d : Devices) : Type 0 where
