@@ -21,7 +21,7 @@ present-present-requires g c =
     let ds = c.args.decided.now in
     let i = c.loop-minute.minute-index in
     let here = all-here ds i c.loop-minute-test.true (λ (m : Minute). is_some (present_in c.args.self.now.cabin.slots.past m.minute) ≡ true) c.requires.ended in
-    subst (λ (past : List Ended). is_some (present_in past (this ds i c.loop-minute-test.true).minute) ≡ true) (sym c.loop-minute.invariant.past) here
+    record { ended = subst (λ (past : List Ended). is_some (present_in past (this ds i c.loop-minute-test.true).minute) ≡ true) (sym c.loop-minute.invariant.past) here }
 
 pub keep_minute-requires-clause-rows : goal.keep_minute-requires-clause-rows
 keep_minute-requires-clause-rows g c =
