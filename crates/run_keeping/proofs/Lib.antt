@@ -1,0 +1,6 @@
+pub mod Units
+pub mod Sessions
+pub mod Fates
+pub mod Counts
+pub mod Rounds
+pub mod Decided

@@ -1,0 +1,73 @@
+use Rattle.std.proofs.Common.{◌≡◌, ◌∙◌, ℕ, ◌+◌, Bool, true, false, Some, None, refl, ap, sym, subst, arith}
+use Rattle.std.specs.Prelude.{is_err, [], ◌∷◌}
+use Rattle.tach_media.specs.Medium.{HasCause}
+use Rattle.tach_media.proofs.Runs.{ok_gives, starts}
+use Rattle.run_model.specs.declared.Device.{Device}
+use Rattle.run_crew.specs.declared.cards.Accepted.{Accepted}
+use Rattle.run_crew.specs.declared.cards.Cards.{Cards}
+use Rattle.run_crew.specs.declared.cabin.Cabin.{Cabin}
+use Rattle.run_crew.specs.Cards.{with_session}
+use Rattle.run_crew.specs.Cabin.{Stands, torn_out, left_from, slot_with, crew_of}
+use Rattle.run_crew.proofs.Moves.{kept-stands}
+use Rattle.run_keeping.specs.declared.keeper.Keeper.{Keeper}
+use Rattle.run_keeping.specs.Keeping.{Has, Fell, IsNotingFault, with_lines}
+use Rattle.run_keeping.proofs.Sessions.{session-twice, stands-later, torn-stands}
+use Rattle.run_keeping.proofs.Fates.{has-brought, fell-brought}
+use Rattle.run_keeping.proofs.keeper.Keeper.bring_to.Goals as goal
+
+-- ---- the call failed
+
+pub returns-then-is_err-clause-brought : goal.returns-then-is_err-clause-brought
+returns-then-is_err-clause-brought g c =
+    let k = c.args.self.now in
+    let bad : is_err c.keep_on_card.result ≡ true = sym c.is_err.ensures.value ∙ c.if-is_err.true in
+    let cause = subst (λ (b : Bool). HasCause (g.C.Chip.state c.args.card.now) (g.C.Chip.state c.keep_on_card.new.card) b) bad c.keep_on_card.ensures.cause in
+    let keeper =
+    c.tear.ensures.keeper ∙ ap (λ (cards : Cards). record k { cabin = torn_out c.args.which c.args.at.second (record { slots = k.cabin.slots; cards = cards }) }) c.take.ensures.left
+    ∙ ap (λ (cards : Cards). record k { cabin = record { slots = left_from (slot_with k.cabin.slots.seats c.args.which) c.args.at.second k.cabin.slots; cards = cards } }) (session-twice c.args.which None None k.cabin.cards) in (
+      Fell,
+      fell-brought c.args.which c.args.kept.now c.args.at k c.tear.new.self c.args.marks.now c.args.breaks.now (g.M.Medium.state c.args.unit.now) (g.M.Medium.state c.tear.new.unit) (g.C.Chip.state c.args.card.now) (g.C.Chip.state c.keep_on_card.new.card)
+          (is_err c.tear.result) c.in-Some.accepted c.tear.new.breaks (sym c.in-Some.ensures.taken) cause keeper c.tear.ensures.told (λ well. ok_gives c.tear.result c.tear.ensures.noted well),
+      c.tear.ensures.moments,
+    )
+
+pub returns-then-is_err-clause-stands : goal.returns-then-is_err-clause-stands
+returns-then-is_err-clause-stands g c = λ from leaving le h.
+    let k = c.args.self.now in
+    let cabin =
+    ap (λ (q : Keeper). q.cabin) c.tear.ensures.keeper ∙ ap (λ (cards : Cards). torn_out c.args.which c.args.at.second (record { slots = k.cabin.slots; cards = cards })) c.take.ensures.left
+    ∙ ap (λ (cards : Cards). record { slots = left_from (slot_with k.cabin.slots.seats c.args.which) c.args.at.second k.cabin.slots; cards = cards }) (session-twice c.args.which None None k.cabin.cards) in
+    subst (λ (b : Cabin). Stands (c.args.kept.now.entry.minute + 1) leaving b) (sym cabin)
+    (torn-stands k.cabin c.args.which c.args.at.second (c.args.kept.now.entry.minute + 1) leaving c.requires.minute (stands-later from (c.args.kept.now.entry.minute + 1) le leaving k.cabin h))
+
+-- ---- the card has its entry
+
+pub returns-clause-brought : goal.returns-clause-brought
+returns-clause-brought g c =
+    let k = c.args.self.now in
+    let well : is_err c.keep_on_card.result ≡ false = sym c.is_err.ensures.value ∙ c.if-is_err.false in
+    let cause = subst (λ (b : Bool). HasCause (g.C.Chip.state c.args.card.now) (g.C.Chip.state c.keep_on_card.new.card) b) well c.keep_on_card.ensures.cause in
+    let after : Accepted = record { session = c.keep_on_card.new.session; entry = c.in-Some.accepted.entry; noted = c.in-Some.accepted.noted } in
+    let cards = c.set_session.ensures ∙ ap (λ (q : Cards). with_session c.args.which (Some after) q) c.take.ensures.left ∙ session-twice c.args.which None (Some after) k.cabin.cards in
+    let last = ok_gives c.keep_on_card.result c.keep_on_card.ensures.last well in (
+      Has after c.clock.result,
+      has-brought c.args.which c.args.kept.now c.args.at k (record k { cabin = record { slots = k.cabin.slots; cards = c.set_session.new.self } }) c.args.marks.now c.args.breaks.now
+          (g.M.Medium.state c.args.unit.now) (g.M.Medium.state c.args.unit.now) (g.C.Chip.state c.args.card.now) (g.C.Chip.state c.keep_on_card.new.card)
+          c.in-Some.accepted after c.clock.result c.add.new.self (sym c.in-Some.ensures.taken)
+          (record { application = c.keep_on_card.ensures.same.0; registration = c.keep_on_card.ensures.same.1; minute = last.0; odometer = last.1; entry = refl; noted = refl })
+          c.clock.ensures cause (ap (λ (q : Cards). record k { cabin = record { slots = k.cabin.slots; cards = q } }) cards)
+          (c.add.ensures ∙ ap (λ (d : Device). with_lines (record { device = d; minute = c.args.kept.now.entry.minute; clock = c.clock.result } ∷ []) c.args.marks.now) c.device_of.ensures),
+      starts (g.M.Medium.state c.args.unit.now) (IsNotingFault (Has after c.clock.result) c.args.at.second (crew_of (record { slots = k.cabin.slots; cards = c.set_session.new.self }))),
+    )
+
+pub returns-clause-stands : goal.returns-clause-stands
+returns-clause-stands g c = λ from leaving le h.
+    let k = c.args.self.now in
+    let m : ℕ = c.args.kept.now.entry.minute in
+    let well : is_err c.keep_on_card.result ≡ false = sym c.is_err.ensures.value ∙ c.if-is_err.false in
+    let after : Accepted = record { session = c.keep_on_card.new.session; entry = c.in-Some.accepted.entry; noted = c.in-Some.accepted.noted } in
+    let cards = c.set_session.ensures ∙ ap (λ (q : Cards). with_session c.args.which (Some after) q) c.take.ensures.left ∙ session-twice c.args.which None (Some after) k.cabin.cards in
+    let last = ok_gives c.keep_on_card.result c.keep_on_card.ensures.last well in
+    let now : after.session.minute ≡ m = last.0 in
+    subst (λ (q : Cards). Stands (m + 1) leaving (record { slots = k.cabin.slots; cards = q })) (sym cards)
+    (kept-stands from m c.args.which c.in-Some.accepted after k.cabin leaving le (sym c.in-Some.ensures.taken) c.keep_on_card.ensures.same.0 (omega (arith, now)) h)

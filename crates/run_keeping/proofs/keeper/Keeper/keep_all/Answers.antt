@@ -1,0 +1,224 @@
+use Rattle.std.proofs.Common.{rules, [], ◌≡◌, ◌∙◌, ℕ, ◌+◌, ◌-◌, ◌<◌, ◌≤◌, Bool, true, List, is_some, drop, refl, ap, sym, subst, arith}
+use Rattle.std.specs.Prelude.{is_err}
+use Rattle.std.proofs.lemmas.List.{take_all, drop_all}
+use Rattle.tach_media.proofs.Runs.{cause_after, no_reads}
+use Rattle.tach_media.proofs.Breakdowns.{none_broken, both_broken, fewer_broken}
+use Rattle.minute_model.specs.declared.Minute.{Minute}
+use Rattle.unit_journal.specs.declared.kept.KeptMinute.{KeptMinute}
+use Rattle.slot_machine.specs.declared.seats.Ended.{Ended}
+use Rattle.slot_machine.specs.Calls.{present_in}
+use Rattle.run_crew.specs.Cabin.{Stands, MayBeKept}
+use Rattle.run_keeping.specs.Keeping.{HaveRows, tears_of}
+use Rattle.run_keeping.specs.Minutes.{AreKept, AreKeptUpTo, or_nobody, kept_after, none}
+use Rattle.run_keeping.proofs.Sessions.{stands-later}
+use Rattle.run_keeping.proofs.Rounds.{told-of}
+use Rattle.run_keeping.proofs.Decided.{this, due-here, kept-here, all-here, kept-on, cut-on, present-here, rows-on}
+use Rattle.run_keeping.proofs.keeper.Keeper.keep_all.Goals as goal
+
+pub present-present-requires : goal.present-present-requires
+present-present-requires g c =
+    let ds = c.args.decided.now in
+    let i = c.loop-minute.minute-index in
+    let here = all-here ds i c.loop-minute-test.true (λ (m : Minute). is_some (present_in c.args.self.now.cabin.slots.past m.minute) ≡ true) c.requires.ended in
+    record { ended = subst (λ (past : List Ended). is_some (present_in past (this ds i c.loop-minute-test.true).minute) ≡ true) (sym c.loop-minute.invariant.past) here }
+
+pub keep_minute-requires-clause-rows : goal.keep_minute-requires-clause-rows
+keep_minute-requires-clause-rows g c =
+    let v = c.loop-minute.invariant in
+    let U = g.M.Medium.state c.args.unit.now in
+    let cards = c.args.self.now.cabin.cards in
+    rows-on cards c.loop-minute.self.cabin.cards U (g.M.Medium.state c.loop-minute.unit) c.present-present.result v.rows
+    (present-here (HaveRows cards U) _ c.present-present.result c.args.self.now.cabin.slots.past c.requires.rows
+    (c.present-present.ensures.present ∙ ap (λ (past : List Ended). present_in past (this c.args.decided.now c.loop-minute.minute-index c.loop-minute-test.true).minute) v.past))
+
+pub keep_minute-requires-clause-kept : goal.keep_minute-requires-clause-kept
+keep_minute-requires-clause-kept g c =
+    let v = c.loop-minute.invariant in
+    let ds = c.args.decided.now in
+    let i = c.loop-minute.minute-index in
+    let low = c.loop-minute-test.true in
+    let s = c.requires.stands in
+    let m : ℕ = (this ds i low).minute in
+    let from : s.0 ≤ m = all-here ds i low (λ (d : Minute). s.0 ≤ d.minute) s.2 in
+    let later : c.loop-minute.self.journal.kept < m = (due-here ds i low c.loop-minute.self.journal.kept v.due).0 in
+    let may = c.present-present.ensures.stands m s.1 (omega arith) (v.stands s.0 s.1 s.2 s.3 m from later) in
+    let same : c.kept_of-kept.result.minute ≡ m = ap (λ (k : KeptMinute). k.minute) c.kept_of-kept.ensures in
+    subst (λ (n : ℕ). MayBeKept c.loop-minute.self.cabin.cards n c.present-present.result) (sym same) may
+
+pub keep_minute-requires-clause-low : goal.keep_minute-requires-clause-low
+keep_minute-requires-clause-low g c =
+    let same = ap (λ (k : KeptMinute). k.minute) c.kept_of-kept.ensures in
+    let low = (due-here c.args.decided.now c.loop-minute.minute-index c.loop-minute-test.true c.loop-minute.self.journal.kept c.loop-minute.invariant.due).1 in
+    omega (arith, same, low)
+
+pub keep_minute-requires-clause-later : goal.keep_minute-requires-clause-later
+keep_minute-requires-clause-later g c =
+    let same = ap (λ (k : KeptMinute). k.minute) c.kept_of-kept.ensures in
+    let later = (due-here c.args.decided.now c.loop-minute.minute-index c.loop-minute-test.true c.loop-minute.self.journal.kept c.loop-minute.invariant.due).0 in
+    omega (arith, same, later)
+
+pub keep_minute-requires-clause-small : goal.keep_minute-requires-clause-small
+keep_minute-requires-clause-small g c =
+    let same = ap (λ (k : KeptMinute). k.minute) c.kept_of-kept.ensures in
+    let small = (due-here c.args.decided.now c.loop-minute.minute-index c.loop-minute-test.true c.loop-minute.self.journal.kept c.loop-minute.invariant.due).2 in
+    omega (arith, same, small)
+
+pub keep_minute-requires-clause-odometer : goal.keep_minute-requires-clause-odometer
+keep_minute-requires-clause-odometer g c =
+    let same = ap (λ (k : KeptMinute). k.odometer.0) c.kept_of-kept.ensures in
+    omega (arith, same)
+
+pub loop-minute-init : goal.loop-minute-init
+loop-minute-init g c = record {
+  ready = c.requires.ready;
+  due = c.requires.due;
+  last = refl;
+  memory = refl;
+  odometer = refl;
+  past = refl;
+  minute = c.requires.minute;
+  rows = λ card h. h;
+  stands = λ from leaving all h next le low. stands-later from next le leaving c.args.self.now.cabin h;
+  kept = none (told-of c.args.self.now c.args.marks.now c.args.breaks.now);
+  mark_room = refl;
+  few = omega arith;
+  tear_room = refl;
+  tears = omega arith;
+  a_broken = let few : tears_of c.args.self.now.cabin.cards.a.accepted - tears_of c.args.self.now.cabin.cards.a.accepted ≤ 0 = omega arith in fewer_broken few (none_broken (g.C.Chip.state c.args.card_a.now));
+  b_broken = let few : tears_of c.args.self.now.cabin.cards.b.accepted - tears_of c.args.self.now.cabin.cards.b.accepted ≤ 0 = omega arith in fewer_broken few (none_broken (g.D.Chip.state c.args.card_b.now));
+  clock = omega arith;
+  tells = refl;
+  cause = (no_reads (g.M.Medium.state c.args.unit.now) c.requires.ready.unit_ready.works).cause;
+}
+
+pub loop-minute-preserved : goal.loop-minute-preserved
+loop-minute-preserved g c =
+    let v = c.loop-minute.invariant in
+    let ds = c.args.decided.now in
+    let i = c.loop-minute.minute-index in
+    let low = c.loop-minute-test.true in
+    let e = c.in_ok-keep_minute.ensures in
+    let m : ℕ = (this ds i low).minute in
+    let same : c.kept_of-kept.result.minute ≡ m = ap (λ (k : KeptMinute). k.minute) c.kept_of-kept.ensures in
+    let now : c.keep_minute.new.self.journal.kept ≡ m = e.last ∙ same in
+    record {
+      ready = e.ready;
+      due = rw now (due-here ds i low c.loop-minute.self.journal.kept v.due).3;
+      last = rw now (sym (kept-here ds i low c.loop-minute.self.journal.kept) ∙ v.last);
+      memory = e.same.0 ∙ v.memory;
+      odometer = e.same.1 ∙ v.odometer;
+      past = e.same.2 ∙ v.past;
+      minute = e.minute;
+      rows = λ card h. e.rows card (v.rows card h);
+      stands = λ from leaving all h next le late.
+          let here : from ≤ m = all-here ds i low (λ (d : Minute). from ≤ d.minute) all in
+          let later : c.loop-minute.self.journal.kept < m = (due-here ds i low c.loop-minute.self.journal.kept v.due).0 in
+          let before : Stands m leaving c.loop-minute.self.cabin = v.stands from leaving all h m here later in
+          let after : Stands (c.kept_of-kept.result.minute + 1) leaving c.keep_minute.new.self.cabin = e.stands m leaving (omega (arith, same)) before in
+          stands-later (c.kept_of-kept.result.minute + 1) next (omega (arith, same, now, late)) leaving c.keep_minute.new.self.cabin after;
+      kept = kept-on ds i low c.args.at (told-of c.args.self.now c.args.marks.now c.args.breaks.now) (told-of c.loop-minute.self c.loop-minute.marks c.loop-minute.breaks) (told-of c.keep_minute.new.self c.keep_minute.new.marks c.keep_minute.new.breaks)
+          c.present-present.result c.kept_of-kept.result _ _ _ _ (ap or_nobody c.present-present.ensures.present) c.kept_of-kept.ensures v.kept e.kept.0 e.kept.1;
+      mark_room = e.marks.0 ∙ v.mark_room;
+      few = let one = e.marks.1 in let few = v.few in omega (arith, one, few);
+      tear_room = e.breaks.0 ∙ v.tear_room;
+      tears = let one = e.breaks.1 in let tears = v.tears in omega (arith, one, tears);
+      a_broken =
+          let few : tears_of c.args.self.now.cabin.cards.a.accepted - tears_of c.keep_minute.new.self.cabin.cards.a.accepted
+          ≤ (tears_of c.args.self.now.cabin.cards.a.accepted - tears_of c.loop-minute.self.cabin.cards.a.accepted) + (tears_of c.loop-minute.self.cabin.cards.a.accepted - tears_of c.keep_minute.new.self.cabin.cards.a.accepted) =
+          omega arith in
+          fewer_broken few (both_broken v.a_broken e.a_broken);
+      b_broken =
+          let few : tears_of c.args.self.now.cabin.cards.b.accepted - tears_of c.keep_minute.new.self.cabin.cards.b.accepted
+          ≤ (tears_of c.args.self.now.cabin.cards.b.accepted - tears_of c.loop-minute.self.cabin.cards.b.accepted) + (tears_of c.loop-minute.self.cabin.cards.b.accepted - tears_of c.keep_minute.new.self.cabin.cards.b.accepted) =
+          omega arith in
+          fewer_broken few (both_broken v.b_broken e.b_broken);
+      clock = let k = e.clock in let was = v.clock in omega (arith, k, was);
+      tells = e.tells ∙ v.tells;
+      cause = cause_after v.cause e.cause;
+    }
+
+pub returns-clause-kept : goal.returns-clause-kept
+returns-clause-kept g c =
+    let all = take_all c.loop-minute.minute-index c.args.decided.now (omega (arith, c.loop-minute-test.false)) in
+    subst (λ (xs : List Minute). AreKept c.args.at xs (told-of c.args.self.now c.args.marks.now c.args.breaks.now) (told-of c.loop-minute.self c.loop-minute.marks c.loop-minute.breaks)) all c.loop-minute.invariant.kept
+
+pub returns-in_err-keep_minute-clause-kept : goal.returns-in_err-keep_minute-clause-kept
+returns-in_err-keep_minute-clause-kept g c =
+    let v = c.loop-minute.invariant in
+    let e = c.in_err-keep_minute.ensures in
+    let failed : true ≡ is_err c.from_residual.result = search rules in
+    subst (λ (f : Bool). AreKeptUpTo c.args.decided.now c.args.at f (told-of c.args.self.now c.args.marks.now c.args.breaks.now) (told-of c.keep_minute.new.self c.keep_minute.new.marks c.keep_minute.new.breaks)) failed
+    (cut-on c.args.decided.now c.loop-minute.minute-index c.loop-minute-test.true c.args.at (told-of c.args.self.now c.args.marks.now c.args.breaks.now) (told-of c.loop-minute.self c.loop-minute.marks c.loop-minute.breaks) (told-of c.keep_minute.new.self c.keep_minute.new.marks c.keep_minute.new.breaks)
+    c.present-present.result c.kept_of-kept.result _ _ _ _ (ap or_nobody c.present-present.ensures.present) c.kept_of-kept.ensures v.kept e.kept.0 e.kept.1)
+
+-- ---- all of them are kept
+
+pub returns-clause-last : goal.returns-clause-last
+returns-clause-last g c =
+    let k = c.loop-minute.self.journal.kept in
+    let over : drop c.loop-minute.minute-index c.args.decided.now ≡ [] = drop_all c.loop-minute.minute-index c.args.decided.now (omega (arith, c.loop-minute-test.false)) in
+    sym (ap (kept_after k) over) ∙ c.loop-minute.invariant.last
+
+pub returns-clause-stands : goal.returns-clause-stands
+returns-clause-stands g c = λ from leaving all h next le late.
+    let k = c.loop-minute.self.journal.kept in
+    let over : drop c.loop-minute.minute-index c.args.decided.now ≡ [] = drop_all c.loop-minute.minute-index c.args.decided.now (omega (arith, c.loop-minute-test.false)) in
+    let last : k ≡ kept_after c.args.self.now.journal.kept c.args.decided.now = sym (ap (kept_after k) over) ∙ c.loop-minute.invariant.last in
+    c.loop-minute.invariant.stands from leaving all h next le (omega (arith, last, late))
+
+-- ---- room
+
+pub kept_of-kept-requires : goal.kept_of-kept-requires
+kept_of-kept-requires g c = let same = c.loop-minute.invariant.odometer in omega (arith, same, c.requires.odometer)
+
+pub keep_minute-requires-clause-marks : goal.keep_minute-requires-clause-marks
+keep_minute-requires-clause-marks g c =
+    let few = c.loop-minute.invariant.few in
+    let room = c.loop-minute.invariant.mark_room in
+    let low = c.loop-minute-test.true in
+    omega (arith, few, room, low, c.requires.marks)
+
+pub keep_minute-requires-clause-breaks : goal.keep_minute-requires-clause-breaks
+keep_minute-requires-clause-breaks g c =
+    let few = c.loop-minute.invariant.tears in
+    let room = c.loop-minute.invariant.tear_room in
+    omega (arith, few, room, c.requires.breaks)
+
+-- ---- the unit failed
+
+pub returns-in_err-keep_minute-clause-same : goal.returns-in_err-keep_minute-clause-same
+returns-in_err-keep_minute-clause-same g c =
+    let v = c.loop-minute.invariant in
+    let e = c.in_err-keep_minute.ensures in
+    (e.same.0 ∙ v.memory, e.same.1 ∙ v.odometer, e.same.2 ∙ v.past)
+
+pub returns-in_err-keep_minute-clause-marks : goal.returns-in_err-keep_minute-clause-marks
+returns-in_err-keep_minute-clause-marks g c =
+    let v = c.loop-minute.invariant in
+    let e = c.in_err-keep_minute.ensures in
+    let one = e.marks.1 in
+    let few = v.few in
+    let low = c.loop-minute-test.true in
+    (e.marks.0 ∙ v.mark_room, omega (arith, one, few, low))
+
+pub returns-in_err-keep_minute-clause-breaks : goal.returns-in_err-keep_minute-clause-breaks
+returns-in_err-keep_minute-clause-breaks g c =
+    let v = c.loop-minute.invariant in
+    let e = c.in_err-keep_minute.ensures in
+    let one = e.breaks.1 in
+    let few = v.tears in
+    (e.breaks.0 ∙ v.tear_room, omega (arith, one, few))
+
+pub returns-in_err-keep_minute-clause-a_broken : goal.returns-in_err-keep_minute-clause-a_broken
+returns-in_err-keep_minute-clause-a_broken g c =
+    let few : tears_of c.args.self.now.cabin.cards.a.accepted - tears_of c.keep_minute.new.self.cabin.cards.a.accepted
+    ≤ (tears_of c.args.self.now.cabin.cards.a.accepted - tears_of c.loop-minute.self.cabin.cards.a.accepted) + (tears_of c.loop-minute.self.cabin.cards.a.accepted - tears_of c.keep_minute.new.self.cabin.cards.a.accepted) =
+    omega arith in
+    fewer_broken few (both_broken c.loop-minute.invariant.a_broken c.in_err-keep_minute.ensures.a_broken)
+
+pub returns-in_err-keep_minute-clause-b_broken : goal.returns-in_err-keep_minute-clause-b_broken
+returns-in_err-keep_minute-clause-b_broken g c =
+    let few : tears_of c.args.self.now.cabin.cards.b.accepted - tears_of c.keep_minute.new.self.cabin.cards.b.accepted
+    ≤ (tears_of c.args.self.now.cabin.cards.b.accepted - tears_of c.loop-minute.self.cabin.cards.b.accepted) + (tears_of c.loop-minute.self.cabin.cards.b.accepted - tears_of c.keep_minute.new.self.cabin.cards.b.accepted) =
+    omega arith in
+    fewer_broken few (both_broken c.loop-minute.invariant.b_broken c.in_err-keep_minute.ensures.b_broken)

@@ -1,0 +1,173 @@
+use Rattle.std.proofs.Common.{rules, [], ◌∷◌, ◌≡◌, ◌∙◌, ℕ, ◌+◌, ◌/◌, ◌≤◌, Bool, Option, true, false, length, Some, ap, sym, subst, arith}
+use Rattle.std.specs.Prelude.{is_err}
+use Rattle.activity_codec.specs.declared.values.Slot.TheVariants.{Driver, CoDriver}
+use Rattle.card_session.specs.declared.session.Kept.{Kept}
+use Rattle.log_model.specs.declared.lines.Mark.{Mark}
+use Rattle.run_outcome.specs.Lines.{Listed}
+use Rattle.tach_media.proofs.Runs.{on_ok}
+use Rattle.run_crew.specs.Cabin.{Stands}
+use Rattle.run_keeping.specs.declared.keeper.Keeper.{Keeper}
+use Rattle.run_keeping.specs.Keeping.{Still, IsBrought, cabin_by, kept_in, state_at, most_tears}
+use Rattle.run_keeping.specs.Minutes.{Round, IsMinute, unit_mark}
+use Rattle.run_keeping.proofs.Counts.{tears-one, lines-length, first-stays, second-stays}
+use Rattle.run_keeping.proofs.Rounds.{told-of, brought-minute, brought-past, brought-tears, brought-tear-room, brought-marks, brought-mark-room, cut-is, cut-told, whole-driver, whole-codriver, whole-is, whole-told}
+use Rattle.run_keeping.proofs.keeper.Keeper.keep_minute.Goals as goal
+
+pub returns-in_err-bring-clause-kept : goal.returns-in_err-bring-clause-kept
+returns-in_err-bring-clause-kept g c =
+    let k = c.args.self.now in
+    let p = c.args.present in
+    let m = c.args.minute.now in
+    let U = g.M.Medium.state c.commit.new.unit in
+    let V = g.M.Medium.state c.bring.new.unit in
+    let X = state_at p.driver (g.C.Chip.state c.args.card_a.now) (g.D.Chip.state c.args.card_b.now) in
+    let Y = state_at p.driver (g.C.Chip.state c.bring.new.card_a) (g.D.Chip.state c.bring.new.card_b) in
+    let failed : true ≡ is_err c.from_residual-in_err-bring.result = search rules in
+    let notes = c.in_ok-commit.ensures.notes in
+    let was = c.in_err-bring.ensures.brought in
+    let b : IsBrought p.driver (kept_in m Driver) c.args.at true c.commit.new.self c.bring.new.self c.commit.new.marks c.bring.new.marks c.args.breaks.now c.bring.new.breaks was.0 U V X Y =
+    subst (λ (q : Kept). IsBrought p.driver q c.args.at true c.commit.new.self c.bring.new.self c.commit.new.marks c.bring.new.marks c.args.breaks.now c.bring.new.breaks was.0 U V X Y) c.kept_in-driver.ensures was.1 in
+    let clock : ℕ = U.clock in
+    subst (λ (f : Bool). (round : Option Round) × IsMinute p m c.args.at f (told-of k c.args.marks.now c.args.breaks.now) (told-of c.bring.new.self c.bring.new.marks c.bring.new.breaks)
+    (g.C.Chip.state c.args.card_a.now) (g.C.Chip.state c.bring.new.card_a) (g.D.Chip.state c.args.card_b.now) (g.D.Chip.state c.bring.new.card_b) round) failed (
+      Some (record { journal = c.commit.new.self.journal; clock = clock; driver = was.0; codriver = Still }),
+      (
+        cut-is p m c.args.at k c.args.marks.now c.args.breaks.now c.commit.new.self.journal clock notes.0 notes.1 c.commit.new.self c.commit.ensures.keeper c.commit.new.marks c.in_ok-commit.ensures.marked
+            c.bring.new.self c.bring.new.marks c.bring.new.breaks was.0 U V X Y b,
+        record { driver = b.on_card; codriver = tt },
+        cut-told p m c.args.at k c.args.marks.now c.args.breaks.now c.commit.new.self.journal clock notes.0 notes.1 c.commit.new.self c.commit.ensures.keeper c.commit.new.marks c.in_ok-commit.ensures.marked
+            c.bring.new.self c.bring.new.marks c.bring.new.breaks was.0 U V X Y b,
+      ),
+    )
+
+pub returns-in_err-bring-clause-stands : goal.returns-in_err-bring-clause-stands
+returns-in_err-bring-clause-stands g c = λ from leaving le h.
+    let e : c.kept_in-driver.result.entry.minute ≡ c.args.minute.now.minute = ap (λ (q : Kept). q.entry.minute) c.kept_in-driver.ensures in
+    subst (λ (n : ℕ). Stands (n + 1) leaving c.bring.new.self.cabin) e
+    (c.bring.ensures.stands from leaving (omega (arith, le, e)) (subst (λ (q : Keeper). Stands from leaving q.cabin) (sym c.commit.ensures.keeper) h))
+
+pub bring-requires-2-clause-minute : goal.bring-requires-2-clause-minute
+bring-requires-2-clause-minute g c =
+    brought-minute _ _ _ _ _ _ _ _ _ _ _ _ _ _ _ c.in_ok-bring.ensures.brought.1 (subst (λ (q : Keeper). q.cabin.slots.minute ≤ c.args.at.second / 60) (sym c.commit.ensures.keeper) c.requires.minute)
+
+pub bring-requires-2-clause-breaks : goal.bring-requires-2-clause-breaks
+bring-requires-2-clause-breaks g c =
+    let b = c.in_ok-bring.ensures.brought.1 in
+    let t = brought-tears _ _ _ _ _ _ _ _ _ _ _ _ _ _ _ b in
+    let r = brought-tear-room _ _ _ _ _ _ _ _ _ _ _ _ _ _ _ b in
+    let one = tears-one c.args.present.codriver c.bring.new.self.cabin.cards in
+    let same : most_tears c.commit.new.self.cabin.cards ≡ most_tears c.args.self.now.cabin.cards = ap (λ (q : Keeper). most_tears q.cabin.cards) c.commit.ensures.keeper in
+    let room = c.requires.breaks in
+    omega (arith, t, r, one, same, room)
+
+pub returns-clause-kept : goal.returns-clause-kept
+returns-clause-kept g c =
+    let k = c.args.self.now in
+    let p = c.args.present in
+    let m = c.args.minute.now in
+    let U = g.M.Medium.state c.commit.new.unit in
+    let V = g.M.Medium.state c.bring.new.unit in
+    let W = g.M.Medium.state c.bring-2.new.unit in
+    let A0 = g.C.Chip.state c.args.card_a.now in
+    let A1 = g.C.Chip.state c.bring.new.card_a in
+    let A2 = g.C.Chip.state c.bring-2.new.card_a in
+    let B0 = g.D.Chip.state c.args.card_b.now in
+    let B1 = g.D.Chip.state c.bring.new.card_b in
+    let B2 = g.D.Chip.state c.bring-2.new.card_b in
+    let notes = c.in_ok-commit.ensures.notes in
+    let failed : Bool = is_err c.bring-2.result in
+    let was = c.in_ok-bring.ensures.brought in
+    let is = c.bring-2.ensures.brought in
+    let b : IsBrought p.driver (kept_in m Driver) c.args.at false c.commit.new.self c.bring.new.self c.commit.new.marks c.bring.new.marks c.args.breaks.now c.bring.new.breaks was.0 U V (state_at p.driver A0 B0) (state_at p.driver A1 B1) =
+    subst (λ (q : Kept). IsBrought p.driver q c.args.at false c.commit.new.self c.bring.new.self c.commit.new.marks c.bring.new.marks c.args.breaks.now c.bring.new.breaks was.0 U V (state_at p.driver A0 B0) (state_at p.driver A1 B1)) c.kept_in-driver.ensures was.1 in
+    let d : IsBrought p.codriver (kept_in m CoDriver) c.args.at failed c.bring.new.self c.bring-2.new.self c.bring.new.marks c.bring-2.new.marks c.bring.new.breaks c.bring-2.new.breaks is.0 V W (state_at p.codriver A1 B1) (state_at p.codriver A2 B2) =
+    subst (λ (q : Kept). IsBrought p.codriver q c.args.at failed c.bring.new.self c.bring-2.new.self c.bring.new.marks c.bring-2.new.marks c.bring.new.breaks c.bring-2.new.breaks is.0 V W (state_at p.codriver A1 B1) (state_at p.codriver A2 B2)) c.kept_in-codriver.ensures is.1 in
+    let clock : ℕ = U.clock in
+    let j = c.commit.new.self.journal in
+    let one = whole-driver p m c.args.at k c.args.marks.now c.args.breaks.now j clock notes.0 notes.1 c.commit.new.self c.commit.ensures.keeper c.commit.new.marks c.in_ok-commit.ensures.marked
+    c.bring.new.self c.bring-2.new.self c.bring.new.marks c.bring-2.new.marks c.bring.new.breaks c.bring-2.new.breaks failed was.0 is.0 U V (state_at p.driver A0 B0) (state_at p.driver A1 B1) V W (state_at p.codriver A1 B1) (state_at p.codriver A2 B2) b d in
+    let two = whole-codriver p m c.args.at k c.args.marks.now c.args.breaks.now j clock notes.0 notes.1 c.commit.new.self c.commit.ensures.keeper c.commit.new.marks c.in_ok-commit.ensures.marked
+    c.bring.new.self c.bring-2.new.self c.bring.new.marks c.bring-2.new.marks c.bring.new.breaks c.bring-2.new.breaks failed was.0 is.0 U V (state_at p.driver A0 B0) (state_at p.driver A1 B1) V W (state_at p.codriver A1 B1) (state_at p.codriver A2 B2) b d in (
+      Some (record { journal = j; clock = clock; driver = was.0; codriver = is.0 }),
+      (
+        whole-is p m c.args.at k c.args.marks.now c.args.breaks.now j clock notes.0 notes.1 c.commit.new.self c.commit.ensures.keeper c.commit.new.marks c.in_ok-commit.ensures.marked
+            c.bring.new.self c.bring-2.new.self c.bring.new.marks c.bring-2.new.marks c.bring.new.breaks c.bring-2.new.breaks failed was.0 is.0 U V (state_at p.driver A0 B0) (state_at p.driver A1 B1) V W (state_at p.codriver A1 B1) (state_at p.codriver A2 B2) b d,
+        record {
+          driver = first-stays g.C.Chip.state g.D.Chip.state was.0 (kept_in m Driver) p.driver p.codriver k.cabin.cards c.requires.kept.apart one A0 c.bring.new.card_a c.bring-2.new.card_a c.bring.new.card_b c.bring-2.new.card_b B0
+              c.bring-2.ensures.a_rests c.bring-2.ensures.b_rests b.on_card;
+          codriver = second-stays g.C.Chip.state g.D.Chip.state is.0 (kept_in m CoDriver) p.driver p.codriver (cabin_by was.0 p.driver c.args.at.second k.cabin).cards c.requires.kept.apart two A2 c.args.card_a.now c.bring.new.card_a c.args.card_b.now c.bring.new.card_b B2
+              c.bring.ensures.a_rests c.bring.ensures.b_rests d.on_card;
+        },
+        whole-told p m c.args.at k c.args.marks.now c.args.breaks.now j clock notes.0 notes.1 c.commit.new.self c.commit.ensures.keeper c.commit.new.marks c.in_ok-commit.ensures.marked
+            c.bring.new.self c.bring-2.new.self c.bring.new.marks c.bring-2.new.marks c.bring.new.breaks c.bring-2.new.breaks failed was.0 is.0 U V (state_at p.driver A0 B0) (state_at p.driver A1 B1) V W (state_at p.codriver A1 B1) (state_at p.codriver A2 B2) b d,
+      ),
+    )
+
+pub returns-clause-stands : goal.returns-clause-stands
+returns-clause-stands g c = λ from leaving le h.
+    let m = c.args.minute.now.minute in
+    let e : c.kept_in-driver.result.entry.minute ≡ m = ap (λ (q : Kept). q.entry.minute) c.kept_in-driver.ensures in
+    let f : c.kept_in-codriver.result.entry.minute ≡ m = ap (λ (q : Kept). q.entry.minute) c.kept_in-codriver.ensures in
+    let first = subst (λ (n : ℕ). Stands (n + 1) leaving c.bring.new.self.cabin) e
+    (c.bring.ensures.stands from leaving (omega (arith, le, e)) (subst (λ (q : Keeper). Stands from leaving q.cabin) (sym c.commit.ensures.keeper) h)) in
+    subst (λ (n : ℕ). Stands (n + 1) leaving c.bring-2.new.self.cabin) f (c.bring-2.ensures.stands (m + 1) leaving (omega (arith, f)) first)
+
+pub returns-clause-marks : goal.returns-clause-marks
+returns-clause-marks g c =
+    let b = c.in_ok-bring.ensures.brought.1 in
+    let d = c.bring-2.ensures.brought.1 in
+    let one = brought-marks _ _ _ _ _ _ _ _ _ _ _ _ _ _ _ b in
+    let two = brought-marks _ _ _ _ _ _ _ _ _ _ _ _ _ _ _ d in
+    let here : length c.commit.new.marks.items ≡ length c.args.marks.now.items + 1 = ap (λ (l : Listed Mark). length l.items) c.in_ok-commit.ensures.marked ∙ lines-length (unit_mark c.args.minute.now.minute (g.M.Medium.state c.commit.new.unit).clock ∷ []) c.args.marks.now in
+    let room : c.commit.new.marks.room ≡ c.args.marks.now.room = ap (λ (l : Listed Mark). l.room) c.in_ok-commit.ensures.marked in
+    (brought-mark-room _ _ _ _ _ _ _ _ _ _ _ _ _ _ _ d ∙ brought-mark-room _ _ _ _ _ _ _ _ _ _ _ _ _ _ _ b ∙ room, omega (arith, one, two, here))
+
+pub returns-clause-breaks : goal.returns-clause-breaks
+returns-clause-breaks g c =
+    let b = c.in_ok-bring.ensures.brought.1 in
+    let d = c.bring-2.ensures.brought.1 in
+    let one = brought-tears _ _ _ _ _ _ _ _ _ _ _ _ _ _ _ b in
+    let two = brought-tears _ _ _ _ _ _ _ _ _ _ _ _ _ _ _ d in
+    let same : most_tears c.commit.new.self.cabin.cards ≡ most_tears c.args.self.now.cabin.cards = ap (λ (q : Keeper). most_tears q.cabin.cards) c.commit.ensures.keeper in
+    (brought-tear-room _ _ _ _ _ _ _ _ _ _ _ _ _ _ _ d ∙ brought-tear-room _ _ _ _ _ _ _ _ _ _ _ _ _ _ _ b, omega (arith, one, two, same))
+
+-- ---- what stays
+
+pub returns-in_err-commit-clause-same : goal.returns-in_err-commit-clause-same
+returns-in_err-commit-clause-same g c =
+    let e = c.commit.ensures.keeper in (ap (λ (q : Keeper). q.memory) e, ap (λ (q : Keeper). q.odometer) e, ap (λ (q : Keeper). q.cabin.slots.past) e)
+
+pub returns-in_err-commit-clause-minute : goal.returns-in_err-commit-clause-minute
+returns-in_err-commit-clause-minute g c = subst (λ (q : Keeper). q.cabin.slots.minute ≤ c.args.at.second / 60) (sym c.commit.ensures.keeper) c.requires.minute
+
+pub returns-in_err-bring-clause-same : goal.returns-in_err-bring-clause-same
+returns-in_err-bring-clause-same g c =
+    let e = c.commit.ensures.keeper in
+    let b = c.bring.ensures.brought.1 in (
+      ap (λ (q : Keeper). q.memory) b.keeper ∙ ap (λ (q : Keeper). q.memory) e,
+      ap (λ (q : Keeper). q.odometer) b.keeper ∙ ap (λ (q : Keeper). q.odometer) e,
+      brought-past _ _ _ _ _ _ _ _ _ _ _ _ _ _ _ b ∙ ap (λ (q : Keeper). q.cabin.slots.past) e,
+    )
+
+pub returns-in_err-bring-clause-minute : goal.returns-in_err-bring-clause-minute
+returns-in_err-bring-clause-minute g c =
+    brought-minute _ _ _ _ _ _ _ _ _ _ _ _ _ _ _ c.bring.ensures.brought.1 (subst (λ (q : Keeper). q.cabin.slots.minute ≤ c.args.at.second / 60) (sym c.commit.ensures.keeper) c.requires.minute)
+
+pub returns-clause-same : goal.returns-clause-same
+returns-clause-same g c =
+    let e = c.commit.ensures.keeper in
+    let b = c.bring.ensures.brought.1 in
+    let d = c.bring-2.ensures.brought.1 in (
+      ap (λ (q : Keeper). q.memory) d.keeper ∙ ap (λ (q : Keeper). q.memory) b.keeper ∙ ap (λ (q : Keeper). q.memory) e,
+      ap (λ (q : Keeper). q.odometer) d.keeper ∙ ap (λ (q : Keeper). q.odometer) b.keeper ∙ ap (λ (q : Keeper). q.odometer) e,
+      brought-past _ _ _ _ _ _ _ _ _ _ _ _ _ _ _ d ∙ brought-past _ _ _ _ _ _ _ _ _ _ _ _ _ _ _ b ∙ ap (λ (q : Keeper). q.cabin.slots.past) e,
+    )
+
+pub returns-clause-minute : goal.returns-clause-minute
+returns-clause-minute g c =
+    brought-minute _ _ _ _ _ _ _ _ _ _ _ _ _ _ _ c.bring-2.ensures.brought.1
+    (brought-minute _ _ _ _ _ _ _ _ _ _ _ _ _ _ _ c.bring.ensures.brought.1 (subst (λ (q : Keeper). q.cabin.slots.minute ≤ c.args.at.second / 60) (sym c.commit.ensures.keeper) c.requires.minute))
+
+pub returns-clause-last : goal.returns-clause-last
+returns-clause-last g c =
+    on_ok c.bring-2.result (λ well. ap (λ (q : Keeper). q.journal.kept) c.bring-2.ensures.brought.1.keeper ∙ ap (λ (q : Keeper). q.journal.kept) c.bring.ensures.brought.1.keeper ∙ c.in_ok-commit.ensures.notes.0)
