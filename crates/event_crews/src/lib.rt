@@ -1,0 +1,10 @@
+//! The events of a run with cards, by the numbers of its cards: what is watched of a span's seconds are its events (Annex IB, section
+//! III.12). Laws alone.
+#![tactic(auto)]
+
+mod laws;
+
+pub use laws::{
+    what_is_watched_are_the_bare_events, what_is_watched_are_the_events_of_a_run,
+    what_is_watched_are_the_over_speedings,
+};
