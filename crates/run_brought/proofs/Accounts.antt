@@ -32,7 +32,7 @@ is-false : (b : Bool) → (b ≡ true → ⊥) → b ≡ false
 is-false true never = absurd (never refl)
 is-false false never = refl
 
-last-of : (a b u : List ℕ) → (unit_view a b u).last ≡ last_kept u
+pub last-of : (a b u : List ℕ) → (unit_view a b u).last ≡ last_kept u
 unfolding unit_view
 last-of a b u = refl
 

@@ -6,3 +6,4 @@ pub mod Going
 pub mod Quiet
 pub mod Stays
 pub mod Ends
+pub mod Taken

@@ -4,6 +4,7 @@ ghost use Rattle.trace_model.specs.declared.Card.{Card};
 ghost use Rattle.trace_model.specs.Trace.{TraceSecond};
 ghost use Rattle.minute_model.specs.declared.Rule.{Rule};
 ghost use Rattle.log_model.specs.declared.lines.Break.{Break};
+ghost use Rattle.log_model.specs.declared.lines.Mark.{Mark};
 ghost use Rattle.log_model.specs.Causes.{second_of};
 ghost use Rattle.log_model.specs.Course.{went};
 ghost use Rattle.log_model.specs.Spans.{AreInOrder};
@@ -22,11 +23,13 @@ ghost use Rattle.safety_model.specs.Recording.{Recording, card_image, start_of, 
 ghost use Rattle.safety_model.specs.Cards.{shows_lost};
 ghost use Rattle.joint_rule.specs.Rules.{Standing};
 ghost use Rattle.joint_rule.specs.Marked.{HasBrought};
+ghost use Rattle.unit_rule.specs.Rule.{Started};
+ghost use Rattle.unit_rule.specs.Marks.{Holds};
 ghost use Rattle.run_rule.specs.Found.{Found};
 ghost use Rattle.run_rule.specs.Between.{Carried, IsCarried, IsFound, AreBrought, AreUntouched, devices};
 ghost use Rattle.run_brought.specs.Accounts.{IsAccount, HasAccounts, IsShownLost};
 ghost use Rattle.run_brought.specs.Stays.{AddsLater, IsStep};
-ghost use Rattle.run_brought.specs.Going.{AreAccounted, ASecondIsAccounted, KeptMinutesAreSure, FoundStaysAccounted, AFailureStaysAccounted, ADarkMinuteStaysAccounted, AnOffLineStaysAccounted, AnOffCutStaysAccounted, NothingIsAccountedYet, TheEndIsAccounted};
+ghost use Rattle.run_brought.specs.Going.{AreAccounted, IsTakenAt, ASecondIsAccounted, KeptMinutesAreSure, FoundStaysAccounted, AFailureStaysAccounted, ADarkMinuteStaysAccounted, AnOffLineStaysAccounted, AnOffCutStaysAccounted, NothingIsAccountedYet, TheEndIsAccounted};
 
 use tach_media::{Chip, Medium};
 
@@ -68,6 +71,13 @@ pub fn what_is_lost_is_shown()
 /// kept last at that time.
 pub fn a_second_is_accounted()
     ensures { ASecondIsAccounted }
+{}
+
+/// The unit's last-kept minute is what is to be told of an acceptance, where the book that the unit held at that time had all that the
+/// second decides, and nothing was half kept.
+pub fn an_acceptance_is_taken_at_the_last_kept_minute<M: Medium>(unit: &M)
+    ensures { (s : Started) (due : ℕ) (p b q : Book) (marks : List Mark) (new more : List HistoryMinute) → b.sure ≡ p.sure ++ new → q.sure ≡ b.sure ++ more → b.maybe ≡ None →
+        Holds s due b marks (M.state unit.now) → (u : List ℕ) → (M.state unit.now).may_leave u → IsTakenAt s.first p q new (last_kept u) }
 {}
 
 /// The minutes that a second kept are sure then.
