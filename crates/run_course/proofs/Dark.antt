@@ -1,6 +1,5 @@
 -- Seconds of a run without power, at once.
-use Rattle.std.proofs.Common.{◌≡◌, ◌⊎◌, inl, inr, ⊎_elim, ℕ, zero, suc, ◌+◌, ◌-◌, ◌/◌, ◌%◌, ◌<◌, ◌≤◌, Bool, true, false, cond, not, ◌&&◌, ◌||◌, nat_eq, Option, None, List, [], ◌∷◌, ◌++◌, Contains, length, map, filter, refl, ap, sym, subst, ◌∙◌, arith, append_assoc, append-nil, length-append}
-use Rattle.std.specs.List.{AllByRecursion, list_any}
+use Rattle.std.proofs.Common.{◌≡◌, inl, ⊎_elim, ℕ, zero, suc, ◌+◌, ◌%◌, ◌<◌, ◌≤◌, Bool, true, false, ◌&&◌, List, [], ◌∷◌, ◌++◌, Contains, length, map, filter, refl, ap, sym, subst, ◌∙◌, arith, append_assoc, append-nil, length-append}
 use Rattle.std.proofs.lemmas.List.{map-append}
 use Rattle.std.proofs.lemmas.List.Elements.{Contains-push_cases}
 use Rattle.activity_codec.specs.declared.values.Slot.{Slot}
@@ -9,34 +8,26 @@ use Rattle.trace_model.specs.declared.Card.{Card}
 use Rattle.trace_model.specs.Trace.{TraceSecond, driven, dark}
 use Rattle.run_model.specs.declared.Device.{Device}
 use Rattle.minute_model.specs.declared.Rule.{Rule}
-use Rattle.log_model.specs.declared.lines.Break.{Break}
-use Rattle.log_model.specs.declared.lines.Find.{Find}
 use Rattle.log_model.specs.declared.lines.Mark.{Mark}
 use Rattle.log_model.specs.declared.lines.Refused.{Refused}
 use Rattle.log_model.specs.declared.lines.SlotFault.{SlotFault}
 use Rattle.log_model.specs.declared.lines.SlotFault.TheVariants.{NoPower}
-use Rattle.log_model.specs.Log.{RunLog, Phase, In, cut_in, tears_here}
-use Rattle.log_model.specs.Same.{SameAt}
-use Rattle.log_model.specs.Slots.{Slots, same_card}
-use Rattle.log_model.specs.Course.{Told, Before, Went, went, has_power, second_told, before_next, dark_course}
+use Rattle.log_model.specs.Log.{RunLog, Phase}
+use Rattle.log_model.specs.Slots.{same_card}
+use Rattle.log_model.specs.Course.{Told, Before, Went, went, has_power, second_told, before_next}
 use Rattle.log_model.specs.Causes.{device_of, in_the_slot, refusals_of, pulled_of, torn_of, cards_torn, finds_of, off_cuts, RoseBy}
 use Rattle.log_model.specs.Spans.{AreInOrder}
 use Rattle.log_model.proofs.Growth.{went-more}
-use Rattle.history_model.specs.Minutes.{HistoryMinute}
 use Rattle.history_model.specs.Presence.{Start}
 use Rattle.history_model.specs.Completeness.{IsComplete}
-use Rattle.history_model.proofs.Told.{more-told}
-use Rattle.slot_machine.specs.Kept.{Kept}
 use Rattle.unit_course.specs.Caused.{IsOver}
-use Rattle.unit_course.specs.Followed.{Supply, Lost, IsDark}
-use Rattle.unit_course.specs.Lines.{log_of}
+use Rattle.unit_course.specs.Followed.{Lost, IsDark}
 use Rattle.unit_course.proofs.Parts.{order-behind}
 use Rattle.unit_course.proofs.Spans.{cuts_of, cuts-append}
-use Rattle.run_course.specs.Followed.{Progress, Followed, IsLost}
+use Rattle.run_course.specs.Followed.{IsLost}
 use Rattle.run_course.specs.Presence.{SlotsTell}
-use Rattle.run_course.specs.Caused.{failures, AreCaused, WellCaused}
+use Rattle.run_course.specs.Caused.{failures, AreCaused}
 use Rattle.run_course.specs.Dark.{dark_told, all_dark, LostSecondsAreTold, OffSecondsAreTold, ADarkMinuteIsCaused, ADarkMinuteStaysComplete, OffSecondsStayComplete, DarkSecondsTell}
-use Rattle.run_course.proofs.Lookups.{cut-by, torn-by, found-by}
 use Rattle.run_course.proofs.Logs.{BreaksBefore, breaks-later, went-refused, refused-at}
 use Rattle.run_course.proofs.Presence.{time-passes, second-gone}
 use Rattle.run_course.proofs.Complete.{power-alone}

@@ -1,12 +1,11 @@
 -- Seconds of a run in which nothing happens.
-use Rattle.std.proofs.Common.{◌≡◌, ◌⊎◌, inl, inr, ⊎_elim, ℕ, zero, suc, ◌+◌, ◌-◌, ◌*◌, ◌/◌, ◌%◌, ◌<◌, ◌≤◌, Bool, true, false, cond, not, ◌&&◌, ◌||◌, nat_eq, Option, Some, None, List, [], ◌∷◌, ◌++◌, Contains, length, map, filter, is_some, refl, ap, sym, subst, ◌∙◌, arith, append_assoc, append-nil}
+use Rattle.std.proofs.Common.{◌≡◌, inl, ℕ, zero, suc, ◌+◌, ◌-◌, ◌/◌, ◌%◌, ◌<◌, ◌≤◌, Bool, true, false, cond, not, ◌&&◌, ◌||◌, nat_eq, Option, Some, None, List, [], ◌∷◌, ◌++◌, length, map, filter, is_some, refl, ap, sym, subst, ◌∙◌, arith, append_assoc, append-nil}
 use Rattle.std.specs.Prelude.{max}
-use Rattle.std.specs.List.{AllByRecursion, list_any}
+use Rattle.std.specs.List.{list_any}
 use Rattle.std.proofs.lemmas.Bool.Decides.{nat_tests}
 use Rattle.activity_codec.specs.declared.values.Slot.{Slot}
 use Rattle.activity_codec.specs.Activity.{same_slot}
 use Rattle.trace_model.specs.Trace.{TraceSecond, driven}
-use Rattle.trace_model.specs.declared.Action.{Action}
 use Rattle.run_model.specs.declared.Device.{Device}
 use Rattle.run_model.specs.declared.Device.TheVariants.{Unit as Recorder}
 use Rattle.minute_model.specs.declared.Rule.{Rule}
@@ -22,34 +21,31 @@ use Rattle.log_model.specs.declared.lines.Mark.{Mark}
 use Rattle.log_model.specs.Log.{RunLog, Phase, In, Keeping, same_phase, phase_of, cut_in, tears_here, is_torn_in, found_in}
 use Rattle.log_model.specs.Slots.{Slots}
 use Rattle.log_model.specs.Causes.{RoseBy, device_of}
-use Rattle.log_model.specs.Course.{Told, Course, Before, Went, both_told, all_acted, unmoved, fresh, cut_told, lit_course, has_power, second_told, before_next, went_on, went}
-use Rattle.log_model.specs.Spans.{seconds_in, first_in, end_in, AreInOrder, AreApart}
+use Rattle.log_model.specs.Course.{Told, Course, Before, Went, both_told, unmoved, fresh, cut_told, lit_course, second_told, before_next, went}
+use Rattle.log_model.specs.Spans.{seconds_in, first_in, end_in, AreApart}
 use Rattle.log_model.proofs.Growth.{went-more}
 use Rattle.log_model.proofs.Spanning.{spanned, end-on}
 use Rattle.history_model.specs.Minutes.{HistoryMinute}
 use Rattle.history_model.specs.Presence.{Start}
 use Rattle.history_model.specs.History.{decided_of}
-use Rattle.history_model.specs.Growth.{as_span, settled_where, picking}
-use Rattle.history_model.specs.Book.{Book}
-use Rattle.history_model.specs.Completeness.{IsMarked, IsComplete}
+use Rattle.history_model.specs.Growth.{as_span}
+use Rattle.history_model.specs.Completeness.{IsComplete}
 use Rattle.history_model.proofs.Deciding.{counted, span-settled, span-more}
 use Rattle.history_model.proofs.Growing.{apart-last}
-use Rattle.slot_machine.specs.Kept.{Kept}
 use Rattle.unit_course.specs.Lines.{log_of}
-use Rattle.unit_course.specs.Followed.{Supply, Lit, Due, Lost, IsDark, going_on, cuts_from}
+use Rattle.unit_course.specs.Followed.{Supply, Lit, going_on}
 use Rattle.unit_course.specs.Legs.{Travel}
 use Rattle.run_course.specs.Followed.{Progress, Followed, AreBefore, IsGoing}
 use Rattle.run_course.specs.Seconds.{GoesOnBy, next_told}
 use Rattle.run_course.specs.Presence.{SlotsTell}
-use Rattle.run_course.specs.Complete.{AreAcknowledged}
 use Rattle.run_course.specs.Caused.{AreNewCauses, WellCaused}
 use Rattle.run_course.specs.Travelled.{HasLegs}
 use Rattle.run_course.specs.Quiet.{quiet_second, quiet_seconds, begun_after, quiet_on, QuietSecondsAreTold, RulesSeeQuietSeconds, QuietSecondsGoOn, QuietSecondsStayTravelled, QuietSecondsStayCaused, QuietSecondsStayComplete, QuietSecondsTell}
 use Rattle.run_course.proofs.Lookups.{cut-by, torn-by, found-by, cut-first, cut-nothing}
-use Rattle.run_course.proofs.Logs.{BreaksBefore, FindsBefore, other-number}
+use Rattle.run_course.proofs.Logs.{BreaksBefore, FindsBefore}
 use Rattle.run_course.proofs.Moments.{both-still}
 use Rattle.run_course.proofs.Presence.{goes-on, second-gone}
-use Rattle.run_course.proofs.Steps.{lit-parts, goes_on, cuts-bound, span-end}
+use Rattle.run_course.proofs.Steps.{goes_on, span-end}
 use Rattle.run_course.proofs.Complete.{acknowledged}
 use Rattle.run_course.proofs.Caused.{second-caused}
 use Rattle.run_course.proofs.Travelled.{second-travelled}

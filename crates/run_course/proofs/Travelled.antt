@@ -1,11 +1,10 @@
 -- How far a run with cards has travelled, over its steps.
-use Rattle.std.proofs.Common.{◌≡◌, ◌⊎◌, inl, inr, ⊎_elim, ℕ, zero, suc, ◌+◌, ◌-◌, ◌/◌, ◌%◌, ◌<◌, ◌≤◌, Bool, true, false, cond, ◌||◌, nat_lt, Option, Some, None, List, [], ◌∷◌, ◌++◌, All, length, map, take, drop, refl, ap, sym, subst, ◌∙◌, arith, append_assoc, append-nil, is_some}
+use Rattle.std.proofs.Common.{◌≡◌, inl, inr, ⊎_elim, ℕ, suc, ◌+◌, ◌-◌, ◌/◌, ◌<◌, ◌≤◌, Bool, true, false, ◌||◌, nat_lt, Option, Some, None, List, [], ◌∷◌, ◌++◌, All, length, map, take, drop, refl, ap, sym, subst, ◌∙◌, arith, append_assoc, append-nil, is_some}
 use Rattle.std.specs.Prelude.{option_to_list, option_map, unwrap_or}
 use Rattle.std.specs.List.{AllByRecursion}
 use Rattle.std.proofs.lemmas.List.{map-append, append_cancel_right}
 use Rattle.std.proofs.lemmas.List.Folds.{list_any-append}
 use Rattle.std.proofs.lemmas.List.Elements.{All-nil, All-cons, All-head, All-tail, All-weaker, All-append, Contains-push_cases}
-use Rattle.trace_model.specs.declared.Action.{Action}
 use Rattle.trace_model.specs.Trace.{TraceSecond, driven, dark}
 use Rattle.minute_model.specs.declared.Rule.{Rule}
 use Rattle.minute_model.specs.declared.Minute.{Minute}
@@ -17,30 +16,30 @@ use Rattle.log_model.specs.Course.{Told, Went, went}
 use Rattle.log_model.specs.Spans.{spans_of, AreInOrder}
 use Rattle.history_model.specs.Minutes.{HistoryMinute}
 use Rattle.history_model.specs.Presence.{Start}
-use Rattle.history_model.specs.History.{seated, minutes_after, decided_of, span_minutes, cut_second, limit_by, limit_of, any_long, unit_history}
+use Rattle.history_model.specs.History.{seated, minutes_after, decided_of, span_minutes, cut_second, limit_by, limit_of, any_long}
 use Rattle.history_model.specs.Growth.{closed_limit, closed_history, Rises}
 use Rattle.history_model.specs.Book.{Book, all, found, IsMark}
 use Rattle.history_model.proofs.Books.{all-none, all-found}
-use Rattle.history_model.proofs.Closing.{agree-closed, agree-open, minutes-parts}
+use Rattle.history_model.proofs.Closing.{agree-open, minutes-parts}
 use Rattle.history_model.proofs.Deciding.{short-none}
 use Rattle.history_model.proofs.Filters.{all-front, all-back}
 use Rattle.history_model.proofs.Told.{rises}
 use Rattle.unit_course.specs.Turn.{cut_last}
 use Rattle.unit_course.specs.Lines.{cut_at, found_from, tells_cut}
-use Rattle.unit_course.specs.Followed.{Supply, Lit, Due, Lost, IsKnown, MayPower, MayFail, IsDark, as_spans, going_on}
+use Rattle.unit_course.specs.Followed.{Supply, Lit, Due, Lost, IsKnown, MayPower, MayFail, IsDark, as_spans}
 use Rattle.unit_course.specs.Legs.{Travel, not_travelled, stranded_at, resumed, all_travelled, kilometres_of, travelled_by, IsLeg, AreLegs}
 use Rattle.unit_course.specs.Travelled.{MayShow}
 use Rattle.unit_course.proofs.Lines.{kept-now, tells-front, tells-behind, tells-found, take-all}
 use Rattle.unit_course.proofs.Alike.{decided-empty}
 use Rattle.unit_course.proofs.Spans.{decided-cut, length-cut}
 use Rattle.unit_course.proofs.Parts.{known-append, known-nothing, known-more, beyond-mark, rising-all}
-use Rattle.unit_course.proofs.Legs.{travelled_by-push, travelled-all, travelled-none, travelled-earlier, nothing_of, kilometres-more, kilometres-leg, kilometres-none, legs-nothing, legs-alike, legs-agree, legs-known, legs-parts, short-decides, short-shorter, found-again, leg-kept, leg-begun}
+use Rattle.unit_course.proofs.Legs.{travelled_by-push, travelled-all, travelled-none, travelled-earlier, nothing_of, kilometres-more, kilometres-leg, kilometres-none, legs-nothing, legs-alike, legs-agree, legs-parts, short-decides, short-shorter, found-again, leg-kept, leg-begun}
 use Rattle.unit_course.proofs.Travelled.{whole-legs}
 use Rattle.run_course.specs.Moments.{and_break}
 use Rattle.run_course.specs.Followed.{Progress, Followed, Comes, IsLost}
 use Rattle.run_course.specs.Seconds.{GoesOnBy, next_told, kept_all, broken_at}
-use Rattle.run_course.specs.Travelled.{AreClosedLegs, AreShutLegs, AreOpenLegs, AreEndedLegs, AreLegsOf, HasLegs, NothingIsTravelled, FoundIsTravelled, AFailureIsTravelled, ASecondIsTravelled, ABrokenSecondIsTravelled, ADarkMinuteIsTravelled, AnOffLineIsTravelled, AnOffCutIsTravelled, ShownLegsAreThose}
-use Rattle.run_course.proofs.Lookups.{cut-by, kept-by}
+use Rattle.run_course.specs.Travelled.{AreClosedLegs, AreShutLegs, AreOpenLegs, AreEndedLegs, HasLegs, NothingIsTravelled, FoundIsTravelled, AFailureIsTravelled, ASecondIsTravelled, ABrokenSecondIsTravelled, ADarkMinuteIsTravelled, AnOffLineIsTravelled, AnOffCutIsTravelled, ShownLegsAreThose}
+use Rattle.run_course.proofs.Lookups.{kept-by}
 use Rattle.run_course.proofs.Logs.{found_log, went-found, kept-found, went-refused}
 use Rattle.run_course.proofs.Alike.{known-closed, known-open}
 use Rattle.run_course.proofs.Core.{Core, lit-due, keeps-all, waits}
