@@ -89,17 +89,14 @@ module _ (app : Application) (sound : IsApplication app) (x : List ℕ) (fits : 
   card_judged P y card = (sizes_still app P x y card, places_still app x valid sound fits y P card)
 
   -- once its end mark has moved
-  pub keep_ends : (registration : Registration) (odometer more : ℕ) (e : Entry) (y : List ℕ) → IsBeforeGapOf e.minute (book_of app x) → BeginsBehind app e x
+  pub keep_ends : (registration : Registration) (odometer more : ℕ) (e : Entry) (y : List ℕ) → IsBeforeGapOf e.minute (book_of app x)
       → IsCard app (IsKeepMoment app.activity registration odometer more e (book_of app x)) x y → end_mark app y ≡ e.minute → MayEnd app y
-  keep_ends registration odometer more e y before clear card at =
+  keep_ends registration odometer more e y before card at =
       low_ends app sound y (omega (arith, fits, card.outside.same_length))
       (card_fine app sound (IsKeepMoment app.activity registration odometer more e (book_of app x)) x y fits card
-      (keep_strict app.activity sound.string_least (book_of app x) ordered strict_there e before registration odometer more clear_at (book_of app y).days (book_of app y).vehicle card.holds.ordered card.told))
+      (keep_strict app.activity sound.string_least (book_of app x) ordered strict_there e before registration odometer more (book_of app y).days (book_of app y).vehicle card.holds.ordered card.told))
       x valid (card_judged (IsKeepMoment app.activity registration odometer more e (book_of app x)) y card)
       (omega (arith, view_word app y, at, keep_word app x registration odometer more e y card sound ordered before at))
-    where
-      clear_at : is_newest (e.minute / 1440) (sizes (book_of app x).days) ≡ false → mark_of (book_of app x) / 1440 < e.minute / 1440
-      clear_at other = subst (λ (n : ℕ). n / 1440 < e.minute / 1440) (mark_told app x) (clear (ap (λ (ds : List Day). is_newest (e.minute / 1440) (sizes ds)) (sym (book_days app x)) ∙ other))
 
   -- ---- a withdrawal
 
@@ -138,13 +135,13 @@ module _ (app : Application) (sound : IsApplication app) (x : List ℕ) (fits : 
 
 module _ (app : Application) (sound : IsApplication app) (x : List ℕ) (fits : image_size_of app ≤ length x) (registration : Registration) (long : length registration.0 ≡ 15) (odometer now : ℕ) (owed : List Entry) (valid : IsValid app x) where
   -- of a card whose session was left open
-  pub open_ends : (are_owed : AreOwed now owed) → nat_eq (session_time app x) 0 ≡ false → session_time app x ≢ 0 → BeginsLater (end_mark app x) (lacked_by app x owed) (trimmed (end_mark app x) (card_days app x))
+  pub open_ends : (are_owed : AreOwed now owed) → nat_eq (session_time app x) 0 ≡ false → session_time app x ≢ 0
       → (y : List ℕ) → InsertsOpen app registration odometer owed now x y → MayEnd app y
-  open_ends are_owed open_ some begins y inserts =
+  open_ends are_owed open_ some y inserts =
       let moment = open_end app registration odometer now owed x y inserts in
       let same = inserting_keeps app registration odometer now owed long x y (omega (arith, use_inside app, fits)) (inr (some, moment)) in
-      let low = ends_low app sound x fits registration long odometer now owed are_owed valid open_ begins y inserts in
-      low_ends app sound y (omega (arith, fits, same.1)) (stands app sound x fits registration long odometer now owed are_owed.0 valid open_ begins y moment).0 x valid (same.0, same.3)
+      let low = ends_low app sound x fits registration long odometer now owed are_owed valid open_ y inserts in
+      low_ends app sound y (omega (arith, fits, same.1)) (stands app sound x fits registration long odometer now owed are_owed.0 valid open_ y moment).0 x valid (same.0, same.3)
       (omega (arith, view_word app y, low))
 
   -- of one without a session

@@ -28,6 +28,7 @@ pub mod InsertingRows
 pub mod InsertingAgain
 pub mod Closing
 pub mod Alike
+pub mod OnMark
 pub mod Surviving
 pub mod Stopping
 pub mod Valid

@@ -14,8 +14,7 @@ use Rattle.card_model.specs.Days.{Day, AreDays, last_word}
 use Rattle.card_model.specs.Changes.{Remain, OnNewest, fitting, with_newest, with_word, until, cut, date_of, trimmed}
 use Rattle.card_model.proofs.Retention.{remain_fitting, remain_some}
 use Rattle.card_model.proofs.Trims.{trimmed_word, trimmed_day, trimmed_cases}
-use Rattle.card_retention.specs.Expected.{is_newest}
-use Rattle.card_retention.specs.Shown.{sizes, is_open, Tells}
+use Rattle.card_retention.specs.Shown.{is_open, Tells}
 use Rattle.card_retention.specs.Entries.{newest_minute, newest_word, closed_at}
 use Rattle.card_retention.proofs.Entering.{on_word, last_append}
 use Rattle.card_retention.proofs.Flat.{Ends}
@@ -29,12 +28,12 @@ use Rattle.card_session.specs.Sessions.{IsOpenBook, newest_in, book_of}
 use Rattle.card_session.specs.Moments.{IsBook, IsBeforeUse, IsBeforeMark, IsKeepMoment, IsClosingWord, IsCloseMoment}
 use Rattle.card_session.specs.Cards.{IsCard}
 use Rattle.card_session.specs.Parts.{IsBeforeGapOf}
-use Rattle.card_session.specs.Overwriting.{BeginsBehind}
 use Rattle.card_session.proofs.Preparing.{gap_are, gap_ready, words_last, open_date, used_at, entry_last}
 use Rattle.card_session.proofs.Lasting.{entered_as}
 use Rattle.card_session.proofs.Alike.{Alike, alike_km, are_bare, trimmed_alike, open_alike, word_alike}
 use Rattle.card_session.proofs.Marks.{mark_told, measured_mark}
-use Rattle.card_session.proofs.Surviving.{Survives, keep_survives, closing_survives, newest_gapped}
+use Rattle.card_session.proofs.OnMark.{begun_newest, newest_of_before}
+use Rattle.card_session.proofs.Surviving.{Survives, keep_survives_begun, closing_survives}
 use Rattle.card_session.proofs.Stopping.{book_days, mark_at, before_use, mark_moves, closing_absent}
 use Rattle.card_session.proofs.Valid.{flat_of, closing_newest}
 use Rattle.card_session.proofs.InsertingBooks.{trimmed_low}
@@ -143,11 +142,11 @@ module _ (size : ℕ) (long : 5544 ≤ size) (b : Book) (ordered : AreDays 0 b.d
   are : AreDays 0 gapped
   are = gap_are size long b ordered e.minute before
 
-  newest_stays : (is_newest (e.minute / 1440) (sizes b.days) ≡ false → mark_of b / 1440 < e.minute / 1440) → newest_word b.days ≤ mark_of b → (kept : List Day)
+  newest_stays : newest_word b.days ≤ mark_of b → (kept : List Day)
       → IsBeforeMark size b (with_entry size registration odometer more b e) e kept → newest_by_mark (mark_of b) kept ≡ newest_by_mark (mark_of b) b.days
-  newest_stays clear low kept moment =
-      keep_survives size long b ordered (HasNewest (mark_of b) (newest_by_mark (mark_of b) b.days)) (λ ds. newest_by_mark (mark_of b) ds ≡ newest_by_mark (mark_of b) b.days) (newest_survives (mark_of b) (newest_by_mark (mark_of b) b.days))
-      (refl, low_of (mark_of b) 0 b.days ordered low) e before (λ other. clear (sym (newest_gapped size long b ordered e.minute (e.minute / 1440)) ∙ other)) registration odometer more kept moment
+  newest_stays low kept moment =
+      keep_survives_begun size long b ordered (HasNewest (mark_of b) (newest_by_mark (mark_of b) b.days)) (λ ds. newest_by_mark (mark_of b) ds ≡ newest_by_mark (mark_of b) b.days) (newest_survives (mark_of b) (newest_by_mark (mark_of b) b.days))
+      (refl, low_of (mark_of b) 0 b.days ordered low) e before (λ days d on q. begun_newest (mark_of b) days d on ∙ sym (newest_of_before (mark_of b) days on.are on.before) ∙ q.0) registration odometer more kept moment
 
   entered_newest : AreDays 0 (travelled more (entered_days size e gapped)) → newest_by_mark e.minute (travelled more (entered_days size e gapped)) ≡ closed_at (Some e)
   entered_newest whole =
@@ -170,12 +169,12 @@ module _ (size : ℕ) (long : 5544 ≤ size) (b : Book) (ordered : AreDays 0 b.d
       omega (arith, in_)
 
   -- AT EACH MOMENT it is the one or the other
-  pub keep_newest : (is_newest (e.minute / 1440) (sizes b.days) ≡ false → mark_of b / 1440 < e.minute / 1440) → newest_word b.days ≤ mark_of b → (ds : List Day) (v : Option Vehicle) → AreDays 0 ds
+  pub keep_newest : newest_word b.days ≤ mark_of b → (ds : List Day) (v : Option Vehicle) → AreDays 0 ds
       → IsKeepMoment size registration odometer more e b ds v
       → ((last_use_of v ≡ last_use_of b.vehicle) × (newest_by_mark (mark_of b) ds ≡ newest_by_mark (mark_of b) b.days)) ⊎ ((last_use_of v ≡ 60 * e.minute) × (newest_by_mark e.minute ds ≡ closed_at (Some e)))
-  keep_newest clear low ds v whole (inl old) = inl (ap last_use_of old.0, newest_stays clear low ds old.1)
-  keep_newest clear low ds v whole (inr new) = ⊎_elim
-      (λ unused. inl (use_before registration odometer e.minute b.vehicle v unused, newest_stays clear low ds (inr (inr (inr new.0)))))
+  keep_newest low ds v whole (inl old) = inl (ap last_use_of old.0, newest_stays low ds old.1)
+  keep_newest low ds v whole (inr new) = ⊎_elim
+      (λ unused. inl (use_before registration odometer e.minute b.vehicle v unused, newest_stays low ds (inr (inr (inr new.0)))))
       (λ used. inr (
         ap last_use_of used ∙ use_at registration odometer e.minute b.vehicle,
         ap (newest_by_mark e.minute) new.0 ∙ entered_newest (subst (λ (l : List Day). AreDays 0 l) new.0 whole),
@@ -327,30 +326,27 @@ module _ (app : Application) (sound : IsApplication app) (x : List ℕ) (ordered
   abbrev b : Book
   b = book_of app x
 
-  clear_at : BeginsBehind app e x → is_newest (e.minute / 1440) (sizes b.days) ≡ false → mark_of b / 1440 < e.minute / 1440
-  clear_at clear other = subst (λ (n : ℕ). n / 1440 < e.minute / 1440) (mark_told app x) (clear (ap (λ (ds : List Day). is_newest (e.minute / 1440) (sizes ds)) (sym (book_days app x)) ∙ other))
+  survives : newest_word b.days ≤ mark_of b → (kept : List Day) → IsBeforeMark app.activity b (with_entry app.activity registration odometer more b e) e kept → newest_by_mark (mark_of b) kept ≡ newest_by_mark (mark_of b) b.days
+  survives low kept moment = newest_stays app.activity sound.string_least b ordered registration odometer more e before low kept moment
 
-  survives : BeginsBehind app e x → newest_word b.days ≤ mark_of b → (kept : List Day) → IsBeforeMark app.activity b (with_entry app.activity registration odometer more b e) e kept → newest_by_mark (mark_of b) kept ≡ newest_by_mark (mark_of b) b.days
-  survives clear low kept moment = newest_stays app.activity sound.string_least b ordered registration odometer more e before (clear_at clear) low kept moment
-
-  old_newest : BeginsBehind app e x → newest_word b.days ≤ mark_of b → end_mark app y ≡ end_mark app x → newest_by_mark (mark_of b) (book_of app y).days ≡ newest_by_mark (mark_of b) b.days
-  old_newest clear low same = ⊎_elim
-      (λ old. survives clear low (book_of app y).days old.1)
+  old_newest : newest_word b.days ≤ mark_of b → end_mark app y ≡ end_mark app x → newest_by_mark (mark_of b) (book_of app y).days ≡ newest_by_mark (mark_of b) b.days
+  old_newest low same = ⊎_elim
+      (λ old. survives low (book_of app y).days old.1)
       (λ new. ⊎_elim
-      (λ unused. survives clear low (book_of app y).days (inr (inr (inr new.0))))
+      (λ unused. survives low (book_of app y).days (inr (inr (inr new.0))))
       (λ after.
       let now : end_mark app y ≡ e.minute = mark_told app y ∙ ap (λ (o : Option Vehicle). last_use_of o / 60) after ∙ used_at registration odometer e.minute b.vehicle in
       let stays : end_mark app y ≡ mark_of (book_of app x) = same ∙ mark_told app x in
       absurd (omega (arith, before.1, now, stays)))
       new.1) card.told
 
-  pub newest_before : BeginsBehind app e x → end_mark app y ≡ end_mark app x → max (card_view app x).word (card_view app y).newest ≡ max (card_view app x).word (card_view app x).newest
-  newest_before clear same = ⊎_elim
+  pub newest_before : end_mark app y ≡ end_mark app x → max (card_view app x).word (card_view app y).newest ≡ max (card_view app x).word (card_view app x).newest
+  newest_before same = ⊎_elim
       (λ behind.
       let up : newest_by_mark (mark_of b) (book_of app y).days ≤ suc (mark_of b) = newest_bound (mark_of b) (book_of app y).days card.holds.ordered in
       let was : newest_by_mark (mark_of b) b.days ≤ suc (mark_of b) = newest_bound (mark_of b) b.days ordered in
       omega (arith, behind, up, was, word, now, then_))
-      (λ low. ap (λ (n : ℕ). max (card_view app x).word n) (now ∙ old_newest clear low same ∙ sym then_))
+      (λ low. ap (λ (n : ℕ). max (card_view app x).word n) (now ∙ old_newest low same ∙ sym then_))
       (cases_lt (mark_of b) (newest_word b.days))
     where
       word : (card_view app x).word ≡ newest_word (book_of app x).days

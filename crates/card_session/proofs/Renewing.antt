@@ -47,7 +47,7 @@ use Rattle.card_session.proofs.InsertingOpen.{Same, opening_same, opened_same, r
 use Rattle.card_session.proofs.InsertingValid.{closed_by_words}
 use Rattle.card_session.proofs.Replaying.{with_are, with_before, with_later, replay_low}
 use Rattle.card_session.proofs.Repairing.{lacked_many, lacked_again, owed_at, mark_beside}
-use Rattle.card_session.proofs.Revalid.{book_are, book_may, days_are, cut_strict, begins_told, full_is, noted_fine, noted_low, noted_fits, use_low, stands}
+use Rattle.card_session.proofs.Revalid.{book_are, book_may, days_are, cut_strict, full_is, noted_fine, noted_low, noted_fits, use_low, stands}
 
 -- ---- of two images of a card
 
@@ -284,9 +284,9 @@ module _ (size : ℕ) (long : 5544 ≤ size) (registration : Registration) (odom
 
   -- AT EACH MOMENT with the first of them
   replay_so_far : (es : List Entry) (b : Book) → AreDays 0 b.days → newest_word b.days ≤ mark_of b → IsBeforeAll es b → AllByRecursion (λ e. 1440 ≤ e.minute) es → AllByRecursion (λ e. e.minute < latest) es
-      → BeginsLater (mark_of b) es b.days → (ds : List Day) (v : Option Vehicle) → AreDays 0 ds → IsReplaying size registration odometer es b ds v → SoFar b es ds v
-  replay_so_far [] b are low before many early begins ds v whole is = none_so_far b [] ds v (ap last_use_of is.1) (ap (newest_by_mark (mark_of b)) is.0)
-  replay_so_far (e ∷ es) b are low before many early begins ds v whole (inl moment) =
+      → (ds : List Day) (v : Option Vehicle) → AreDays 0 ds → IsReplaying size registration odometer es b ds v → SoFar b es ds v
+  replay_so_far [] b are low before many early ds v whole is = none_so_far b [] ds v (ap last_use_of is.1) (ap (newest_by_mark (mark_of b)) is.0)
+  replay_so_far (e ∷ es) b are low before many early ds v whole (inl moment) =
       let gap : IsBeforeGapOf e.minute b = (before.0, before.1.0) in
       ⊎_elim
       (λ old. none_so_far b (e ∷ es) ds v old.0 old.1)
@@ -295,12 +295,12 @@ module _ (size : ℕ) (long : 5544 ≤ size) (registration : Registration) (odom
         record { done = e ∷ []; rest = es; split = refl; behind = inl at; newest = ap (λ (n : ℕ). newest_by_mark n ds) at ∙ new.1 },
         omega (arith, new.0, early.0),
       ))
-      (keep_newest size long b are registration odometer 0 e gap begins low ds v whole moment)
-  replay_so_far (e ∷ es) b are low before many early begins ds v whole (inr later) =
+      (keep_newest size long b are registration odometer 0 e gap low ds v whole moment)
+  replay_so_far (e ∷ es) b are low before many early ds v whole (inr later) =
       let gap : IsBeforeGapOf e.minute b = (before.0, before.1.0) in
       let one =
       replay_so_far es (next e b are gap many.0) (next_are e b are gap many.0) (next_below e b are gap many.0) (with_before size long registration odometer 0 b are e gap many.0 es before.1.1) many.1 early.1
-      (with_later size long registration odometer 0 b are e gap many.0 es before.1.1) ds v whole later in (
+      ds v whole later in (
         and_first e b are gap many.0 es (last_use_of v / 60) (newest_by_mark (last_use_of v / 60) ds) one.0,
         omega (arith, one.1, early.0, use_at registration odometer e.minute b.vehicle),
       )
@@ -329,18 +329,18 @@ module _ (size : ℕ) (long : 5544 ≤ size) (registration : Registration) (odom
     pub repair_used : last_use_of (repaired size registration odometer owed b).vehicle ≤ max (last_use_of b.vehicle) (60 * latest)
     repair_used = replay_used lacks cut early
 
-    pub repair_so_far : BeginsLater (mark_of b) lacks (trimmed (mark_of b) b.days) → (ds : List Day) (v : Option Vehicle) → AreDays 0 ds → IsRepairMoment size registration odometer owed b ds v → SoFar b lacks ds v
-    repair_so_far begins ds v whole (inl cutting) =
+    pub repair_so_far : (ds : List Day) (v : Option Vehicle) → AreDays 0 ds → IsRepairMoment size registration odometer owed b ds v → SoFar b lacks ds v
+    repair_so_far ds v whole (inl cutting) =
         none_so_far b lacks ds v (ap last_use_of cutting.1)
         (ap (newest_minute (mark_of b)) (⊎_elim (λ shorter. trim_from_moment (mark_of b) b.days ds shorter) (λ done. ap (trimmed (mark_of b)) done ∙ trimmed_twice (mark_of b) b.days) cutting.0))
-    repair_so_far begins ds v whole (inr replaying) =
-        let one = replay_so_far lacks cut cut_are (trimmed_low (mark_of b) b.days are) cut_before (lacked_many (mark_of b) owed ordered) early begins ds v whole replaying in
+    repair_so_far ds v whole (inr replaying) =
+        let one = replay_so_far lacks cut cut_are (trimmed_low (mark_of b) b.days are) cut_before (lacked_many (mark_of b) owed ordered) early ds v whole replaying in
         (subst (λ (n : ℕ). NewestSoFar (mark_of b) n lacks (last_use_of v / 60) (newest_by_mark (last_use_of v / 60) ds)) cut_is one.0, one.1)
 
 -- ---- a card whose session was left open
 
 module _ (app : Application) (sound : IsApplication app) (x : List ℕ) (fits : image_size_of app ≤ length x) (registration : Registration) (long : length registration.0 ≡ 15) (odometer now : ℕ) (owed : List Entry) (are_owed : AreOwed now owed)
-    (valid : IsValid app x) (open_ : nat_eq (session_time app x) 0 ≡ false) (begins : BeginsLater (end_mark app x) (lacked_by app x owed) (trimmed (end_mark app x) (card_days app x))) where
+    (valid : IsValid app x) (open_ : nat_eq (session_time app x) 0 ≡ false) where
   abbrev lacking : List Entry
   lacking = lacked (mark_of (book_of app x)) owed
 
@@ -382,13 +382,10 @@ module _ (app : Application) (sound : IsApplication app) (x : List ℕ) (fits : 
 
   module _ (y : List ℕ) (still : IsStill app x y) where
     abbrev x_are : AreDays 0 (book_of app x).days
-    x_are = days_are app sound x fits registration long odometer now owed are_owed.0 valid open_ begins y still
+    x_are = days_are app sound x fits registration long odometer now owed are_owed.0 valid open_ y still
 
     abbrev x_strict : EndsCut (book_of app x)
-    x_strict = cut_strict app sound x fits registration long odometer now owed are_owed.0 valid open_ begins y still
-
-    abbrev x_later : BeginsLater (mark_of (book_of app x)) (lacked (mark_of (book_of app x)) owed) (trimmed (mark_of (book_of app x)) (book_of app x).days)
-    x_later = begins_told app sound x fits registration long odometer now owed are_owed.0 valid open_ begins
+    x_strict = cut_strict app sound x fits registration long odometer now owed are_owed.0 valid open_ y still
 
     still_newest : StandsNewest y
     still_newest =
@@ -398,12 +395,12 @@ module _ (app : Application) (sound : IsApplication app) (x : List ℕ) (fits : 
     repairing_newest : (z : List ℕ) → IsRepairing app registration odometer owed y z → StandsNewest z
     repairing_newest z card =
         told z (session_same app (IsRepairMoment app.activity registration odometer owed (book_of app y)) y z card ∙ session_same app (IsBook (book_of app x)) x y still)
-        (repair_so_far app.activity sound.string_least registration odometer (now / 60) (book_of app x) x_are x_strict owed are_owed.0 early x_later (book_of app z).days (book_of app z).vehicle card.holds.ordered
+        (repair_so_far app.activity sound.string_least registration odometer (now / 60) (book_of app x) x_are x_strict owed are_owed.0 early (book_of app z).days (book_of app z).vehicle card.holds.ordered
         (subst (λ (k : Book). IsRepairMoment app.activity registration odometer owed k (book_of app z).days (book_of app z).vehicle) (told_book app (book_of app x) x y still) card.told))
 
     module _ (z : List ℕ) (card : IsRepaired app registration odometer owed y z) where
       abbrev z_is : book_of app z ≡ repaired app.activity registration odometer owed (book_of app x)
-      z_is = full_is app sound x fits registration long odometer now owed are_owed.0 valid open_ begins y still z card
+      z_is = full_is app sound x fits registration long odometer now owed are_owed.0 valid open_ y still z card
 
       full_mark : end_mark app z ≡ mark_behind (mark_of (book_of app x)) lacking
       full_mark = mark_told app z ∙ ap (λ (k : Book). mark_of k) z_is ∙ owed_at app.activity registration odometer lacking (with_cut (mark_of (book_of app x)) (book_of app x))
@@ -436,8 +433,8 @@ module _ (app : Application) (sound : IsApplication app) (x : List ℕ) (fits : 
 
         shutting_renews : (w : List ℕ) → IsShutting app c w → Renews app z w
         shutting_renews w shutting =
-            let fine = noted_fine app sound x fits registration long odometer now owed are_owed.0 valid open_ begins y still z card c noted in
-            let low = noted_low app sound x fits registration long odometer now owed are_owed.0 valid open_ begins y still z card c noted in
+            let fine = noted_fine app sound x fits registration long odometer now owed are_owed.0 valid open_ y still z card c noted in
+            let low = noted_low app sound x fits registration long odometer now owed are_owed.0 valid open_ y still z card c noted in
             renews_then app z c w noted_renews
             (renews_by app c w
             (close_newest app.activity sound.string_least (book_of app c) (book_are app sound c fine low) Rest (book_may app sound c fine low) (book_of app w).days (book_of app w).vehicle shutting.holds.ordered shutting.told))
@@ -452,7 +449,7 @@ module _ (app : Application) (sound : IsApplication app) (x : List ℕ) (fits : 
         use_newest v renews = all_stand z v renews full_mark full_newest full_used
 
         room : (w : List ℕ) → IsShut app c w → place_of app (file 0x0507) + 19 ≤ length w
-        room w shut = omega (arith, use_inside app, noted_fits app sound x fits registration long odometer now owed are_owed.0 valid open_ begins y still z card c noted, shut.outside.same_length)
+        room w shut = omega (arith, use_inside app, noted_fits app sound x fits registration long odometer now owed are_owed.0 valid open_ y still z card c noted, shut.outside.same_length)
 
   stands_newest : (y : List ℕ) → InsertingOpen app registration odometer owed now x y → StandsNewest y
   stands_newest y (inl still) = still_newest y still
@@ -486,8 +483,8 @@ module _ (app : Application) (sound : IsApplication app) (x : List ℕ) (fits : 
   pub ends_answered : (y : List ℕ) → InsertsOpen app registration odometer owed now x y → newest_in (book_of app y) ≡ (card_view app y).newest
   ends_answered y (x1, still, (x2, mended, (x3, noted, (x4, shut, reopened)))) =
       let side = reopened_same app registration now long x4 y (room x1 still x2 mended x3 noted x4 shut) reopened in
-      let fine = noted_fine app sound x fits registration long odometer now owed are_owed.0 valid open_ begins x1 still x2 mended x3 noted in
-      let low : newest_word (card_days app x3) ≤ end_mark app x3 = noted_low app sound x fits registration long odometer now owed are_owed.0 valid open_ begins x1 still x2 mended x3 noted in
+      let fine = noted_fine app sound x fits registration long odometer now owed are_owed.0 valid open_ x1 still x2 mended x3 noted in
+      let low : newest_word (card_days app x3) ≤ end_mark app x3 = noted_low app sound x fits registration long odometer now owed are_owed.0 valid open_ x1 still x2 mended x3 noted in
       let may : IsOpenBook (book_of app x3) = book_may app sound x3 fine low in
       let are : AreDays 0 (book_of app x3).days = book_are app sound x3 fine low in
       let in_ : newest_in (book_of app x4) ≡ max (card_view app x3).word (card_view app x3).newest =
@@ -502,7 +499,7 @@ module _ (app : Application) (sound : IsApplication app) (x : List ℕ) (fits : 
   pub ends_low : (y : List ℕ) → InsertsOpen app registration odometer owed now x y → (card_view app y).word ≤ end_mark app y
   ends_low y (x1, still, (x2, mended, (x3, noted, (x4, shut, reopened)))) =
       let low : newest_word (card_days app y) ≤ end_mark app y =
-      use_low app sound x fits registration long odometer now owed are_owed.0 valid open_ begins x1 still x2 mended x3 noted x4 y shut
+      use_low app sound x fits registration long odometer now owed are_owed.0 valid open_ x1 still x2 mended x3 noted x4 y shut
       (reopened_same app registration now long x4 y (room x1 still x2 mended x3 noted x4 shut) reopened) in
       omega (arith, view_word app y, low)
 
@@ -510,7 +507,7 @@ module _ (app : Application) (sound : IsApplication app) (x : List ℕ) (fits : 
   moments_low y inserting none = ⊎_elim
       (λ same. let is : nat_eq (session_time app x) 0 ≡ true = ap (λ (n : ℕ). nat_eq n 0) (sym same ∙ none) in absurd (cc))
       (λ low. let there : newest_word (card_days app y) ≤ end_mark app y = low in omega (arith, view_word app y, there))
-      (stands app sound x fits registration long odometer now owed are_owed.0 valid open_ begins y inserting).1
+      (stands app sound x fits registration long odometer now owed are_owed.0 valid open_ y inserting).1
 
   pub stored_stands : (y : List ℕ) → InsertingOpen app registration odometer owed now x y → (card_view app y).stored ≤ max (max (card_view app x).stored now) (60 * (card_view app y).newest)
   stored_stands y inserting = by (nat_eq (session_time app y) 0) refl

@@ -288,18 +288,18 @@ module _ (app : Application) (sound : IsApplication app) (z : List ℕ) (fine : 
 -- ---- the days at each moment of a repair
 
 module _ (size : ℕ) (long : 5544 ≤ size) (registration : Registration) (odometer : ℕ) where
-  replay_strict : (es : List Entry) (b : Book) → AreDays 0 b.days → EndsStrictly (trimmed (mark_of b) b.days) → IsBeforeAll es b → AllByRecursion (λ e. 1440 ≤ e.minute) es → BeginsLater (mark_of b) es b.days
+  replay_strict : (es : List Entry) (b : Book) → AreDays 0 b.days → EndsStrictly (trimmed (mark_of b) b.days) → IsBeforeAll es b → AllByRecursion (λ e. 1440 ≤ e.minute) es
       → (ds : List Day) (v : Option Vehicle) → AreDays 0 ds → IsReplaying size registration odometer es b ds v → EndsStrictly (trimmed (last_use_of v / 60) ds)
-  replay_strict [] b are strict before many begins ds v ordered is =
+  replay_strict [] b are strict before many ds v ordered is =
       subst (λ (l : List Day). EndsStrictly (trimmed (last_use_of v / 60) l)) (sym is.0) (subst (λ (o : Option Vehicle). EndsStrictly (trimmed (last_use_of o / 60) b.days)) (sym is.1) strict)
-  replay_strict (e ∷ es) b are strict before many begins ds v ordered (inl moment) =
+  replay_strict (e ∷ es) b are strict before many ds v ordered (inl moment) =
       let gap : IsBeforeGapOf e.minute b = (before.0, before.1.0) in
-      keep_strict size long b are strict e gap registration odometer 0 begins ds v ordered moment
-  replay_strict (e ∷ es) b are strict before many begins ds v ordered (inr later) =
+      keep_strict size long b are strict e gap registration odometer 0 ds v ordered moment
+  replay_strict (e ∷ es) b are strict before many ds v ordered (inr later) =
       let gap : IsBeforeGapOf e.minute b = (before.0, before.1.0) in
       let next : AreDays 0 (with_entry size registration odometer 0 b e).days = with_are size long registration odometer 0 b are e gap many.0 in
       replay_strict es (with_entry size registration odometer 0 b e) next (after_strict size long b are strict e gap registration odometer 0 next) (with_before size long registration odometer 0 b are e gap many.0 es before.1.1)
-      many.1 (with_later size long registration odometer 0 b are e gap many.0 es before.1.1) ds v ordered later
+      many.1 ds v ordered later
 
   all_done : (es : List Entry) (b : Book) → IsReplaying size registration odometer es b (with_owed size registration odometer es b).days (with_owed size registration odometer es b).vehicle
   all_done [] b = (refl, refl)
@@ -318,30 +318,25 @@ module _ (size : ℕ) (long : 5544 ≤ size) (registration : Registration) (odom
     repair_low : newest_word (repaired size registration odometer owed b).days ≤ mark_of (repaired size registration odometer owed b)
     repair_low = replay_low size long registration odometer 0 ls cut (are_trimmed (mark_of b) 0 b.days are) (trimmed_low (mark_of b) b.days are) before (lacked_many (mark_of b) owed ordered)
 
-    module _ (begins : BeginsLater (mark_of b) ls (trimmed (mark_of b) b.days)) where
-      repair_strict : (ds : List Day) (v : Option Vehicle) → AreDays 0 ds → IsRepairMoment size registration odometer owed b ds v → EndsStrictly (trimmed (last_use_of v / 60) ds)
-      repair_strict ds v are_kept (inl cutting) =
-          let whole : trimmed (mark_of b) ds ≡ trimmed (mark_of b) b.days = ⊎_elim (λ shorter. trim_from_moment (mark_of b) b.days ds shorter) (λ done. ap (trimmed (mark_of b)) done ∙ trimmed_twice (mark_of b) b.days) cutting.0 in
-          subst (λ (o : Option Vehicle). EndsStrictly (trimmed (last_use_of o / 60) ds)) (sym cutting.1) (subst EndsStrictly (sym whole) strict)
-      repair_strict ds v are_kept (inr replaying) =
-          replay_strict ls cut (are_trimmed (mark_of b) 0 b.days are) (subst EndsStrictly (sym (trimmed_twice (mark_of b) b.days)) strict) before (lacked_many (mark_of b) owed ordered) begins ds v are_kept replaying
+    repair_strict : (ds : List Day) (v : Option Vehicle) → AreDays 0 ds → IsRepairMoment size registration odometer owed b ds v → EndsStrictly (trimmed (last_use_of v / 60) ds)
+    repair_strict ds v are_kept (inl cutting) =
+        let whole : trimmed (mark_of b) ds ≡ trimmed (mark_of b) b.days = ⊎_elim (λ shorter. trim_from_moment (mark_of b) b.days ds shorter) (λ done. ap (trimmed (mark_of b)) done ∙ trimmed_twice (mark_of b) b.days) cutting.0 in
+        subst (λ (o : Option Vehicle). EndsStrictly (trimmed (last_use_of o / 60) ds)) (sym cutting.1) (subst EndsStrictly (sym whole) strict)
+    repair_strict ds v are_kept (inr replaying) =
+        replay_strict ls cut (are_trimmed (mark_of b) 0 b.days are) (subst EndsStrictly (sym (trimmed_twice (mark_of b) b.days)) strict) before (lacked_many (mark_of b) owed ordered) ds v are_kept replaying
 
-      repaired_strict : AreDays 0 (repaired size registration odometer owed b).days → EndsStrictly (trimmed (mark_of (repaired size registration odometer owed b)) (repaired size registration odometer owed b).days)
-      repaired_strict whole = repair_strict (repaired size registration odometer owed b).days (repaired size registration odometer owed b).vehicle whole (inr (all_done ls cut))
+    repaired_strict : AreDays 0 (repaired size registration odometer owed b).days → EndsStrictly (trimmed (mark_of (repaired size registration odometer owed b)) (repaired size registration odometer owed b).days)
+    repaired_strict whole = repair_strict (repaired size registration odometer owed b).days (repaired size registration odometer owed b).vehicle whole (inr (all_done ls cut))
 
 -- ---- a card whose session was left open
 
 module _ (app : Application) (sound : IsApplication app) (x : List ℕ) (fits : image_size_of app ≤ length x) (registration : Registration) (long : length registration.0 ≡ 15) (odometer now : ℕ) (owed : List Entry) (ordered : Follow 1439 owed)
-    (valid : IsValid app x) (open_ : nat_eq (session_time app x) 0 ≡ false) (begins : BeginsLater (end_mark app x) (lacked_by app x owed) (trimmed (end_mark app x) (card_days app x))) where
+    (valid : IsValid app x) (open_ : nat_eq (session_time app x) 0 ≡ false) where
   abbrev full : Book
   full = repaired app.activity registration odometer owed (book_of app x)
 
   abbrev pub Stands : List ℕ → Type 0
   Stands y = Fine app y × ((session_time app y ≡ session_time app x) ⊎ Low app y)
-
-  pub begins_told : BeginsLater (mark_of (book_of app x)) (lacked (mark_of (book_of app x)) owed) (trimmed (mark_of (book_of app x)) (book_of app x).days)
-  unfolding book_of
-  begins_told = begins
 
   module _ (y : List ℕ) (still : IsStill app x y) where
     pub days_are : AreDays 0 (book_of app x).days
@@ -360,7 +355,7 @@ module _ (app : Application) (sound : IsApplication app) (x : List ℕ) (fits : 
     repairing_fine : (z : List ℕ) → IsRepairing app registration odometer owed y z → Fine app z
     repairing_fine z card =
         card_fine app sound (IsRepairMoment app.activity registration odometer owed (book_of app y)) y z still_fits card
-        (repair_strict app.activity sound.string_least registration odometer (book_of app x) days_are cut_strict owed ordered begins_told (book_of app z).days (book_of app z).vehicle card.holds.ordered
+        (repair_strict app.activity sound.string_least registration odometer (book_of app x) days_are cut_strict owed ordered (book_of app z).days (book_of app z).vehicle card.holds.ordered
         (subst (λ (k : Book). IsRepairMoment app.activity registration odometer owed k (book_of app z).days (book_of app z).vehicle) (told_book app (book_of app x) x y still) card.told))
 
     module _ (z : List ℕ) (card : IsRepaired app registration odometer owed y z) where
@@ -374,7 +369,7 @@ module _ (app : Application) (sound : IsApplication app) (x : List ℕ) (fits : 
       full_fine =
           card_fine app sound (IsBook (repaired app.activity registration odometer owed (book_of app y))) y z still_fits card
           (strict_told app z full full_is
-          (repaired_strict app.activity sound.string_least registration odometer (book_of app x) days_are cut_strict owed ordered begins_told (subst (λ (k : Book). AreDays 0 k.days) full_is card.holds.ordered)))
+          (repaired_strict app.activity sound.string_least registration odometer (book_of app x) days_are cut_strict owed ordered (subst (λ (k : Book). AreDays 0 k.days) full_is card.holds.ordered)))
 
       full_low : Low app z
       full_low = low_told app z full full_is (repair_low app.activity sound.string_least registration odometer (book_of app x) days_are cut_strict owed ordered)

@@ -39,7 +39,7 @@ use Rattle.card_session.proofs.Surviving.{newest_gapped, keep_survives, lists_su
 use Rattle.card_session.proofs.Stopping.{before_use}
 use Rattle.card_session.proofs.Committed.{silent_end, commit_shows, close_shows}
 use Rattle.card_session.proofs.Marks.{mark_told}
-use Rattle.card_session.proofs.Revalid.{book_are, days_are, cut_strict, begins_told, full_is, noted_fine, noted_low, noted_fits}
+use Rattle.card_session.proofs.Revalid.{book_are, days_are, cut_strict, full_is, noted_fine, noted_low, noted_fits}
 use Rattle.card_session.proofs.InsertingBooks.{lacked_follow, cut_ready, trimmed_low}
 use Rattle.card_session.proofs.InsertingCards.{noted_same, noting_same}
 use Rattle.card_session.proofs.InsertingUse.{use_inside}
@@ -252,13 +252,14 @@ module _ (app : Application) (sound : IsApplication app) (x : List ℕ) (fits : 
 
   module _ (y : List ℕ) (still : IsStill app x y) where
     abbrev x_are : AreDays 0 (book_of app x).days
-    x_are = days_are app sound x fits registration long odometer now owed ordered valid open_ begins y still
+    x_are = days_are app sound x fits registration long odometer now owed ordered valid open_ y still
 
     abbrev x_strict : EndsCut (book_of app x)
-    x_strict = cut_strict app sound x fits registration long odometer now owed ordered valid open_ begins y still
+    x_strict = cut_strict app sound x fits registration long odometer now owed ordered valid open_ y still
 
-    abbrev x_later : BeginsLater (mark_of (book_of app x)) (lacked (mark_of (book_of app x)) owed) (trimmed (mark_of (book_of app x)) (book_of app x).days)
-    x_later = begins_told app sound x fits registration long odometer now owed ordered valid open_ begins
+    x_later : BeginsLater (mark_of (book_of app x)) (lacked (mark_of (book_of app x)) owed) (trimmed (mark_of (book_of app x)) (book_of app x).days)
+    unfolding book_of
+    x_later = begins
 
     still_shows : ShowsMore app all owed x y
     still_shows =
@@ -272,7 +273,7 @@ module _ (app : Application) (sound : IsApplication app) (x : List ℕ) (fits : 
 
     module _ (z : List ℕ) (card : IsRepaired app registration odometer owed y z) where
       abbrev z_is : book_of app z ≡ repaired app.activity registration odometer owed (book_of app x)
-      z_is = full_is app sound x fits registration long odometer now owed ordered valid open_ begins y still z card
+      z_is = full_is app sound x fits registration long odometer now owed ordered valid open_ y still z card
 
       full_shows : All_shown z
       full_shows =
@@ -302,7 +303,7 @@ module _ (app : Application) (sound : IsApplication app) (x : List ℕ) (fits : 
         shutting_shows : (w : List ℕ) → IsShutting app c w → All_shown w
         shutting_shows w shutting =
             close_shows app sound c
-            (book_are app sound c (noted_fine app sound x fits registration long odometer now owed ordered valid open_ begins y still z card c noted) (noted_low app sound x fits registration long odometer now owed ordered valid open_ begins y still z card c noted))
+            (book_are app sound c (noted_fine app sound x fits registration long odometer now owed ordered valid open_ y still z card c noted) (noted_low app sound x fits registration long odometer now owed ordered valid open_ y still z card c noted))
             more noted_up noted_shows Rest w shutting
 
         use_shows : (w v : List ℕ) → IsShut app c w → Same app w v → All_shown v
@@ -310,7 +311,7 @@ module _ (app : Application) (sound : IsApplication app) (x : List ℕ) (fits : 
             shows_beside app sound w v side.0 side.1 shut.points more (shutting_shows w (record { outside = shut.outside; holds = shut.holds; points = shut.points; told = inr shut.told }))
 
         room : (w : List ℕ) → IsShut app c w → place_of app (file 0x0507) + 19 ≤ length w
-        room w shut = omega (arith, use_inside app, noted_fits app sound x fits registration long odometer now owed ordered valid open_ begins y still z card c noted, shut.outside.same_length)
+        room w shut = omega (arith, use_inside app, noted_fits app sound x fits registration long odometer now owed ordered valid open_ y still z card c noted, shut.outside.same_length)
 
   shows_open : (y : List ℕ) → InsertingOpen app registration odometer owed now x y → ShowsMore app all owed x y ⊎ All_shown y
   shows_open y (inl still) = inl (still_shows y still)

@@ -1,6 +1,7 @@
 -- What is said of a card's days up to its end mark survives all that a keep or a withdrawal writes before that mark moves.
 use Rattle.std.proofs.Common.{◌≡◌, inl, inr, ⊎_elim, ℕ, suc, ◌+◌, ◌-◌, ◌*◌, ◌/◌, ◌%◌, ◌<◌, ◌≤◌, max, Bool, true, false, cond, ◌&&◌, Option, Some, None, List, [], ◌∷◌, ◌++◌, length, refl, sym, ◌∙◌, ap, subst, arith}
 use Rattle.std.specs.Prelude.{◌⊎◌, nat_eq, nat_lt, nat_le}
+use Rattle.std.proofs.lemmas.Bool.{cases_lt}
 use Rattle.activity_codec.specs.declared.values.Activity.{Activity}
 use Rattle.activity_codec.specs.declared.values.Activity.TheVariants.{Rest}
 use Rattle.activity_codec.specs.declared.entries.Entry.{Entry}
@@ -22,7 +23,8 @@ use Rattle.card_session.specs.Sessions.{EndsStrictly}
 use Rattle.card_session.specs.Moments.{IsBeforeGap, IsBeforeWords, IsBeforeMark, IsClosingWord, entry_len}
 use Rattle.card_session.specs.Parts.{IsBeforeGapOf}
 use Rattle.card_session.proofs.Following.{closing_minute, entry_minute}
-use Rattle.card_session.proofs.Preparing.{gap_are, open_date, on_as}
+use Rattle.card_session.proofs.Preparing.{gap_are, gap_ready, open_date, on_as}
+use Rattle.card_session.proofs.OnMark.{IsBegunOn, all_before, before_left, cut_first}
 use Rattle.card_session.proofs.Alike.{Alike, alike_km, trimmed_alike, strict_alike, entries_alike, sizes_alike}
 
 -- It survives that the oldest days go, but for the newest, and a word behind the mark; what follows from it survives a day behind the
@@ -115,9 +117,26 @@ module _ (size : ℕ) (long : 5544 ≤ size) (b : Book) (ordered : AreDays 0 b.d
     second_q : (kept : List Day) → IsBeforeWords size e gapped kept → R kept
     second_q kept moment = ⊎_elim (λ still. subst R (sym still) (s.still gapped gap_q)) (λ gone. s.still kept (s.drops (size - entry_len e gapped) gapped kept (omega (arith, long, few_bytes e gapped)) are gone.1 gap_q)) moment
 
-    module _ (clear : is_newest (e.minute / 1440) (sizes gapped) ≡ false → mark_of b / 1440 < e.minute / 1440) where
-      pub entered_survives : R (entered_days size e gapped)
-      entered_survives = by (is_newest (e.minute / 1440) (sizes gapped)) (tells_state e gapped) refl
+    -- the days that the entry's day goes behind
+    abbrev room : ℕ
+    room = size - (12 + 2 * length (day_words e))
+
+    abbrev older : List Day
+    older = fitting (size - (12 + 2 * length (day_words e))) gapped
+
+    older_are : AreDays 0 older
+    older_are = are_left room gapped older (remain_fitting room gapped) are
+
+    older_q : Q older
+    older_q = s.drops room gapped older (omega (arith, long, few_words e)) are (remain_fitting room gapped) gap_q
+
+    -- a day behind the mark's
+    later_day : mark_of b / 1440 < e.minute / 1440 → R (with_new_day size e gapped)
+    later_day less = s.day older (new_day gapped (date_of e.minute) (day_words e)) (omega arith) (omega (arith, less)) older_q
+
+    module _ (day : is_newest (e.minute / 1440) (sizes gapped) ≡ false → R (with_new_day size e gapped)) where
+      entered_by : R (entered_days size e gapped)
+      entered_by = by (is_newest (e.minute / 1440) (sizes gapped)) (tells_state e gapped) refl
         where
           behind : is_newest (e.minute / 1440) (sizes gapped) ≡ true → OnNewest (Behind (mark_of b) (entry_word e)) (fitting (size - 2) gapped)
           behind is =
@@ -131,19 +150,43 @@ module _ (size : ℕ) (long : 5544 ≤ size) (b : Book) (ordered : AreDays 0 b.d
               s.still (with_change size (entry_word e) gapped)
               (s.word (entry_word e) (fitting (size - 2) gapped) (are_left (size - 2) gapped (fitting (size - 2) gapped) (remain_fitting (size - 2) gapped) are) (behind is)
               (s.drops (size - 2) gapped (fitting (size - 2) gapped) (omega (arith, long)) are (remain_fitting (size - 2) gapped) gap_q))
-          by false told is =
-              s.day (fitting (size - (12 + 2 * length (day_words e))) gapped) (new_day gapped (date_of e.minute) (day_words e)) (omega arith) (omega (arith, clear is))
-              (s.drops (size - (12 + 2 * length (day_words e))) gapped (fitting (size - (12 + 2 * length (day_words e))) gapped) (omega (arith, long, few_words e)) are (remain_fitting (size - (12 + 2 * length (day_words e))) gapped) gap_q)
+          by false told is = day is
 
-      km_q : (more : ℕ) → R (travelled more (entered_days size e gapped))
-      km_q more = s.alike (entered_days size e gapped) (travelled more (entered_days size e gapped)) (alike_km more (entered_days size e gapped)) entered_survives
+      km_by : (more : ℕ) → R (travelled more (entered_days size e gapped))
+      km_by more = s.alike (entered_days size e gapped) (travelled more (entered_days size e gapped)) (alike_km more (entered_days size e gapped)) entered_by
 
-      pub keep_survives : (registration : Registration) (odometer more : ℕ) (kept : List Day) → IsBeforeMark size b (with_entry size registration odometer more b e) e kept → R kept
-      keep_survives registration odometer more kept moment = ⊎_elim
+      keep_by : (registration : Registration) (odometer more : ℕ) (kept : List Day) → IsBeforeMark size b (with_entry size registration odometer more b e) e kept → R kept
+      keep_by registration odometer more kept moment = ⊎_elim
           (λ gap. first_q kept gap)
           (λ rest. ⊎_elim
           (λ words. second_q kept words)
-          (λ last. ⊎_elim (λ word. subst R (sym word) entered_survives) (λ km. subst R (sym km) (km_q more)) last) rest) moment
+          (λ last. ⊎_elim (λ word. subst R (sym word) entered_by) (λ km. subst R (sym km) (km_by more)) last) rest) moment
+
+    -- where the entry's day, if it is new, is behind the mark's
+    module _ (clear : is_newest (e.minute / 1440) (sizes gapped) ≡ false → mark_of b / 1440 < e.minute / 1440) where
+      pub entered_survives : R (entered_days size e gapped)
+      entered_survives = entered_by (λ other. later_day (clear other))
+
+      pub keep_survives : (registration : Registration) (odometer more : ℕ) (kept : List Day) → IsBeforeMark size b (with_entry size registration odometer more b e) e kept → R kept
+      keep_survives registration odometer more kept moment = keep_by (λ other. later_day (clear other)) registration odometer more kept moment
+
+    -- or where what follows survives a day that is begun on the mark's too
+    module _ (begun : (days : List Day) (d : Day) → IsBegunOn (mark_of b) days d → Q days → R (days ++ d ∷ [])) where
+      on_mark : is_newest (e.minute / 1440) (sizes gapped) ≡ false → e.minute / 1440 ≤ mark_of b / 1440 → R (with_new_day size e gapped)
+      on_mark other late =
+          let at : e.minute / 1440 ≡ mark_of b / 1440 = omega (arith, late, mark_before) in
+          let date : date_of e.minute ≡ date_of (mark_of b) = ap (λ (n : ℕ). n * 86400) at in
+          begun older (new_day gapped (date_of e.minute) (day_words e)) (record {
+            are = older_are;
+            before = before_left (mark_of b / 1440) room gapped older (remain_fitting room gapped)
+                (all_before (mark_of b / 1440) e.minute 0 gapped are (gap_ready size long b ordered e.minute before e refl).1 at (subst (λ (n : ℕ). is_newest n (sizes gapped) ≡ false) at other));
+            date = date;
+            first = cut_first (mark_of b) (new_day gapped (date_of e.minute) (day_words e)) e date refl (omega (arith, at, mark_before));
+          }) older_q
+
+      pub keep_survives_begun : (registration : Registration) (odometer more : ℕ) (kept : List Day) → IsBeforeMark size b (with_entry size registration odometer more b e) e kept → R kept
+      keep_survives_begun registration odometer more kept moment =
+          keep_by (λ other. ⊎_elim (λ less. later_day less) (λ late. on_mark other late) (cases_lt (mark_of b / 1440) (e.minute / 1440))) registration odometer more kept moment
 
 -- ---- the entries that are shown
 

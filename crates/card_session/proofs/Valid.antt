@@ -41,7 +41,8 @@ use Rattle.card_session.proofs.OnCard.{ring_behind, ring_inside, string_shape}
 use Rattle.card_session.proofs.Marks.{behind_vehicles, session_same, sizes_still, mark_told}
 use Rattle.card_session.proofs.Following.{takes_closing, closing_minute}
 use Rattle.card_session.proofs.Preparing.{entry_last, open_date, strict_with, newest_with, on_as}
-use Rattle.card_session.proofs.Surviving.{keep_survives, closing_survives, strict_survives, newest_gapped}
+use Rattle.card_session.proofs.OnMark.{begun_strict}
+use Rattle.card_session.proofs.Surviving.{keep_survives_begun, closing_survives, strict_survives}
 use Rattle.card_session.proofs.Stopping.{book_days, mark_at, before_use, mark_moves}
 
 -- ---- the words of the newest day rise
@@ -180,20 +181,19 @@ module _ (size : ℕ) (long : 5544 ≤ size) (b : Book) (are : AreDays 0 b.days)
       let last = entry_last size long registration odometer more e b are before in
       subst EndsStrictly (sym (flat_of (mark_of after) 0 after.days ordered (omega (arith, last.1, last.2)))) last.0.strict
 
-  module _ (clear : is_newest (e.minute / 1440) (sizes b.days) ≡ false → mark_of b / 1440 < e.minute / 1440) where
-    before_strict : (kept : List Day) → IsBeforeMark size b after e kept → EndsStrictly (trimmed (mark_of b) kept)
-    before_strict kept moment =
-        keep_survives size long b are (λ ds. EndsStrictly (trimmed (mark_of b) ds)) (λ ds. EndsStrictly (trimmed (mark_of b) ds)) (strict_survives (mark_of b)) strict e before
-        (λ other. clear (sym (newest_gapped size long b are e.minute (e.minute / 1440)) ∙ other)) registration odometer more kept moment
+  before_strict : (kept : List Day) → IsBeforeMark size b after e kept → EndsStrictly (trimmed (mark_of b) kept)
+  before_strict kept moment =
+      keep_survives_begun size long b are (λ ds. EndsStrictly (trimmed (mark_of b) ds)) (λ ds. EndsStrictly (trimmed (mark_of b) ds)) (strict_survives (mark_of b)) strict e before
+      (λ days d on strict. begun_strict (mark_of b) days d on) registration odometer more kept moment
 
-    pub keep_strict : (ds : List Day) (v : Option Vehicle) → AreDays 0 ds → IsKeepMoment size registration odometer more e b ds v → EndsStrictly (trimmed (last_use_of v / 60) ds)
-    keep_strict ds v ordered (inl old) = at_mark ds v (mark_of b) (ap (λ (o : Option Vehicle). last_use_of o / 60) old.0) (before_strict ds old.1)
-    keep_strict ds v ordered (inr new) = ⊎_elim
-        (λ unused. at_mark ds v (mark_of b) (before_use registration odometer e.minute b.vehicle v unused) (before_strict ds (inr (inr (inr new.0)))))
-        (λ used.
-        at_mark ds v (mark_of after) (ap (λ (o : Option Vehicle). last_use_of o / 60) used)
-        (subst (λ (l : List Day). EndsStrictly (trimmed (mark_of after) l)) (sym new.0) (after_strict (subst (λ (l : List Day). AreDays 0 l) new.0 ordered))))
-        new.1
+  pub keep_strict : (ds : List Day) (v : Option Vehicle) → AreDays 0 ds → IsKeepMoment size registration odometer more e b ds v → EndsStrictly (trimmed (last_use_of v / 60) ds)
+  keep_strict ds v ordered (inl old) = at_mark ds v (mark_of b) (ap (λ (o : Option Vehicle). last_use_of o / 60) old.0) (before_strict ds old.1)
+  keep_strict ds v ordered (inr new) = ⊎_elim
+      (λ unused. at_mark ds v (mark_of b) (before_use registration odometer e.minute b.vehicle v unused) (before_strict ds (inr (inr (inr new.0)))))
+      (λ used.
+      at_mark ds v (mark_of after) (ap (λ (o : Option Vehicle). last_use_of o / 60) used)
+      (subst (λ (l : List Day). EndsStrictly (trimmed (mark_of after) l)) (sym new.0) (after_strict (subst (λ (l : List Day). AreDays 0 l) new.0 ordered))))
+      new.1
 
 -- ---- and of a closing word
 
@@ -278,15 +278,12 @@ module _ (app : Application) (sound : IsApplication app) (x : List ℕ) (fits : 
   strict_at y m at strict =
       subst (λ (ds : List Day). EndsStrictly (trimmed (end_mark app y) ds)) (book_days app y) (subst (λ (n : ℕ). EndsStrictly (trimmed n (book_of app y).days)) (sym at) strict)
 
-  pub keep_valid : (registration : Registration) (odometer more : ℕ) (e : Entry) (y : List ℕ) → IsBeforeGapOf e.minute (book_of app x) → BeginsBehind app e x
+  pub keep_valid : (registration : Registration) (odometer more : ℕ) (e : Entry) (y : List ℕ) → IsBeforeGapOf e.minute (book_of app x)
       → IsCard app (IsKeepMoment app.activity registration odometer more e (book_of app x)) x y → IsValid app y
-  keep_valid registration odometer more e y before clear card =
+  keep_valid registration odometer more e y before card =
       valid_open app x valid sound fits y (IsKeepMoment app.activity registration odometer more e b) card open_session
       (strict_at y (last_use_of (book_of app y).vehicle / 60) (mark_told app y)
-      (keep_strict app.activity sound.string_least b ordered strict_there e before registration odometer more clear_at (book_of app y).days (book_of app y).vehicle card.holds.ordered card.told))
-    where
-      clear_at : is_newest (e.minute / 1440) (sizes (book_of app x).days) ≡ false → mark_of (book_of app x) / 1440 < e.minute / 1440
-      clear_at other = subst (λ (n : ℕ). n / 1440 < e.minute / 1440) (mark_told app x) (clear (ap (λ (ds : List Day). is_newest (e.minute / 1440) (sizes ds)) (sym (book_days app x)) ∙ other))
+      (keep_strict app.activity sound.string_least b ordered strict_there e before registration odometer more (book_of app y).days (book_of app y).vehicle card.holds.ordered card.told))
 
   pub close_valid : (act : Activity) (y : List ℕ) → IsOpenBook (book_of app x) → IsCard app (IsCloseMoment app.activity act (book_of app x)) x y → IsValid app y
   close_valid act y may card =

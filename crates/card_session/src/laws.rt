@@ -80,7 +80,7 @@ pub fn a_withdrawal_shows_the_entries()
 /// As long as the end mark of a keep is the old one, the newest minute is the old one too, where that is not before all words; and
 /// then that of the entry, or of its closing word.
 pub fn a_keep_leaves_the_newest_minute()
-    ensures before { (s : Session) (e : Entry) (odometer : ℕ) (x y : List ℕ) → IsApplication s.application → IsSession s x → s.minute < e.minute → BeginsBehind s.application e x → IsCardKeeping s e odometer x y → end_mark s.application y ≡ end_mark s.application x →
+    ensures before { (s : Session) (e : Entry) (odometer : ℕ) (x y : List ℕ) → IsApplication s.application → IsSession s x → s.minute < e.minute → IsCardKeeping s e odometer x y → end_mark s.application y ≡ end_mark s.application x →
         max (card_view s.application x).word (card_view s.application y).newest ≡ max (card_view s.application x).word (card_view s.application x).newest }
     ensures after { (s : Session) (e : Entry) (odometer : ℕ) (x y : List ℕ) → IsApplication s.application → IsSession s x → s.minute < e.minute → IsCardKeeping s e odometer x y → end_mark s.application y ≡ e.minute →
         (card_view s.application y).newest ≡ closed_at (Some e) }
@@ -89,7 +89,7 @@ pub fn a_keep_leaves_the_newest_minute()
 /// A stop in a keep, or in a withdrawal before the session time is written, leaves a card valid that was.
 pub fn a_stop_leaves_a_valid_card()
     ensures keep { (s : Session) (e : Entry) (odometer : ℕ) (x y : List ℕ) → IsApplication s.application → image_size_of s.application ≤ length x → 0 < session_time s.application x → IsValid s.application x →
-        IsSession s x → s.minute < e.minute → BeginsBehind s.application e x → IsCardKeeping s e odometer x y → IsValid s.application y }
+        IsSession s x → s.minute < e.minute → IsCardKeeping s e odometer x y → IsValid s.application y }
     ensures withdrawal { (s : Session) (act : Activity) (x y : List ℕ) → IsApplication s.application → image_size_of s.application ≤ length x → 0 < session_time s.application x → IsValid s.application x →
         IsSession s x → IsCardClosing s act x y → 0 < session_time s.application y → IsValid s.application y }
 {}
@@ -136,7 +136,7 @@ pub fn an_insertion_leaves_the_entries()
 /// A stop in an insertion leaves a card valid that was, whatever its session time is then.
 pub fn a_stop_in_an_insertion_leaves_a_valid_card()
     ensures open { (app : Application) (registration : Registration) (odometer now : ℕ) (owed : List Entry) (x y : List ℕ) → IsApplication app → image_size_of app ≤ length x → length registration.0 ≡ 15 → AreOwed now owed → IsValid app x → 0 < session_time app x →
-        BeginsLater (end_mark app x) (lacked_by app x owed) (trimmed (end_mark app x) (card_days app x)) → IsCardInserting app registration odometer owed now x y → IsValid app y }
+        IsCardInserting app registration odometer owed now x y → IsValid app y }
     ensures shut { (app : Application) (registration : Registration) (odometer now : ℕ) (owed : List Entry) (x y : List ℕ) → IsApplication app → image_size_of app ≤ length x → length registration.0 ≡ 15 → IsValid app x → session_time app x ≡ 0 →
         IsCardInserting app registration odometer owed now x y → IsValid app y }
 {}
@@ -194,14 +194,14 @@ pub fn a_withdrawal_leaves_the_newest_minute()
 /// that of the card at its end, and what the session knows. Of a card without a session the newest minute stays.
 pub fn an_insertion_leaves_the_newest_minute()
     ensures open { (app : Application) (registration : Registration) (odometer now : ℕ) (owed : List Entry) (x y : List ℕ) → IsApplication app → image_size_of app ≤ length x → length registration.0 ≡ 15 → AreOwed now owed → IsValid app x → 0 < session_time app x →
-        BeginsLater (end_mark app x) (lacked_by app x owed) (trimmed (end_mark app x) (card_days app x)) → IsCardInserting app registration odometer owed now x y →
+        IsCardInserting app registration odometer owed now x y →
         (first : NewestSoFar (end_mark app x) (card_view app x).newest (lacked_by app x owed) (end_mark app y) (card_view app y).newest)
         × ((session_time app y ≡ session_time app x) ⊎ (first.rest ≡ [])) }
     ensures again { (app : Application) (registration : Registration) (odometer now : ℕ) (owed : List Entry) (x y : List ℕ) → IsApplication app → image_size_of app ≤ length x → length registration.0 ≡ 15 → AreOwed now owed → IsValid app x → 0 < session_time app x →
-        BeginsLater (end_mark app x) (lacked_by app x owed) (trimmed (end_mark app x) (card_days app x)) → IsCardInserting app registration odometer owed now x y →
+        IsCardInserting app registration odometer owed now x y →
         newest_behind (card_view app y).newest (lacked_by app y owed) ≡ newest_behind (card_view app x).newest (lacked_by app x owed) }
     ensures ended { (app : Application) (registration : Registration) (odometer now : ℕ) (owed : List Entry) (x y : List ℕ) (s : Session) → IsApplication app → image_size_of app ≤ length x → length registration.0 ≡ 15 → AreOwed now owed → IsValid app x → 0 < session_time app x →
-        BeginsLater (end_mark app x) (lacked_by app x owed) (trimmed (end_mark app x) (card_days app x)) → IsCardInserted app registration odometer owed now x y → s.application ≡ app → IsSession s y →
+        IsCardInserted app registration odometer owed now x y → s.application ≡ app → IsSession s y →
         ((card_view app y).newest ≡ newest_behind (card_view app x).newest (lacked_by app x owed)) × (s.minute ≡ (card_view app y).newest) }
     ensures shut { (app : Application) (registration : Registration) (odometer now : ℕ) (owed : List Entry) (x y : List ℕ) → IsApplication app → image_size_of app ≤ length x → length registration.0 ≡ 15 → IsValid app x → session_time app x ≡ 0 → IsCardInserting app registration odometer owed now x y →
         (card_view app y).newest ≡ (card_view app x).newest }
@@ -212,7 +212,7 @@ pub fn an_insertion_leaves_the_newest_minute()
 /// At each moment of an insertion the stored time is not later than that of before, now and the newest minute.
 pub fn an_insertion_leaves_the_stored_time()
     ensures open { (app : Application) (registration : Registration) (odometer now : ℕ) (owed : List Entry) (x y : List ℕ) → IsApplication app → image_size_of app ≤ length x → length registration.0 ≡ 15 → AreOwed now owed → IsValid app x → 0 < session_time app x →
-        BeginsLater (end_mark app x) (lacked_by app x owed) (trimmed (end_mark app x) (card_days app x)) → IsCardInserting app registration odometer owed now x y →
+        IsCardInserting app registration odometer owed now x y →
         (card_view app y).stored ≤ max (max (card_view app x).stored now) (60 * (card_view app y).newest) }
     ensures shut { (app : Application) (registration : Registration) (odometer now : ℕ) (owed : List Entry) (x y : List ℕ) → IsApplication app → image_size_of app ≤ length x → length registration.0 ≡ 15 → IsValid app x → session_time app x ≡ 0 → IsCardInserting app registration odometer owed now x y →
         (card_view app y).stored ≤ max (max (card_view app x).stored now) (60 * (card_view app y).newest) }
@@ -222,10 +222,10 @@ pub fn an_insertion_leaves_the_stored_time()
 /// without a session no word is later than those of before and the newest minute.
 pub fn an_insertion_leaves_no_word_behind()
     ensures open { (app : Application) (registration : Registration) (odometer now : ℕ) (owed : List Entry) (x y : List ℕ) → IsApplication app → image_size_of app ≤ length x → length registration.0 ≡ 15 → AreOwed now owed → IsValid app x → 0 < session_time app x →
-        BeginsLater (end_mark app x) (lacked_by app x owed) (trimmed (end_mark app x) (card_days app x)) → IsCardInserting app registration odometer owed now x y → session_time app y ≡ 0 →
+        IsCardInserting app registration odometer owed now x y → session_time app y ≡ 0 →
         (card_view app y).word ≤ end_mark app y }
     ensures ended { (app : Application) (registration : Registration) (odometer now : ℕ) (owed : List Entry) (x y : List ℕ) → IsApplication app → image_size_of app ≤ length x → length registration.0 ≡ 15 → AreOwed now owed → IsValid app x → 0 < session_time app x →
-        BeginsLater (end_mark app x) (lacked_by app x owed) (trimmed (end_mark app x) (card_days app x)) → IsCardInserted app registration odometer owed now x y →
+        IsCardInserted app registration odometer owed now x y →
         (card_view app y).word ≤ end_mark app y }
     ensures shut { (app : Application) (registration : Registration) (odometer now : ℕ) (owed : List Entry) (x y : List ℕ) → IsApplication app → image_size_of app ≤ length x → length registration.0 ≡ 15 → IsValid app x → session_time app x ≡ 0 → IsCardInserting app registration odometer owed now x y →
         (card_view app y).word ≤ max (card_view app x).word (card_view app x).newest }
@@ -234,9 +234,9 @@ pub fn an_insertion_leaves_no_word_behind()
 /// At the end of an insertion, and once the end mark of a keep has moved, a card would be valid, were its session ended.
 pub fn a_card_may_be_ended()
     ensures keep { (s : Session) (e : Entry) (odometer : ℕ) (x y : List ℕ) → IsApplication s.application → image_size_of s.application ≤ length x → 0 < session_time s.application x → IsValid s.application x →
-        IsSession s x → s.minute < e.minute → BeginsBehind s.application e x → IsCardKeeping s e odometer x y → end_mark s.application y ≡ e.minute → MayEnd s.application y }
+        IsSession s x → s.minute < e.minute → IsCardKeeping s e odometer x y → end_mark s.application y ≡ e.minute → MayEnd s.application y }
     ensures open { (app : Application) (registration : Registration) (odometer now : ℕ) (owed : List Entry) (x y : List ℕ) → IsApplication app → image_size_of app ≤ length x → length registration.0 ≡ 15 → AreOwed now owed → IsValid app x → 0 < session_time app x →
-        BeginsLater (end_mark app x) (lacked_by app x owed) (trimmed (end_mark app x) (card_days app x)) → IsCardInserted app registration odometer owed now x y → MayEnd app y }
+        IsCardInserted app registration odometer owed now x y → MayEnd app y }
     ensures shut { (app : Application) (registration : Registration) (odometer now : ℕ) (owed : List Entry) (x y : List ℕ) → IsApplication app → image_size_of app ≤ length x → length registration.0 ≡ 15 → IsValid app x → session_time app x ≡ 0 →
         IsCardInserted app registration odometer owed now x y → MayEnd app y }
 {}

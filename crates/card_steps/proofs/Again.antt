@@ -1,5 +1,5 @@
 -- The first keep on a day that was begun: a repair has left that day with its first word.
-use Rattle.std.proofs.Common.{◌≡◌, ◌⊎◌, inl, inr, ⊎_elim, ℕ, suc, ◌+◌, ◌-◌, ◌*◌, ◌/◌, ◌%◌, ◌<◌, ◌≤◌, Bool, true, false, cond, ◌&&◌, List, [], ◌∷◌, ◌++◌, length, refl, sym, ◌∙◌, ap, subst, arith}
+use Rattle.std.proofs.Common.{◌≡◌, inl, inr, ⊎_elim, ℕ, suc, ◌+◌, ◌-◌, ◌*◌, ◌/◌, ◌%◌, ◌<◌, ◌≤◌, Bool, true, false, cond, ◌&&◌, List, [], ◌∷◌, ◌++◌, length, refl, sym, ◌∙◌, ap, subst, arith}
 use Rattle.std.specs.Prelude.{nat_eq, nat_lt}
 use Rattle.std.proofs.lemmas.Bool.{eqb-true}
 use Rattle.activity_codec.specs.declared.entries.Entry.{Entry}
@@ -11,9 +11,8 @@ use Rattle.card_model.specs.Days.{Day, AreDays, len_of, total, last_word}
 use Rattle.card_model.specs.Changes.{Remain, fitting, with_newest, with_word, with_km, date_of, trimmed}
 use Rattle.card_model.proofs.Retention.{remain_fitting}
 use Rattle.card_retention.specs.Expected.{Counted, is_newest, with_entry as counted_with}
-use Rattle.card_retention.specs.Shown.{Bound, AllUpTo, AllBefore, Rests, Sound, Sound.Flat, Lives, sizes, is_open, entry_state}
+use Rattle.card_retention.specs.Shown.{Bound, Rests, Sound.Flat, Lives, sizes, is_open, entry_state}
 use Rattle.card_retention.specs.Entries.{latest, told_by, entries_up_to, newest_word}
-use Rattle.card_retention.specs.Retains.{entries_in}
 use Rattle.card_retention.proofs.Entering.{last_append}
 use Rattle.card_retention.proofs.Listing.{Lists}
 use Rattle.card_retention.proofs.Stub.{Stubbed, stub_kept, trimmed_before}

@@ -22,7 +22,7 @@ use Rattle.card_retention.proofs.Newest.{minutes_none}
 use Rattle.card_retention.proofs.Stops.{are_left, stop_none, stop_first}
 use Rattle.card_retention.proofs.Stub.{trimmed_before, trimmed_stub}
 use Rattle.card_session.specs.Books.{Book, mark_of, latest_of, closing_word, gap_closed, entry_word, bare_word, day_words, tells_state, with_change, with_new_day, entered_days, km_after, travelled, with_entry}
-use Rattle.card_session.specs.Moments.{IsBeforeGap, IsBeforeWords, IsBeforeMark, entry_len}
+use Rattle.card_session.specs.Moments.{IsBeforeMark, entry_len}
 use Rattle.card_session.specs.Overwriting.{and_entry}
 use Rattle.card_session.specs.Parts.{IsBeforeGapOf}
 use Rattle.card_session.proofs.Alike.{alike_km, are_bare, lives_alike}

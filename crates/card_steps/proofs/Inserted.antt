@@ -1,5 +1,5 @@
 -- An insertion at each of its moments, and at its end, by the rule of overwriting.
-use Rattle.std.proofs.Common.{◌≡◌, ◌≢◌, ◌⊎◌, inl, inr, ⊎_elim, ℕ, suc, ◌+◌, ◌/◌, ◌<◌, ◌≤◌, max, Bool, true, false, cond, List, [], ◌∷◌, ◌++◌, Option, length, refl, sym, ◌∙◌, ap, subst, arith}
+use Rattle.std.proofs.Common.{◌≡◌, ◌⊎◌, inl, inr, ⊎_elim, ℕ, suc, ◌+◌, ◌/◌, ◌<◌, ◌≤◌, max, Bool, true, false, cond, List, [], ◌∷◌, ◌++◌, Option, length, refl, sym, ◌∙◌, ap, subst, arith}
 use Rattle.std.specs.Prelude.{nat_eq}
 use Rattle.std.specs.List.{AllByRecursion}
 use Rattle.std.proofs.lemmas.List.{append-nil}
@@ -15,11 +15,9 @@ use Rattle.card_model.specs.Changes.{trimmed}
 use Rattle.card_model.proofs.Trims.{are_trimmed, trim_from_moment, trimmed_twice}
 use Rattle.card_retention.specs.Expected.{Counted}
 use Rattle.card_retention.specs.Entries.{newest_minute, newest_word}
-use Rattle.card_retention.specs.Shown.{Bound, AllUpTo, Lives, is_open}
+use Rattle.card_retention.specs.Shown.{Bound, is_open}
 use Rattle.card_retention.proofs.Closing.{lives_trimmed}
-use Rattle.card_retention.proofs.Listing.{Lists}
-use Rattle.card_retention.proofs.ListTrims.{entries_trimmed, lists_trimmed}
-use Rattle.card_retention.proofs.Stops.{stop_none}
+use Rattle.card_retention.proofs.ListTrims.{entries_trimmed}
 use Rattle.card_image.specs.Fields.{file, last_use_of, card_days, end_mark, session_time}
 use Rattle.card_image.specs.Judging.{IsValid}
 use Rattle.card_image.specs.View.{card_view}
@@ -27,18 +25,16 @@ use Rattle.card_image.proofs.Beside.{days_same, session_same as session_beside}
 use Rattle.card_session.specs.Books.{Book, mark_of, with_entry, closed}
 use Rattle.card_session.specs.Sessions.{EndsStrictly, IsOpenBook, book_of}
 use Rattle.card_session.specs.Moments.{IsBook, IsCloseMoment}
-use Rattle.card_session.specs.Cards.{IsCard}
 use Rattle.card_session.specs.Parts.{IsBeforeGapOf}
 use Rattle.card_session.specs.Inserting.{Follow, lacked, with_cut, with_owed, IsBeforeAll, EndsCut, repaired, IsRepairMoment, IsStill, IsRepaired, IsRepairing, IsNoted, IsNoting, IsShut, IsShutting, InsertingClosed, InsertsOpen, InsertingOpen}
-use Rattle.card_session.specs.Overwriting.{IsSilentBehind}
 use Rattle.card_session.specs.Repairs.{first_minute, mark_behind, newest_behind, and_entries, with_entries, lacked_by}
 use Rattle.card_session.proofs.Composing.{told_book}
-use Rattle.card_session.proofs.Preparing.{ends_by}
+use Rattle.card_session.proofs.Preparing.{ends_by, open_date}
 use Rattle.card_session.proofs.Marks.{session_same, mark_told}
 use Rattle.card_session.proofs.Stopping.{mark_at}
 use Rattle.card_session.proofs.Committed.{silent_end, close_shows}
 use Rattle.card_session.proofs.Valid.{valid_strict, flat_of, closed_low}
-use Rattle.card_session.proofs.NewestStays.{newest_by_mark, closed_open, view_newest, view_word}
+use Rattle.card_session.proofs.NewestStays.{newest_by_mark, closed_open, view_newest}
 use Rattle.card_session.proofs.InsertingBooks.{lacked_follow, trimmed_low, cut_ready}
 use Rattle.card_session.proofs.InsertingCards.{noted_same, noting_same}
 use Rattle.card_session.proofs.InsertingUse.{use_inside}
@@ -48,10 +44,11 @@ use Rattle.card_session.proofs.Replaying.{with_are, with_before}
 use Rattle.card_session.proofs.Repairing.{lacked_many, owed_at, mark_beside, closed_still}
 use Rattle.card_session.proofs.Renewing.{repair_newest}
 use Rattle.card_session.proofs.Revalid.{low_told}
-use Rattle.card_steps.specs.Carried.{Goes, Broke, BrokeOf, BegunOf}
-use Rattle.card_steps.specs.Inserts.{IsOnDay, MayReplayOf, MayReplay, ReplaysOf, IsReplayShown, IsAllShown, IsInsertionShown, IsStillShown}
+use Rattle.card_steps.specs.Carried.{Goes, Broke, BrokeOf}
+use Rattle.card_steps.specs.Inserts.{MayReplayOf, MayReplay, ReplaysOf, IsReplayShown, IsAllShown, IsInsertionShown, IsStillShown}
 use Rattle.card_steps.proofs.Replayed.{GoesIn, Starts, broke_later, begun_later, broke_same, begun_same, none_there, start_all, start_moments, up_to, mark_least}
-use Rattle.card_steps.proofs.Shutting.{close_broke, close_goes, close_mark}
+use Rattle.card_steps.proofs.Moved.{goes_moved, goes_broke}
+use Rattle.card_steps.proofs.Shutting.{day_same, close_broke, close_goes, close_mark}
 
 -- ---- of a book
 
@@ -145,24 +142,6 @@ module _ (size : ℕ) (long : 5544 ≤ size) (registration : Registration) (odom
 -- ---- of a card, as its book tells
 
 module _ (app : Application) (slack : Bound) (covered from : ℕ) (c : Counted) (all : List Entry) where
-  -- the days and the end mark stay
-  pub goes_moved : (y z : List ℕ) → card_days app z ≡ card_days app y → end_mark app z ≡ end_mark app y → Goes app slack covered from c all y → Goes app slack covered from c all z
-  goes_moved y z days mark g = record {
-    lives = subst (λ (ds : List Day). Lives app.activity slack covered from (end_mark app z) c ds) (sym days) (subst (λ (n : ℕ). Lives app.activity slack covered from n c (card_days app y)) (sym mark) g.lives);
-    until = subst (λ (n : ℕ). AllUpTo n all) (sym mark) g.until;
-    lists = subst (λ (ds : List Day). Lists (end_mark app z) all ds) (sym days) (subst (λ (n : ℕ). Lists n all (card_days app y)) (sym mark) g.lists);
-    silent = subst (λ (ds : List Day). is_open (end_mark app z) ds ≡ false → IsSilentBehind (end_mark app z) ds) (sym days)
-        (subst (λ (n : ℕ). is_open n (card_days app y) ≡ false → IsSilentBehind n (card_days app y)) (sym mark) g.silent);
-  }
-
-  -- where it is broken off
-  pub goes_broke : IsApplication app → 16 ≤ slack.bytes → (to : ℕ) (y : List ℕ) → from ≤ to → Goes app slack covered from c all y → Broke app slack covered to c all y
-  goes_broke sound least to y later g = record {
-    rests = stop_none app.activity slack covered from (end_mark app y) c (card_days app y) g.lives to later sound.string_least least;
-    until = g.until;
-    lists = sym (entries_trimmed (end_mark app y) 0 (card_days app y) g.lives.rests.ordered) ∙ lists_trimmed (end_mark app y) all (card_days app y) g.lives.rests.ordered g.until g.lists;
-  }
-
   module _ (y : List ℕ) (b : Book) (is : book_of app y ≡ b) where
     goes_told : GoesIn app.activity slack covered from c all b → Goes app slack covered from c all y × (newest_word (card_days app y) ≤ end_mark app y)
     unfolding book_of
@@ -461,3 +440,25 @@ module _ (app : Application) (sound : IsApplication app) (x : List ℕ) (fits : 
   closed_shown y (inl still) = still_told y (same_told y (same_book y still))
   closed_shown y (inr (x1, still, inl shutting)) = still_told y (same_told y (shut_book x1 still y shutting))
   closed_shown y (inr (x1, still, inr (x2, shut_, opening))) = still_told y (use_same x1 still x2 y shut_ (opening_same app registration now long x2 y (room_left x1 still x2 shut_) opening))
+
+-- ---- the newest minute lies on the day of the end mark
+
+module _ (app : Application) (x : List ℕ) where
+  pub mark_day : AreDays 0 (card_days app x) → (card_view app x).newest / 1440 ≡ end_mark app x / 1440
+  mark_day are = ap (λ (n : ℕ). n / 1440) (view_newest app x) ∙ by (is_open (end_mark app x) (trimmed (end_mark app x) (card_days app x))) refl
+    where
+      low : newest_word (trimmed (end_mark app x) (card_days app x)) ≤ end_mark app x
+      low = trimmed_low (end_mark app x) (card_days app x) are
+
+      by : (o : Bool) → is_open (end_mark app x) (trimmed (end_mark app x) (card_days app x)) ≡ o → newest_by_mark (end_mark app x) (card_days app x) / 1440 ≡ end_mark app x / 1440
+      by true is =
+          ap (λ (o : Bool). cond o (suc (end_mark app x)) (max (end_mark app x) (newest_word (trimmed (end_mark app x) (card_days app x)))) / 1440) is
+          ∙ day_same (end_mark app x) (trimmed (end_mark app x) (card_days app x)) (open_date (end_mark app x) (trimmed (end_mark app x) (card_days app x)) is) low
+      by false is =
+          let most : max (end_mark app x) (newest_word (trimmed (end_mark app x) (card_days app x))) ≡ end_mark app x = omega (arith, low) in
+          ap (λ (o : Bool). cond o (suc (end_mark app x)) (max (end_mark app x) (newest_word (trimmed (end_mark app x) (card_days app x)))) / 1440) is ∙ ap (λ (n : ℕ). n / 1440) most
+
+  pub days_of_open : (registration : Registration) (odometer now : ℕ) (owed : List Entry) (y : List ℕ) → InsertingOpen app registration odometer owed now x y → AreDays 0 (card_days app x)
+  unfolding book_of
+  days_of_open registration odometer now owed y (inl still) = subst (λ (ds : List Day). AreDays 0 ds) still.told.0 still.holds.ordered
+  days_of_open registration odometer now owed y (inr (z, still, rest)) = subst (λ (ds : List Day). AreDays 0 ds) still.told.0 still.holds.ordered

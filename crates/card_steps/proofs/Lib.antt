@@ -3,7 +3,14 @@ pub mod Stated
 pub mod Begun
 pub mod Again
 pub mod OnBegun
+pub mod Moved
 pub mod Shutting
 pub mod Withdrawn
+pub mod Clear
+pub mod Lists
 pub mod Replayed
 pub mod Inserted
+pub mod Since
+pub mod Kept
+pub mod OfCards
+pub mod Images

@@ -1,5 +1,5 @@
 -- A keep at each of its moments, by where the end mark stands.
-use Rattle.std.proofs.Common.{◌≡◌, ◌⊎◌, inl, inr, ⊎_elim, ℕ, suc, ◌*◌, ◌/◌, ◌<◌, ◌≤◌, max, Bool, true, false, Option, Some, List, [], ◌∷◌, ◌++◌, refl, sym, ◌∙◌, ap, subst, arith}
+use Rattle.std.proofs.Common.{◌≡◌, ◌⊎◌, inl, inr, ⊎_elim, ℕ, suc, ◌/◌, ◌<◌, ◌≤◌, max, Bool, true, false, Option, List, [], ◌∷◌, ◌++◌, refl, sym, ◌∙◌, ap, subst, arith}
 use Rattle.std.specs.Prelude.{nat_eq}
 use Rattle.std.proofs.lemmas.Bool.{cases_lt}
 use Rattle.std.proofs.lemmas.Bool.Decides.{nat_tests}
@@ -87,7 +87,7 @@ module _ (s : Session) (e : Entry) (odometer : ℕ) (x y : List ℕ) (slack : Bo
             ∙ lists_trimmed (end_mark app y) all (card_days app y) these (up at)
             (keep_shows app sound x (days_there s x knows) all g.until g.lists s.registration odometer (grown s.odometer odometer) e y before clear keeping.card at);
       });
-      newest = newest_before app sound x (days_there s x knows) s.registration odometer (grown s.odometer odometer) e before y keeping.card clear at;
+      newest = newest_before app sound x (days_there s x knows) s.registration odometer (grown s.odometer odometer) e before y keeping.card at;
     }
 
   -- the end mark has moved, the days go on, and the entry is shown
@@ -155,8 +155,9 @@ module _ (s : Session) (e : Entry) (odometer : ℕ) (x y : List ℕ) (slack : Bo
         (subst (λ (ds : List Day). newest_minute (mark_of (book_of s.application x)) (trimmed (mark_of (book_of s.application x)) ds) ≡ mark_of (book_of s.application x)) (book_days app y) k.newest) in
         record {
           mark = at;
-          left = subst (λ (n : ℕ). BrokeOf app.activity slack covered e.minute n c all (card_days app y) ⊎ BegunOf app.activity slack covered e.minute n c all (card_days app y)) mark
-              (subst (λ (ds : List Day). BrokeOf app.activity slack covered e.minute (mark_of (book_of s.application x)) c all ds ⊎ BegunOf app.activity slack covered e.minute (mark_of (book_of s.application x)) c all ds) (book_days app y) k.left);
+          left = ⊎_elim (λ broke. inl broke) (λ begun. inr (begun, omega (arith, here, at)))
+              (subst (λ (n : ℕ). BrokeOf app.activity slack covered e.minute n c all (card_days app y) ⊎ BegunOf app.activity slack covered e.minute n c all (card_days app y)) mark
+              (subst (λ (ds : List Day). BrokeOf app.activity slack covered e.minute (mark_of (book_of s.application x)) c all ds ⊎ BegunOf app.activity slack covered e.minute (mark_of (book_of s.application x)) c all ds) (book_days app y) k.left));
           newest = ap (λ (n : ℕ). max (card_view app x).word n) (view_newest app y ∙ newest ∙ at ∙ sym was ∙ sym (view_newest app x));
         }
       where

@@ -1,5 +1,5 @@
 -- The first keep on a card whose day of the end mark was begun, at each of its moments.
-use Rattle.std.proofs.Common.{◌≡◌, ◌⊎◌, inl, inr, ⊎_elim, ℕ, suc, ◌*◌, ◌/◌, ◌<◌, ◌≤◌, max, Option, Some, List, [], ◌∷◌, ◌++◌, refl, sym, ◌∙◌, ap, subst, arith}
+use Rattle.std.proofs.Common.{◌≡◌, ◌⊎◌, inl, inr, ⊎_elim, ℕ, suc, ◌/◌, ◌<◌, ◌≤◌, max, Option, List, [], ◌∷◌, ◌++◌, refl, sym, ◌∙◌, ap, subst, arith}
 use Rattle.std.proofs.Math.Nat.{le-max_left}
 use Rattle.activity_codec.specs.declared.entries.Entry.{Entry}
 use Rattle.card_layout.specs.Application.{IsApplication}
@@ -75,8 +75,9 @@ module _ (s : Session) (e : Entry) (odometer : ℕ) (x y : List ℕ) (slack : Bo
       (subst (λ (ds : List Day). newest_minute (mark_of (book_of s.application x)) (trimmed (mark_of (book_of s.application x)) ds) ≡ mark_of (book_of s.application x)) (book_days app y) k.newest) in
       record {
         mark = at;
-        left = subst (λ (n : ℕ). BrokeOf app.activity slack covered e.minute n c all (card_days app y) ⊎ BegunOf app.activity slack covered e.minute n c all (card_days app y)) mark
-            (subst (λ (ds : List Day). BrokeOf app.activity slack covered e.minute (mark_of (book_of s.application x)) c all ds ⊎ BegunOf app.activity slack covered e.minute (mark_of (book_of s.application x)) c all ds) (book_days app y) k.left);
+        left = ⊎_elim (λ broke. inl broke) (λ begun. inr (begun, omega (arith, here, at)))
+            (subst (λ (n : ℕ). BrokeOf app.activity slack covered e.minute n c all (card_days app y) ⊎ BegunOf app.activity slack covered e.minute n c all (card_days app y)) mark
+            (subst (λ (ds : List Day). BrokeOf app.activity slack covered e.minute (mark_of (book_of s.application x)) c all ds ⊎ BegunOf app.activity slack covered e.minute (mark_of (book_of s.application x)) c all ds) (book_days app y) k.left));
         newest = ap (λ (n : ℕ). max (card_view app x).word n) (view_newest app y ∙ newest ∙ at ∙ sym was ∙ sym (view_newest app x));
       }
 

@@ -1,5 +1,5 @@
 -- The entries that an insertion replays, by the rule of overwriting: on a book, at each moment and once all are there.
-use Rattle.std.proofs.Common.{◌≡◌, ◌⊎◌, inl, inr, ⊎_elim, ℕ, suc, ◌+◌, ◌*◌, ◌/◌, ◌%◌, ◌<◌, ◌≤◌, max, Bool, true, false, cond, Option, Some, List, [], ◌∷◌, ◌++◌, append_assoc, refl, sym, ◌∙◌, ap, subst, arith}
+use Rattle.std.proofs.Common.{◌≡◌, ◌⊎◌, inl, inr, ⊎_elim, ℕ, suc, ◌/◌, ◌%◌, ◌<◌, ◌≤◌, Bool, true, false, cond, Option, Some, List, [], ◌∷◌, ◌++◌, append_assoc, refl, sym, ◌∙◌, ap, subst, arith}
 use Rattle.std.specs.Prelude.{nat_eq}
 use Rattle.std.specs.List.{AllByRecursion}
 use Rattle.std.proofs.lemmas.Bool.{cases_lt}
@@ -19,7 +19,7 @@ use Rattle.card_retention.proofs.Moments.{rests_later}
 use Rattle.card_retention.proofs.Stops.{stop_none}
 use Rattle.card_image.specs.Fields.{last_use_of}
 use Rattle.card_session.specs.Books.{Book, mark_of, gap_closed, with_entry}
-use Rattle.card_session.specs.Moments.{IsBook, IsKeepMoment, IsBeforeMark}
+use Rattle.card_session.specs.Moments.{IsKeepMoment, IsBeforeMark}
 use Rattle.card_session.specs.Parts.{IsBeforeGapOf}
 use Rattle.card_session.specs.Inserting.{Follow, with_owed, IsBeforeAll, IsReplaying}
 use Rattle.card_session.specs.Overwriting.{and_entry}
@@ -31,7 +31,7 @@ use Rattle.card_session.proofs.Committed.{silent_end, commit_shows}
 use Rattle.card_session.proofs.NewestStays.{next_low}
 use Rattle.card_session.proofs.Replaying.{with_are, with_before, with_later}
 use Rattle.card_steps.specs.Carried.{BrokeOf, BegunOf}
-use Rattle.card_steps.specs.Inserts.{IsOnDay, MayReplayOf, ReplaysOf}
+use Rattle.card_steps.specs.Inserts.{IsOnDay, ReplaysOf}
 use Rattle.card_steps.proofs.Moments.{until_more}
 use Rattle.card_steps.proofs.Begun.{stops, begun_lives, begun_shows}
 use Rattle.card_steps.proofs.Again.{again_stops, again_lives, again_shows}

@@ -1,11 +1,11 @@
 -- The closing word that a withdrawal or an insertion writes, by the rule of overwriting: at each moment, and once the end mark is at it.
-use Rattle.std.proofs.Common.{◌≡◌, ◌⊎◌, inl, inr, ⊎_elim, ℕ, suc, ◌+◌, ◌*◌, ◌<◌, ◌≤◌, max, Bool, true, false, cond, Option, List, [], ◌∷◌, refl, sym, ◌∙◌, ap, subst, arith}
+use Rattle.std.proofs.Common.{◌≡◌, ⊎_elim, ℕ, suc, ◌*◌, ◌/◌, ◌<◌, ◌≤◌, max, Bool, true, false, cond, Option, List, [], ◌∷◌, refl, sym, ◌∙◌, ap, subst, arith}
 use Rattle.activity_codec.specs.declared.entries.Entry.{Entry}
 use Rattle.activity_codec.specs.declared.values.Activity.{Activity}
 use Rattle.card_layout.specs.Application.{IsApplication}
 use Rattle.card_layout.specs.declared.files.Application.{Application}
 use Rattle.card_model.specs.Days.{Day, AreDays}
-use Rattle.card_model.specs.Changes.{trimmed}
+use Rattle.card_model.specs.Changes.{OnNewest, date_of}
 use Rattle.card_records.specs.declared.vehicle.Vehicle.{Vehicle}
 use Rattle.card_retention.specs.Expected.{Counted}
 use Rattle.card_retention.specs.Entries.{newest_minute, newest_word}
@@ -22,7 +22,16 @@ use Rattle.card_session.proofs.Marks.{mark_told}
 use Rattle.card_session.proofs.Stopping.{book_days, mark_at, mark_moves, closed_leaves, close_leaves}
 use Rattle.card_session.proofs.Committed.{silent_end, close_shows}
 use Rattle.card_session.proofs.Valid.{closing_newest}
+use Rattle.card_session.proofs.NewestStays.{open_low, closed_open}
+use Rattle.card_session.proofs.Preparing.{open_date}
 use Rattle.card_steps.specs.Carried.{Goes, Broke}
+use Rattle.card_steps.specs.Closes.{IsClosedShown}
+
+-- the minute after the end mark, on the newest day, lies on the mark's day
+pub day_same : (m : ℕ) (ds : List Day) → OnNewest (λ d. d.date ≡ date_of (suc m)) ds → newest_word ds ≤ m → suc m / 1440 ≡ m / 1440
+day_same m [] on low = absurd on
+day_same m (d ∷ []) on low = omega (arith, on, low)
+day_same m (d ∷ e ∷ ds) on low = day_same m (e ∷ ds) on low
 
 pub up_more : (mark m : ℕ) (all : List Entry) → mark ≤ m → AllUpTo mark all → AllUpTo m all
 up_more mark m [] le up = tt
@@ -96,6 +105,22 @@ module _ (app : Application) (sound : IsApplication app) (x : List ℕ) (ordered
       lists = shown;
       silent = silent (is_open (mark_of (book_of app x)) (book_of app x).days) refl;
     }
+
+    close_day : (o : Bool) → is_open (mark_of (book_of app x)) (book_of app x).days ≡ o → end_mark app y / 1440 ≡ end_mark app x / 1440
+    close_day true is =
+        let same : suc (mark_of (book_of app x)) / 1440 ≡ mark_of (book_of app x) / 1440 =
+        day_same (mark_of (book_of app x)) (book_of app x).days (open_date (mark_of (book_of app x)) (book_of app x).days is) (open_low app.activity sound.string_least (book_of app x) ordered act may is) in
+        omega (arith, at_open is, same, mark_told app x)
+    close_day false is = ap (λ (n : ℕ). n / 1440) (at_shut is)
+
+    close_shut : is_open (end_mark app y) (card_days app y) ≡ false
+    close_shut =
+        ap (λ (n : ℕ). is_open n (card_days app y)) at_closed
+        ∙ ap (is_open (mark_of (closed app.activity act (book_of app x)))) (sym (book_days app y) ∙ book.0)
+        ∙ closed_open app.activity sound.string_least (book_of app x) ordered act may
+
+    pub close_done : ShowsEntries app all y → IsClosedShown app slack covered next c all x y
+    close_done shown = record { goes = close_goes shown; day = close_day (is_open (mark_of (book_of app x)) (book_of app x).days) refl; shut = close_shut }
 
     -- the end mark is the newest minute, where no word stood behind it
     pub close_mark : newest_word (book_of app x).days ≤ mark_of (book_of app x) → end_mark app y ≡ newest_minute (mark_of (book_of app x)) (book_of app x).days

@@ -1,14 +1,14 @@
 -- What is carried gives what is stated of a card's overwriting.
-use Rattle.std.proofs.Common.{◌≡◌, ◌⊎◌, inl, inr, ⊎_elim, ℕ, suc, ◌+◌, ◌*◌, ◌/◌, ◌<◌, ◌≤◌, Bool, true, false, cond, ◌&&◌, ◌||◌, List, [], ◌∷◌, ◌++◌, length, refl, sym, ◌∙◌, ap, subst, arith}
+use Rattle.std.proofs.Common.{◌≡◌, ◌⊎◌, inl, inr, ⊎_elim, ℕ, suc, ◌/◌, ◌<◌, ◌≤◌, Bool, true, false, cond, ◌&&◌, ◌||◌, List, [], ◌∷◌, ◌++◌, length, refl, sym, ◌∙◌, ap, subst, arith}
 use Rattle.std.specs.Prelude.{nat_eq, nat_lt}
 use Rattle.std.proofs.lemmas.Bool.Decides.{nat_tests}
 use Rattle.activity_codec.specs.declared.entries.Entry.{Entry}
 use Rattle.card_layout.specs.Application.{IsApplication}
 use Rattle.card_layout.specs.declared.files.Application.{Application}
 use Rattle.card_model.specs.Days.{Day}
-use Rattle.card_model.specs.Changes.{date_of, trimmed}
+use Rattle.card_model.specs.Changes.{trimmed}
 use Rattle.card_retention.specs.Expected.{WordDay, more, Counted, expected_days}
-use Rattle.card_retention.specs.Shown.{Bound, Covers, AllBefore, AllUpTo, AllIn, InDays, Grows, sizes, size_day, is_open, owing, Shows, Rests}
+use Rattle.card_retention.specs.Shown.{Bound, Covers, AllBefore, AllIn, InDays, Grows, sizes, size_day, is_open, owing, Shows, Rests}
 use Rattle.card_retention.specs.Retains.{is_day, entries_in, begun_on, HasBegun, CardRetains}
 use Rattle.card_retention.specs.Entries.{entries_up_to}
 use Rattle.card_retention.proofs.Entering.{closes_is, before_more}

@@ -2,3 +2,5 @@ pub mod Carried
 pub mod Shows
 pub mod Closes
 pub mod Inserts
+pub mod Since
+pub mod Each

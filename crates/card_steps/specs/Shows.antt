@@ -1,5 +1,5 @@
 -- What an image shows at a moment of a keep on its card (profile).
-use Rattle.std.specs.Prelude.{◌≡◌, ◌⊎◌, ℕ, suc, ◌<◌, ◌≤◌, max, Some, List, [], ◌∷◌, ◌++◌}
+use Rattle.std.specs.Prelude.{◌≡◌, ◌⊎◌, ℕ, suc, ◌/◌, ◌<◌, ◌≤◌, max, Some, List, [], ◌∷◌, ◌++◌}
 use Rattle.activity_codec.specs.declared.entries.Entry.{Entry}
 use Rattle.card_layout.specs.declared.files.Application.{Application}
 use Rattle.card_retention.specs.Expected.{Counted, with_entry}
@@ -11,11 +11,11 @@ use Rattle.card_session.specs.Overwriting.{BeginsBehind, and_entry}
 use Rattle.card_steps.specs.Carried.{Goes, Broke, Begun}
 
 module _ (app : Application) (slack : Bound) (covered : ℕ) (c : Counted) (all : List Entry) (e : Entry) (x y : List ℕ) where
-  -- The end mark is the old one: what a repair leaves keeps the rule, where the entry comes next, or its day is begun; and the
-  -- newest minute is the old one, but where words stand behind it.
+  -- The end mark is the old one: what a repair leaves keeps the rule, where the entry comes next, or its day is begun, which is the
+  -- end mark's; and the newest minute is the old one, but where words stand behind it.
   pub record IsStopped : Type 0 where
     pub mark : end_mark app y ≡ end_mark app x
-    pub left : Broke app slack covered e.minute c all y ⊎ Begun app slack covered e.minute c all y
+    pub left : Broke app slack covered e.minute c all y ⊎ (Begun app slack covered e.minute c all y × (e.minute / 1440 ≡ end_mark app y / 1440))
     pub newest : max (card_view app x).word (card_view app y).newest ≡ max (card_view app x).word (card_view app x).newest
 
   -- The end mark is the entry's minute: the session goes on with it, the newest minute is that of the closing word behind it, and the

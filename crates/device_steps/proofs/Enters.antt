@@ -6,7 +6,7 @@ use Rattle.activity_codec.specs.declared.values.Activity.{Activity}
 use Rattle.tacho_types.specs.declared.texts.Registration.{Registration}
 use Rattle.trace_model.specs.declared.Card.{Card}
 use Rattle.trace_model.specs.declared.Card.TheVariants.{A, B}
-use Rattle.tach_media.specs.Medium.{State, IsCoherent, LeavesOnly, Unchanged}
+use Rattle.tach_media.specs.Medium.{State, IsCoherent, LeavesOnly, LiesInside, Unchanged}
 use Rattle.tach_media.proofs.Runs.{at_image, weaken}
 use Rattle.card_layout.specs.declared.files.Application.{Application}
 use Rattle.card_layout.specs.declared.files.TheConstants.{APPLICATION_RANGE}
@@ -32,7 +32,10 @@ use Rattle.history_model.specs.Minutes.{HistoryMinute}
 use Rattle.history_model.specs.Book.{Book}
 use Rattle.history_model.proofs.Books.{mark-earlier}
 use Rattle.owed_model.specs.Owed.{Row, owed_to, row_view}
-use Rattle.unit_model.specs.Image.{last_kept}
+use Rattle.unit_model.specs.declared.layout.TheConstants.{IMAGE_SIZE}
+use Rattle.unit_model.specs.Image.{last_kept, IsUnit}
+use Rattle.unit_journal.specs.declared.notes.Notes.{Notes}
+use Rattle.unit_journal.specs.Image.{Agrees}
 use Rattle.joint_rule.specs.Views.{UnitView, unit_view, row, owed, owed_in}
 use Rattle.joint_rule.specs.Device.{LeavesViews, EndsWith, Nothing}
 use Rattle.joint_rule.specs.Steps.{IsInserting, IsInserted, IsClosing}
@@ -68,6 +71,13 @@ pub card-read : (r : Both) (c : Card) (b : Book) (m : List Entry) (U X Y : State
 card-read r c b m U X Y whole run rule =
     look-card c (opened r c).start AnyString {U = unit_seen r U} {X = card_seen X} {Y = card_seen Y} (opened r c).began b m (seen-run own_view Unchanged Nothing X Y whole run (λ x y never. absurd never)) rule
 
+-- so the unit is one still, and its journal agrees with it
+pub unit-still : (U V : State) → LeavesOnly U V Unchanged → IsUnit U → IsUnit V
+unit-still U V run unit = record { sized = run.size ∙ unit.sized; behind = run.behind ∙ unit.behind; writable = subst (λ (ws : List (ℕ × ℕ)). LiesInside ws 0 IMAGE_SIZE) (sym run.writable) unit.writable }
+
+pub agrees-still : (j : Notes) (o p : Option (List ℕ)) → p ≡ o → IfSome o (Agrees j) → IfSome p (Agrees j)
+agrees-still j o p same agrees = subst (λ (q : Option (List ℕ)). IfSome q (Agrees j)) (sym same) agrees
+
 -- ---- an insertion
 
 sizes-told : (app : Application) (x y : List ℕ) → file_bytes app 0x0501 y ≡ file_bytes app 0x0501 x → own_sizes y ≡ own_sizes x
@@ -86,7 +96,7 @@ row-shown r B u = refl
 
 module _ (r : Both) (c : Card) (s : Started) (due : ℕ) (b : Book) (marks : List Mark) {V X Y : State} (app : Application) (sound : IsApplication app) (registration : Registration) (long : length registration.0 ≡ 15) (odometer now : ℕ) (few : now < 2 ^ 32)
     (h : Holds s due b marks V) (none : b.maybe ≡ None) (late : due ≤ now / 60) (unit : IsCoherent V) (lit : V.works ≡ true) (u : List ℕ) (told : V.image ≡ Some u) (whole : IsCoherent X) (works : X.works ≡ true) (x : List ℕ) (is : X.image ≡ Some x)
-    (fits : image_size_of app ≤ length x) (asked : IsAsked r c app u x) (valid : IsValid app x) (are : AreOwed now (owed_on app u x))
+    (fits : image_size_of app ≤ length x) (asked : IsAsked r c app x) (valid : IsValid app x) (are : AreOwed now (owed_on app u x))
     (rule : CardHolds r c b Out [] [] V X) (run : LeavesOnly X Y (λ x c. IsCardInserting app registration odometer (owed_on app u x) now x c)) where
   abbrev given : List Entry
   given = owed_on app u x
@@ -109,7 +119,7 @@ module _ (r : Both) (c : Card) (s : Started) (due : ℕ) (b : Book) (marks : Lis
   shown : (y : List ℕ) → IsCardInserting app registration odometer (owed_on app u x) now x y → IsInserting AnyStep (owed_on app u x) now (card_view app x) (card_view app y)
   shown y moment = ⊎_elim
       (λ closed. inserting_shut app sound x room registration long odometer now few (owed_on app u x) are valid closed.0 y closed.1)
-      (λ open_. inserting_open app sound x room registration long odometer now few (owed_on app u x) are valid (positive open_.0) (asked.begins (positive open_.0)) y open_.1)
+      (λ open_. inserting_open app sound x room registration long odometer now few (owed_on app u x) are valid (positive open_.0) y open_.1)
       moment
 
   steps : (y : List ℕ) → IsCardInserting app registration odometer (owed_on app u x) now x y → IsInserting AnyStep (owed_on app u x) now (own_view x) (own_view y)
@@ -161,7 +171,7 @@ module _ (r : Both) (c : Card) (s : Started) (due : ℕ) (b : Book) (marks : Lis
         by : IsCardInserted app registration odometer (owed_on app u x) now x y → IsCardInserting app registration odometer (owed_on app u x) now x y → IsInserted AnyStep (owed_on app u x) now t.minute (card_view app x) (card_view app y)
         by (inl closed) (inl moving) = inserted_shut app sound x room registration long odometer now few (owed_on app u x) are valid closed.0 y t same knows closed.1 moving.1
         by (inl closed) (inr moving) = absurd (moving.0 closed.0)
-        by (inr open_) moving = inserted_open app sound x room registration long odometer now few (owed_on app u x) are valid (positive open_.0) (asked.begins (positive open_.0)) y t same knows open_.1 (shown y moment_)
+        by (inr open_) moving = inserted_open app sound x room registration long odometer now few (owed_on app u x) are valid (positive open_.0) y t same knows open_.1 (shown y moment_)
 
     ends : EndsWith (card_seen X) (card_seen Y) (IsInserted AnyStep (owed_on app u x) now t.minute)
     ends = record {
@@ -184,7 +194,7 @@ module _ (r : Both) (c : Card) (s : Started) (due : ℕ) (b : Book) (marks : Lis
 
 module _ (r : Both) (c : Card) (s : Started) (due : ℕ) (b : Book) (marks : List Mark) {U V X Y : State} (app : Application) (sound : IsApplication app) (registration : Registration) (long : length registration.0 ≡ 15) (odometer now : ℕ) (few : now < 2 ^ 32)
     (h : Holds s due b marks U) (none : b.maybe ≡ None) (late : due ≤ now / 60) (unit : IsCoherent U) (unit_after : IsCoherent V) (whole : IsCoherent X) (fits : image_size_of app ≤ X.size) (tells : is_some U.image ≡ true) (tells_card : is_some X.image ≡ true)
-    (asked : IfSome U.image (λ u. IfSome X.image (IsAsked r c app u))) (rule : CardHolds r c b Out [] [] U X) (answer : Result Entered NotEntered) (enters : IsEntering app registration odometer now U V X Y answer) where
+    (asked : IfSome X.image (IsAsked r c app)) (rule : CardHolds r c b Out [] [] U X) (answer : Result Entered NotEntered) (enters : IsEntering app registration odometer now U V X Y answer) where
   some-image : (o : Option (List ℕ)) → is_some o ≡ true → (x : List ℕ) × (o ≡ Some x)
   some-image (Some x) is = (x, refl)
   some-image None is = absurd (empty is)
@@ -202,8 +212,8 @@ module _ (r : Both) (c : Card) (s : Started) (due : ℕ) (b : Book) (marks : Lis
     room_ : image_size_of app ≤ length x
     room_ = omega (arith, fits, whole.sized x is)
 
-    asks : IsAsked r c app u x
-    asks = at_image (IsAsked r c app u) is (at_image (λ u. IfSome X.image (IsAsked r c app u)) told asked)
+    asks : IsAsked r c app x
+    asks = at_image (IsAsked r c app) is asked
 
     leaves : LeavesOnly X Y (λ x c. IsCardInserting app registration odometer (owed_on app u x) now x c)
     leaves = at_image (λ u. LeavesOnly X Y (λ x c. IsCardInserting app registration odometer (owed_on app u x) now x c)) told enters.moments
@@ -228,7 +238,7 @@ module _ (r : Both) (c : Card) (s : Started) (due : ℕ) (b : Book) (marks : Lis
 -- where the card is accepted
 module _ (r : Both) (c : Card) (s : Started) (due : ℕ) (b : Book) (marks : List Mark) {U V X Y : State} (app : Application) (sound : IsApplication app) (registration : Registration) (long : length registration.0 ≡ 15) (odometer now : ℕ) (few : now < 2 ^ 32)
     (h : Holds s due b marks U) (none : b.maybe ≡ None) (late : due ≤ now / 60) (unit : IsCoherent U) (unit_after : IsCoherent V) (whole : IsCoherent X) (after : IsCoherent Y) (fits : image_size_of app ≤ X.size) (tells : is_some U.image ≡ true) (tells_card : is_some X.image ≡ true)
-    (asked : IfSome U.image (λ u. IfSome X.image (IsAsked r c app u))) (rule : CardHolds r c b Out [] [] U X) (e : Entered) (enters : IsEntering app registration odometer now U V X Y (Ok e)) where
+    (asked : IfSome X.image (IsAsked r c app)) (rule : CardHolds r c b Out [] [] U X) (e : Entered) (enters : IsEntering app registration odometer now U V X Y (Ok e)) where
   some_image : (o : Option (List ℕ)) → is_some o ≡ true → (x : List ℕ) × (o ≡ Some x)
   some_image (Some x) is = (x, refl)
   some_image None is = absurd (empty is)
@@ -243,7 +253,7 @@ module _ (r : Both) (c : Card) (s : Started) (due : ℕ) (b : Book) (marks : Lis
       let done = subst (λ (os : List Entry). IsCardInserted app registration odometer os now x y) owes (at_image (IsCardInserted app registration odometer e.owed.items now x) now_is (at_image (λ x. IfSome Y.image (IsCardInserted app registration odometer e.owed.items now x)) is took.inserted)) in
       let valid = (at_image (λ x. IsValid app x × ((card_view app x).stored ≤ now)) is took.valid).0 in
       let knows = at_image (IsSession e.session) now_is (at_image (λ x. IfSome Y.image (IsSession e.session)) is took.knows) in
-      let asks = at_image (IsAsked r c app u) is (at_image (λ u. IfSome X.image (IsAsked r c app u)) told asked) in
+      let asks = at_image (IsAsked r c app) is asked in
       entered r c s due b marks app sound registration long odometer now few (holds-read s due b marks h unit enters.unit.leaves) none late unit_after (worked refl (enters.unit.cause refl)).0 u (enters.unit.same refl ∙ told) whole (worked refl enters.cause).1 x is
       (omega (arith, fits, whole.sized x is)) asks valid (subst (AreOwed now) owes took.fit) (unit-read r c b Out [] [] U V X unit enters.unit.leaves rule)
       (at_image (λ u. LeavesOnly X Y (λ x c. IsCardInserting app registration odometer (owed_on app u x) now x c)) told enters.moments) e.session after (worked refl enters.cause).0 y now_is took.sizes knows done
@@ -259,7 +269,7 @@ module _ (r : Both) (c : Card) (s : Started) (due : ℕ) (b : Book) (marks : Lis
 -- of its answer
 pub entered-answer : (r : Both) (c : Card) (s : Started) (due : ℕ) (b : Book) (marks : List Mark) {U V X Y : State} (app : Application) (sound : IsApplication app) (registration : Registration) (long : length registration.0 ≡ 15) (odometer now : ℕ) (few : now < 2 ^ 32)
     (h : Holds s due b marks U) (none : b.maybe ≡ None) (late : due ≤ now / 60) (unit : IsCoherent U) (unit_after : IsCoherent V) (whole : IsCoherent X) (after : IsCoherent Y) (fits : image_size_of app ≤ X.size) (tells : is_some U.image ≡ true) (tells_card : is_some X.image ≡ true)
-    (asked : IfSome U.image (λ u. IfSome X.image (IsAsked r c app u))) (rule : CardHolds r c b Out [] [] U X) (answer : Result Entered NotEntered) (enters : IsEntering app registration odometer now U V X Y answer)
+    (asked : IfSome X.image (IsAsked r c app)) (rule : CardHolds r c b Out [] [] U X) (answer : Result Entered NotEntered) (enters : IsEntering app registration odometer now U V X Y answer)
     → IfOk answer (λ e. IsEntered (opened r c).start (opened r c).began now e.session.minute (card_seen Y))
 entered-answer r c s due b marks app sound registration long odometer now few h none late unit unit_after whole after fits tells tells_card asked rule (Ok e) enters =
     entering-entered r c s due b marks app sound registration long odometer now few h none late unit unit_after whole after fits tells tells_card asked rule e enters

@@ -15,26 +15,23 @@ use Rattle.card_layout.specs.Application.{IsApplication}
 use Rattle.card_layout.specs.Files.{image_size_of}
 use Rattle.card_model.specs.Days.{Day}
 use Rattle.card_model.specs.Changes.{trimmed}
-use Rattle.card_retention.specs.Expected.{is_newest}
-use Rattle.card_retention.specs.Shown.{is_open, sizes}
+use Rattle.card_retention.specs.Shown.{is_open}
 use Rattle.card_retention.specs.Entries.{newest_minute, newest_word, closed_at as closed_on_card}
 use Rattle.card_image.specs.Fields.{card_days, end_mark, session_time, last_use}
 use Rattle.card_image.specs.Judging.{IsValid}
 use Rattle.card_image.specs.View.{CardView, Held, card_view}
 use Rattle.card_session.specs.Sessions.{Session, IsSession, newest_in, book_of}
 use Rattle.card_session.specs.Inserting.{AreOwed, Follow, lacked, InsertingOpen, InsertingClosed, InsertsOpen, InsertsClosed, IsCardInserting, IsCardInserted}
-use Rattle.card_session.specs.Repairs.{mark_behind, newest_behind, BeginsLater, NewestSoFar, lacked_by}
+use Rattle.card_session.specs.Repairs.{mark_behind, newest_behind, NewestSoFar, lacked_by}
 use Rattle.card_session.proofs.Ends.{inserted_moment}
 use Rattle.card_session.proofs.InsertingBooks.{lacked_follow, follow_from}
 use Rattle.card_session.proofs.InsertingSession.{open_session, closed_session, open_begun, closed_begun}
 use Rattle.card_session.proofs.Renewing.{Renews, newest_first, newest_end, ends_answered, ends_low, moments_low, closed_renews, closed_answered}
-use Rattle.card_session.proofs.Repairing.{lacked_many}
 use Rattle.card_session.proofs.Valid.{above_zero}
 use Rattle.history_model.specs.Presence.{closed_at}
 use Rattle.joint_rule.specs.Views.{newest_with, beyond}
 use Rattle.joint_rule.specs.Steps.{IsInserting, IsInserted, replayed, IsTrimming}
 use Rattle.joint_rule.proofs.Brought.{closed-same}
-use Rattle.device_steps.specs.Entering.{HasMarkedDay}
 use Rattle.device_steps.proofs.OnCard.{AnyStep, mark-is, session-is}
 
 -- ---- entries that a card lacks
@@ -117,27 +114,11 @@ beyond_open v some = ap (λ (b : Bool). cond b 0 v.word) (less_is 0 v.session so
 pub beyond_shut : (v : CardView) → v.session ≡ 0 → beyond v ≡ v.word
 beyond_shut v none = ap (λ (n : ℕ). cond (nat_lt 0 n) 0 v.word) none
 
--- ---- the first entry that a card lacks lies on the day of its end mark, or behind it
-
-begins_by : (mark : ℕ) (es : List Entry) (days : List Day) → Follow mark es → AllByRecursion (λ e. 1440 ≤ e.minute) es → (is_newest (mark / 1440) (sizes days) ≡ true) ⊎ (mark < 1440) → BeginsLater mark es days
-begins_by mark [] days follow many marked = tt
-begins_by mark (e ∷ es) days follow many (inr none) = λ other. omega (arith, none, many.0)
-begins_by mark (e ∷ es) days follow many (inl there) = λ other. ⊎_elim (λ less. less) (λ late. absurd (clash other late)) (cases_lt (mark / 1440) (e.minute / 1440))
-  where
-    clash : is_newest (e.minute / 1440) (sizes days) ≡ false → e.minute / 1440 ≤ mark / 1440 → ⊥
-    clash other late =
-        let at : mark / 1440 ≡ e.minute / 1440 = omega (arith, late, follow.0) in
-        let both : is_newest (e.minute / 1440) (sizes days) ≡ true = ap (λ (n : ℕ). is_newest n (sizes days)) (sym at) ∙ there in
-        let no : false ≡ true = sym other ∙ both in cc
-
-pub marked_begins : (app : Application) (x : List ℕ) (now : ℕ) (es : List Entry) → AreOwed now es → HasMarkedDay app x → BeginsLater (end_mark app x) (lacked_by app x es) (trimmed (end_mark app x) (card_days app x))
-marked_begins app x now es are marked = begins_by (end_mark app x) (lacked_by app x es) (trimmed (end_mark app x) (card_days app x)) (lacked_follow 1439 (end_mark app x) es are.0) (lacked_many (end_mark app x) es are.0) marked
-
 -- ---- of a card whose session was left open
 
 module _ (app : Application) (sound : IsApplication app) (x : List ℕ) (fits : image_size_of app ≤ length x) (registration : Registration) (long : length registration.0 ≡ 15) (odometer now : ℕ) (few : now < 2 ^ 32) (owed : List Entry) (are : AreOwed now owed)
     (valid : IsValid app x) where
-  module _ (session : 0 < session_time app x) (begins : BeginsLater (end_mark app x) (lacked_by app x owed) (trimmed (end_mark app x) (card_days app x))) where
+  module _ (session : 0 < session_time app x) where
     abbrev v : CardView
     v = card_view app x
 
@@ -206,12 +187,12 @@ module _ (app : Application) (sound : IsApplication app) (x : List ℕ) (fits : 
         lacked = subst (All (λ (e : Entry). (card_view app y).mark < e.minute)) (sym left) later;
         session = opens kept (open_session app x fits registration long now few odometer owed y moment);
         newest = ap (newest_with (card_view app y)) left ∙ newest;
-        words = λ none. inl (omega (arith, moments_low app sound x fits registration long odometer now owed are valid (above_zero (session_time app x) session) begins y moment (sym (session-is app y) ∙ none), mark-is app y, bound_of app y));
+        words = λ none. inl (omega (arith, moments_low app sound x fits registration long odometer now owed are valid (above_zero (session_time app x) session) y moment (sym (session-is app y) ∙ none), mark-is app y, bound_of app y));
       }
 
     pub inserting_open : (y : List ℕ) → InsertingOpen app registration odometer owed now x y → IsInserting AnyStep owed now (card_view app x) (card_view app y)
     inserting_open y moment =
-        let first = newest_first app sound x fits registration long odometer now owed are valid (above_zero (session_time app x) session) begins y moment in
+        let first = newest_first app sound x fits registration long odometer now owed are valid (above_zero (session_time app x) session) y moment in
         step_open y first.0 moment first.1
 
     pub inserted_open : (y : List ℕ) (s : Session) → s.application ≡ app → IsSession s y → InsertsOpen app registration odometer owed now x y → IsInserting AnyStep owed now (card_view app x) (card_view app y)
@@ -219,11 +200,11 @@ module _ (app : Application) (sound : IsApplication app) (x : List ℕ) (fits : 
     inserted_open y s same knows done moment = record {
       inserting = moment;
       session = session-is app y ∙ open_begun app x fits registration long now few odometer owed y done;
-      words = inl (omega (arith, ends_low app sound x fits registration long odometer now owed are valid (above_zero (session_time app x) session) begins y done, mark-is app y, bound_of app y));
+      words = inl (omega (arith, ends_low app sound x fits registration long odometer now owed are valid (above_zero (session_time app x) session) y done, mark-is app y, bound_of app y));
       answered =
           let minute : s.minute ≡ newest_in (book_of app y) = knows.minute ∙ ap (λ (p : Application). newest_in (book_of p y)) same in
-          let answer = ends_answered app sound x fits registration long odometer now owed are valid (above_zero (session_time app x) session) begins y done in
-          let at = newest_end app sound x fits registration long odometer now owed are valid (above_zero (session_time app x) session) begins y done in
+          let answer = ends_answered app sound x fits registration long odometer now owed are valid (above_zero (session_time app x) session) y done in
+          let at = newest_end app sound x fits registration long odometer now owed are valid (above_zero (session_time app x) session) y done in
           let with_ : newest_with (card_view app x) (replayed owed (card_view app x)) ≡ newest_behind (card_view app x).newest (lacked_by app x owed) =
           with_behind (card_view app x) (replayed owed (card_view app x)) ∙ ap (newest_behind (card_view app x).newest) brings in
           omega (arith, minute, answer, at, with_, beyond_open (card_view app x) some);

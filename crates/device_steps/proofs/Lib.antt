@@ -14,3 +14,4 @@ pub mod Passed
 pub mod CardNoted
 pub mod Told
 pub mod TornOut
+pub mod SizesRead

@@ -1,5 +1,5 @@
 -- What becomes of a card that is put in (profile).
-use Rattle.std.specs.Prelude.{◌≡◌, ◌⊎◌, ℕ, ◌/◌, ◌<◌, ◌≤◌, Bool, true, false, Option, Some, None, IfSome, IfOk, IfErr, IsOk, Result, Ok, Err, List, length}
+use Rattle.std.specs.Prelude.{◌≡◌, ◌⊎◌, ℕ, ◌<◌, ◌≤◌, Bool, true, false, Option, Some, None, IfSome, IfOk, IfErr, IsOk, Result, Ok, Err, List, length}
 use Rattle.activity_codec.specs.declared.entries.Entry.{Entry}
 use Rattle.tach_media.specs.Medium.{State, HasCause, LeavesOnly, Reads, Unchanged, IsSettled, last_count}
 use Rattle.tacho_types.specs.declared.texts.Registration.{Registration}
@@ -11,11 +11,7 @@ use Rattle.card_judge.specs.declared.looking.CardLook.{CardLook}
 use Rattle.card_judge.specs.Judged.{IsLook}
 use Rattle.trace_model.specs.declared.Card.{Card}
 use Rattle.card_model.specs.Days.{AreDays}
-use Rattle.card_model.specs.Changes.{trimmed}
 use Rattle.card_image.specs.Own.{own_sizes, own_number}
-use Rattle.card_retention.specs.Expected.{is_newest}
-use Rattle.card_retention.specs.Shown.{sizes}
-use Rattle.card_session.specs.Repairs.{BeginsLater, lacked_by}
 use Rattle.device_steps.specs.Rule.{Both, number_of}
 use Rattle.card_image.specs.Fields.{card_days, card_number, end_mark, session_time}
 use Rattle.card_image.specs.Judging.{first_bad_file, IsValid}
@@ -121,14 +117,7 @@ pub record IsInsertedWith (app : Application) (registration : Registration) (odo
   pub settled : IsOk r → card_new.clock < last_count → IsSettled card_new
   pub cause : HasCause card_old card_new (card_failed r)
 
--- The newest day up to the end mark is that of the mark, or no minute is marked yet: then an entry that the card lacks lies on that day, or
--- on one behind it.
-abbrev pub HasMarkedDay : Application → List ℕ → Type 0
-HasMarkedDay app x = (is_newest (end_mark app x / 1440) (sizes (trimmed (end_mark app x) (card_days app x))) ≡ true) ⊎ (end_mark app x < 1440)
-
--- What is known of a card that is put in, by these images of unit and card: it goes by these sizes, has the card's number, and, where its
--- session was left open, the first entry that it lacks lies on a day that it has, or on one behind the end mark's.
-pub record IsAsked (r : Both) (c : Card) (app : Application) (u x : List ℕ) : Type 0 where
+-- What is known of a card that is put in: it goes by these sizes, and has the card's number.
+pub record IsAsked (r : Both) (c : Card) (app : Application) (x : List ℕ) : Type 0 where
   pub sizes : own_sizes x ≡ app
   pub number : own_number x ≡ number_of r c
-  pub begins : 0 < session_time app x → BeginsLater (end_mark app x) (lacked_by app x (owed_on app u x)) (trimmed (end_mark app x) (card_days app x))

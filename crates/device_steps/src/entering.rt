@@ -1,5 +1,5 @@
 //! A card is put into a slot.
-ghost use Rattle.std.specs.Prelude.{◌≡◌, ◌<◌, ◌≤◌, ◌+◌, ◌/◌, ◌^◌, ℕ, length, true, None, List, [], IfOk, IfSome, is_some};
+ghost use Rattle.std.specs.Prelude.{◌≡◌, ◌<◌, ◌≤◌, ◌+◌, ◌/◌, ◌^◌, ℕ, length, true, false, None, List, [], IfOk, IfSome, is_some};
 ghost use Rattle.activity_codec.specs.declared.entries.Entry.{Entry};
 ghost use Rattle.tach_media.specs.Medium.{LeavesOnly};
 ghost use Rattle.card_commands.specs.Ports.{IsPort};
@@ -18,7 +18,7 @@ ghost use Rattle.unit_rule.specs.Rule.{Started};
 ghost use Rattle.unit_rule.specs.Marks.{Holds};
 ghost use Rattle.device_steps.specs.Rule.{Both, opened, card_seen, CardHolds};
 ghost use Rattle.device_steps.specs.OnCard.{Anything};
-ghost use Rattle.device_steps.specs.Entering.{of_card, IsEntering, IsInsertedWith, IsAsked};
+ghost use Rattle.device_steps.specs.Entering.{of_card, unit_failed, IsEntering, IsInsertedWith, IsAsked};
 
 use activity_codec::Owed;
 use card_commands::Port;
@@ -193,10 +193,12 @@ pub fn enter<M: Medium, C: Chip, D: Chip>(
     ensures holds { (s : Started) (due : ℕ) (b : Book) (marks : List Mark) → Holds s due b marks (M.state unit.old) → Holds s due b marks (M.state unit.new) }
     ensures other { (r : Both) (b : Book) (z : Standing) (m d : List Entry) → CardHolds r (other which) b z m d (M.state unit.old) (D.state others.now) → CardHolds r (other which) b z m d (M.state unit.new) (D.state others.now) }
     ensures mine { (r : Both) (s : Started) (due : ℕ) (b : Book) (marks : List Mark) → Holds s due b marks (M.state unit.old) → b.maybe ≡ None → due ≤ now.0 / 60 → is_some (M.state unit.old).image ≡ true → is_some (C.state card.old).image ≡ true
-        → IfSome (M.state unit.old).image (λ u. IfSome (C.state card.old).image (IsAsked r which app u)) → CardHolds r which b Out [] [] (M.state unit.old) (C.state card.old) → CardHolds r which b Out [] [] (M.state unit.new) (C.state card.new) }
+        → IfSome (C.state card.old).image (IsAsked r which app) → CardHolds r which b Out [] [] (M.state unit.old) (C.state card.old) → CardHolds r which b Out [] [] (M.state unit.new) (C.state card.new) }
     ensures entered { (r : Both) (s : Started) (due : ℕ) (b : Book) (marks : List Mark) → Holds s due b marks (M.state unit.old) → b.maybe ≡ None → due ≤ now.0 / 60 → is_some (M.state unit.old).image ≡ true → is_some (C.state card.old).image ≡ true
-        → IfSome (M.state unit.old).image (λ u. IfSome (C.state card.old).image (IsAsked r which app u)) → CardHolds r which b Out [] [] (M.state unit.old) (C.state card.old)
+        → IfSome (C.state card.old).image (IsAsked r which app) → CardHolds r which b Out [] [] (M.state unit.old) (C.state card.old)
         → IfOk result (λ e. IsEntered (opened r which).start (opened r which).began now.0 e.session.minute (card_seen (C.state card.new))) }
+    ensures unit { IsUnit (M.state unit.new) }
+    ensures agrees { unit_failed result ≡ false → IfSome (M.state unit.new).image (Agrees journal.now) }
     ensures port { IsPort app None (C.card card.new) (C.state card.new) }
     ensures long { length registration.now.0 ≡ 15 }
     ensures most { (C.state card.new).clock ≤ (C.state card.old).clock + (DAYS_MOST + 84) }

@@ -6,14 +6,12 @@ ghost use Rattle.tacho_types.specs.declared.texts.Registration.{Registration};
 ghost use Rattle.card_layout.specs.declared.files.Application.{Application};
 ghost use Rattle.card_layout.specs.Application.{IsApplication};
 ghost use Rattle.card_layout.specs.Files.{image_size_of};
-ghost use Rattle.card_model.specs.Changes.{trimmed};
 ghost use Rattle.card_model.specs.Days.{AreDays};
-ghost use Rattle.card_image.specs.Fields.{card_days, end_mark};
+ghost use Rattle.card_image.specs.Fields.{card_days};
 ghost use Rattle.card_image.specs.Judging.{IsValid};
 ghost use Rattle.card_image.specs.Own.{own_view};
 ghost use Rattle.card_image.specs.View.{card_view};
-ghost use Rattle.card_session.specs.Inserting.{AreOwed, IsCardInserted};
-ghost use Rattle.card_session.specs.Repairs.{BeginsLater, lacked_by};
+ghost use Rattle.card_session.specs.Inserting.{IsCardInserted};
 ghost use Rattle.unit_model.specs.Image.{last_kept};
 ghost use Rattle.unit_notes.specs.Journal.{LeavesJournal};
 ghost use Rattle.log_model.specs.declared.lines.Mark.{Mark};
@@ -29,7 +27,6 @@ ghost use Rattle.card_session.specs.Overwriting.{and_entry};
 ghost use Rattle.card_steps.specs.Shows.{IsDone};
 ghost use Rattle.device_steps.specs.Rule.{Both, opened, card_seen, CardHolds, CardRests};
 ghost use Rattle.device_steps.specs.CardNotes.{IsNote, IsSound};
-ghost use Rattle.device_steps.specs.Entering.{HasMarkedDay};
 ghost use Rattle.device_steps.specs.OnCard.{IsCarried, IsReady};
 ghost use Rattle.device_steps.specs.Minute.{Carry, and_kept, IsSitting, IsNotIn};
 
@@ -111,11 +108,6 @@ pub fn a_noted_card_is_valid()
 /// The days of a valid card are days, each later than the one before it.
 pub fn a_valid_card_has_days()
     ensures { (app : Application) (x : List ℕ) → IsApplication app → image_size_of app ≤ length x → IsValid app x → AreDays 0 (card_days app x) }
-{}
-
-/// What an insertion asks of the entries that are owed to a card holds where the newest day up to its end mark is that of the mark.
-pub fn a_marked_day_begins_later()
-    ensures { (app : Application) (x : List ℕ) (now : ℕ) (owed : List Entry) → AreOwed now owed → HasMarkedDay app x → BeginsLater (end_mark app x) (lacked_by app x owed) (trimmed (end_mark app x) (card_days app x)) }
 {}
 
 /// A card that was put in answers a newest minute that is earlier than a minute behind the words at its start exactly where that of the

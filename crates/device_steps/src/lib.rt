@@ -17,13 +17,16 @@ pub use committing::commit;
 pub use entering::{Entered, NotEntered, enter};
 pub use laws::{
     a_card_out_of_its_slot_stands, a_card_sits_on, a_card_that_was_read_rests,
-    a_first_acceptance_knows_its_words, a_marked_day_begins_later,
-    a_note_on_a_card_leaves_the_rules, a_note_on_the_unit_leaves_the_rules, a_noted_card_is_valid,
-    a_torn_card_is_out, a_torn_card_stands, a_unit_that_is_found_leaves_the_cards,
-    a_valid_card_has_days, an_accepted_card_is_told,
+    a_first_acceptance_knows_its_words, a_note_on_a_card_leaves_the_rules,
+    a_note_on_the_unit_leaves_the_rules, a_noted_card_is_valid, a_torn_card_is_out,
+    a_torn_card_stands, a_unit_that_is_found_leaves_the_cards, a_valid_card_has_days,
+    an_accepted_card_is_told,
 };
 pub use leaving::leave;
 pub use mending::mend;
 pub use on_card::keep_on_card;
 pub use on_unit::keep_on_unit;
 pub use owing::owe;
+
+#[cfg(test)]
+mod tests;

@@ -1,10 +1,9 @@
 -- What is followed of a run, but for the lines of its log and its power: over seconds, minutes that are kept, cuts, and what is found.
-use Rattle.std.proofs.Common.{◌≡◌, ◌⊎◌, inl, inr, ⊎_elim, ℕ, ◌+◌, ◌/◌, ◌<◌, ◌≤◌, Bool, true, false, ◌||◌, nat_lt, Option, Some, None, List, [], ◌∷◌, ◌++◌, All, length, take, refl, ap, sym, subst, ◌∙◌, append_assoc, append-nil, arith}
+use Rattle.std.proofs.Common.{◌≡◌, ◌⊎◌, inl, inr, ⊎_elim, ℕ, ◌+◌, ◌/◌, ◌<◌, ◌≤◌, Bool, true, false, ◌||◌, nat_lt, Option, Some, None, List, [], ◌∷◌, ◌++◌, All, length, take, refl, ap, sym, subst, ◌∙◌, append-nil, arith}
 use Rattle.std.specs.Prelude.{option_to_list}
 use Rattle.std.specs.List.{AllByRecursion}
 use Rattle.trace_model.specs.Trace.{TraceSecond}
 use Rattle.minute_model.specs.declared.Rule.{Rule}
-use Rattle.minute_model.specs.declared.Minute.{Minute}
 use Rattle.minute_model.specs.Activity.{last}
 use Rattle.log_model.specs.declared.lines.Break.{Break}
 use Rattle.log_model.specs.Log.{RunLog, kept_after}
@@ -24,7 +23,7 @@ use Rattle.unit_course.specs.Lines.{found_from, tells_cut}
 use Rattle.unit_course.specs.Followed.{Supply, Lit, Due, Lost, going_on, as_spans}
 use Rattle.unit_course.proofs.Lines.{take-all, tells-found, tells-front}
 use Rattle.unit_course.proofs.Parts.{beyond-mark, follows-whole, follows-same, whole-lost, short-history, short-lost}
-use Rattle.run_course.specs.Followed.{IsShut, IsOpen, IsTied}
+use Rattle.run_course.specs.Followed.{IsShut, IsTied}
 use Rattle.run_course.specs.Seconds.{kept_all, broken_at}
 use Rattle.run_course.proofs.Logs.{found_log, went-found, kept-found}
 use Rattle.run_course.proofs.Alike.{Stays, stays-same, empty-minutes, known-open}
@@ -74,20 +73,24 @@ module _ (rule : Rule) (start : Start) (from first : ℕ) (done : List TraceSeco
     shut-now : IsShut rule start later known now c.ended longer b new
     shut-now = shut-on rule start log later known same told now known c.ended span longer b new stays (λ u t. t) on (⊎_elim (λ long. inr long) (λ short. inl short.none) which) c.tied
 
+    -- of a span of one second the history is as it was
+    pub shifted-short : IsShort rule span longer new → (unit_history rule start later now ≡ unit_history rule start log told) × (with_lost rule start later now ≡ with_lost rule start log told)
+    shifted-short short =
+        let alike = known-open rule known log later same c.ended c.tied.known in (
+          short-history rule start later now c.ended (longer ∷ []) spans short.is (short.after, tt)
+              ∙ same-minutes rule start log later known same told now c.ended stays alike
+              ∙ sym (short-history rule start log told c.ended (as_spans span) c.spans short.was short.before),
+          short-lost rule start later now c.ended (longer ∷ []) spans short.is (short.after, tt)
+              ∙ same-losses rule start log later known same told now c.ended stays alike
+              ∙ sym (short-lost rule start log told c.ended (as_spans span) c.spans short.was short.before),
+        )
+
     follows-now : Follows (unit_history rule start later now) (with_lost rule start later now) b
     follows-now = ⊎_elim
         (λ long. follows-whole (unit_history rule start later now) new (with_lost rule start later now) b
         (whole-history rule start later now c.ended longer spans long ∙ shut-now.minutes ∙ ap (λ (is : List HistoryMinute). is ++ new) (sym (all-none b shut-now.none)))
         (subst (λ (ls : List (List HistoryMinute)). AreLost ls b) (sym (whole-lost rule start later now c.ended longer spans long)) shut-now.lost))
-        (λ short. let alike = known-open rule known log later same c.ended c.tied.known in
-        follows-same (unit_history rule start log told) (unit_history rule start later now) (with_lost rule start log told) (with_lost rule start later now) b
-        (short-history rule start later now c.ended (longer ∷ []) spans short.is (short.after, tt)
-        ∙ same-minutes rule start log later known same told now c.ended stays alike
-        ∙ sym (short-history rule start log told c.ended (as_spans span) c.spans short.was short.before))
-        (short-lost rule start later now c.ended (longer ∷ []) spans short.is (short.after, tt)
-        ∙ same-losses rule start log later known same told now c.ended stays alike
-        ∙ sym (short-lost rule start log told c.ended (as_spans span) c.spans short.was short.before))
-        c.follows)
+        (λ short. follows-same (unit_history rule start log told) (unit_history rule start later now) (with_lost rule start log told) (with_lost rule start later now) b (shifted-short short).0 (shifted-short short).1 c.follows)
         which
 
     pub shifted : Core rule start from first now_done later unfound now_next (Lit longer) b new
@@ -108,7 +111,7 @@ module _ (rule : Rule) (start : Start) (from first : ℕ) (done : List TraceSeco
   seconds = (went log done).told
 
   -- the history, with the minutes that wait
-  waits : (b : Book) (waiting : List HistoryMinute) (c : Core rule start from first done log unfound next (Lit span) b waiting) → nat_lt 1 (length span) ≡ true → unit_history rule start log seconds ≡ all b ++ waiting
+  pub waits : (b : Book) (waiting : List HistoryMinute) (c : Core rule start from first done log unfound next (Lit span) b waiting) → nat_lt 1 (length span) ≡ true → unit_history rule start log seconds ≡ all b ++ waiting
   waits b waiting c long =
       whole-history rule start log seconds c.ended span (c.spans ∙ ap (λ (ss : List (List Told)). c.ended ++ ss) solid) long
       ∙ c.tied.minutes ∙ ap (λ (is : List HistoryMinute). is ++ waiting) (sym (all-none b c.tied.none))
@@ -248,6 +251,15 @@ module _ (rule : Rule) (start : Start) (from first : ℕ) (done : List TraceSeco
             c.follows;
       }
 
+  -- and the history is as it was
+  pub rests-minutes : (now_done : List TraceSecond) (later : RunLog) (behind : List (List Told)) → ((u : ℕ) → tells_cut u sure ≡ true → kept_after log u ≡ kept_after later u) → spans_of (went later now_done).told ≡ c.ended ++ behind →
+      Stays rule start before (went later now_done).told c.ended → AllByRecursion (λ (span : List Told). decided_of rule span ≡ []) behind → any_long behind ≡ false →
+      unit_history rule start later (went later now_done).told ≡ unit_history rule start log before
+  rests-minutes now_done later behind same spans stays none short =
+      short-history rule start later (went later now_done).told c.ended behind spans short none
+      ∙ same-minutes rule start log later sure same before (went later now_done).told c.ended stays (ended-alike rule start log later sure same before (went later now_done).told c.ended b c.tied.1)
+      ∙ sym (short-history rule start log before c.ended [] c.spans refl tt)
+
   -- it is found what was kept
   module _ (k : ℕ) (mark : IsMark first (all b) k) (low : All (λ i. i.minute ≤ k) b.sure) where
     abbrev found_later : RunLog
@@ -277,6 +289,12 @@ module _ (rule : Rule) (start : Start) (from first : ℕ) (done : List TraceSeco
         (take count found_later.breaks) goes f.0 (sym minutes-now ∙ f.1)
         (beyond-mark first (from / 60) ((from + length done) / 60) k (all b) f.0 c.early (subst (λ (is : List HistoryMinute). Rises (from / 60) is ((from + length done) / 60)) f.1 (rises from rule start log done c.order)) mark))
         c.tied.1
+
+    -- the history is as it was
+    pub found-minutes : unit_history rule start found_later (went found_later done).told ≡ unit_history rule start log before
+    found-minutes =
+        let stays = subst (λ (ts : List Told). Stays rule start before ts c.ended) (sym seconds-same) (stays-same rule start before c.ended) in
+        rests-minutes done found_later [] (kept-found log unfound k) (ap spans_of seconds-same ∙ c.spans) stays tt refl
 
     pub rest-found : Core rule start from first done found_later count next (Lit []) (found k b) []
     rest-found =

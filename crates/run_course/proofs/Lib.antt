@@ -9,4 +9,7 @@ pub mod Told
 pub mod Steps
 pub mod Within
 pub mod New
+pub mod Deciding
+pub mod Complete
+pub mod Staying
 pub mod Rows

@@ -1,5 +1,5 @@
 -- A log that grows by lines of one second: what it tells of the others, and where its cuts are.
-use Rattle.std.proofs.Common.{◌≡◌, ℕ, zero, suc, ◌+◌, ◌-◌, ◌<◌, ◌≤◌, Bool, true, false, cond, ◌||◌, ◌&&◌, Option, Some, None, List, [], ◌∷◌, ◌++◌, All, length, map, filter, take, drop, refl, ap, sym, subst, ◌∙◌, arith, nat_eq, is_some, append-nil}
+use Rattle.std.proofs.Common.{◌≡◌, ℕ, zero, suc, ◌+◌, ◌<◌, ◌≤◌, Bool, true, false, cond, ◌||◌, ◌&&◌, Option, Some, None, List, [], ◌∷◌, ◌++◌, All, length, map, filter, take, drop, refl, ap, sym, subst, ◌∙◌, arith, nat_eq, is_some, append-nil}
 use Rattle.std.specs.List.{AllByRecursion, list_any}
 use Rattle.std.proofs.lemmas.Bool.Decides.{nat_tests}
 use Rattle.std.proofs.lemmas.List.Elements.{All-nil, All-cons, filter-append}
@@ -10,8 +10,7 @@ use Rattle.trace_model.specs.Trace.{TraceSecond}
 use Rattle.log_model.specs.declared.lines.Break.{Break}
 use Rattle.log_model.specs.declared.lines.Break.TheVariants.{Cut, Tear}
 use Rattle.log_model.specs.declared.lines.Find.{Find}
-use Rattle.log_model.specs.declared.lines.Verdict.{Verdict}
-use Rattle.log_model.specs.Log.{RunLog, Phase, In, same_phase, phase_of, cut_of, cut_in, kept_after, tears_here, is_torn_in, found_in}
+use Rattle.log_model.specs.Log.{RunLog, Phase, In, same_phase, phase_of, cut_of, cut_in, kept_after, tears_here}
 use Rattle.log_model.specs.Causes.{second_of}
 use Rattle.log_model.specs.Same.{SameAt}
 use Rattle.log_model.specs.Spans.{AreInOrder}
@@ -20,9 +19,9 @@ use Rattle.log_model.proofs.Growth.{went-same}
 use Rattle.history_model.proofs.Filters.{take-drop}
 use Rattle.unit_course.specs.Lines.{log_of, cut_at, with_kept, found_from, tells_cut}
 use Rattle.unit_course.proofs.Lines.{cut-found, kept-known, take-front, tells-append, tells-front}
-use Rattle.run_course.specs.Moments.{and_break, finds_here}
+use Rattle.run_course.specs.Moments.{finds_here}
 use Rattle.run_course.specs.Followed.{IsBreakBefore, AreBefore}
-use Rattle.run_course.proofs.Lookups.{cut-by, kept-by, torn-by, found-by, break-more}
+use Rattle.run_course.proofs.Lookups.{cut-by, kept-by, torn-by, found-by}
 
 pub same-number : (u : ℕ) → nat_eq u u ≡ true
 same-number u = grind (arith, nat_tests)

@@ -1,5 +1,5 @@
 -- The moments of a second: lines of the log that come later change no earlier one, and an action more is one step more.
-use Rattle.std.proofs.Common.{◌≡◌, ◌⊎◌, ⊎_elim, ℕ, zero, suc, ◌+◌, ◌<◌, ◌≤◌, Bool, true, false, cond, not, Option, Some, None, List, [], ◌∷◌, ◌++◌, refl, ap, ◌∙◌, sym, arith, nat_lt, length, take, map, append-nil}
+use Rattle.std.proofs.Common.{◌≡◌, ⊎_elim, ℕ, suc, ◌+◌, ◌<◌, ◌≤◌, Bool, true, false, cond, not, Option, Some, None, List, [], ◌∷◌, ◌++◌, refl, ap, ◌∙◌, sym, arith, nat_lt, length, take, map, append-nil}
 use Rattle.std.specs.Prelude.{option_map, flat_map}
 use Rattle.std.specs.List.{list_any}
 use Rattle.std.proofs.lemmas.Bool.Decides.{nat_tests}
@@ -8,10 +8,9 @@ use Rattle.activity_codec.specs.declared.values.Slot.{Slot}
 use Rattle.activity_codec.specs.declared.values.Slot.TheVariants.{Driver, CoDriver}
 use Rattle.trace_model.specs.declared.Action.{Action}
 use Rattle.trace_model.specs.Trace.{TraceSecond}
-use Rattle.log_model.specs.declared.lines.SlotFault.{SlotFault}
 use Rattle.log_model.specs.declared.lines.Verdict.{Verdict}
 use Rattle.log_model.specs.Log.{RunLog, Phase, In, cut_in, is_torn_in, found_in, is_accepting}
-use Rattle.log_model.specs.Slots.{Slots, Sitting, in_slot, refusal}
+use Rattle.log_model.specs.Slots.{Sitting, in_slot, refusal}
 use Rattle.log_model.specs.Course.{Course, Visit, Before, Moved, begins, visits, leaves, with_slot, slot_told, both_told, acted, all_acted, moved_by, unmoved, answered, fresh}
 use Rattle.event_model.specs.Events.{course_by}
 use Rattle.run_course.specs.Moments.{SameUpTo, IsStill, LaterLinesChangeNoMoment, AnActionMoreIsActed, OneActionMore}

@@ -1,30 +1,24 @@
 -- The minutes that a second decides: one after another from the first that was not decided before, and over as it begins.
-use Rattle.std.proofs.Common.{◌≡◌, ℕ, zero, suc, ◌+◌, ◌-◌, ◌*◌, ◌/◌, ◌<◌, ◌≤◌, List, [], ◌∷◌, ◌++◌, All, length, map, refl, ap, sym, subst, ◌∙◌, arith}
-use Rattle.std.specs.Prelude.{max}
+use Rattle.std.proofs.Common.{◌≡◌, ℕ, zero, suc, ◌+◌, ◌-◌, ◌/◌, ◌<◌, ◌≤◌, List, [], ◌∷◌, ◌++◌, All, length, map, refl, ap, sym, subst, ◌∙◌, arith}
 use Rattle.std.specs.List.{AllByRecursion}
 use Rattle.std.proofs.lemmas.List.Elements.{All-nil, All-cons}
 use Rattle.minute_model.specs.declared.Rule.{Rule}
 use Rattle.minute_model.specs.declared.Minute.{Minute}
-use Rattle.minute_model.specs.Second.{minute_of}
 use Rattle.minute_model.specs.Span.{Span, count_from, ungiven_of, AreNumbered}
 use Rattle.minute_model.proofs.Counted.{decided-minutes}
 use Rattle.minute_model.proofs.Numbered.{numbered-parts}
 use Rattle.std.proofs.lemmas.List.{map-append}
-use Rattle.trace_model.specs.Trace.{TraceSecond}
-use Rattle.log_model.specs.Course.{Told, Went, went}
-use Rattle.log_model.specs.Spans.{spans_of, seconds_in, first_in, end_in, AreApart}
+use Rattle.log_model.specs.Course.{Told, went}
+use Rattle.log_model.specs.Spans.{seconds_in, first_in, end_in, AreApart}
 use Rattle.log_model.proofs.Spanning.{spanned, end-on}
-use Rattle.history_model.specs.Minutes.{HistoryMinute}
-use Rattle.history_model.specs.Presence.{Start}
-use Rattle.history_model.specs.History.{decided_of, minutes_after}
+use Rattle.history_model.specs.History.{decided_of}
 use Rattle.history_model.specs.Growth.{as_span}
 use Rattle.history_model.proofs.Deciding.{counted, span-settled, short-none}
 use Rattle.history_model.proofs.Growing.{apart-last}
 use Rattle.history_model.proofs.Stilled.{minutes-still}
 use Rattle.unit_course.specs.Turn.{span_at}
 use Rattle.unit_course.specs.Followed.{Lit, as_spans}
-use Rattle.run_course.specs.Followed.{Progress}
-use Rattle.run_course.specs.Seconds.{next_told, AreNew, DecidedMinutesAreNew}
+use Rattle.run_course.specs.Seconds.{next_told, DecidedMinutesAreNew}
 use Rattle.run_course.proofs.Alike.{span-before}
 use Rattle.run_course.proofs.Steps.{core-of, lit-parts, lit, spans-now, order-now}
 

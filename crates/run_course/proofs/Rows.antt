@@ -1,5 +1,5 @@
 -- Worked moments and a short run: what they come to, computed, and that the premises of the laws can be met.
-use Rattle.std.proofs.Common.{◌≡◌, ◌⊎◌, inl, inr, ℕ, ◌/◌, ◌<◌, ◌≤◌, Bool, true, false, Option, Some, None, List, [], ◌∷◌, ◌++◌, refl, ap, sym, ◌∙◌, arith}
+use Rattle.std.proofs.Common.{◌≡◌, inl, inr, ℕ, ◌≤◌, true, false, Option, Some, None, List, [], ◌∷◌, ◌++◌, refl, ap, sym, ◌∙◌, arith}
 use Rattle.std.proofs.lemmas.List.Elements.{All-nil}
 use Rattle.activity_codec.specs.declared.values.Slot.TheVariants.{Driver}
 use Rattle.trace_model.specs.declared.Card.{Card}
@@ -10,9 +10,9 @@ use Rattle.minute_model.specs.declared.Rule.TheVariants.{Original}
 use Rattle.minute_model.specs.declared.Minute.{Minute}
 use Rattle.log_model.specs.declared.lines.Break.TheVariants.{Cut}
 use Rattle.log_model.specs.declared.lines.Verdict.TheVariants.{Accepted}
-use Rattle.log_model.specs.Log.{RunLog, Phase, In, cut_in, is_torn_in, found_in}
+use Rattle.log_model.specs.Log.{RunLog, cut_in, is_torn_in, found_in}
 use Rattle.log_model.specs.Slots.{Slots}
-use Rattle.log_model.specs.Course.{Course, Told, Before, has_power, second_told, went}
+use Rattle.log_model.specs.Course.{Told, Before}
 use Rattle.event_model.specs.Events.{course_by}
 use Rattle.history_model.specs.Minutes.{HistoryMinute, card_history}
 use Rattle.history_model.specs.Presence.{Start, newest_minute, present_in as present_by_history}
@@ -20,13 +20,13 @@ use Rattle.history_model.specs.History.{decided_of}
 use Rattle.history_model.specs.Book.{not_begun, found}
 use Rattle.history_model.proofs.Deciding.{short-none}
 use Rattle.slot_machine.specs.Calls.{present_in}
-use Rattle.slot_machine.specs.Kept.{Kept, nothing_yet, put_in, taken, minute_ended}
+use Rattle.slot_machine.specs.Kept.{nothing_yet, put_in, taken, minute_ended}
 use Rattle.unit_course.specs.Followed.{Lit, Due}
 use Rattle.unit_course.proofs.Alike.{decided-empty}
 use Rattle.run_course.specs.Followed.{Progress, Followed}
-use Rattle.run_course.specs.Seconds.{GoesOnBy, next_told}
-use Rattle.run_course.specs.Presence.{IsNewest, present_at, SlotsTell}
-use Rattle.run_course.proofs.Presence.{nobody-sits, put-in, second-gone}
+use Rattle.run_course.specs.Seconds.{next_told}
+use Rattle.run_course.specs.Presence.{present_at, SlotsTell}
+use Rattle.run_course.proofs.Presence.{nobody-sits, put-in}
 use Rattle.run_course.proofs.Steps.{begins_run, power_finds, goes_on, off_cuts}
 
 -- cards that bring nothing

@@ -1,49 +1,45 @@
 -- THE STEPS of a run with cards, each from what is followed before it to what is followed behind it.
-use Rattle.std.proofs.Common.{◌≡◌, ◌⊎◌, inl, inr, ⊎_elim, ℕ, zero, suc, ◌+◌, ◌-◌, ◌%◌, ◌/◌, ◌<◌, ◌≤◌, Bool, true, false, cond, not, ◌&&◌, ◌||◌, nat_lt, Option, Some, None, List, [], ◌∷◌, ◌++◌, All, length, map, filter, take, nat_eq, is_some, refl, ap, sym, subst, ◌∙◌, arith, append_assoc, append-nil, length-append}
+use Rattle.std.proofs.Common.{◌≡◌, ◌⊎◌, inl, inr, ⊎_elim, ℕ, zero, suc, ◌+◌, ◌-◌, ◌%◌, ◌/◌, ◌<◌, ◌≤◌, Bool, true, false, cond, not, ◌&&◌, ◌||◌, nat_lt, Option, Some, None, List, [], ◌∷◌, ◌++◌, length, map, filter, take, nat_eq, is_some, refl, ap, sym, subst, ◌∙◌, arith, append_assoc, append-nil, length-append}
 use Rattle.std.specs.Prelude.{option_to_list, if◌then◌else◌}
 use Rattle.std.specs.List.{AllByRecursion}
 use Rattle.std.proofs.lemmas.Bool.Decides.{nat_tests}
-use Rattle.activity_codec.specs.declared.values.Slot.{Slot}
-use Rattle.activity_codec.specs.declared.values.Pick.{Pick}
 use Rattle.trace_model.specs.declared.Action.{Action}
 use Rattle.trace_model.specs.Trace.{TraceSecond, driven, dark}
 use Rattle.minute_model.specs.declared.Rule.{Rule}
 use Rattle.minute_model.specs.declared.Minute.{Minute}
-use Rattle.minute_model.specs.Second.{minute_of}
 use Rattle.minute_model.specs.Activity.{last}
-use Rattle.minute_model.specs.Span.{Span, begin, fed, AreNumbered}
+use Rattle.minute_model.specs.Span.{begin, fed, AreNumbered}
 use Rattle.minute_model.proofs.Ranges.{last-push}
 use Rattle.log_model.specs.declared.lines.Break.{Break}
-use Rattle.log_model.specs.declared.lines.Find.{Find}
 use Rattle.log_model.specs.declared.lines.Refused.{Refused}
 use Rattle.log_model.specs.Log.{RunLog, cut_in, kept_after, is_torn_in}
 use Rattle.log_model.specs.Course.{Told, Went, Before, has_power, second_told, before_next, went_on, went}
 use Rattle.log_model.specs.Spans.{spans_with, spans_of, seconds_in, first_in, end_in, AreInOrder, AreApart}
 use Rattle.log_model.proofs.Growth.{went-more}
-use Rattle.log_model.proofs.Spanning.{EndsAt, IsSpanned, spanned, spans-more, spans-new, spans-dark, order-parts}
+use Rattle.log_model.proofs.Spanning.{EndsAt, spanned, spans-more, spans-new, spans-dark, order-parts}
 use Rattle.history_model.specs.Minutes.{HistoryMinute}
 use Rattle.history_model.specs.Presence.{Start}
 use Rattle.history_model.specs.History.{decided_of, minutes_after, span_minutes, cut_second, any_long, unit_history, with_lost}
 use Rattle.history_model.specs.Growth.{as_span, settled_where, picking, closed_history}
-use Rattle.history_model.specs.Book.{Book, all, not_begun, found, IsMark}
+use Rattle.history_model.specs.Book.{Book, found}
 use Rattle.history_model.proofs.Closing.{minutes-parts}
 use Rattle.history_model.proofs.Deciding.{apart-ended, short-none, span-more}
 use Rattle.history_model.proofs.Growing.{apart-last}
 use Rattle.unit_course.specs.Turn.{cut_at_end, cut_last, begins_with, span_at}
 use Rattle.unit_course.specs.Lines.{cut_at, found_from, tells_cut}
-use Rattle.unit_course.specs.Followed.{Supply, Lit, Due, Lost, MayPower, MayFail, IsDark, going_on, as_spans, cuts_from}
+use Rattle.unit_course.specs.Followed.{Supply, Lit, Due, Lost, MayPower, MayFail, IsDark, as_spans, cuts_from}
 use Rattle.unit_course.proofs.Lines.{tells-here}
 use Rattle.unit_course.proofs.Alike.{decided-empty}
 use Rattle.unit_course.proofs.Parts.{order-behind}
 use Rattle.unit_course.proofs.Spans.{cut_spans, cut-spans-last, decided-cut, length-cut, cut-number, ends-last}
 use Rattle.run_course.specs.Moments.{and_break}
-use Rattle.run_course.specs.Followed.{Progress, Comes, IsGoing, IsLost, IsSupplied, IsLastOf, HadActions, AreBefore, IsEnded, Followed}
+use Rattle.run_course.specs.Followed.{Progress, Comes, IsGoing, IsLost, IsSupplied, IsLastOf, HadActions, AreBefore, Followed}
 use Rattle.run_course.specs.Seconds.{kept_all, broken_at, GoesOnBy, next_told, DecidedBy, ARunBegins, APowerOnFinds, APowerOnFails, ASecondGoesOn, ASecondBreaksOff, RulesSeeTheSecond, AMinuteStaysDark, AnOffLineIsDark, AnOffLineCuts}
 use Rattle.run_course.proofs.Lookups.{cut-by, kept-by, break-more}
-use Rattle.run_course.proofs.Logs.{same-number, went-later, kept-later, tells-later, front-later, within-later, went-refused, tells-none, breaks-front, tells-cut, lines-more, lines-on, lines-later, lines-found, breaks-push, finds-later, found_log}
+use Rattle.run_course.proofs.Logs.{same-number, went-later, kept-later, tells-later, front-later, within-later, went-refused, tells-none, breaks-front, tells-cut, lines-more, lines-on, lines-later, lines-found, breaks-push, found_log}
 use Rattle.run_course.proofs.Alike.{Stays, stays-same, stays-more, stays-instead, span-before}
-use Rattle.run_course.proofs.Core.{Core, IsShort, shifted, keeps-all, ends, lit-due, lost-due, due-lost, rests, found-told, rest-found}
-use Rattle.run_course.proofs.Told.{IsLitAs, lit-told, IsDarkAs, dark-told, told-lit, comes-power, lit-power, lit-starts, lost-comes, lost-dark, next-going, next-lost, next-dark, IsOff, next-off, off-comes, spans-lit, solid-push, solid-cut, cut-with, second-cut}
+use Rattle.run_course.proofs.Core.{Core, IsShort, shifted, shifted-short, waits, keeps-all, ends, lit-due, lost-due, due-lost, rests, rests-minutes, found-told, rest-found}
+use Rattle.run_course.proofs.Told.{IsLitAs, lit-told, dark-told, told-lit, comes-power, lit-power, lit-starts, lost-comes, lost-dark, next-going, next-lost, next-dark, IsOff, next-off, off-comes, spans-lit, solid-push, solid-cut, cut-with, second-cut}
 
 -- WHAT IS FOLLOWED, and its core
 abbrev pub core-of : (rule : Rule) (start : Start) (from first : ℕ) (done : List TraceSecond) (p : Progress) → Followed rule start from first done p → Core rule start from first done p.log p.unfound p.next p.supply p.book p.waiting
@@ -59,7 +55,7 @@ followed-by rule start from first done log unfound next begun s b w c lines powe
 with-supply : (rule : Rule) (start : Start) (from first : ℕ) (done : List TraceSecond) (p : Progress) (s : Supply) → p.supply ≡ s → Followed rule start from first done p → Followed rule start from first done (record p { supply = s })
 with-supply rule start from first done p s is f = subst (λ (s : Supply). Followed rule start from first done (record p { supply = s })) is f
 
-with-waiting : (rule : Rule) (start : Start) (from first : ℕ) (done : List TraceSecond) (p : Progress) (w : List HistoryMinute) → p.waiting ≡ w → Followed rule start from first done p → Followed rule start from first done (record p { waiting = w })
+pub with-waiting : (rule : Rule) (start : Start) (from first : ℕ) (done : List TraceSecond) (p : Progress) (w : List HistoryMinute) → p.waiting ≡ w → Followed rule start from first done p → Followed rule start from first done (record p { waiting = w })
 with-waiting rule start from first done p w is f = subst (λ (w : List HistoryMinute). Followed rule start from first done (record p { waiting = w })) is f
 
 cuts-bound : (s : Supply) (next : ℕ) → cuts_from s next ≤ next
@@ -93,7 +89,7 @@ early-second : (rule : Rule) (n : ℕ) (xs ys : List (List Told)) → AreEarly r
 early-second rule n [] ys h = h
 early-second rule n (x ∷ xs) ys h = early-second rule n xs ys h.1
 
-apart-front : (from until : ℕ) (spans : List (List Told)) (span : List Told) → AreApart from (spans ++ span ∷ []) until → AreApart from spans (first_in span)
+pub apart-front : (from until : ℕ) (spans : List (List Told)) (span : List Told) → AreApart from (spans ++ span ∷ []) until → AreApart from spans (first_in span)
 apart-front from until [] span h = h.1
 apart-front from until (x ∷ spans) span h = (h.0, h.1, h.2, apart-front (end_in x) until spans span h.3)
 
@@ -231,6 +227,11 @@ module _ (rule : Rule) (start : Start) (from first : ℕ) (done : List TraceSeco
                 none = decides.2 ∙ ap (minutes_after start ((went later done).told ++ t ∷ []) p.book.sure) none;
               })
 
+      -- where it is the first of its span the history is as it was
+      pub fed-short : IsShort rule span (span ++ t ∷ []) new → unit_history rule start later now ≡ unit_history rule start p.log (went p.log done).told
+      fed-short short = (shifted-short rule start from first done p.log p.unfound p.next span p.book c (done ++ s ∷ []) later (suc p.next) (span ++ t ∷ []) new order-now number-now front-now within-now kept-now spans-now (solid-push span t)
+          (stays-now c.ended lit.number (early-first rule ((from + length done) / 60) c.ended (as_spans span) early-ended)) on which short).0
+
       -- its minutes wait for their keeping
       pub feeds : Core rule start from first (done ++ s ∷ []) later p.unfound (suc p.next) (Lit (span ++ t ∷ [])) p.book new
       feeds = shifted rule start from first done p.log p.unfound p.next span p.book c (done ++ s ∷ []) later (suc p.next) (span ++ t ∷ []) new order-now number-now front-now within-now kept-now spans-now (solid-push span t)
@@ -292,7 +293,7 @@ breaks_off rule start from first done p g span is none s later by begun cut new 
 
 -- FOR THE RULES OF MINUTES
 -- the span that goes on ends with the number of the next second
-span-end : (log : RunLog) (from : ℕ) (done : List TraceSecond) (ended : List (List Told)) (t : Told) (span : List Told) (next : ℕ) → AreInOrder from done → next ≡ from + length done →
+pub span-end : (log : RunLog) (from : ℕ) (done : List TraceSecond) (ended : List (List Told)) (t : Told) (span : List Told) (next : ℕ) → AreInOrder from done → next ≡ from + length done →
     (went log done).before.running ≡ true → spans_of (went log done).told ≡ ended ++ (t ∷ span) ∷ [] → end_in (t ∷ span) ≡ next
 span-end log from done ended t span next order number going are =
     let whole = spanned log from done order in
@@ -331,10 +332,10 @@ rules_see rule start from first done p g span is s later by =
         span-more rule (x ∷ xs) (next_told later done s) (omega arith) ((lit-told later (went later done).before s power).number ∙ by.number ∙ sym end)
 
 -- POWER IS BACK
-due-core : (rule : Rule) (start : Start) (from first : ℕ) (done : List TraceSecond) (p : Progress) → Followed rule start from first done (record p { supply = Due }) → Core rule start from first done p.log p.unfound p.next Due p.book p.waiting
+pub due-core : (rule : Rule) (start : Start) (from first : ℕ) (done : List TraceSecond) (p : Progress) → Followed rule start from first done (record p { supply = Due }) → Core rule start from first done p.log p.unfound p.next Due p.book p.waiting
 due-core rule start from first done p f = core-of rule start from first done (record p { supply = Due }) f
 
-lost-core : (rule : Rule) (start : Start) (from first : ℕ) (done : List TraceSecond) (p : Progress) → Followed rule start from first done (record p { supply = Lost }) → Core rule start from first done p.log p.unfound p.next Due p.book p.waiting
+pub lost-core : (rule : Rule) (start : Start) (from first : ℕ) (done : List TraceSecond) (p : Progress) → Followed rule start from first done (record p { supply = Lost }) → Core rule start from first done p.log p.unfound p.next Due p.book p.waiting
 lost-core rule start from first done p f = lost-due rule start from first done p.log p.unfound p.next p.book p.waiting (core-of rule start from first done (record p { supply = Lost }) f)
 
 pub power_finds : APowerOnFinds
@@ -356,6 +357,25 @@ power_finds rule start from first done p g may k mark low = by p.supply may g
     by Lost may f = at (lost-core rule start from first done p f) f.lines (lost-comes (went p.log done).before p.next f.power may)
 
 -- A POWER-ON FAILS
+-- what the second with which power came adds
+pub comes-adds : (rule : Rule) (start : Start) (from first : ℕ) (done : List TraceSecond) (p : Progress) (order : AreInOrder from done) (next : p.next ≡ from + length done) (within : p.unfound ≤ length p.log.breaks) (s : TraceSecond) (later : RunLog) (by : GoesOnBy p later s)
+    (c : Core rule start from first done p.log p.unfound p.next Due p.book []) → Comes (went p.log done).before p.next →
+    (spans_of (went later (done ++ s ∷ [])).told ≡ spans_of (went p.log done).told ++ (next_told later done s ∷ []) ∷ [])
+    × (unit_history rule start later (went later (done ++ s ∷ [])).told ≡ unit_history rule start p.log (went p.log done).told)
+comes-adds rule start from first done p order next within s later by c comes =
+    let t : Told = next_told later done s in
+    let same = went-same_ rule start from first done p order next within s later by in
+    let power = subst (λ (w : Went). has_power w.before s ≡ true) (sym same) (comes-power (went p.log done).before s p.next comes by.number by.given) in
+    let lit_ = lit-told later (went later done).before s power in
+    let starts : t.starts ≡ true = lit_.starts ∙ ap (λ (w : Went). not w.before.running) same ∙ ap not comes.running in
+    let spans = ap spans_of (now-told rule start from first done p order next within s later by) ∙ spans-more (went p.log done).told t ∙ spans-new (spans_of (went p.log done).told) t lit_.lit starts in
+    let early = early-first rule ((from + length done) / 60) c.ended [] (early-spans rule start from first done p order next within s later by c.ended [] c.spans) in (
+      spans,
+      rests-minutes rule start from first done p.log p.unfound p.next p.book [] c (done ++ s ∷ []) later ((t ∷ []) ∷ []) (kept-now rule start from first done p order next within s later by)
+          (spans ∙ ap (λ (ss : List (List Told)). ss ++ (t ∷ []) ∷ []) (c.spans ∙ append-nil c.ended))
+          (stays-now rule start from first done p order next within s later by c.ended lit_.number early) (short-none rule t, tt) refl,
+    )
+
 pub power_fails : APowerOnFails
 power_fails rule start from first done p g may none s later by begun cut = at_supply p.supply may (with-waiting rule start from first done p [] none g)
   where
@@ -583,7 +603,7 @@ module _ (rule : Rule) (start : Start) (from first : ℕ) (done : List TraceSeco
       ap (went cut_log) h.are ∙ went-more cut_log h.before s ∙ ap (λ (w : Went). went_on cut_log w s) front-same
       ∙ ap (λ (y : Told). record { told = front.told ++ y ∷ []; before = before_next front.before y }) x-cut
 
-  spans-cut : spans_of (went cut_log done).told ≡ f.ended ++ cut_last (t ∷ span) ∷ []
+  pub spans-cut : spans_of (went cut_log done).told ≡ f.ended ++ cut_last (t ∷ span) ∷ []
   spans-cut =
       ap (λ (w : Went). spans_of w.told) cut-is ∙ spans-more front.told (cut_at_end x) ∙ cut-with (spans_of front.told) x lit-uncut.0
       ∙ ap cut_spans (sym (spans-more front.told x) ∙ sym (ap (λ (w : Went). spans_of w.told) told-is) ∙ f.spans)
@@ -638,6 +658,21 @@ module _ (rule : Rule) (start : Start) (from first : ℕ) (done : List TraceSeco
       shifted rule start from first done p.log p.unfound p.next (t ∷ span) p.book (core-of rule start from first done (record p { supply = Lit (t ∷ span); waiting = [] }) f) done cut_log p.next (cut_last (t ∷ span)) []
       f.order f.next front-cut within-cut (kept-later p.log cut_log (p.next - 1) (cut ∷ []) refl (refl, tt) [] finds-same tt p.unfound)
       spans-cut (solid-cut t span) stays-ended (on-cut (closed_history rule start p.log (went p.log done).told f.ended)) which-cut
+
+  -- the history is as it was
+  pub cut-history : unit_history rule start cut_log (went cut_log done).told ≡ unit_history rule start p.log (went p.log done).told
+  cut-history = ⊎_elim
+      (λ long.
+      waits rule start from first done cut_log p.unfound p.next (cut_last (t ∷ span)) (solid-cut t span) p.book [] cut-core long
+      ∙ sym (waits rule start from first done p.log p.unfound p.next (t ∷ span) refl p.book [] (core-of rule start from first done (record p { supply = Lit (t ∷ span); waiting = [] }) f) (sym (ap (λ (k : ℕ). nat_lt 1 k) (length-cut (t ∷ span))) ∙ long)))
+      (λ short. (shifted-short rule start from first done p.log p.unfound p.next (t ∷ span) p.book (core-of rule start from first done (record p { supply = Lit (t ∷ span); waiting = [] }) f) done cut_log p.next (cut_last (t ∷ span)) []
+      f.order f.next front-cut within-cut (kept-later p.log cut_log (p.next - 1) (cut ∷ []) refl (refl, tt) [] finds-same tt p.unfound)
+      spans-cut (solid-cut t span) stays-ended (on-cut (closed_history rule start p.log (went p.log done).told f.ended)) which-cut short).0)
+      which-cut
+
+  -- the seconds so far but the last, and that
+  pub cut-parts : (front_ : List Told) × (x_ : Told) × ((went p.log done).told ≡ front_ ++ x_ ∷ []) × ((went cut_log done).told ≡ front_ ++ cut_at_end x_ ∷ [])
+  cut-parts = (front.told, x, ap (λ (w : Went). w.told) told-is, ap (λ (w : Went). w.told) cut-is)
 
   pub cut-ends : Core rule start from first done cut_log p.unfound p.next Due p.book []
   cut-ends =

@@ -4,7 +4,6 @@ use Rattle.std.specs.Prelude.{option_to_list}
 use Rattle.std.specs.List.{AllByRecursion}
 use Rattle.std.proofs.lemmas.List.Elements.{Contains-push, Contains-append_left}
 use Rattle.minute_model.specs.declared.Rule.{Rule}
-use Rattle.minute_model.specs.declared.Minute.{Minute}
 use Rattle.minute_model.specs.Activity.{last}
 use Rattle.log_model.specs.declared.lines.Break.{Break}
 use Rattle.log_model.specs.Log.{RunLog, kept_after}
@@ -19,7 +18,7 @@ use Rattle.history_model.proofs.Books.{all-none, up_to-whole}
 use Rattle.history_model.proofs.Filters.{all-front}
 use Rattle.history_model.proofs.BySeconds.{open-history, closed-history, closed-lost}
 use Rattle.history_model.proofs.Following.{follows-limit}
-use Rattle.unit_course.specs.Lines.{tells_cut, found_from}
+use Rattle.unit_course.specs.Lines.{tells_cut}
 use Rattle.unit_course.specs.Followed.{IsKnown, closed_lost}
 use Rattle.unit_course.proofs.Lines.{kept-now, tells-front, tells-behind}
 use Rattle.unit_course.proofs.Alike.{Alike, nothing-alike}

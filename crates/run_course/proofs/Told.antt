@@ -1,15 +1,13 @@
 -- How one second went by a log: with power, without, and where its last second turns out to be a cut's.
-use Rattle.std.proofs.Common.{◌≡◌, ℕ, zero, suc, ◌+◌, ◌%◌, ◌<◌, ◌≤◌, Bool, true, false, cond, not, ◌&&◌, ◌||◌, Option, Some, None, List, [], ◌∷◌, ◌++◌, length, fold, refl, ap, sym, subst, ◌∙◌, arith, nat_eq, nat_lt, is_some, append-nil}
-use Rattle.std.specs.List.{AllByRecursion}
+use Rattle.std.proofs.Common.{◌≡◌, ℕ, ◌+◌, ◌%◌, ◌<◌, ◌≤◌, Bool, true, false, not, ◌&&◌, ◌||◌, Option, Some, None, List, [], ◌∷◌, ◌++◌, length, refl, ap, sym, ◌∙◌, arith, nat_eq, nat_lt, is_some, append-nil}
 use Rattle.std.proofs.lemmas.Bool.Decides.{nat_tests}
 use Rattle.activity_codec.specs.declared.values.Slot.{Slot}
 use Rattle.activity_codec.specs.declared.values.Slot.TheVariants.{Driver, CoDriver}
 use Rattle.trace_model.specs.declared.Action.{Action}
 use Rattle.trace_model.specs.Trace.{TraceSecond}
-use Rattle.minute_model.specs.declared.Rule.{Rule}
 use Rattle.log_model.specs.Log.{RunLog, Phase, In, Keeping, cut_in, is_torn_in, found_in}
 use Rattle.log_model.specs.Slots.{Slots, refusal}
-use Rattle.log_model.specs.Course.{Course, Told, Before, Moved, moved_by, unmoved, answered, begins, slot_told, both_told, acted, all_acted, fresh, cut_told, lit_course, dark_course, has_power, second_told, before_next}
+use Rattle.log_model.specs.Course.{Course, Told, Before, Moved, moved_by, unmoved, answered, begins, slot_told, both_told, acted, all_acted, fresh, cut_told, lit_course, has_power, second_told, before_next}
 use Rattle.log_model.specs.Spans.{go_on, spans_with}
 use Rattle.log_model.proofs.Spanning.{spans-new, spans-on}
 use Rattle.history_model.proofs.Growing.{go_on-last}

@@ -1,5 +1,5 @@
 -- The moments of a second: where each stands, and what a tear, a find or a cut that is told now makes of it.
-use Rattle.std.proofs.Common.{◌≡◌, ◌⊎◌, inl, inr, ℕ, ◌+◌, ◌/◌, ◌≤◌, Bool, true, false, cond, not, ◌||◌, nat_lt, Option, Some, None, List, [], ◌∷◌, ◌++◌, length, map, take, is_some, refl, ap, sym, subst, ◌∙◌, arith, append-nil, append_assoc}
+use Rattle.std.proofs.Common.{◌≡◌, ◌⊎◌, inl, inr, ℕ, ◌+◌, ◌/◌, ◌≤◌, Bool, true, false, cond, not, ◌||◌, nat_lt, Option, Some, None, List, [], ◌∷◌, ◌++◌, length, map, take, is_some, refl, ap, sym, subst, ◌∙◌, arith, append-nil}
 use Rattle.std.specs.Prelude.{option_map, flat_map}
 use Rattle.std.specs.List.{list_any}
 use Rattle.std.proofs.lemmas.Bool.Decides.{nat_tests}
@@ -11,15 +11,14 @@ use Rattle.trace_model.specs.declared.Action.{Action}
 use Rattle.trace_model.specs.Trace.{TraceSecond}
 use Rattle.log_model.specs.declared.lines.Verdict.{Verdict}
 use Rattle.log_model.specs.Log.{RunLog, Phase, In, Keeping, cut_in, is_torn_in, found_in, is_accepting}
-use Rattle.log_model.specs.Slots.{Slots, Sitting, same_card, in_slot, other_slot, refusal}
+use Rattle.log_model.specs.Slots.{Slots, Sitting, same_card, in_slot, refusal}
 use Rattle.log_model.specs.Course.{Told, Course, Visit, Before, Moved, begins, visits, card_in, leaves, with_slot, slot_told, both_told, acted, all_acted, moved_by, unmoved, answered, fresh, is_settling, cut_told, lit_course, has_power, second_told}
 use Rattle.event_model.specs.Events.{course_by}
 use Rattle.history_model.specs.Minutes.{HistoryMinute}
 use Rattle.history_model.specs.Presence.{Start}
 use Rattle.slot_machine.specs.Kept.{Kept, put_in, taken}
-use Rattle.run_course.specs.Moments.{SameUpTo}
 use Rattle.run_course.specs.Presence.{has_left, SlotsTell}
-use Rattle.run_course.specs.Within.{ASecondBegins, AnActionIsAMoment, ASecondEnds, not_begun, ACutEndsTheSecond, IsTornFrom, TearsAt, ATearIsTold, IsFoundOf, FindsAt, AFindIsTold, SlotsTellATear, SlotsTellAnAcceptance}
+use Rattle.run_course.specs.Within.{ASecondBegins, AnActionIsAMoment, ASecondEnds, not_begun, ACutEndsTheSecond, IsTornFrom, ATearIsTold, IsFoundOf, AFindIsTold, SlotsTellATear, SlotsTellAnAcceptance}
 use Rattle.run_course.proofs.Moments.{all-acted_parts, action-more, course-same}
 use Rattle.run_course.proofs.Presence.{put-in, taken-out}
 

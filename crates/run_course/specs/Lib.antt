@@ -3,3 +3,4 @@ pub mod Presence
 pub mod Followed
 pub mod Seconds
 pub mod Within
+pub mod Complete

@@ -1,5 +1,5 @@
 -- Who is present in the minutes of a run: what the slots tell of it at a moment, and what each step of a run leaves of that (profile).
-use Rattle.std.specs.Prelude.{◌≡◌, ◌⊎◌, ◌↔◌, ℕ, ◌+◌, ◌/◌, ◌<◌, ◌≤◌, Bool, true, false, ◌||◌, Option, Some, None, List, [], ◌∷◌, ◌++◌, All, is_some}
+use Rattle.std.specs.Prelude.{◌≡◌, ◌⊎◌, ◌↔◌, ℕ, ◌+◌, ◌/◌, ◌<◌, ◌≤◌, Bool, true, false, ◌||◌, Option, Some, None, List, [], ◌∷◌, ◌++◌, All}
 use Rattle.std.specs.List.{list_any}
 use Rattle.activity_codec.specs.declared.values.Slot.{Slot}
 use Rattle.activity_codec.specs.declared.values.Slot.TheVariants.{Driver, CoDriver}
@@ -11,7 +11,7 @@ use Rattle.history_model.specs.Presence.{Start, card_start, newest_minute, in_mi
 use Rattle.slot_machine.specs.declared.seats.Seat.{Seat}
 use Rattle.slot_machine.specs.declared.seats.Ended.{Ended}
 use Rattle.slot_machine.specs.declared.seats.Present.{Present}
-use Rattle.slot_machine.specs.Calls.{Agrees, present_in, seat_in, is_card}
+use Rattle.slot_machine.specs.Calls.{Agrees, present_in, is_card}
 use Rattle.unit_course.specs.Turn.{cut_at_end}
 use Rattle.slot_machine.specs.Kept.{Kept, IsFree, KnowsNewest, left_in, nothing_yet, put_in, taken, cut_off, minute_ended}
 

@@ -1,6 +1,7 @@
 ghost use Rattle.run_course.specs.Moments.{ABreakMoreIsSeen, AFindMoreIsSeen, ARefusalMoreIsNotSeen, LaterLinesChangeNoMoment, AnActionMoreIsActed, OneActionMore};
 ghost use Rattle.run_course.specs.Seconds.{ARunBegins, APowerOnFinds, APowerOnFails, ASecondGoesOn, ASecondBreaksOff, RulesSeeTheSecond, DecidedMinutesAreNew, AMinuteStaysDark, AnOffLineIsDark, AnOffLineCuts};
 ghost use Rattle.run_course.specs.Within.{ASecondBegins, AnActionIsAMoment, ASecondEnds, ACutEndsTheSecond, ATearIsTold, AFindIsTold, SlotsTellATear, SlotsTellAnAcceptance};
+ghost use Rattle.run_course.specs.Complete.{NothingIsDecidedYet, ASecondIsAcknowledged, PowerAloneDecidesNothing, FoundStaysComplete, AFailureStaysComplete, RefusalsStayComplete, ACutStaysComplete, MoreMarksStay};
 ghost use Rattle.run_course.specs.Presence.{SlotsAgree, SlotsTellWhoIsPresent, NobodySits, ACardIsPutIn, ACardIsTakenOut, PowerIsLost, ASecondHasGone, TheLastSecondIsCut, TheMinuteGoesOn, AMinuteEnds, TimePasses, MinutesAreKept, WhatWasKeptIsFound};
 
 /// A run begins with nothing kept.
@@ -186,4 +187,44 @@ pub fn slots_tell_a_tear()
 /// What they tell behind an acceptance.
 pub fn slots_tell_an_acceptance()
     ensures { SlotsTellAnAcceptance }
+{}
+
+/// Nothing is to be acknowledged before the first second.
+pub fn nothing_is_decided_yet()
+    ensures { NothingIsDecidedYet }
+{}
+
+/// One second more with power, whose minutes are acknowledged but where a break came in between.
+pub fn a_second_is_acknowledged()
+    ensures { ASecondIsAcknowledged }
+{}
+
+/// A second without power, or with which power begins, asks no more to be acknowledged.
+pub fn power_alone_decides_nothing()
+    ensures { PowerAloneDecidesNothing }
+{}
+
+/// More marks take nothing away.
+pub fn more_marks_stay()
+    ensures { MoreMarksStay }
+{}
+
+/// At a power-on that finds what was kept, nothing more is to be acknowledged.
+pub fn found_stays_complete()
+    ensures { FoundStaysComplete }
+{}
+
+/// Nor at one that fails.
+pub fn a_failure_stays_complete()
+    ensures { AFailureStaysComplete }
+{}
+
+/// Refusals are nothing to it.
+pub fn refusals_stay_complete()
+    ensures { RefusalsStayComplete }
+{}
+
+/// Nor where the last second turns out to be a cut's.
+pub fn a_cut_stays_complete()
+    ensures { ACutStaysComplete }
 {}

@@ -1,5 +1,5 @@
 -- What the history of a run has beyond its book is later than what the unit has kept.
-use Rattle.std.proofs.Common.{◌≡◌, inl, inr, ℕ, ◌+◌, ◌/◌, ◌<◌, ◌≤◌, List, [], ◌∷◌, ◌++◌, All, Contains, subst, arith, length}
+use Rattle.std.proofs.Common.{inl, inr, ℕ, ◌+◌, ◌/◌, ◌<◌, ◌≤◌, List, [], ◌∷◌, ◌++◌, All, subst, arith, length}
 use Rattle.std.proofs.lemmas.List.Elements.{All-nil, All-cons, All-weaker, All-contains}
 use Rattle.tach_media.specs.Medium.{State}
 use Rattle.log_model.specs.Spans.{AreInOrder}

@@ -1,9 +1,9 @@
 -- What is carried of a card gives its part of the theorem.
-use Rattle.std.proofs.Common.{◌≡◌, ⊎_elim, ℕ, ◌<◌, ◌≤◌, Bool, true, false, List, [], ◌∷◌, ◌++◌, All, Contains, refl, ap, subst, ◌∙◌, sym, arith, nat_le, append_assoc}
+use Rattle.std.proofs.Common.{◌≡◌, ⊎_elim, ℕ, suc, max, ◌<◌, ◌≤◌, Bool, true, false, List, [], ◌++◌, All, Contains, refl, ap, subst, ◌∙◌, sym, arith, nat_le, append_assoc}
 use Rattle.std.specs.Prelude.{option_to_list}
 use Rattle.std.proofs.lemmas.Bool.Decides.{nat_tests}
 use Rattle.std.proofs.lemmas.List.{append-nil}
-use Rattle.std.proofs.lemmas.List.Elements.{All-nil, All-head, All-weaker, All-append, All-contains, filter-append, Contains-append_left, Contains-append_right, Contains-append_cases}
+use Rattle.std.proofs.lemmas.List.Elements.{All-nil, All-weaker, All-append, All-contains, filter-append, Contains-append_left, Contains-append_right, Contains-append_cases}
 use Rattle.activity_codec.specs.declared.entries.Entry.{Entry}
 use Rattle.trace_model.specs.declared.Card.{Card}
 use Rattle.trace_model.specs.declared.Card.TheVariants.{A, B}
@@ -12,16 +12,15 @@ use Rattle.log_model.specs.declared.lines.Mark.{Mark}
 use Rattle.card_model.specs.Days.{AreDays}
 use Rattle.card_retention.specs.Retains.{Rise}
 use Rattle.card_image.specs.Fields.{card_days}
-use Rattle.card_image.specs.View.{Held}
 use Rattle.card_image.specs.Own.{own_view, own_sizes, own_number, KeepsFrom, KeepsOf}
 use Rattle.history_model.specs.Minutes.{HistoryMinute, card_history, up_to}
 use Rattle.history_model.specs.Presence.{CardStart, card_start}
 use Rattle.history_model.specs.Book.{Book, all}
 use Rattle.history_model.proofs.Books.{history-append, up_to-all, up_to-one}
 use Rattle.history_model.proofs.Filters.{filter-none, all-front, all-back}
-use Rattle.joint_rule.specs.Views.{UnitView, owed, next_of}
+use Rattle.joint_rule.specs.Views.{UnitView, owed, newest_with}
 use Rattle.joint_rule.specs.Device.{Seen}
-use Rattle.joint_rule.specs.Rules.{Standing, Meets, Had, CardDark, IsRepaired as OwesLater}
+use Rattle.joint_rule.specs.Rules.{Standing, since, comes_from, Meets, Had, CardDark, IsRepaired as OwesLater}
 use Rattle.joint_rule.specs.Marked.{of_card}
 use Rattle.joint_rule.proofs.Pairs.{owed-above}
 use Rattle.joint_rule.proofs.Holding.{rise-back}
@@ -30,7 +29,7 @@ use Rattle.joint_rule.proofs.Overwriting.{owed-entries_count}
 use Rattle.safety_model.specs.Recording.{Recording, card_image, brought, start_of, history_of, expected_of, told_of, unit_seen}
 use Rattle.safety_model.specs.Cards.{CardShows, CardMarkHolds, acceptances, was_kept, IsRepaired, expected_to}
 use Rattle.run_rule.specs.Found.{CardFound, AnyKept}
-use Rattle.run_rule.specs.Cards.{brought_by, counted_to, StringHolds, MayGoOn, IsCardHeld}
+use Rattle.run_rule.specs.Cards.{brought_by, counted_to, StringHolds, StringGoesOn, IsCardHeld}
 use Rattle.run_rule.specs.Between.{AreBrought}
 use Rattle.run_rule.proofs.Entries.{all-by, rise-front, counted-front, counted-split, contains-counted}
 use Rattle.run_rule.proofs.Present.{bound, history-later, owed-beyond}
@@ -42,13 +41,6 @@ at_start r c clock = record { image = card_image r c; start = brought r c; numbe
 pub started : (r : Recording) (c : Card) → card_start (start_of r) c ≡ brought r c
 started r A = refl
 started r B = refl
-
-keeps-later : (image : List ℕ) (a b : ℕ) (all : List Entry) (held : Held) → a ≤ b → KeepsFrom image a all held → KeepsFrom image b all held
-keeps-later image a b all held le k = record { more = k.more; begins = k.begins; keeps = λ n h. k.keeps n (omega (arith, h, le)) }
-
-from-low : (from : ℕ) (es : List Entry) → All (λ e. from ≤ e.minute) es → from ≤ next_of from es
-from-low from [] each = omega arith
-from-low from (e ∷ es) each = All-head (λ (d : Entry). from ≤ d.minute) e es each
 
 is-false : (b : Bool) → (b ≡ true → ⊥) → b ≡ false
 is-false true fails = absurd (fails refl)
@@ -197,15 +189,14 @@ module _ (r : Recording) (c : Card) (clock : ℕ) (b : Book) (card : State) (res
         ∙ ap (λ (is : List HistoryMinute). up_to v.last (all b) ++ is) (filter-none (λ (i : HistoryMinute). nat_le i.minute v.last) rest (All-weaker (λ (i : HistoryMinute). v.last < i.minute) (λ i. nat_le i.minute v.last ≡ false) (λ i lt. beyond_it v.last i.minute lt) rest later))
         ∙ append-nil (up_to v.last (all b))
 
-    pub rest-agrees : AreDays 0 (card_days (own_sizes (card_image r c)) (card_image r c)) → All (λ i. v.last < i.minute) rest → MayGoOn (at_start r c clock) c b due x →
+    pub rest-agrees : AreDays 0 (card_days (own_sizes (card_image r c)) (card_image r c)) → All (λ i. v.last < i.minute) rest → StringGoesOn (at_start r c clock) c b z due x →
         KeepsOf (card_image r c) (expected_to r c v.last) (record (own_view x).held { entries = (own_view x).held.entries ++ due })
     rest-agrees are later g =
-        let kept : KeepsFrom (card_image r c) (next_of g.from due) (entries ++ m.more) (own_view x).held =
-        keeps-later (card_image r c) g.from (next_of g.from due) (entries ++ m.more) (own_view x).held (from-low g.from due g.later)
-        (subst (λ (zs : List Entry). KeepsFrom (card_image r c) g.from (entries ++ zs) (own_view x).held) counted g.kept) in
+        let kept : KeepsFrom (card_image r c) (comes_from (brought r c) z due (own_view x)) (entries ++ m.more) (own_view x).held =
+        subst (λ (zs : List Entry). KeepsFrom (card_image r c) (comes_from (brought r c) z due (own_view x)) (entries ++ zs) (own_view x).held) counted g in
         let rises : Rise due = rise-front due parted.extra (rise-back m.more (due ++ parted.extra) (subst Rise parted.are string.rises)) in
         let late : All (λ e. (brought r c).word < e.minute) due =
         all-front (λ (e : Entry). (brought r c).word < e.minute) due parted.extra (all-back (λ (e : Entry). (brought r c).word < e.minute) m.more (due ++ parted.extra) (subst (All (λ (e : Entry). (brought r c).word < e.minute)) parted.are late-all)) in
         subst (λ (zs : List Entry). KeepsOf (card_image r c) (entries ++ zs) (record (own_view x).held { entries = (own_view x).held.entries ++ due }))
         (m.whole ∙ ap (λ (is : List HistoryMinute). owes ++ card_history c is) (sym (reached later)))
-        (owed-entries_count (card_image r c) (brought r c) are refl refl refl g.from (own_view x).mark m.more due (own_view x).held m.mark m.had (owed-above c v (own_view x)) late rises kept)
+        (owed-entries_count (card_image r c) (brought r c) are refl refl refl (suc (max (brought r c).word (since z (newest_with (own_view x) due)))) (own_view x).mark m.more due (own_view x).held m.mark m.had (owed-above c v (own_view x)) late rises kept)

@@ -29,7 +29,7 @@ use Rattle.safety_model.specs.Safe.{Devices, card_of, IsSafe}
 use Rattle.unit_rule.specs.Rule.{Started}
 use Rattle.unit_rule.proofs.Safety.{unit-safe}
 use Rattle.run_rule.specs.Found.{CardFound, Found, found_of, unit_seen, AnyKept}
-use Rattle.run_rule.specs.Cards.{StringHolds, MayGoOn, CardWaits, IsCardHeld, counted_to, brought_by}
+use Rattle.run_rule.specs.Cards.{StringHolds, StringGoesOn, CardWaits, IsCardHeld, counted_to, brought_by}
 use Rattle.run_rule.specs.Between.{Carried, IsLit, IsCarried, IsFound, IsFollowed, AreBrought, AreUntouched}
 use Rattle.run_rule.proofs.CardEnd.{at_start, shows, marked, repaired, rest-agrees, started as started-start}
 use Rattle.run_rule.proofs.Beyond.{follows-later}
@@ -143,7 +143,7 @@ module _ (r : Recording) (f : Found) (w : Carried) (began now : Devices) (found 
           subst (λ (es : List Entry). KeepsOf (card_image r c) (expected_to r c (last_kept u)) (record (own_view x).held { entries = (own_view x).held.entries ++ es })) (same-owed u (own_view x))
           (subst (λ (k : ℕ). KeepsOf (card_image r c) (expected_to r c k) (record (own_view x).held { entries = (own_view x).held.entries ++ owed c (view u) (own_view x) })) (last-of f.card_a.number f.card_b.number u)
           (rest-agrees r c clock w.book card rest whole string (w.standing c) (view u) x meets had (unit-shows u on).sure (found.days c valid) rest-later
-          (subst (λ (g : CardFound). MayGoOn g c w.book (owed c (view u) (own_view x)) x) same (waits.comes u x on there))))
+          (subst (λ (g : CardFound). StringGoesOn g c w.book (w.standing c) (owed c (view u) (own_view x)) x) same (waits.comes u x on there))))
 
       -- the book's minutes rise behind the unit's last-kept one at the start
       rising : Rising (last_kept r.unit) (all w.book)

@@ -6,6 +6,8 @@ use Rattle.std.proofs.lemmas.List.Elements.{All-cons, All-nil, All-weaker, All-c
 use Rattle.activity_codec.specs.declared.entries.Entry.{Entry}
 use Rattle.history_model.proofs.Filters.{filter-none, filter-whole}
 use Rattle.card_retention.specs.Retains.{Rise}
+use Rattle.card_image.specs.View.{Held}
+use Rattle.card_image.specs.Own.{KeepsFrom}
 use Rattle.run_rule.specs.Cards.{counted_to}
 
 within : (k m : ℕ) → m ≤ k → nat_le m k ≡ true
@@ -73,3 +75,7 @@ contains-counted k (d ∷ es) e le at = ⊎_elim
     here : d ≡ e → (b : Bool) → nat_le d.minute k ≡ b → Contains (cond b (d ∷ counted_to k es) (counted_to k es)) e
     here is true t = Contains-append_left (d ∷ []) (counted_to k es) e (0, omega arith, is)
     here is false t = absurd (let le' : d.minute ≤ k = subst (λ (x : Entry). x.minute ≤ k) (sym is) le in let passes = within k d.minute le' in grind (arith, passes, t))
+
+-- a string that goes on from a minute goes on from a later one
+pub keeps-later : (image : List ℕ) (a b : ℕ) (all : List Entry) (held : Held) → a ≤ b → KeepsFrom image a all held → KeepsFrom image b all held
+keeps-later image a b all held le k = record { more = k.more; begins = k.begins; keeps = λ n h. k.keeps n (omega (arith, h, le)) }

@@ -7,3 +7,4 @@ pub mod End
 pub mod OwedRises
 pub mod Opening
 pub mod Beyond
+pub mod Waiting

@@ -19,7 +19,7 @@ use Rattle.history_model.specs.Book.{not_begun}
 use Rattle.history_model.proofs.Books.{history-none}
 use Rattle.history_model.proofs.Filters.{filter-none}
 use Rattle.joint_rule.specs.Views.{UnitView, unit_view, owed}
-use Rattle.joint_rule.specs.Rules.{Brings, CardDark, Out}
+use Rattle.joint_rule.specs.Rules.{Brings, CardDark, Out, comes_from}
 use Rattle.joint_rule.specs.Marked.{of_card}
 use Rattle.joint_rule.proofs.Brought.{brought-newest, brought-bound}
 use Rattle.joint_rule.proofs.Pairs.{owed-above}
@@ -31,9 +31,10 @@ use Rattle.unit_rule.specs.Rule.{Started, started}
 use Rattle.unit_rule.specs.Marks.{Holds}
 use Rattle.unit_rule.proofs.Marking.{holds-started}
 use Rattle.run_rule.specs.Found.{CardFound, Found, found_of, unit_seen, AnyKept}
-use Rattle.run_rule.specs.Cards.{brought_by, counted_to, StringHolds, MayGoOn, CardWaits, IsCardHeld}
+use Rattle.run_rule.specs.Cards.{brought_by, counted_to, StringHolds, StringGoesOn, CardWaits, IsCardHeld}
 use Rattle.run_rule.specs.Between.{IsCarried}
 use Rattle.run_rule.specs.Opening.{BeginsAs, as_found, IsLookedAt, carried_first}
+use Rattle.run_rule.proofs.Entries.{keeps-later}
 use Rattle.run_rule.proofs.Behind.{own-marked}
 use Rattle.run_rule.proofs.OwedRises.{owed-rises}
 
@@ -177,8 +178,10 @@ module _ (f : Found) (c : Card) (u x : List ℕ) (unit card : State) (unit_whole
   found-waits valid = record {
     rests = dark;
     string = string valid;
-    comes = λ v y on there. subst (λ (z : List ℕ). MayGoOn g c not_begun (owed c (unit_view f.card_a.number f.card_b.number v) (own_view z)) z) (sym (leaves-one x card card_whole card_begins y there))
-        (record { from = 0; kept = keeps; later = λ k d lt. omega arith });
+    comes = λ v y on there.
+        let due = owed c (unit_view f.card_a.number f.card_b.number v) (own_view x) in
+        subst (λ (z : List ℕ). StringGoesOn g c not_begun Out (owed c (unit_view f.card_a.number f.card_b.number v) (own_view z)) z) (sym (leaves-one x card card_whole card_begins y there))
+        (keeps-later g.image 0 (comes_from g.start Out due (own_view x)) (g.start.entries ++ counted_to (own_view x).mark (brought_by c g.start not_begun)) (own_view x).held (omega arith) keeps);
     brought = λ k in_. absurd (omega (arith, in_.1));
   }
 

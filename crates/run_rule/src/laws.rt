@@ -1,4 +1,5 @@
-ghost use Rattle.std.specs.Prelude.{◌≡◌, ◌/◌, ◌<◌, ℕ, List, []};
+ghost use Rattle.std.specs.Prelude.{◌≡◌, ◌/◌, ◌<◌, ◌≤◌, ℕ, List, [], All};
+ghost use Rattle.activity_codec.specs.declared.entries.Entry.{Entry};
 ghost use Rattle.trace_model.specs.declared.Card.{Card};
 ghost use Rattle.trace_model.specs.declared.Card.TheVariants.{A, B};
 ghost use Rattle.card_model.specs.Days.{AreDays};
@@ -7,14 +8,19 @@ ghost use Rattle.card_image.specs.Own.{own_view, own_sizes, IsOwnValid};
 ghost use Rattle.unit_model.specs.Decoding.{Decodes};
 ghost use Rattle.unit_model.specs.Image.{last_kept};
 ghost use Rattle.log_model.specs.Spans.{AreInOrder};
-ghost use Rattle.history_model.specs.Book.{Follows, not_begun};
-ghost use Rattle.joint_rule.specs.Views.{UnitView};
-ghost use Rattle.joint_rule.specs.Rules.{Brings, Out};
+ghost use Rattle.history_model.specs.Minutes.{HistoryMinute};
+ghost use Rattle.history_model.specs.Book.{Book, kept, broken, found, Follows, not_begun};
+ghost use Rattle.joint_rule.specs.Views.{UnitView, other};
+ghost use Rattle.joint_rule.specs.Device.{LeavesViews, Nothing};
+ghost use Rattle.joint_rule.specs.Filling.{KeepsMinute, GivesUpDay};
+ghost use Rattle.joint_rule.specs.Steps.{IsKeeping, IsPutting, IsBeginning, IsMending};
+ghost use Rattle.joint_rule.specs.Rules.{Brings, Standing, Out, In, Torn, Stands, IsPresent, IsEntered, CardDark};
+ghost use Rattle.joint_rule.specs.Marked.{of_card, IsBefore, IsBeside};
 ghost use Rattle.safety_model.specs.Recording.{Recording, card_image, history_of, lost_of};
 ghost use Rattle.safety_model.specs.Safe.{IsSafe};
 ghost use Rattle.unit_rule.specs.Rule.{started};
-ghost use Rattle.run_rule.specs.Found.{Found, found_of, AnyKept};
-ghost use Rattle.run_rule.specs.Cards.{CardWaits};
+ghost use Rattle.run_rule.specs.Found.{Found, found_of, unit_seen, AnyKept};
+ghost use Rattle.run_rule.specs.Cards.{CardWaits, MayKeep, IsStrung};
 ghost use Rattle.run_rule.specs.Opening.{BeginsAs, as_found, IsLookedAt, carried_first};
 ghost use Rattle.run_rule.specs.Between.{Carried, IsLit, IsCarried, IsFound, AreBrought, AreUntouched, devices};
 
@@ -63,4 +69,47 @@ pub fn what_is_carried_is_safe<M: Medium, C: Chip, D: Chip, N: Medium, E: Chip, 
         ((c : Card) → IsOwnValid (card_image r c) → AreBrought r c w.book (w.brought c)) →
         AreUntouched r f (devices (N.state unit.now) (E.state card_a.now) (F.state card_b.now)) →
         IsSafe r w.marks (devices (M.state old_unit.now) (C.state old_a.now) (D.state old_b.now)) (devices (N.state unit.now) (E.state card_a.now) (F.state card_b.now)) }
+{}
+
+/// What is carried of a card's string stays so as the unit keeps a minute, and where that is broken off.
+pub fn a_string_waits_for_a_minute<M: Medium, N: Medium, C: Chip>(before: &M, after: &N, card: &C)
+    ensures broken { (f : Found) (c : Card) (b : Book) (z : Standing) (i : HistoryMinute) → MayKeep f c b z i (M.state before.now) (C.state card.now) →
+        LeavesViews (unit_seen f (M.state before.now)) (unit_seen f (N.state after.now)) (IsKeeping KeepsMinute GivesUpDay i) →
+        IsStrung f c b z (M.state before.now) (C.state card.now) → IsStrung f c (broken i b) z (N.state after.now) (C.state card.now) }
+    ensures kept { (f : Found) (c : Card) (b : Book) (z : Standing) (i : HistoryMinute) →
+        IsStrung f c (broken i b) z (M.state before.now) (C.state card.now) → IsStrung f c (kept i b) z (M.state before.now) (C.state card.now) }
+{}
+
+/// So it does over each other step on the unit: power is back and a minute is found, a mend, an entry that is put for the card or for the
+/// other one, a row that is begun, and what leaves rows and last-kept minute.
+pub fn a_string_waits_for_the_unit<M: Medium, N: Medium, C: Chip>(before: &M, after: &N, card: &C)
+    ensures found { (f : Found) (c : Card) (b : Book) (k : ℕ) (z : Standing) → All (λ i. i.minute ≤ k) b.sure →
+        CardDark c (found_of f c).start AnyKept (found_of f c).began b z (unit_seen f (M.state before.now)) (of_card (C.state card.now)) →
+        LeavesViews (unit_seen f (M.state before.now)) (unit_seen f (N.state after.now)) Nothing →
+        IsStrung f c b z (M.state before.now) (C.state card.now) → IsStrung f c (found k b) z (N.state after.now) (C.state card.now) }
+    ensures mended { (f : Found) (c : Card) (b : Book) (z : Standing) → LeavesViews (unit_seen f (M.state before.now)) (unit_seen f (N.state after.now)) IsMending →
+        IsStrung f c b z (M.state before.now) (C.state card.now) → IsStrung f c b z (N.state after.now) (C.state card.now) }
+    ensures put { (f : Found) (c : Card) (b : Book) (z : Standing) (e : Entry) → IsPresent (found_of f c).start z e.minute →
+        IsBefore f.card_a.number f.card_b.number e.minute (M.state before.now) →
+        Stands c (found_of f c).start (found_of f c).began z [] (unit_seen f (M.state before.now)) (of_card (C.state card.now)) →
+        LeavesViews (unit_seen f (M.state before.now)) (unit_seen f (N.state after.now)) (IsPutting c e) →
+        IsStrung f c b z (M.state before.now) (C.state card.now) → IsStrung f c b z (N.state after.now) (C.state card.now) }
+    ensures put_beside { (f : Found) (c : Card) (b : Book) (z : Standing) (e : Entry) →
+        LeavesViews (unit_seen f (M.state before.now)) (unit_seen f (N.state after.now)) (IsPutting c e) →
+        IsStrung f (other c) b z (M.state before.now) (C.state card.now) → IsStrung f (other c) b z (N.state after.now) (C.state card.now) }
+    ensures begun { (f : Found) (c : Card) (b : Book) (session newest : ℕ) → IsEntered (found_of f c).start (found_of f c).began session newest (of_card (C.state card.now)) →
+        IsBefore f.card_a.number f.card_b.number (session / 60) (M.state before.now) →
+        LeavesViews (unit_seen f (M.state before.now)) (unit_seen f (N.state after.now)) (IsBeginning c) →
+        IsStrung f c b Out (M.state before.now) (C.state card.now) → IsStrung f c b (In session newest) (N.state after.now) (C.state card.now) }
+    ensures begun_beside { (f : Found) (c : Card) (b : Book) (z : Standing) → LeavesViews (unit_seen f (M.state before.now)) (unit_seen f (N.state after.now)) (IsBeginning c) →
+        IsStrung f (other c) b z (M.state before.now) (C.state card.now) → IsStrung f (other c) b z (N.state after.now) (C.state card.now) }
+    ensures noted { (f : Found) (c : Card) (b : Book) (z : Standing) → LeavesViews (unit_seen f (M.state before.now)) (unit_seen f (N.state after.now)) IsBeside →
+        IsStrung f c b z (M.state before.now) (C.state card.now) → IsStrung f c b z (N.state after.now) (C.state card.now) }
+{}
+
+/// And as a card leaves its slot: torn out between two calls, or where it is not accepted any more.
+pub fn a_string_stays_with_the_card<M: Medium, C: Chip>(unit: &M, card: &C)
+    ensures torn { (f : Found) (c : Card) (b : Book) (session newest floor : ℕ) → IsStrung f c b (In session newest) (M.state unit.now) (C.state card.now) → IsStrung f c b (Torn session newest floor) (M.state unit.now) (C.state card.now) }
+    ensures out { (f : Found) (c : Card) (b : Book) (z : Standing) → CardDark c (found_of f c).start AnyKept (found_of f c).began b z (unit_seen f (M.state unit.now)) (of_card (C.state card.now)) →
+        IsStrung f c b z (M.state unit.now) (C.state card.now) → IsStrung f c b Out (M.state unit.now) (C.state card.now) }
 {}

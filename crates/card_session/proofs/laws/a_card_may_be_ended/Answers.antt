@@ -7,13 +7,13 @@ use Rattle.card_session.proofs.Ended.{keep_ends, open_ends, none_ends}
 use Rattle.card_session.proofs.laws.a_card_may_be_ended.Goals as goal
 
 pub returns-clause-keep : goal.returns-clause-keep
-returns-clause-keep c = λ s e odometer x y sound fits session valid knows now clear keeping at.
-    keep_ends s.application sound x fits valid (above_zero (session_time s.application x) session) (days_there s x knows) s.registration odometer (grown s.odometer odometer) e y (asked_at s x e.minute now knows) clear keeping.card at
+returns-clause-keep c = λ s e odometer x y sound fits session valid knows now keeping at.
+    keep_ends s.application sound x fits valid (above_zero (session_time s.application x) session) (days_there s x knows) s.registration odometer (grown s.odometer odometer) e y (asked_at s x e.minute now knows) keeping.card at
 
 pub returns-clause-open : goal.returns-clause-open
-returns-clause-open c = λ app registration odometer now owed x y sound fits long are valid session begins inserted.
+returns-clause-open c = λ app registration odometer now owed x y sound fits long are valid session inserted.
     ⊎_elim (λ none. absurd (omega (arith, none.0, session)))
-    (λ some. open_ends app sound x fits registration long odometer now owed valid are (above_zero (session_time app x) session) some.0 begins y some.1) inserted
+    (λ some. open_ends app sound x fits registration long odometer now owed valid are (above_zero (session_time app x) session) some.0 y some.1) inserted
 
 pub returns-clause-shut : goal.returns-clause-shut
 returns-clause-shut c = λ app registration odometer now owed x y sound fits long valid session inserted.

@@ -6,9 +6,9 @@ use Rattle.card_session.proofs.Unclosed.{none_valid}
 use Rattle.card_session.proofs.laws.a_stop_in_an_insertion_leaves_a_valid_card.Goals as goal
 
 pub returns-clause-open : goal.returns-clause-open
-returns-clause-open c = λ app registration odometer now owed x y sound fits long are valid session begins inserting.
+returns-clause-open c = λ app registration odometer now owed x y sound fits long are valid session inserting.
     ⊎_elim (λ none. absurd (omega (arith, none.0, session)))
-    (λ some. again_valid app sound x fits registration long odometer now owed are.0 valid (above_zero (session_time app x) session) begins y some.0 some.1) inserting
+    (λ some. again_valid app sound x fits registration long odometer now owed are.0 valid (above_zero (session_time app x) session) y some.0 some.1) inserting
 
 pub returns-clause-shut : goal.returns-clause-shut
 returns-clause-shut c = λ app registration odometer now owed x y sound fits long valid session inserting.

@@ -7,21 +7,21 @@ use Rattle.card_session.proofs.Renewing.{newest_first, newest_again, newest_end,
 use Rattle.card_session.proofs.laws.an_insertion_leaves_the_newest_minute.Goals as goal
 
 pub returns-clause-open : goal.returns-clause-open
-returns-clause-open c = λ app registration odometer now owed x y sound fits long are valid session begins inserting.
+returns-clause-open c = λ app registration odometer now owed x y sound fits long are valid session inserting.
     ⊎_elim (λ none. absurd (omega (arith, none.0, session)))
-    (λ some. newest_first app sound x fits registration long odometer now owed are valid (above_zero (session_time app x) session) begins y some.1) inserting
+    (λ some. newest_first app sound x fits registration long odometer now owed are valid (above_zero (session_time app x) session) y some.1) inserting
 
 pub returns-clause-again : goal.returns-clause-again
-returns-clause-again c = λ app registration odometer now owed x y sound fits long are valid session begins inserting.
+returns-clause-again c = λ app registration odometer now owed x y sound fits long are valid session inserting.
     ⊎_elim (λ none. absurd (omega (arith, none.0, session)))
-    (λ some. newest_again app sound x fits registration long odometer now owed are valid (above_zero (session_time app x) session) begins y some.1) inserting
+    (λ some. newest_again app sound x fits registration long odometer now owed are valid (above_zero (session_time app x) session) y some.1) inserting
 
 pub returns-clause-ended : goal.returns-clause-ended
-returns-clause-ended c = λ app registration odometer now owed x y s sound fits long are valid session begins inserted same knows.
+returns-clause-ended c = λ app registration odometer now owed x y s sound fits long are valid session inserted same knows.
     ⊎_elim (λ none. absurd (omega (arith, none.0, session)))
     (λ some. (
-      newest_end app sound x fits registration long odometer now owed are valid (above_zero (session_time app x) session) begins y some.1,
-      knows.minute ∙ ap (λ (p : Application). newest_in (book_of p y)) same ∙ ends_answered app sound x fits registration long odometer now owed are valid (above_zero (session_time app x) session) begins y some.1,
+      newest_end app sound x fits registration long odometer now owed are valid (above_zero (session_time app x) session) y some.1,
+      knows.minute ∙ ap (λ (p : Application). newest_in (book_of p y)) same ∙ ends_answered app sound x fits registration long odometer now owed are valid (above_zero (session_time app x) session) y some.1,
     )) inserted
 
 pub returns-clause-shut : goal.returns-clause-shut

@@ -5,9 +5,9 @@ use Rattle.card_session.proofs.Renewing.{stored_stands, closed_stored}
 use Rattle.card_session.proofs.laws.an_insertion_leaves_the_stored_time.Goals as goal
 
 pub returns-clause-open : goal.returns-clause-open
-returns-clause-open c = λ app registration odometer now owed x y sound fits long are valid session begins inserting.
+returns-clause-open c = λ app registration odometer now owed x y sound fits long are valid session inserting.
     ⊎_elim (λ none. absurd (omega (arith, none.0, session)))
-    (λ some. stored_stands app sound x fits registration long odometer now owed are valid (above_zero (session_time app x) session) begins y some.1) inserting
+    (λ some. stored_stands app sound x fits registration long odometer now owed are valid (above_zero (session_time app x) session) y some.1) inserting
 
 pub returns-clause-shut : goal.returns-clause-shut
 returns-clause-shut c = λ app registration odometer now owed x y sound fits long valid session inserting.

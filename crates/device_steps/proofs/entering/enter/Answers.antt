@@ -2,7 +2,7 @@ use Rattle.std.proofs.Common.{rules, ◌≡◌, ◌/◌, ◌<◌, ◌≤◌, ◌
 use Rattle.card_layout.proofs.Sizes.{largest_image}
 use Rattle.joint_rule.specs.Views.{other}
 use Rattle.unit_rule.proofs.Marking.{holds-read}
-use Rattle.device_steps.proofs.Enters.{unit-read, entering-rule, entered-answer}
+use Rattle.device_steps.proofs.Enters.{unit-read, unit-still, agrees-still, entering-rule, entered-answer}
 use Rattle.card_layout.specs.declared.files.Application.{Application}
 use Rattle.tach_media.specs.Medium.{State, lent}
 use Rattle.card_commands.specs.Ports.{port_state}
@@ -43,3 +43,9 @@ pub returns-clause-entered : goal.returns-clause-entered
 returns-clause-entered g c = λ r s due b marks h none late tells tells_card asked rule.
     entered-answer r c.args.which s due b marks c.args.app c.requires.port.good c.args.registration.now c.length_of-bytes.ensures c.args.odometer.0 c.args.now.0 (omega (arith, c.requires.last)) h none late (g.met.M.Medium.coherent c.args.unit.now) (g.met.M.Medium.coherent c.enter_by.new.unit)
     (g.met.C.Chip.coherent c.args.card.now) (g.met.C.Chip.coherent _) (omega (arith, largest_image c.args.app c.requires.port.good, c.requires.port.size)) tells tells_card asked rule c.enter_by.result (returns-clause-enters g c)
+
+pub returns-clause-unit : goal.returns-clause-unit
+returns-clause-unit g c = unit-still (g.M.Medium.state c.args.unit.now) (g.M.Medium.state c.enter_by.new.unit) c.enter_by.ensures.enters.unit.leaves c.requires.unit
+
+pub returns-clause-agrees : goal.returns-clause-agrees
+returns-clause-agrees g c = λ well. agrees-still c.args.journal.now _ _ (c.enter_by.ensures.enters.unit.same well) c.requires.agrees

@@ -1,0 +1,474 @@
+//! A drive with a card over memory, step by step: three minutes, a minute that is owed to the card, its replay, and a withdrawal.
+ghost use Rattle.std.specs.Prelude.{◌≡◌, ◌≤◌, ◌<◌, ◌+◌, ◌/◌, ◌^◌, None, IfOk, IfSome, OnOk};
+ghost use Rattle.tacho_types.specs.CardNumber.{card_number_bytes};
+ghost use Rattle.tach_media.specs.MemMedium.{memory_state};
+ghost use Rattle.card_commands.specs.Ports.{IsPort};
+ghost use Rattle.card_judge.specs.Judged.{TellsSizes};
+ghost use Rattle.card_session.specs.declared.words.TheConstants.{LATEST_MINUTE};
+ghost use Rattle.unit_model.specs.Image.{IsUnit};
+ghost use Rattle.unit_journal.specs.Image.{Agrees};
+ghost use Rattle.owed_model.specs.Rows.{HasRow};
+
+use super::*;
+use activity_codec::{Activity, Entry, Pick, Slot};
+use card_commands::{PortFault, SimCard, read_sizes};
+use card_files::{CardIdentity, blank_card};
+use card_layout::{Application, LARGEST, LARGEST_IMAGE};
+use card_session::{CardSession, Kept};
+use std::alloc::{AllocError, Global};
+use std::rt::HostRuntime;
+use std::test::Fail;
+use tach_media::{Chip, Failed, Medium, MemMedium, Memory};
+use tacho_types::{FullCardNumber, Name36, Nation, Odometer, Registration, TimeReal};
+use trace_model::Card;
+use unit_journal::{Journal, KeptMinute, State};
+use unit_model::layout::IMAGE_SIZE;
+
+/// 2010-03-01 00:00:00, and its minute.
+const MIDNIGHT: u32 = 1267401600;
+
+const FIRST: u32 = 21123360;
+
+/// Where the days of the largest card begin, its vehicles and its current use.
+const DAYS: u32 = 2923;
+
+const VEHICLES: u32 = 16703;
+
+const CURRENT_USE: u32 = 24026;
+
+/// Where its events of a session that was not closed begin.
+const UNCLOSED: u32 = 619;
+
+const REGISTRATION: Registration = Registration(*b"\x0D\x01DEMO         ");
+
+/// The number of a card that is not there.
+const OTHER: FullCardNumber = FullCardNumber {
+    kind: 1,
+    state: Nation(13),
+    number: *b"DEMO111111111111",
+};
+
+/// A call that failed, or an answer that is not expected.
+#[derive(Clone, Copy, Debug, PartialEq, Eq)]
+struct Stopped;
+
+impl From<Failed> for Stopped {
+    ghost from_gives = { λ _ _. Unit {0} };
+
+    fn from(_fault: Failed) -> Stopped {
+        Stopped
+    }
+}
+
+impl From<PortFault> for Stopped {
+    ghost from_gives = { λ _ _. Unit {0} };
+
+    fn from(_fault: PortFault) -> Stopped {
+        Stopped
+    }
+}
+
+impl From<NotEntered> for Stopped {
+    ghost from_gives = { λ _ _. Unit {0} };
+
+    fn from(_fault: NotEntered) -> Stopped {
+        Stopped
+    }
+}
+
+/// A card in its slot: the unit's journal, the sizes by which the card goes, its number, its session, and how many entries were put
+/// on it as it came in.
+#[derive(Drop)]
+struct Drive {
+    journal: Journal,
+    app: Application,
+    number: FullCardNumber,
+    session: CardSession,
+    replayed: u8,
+}
+
+/// A minute of the drive: what is done, whether the card is present, and whether it keeps its entry.
+#[derive(Clone, Copy)]
+struct Step {
+    minute: u32,
+    act: Activity,
+    present: bool,
+    keeps: bool,
+    odometer: u32,
+}
+
+impl Step {
+    /// A minute in which the card is present, and keeps its entry.
+    fn new(minute: u32, act: Activity, odometer: u32) -> Step
+        ensures minute { result.minute ≡ minute }
+        ensures odometer { result.odometer ≡ odometer }
+    {
+        Step {
+            minute,
+            act,
+            present: true,
+            keeps: true,
+            odometer,
+        }
+    }
+
+    /// The entry of the card.
+    fn entry(&self) -> Entry
+        ensures { result.minute ≡ self.now.minute }
+    {
+        Entry {
+            minute: self.minute,
+            slot: Slot::Driver,
+            crew: false,
+            act: self.act,
+        }
+    }
+
+    /// The minute of the unit.
+    fn kept(&self) -> KeptMinute
+        ensures minute { result.minute ≡ self.now.minute }
+        ensures odometer { result.odometer.0 ≡ self.now.odometer }
+    {
+        KeptMinute {
+            minute: self.minute,
+            driver: State {
+                act: self.act,
+                present: self.present,
+            },
+            codriver: State {
+                act: Activity::Rest,
+                present: false,
+            },
+            odometer: Odometer(self.odometer),
+        }
+    }
+}
+
+// The sizes of a card.
+fn sizes_of<C: Chip>(card: &mut C) -> Result<Application, Stopped>
+    requires { LARGEST_IMAGE ≤ (C.state card.old).size }
+    ensures port { IfOk result (λ app. IsPort app None (C.card card.new) (C.state card.new)) }
+    ensures told { IfOk result (λ app. IfSome (C.state card.new).image (TellsSizes app)) }
+{
+    let app = read_sizes(card)?;
+    Ok(app)
+}
+
+// The journal of a unit that was found, and is mended.
+fn journal_of<M: Medium, C: Chip, D: Chip>(
+    unit: &mut M,
+    card: &C,
+    other: &D,
+) -> Result<Journal, Stopped>
+    requires { IsUnit (M.state unit.old) }
+    ensures unit { IsUnit (M.state unit.new) }
+    ensures agrees { IfOk result (λ j. IfSome (M.state unit.new).image (Agrees j)) }
+{
+    match Journal::load(unit) {
+        Err(_) => Err(Stopped),
+        Ok(mut journal) => {
+            mend(unit, &mut journal, card, other)?;
+            Ok(journal)
+        }
+    }
+}
+
+// Puts the card in at a second whose minute is later than the last-kept one.
+fn put_in<M: Medium, C: Chip, D: Chip>(
+    unit: &mut M,
+    card: &mut C,
+    other: &D,
+    second: u32,
+    odometer: u32,
+) -> Result<Drive, Stopped>
+    requires unit { IsUnit (M.state unit.old) }
+    requires card { LARGEST_IMAGE ≤ (C.state card.old).size }
+    requires last { second / 60 < LATEST_MINUTE }
+    requires fits { odometer < 2 ^ 24 }
+    ensures unit { IsUnit (M.state unit.new) }
+    ensures agrees { IfOk result (λ d. IfSome (M.state unit.new).image (Agrees d.journal)) }
+    ensures row { IfOk result (λ d. IfSome (M.state unit.new).image (HasRow (card_number_bytes d.number))) }
+    ensures port { IfOk result (λ d. IsPort d.app None (C.card card.new) (C.state card.new)) }
+    ensures sizes { IfOk result (λ d. d.session.application ≡ d.app) }
+{
+    let app = sizes_of(card)?;
+    let mut journal = journal_of(unit, card, other)?;
+    if second == 0 || second / 60 <= journal.last_kept() {
+        return Err(Stopped);
+    }
+    let entered = enter(
+        unit,
+        &journal,
+        card,
+        other,
+        Card::A,
+        app,
+        TimeReal(second),
+        &REGISTRATION,
+        Odometer(odometer),
+    )?;
+    let number = entered.look.number;
+    begin(
+        unit,
+        &mut journal,
+        card,
+        other,
+        Card::A,
+        &number,
+        second,
+        None,
+    )?;
+    Ok(Drive {
+        journal,
+        app,
+        number,
+        session: entered.session,
+        replayed: entered.replayed,
+    })
+}
+
+// Keeps a minute on the unit, and on the card if it is there.
+fn keep<M: Medium, C: Chip, D: Chip>(
+    drive: &mut Drive,
+    unit: &mut M,
+    card: &mut C,
+    other: &D,
+    step: &Step,
+) -> Result<(), Stopped>
+    requires unit { IsUnit (M.state unit.old) }
+    requires agrees { IfSome (M.state unit.old).image (Agrees drive.old.journal) }
+    requires row { IfSome (M.state unit.old).image (HasRow (card_number_bytes drive.old.number)) }
+    requires port { IsPort drive.old.app None (C.card card.old) (C.state card.old) }
+    requires sizes { drive.old.session.application ≡ drive.old.app }
+    requires low { 1440 ≤ step.now.minute }
+    requires small { step.now.minute ≤ LATEST_MINUTE }
+    requires odometer { step.now.odometer ≤ 9999999 }
+    ensures unit { IsUnit (M.state unit.new) }
+    ensures agrees { OnOk result (IfSome (M.state unit.new).image (Agrees drive.new.journal)) }
+    ensures row { OnOk result (IfSome (M.state unit.new).image (HasRow (card_number_bytes drive.new.number))) }
+    ensures port { OnOk result (IsPort drive.new.app None (C.card card.new) (C.state card.new)) }
+    ensures sizes { OnOk result (drive.new.session.application ≡ drive.new.app) }
+{
+    let minute = step.kept();
+    if minute.minute <= drive.journal.last_kept() {
+        return Err(Stopped);
+    }
+    let entry = step.entry();
+    let said = if step.present { Some(entry) } else { None };
+    keep_on_unit(
+        unit,
+        &mut drive.journal,
+        card,
+        other,
+        Card::A,
+        &drive.number,
+        said,
+        Card::B,
+        &OTHER,
+        None,
+        &minute,
+    )?;
+    if step.keeps {
+        bring(drive, unit, card, step)?;
+    }
+    Ok(())
+}
+
+// Keeps the entry of a minute on the card.
+fn bring<M: Medium, C: Chip>(
+    drive: &mut Drive,
+    unit: &M,
+    card: &mut C,
+    step: &Step,
+) -> Result<(), Stopped>
+    requires port { IsPort drive.old.app None (C.card card.old) (C.state card.old) }
+    requires sizes { drive.old.session.application ≡ drive.old.app }
+    requires low { 1440 ≤ step.now.minute }
+    requires small { step.now.minute ≤ LATEST_MINUTE }
+    requires odometer { step.now.odometer ≤ 9999999 }
+    ensures same { (drive.new.journal ≡ drive.old.journal) × (drive.new.number ≡ drive.old.number) × (drive.new.app ≡ drive.old.app) }
+    ensures port { IsPort drive.old.app None (C.card card.new) (C.state card.new) }
+    ensures sizes { drive.new.session.application ≡ drive.old.app }
+{
+    let kept = Kept {
+        entry: step.entry(),
+        odometer: Odometer(step.odometer),
+    };
+    if kept.entry.minute <= drive.session.newest_minute() {
+        return Err(Stopped);
+    }
+    keep_on_card(unit, card, drive.app, &mut drive.session, Card::A, &kept)?;
+    Ok(())
+}
+
+// Takes the card out.
+fn take_out<M: Medium, C: Chip>(drive: Drive, unit: &M, card: &mut C) -> Result<(), Stopped>
+    requires port { IsPort drive.app None (C.card card.old) (C.state card.old) }
+    requires sizes { drive.session.application ≡ drive.app }
+{
+    leave(unit, card, drive.app, drive.session, Card::A, Pick::Rest)?;
+    Ok(())
+}
+
+// The three devices of the drive: a new unit, a new card, and another.
+#[derive(Drop)]
+struct Devices {
+    unit: MemMedium,
+    card: SimCard<MemMedium>,
+    other: SimCard<MemMedium>,
+}
+
+// The image of a new unit, of a vehicle with a limit of 90 km/h.
+fn new_image(alloc: Global) -> Result<Vec<u8>, AllocError> {
+    let mut image = vec![in alloc; 0u8; IMAGE_SIZE as usize]?;
+    if image.len() > 36 {
+        image[3] = 1;
+        image[36] = 90;
+    }
+    Ok(image)
+}
+
+// A new unit.
+fn new_unit(alloc: Global) -> Result<MemMedium, Memory>
+    ensures { IfOk result (λ unit. IsUnit (memory_state unit.log unit.counts)) }
+{
+    let image = new_image(alloc)?;
+    if image.len() != IMAGE_SIZE as usize {
+        return Err(Memory);
+    }
+    MemMedium::new(alloc, image, 400, 40000, Vec::new(alloc))
+}
+
+// A new card of the largest sizes.
+fn new_card(alloc: Global) -> Result<SimCard<MemMedium>, Memory>
+    ensures { IfOk result (λ card. LARGEST_IMAGE ≤ (memory_state card.medium.log card.medium.counts).size) }
+{
+    let identity = CardIdentity {
+        state: Nation(13),
+        number: *b"DEMO000000000000",
+        surname: Name36(*b"\x01MUSTERMANN                         "),
+        first: Name36(*b"\x01HEIKE                              "),
+    };
+    let image = blank_card(alloc, &identity, &LARGEST)?;
+    if image.len() != LARGEST_IMAGE as usize {
+        return Err(Memory);
+    }
+    let medium = MemMedium::new(alloc, image, 400, 40000, Vec::new(alloc))?;
+    Ok(SimCard::new(medium))
+}
+
+// The drive: three minutes; one that the card is owed, since it is torn out; it comes in again two minutes later, keeps one more
+// minute and is taken out. It gives how many entries were put on the card as it came in, each time.
+fn drives<M: Medium, C: Chip, D: Chip>(
+    unit: &mut M,
+    card: &mut C,
+    other: &D,
+) -> Result<(u8, u8), Stopped>
+    requires unit { IsUnit (M.state unit.old) }
+    requires card { LARGEST_IMAGE ≤ (C.state card.old).size }
+    ensures { IsUnit (M.state unit.new) }
+{
+    let mut drive = put_in(unit, card, other, MIDNIGHT, 100)?;
+    let first = drive.replayed;
+    let work = Step::new(FIRST, Activity::Work, 100);
+    let driving = Step::new(FIRST + 1, Activity::Driving, 101);
+    let rest = Step::new(FIRST + 2, Activity::Rest, 102);
+    let mut torn = Step::new(FIRST + 3, Activity::Work, 103);
+    torn.keeps = false;
+    keep(&mut drive, unit, card, other, &work)?;
+    keep(&mut drive, unit, card, other, &driving)?;
+    keep(&mut drive, unit, card, other, &rest)?;
+    keep(&mut drive, unit, card, other, &torn)?;
+    let again = comes_back(unit, card, other)?;
+    Ok((first, again))
+}
+
+// The card comes in again, keeps a minute, and is taken out.
+fn comes_back<M: Medium, C: Chip, D: Chip>(
+    unit: &mut M,
+    card: &mut C,
+    other: &D,
+) -> Result<u8, Stopped>
+    requires unit { IsUnit (M.state unit.old) }
+    requires card { LARGEST_IMAGE ≤ (C.state card.old).size }
+    ensures { IsUnit (M.state unit.new) }
+{
+    let mut drive = put_in(unit, card, other, MIDNIGHT + 300, 103)?;
+    let replayed = drive.replayed;
+    let mut without = Step::new(FIRST + 4, Activity::Rest, 103);
+    without.present = false;
+    without.keeps = false;
+    let waiting = Step::new(FIRST + 5, Activity::Available, 104);
+    keep(&mut drive, unit, card, other, &without)?;
+    keep(&mut drive, unit, card, other, &waiting)?;
+    take_out(drive, unit, card)?;
+    Ok(replayed)
+}
+
+// Bytes of the card, read as an image.
+fn bytes<const N: usize>(card: &mut MemMedium, place: u32) -> Result<[u8; N], Stopped>
+    requires { place + N ≤ LARGEST_IMAGE }
+{
+    let mut out = [0; N];
+    if card.size() < LARGEST_IMAGE {
+        return Err(Stopped);
+    }
+    card.read_at(place, &mut out)?;
+    Ok(out)
+}
+
+// The words of the day on the unit.
+fn words_of<M: Medium>(alloc: Global, unit: &mut M) -> Result<Vec<u16>, Fail>
+    requires { IsUnit (M.state unit.old) }
+{
+    let mut words = Vec::new(alloc);
+    let Ok(journal) = Journal::load(unit) else {
+        return Err(Fail::from("not loaded"));
+    };
+    if unit.size() != IMAGE_SIZE {
+        return Err(Fail::from("no unit"));
+    }
+    if let Some(day) = journal.find(unit, TimeReal(MIDNIGHT))? {
+        for index in 0..day.words {
+            if unit.size() != IMAGE_SIZE {
+                return Err(Fail::from("no unit"));
+            }
+            words.push(journal.word(unit, &day, index)?)?;
+        }
+    }
+    Ok(words)
+}
+
+#[test]
+fn a_drive_is_on_the_unit_and_the_card(rt: HostRuntime) -> Result<(), Fail> {
+    let alloc = rt.alloc();
+    let mut unit = new_unit(alloc)?;
+    let mut card = new_card(alloc)?;
+    let other = new_card(alloc)?;
+    // nothing is owed to a new card; the torn-out minute is owed to it, and is put on it as it comes back
+    assert_eq!(rt; drives(&mut unit, &mut card, &other), Ok((0, 1)));
+    // each minute with its card, the one without it, and the other slot's rest
+    let words = words_of(alloc, &mut unit)?;
+    assert!(rt;
+        words.as_slice() == [0x1000u16, 0xA000, 0x1801, 0x0002, 0x1003, 0x2004, 0x0805].as_slice()
+    );
+    let mut image = card.into_medium();
+    // the pointers, and one day: 26 bytes, 2010-03-01, counter 1, 2 km, and the words with those that close
+    let days = bytes::<30>(&mut image, DAYS);
+    let kept = [
+        0, 0, 0, 0, 0, 0, 0, 26, 0x4B, 0x8B, 0x03, 0x80, 0, 1, 0, 2, 0x10, 0x00, 0x18, 0x01, 0x00,
+        0x02, 0x10, 0x03, 0x20, 0x04, 0x08, 0x05, 0x20, 0x06,
+    ];
+    assert_eq!(rt; days, Ok(kept));
+    // one vehicle: 100 to 104 km, first used at the first minute, last at the closing word's
+    let vehicle = bytes::<16>(&mut image, VEHICLES);
+    let used = [
+        0, 0, 0, 0, 100, 0, 0, 104, 0x4B, 0x8B, 0x03, 0x80, 0x4B, 0x8B, 0x04, 0xE8,
+    ];
+    assert_eq!(rt; vehicle, Ok(used));
+    // the session is closed, and the one that was broken off is an event
+    assert_eq!(rt; bytes::<4>(&mut image, CURRENT_USE), Ok([0; 4]));
+    let event = [6, 0x4B, 0x8B, 0x03, 0x80, 0x4B, 0x8B, 0x04, 0xAC];
+    assert_eq!(rt; bytes::<9>(&mut image, UNCLOSED), Ok(event));
+    Ok(())
+}
