@@ -6,8 +6,9 @@ use Rattle.std.proofs.Math.Nat.{max-eq_left}
 use Rattle.activity_codec.specs.declared.entries.Entry.{Entry}
 use Rattle.activity_codec.specs.Words.{word_minute}
 use Rattle.card_layout.specs.declared.files.Application.{Application}
-use Rattle.card_model.specs.Days.{Day, AreDays, AreWords, last_word}
+use Rattle.card_model.specs.Days.{Day, AreDays, last_word}
 use Rattle.card_model.specs.Changes.{OnNewest, date_of, trimmed}
+use Rattle.card_model.proofs.Ascending.{words_below}
 use Rattle.card_model.proofs.Trims.{are_trimmed, trimmed_twice}
 use Rattle.card_retention.specs.Entries.{entries_up_to, last_entry, newest_word, closed_at, newest_minute}
 use Rattle.card_retention.specs.Shown.{AllBefore, sizes}
@@ -16,13 +17,9 @@ use Rattle.card_retention.proofs.Entering.{before_later}
 use Rattle.card_retention.proofs.Flat.{UpTo, newest_flat}
 use Rattle.card_retention.proofs.Checked.{early_last}
 use Rattle.card_retention.proofs.Newest.{newest_law}
-use Rattle.card_retention.proofs.ListTrims.{words_ascend, last_below, entries_trimmed, ends_flat}
+use Rattle.card_retention.proofs.ListTrims.{entries_trimmed, ends_flat}
 use Rattle.card_image.specs.Fields.{card_days}
 use Rattle.card_image.specs.View.{counting, card_view}
-
-pub words_below : (ws : List ℕ) → AreWords ws → word_minute (last_word ws) < 1440
-words_below [] are = absurd are
-words_below (w ∷ ws) are = last_below 0 w ws (words_ascend (w ∷ ws) are)
 
 -- where a trim cuts nothing the newest word is not behind the mark
 newest_low : (mark date : ℕ) (d : Day) (ds : List Day) → AreDays date (d ∷ ds) → OnNewest (UpTo mark) (d ∷ ds) → newest_word (d ∷ ds) ≤ mark

@@ -7,24 +7,20 @@ use Rattle.activity_codec.specs.Words.{word_minute}
 use Rattle.card_layout.specs.declared.files.Application.{Application}
 use Rattle.card_records.specs.declared.vehicle.Vehicle.{Vehicle}
 use Rattle.card_records.specs.declared.current_use.CurrentUse.{CurrentUse}
-use Rattle.card_model.specs.Days.{Day, AreDays, AreWords, last_word, total}
+use Rattle.card_model.specs.Days.{Day, AreDays, last_word, total}
 use Rattle.card_model.specs.Image.{newest_pointer}
 use Rattle.card_model.specs.Changes.{OnNewest, date_of, trimmed}
+use Rattle.card_model.proofs.Ascending.{words_below}
 use Rattle.card_model.proofs.Trims.{are_trimmed, trimmed_twice}
 use Rattle.card_retention.specs.Entries.{newest_word}
 use Rattle.card_retention.proofs.Flat.{UpTo, newest_flat}
 use Rattle.card_retention.proofs.Checked.{early_last}
-use Rattle.card_retention.proofs.ListTrims.{words_ascend, last_below}
 use Rattle.cyclic_days.specs.declared.head.Tail.{Tail}
 use Rattle.cyclic_days.specs.Held.{tail_by, tail_in}
 use Rattle.card_image.specs.Fields.{last_use_of, end_mark, session_time, card_days}
 use Rattle.card_image.specs.View.{counting}
 use Rattle.card_judge.specs.declared.files.Judged.{Judged}
 use Rattle.card_judge.specs.Judged.{IsKnown}
-
-words_below : (ws : List ℕ) → AreWords ws → word_minute (last_word ws) < 1440
-words_below [] are = absurd are
-words_below (w ∷ ws) are = last_below 0 w ws (words_ascend (w ∷ ws) are)
 
 -- where a trim cuts nothing the newest word is not behind the mark
 newest_low : (mark date : ℕ) (d : Day) (ds : List Day) → AreDays date (d ∷ ds) → OnNewest (UpTo mark) (d ∷ ds) → newest_word (d ∷ ds) ≤ mark

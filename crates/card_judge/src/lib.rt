@@ -11,6 +11,7 @@ mod round;
 mod walk;
 mod words;
 
+pub use behind::date_of;
 pub use fault::{BadFile, InsertFault};
 pub use files::{Judged, judge_image};
 pub use looking::{CardLook, judge, look};

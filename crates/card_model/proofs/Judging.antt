@@ -1,5 +1,5 @@
 -- An image that holds days passes all checks.
-use Rattle.std.proofs.Common.{◌≡◌, ◌≢◌, ⊎_elim, ℕ, zero, suc, ◌+◌, ◌-◌, ◌*◌, ◌/◌, ◌%◌, ◌<◌, ◌≤◌, Bool, true, false, cond, Some, None, option_map, List, [], ◌∷◌, ◌++◌, length, drop, refl, sym, ◌∙◌, ap, subst, arith, append_assoc}
+use Rattle.std.proofs.Common.{◌≡◌, ◌≢◌, ⊎_elim, ℕ, zero, suc, ◌+◌, ◌-◌, ◌*◌, ◌/◌, ◌%◌, ◌<◌, ◌≤◌, Bool, true, false, cond, Some, None, option_map, List, [], ◌∷◌, ◌++◌, length, drop, refl, ◌∙◌, ap, arith, append_assoc}
 use Rattle.std.specs.Prelude.{◌&&◌, ◌||◌, nat_eq, nat_lt, nat_le}
 use Rattle.std.proofs.lemmas.Bool.Decides.{nat_tests}
 use Rattle.std.proofs.lemmas.Bool.{and_from, and_right, eq-eqb, ne_eqb}
@@ -11,6 +11,7 @@ use Rattle.card_model.specs.Image.{StringShape, IsStringShape, turned, oldest_po
 use Rattle.card_model.specs.Walk.{words_of}
 use Rattle.card_model.specs.Checks.{Check, check, first_failing, is_pointer, is_len, is_previous, is_date, is_decimal, field_checks, word_checks, record_checks, file_place, placed_checks, day_checks, distance_of, is_empty, first_bad}
 use Rattle.card_model.proofs.Numbers.{number_two, number_four}
+use Rattle.card_model.proofs.Ascending.{words_ascend}
 use Rattle.card_model.proofs.Lists.{record_length, len_even, len_most, len_least, last_len_is, last_least, count_least}
 use Rattle.card_model.proofs.Circle.{turned_front}
 use Rattle.card_model.proofs.Reading.{fills}
@@ -81,7 +82,7 @@ pub words_pass : (offset : ℕ) (ws : List ℕ) → AreWords ws → first_failin
 words_pass offset [] are = absurd are
 words_pass offset (w ∷ ws) are =
     passes_one (nat_le 0 (word_minute w) && nat_lt (word_minute w) 1) offset (word_checks (offset + 2) (word_minute w) 1440 ws) (in_order 0 (word_minute w) 1 (omega arith) (omega (arith, are.0)))
-    ∙ later_pass (offset + 2) (word_minute w) ws (subst (λ (m : ℕ). Ascend m ws) (sym are.0) are.1)
+    ∙ later_pass (offset + 2) (word_minute w) ws (words_ascend (w ∷ ws) are).2
 
 -- the tests of a day's fields
 len_passes : (size so_far : ℕ) (d : Day) → IsDay d → so_far + len_of d ≤ size → is_len size so_far (len_of d) ≡ true

@@ -7,4 +7,5 @@ pub mod Judging
 pub mod Elsewhere
 pub mod Retention
 pub mod Trims
+pub mod Ascending
 pub mod Rows

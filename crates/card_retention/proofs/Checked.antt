@@ -5,14 +5,15 @@ use Rattle.std.proofs.lemmas.Bool.Decides.{nat_tests}
 use Rattle.std.proofs.lemmas.Bool.{cases_lt, leb-true, eqb-true}
 use Rattle.activity_codec.specs.declared.entries.Entry.{Entry}
 use Rattle.activity_codec.specs.Words.{word_absent, word_minute}
-use Rattle.card_model.specs.Days.{Day, AreDays, IsDay, AreWords, Ascend, last_word}
+use Rattle.card_model.specs.Days.{Day, AreDays, IsDay, AreWords, last_word}
 use Rattle.card_model.specs.Changes.{with_newest, until, early, with_early, OnNewest, date_of, cut, trimmed}
 use Rattle.card_retention.specs.Expected.{more, Counted}
 use Rattle.card_retention.specs.Shown.{Bound, Grows, sizes, is_open, owing, EndsAbsent, Sound, Sound.Flat, Sound.Tail, Rests, Lives}
 use Rattle.card_retention.specs.Entries.{newest_word, IsChecked}
 use Rattle.card_retention.proofs.Entering.{both}
+use Rattle.card_model.proofs.Ascending.{early_words_all}
 use Rattle.card_model.proofs.Trims.{early_few, trimmed_cases}
-use Rattle.card_retention.proofs.Flat.{UpTo, early_all, flat_newest}
+use Rattle.card_retention.proofs.Flat.{UpTo, flat_newest}
 
 -- where a trim cuts nothing the last word is not behind it
 pub early_last : (m : ℕ) (ws : List ℕ) → AreWords ws → early m ws ≡ ws → word_minute (last_word ws) ≤ m
@@ -115,11 +116,10 @@ under n mark date (d ∷ e ∷ ds) are checked behind = by (nat_le d.date (date_
         some is = cc
 
 no_word_behind : (mark date : ℕ) (d : Day) (ds : List Day) → AreDays date (d ∷ ds) → newest_word (d ∷ ds) ≤ mark → OnNewest (UpTo mark) (d ∷ ds)
-no_word_behind mark date d [] are le = record { day = omega (arith, le, are.1.midnight); last = λ here. words d.words are.1.ordered (omega (arith, le, here)) }
-  where
-    words : (ws : List ℕ) → AreWords ws → word_minute (last_word ws) ≤ mark % 1440 → early (mark % 1440) ws ≡ ws
-    words [] are le = absurd are
-    words (w ∷ ws) are le = early_all 0 (mark % 1440) (w ∷ ws) (omega arith, omega (arith, are.0), subst (λ (k : ℕ). Ascend k ws) (sym are.0) are.1) le
+no_word_behind mark date d [] are le = record {
+  day = omega (arith, le, are.1.midnight);
+  last = λ here. early_words_all (mark % 1440) d.words are.1.ordered (omega (arith, le, here));
+}
 no_word_behind mark date d (e ∷ ds) are le = no_word_behind mark d.date e ds are.2 le
 
 -- A CLOSED CARD is sound

@@ -1,27 +1,17 @@
 -- A string without a word behind a minute is as a trim to it would leave it.
-use Rattle.std.proofs.Common.{◌≡◌, ℕ, ◌%◌, ◌≤◌, Bool, true, false, cond, List, [], ◌∷◌, refl, sym, ◌∙◌, ap, subst, arith}
+use Rattle.std.proofs.Common.{◌≡◌, ℕ, ◌%◌, ◌≤◌, Bool, true, false, cond, List, [], ◌∷◌, refl, sym, ◌∙◌, ap, arith}
 use Rattle.std.specs.Prelude.{nat_eq, nat_le}
 use Rattle.std.proofs.lemmas.Bool.{eqb-true, le-leb, leb-true}
 use Rattle.std.proofs.lemmas.Bool.Decides.{nat_tests}
 use Rattle.activity_codec.specs.Words.{word_minute}
-use Rattle.card_model.specs.Days.{Day, AreDays, IsDay, AreWords, Ascend, last_word}
+use Rattle.card_model.specs.Days.{Day, AreDays, IsDay, last_word}
 use Rattle.card_model.specs.Changes.{with_newest, until, early, with_early, date_of, cut, trimmed, OnNewest}
+use Rattle.card_model.proofs.Ascending.{early_words_all}
 
 -- no word of it is behind the minute
 pub record UpTo (m : ℕ) (d : Day) : Type 0 where
   pub day : d.date ≤ date_of m
   pub last : d.date ≡ date_of m → early (m % 1440) d.words ≡ d.words
-
-ascend_low : (low m : ℕ) (ws : List ℕ) (w : ℕ) → Ascend low (w ∷ ws) → word_minute (last_word (w ∷ ws)) ≤ m → word_minute w ≤ m
-ascend_low low m [] w a le = le
-ascend_low low m (v ∷ ws) w a le = omega (arith, a.2.0, ascend_low (word_minute w) m ws v a.2 le)
-
-pub early_all : (low m : ℕ) (ws : List ℕ) → Ascend low ws → word_minute (last_word ws) ≤ m → early m ws ≡ ws
-early_all low m [] a le = refl
-early_all low m (w ∷ []) a le = ap (λ (b : Bool). cond b (w ∷ []) []) (le-leb (word_minute w) m le)
-early_all low m (w ∷ v ∷ ws) a le =
-    ap (λ (b : Bool). cond b (w ∷ early m (v ∷ ws)) []) (le-leb (word_minute w) m (ascend_low low m (v ∷ ws) w a le))
-    ∙ ap (λ (l : List ℕ). w ∷ l) (early_all (word_minute w) m (v ∷ ws) a.2 le)
 
 pub early_more : (m n : ℕ) (ws : List ℕ) → m ≤ n → early m ws ≡ ws → early n ws ≡ ws
 early_more m n [] le is = refl
@@ -116,14 +106,7 @@ pub record Ends (m : ℕ) (d : Day) : Type 0 where
   pub last : word_minute (last_word d.words) ≤ m % 1440
 
 ends_up_to : (m : ℕ) (d : Day) → IsDay d → Ends m d → UpTo m d
-ends_up_to m d is ends = record { day = omega (arith, ends.day); last = λ same. words d.words is.ordered ends.last }
-  where
-    words : (ws : List ℕ) → AreWords ws → word_minute (last_word ws) ≤ m % 1440 → early (m % 1440) ws ≡ ws
-    words [] are le = absurd are
-    words (w ∷ ws) are le = early_all 0 (m % 1440) (w ∷ ws) (omega arith, omega (arith, are.0), behind_it) le
-      where
-        behind_it : Ascend (word_minute w) ws
-        behind_it = subst (λ (k : ℕ). Ascend k ws) (sym are.0) are.1
+ends_up_to m d is ends = record { day = omega (arith, ends.day); last = λ same. early_words_all (m % 1440) d.words is.ordered ends.last }
 
 pub flat_ends : (m : ℕ) (ds : List Day) → AreDays 0 ds → OnNewest (Ends m) ds → trimmed m ds ≡ ds
 flat_ends m ds are on = flat_newest m 0 ds are (up 0 ds are on)

@@ -1,17 +1,18 @@
 -- The entries over a trim to the mark.
-use Rattle.std.proofs.Common.{◌≡◌, ◌⊎◌, inl, inr, ⊎_elim, ℕ, suc, ◌+◌, ◌*◌, ◌/◌, ◌%◌, ◌<◌, ◌≤◌, Bool, true, false, cond, ◌||◌, Option, Some, None, List, [], ◌∷◌, ◌++◌, refl, sym, ◌∙◌, ap, subst, arith}
+use Rattle.std.proofs.Common.{◌≡◌, ◌⊎◌, inl, inr, ⊎_elim, ℕ, suc, ◌+◌, ◌*◌, ◌/◌, ◌%◌, ◌<◌, ◌≤◌, Bool, true, false, cond, ◌||◌, Option, Some, None, List, [], ◌∷◌, ◌++◌, refl, sym, ◌∙◌, ap, arith}
 use Rattle.std.specs.Prelude.{nat_eq, nat_le}
 use Rattle.std.proofs.lemmas.Bool.{eqb-true, leb-false, leb-true, lt-leb}
 use Rattle.std.proofs.lemmas.Bool.Decides.{nat_tests}
 use Rattle.activity_codec.specs.declared.entries.Entry.{Entry}
 use Rattle.activity_codec.specs.Words.{word_absent, word_slot, word_crew, word_act, word_minute}
-use Rattle.card_model.specs.Days.{Day, AreDays, IsDay, AreWords, Ascend, last_word}
+use Rattle.card_model.specs.Days.{Day, AreDays, IsDay, Ascend, last_word}
 use Rattle.card_model.specs.Changes.{with_newest, until, early, with_early, OnNewest, date_of, cut, trimmed}
 use Rattle.card_retention.specs.Expected.{WordDay}
 use Rattle.card_retention.specs.Shown.{InDays, AllUpTo, sizes}
 use Rattle.card_retention.specs.Entries.{latest, told_by, entry_at, day_entries, entries_up_to, EndsBy}
 use Rattle.card_retention.specs.Retains.{is_day, entries_in}
 use Rattle.card_retention.proofs.Retaining.{day_in}
+use Rattle.card_model.proofs.Ascending.{words_ascend, words_below}
 use Rattle.card_model.proofs.Trims.{cut_date}
 use Rattle.card_retention.proofs.Flat.{UpTo, newest_flat}
 use Rattle.card_retention.proofs.Stops.{trimmed_in}
@@ -36,10 +37,6 @@ latest_early low m t (w ∷ ws) a le = by (nat_le (word_minute w) m) refl (lates
     by false is rest none =
         let lt : t < word_minute w = omega (arith, leb-false (word_minute w) m is, le) in
         sym (ap (λ (o : Option ℕ). elim o as (λ _. Option ℕ) [ Some x ↦ Some x | None ↦ cond (nat_le (word_minute w) t) (Some w) None ]) (none lt) ∙ ap (λ (b : Bool). cond b (Some w) None) (lt-leb (word_minute w) t lt))
-
-pub words_ascend : (ws : List ℕ) → AreWords ws → Ascend 0 ws
-words_ascend [] are = absurd are
-words_ascend (w ∷ ws) are = (omega arith, omega (arith, are.0), subst (λ (k : ℕ). Ascend k ws) (sym are.0) are.1)
 
 cut_at : (mark : ℕ) (d : Day) → IsDay d → (t : ℕ) → entry_at mark (cut mark d) t ≡ entry_at mark d t
 cut_at mark d is t = by (nat_eq d.date (date_of mark)) refl
@@ -106,10 +103,6 @@ lists_trimmed mark all ds are up is = entries_trimmed mark 0 ds are ∙ is ∙ s
         ap (λ (b : Bool). cond b (e ∷ entries_in (sizes (trimmed mark ds)) es) (entries_in (sizes (trimmed mark ds)) es)) same ∙ ap (λ (l : List Entry). cond (is_day (e.minute / 1440) (sizes ds)) (e ∷ l) l) (by es up.1)
 
 -- A STRING WITH NOTHING BEHIND THE MARK ends by it
-pub last_below : (low : ℕ) (w : ℕ) (ws : List ℕ) → Ascend low (w ∷ ws) → word_minute (last_word (w ∷ ws)) < 1440
-last_below low w [] a = a.1
-last_below low w (v ∷ ws) a = last_below (word_minute w) v ws a.2
-
 pub ends_flat : (mark : ℕ) (ds : List Day) → AreDays 0 ds → trimmed mark ds ≡ ds → EndsBy mark ds
 ends_flat mark [] are is = tt
 ends_flat mark (d ∷ ds) are is = by 0 d ds are (newest_flat mark d ds is)
@@ -117,16 +110,12 @@ ends_flat mark (d ∷ ds) are is = by 0 d ds are (newest_flat mark d ds is)
     by : (date : ℕ) (d : Day) (ds : List Day) → AreDays date (d ∷ ds) → OnNewest (UpTo mark) (d ∷ ds) → EndsBy mark (d ∷ ds)
     by date d [] are on = λ present. go (nat_eq d.date (date_of mark)) refl
       where
-        below : (ws : List ℕ) → AreWords ws → word_minute (last_word ws) < 1440
-        below [] a = absurd a
-        below (w ∷ ws) a = last_below 0 w ws (words_ascend (w ∷ ws) a)
-
         apart : (m n : ℕ) → m ≤ n → nat_eq m n ≡ false → m < n
         apart m n le is = grind (arith, nat_tests)
 
         go : (b : Bool) → nat_eq d.date (date_of mark) ≡ b → d.date / 60 + word_minute (last_word d.words) ≤ mark
         go true here = let at : d.date ≡ date_of mark = eqb-true d.date (date_of mark) here in omega (arith, at, early_last (mark % 1440) d.words are.1.ordered (on.last at))
-        go false here = omega (arith, apart d.date (date_of mark) on.day here, below d.words are.1.ordered, are.1.midnight)
+        go false here = omega (arith, apart d.date (date_of mark) on.day here, words_below d.words are.1.ordered, are.1.midnight)
     by date d (e ∷ ds) are on = by d.date e ds are.2 on
 
 -- BETWEEN THE MARK AND THE NEXT ENTRY no minute tells one, where the newest day begins by the minute behind the mark, has no word behind that

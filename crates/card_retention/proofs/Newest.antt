@@ -8,6 +8,7 @@ use Rattle.activity_codec.specs.declared.entries.Entry.{Entry}
 use Rattle.activity_codec.specs.Words.{word_absent, word_slot, word_crew, word_act, word_minute}
 use Rattle.card_model.specs.Days.{Day, AreDays, AreWords, Ascend, last_word}
 use Rattle.card_model.specs.Changes.{date_of}
+use Rattle.card_model.proofs.Ascending.{words_ascend}
 use Rattle.card_retention.specs.Shown.{is_open}
 use Rattle.card_retention.specs.Entries.{latest, told_by, entry_at, minutes_from, day_entries, entries_up_to, last_entry, newest_word, closed_at, newest_minute, EndsBy}
 
@@ -74,7 +75,7 @@ latest_low low t (v ∷ ws) w a le = ap (λ (o : Option ℕ). elim o as (λ _. O
 
 pub latest_last : (t : ℕ) (ws : List ℕ) → AreWords ws → word_minute (last_word ws) ≤ t → latest ws t ≡ Some (last_word ws)
 latest_last t [] are le = absurd are
-latest_last t (w ∷ ws) are le = latest_low 0 t ws w (omega arith, omega (arith, are.0), subst (λ (k : ℕ). Ascend k ws) (sym are.0) are.1) le
+latest_last t (w ∷ ws) are le = latest_low 0 t ws w (words_ascend (w ∷ ws) are) le
 
 -- AN ENTRY of a minute of a day
 pub record IsEntry (mark : ℕ) (d : Day) (t : ℕ) (e : Entry) : Type 0 where

@@ -1,5 +1,5 @@
 -- The words that a session writes go on with the words of a day, or begin one.
-use Rattle.std.proofs.Common.{◌≡◌, ◌≢◌, ℕ, suc, ◌+◌, ◌*◌, ◌/◌, ◌%◌, ◌<◌, ◌≤◌, Bool, true, false, cond, not, Option, Some, None, List, [], ◌∷◌, ◌++◌, refl, sym, ◌∙◌, ap, subst, arith}
+use Rattle.std.proofs.Common.{◌≡◌, ◌≢◌, ℕ, suc, ◌+◌, ◌*◌, ◌/◌, ◌%◌, ◌<◌, ◌≤◌, Bool, true, false, cond, not, Option, Some, None, List, [], ◌∷◌, ◌++◌, refl, sym, ◌∙◌, ap, arith}
 use Rattle.std.specs.Prelude.{nat_eq, nat_lt, ◌&&◌}
 use Rattle.std.proofs.lemmas.Bool.Decides.{nat_tests}
 use Rattle.std.proofs.lemmas.Bool.{eqb-true, eqb-false, and_parts, not-true}
@@ -7,12 +7,12 @@ use Rattle.activity_codec.specs.declared.values.Activity.{Activity}
 use Rattle.activity_codec.specs.declared.values.Activity.TheVariants.{Rest, Available, Work, Driving}
 use Rattle.activity_codec.specs.declared.entries.Entry.{Entry}
 use Rattle.activity_codec.specs.Words.{slot_number, bit, activity_number, word_minute, word_absent, word_slot}
-use Rattle.card_model.specs.Days.{Day, AreDays, AreWords, last_word}
+use Rattle.card_model.specs.Days.{Day, AreDays, last_word}
 use Rattle.card_model.specs.Changes.{AreStrict, Increase, OnNewest, TakesWord, IsLater, IsNext, date_of, with_newest, with_km}
+use Rattle.card_model.proofs.Ascending.{words_below}
 use Rattle.card_retention.specs.Expected.{is_newest}
 use Rattle.card_retention.specs.Shown.{sizes, is_open, entry_state}
 use Rattle.card_retention.specs.Entries.{EndsBy, newest_word}
-use Rattle.card_retention.proofs.ListTrims.{words_ascend, last_below}
 use Rattle.cyclic_days.specs.declared.head.Tail.{Tail}
 use Rattle.cyclic_days.specs.Held.{tail_by}
 use Rattle.card_session.specs.Books.{closing_word, entry_word, bare_word, day_words, latest_of, tells_state, km_after, travelled}
@@ -107,10 +107,6 @@ entry_top e = omega (arith, act_few e.act)
     act_few Driving = omega arith
 
 -- ---- what the tail tells
-
-pub words_below : (ws : List ℕ) → AreWords ws → word_minute (last_word ws) < 1440
-words_below [] are = absurd are
-words_below (w ∷ ws) are = last_below 0 w ws (words_ascend (w ∷ ws) are)
 
 -- the closing word, of a string whose days are known
 pub closing_told : (date mark : ℕ) (act : Activity) (place used : ℕ) (days : List Day) → AreDays date days

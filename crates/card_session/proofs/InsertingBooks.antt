@@ -10,7 +10,7 @@ use Rattle.activity_codec.specs.declared.entries.Entry.{Entry}
 use Rattle.activity_codec.specs.Words.{word_minute, word_absent, word_slot}
 use Rattle.card_records.specs.declared.vehicle.Vehicle.{Vehicle}
 use Rattle.card_image.specs.Fields.{last_use_of}
-use Rattle.card_image.proofs.Newest.{words_below}
+use Rattle.card_model.proofs.Ascending.{words_below}
 use Rattle.card_model.specs.Days.{Day, AreDays, last_word}
 use Rattle.card_model.specs.Changes.{OnNewest, TakesWord, date_of, trimmed, fitting, with_newest, with_word}
 use Rattle.card_model.proofs.Retention.{remain_some, remain_fitting}

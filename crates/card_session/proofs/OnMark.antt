@@ -7,13 +7,14 @@ use Rattle.activity_codec.specs.declared.entries.Entry.{Entry}
 use Rattle.activity_codec.specs.Words.{word_minute, word_absent}
 use Rattle.card_model.specs.Days.{Day, AreDays, last_word}
 use Rattle.card_model.specs.Changes.{OnNewest, Remain, AreStrict, with_early, early, cut, date_of, trimmed}
+use Rattle.card_model.proofs.Ascending.{words_below}
 use Rattle.card_retention.specs.Expected.{is_newest}
 use Rattle.card_retention.specs.Shown.{AllBefore, sizes, is_open}
 use Rattle.card_retention.specs.Entries.{newest_word, newest_minute}
 use Rattle.card_retention.proofs.Stub.{trimmed_before, trimmed_stub}
 use Rattle.card_session.specs.Books.{bare_word, entry_word, day_words}
 use Rattle.card_session.specs.Sessions.{EndsStrictly}
-use Rattle.card_session.proofs.Following.{entry_minute, words_below}
+use Rattle.card_session.proofs.Following.{entry_minute}
 use Rattle.card_session.proofs.Preparing.{open_date}
 
 -- ---- days that are all before one

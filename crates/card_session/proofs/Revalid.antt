@@ -1,5 +1,5 @@
 -- A valid card whose session was left open is valid at each moment of an insertion.
-use Rattle.std.proofs.Common.{◌≡◌, ◌≢◌, inl, inr, ⊎_elim, ℕ, suc, ◌+◌, ◌*◌, ◌/◌, ◌%◌, ◌<◌, ◌≤◌, max, Bool, true, false, not, ◌&&◌, cond, Option, Some, None, List, [], ◌∷◌, ◌++◌, length, filter, refl, sym, ◌∙◌, ap, subst, arith}
+use Rattle.std.proofs.Common.{◌≡◌, ◌≢◌, inl, inr, ⊎_elim, ℕ, suc, ◌+◌, ◌*◌, ◌/◌, ◌%◌, ◌≤◌, max, Bool, true, false, not, ◌&&◌, cond, Option, Some, None, List, [], ◌∷◌, ◌++◌, length, filter, refl, sym, ◌∙◌, ap, subst, arith}
 use Rattle.std.specs.Prelude.{◌⊎◌, nat_eq, nat_lt, nat_le}
 use Rattle.std.specs.List.{AllByRecursion}
 use Rattle.std.proofs.lemmas.Bool.{eq-eqb, le-ltb}
@@ -17,10 +17,10 @@ use Rattle.card_model.specs.Days.{Day, AreDays, AreWords, Ascend, last_word, len
 use Rattle.card_model.specs.Changes.{OnNewest, date_of, trimmed, with_newest, with_word}
 use Rattle.card_model.specs.Checks.{first_failing, first_bad, file_place}
 use Rattle.card_model.specs.Image.{oldest_pointer}
+use Rattle.card_model.proofs.Ascending.{words_ascend, words_below, first_last}
 use Rattle.card_model.proofs.Judging.{holds_passes}
 use Rattle.card_model.proofs.Trims.{are_trimmed, trim_from_moment, trimmed_twice}
 use Rattle.card_retention.specs.Entries.{newest_word}
-use Rattle.card_retention.proofs.ListTrims.{words_ascend}
 use Rattle.gated_ring.specs.Ring.{PointsInside}
 use Rattle.gated_ring.proofs.Elsewhere.{points_elsewhere}
 use Rattle.card_image.specs.Fields.{file, day_string, vehicle_ring, last_of, last_use_of, card_days, end_mark, session_time}
@@ -39,7 +39,6 @@ use Rattle.card_session.specs.Inserting.{AreOwed, Follow, lacked, with_cut, with
 use Rattle.card_session.specs.Repairs.{BeginsLater, lacked_by}
 use Rattle.card_session.proofs.Composing.{told_book}
 use Rattle.card_session.proofs.OnCard.{ring_shape, ring_behind, ring_inside, string_shape}
-use Rattle.card_session.proofs.Following.{words_below}
 use Rattle.card_session.proofs.Preparing.{ends_by}
 use Rattle.card_session.proofs.Marks.{session_same}
 use Rattle.card_session.proofs.Stopping.{book_days}
@@ -53,10 +52,6 @@ use Rattle.card_session.proofs.Replaying.{with_are, with_before, with_later, rep
 use Rattle.card_session.proofs.Repairing.{lacked_many, mark_beside}
 
 -- ---- no word stands behind the end mark
-
-first_last : (low w : ℕ) (ws : List ℕ) → Ascend low (w ∷ ws) → word_minute w ≤ word_minute (last_word (w ∷ ws))
-first_last low w [] up = omega arith
-first_last low w (v ∷ ws) up = omega (arith, up.2.0, first_last (word_minute w) v ws up.2)
 
 module _ (mark size oldest : ℕ) where
   abbrev late : PlacedWord → Bool

@@ -20,14 +20,14 @@ use Rattle.card_model.specs.Days.{Day, AreDays, AreWords, Ascend, len_of, last_w
 use Rattle.card_model.specs.Changes.{OnNewest, AreStrict, Increase, fitting, date_of, trimmed, TakesWord}
 use Rattle.card_model.specs.Image.{oldest_pointer}
 use Rattle.card_model.specs.Checks.{first_bad, first_failing, file_place}
+use Rattle.card_model.proofs.Ascending.{early_words_all}
 use Rattle.card_model.proofs.Judging.{holds_passes}
 use Rattle.card_model.proofs.Retention.{remain_fitting, remain_some}
 use Rattle.card_model.proofs.Trims.{are_trimmed}
 use Rattle.card_retention.specs.Expected.{is_newest}
 use Rattle.card_retention.specs.Shown.{sizes, is_open}
 use Rattle.card_retention.specs.Entries.{newest_word}
-use Rattle.card_retention.proofs.Flat.{UpTo, flat_newest, early_all}
-use Rattle.card_retention.proofs.ListTrims.{words_ascend}
+use Rattle.card_retention.proofs.Flat.{UpTo, flat_newest}
 use Rattle.card_image.specs.Fields.{file, file_bytes, day_string, vehicle_ring, place_ring, last_use_of, card_days, end_mark, session_time}
 use Rattle.card_image.specs.Beside.{HaveSameSizes, HaveSamePlacePointer}
 use Rattle.card_image.specs.Judging.{file_check, first_bad_of, first_bad_file, pointer_bad, word_checks, words_behind_mark, days_placed, newest_rises, rising_checks, words_placed, IsValid}
@@ -162,7 +162,7 @@ flat_of m date (d ∷ ds) are low = flat_newest m date (d ∷ ds) are (up date d
     up : (date : ℕ) (d : Day) (ds : List Day) → AreDays date (d ∷ ds) → newest_word (d ∷ ds) ≤ m → OnNewest (UpTo m) (d ∷ ds)
     up date d [] are low = record {
       day = omega (arith, low, are.1.midnight);
-      last = λ at. early_all 0 (m % 1440) d.words (words_ascend d.words are.1.ordered) (omega (arith, low, at));
+      last = λ at. early_words_all (m % 1440) d.words are.1.ordered (omega (arith, low, at));
     }
     up date d (e ∷ ds) are low = up d.date e ds are.2 low
 

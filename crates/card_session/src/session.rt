@@ -18,11 +18,11 @@ ghost use Rattle.card_session.specs.Parts.{DoesPart, IsPartDone, IsPartMoment, H
 
 use crate::vehicle_use::{begun, counter_behind, goes_on, last_use, measured, used};
 use crate::words::{
-    DAY_MINUTES, bare_word, closing, date_of, distance, entry_change, entry_word, gap_word,
-    is_newest_day,
+    DAY_MINUTES, bare_word, closing, distance, entry_change, entry_word, gap_word, is_newest_day,
 };
 use activity_codec::{Activity, Entry, Pick};
 use card_files::file_range;
+use card_judge::date_of;
 use card_layout::{Application, Fid};
 use card_records::{Vehicle, write_vehicle};
 use cyclic_days::{Days, Tail};

@@ -1,11 +1,11 @@
 //! The change words of a session (Annex IB, Appendix 1, ActivityChangeInfo; when each is written: profile).
 ghost use Rattle.std.specs.Prelude.{◌≡◌, ◌≤◌, ◌<◌, ◌+◌, ◌^◌, IfSome};
-ghost use Rattle.card_model.specs.Changes.{date_of};
 ghost use Rattle.card_session.specs.Books.{entry_word, bare_word, km_after};
 ghost use Rattle.card_session.specs.declared.words.TheConstants.{LATEST_MINUTE};
 ghost use Rattle.card_session.specs.Telling.{closing_at, gap_word, is_newest_day, entry_change, km_told};
 
 use activity_codec::{Activity, Change, Entry, Slot, decode_change, encode_change};
+use card_judge::date_of;
 use cyclic_days::Tail;
 use tacho_types::Distance;
 
@@ -19,14 +19,6 @@ pub const LATEST_MINUTE: u32 = 71_582_787;
 
 /// No distance of a day is told as more, in km.
 const MOST_KM: u32 = 9999;
-
-/// The first second of the day of a minute.
-pub fn date_of(minute: u32) -> u32
-    requires { minute ≤ LATEST_MINUTE + 1 }
-    ensures { result ≡ date_of minute }
-{
-    minute / DAY_MINUTES * DAY_SECONDS
-}
 
 /// The word of an entry.
 pub fn entry_word(entry: &Entry) -> u16

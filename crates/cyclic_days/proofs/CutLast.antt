@@ -5,10 +5,10 @@ use Rattle.std.proofs.lemmas.Bool.Decides.{nat_tests}
 use Rattle.tach_media.specs.Medium.{put, bytes_at, SameOutside, IsPartlyWritten}
 use Rattle.tach_media.proofs.Images.{put_outside, outside_same, outside_then, outside_wider}
 use Rattle.card_model.specs.Bytes.{number, two_bytes}
-use Rattle.activity_codec.specs.Words.{word_minute}
-use Rattle.card_model.specs.Days.{Day, len_of, total, Ascend, AreWords, IsDay, AreDays, record_of, records}
+use Rattle.card_model.specs.Days.{Day, len_of, total, IsDay, AreDays, record_of, records}
 use Rattle.card_model.specs.Image.{StringShape, IsStringShape, turned, oldest_pointer, newest_pointer, string_of, IsPointer, IsPlace, Holds, IsAt, at}
 use Rattle.card_model.specs.Changes.{with_newest, until, early, with_early, date_of, cut, AllLater, Shorter}
+use Rattle.card_model.proofs.Ascending.{words_below, early_words_all}
 use Rattle.card_model.proofs.Lists.{total-append, previous_of, len_even, len_least, len_most}
 use Rattle.card_model.proofs.Numbers.{number_two}
 use Rattle.card_model.proofs.Reading.{place_then, fills, from_day, day_is}
@@ -23,27 +23,13 @@ use Rattle.cyclic_days.proofs.Lists.{split, some_newest}
 use Rattle.cyclic_days.proofs.LoadLemmas.{in_twelve}
 use Rattle.cyclic_days.proofs.Places.{Stands, stands}
 
--- all words are early where they ascend below 1440
-early_all : (prev : ℕ) (ws : List ℕ) → Ascend prev ws → early 1439 ws ≡ ws
-early_all prev [] up = refl
-early_all prev (w ∷ ws) up =
-    let test : nat_le (word_minute w) 1439 ≡ true = passes (word_minute w) up.1 in
-    ap (λ (b : Bool). cond b (w ∷ early 1439 ws) []) test ∙ ap (λ (l : List ℕ). w ∷ l) (early_all (word_minute w) ws up.2)
-  where
-    passes : (n : ℕ) → n < 1440 → nat_le n 1439 ≡ true
-    passes n lt = grind (arith, nat_tests)
-
-early_words_all : (ws : List ℕ) → AreWords ws → early 1439 ws ≡ ws
-early_words_all [] are = absurd are
-early_words_all (w ∷ ws) are = early_all 0 (w ∷ ws) (omega arith, omega (arith, are.0), subst (λ (m : ℕ). Ascend m ws) (sym are.0) are.1)
-
 -- a day cut is the day up to some minute of the day
 cut_is : (minute : ℕ) (d : Day) → IsDay d → (m : ℕ) × (cut minute d ≡ with_early m d)
 cut_is minute d is = by (nat_eq d.date (date_of minute)) refl
   where
     by : (b : Bool) → nat_eq d.date (date_of minute) ≡ b → (m : ℕ) × (cut minute d ≡ with_early m d)
     by true test = (minute % 1440, ap (λ (b : Bool). cond b (with_early (minute % 1440) d) d) test)
-    by false test = (1439, ap (λ (b : Bool). cond b (with_early (minute % 1440) d) d) test ∙ ap (λ (ws : List ℕ). record d { words = ws }) (sym (early_words_all d.words is.ordered)))
+    by false test = (1439, ap (λ (b : Bool). cond b (with_early (minute % 1440) d) d) test ∙ ap (λ (ws : List ℕ). record d { words = ws }) (sym (early_words_all 1439 d.words is.ordered (omega (arith, words_below d.words is.ordered)))))
 
 -- the words that stay, by the date
 pub cut_same : (minute : ℕ) (d : Day) → d.date ≢ date_of minute → length (cut minute d).words ≡ length d.words

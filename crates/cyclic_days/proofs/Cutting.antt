@@ -8,6 +8,7 @@ use Rattle.activity_codec.specs.Words.{word_minute}
 use Rattle.card_model.specs.Days.{Day, len_of, total, far, body, record_of, records, word_bytes, Ascend, AreWords, IsDay}
 use Rattle.card_model.specs.Image.{StringShape, oldest_pointer, newest_pointer, IsPointer, IsPlace, Holds}
 use Rattle.card_model.specs.Changes.{early, with_early}
+use Rattle.card_model.proofs.Ascending.{words_ascend}
 use Rattle.card_model.proofs.Circle.{put_back}
 use Rattle.card_model.proofs.Lists.{word_bytes-append, previous_of, records_length, far_last, last_is}
 use Rattle.card_model.proofs.Trims.{early_few, early_words}
@@ -47,8 +48,7 @@ rise m (w ∷ ws) (suc i) (suc j) up le lt = rise (word_minute w) ws i j up.2 (o
 
 -- a word of a day is not later than one behind it
 pub words_rise : (ws : List ℕ) (i j : ℕ) → AreWords ws → i ≤ j → j < length ws → word_minute (get_or ws i 0) ≤ word_minute (get_or ws j 0)
-words_rise [] i j are le lt = absurd are
-words_rise (w ∷ ws) i j are le lt = rise 0 (w ∷ ws) i j (omega arith, omega (arith, are.0), subst (λ (m : ℕ). Ascend m ws) (sym are.0) are.1) le lt
+words_rise ws i j are le lt = rise 0 ws i j (words_ascend ws are) le lt
 
 -- how many are early, by what a search finds
 pub early_is : (m : ℕ) (ws : List ℕ) (k : ℕ) → k ≤ length ws → ((j : ℕ) → j < k → word_minute (get_or ws j 0) ≤ m) → (k ≡ length ws) ⊎ (m < word_minute (get_or ws k 0)) → k ≡ length (early m ws)

@@ -8,7 +8,7 @@ use Rattle.tach_media.proofs.Images.{put_outside, outside_wider, outside_then}
 use Rattle.gated_ring.specs.Ring.{Shape, IsShape, size_of, place_of, gate_of, pointer, PointsInside, is_there, entry_at, next, taken, gate_bytes, gate_number, with_head, IsDense}
 use Rattle.gated_ring.specs.Change.{SameOthers, IsExtended, IsAddStep, IsAdding, IsAdded}
 use Rattle.gated_ring.specs.Plans.{pointer_bytes}
-use Rattle.gated_ring.proofs.Steps.{freed, filled, pointed, placed, IsPlacing}
+use Rattle.gated_ring.proofs.Steps.{freed, with_body, pointed, placed, IsPlacing}
 use Rattle.gated_ring.proofs.Others.{IsShut, IsFree, others_none, others_then, others_same, pointer_same, inside_ring, shut_zeros, shut_filling, free_shut, free_pointing, pointer_length, pointer_put, pointer_outside, gate_outside}
 use Rattle.gated_ring.proofs.Listing.{taken_below, shortened_indices, shortened_list, extended_indices, extended_list}
 use Rattle.gated_ring.proofs.Dense.{dense_shortened, dense_extended, newest_shortened, newest_extended}
@@ -17,7 +17,7 @@ use Rattle.gated_ring.proofs.Writing.{full, shut_0, shut_1, gate_length, opened_
 module _ (r : Shape) (shape : IsShape r) (x : List ℕ) (inside : r.base + size_of r ≤ length x) (i : ℕ) (below : i < r.count)
     (head : List ℕ) (gate_fits : r.gate + 4 ≤ length head) (width_fits : length head ≤ r.width) (p : ℕ) where
   abbrev y1 : List ℕ
-  y1 = filled r i head (freed r i x)
+  y1 = with_body r i head (freed r i x)
 
   abbrev y2 : List ℕ
   y2 = pointed r p i y1

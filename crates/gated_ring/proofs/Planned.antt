@@ -11,7 +11,7 @@ use Rattle.gated_ring.specs.declared.room.Room.{Room}
 use Rattle.gated_ring.specs.Ring.{Shape, IsShape, size_of, place_of, gate_of, pointer, PointsInside, is_there, taken, gate_bytes, gate_number, number_at}
 use Rattle.gated_ring.specs.Change.{IsAdding, IsAdded, IsReplaced, IsReplacingEntry, pointer_writes, adding_writes, replacing_writes}
 use Rattle.gated_ring.specs.Plans.{some_piece, shut_pieces, body_pieces, pointer_bytes, pointer_pieces, gate_pieces, placing_pieces, room_in, adding_pieces, exchanging_pieces, replacing_pieces}
-use Rattle.gated_ring.proofs.Steps.{freed, filled, pointed, placed, replaced, IsFilling, IsPlacing, IsReplacing}
+use Rattle.gated_ring.proofs.Steps.{freed, with_body, pointed, placed, replaced, IsFilling, IsPlacing, IsReplacing}
 use Rattle.gated_ring.proofs.Places.{place_high}
 use Rattle.gated_ring.proofs.Filling.{filling_front, filling_back}
 use Rattle.gated_ring.proofs.Writing.{shut_0}
@@ -72,7 +72,7 @@ pointer_partway r last i x c = by (last == i)
     by false (inl part) = part
     by false (inr none) = absurd none
 
-body_put : (r : Shape) (i : ℕ) (head x : List ℕ) → put_all (body_pieces r i head) x ≡ filled r i head x
+body_put : (r : Shape) (i : ℕ) (head x : List ℕ) → put_all (body_pieces r i head) x ≡ with_body r i head x
 body_put r i head x =
     put_all-append (some_piece (place_of r i) (take r.gate head)) (some_piece (gate_of r i + 4) (drop (r.gate + 4) head)) x
     ∙ some_put (gate_of r i + 4) (drop (r.gate + 4) head) (put_all (some_piece (place_of r i) (take r.gate head)) x)
@@ -152,13 +152,13 @@ module _ (r : Shape) (shape : IsShape r) (x : List ℕ) (inside : r.base + size_
   y0 = freed r i x
 
   abbrev y1 : List ℕ
-  y1 = filled r i head y0
+  y1 = with_body r i head y0
 
   freed_put : put_all (shut_pieces r i used) x ≡ y0
   freed_put = ap (λ (b : Bool). put_all (shut_pieces r i b) x) used_is ∙ shut_put r i x
 
-  filled_put : put_all (body_pieces r i head) (put_all (shut_pieces r i used) x) ≡ y1
-  filled_put = body_put r i head (put_all (shut_pieces r i used) x) ∙ ap (filled r i head) freed_put
+  body_placed : put_all (body_pieces r i head) (put_all (shut_pieces r i used) x) ≡ y1
+  body_placed = body_put r i head (put_all (shut_pieces r i used) x) ∙ ap (with_body r i head) freed_put
 
   front_length : length front ≡ r.gate
   front_length = length-take-le r.gate head (omega (arith, gate_fits))
@@ -184,13 +184,13 @@ module _ (r : Shape) (shape : IsShape r) (x : List ℕ) (inside : r.base + size_
       (λ part. inl (shut_partway r i x c used part))
       (λ part. inr (⊎_elim
       (λ body. inl (body_partway c (subst (λ (y : List ℕ). IsPartway (body_pieces r i head) y c) freed_put body)))
-      (λ behind. inr (subst (λ (y : List ℕ). IsPartway rest y c) filled_put behind))
+      (λ behind. inr (subst (λ (y : List ℕ). IsPartway rest y c) body_placed behind))
       (partway_either (body_pieces r i head) rest (put_all (shut_pieces r i used) x) c part)))
       (partway_either (shut_pieces r i used) (body_pieces r i head ++ rest) x c here)
 
   begun_put : (rest : List Piece) → put_all (shut_pieces r i used ++ (body_pieces r i head ++ rest)) x ≡ put_all rest y1
   begun_put rest =
-      put_all-append (shut_pieces r i used) (body_pieces r i head ++ rest) x ∙ put_all-append (body_pieces r i head) rest (put_all (shut_pieces r i used) x) ∙ ap (put_all rest) filled_put
+      put_all-append (shut_pieces r i used) (body_pieces r i head ++ rest) x ∙ put_all-append (body_pieces r i head) rest (put_all (shut_pieces r i used) x) ∙ ap (put_all rest) body_placed
 
   -- of an entry that takes another's place
   pub exchanged : put_all (exchanging_pieces r i used head) x ≡ replaced r i head x

@@ -9,7 +9,7 @@ use Rattle.tach_media.specs.Medium.{put, bytes_at, SameOutside, IsPartlyWritten}
 use Rattle.tach_media.proofs.Images.{put_outside, part_before, part_after, part_put, part_split, outside_wider, outside_then}
 use Rattle.gated_ring.specs.Ring.{Shape, IsShape, size_of, place_of, gate_of, pointer, PointsInside, is_there, entry_at, next, order, indices, indices_with, indices_without, gate_bytes, gate_number, with_head, up_to, IsRun, IsDense}
 use Rattle.gated_ring.specs.Change.{SameOthers, IsReplaced, IsAbsent, IsReplacingEntry, IsClosed, IsSet, OrUnwritten}
-use Rattle.gated_ring.proofs.Steps.{freed, filled, replaced, IsReplacing}
+use Rattle.gated_ring.proofs.Steps.{freed, with_body, replaced, IsReplacing}
 use Rattle.gated_ring.proofs.Places.{place_high}
 use Rattle.gated_ring.proofs.Others.{IsShut, others_same, pointer_same, shut_zeros, shut_filling}
 use Rattle.gated_ring.proofs.Orders.{Each, each_weaker, each_filter, next_below, rest, rest_others, order_each, filter_same, map_same, without_none, without_one, without_last}
@@ -234,7 +234,7 @@ module _ (r : Shape) (shape : IsShape r) (x : List ℕ) (inside : r.base + size_
   -- the whole entry, gate last
   module _ (head : List ℕ) (gate_fits : r.gate + 4 ≤ length head) (width_fits : length head ≤ r.width) (gate_open : gate_number r head ≢ 0) where
     abbrev y1 : List ℕ
-    y1 = filled r i head (freed r i x)
+    y1 = with_body r i head (freed r i x)
 
     is_shut : IsShut r i x y1
     is_shut = shut_1 r shape x inside i below head gate_fits width_fits

@@ -9,8 +9,8 @@ abbrev pub freed : Shape → ℕ → List ℕ → List ℕ
 freed r i x = if is_there r x i then put (gate_of r i) (replicate 4 0) x else x
 
 -- then the bytes before the gate, and those behind it
-abbrev pub filled : Shape → ℕ → List ℕ → List ℕ → List ℕ
-filled r i head x = put (gate_of r i + 4) (drop (r.gate + 4) head) (put (place_of r i) (take r.gate head) x)
+abbrev pub with_body : Shape → ℕ → List ℕ → List ℕ → List ℕ
+with_body r i head x = put (gate_of r i + 4) (drop (r.gate + 4) head) (put (place_of r i) (take r.gate head) x)
 
 -- then the pointer where it differs
 abbrev pub pointed : Shape → ℕ → ℕ → List ℕ → List ℕ
@@ -21,10 +21,10 @@ abbrev pub opened : Shape → ℕ → List ℕ → List ℕ → List ℕ
 opened r i head x = put (gate_of r i) (gate_bytes r head) x
 
 abbrev pub replaced : Shape → ℕ → List ℕ → List ℕ → List ℕ
-replaced r i head x = opened r i head (filled r i head (freed r i x))
+replaced r i head x = opened r i head (with_body r i head (freed r i x))
 
 abbrev pub placed : Shape → ℕ → ℕ → List ℕ → List ℕ → List ℕ
-placed r last i head x = opened r i head (pointed r last i (filled r i head (freed r i x)))
+placed r last i head x = opened r i head (pointed r last i (with_body r i head (freed r i x)))
 
 -- the bytes of an entry beside its gate may have changed
 pub record IsFilling (r : Shape) (i : ℕ) (x c : List ℕ) : Type 0 where
@@ -36,12 +36,12 @@ abbrev pub IsReplacing : Shape → ℕ → List ℕ → List ℕ → List ℕ �
 IsReplacing r i head x c =
     IsPartlyWritten (gate_of r i) (replicate 4 0) x c
     ⊎ (IsFilling r i (freed r i x) c
-    ⊎ IsPartlyWritten (gate_of r i) (gate_bytes r head) (filled r i head (freed r i x)) c)
+    ⊎ IsPartlyWritten (gate_of r i) (gate_bytes r head) (with_body r i head (freed r i x)) c)
 
 -- with the pointer, which is moved before the gate is opened
 abbrev pub IsPlacing : Shape → ℕ → ℕ → List ℕ → List ℕ → List ℕ → Type 0
 IsPlacing r last i head x c =
     IsPartlyWritten (gate_of r i) (replicate 4 0) x c
     ⊎ (IsFilling r i (freed r i x) c
-    ⊎ (IsPartlyWritten r.base (pointer_bytes r i) (filled r i head (freed r i x)) c
-    ⊎ IsPartlyWritten (gate_of r i) (gate_bytes r head) (pointed r last i (filled r i head (freed r i x))) c))
+    ⊎ (IsPartlyWritten r.base (pointer_bytes r i) (with_body r i head (freed r i x)) c
+    ⊎ IsPartlyWritten (gate_of r i) (gate_bytes r head) (pointed r last i (with_body r i head (freed r i x))) c))

@@ -7,7 +7,7 @@ use Rattle.std.proofs.lemmas.List.{length-take-le, drop-take, drop-drop}
 use Rattle.tach_media.specs.Medium.{put, bytes_at, SameOutside, IsPartlyWritten}
 use Rattle.tach_media.proofs.Images.{put_outside, part_before, part_after, part_put, part_split, outside_same}
 use Rattle.gated_ring.specs.Ring.{Shape, IsShape, size_of, place_of, gate_of, is_there, entry_at, gate_bytes, gate_number, with_head}
-use Rattle.gated_ring.proofs.Steps.{freed, filled, opened, IsFilling}
+use Rattle.gated_ring.proofs.Steps.{freed, with_body, opened, IsFilling}
 use Rattle.gated_ring.proofs.Places.{place_high}
 use Rattle.gated_ring.proofs.Filling.{filling_back}
 use Rattle.gated_ring.proofs.Others.{IsShut, shut_freed, shut_filling, gate_outside}
@@ -54,7 +54,7 @@ module _ (r : Shape) (shape : IsShape r) (x : List ℕ) (inside : r.base + size_
   y0 = freed r i x
 
   abbrev y1 : List ℕ
-  y1 = filled r i head y0
+  y1 = with_body r i head y0
 
   abbrev front_put : List ℕ
   front_put = put (place_of r i) (take r.gate head) y0

@@ -26,3 +26,4 @@ pub mod Retaining
 pub mod MendedOwed
 mod OwedBeside
 pub mod NoSuchDay
+pub mod Refused

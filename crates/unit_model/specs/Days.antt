@@ -2,17 +2,15 @@
 use Rattle.std.specs.Prelude.{ℕ, ◌+◌, ◌-◌, ◌*◌, ◌/◌, ◌%◌, Bool, ◌&&◌, List, [], ◌∷◌, ◌++◌, length, drop, map, filter, nat_le, ◌==◌, if◌then◌else◌, fold, flat_map}
 use Rattle.std.specs.List.{range_with_len}
 use Rattle.activity_codec.specs.Words.{activity_numbered}
+pub use Rattle.activity_codec.specs.Words.{word_minute}
 use Rattle.view_model.specs.declared.State.{State}
 
--- a word's slot, the bits of its state (CREW, no card, activity), and its minute of the day (Appendix 1, ActivityChangeInfo)
+-- a word's slot, and the bits of its state (CREW, no card, activity) (Appendix 1, ActivityChangeInfo)
 abbrev pub slot_bit : ℕ → ℕ
 slot_bit w = w / 32768 % 2
 
 abbrev pub word_state : ℕ → ℕ
 word_state w = w / 2048 % 16
-
-abbrev pub word_minute : ℕ → ℕ
-word_minute w = w % 2048
 
 abbrev pub word_by : (slot state minute : ℕ) → ℕ
 word_by slot state minute = 32768 * slot + 2048 * state + minute

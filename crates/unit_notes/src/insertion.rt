@@ -1,5 +1,5 @@
 //! Insertions of cards.
-ghost use Rattle.std.specs.Prelude.{◌≡◌, ◌^◌, ◌<◌, length};
+ghost use Rattle.std.specs.Prelude.{◌≡◌, ◌+◌, ◌^◌, ◌<◌, length};
 ghost use Rattle.byte_fields.specs.Fields.{joined};
 ghost use Rattle.byte_fields.specs.Images.{number_at};
 ghost use Rattle.unit_notes.specs.Entries.{holder_fields, use_fields, insertion_bytes};
@@ -39,14 +39,14 @@ impl Insertion {
 /// What is known of the card's holder: names, card number and expiry.
 const HOLDER: usize = 94;
 
-// Writes an insertion into 129 bytes.
+// Writes an insertion.
 #[tactic(auto, unfolding(crate::specs::Entries::insertion_bytes))]
 pub fn write_insertion(v: &Insertion, out: &mut [u8])
-    requires size { length out.old ≡ 129 }
+    requires size { length out.old ≡ Insertion.SIZE }
     requires odometer { v.now.odometer.0 < 2 ^ 24 }
     requires out_odometer { v.now.out_odometer.0 < 2 ^ 24 }
     ensures bytes { out.new ≡ insertion_bytes v.now }
-    ensures time { number_at out.new 94 4 ≡ v.now.time.0 }
+    ensures time { number_at out.new HOLDER 4 ≡ v.now.time.0 }
 {
     let (holder, behind) = out.split_at_mut(HOLDER);
     write_holder(v, holder);
@@ -55,7 +55,7 @@ pub fn write_insertion(v: &Insertion, out: &mut [u8])
 
 // Writes what an insertion tells of the card's holder.
 fn write_holder(v: &Insertion, out: &mut [u8])
-    requires size { length out.old ≡ 94 }
+    requires size { length out.old ≡ HOLDER }
     ensures bytes { out.new ≡ joined (holder_fields v.now) }
 {
     let (surname, out) = out.split_at_mut(Name36::SIZE);
@@ -69,7 +69,7 @@ fn write_holder(v: &Insertion, out: &mut [u8])
 
 // Writes what an insertion tells behind its holder: times, odometer values, the slot and the previous vehicle.
 fn write_use(v: &Insertion, out: &mut [u8])
-    requires size { length out.old ≡ 35 }
+    requires size { HOLDER + length out.old ≡ Insertion.SIZE }
     requires odometer { v.now.odometer.0 < 2 ^ 24 }
     requires out_odometer { v.now.out_odometer.0 < 2 ^ 24 }
     ensures bytes { out.new ≡ joined (use_fields v.now) }

@@ -73,8 +73,8 @@ pub fn set_part<M: Medium>(
 ) -> Result<(), Failed>
     requires unit { IsUnit (M.state unit.old) }
     requires index { index < insertion_ring.count }
-    requires behind { 98 ≤ offset }
-    requires inside { offset + length bytes.now ≤ 129 }
+    requires behind { TIME + 4 ≤ offset }
+    requires inside { offset + length bytes.now ≤ Insertion.SIZE }
     requires some { 0 < length bytes.now }
     requires few { length bytes.now ≤ 4 }
     ensures set { OnOk result (IfSome (M.state unit.old).image (λ x. IfSome (M.state unit.new).image (IsSet insertion_ring index offset bytes.now x))) }
@@ -87,12 +87,12 @@ pub fn set_part<M: Medium>(
     insertions().set_small(unit, index, offset, bytes)
 }
 
-// Writes a place of a card's holder into 28 bytes.
+// Writes a place of a card's holder.
 pub fn write_unit_place(number: &FullCardNumber, entry: &PlaceEntry, out: &mut [u8])
-    requires size { length out.old ≡ 28 }
+    requires size { length out.old ≡ PLACE_SIZE }
     requires odometer { entry.now.odometer.0 < 2 ^ 24 }
     ensures bytes { out.new ≡ unit_place_bytes number.now entry.now }
-    ensures time { number_at out.new 18 4 ≡ entry.now.time.0 }
+    ensures time { number_at out.new FullCardNumber.SIZE 4 ≡ entry.now.time.0 }
 {
     let (front, place) = out.split_at_mut(FullCardNumber::SIZE);
     write_card_number(number, front);
