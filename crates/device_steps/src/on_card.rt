@@ -6,7 +6,8 @@ ghost use Rattle.card_retention.specs.Expected.{Counted, with_entry};
 ghost use Rattle.card_retention.specs.Shown.{Bound};
 ghost use Rattle.card_session.specs.declared.words.TheConstants.{LATEST_MINUTE};
 ghost use Rattle.card_commands.specs.Ports.{IsPort};
-ghost use Rattle.card_session.specs.Sessions.{MayKeep};
+ghost use Rattle.card_session.specs.Sessions.{IsSession, MayKeep};
+ghost use Rattle.card_session.specs.Cards.{IsCardKept, IsCardKeeping};
 ghost use Rattle.card_session.specs.Overwriting.{and_entry};
 ghost use Rattle.card_steps.specs.Shows.{IsKeepShown, IsDone};
 ghost use Rattle.log_model.specs.declared.lines.Mark.{Mark};
@@ -38,6 +39,8 @@ fn keep_by<M: Medium, C: Medium>(
     requires fits { kept.now.odometer.0 < 2 ^ 24 }
     ensures same { (session.new.application ≡ session.old.application) × (session.new.registration ≡ session.old.registration) }
     ensures last { OnOk result ((session.new.minute ≡ kept.now.entry.minute) × (session.new.odometer ≡ Some kept.now.odometer)) }
+    ensures keeping { LeavesOnly (C.state card.old) (C.state card.new) (λ x y. IsSession session.old x → IsCardKeeping session.old kept.now.entry kept.now.odometer.0 x y) }
+    ensures kept { OnOk result (IfSome (C.state card.old).image (λ x. IfSome (C.state card.new).image (λ y. IsSession session.old x → IsCardKept session.old session.new kept.now.entry kept.now.odometer.0 x y))) }
     ensures shown { (slack : Bound) (covered from : ℕ) (c : Counted) (all : List Entry) → LeavesOnly (C.state card.old) (C.state card.new)
         (λ x y. IsReady session.old slack covered from c all kept.now.entry x → IsKeepShown session.old.application slack covered c all kept.now.entry x y) }
     ensures done { (slack : Bound) (covered from : ℕ) (c : Counted) (all : List Entry) → OnOk result (IfSome (C.state card.old).image (λ x. IfSome (C.state card.new).image (λ y.
@@ -77,6 +80,8 @@ pub fn keep_on_card<M: Medium, C: Chip>(
     requires fits { kept.now.odometer.0 < 2 ^ 24 }
     ensures same { (session.new.application ≡ session.old.application) × (session.new.registration ≡ session.old.registration) }
     ensures last { OnOk result ((session.new.minute ≡ kept.now.entry.minute) × (session.new.odometer ≡ Some kept.now.odometer)) }
+    ensures keeping { LeavesOnly (C.state card.old) (C.state card.new) (λ x y. IsSession session.old x → IsCardKeeping session.old kept.now.entry kept.now.odometer.0 x y) }
+    ensures kept { OnOk result (IfSome (C.state card.old).image (λ x. IfSome (C.state card.new).image (λ y. IsSession session.old x → IsCardKept session.old session.new kept.now.entry kept.now.odometer.0 x y))) }
     ensures shown { (slack : Bound) (covered from : ℕ) (c : Counted) (all : List Entry) → LeavesOnly (C.state card.old) (C.state card.new)
         (λ x y. IsReady session.old slack covered from c all kept.now.entry x → IsKeepShown session.old.application slack covered c all kept.now.entry x y) }
     ensures done { (slack : Bound) (covered from : ℕ) (c : Counted) (all : List Entry) → OnOk result (IfSome (C.state card.old).image (λ x. IfSome (C.state card.new).image (λ y.

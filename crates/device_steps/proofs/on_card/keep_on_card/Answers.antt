@@ -2,7 +2,8 @@ use Rattle.std.proofs.Common.{rules, ◌≡◌, List, [], ◌∷◌, IfSome, sym
 use Rattle.card_layout.specs.declared.files.Application.{Application}
 use Rattle.tach_media.specs.Medium.{State, LeavesOnly, lent}
 use Rattle.card_commands.specs.Ports.{port_state}
-use Rattle.card_session.specs.Sessions.{MayKeep}
+use Rattle.card_session.specs.Sessions.{IsSession, MayKeep}
+use Rattle.card_session.specs.Cards.{IsCardKeeping}
 use Rattle.card_steps.specs.Shows.{IsKeepShown}
 use Rattle.joint_rule.specs.Rules.{In}
 use Rattle.device_steps.specs.OnCard.{IsReady}
@@ -27,6 +28,22 @@ returns-clause-shown g c = λ slack covered from count all.
     let shown = subst (λ (s : State). LeavesOnly s (g.C.Chip.state c.keep_by.new.card.chip.now)
     (λ x y. IsReady c.args.session.now slack covered from count all c.args.kept.now.entry x → IsKeepShown c.args.session.now.application slack covered count all c.args.kept.now.entry x y)) was run in
     search (rules, shown)
+
+pub returns-clause-keeping : goal.returns-clause-keeping
+returns-clause-keeping g c =
+    let name = c.resume-port.result.chip.ghost_name in
+    let after = c.keep_by.new.card.chip.ghost_name in
+    let X = g.C.Chip.state c.resume-port.result.chip.now in
+    let Y = g.C.Chip.state c.keep_by.new.card.chip.now in
+    let was : g.C.Chip.state c.resume-port.result.chip.now ≡ g.C.Chip.state c.args.card.now = search rules in
+    let same = port_same c.resume-port.result.application c.keep_by.new.card.application name after X Y c.keep_by.ensures.leaves in
+    let run = port_leaves c.resume-port.result.application c.keep_by.new.card.application name after X Y same c.keep_by.ensures.keeping in
+    let keeping = subst (λ (s : State). LeavesOnly s (g.C.Chip.state c.keep_by.new.card.chip.now)
+    (λ x y. IsSession c.args.session.now x → IsCardKeeping c.args.session.now c.args.kept.now.entry c.args.kept.now.odometer.0 x y)) was run in
+    search (rules, keeping)
+
+pub returns-clause-kept : goal.returns-clause-kept
+returns-clause-kept g c = let kept = c.keep_by.ensures.kept in search (rules, kept)
 
 pub returns-clause-done : goal.returns-clause-done
 returns-clause-done g c = λ slack covered from count all.
