@@ -1,5 +1,5 @@
 -- Decided minutes are kept, one after another.
-use Rattle.std.proofs.Common.{◌≡◌, ◌∙◌, inl, inr, ℕ, ◌+◌, ◌<◌, ◌≤◌, Bool, true, false, List, [], ◌∷◌, ◌++◌, length, take, drop, All, Option, Some, None, IfSome, refl, ap, sym, subst, arith}
+use Rattle.std.proofs.Common.{◌≡◌, ◌∙◌, inl, inr, ℕ, ◌+◌, ◌<◌, Bool, true, false, List, [], ◌∷◌, ◌++◌, length, take, drop, All, Option, Some, None, refl, ap, sym, subst}
 use Rattle.std.specs.Prelude.{get_or, nat_eq}
 use Rattle.std.proofs.lemmas.List.{drop_more, take_more, take-append-drop}
 use Rattle.std.proofs.lemmas.List.Elements.{All-head, All-tail, All-get_or}
@@ -12,10 +12,9 @@ use Rattle.slot_machine.specs.declared.seats.Ended.{Ended}
 use Rattle.slot_machine.specs.declared.seats.Present.{Present}
 use Rattle.slot_machine.specs.Calls.{present_in}
 use Rattle.run_crew.specs.declared.cards.Cards.{Cards}
-use Rattle.run_keeping.specs.declared.keeper.Keeper.{Keeper}
 use Rattle.run_keeping.specs.declared.keeper.Moment.{Moment}
 use Rattle.run_keeping.specs.Keeping.{HasItsRow, HaveRows}
-use Rattle.run_keeping.specs.Minutes.{Round, Told, IsRound, IsMinute, AreOnCards, IsCutShort, AreKept, more, told_after, kept_of, minute_of, present_at, or_nobody, AreDue, kept_after}
+use Rattle.run_keeping.specs.Minutes.{Round, Told, IsRound, IsMinute, IsCutShort, AreKept, more, told_after, kept_of, minute_of, present_at, AreDue, kept_after}
 use Rattle.run_keeping.proofs.Sessions.{some-goes}
 
 -- ---- the minute that is kept after so many

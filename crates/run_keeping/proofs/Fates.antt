@@ -14,7 +14,7 @@ use Rattle.run_crew.specs.Cabin.{crew_of, with_session_of, torn_out}
 use Rattle.run_outcome.specs.Lines.{Listed}
 use Rattle.run_keeping.specs.declared.keeper.Keeper.{Keeper}
 use Rattle.run_keeping.specs.declared.keeper.Moment.{Moment}
-use Rattle.run_keeping.specs.Keeping.{Has, Fell, IsBrought, IsFateOf, IsOnCard, IsFaultNoted, GoesOnWith, with_lines, tear_of, fault_of}
+use Rattle.run_keeping.specs.Keeping.{Has, Fell, IsBrought, IsFateOf, IsFaultNoted, GoesOnWith, with_lines, tear_of, fault_of}
 use Rattle.unit_notes.specs.Noting.{IsEventNoted}
 use Rattle.event_model.specs.declared.kinds.TheConstants.{CARD_FAULT}
 

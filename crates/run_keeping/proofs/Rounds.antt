@@ -1,6 +1,5 @@
 -- A minute's round, by what became of its entries.
-use Rattle.std.proofs.Common.{◌≡◌, ◌∙◌, inl, inr, ℕ, ◌+◌, ◌/◌, ◌≤◌, Bool, true, false, List, [], ◌∷◌, ◌++◌, length, Option, None, Some, refl, ap, sym, subst, arith}
-use Rattle.std.specs.Prelude.{◌⊎◌}
+use Rattle.std.proofs.Common.{◌≡◌, ◌∙◌, inl, inr, ℕ, ◌+◌, ◌/◌, ◌≤◌, Bool, true, false, List, [], ◌∷◌, length, Option, None, Some, refl, ap, sym, subst, arith}
 use Rattle.activity_codec.specs.declared.values.Slot.TheVariants.{Driver, CoDriver}
 use Rattle.trace_model.specs.declared.Card.{Card}
 use Rattle.tach_media.specs.Medium.{State}
@@ -14,8 +13,8 @@ use Rattle.run_crew.specs.declared.cabin.Cabin.{Cabin}
 use Rattle.run_outcome.specs.Lines.{Listed}
 use Rattle.run_keeping.specs.declared.keeper.Keeper.{Keeper}
 use Rattle.run_keeping.specs.declared.keeper.Moment.{Moment}
-use Rattle.run_keeping.specs.Keeping.{Fate, Still, has_fallen, IsBrought, IsFateOf, cabin_by, marks_by, breaks_by, session_at, tears_of, most_tears, with_lines, kept_in}
-use Rattle.run_keeping.specs.Minutes.{Round, Told, IsRound, IsBrokenOff, told_after, unit_mark, marks_after}
+use Rattle.run_keeping.specs.Keeping.{Fate, Still, IsBrought, IsFateOf, cabin_by, marks_by, breaks_by, session_at, most_tears, with_lines, kept_in}
+use Rattle.run_keeping.specs.Minutes.{Told, IsRound, told_after, unit_mark}
 use Rattle.run_keeping.proofs.Fates.{no-lines}
 use Rattle.run_keeping.proofs.Counts.{past-by, minute-by, tears-by, few-marks, lines-length}
 

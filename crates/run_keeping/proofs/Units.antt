@@ -1,10 +1,10 @@
 -- The unit over a note: it is the same, what the journal knows is so still, and each row is there.
-use Rattle.std.proofs.Common.{◌≡◌, ◌∙◌, ⊎_elim, ℕ, ◌+◌, ◌-◌, true, List, Some, IfSome, refl, ap, sym, subst, arith}
+use Rattle.std.proofs.Common.{◌≡◌, ◌∙◌, ⊎_elim, ℕ, ◌-◌, true, List, IfSome, ap, sym, arith}
 use Rattle.byte_fields.proofs.Images.{part_in}
 use Rattle.tach_media.specs.Medium.{State, IsCoherent, LeavesOnly, bytes_at}
 use Rattle.tach_media.proofs.Runs.{at_image, if_told}
 use Rattle.unit_model.specs.Image.{IsUnit}
-use Rattle.unit_model.specs.declared.layout.TheConstants.{FIRST_OVER, INSERTIONS, OWED, SPARE_COUNTS}
+use Rattle.unit_model.specs.declared.layout.TheConstants.{INSERTIONS, OWED, SPARE_COUNTS}
 use Rattle.owed_model.specs.Owed.{rows_in, row_index}
 use Rattle.owed_model.specs.Rows.{HasRow}
 use Rattle.unit_journal.specs.declared.notes.Notes.{Notes}

@@ -1,4 +1,4 @@
-use Rattle.std.proofs.Common.{◌≡◌, ◌∙◌, ℕ, ◌+◌, ◌≤◌, Bool, true, false, Some, None, refl, ap, sym, subst, arith}
+use Rattle.std.proofs.Common.{◌≡◌, ◌∙◌, ℕ, ◌+◌, Bool, true, false, Some, None, refl, ap, sym, subst, arith}
 use Rattle.std.specs.Prelude.{is_err, [], ◌∷◌}
 use Rattle.tach_media.specs.Medium.{HasCause}
 use Rattle.tach_media.proofs.Runs.{ok_gives, starts}
@@ -10,7 +10,7 @@ use Rattle.run_crew.specs.Cards.{with_session}
 use Rattle.run_crew.specs.Cabin.{Stands, torn_out, left_from, slot_with, crew_of}
 use Rattle.run_crew.proofs.Moves.{kept-stands}
 use Rattle.run_keeping.specs.declared.keeper.Keeper.{Keeper}
-use Rattle.run_keeping.specs.Keeping.{Fate, Has, Fell, IsNotingFault, with_lines}
+use Rattle.run_keeping.specs.Keeping.{Has, Fell, IsNotingFault, with_lines}
 use Rattle.run_keeping.proofs.Sessions.{session-twice, stands-later, torn-stands}
 use Rattle.run_keeping.proofs.Fates.{has-brought, fell-brought}
 use Rattle.run_keeping.proofs.keeper.Keeper.bring_to.Goals as goal

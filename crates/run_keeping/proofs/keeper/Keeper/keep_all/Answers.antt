@@ -1,4 +1,4 @@
-use Rattle.std.proofs.Common.{rules, [], ◌≡◌, ◌∙◌, ℕ, ◌+◌, ◌-◌, ◌*◌, ◌/◌, ◌<◌, ◌≤◌, Bool, true, List, Option, Some, is_some, All, length, take, drop, refl, ap, sym, subst, arith}
+use Rattle.std.proofs.Common.{rules, [], ◌≡◌, ◌∙◌, ℕ, ◌+◌, ◌-◌, ◌<◌, ◌≤◌, Bool, true, List, is_some, drop, refl, ap, sym, subst, arith}
 use Rattle.std.specs.Prelude.{is_err}
 use Rattle.std.proofs.lemmas.List.{take_all, drop_all}
 use Rattle.tach_media.proofs.Runs.{cause_after, no_reads}
@@ -6,7 +6,6 @@ use Rattle.tach_media.proofs.Breakdowns.{none_broken, both_broken, fewer_broken}
 use Rattle.minute_model.specs.declared.Minute.{Minute}
 use Rattle.unit_journal.specs.declared.kept.KeptMinute.{KeptMinute}
 use Rattle.slot_machine.specs.declared.seats.Ended.{Ended}
-use Rattle.slot_machine.specs.declared.seats.Present.{Present}
 use Rattle.slot_machine.specs.Calls.{present_in}
 use Rattle.run_crew.specs.Cabin.{Stands, MayBeKept}
 use Rattle.run_keeping.specs.Keeping.{HaveRows, tears_of}
@@ -21,7 +20,7 @@ present-present-requires g c =
     let ds = c.args.decided.now in
     let i = c.loop-minute.minute-index in
     let here = all-here ds i c.loop-minute-test.true (λ (m : Minute). is_some (present_in c.args.self.now.cabin.slots.past m.minute) ≡ true) c.requires.ended in
-    subst (λ (past : List Ended). is_some (present_in past (this ds i c.loop-minute-test.true).minute) ≡ true) (sym c.loop-minute.invariant.past) here
+    record { ended = subst (λ (past : List Ended). is_some (present_in past (this ds i c.loop-minute-test.true).minute) ≡ true) (sym c.loop-minute.invariant.past) here }
 
 pub keep_minute-requires-clause-rows : goal.keep_minute-requires-clause-rows
 keep_minute-requires-clause-rows g c =

@@ -1,11 +1,10 @@
-use Rattle.std.proofs.Common.{rules, [], ◌∷◌, ◌≡◌, ◌∙◌, ℕ, ◌+◌, ◌/◌, ◌≤◌, Bool, Option, true, false, List, length, Some, None, refl, ap, sym, subst, arith}
+use Rattle.std.proofs.Common.{rules, [], ◌∷◌, ◌≡◌, ◌∙◌, ℕ, ◌+◌, ◌/◌, ◌≤◌, Bool, Option, true, false, length, Some, ap, sym, subst, arith}
 use Rattle.std.specs.Prelude.{is_err}
 use Rattle.activity_codec.specs.declared.values.Slot.TheVariants.{Driver, CoDriver}
 use Rattle.card_session.specs.declared.session.Kept.{Kept}
 use Rattle.log_model.specs.declared.lines.Mark.{Mark}
 use Rattle.run_outcome.specs.Lines.{Listed}
 use Rattle.tach_media.proofs.Runs.{on_ok}
-use Rattle.run_crew.specs.declared.cabin.Cabin.{Cabin}
 use Rattle.run_crew.specs.Cabin.{Stands}
 use Rattle.run_keeping.specs.declared.keeper.Keeper.{Keeper}
 use Rattle.run_keeping.specs.Keeping.{Still, IsBrought, cabin_by, kept_in, state_at, most_tears}
