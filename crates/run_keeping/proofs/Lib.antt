@@ -5,3 +5,4 @@ pub mod Counts
 pub mod Rounds
 pub mod Decided
 pub mod NotedLit
+pub mod OnTheCard
