@@ -1,4 +1,4 @@
--- A note on the unit leaves what is carried while entries are owed.
+-- A note on the unit leaves what is carried while entries are put or owed.
 use Rattle.std.proofs.Common.{◌≡◌, ◌≢◌, ◌∙◌, ℕ, true, List, [], Contains, ap}
 use Rattle.std.specs.Prelude.{option_map}
 use Rattle.activity_codec.specs.declared.entries.Entry.{Entry}
@@ -24,7 +24,7 @@ use Rattle.run_keeping.proofs.Units.{rows-noted}
 use Rattle.run_rule.specs.Found.{Found, found_of, unit_seen, AnyKept}
 use Rattle.run_rule.specs.Cards.{CardMarksHold}
 use Rattle.run_rule.specs.Between.{Carried, devices}
-use Rattle.run_keeping.specs.Owing.{IsLitOwing}
+use Rattle.run_keeping.specs.Owing.{IsLitWith}
 
 -- both cards as the steps see them
 abbrev pub both_of : (f : Found) → f.card_a.number ≢ f.card_b.number → Both
@@ -56,15 +56,15 @@ beside-noted a b x c keeps = record {
   };
 }
 
-module _ (f : Found) (two : f.card_a.number ≢ f.card_b.number) (w : Carried) (owes : Card → List Entry) (U V X Y : State) (whole : IsCoherent U) (h : IsLitOwing f w owes (devices U X Y)) (run : LeavesOnly U V LeavesJournal) (works : V.works ≡ true) where
+module _ (f : Found) (two : f.card_a.number ≢ f.card_b.number) (w : Carried) (puts owes : Card → List Entry) (U V X Y : State) (whole : IsCoherent U) (h : IsLitWith f w puts owes (devices U X Y)) (run : LeavesOnly U V LeavesJournal) (works : V.works ≡ true) where
   beside : LeavesViews (unit_seen f U) (unit_seen f V) IsBeside
   beside = seen-run (unit_view f.card_a.number f.card_b.number) LeavesJournal IsBeside U V whole run (λ x c same. beside-noted f.card_a.number f.card_b.number x c same.keeps)
 
-  rules : (c : Card) → IsOwnValid (found_of f c).image → CardRule c (found_of f c).start AnyKept (found_of f c).began w.book (w.standing c) [] (owes c) (unit_seen f V) (of_card (card_of (devices V X Y) c))
+  rules : (c : Card) → IsOwnValid (found_of f c).image → CardRule c (found_of f c).start AnyKept (found_of f c).began w.book (w.standing c) (puts c) (owes c) (unit_seen f V) (of_card (card_of (devices V X Y) c))
   rules A valid =
-      of-steps f two A w.book (w.standing A) [] (owes A) V X (noted-card (both_of f two) A f.unit w.due w.book w.marks (w.standing A) X whole h.unit run [] (owes A) (as-steps f two A w.book (w.standing A) [] (owes A) U X (h.rules A valid)))
+      of-steps f two A w.book (w.standing A) (puts A) (owes A) V X (noted-card (both_of f two) A f.unit w.due w.book w.marks (w.standing A) X whole h.unit run (puts A) (owes A) (as-steps f two A w.book (w.standing A) (puts A) (owes A) U X (h.rules A valid)))
   rules B valid =
-      of-steps f two B w.book (w.standing B) [] (owes B) V Y (noted-card (both_of f two) B f.unit w.due w.book w.marks (w.standing B) Y whole h.unit run [] (owes B) (as-steps f two B w.book (w.standing B) [] (owes B) U Y (h.rules B valid)))
+      of-steps f two B w.book (w.standing B) (puts B) (owes B) V Y (noted-card (both_of f two) B f.unit w.due w.book w.marks (w.standing B) Y whole h.unit run (puts B) (owes B) (as-steps f two B w.book (w.standing B) (puts B) (owes B) U Y (h.rules B valid)))
 
   brought : (c : Card) → IsOwnValid (found_of f c).image → (k : ℕ) → Contains (w.brought c) k → HasBrought f.card_a.number f.card_b.number c k V (card_of (devices V X Y) c)
   brought A valid k in_ = note-stays A (unit_seen f U) (unit_seen f V) (of_card X) beside k (h.brought A valid k in_)
@@ -78,8 +78,8 @@ module _ (f : Found) (two : f.card_a.number ≢ f.card_b.number) (w : Carried) (
   marks-still A = h.marks A
   marks-still B = h.marks B
 
-  pub noted-owing : IsLitOwing f w owes (devices V X Y)
-  noted-owing = record {
+  pub noted-with : IsLitWith f w puts owes (devices V X Y)
+  noted-with = record {
     tells = run.tells ∙ h.tells;
     works = works;
     unit = noted-holds f.unit w.due w.book w.marks whole run h.unit;

@@ -1,5 +1,5 @@
 -- How unit and cards stand while the entries of a minute are brought to the cards (profile).
-use Rattle.std.specs.Prelude.{◌≡◌, ◌⊎◌, ℕ, suc, ◌<◌, ◌++◌, ◌∷◌, Bool, true, false, None, Option, List, [], Contains, is_some, if◌then◌else◌}
+use Rattle.std.specs.Prelude.{◌≡◌, ◌⊎◌, ℕ, suc, ◌<◌, ◌≤◌, ◌++◌, ◌∷◌, Bool, true, false, None, Option, List, [], Contains, is_some, if◌then◌else◌}
 use Rattle.activity_codec.specs.declared.entries.Entry.{Entry}
 use Rattle.trace_model.specs.declared.Card.{Card}
 use Rattle.tach_media.specs.Medium.{last_count}
@@ -20,23 +20,44 @@ use Rattle.run_rule.specs.Cards.{brought_by, CardMarksHold}
 use Rattle.run_rule.specs.Between.{Carried, IsCarried}
 use Rattle.run_keeping.specs.Keeping.{Fate, is_this, marks_by}
 use Rattle.run_keeping.specs.Minutes.{Told, unit_mark}
-use Rattle.run_keeping.specs.Books.{AllGo, AreFoundCards, HaveTime, MayBook, history_minute, standing_by, carried_broken}
+use Rattle.run_keeping.specs.Books.{AllGo, AreFoundCards, HaveTime, owes_nothing, MayBook, history_minute, standing_by, carried_broken}
 
--- All that is carried while the unit has power, but that these entries are still owed to the cards. The string of a card is carried apart
--- (`AllGo`).
-pub record IsLitOwing (f : Found) (w : Carried) (owes : Card → List Entry) (d : Devices) : Type 0 where
+-- All that is carried while the unit has power, but that these entries are put for the minute that comes, or these are still owed to the
+-- cards. The string of a card is carried apart (`AllGo`).
+pub record IsLitWith (f : Found) (w : Carried) (puts owes : Card → List Entry) (d : Devices) : Type 0 where
   pub tells : is_some d.unit.image ≡ true
   pub works : d.unit.works ≡ true
   pub unit : Holds f.unit w.due w.book w.marks d.unit
   pub none : w.book.maybe ≡ None
   pub rules : (c : Card) → IsOwnValid (found_of f c).image →
-      CardRule c (found_of f c).start AnyKept (found_of f c).began w.book (w.standing c) [] (owes c) (unit_seen f d.unit) (of_card (card_of d c))
+      CardRule c (found_of f c).start AnyKept (found_of f c).began w.book (w.standing c) (puts c) (owes c) (unit_seen f d.unit) (of_card (card_of d c))
   pub valid : (c : Card) → IsOwnValid (found_of f c).image → (x : List ℕ) → (card_of d c).left_since (found_of f c).began x → IsOwnValid x
   pub rises : (c : Card) → IsOwnValid (found_of f c).image → Rise (brought_by c (found_of f c).start w.book)
   pub brought : (c : Card) → IsOwnValid (found_of f c).image → (k : ℕ) → Contains (w.brought c) k → HasBrought f.card_a.number f.card_b.number c k d.unit (card_of d c)
   pub marks : (c : Card) → CardMarksHold (found_of f c) c w.book w.marks (card_of d c)
 
--- what a minute says is
+-- nothing is put any more
+abbrev pub IsLitOwing : Found → Carried → (owes : Card → List Entry) → Devices → Type 0
+IsLitOwing f w owes d = IsLitWith f w owes_nothing owes d
+
+-- an entry more is put, for the card that was present
+abbrev pub and_put : Option Card → Entry → (Card → List Entry) → Card → List Entry
+and_put present entry puts c = if is_this present c then entry ∷ [] else puts c
+
+-- AN ENTRY WAS TO BE PUT for the minute that comes (`owe_to`), for a card that is valid and present: it is, or the unit failed.
+abbrev pub MayPut : Found → Option Card → Entry → Carried → (puts : Card → List Entry) → Type 0
+MayPut f None entry w puts = Unit {0}
+MayPut f (Some c) entry w puts = IsOwnValid (found_of f c).image × (puts c ≡ []) × (w.due ≤ entry.minute) × (1440 ≤ entry.minute) × IsPresent (found_of f c).start (w.standing c) entry.minute
+
+abbrev pub IsPutOrCut : (failed : Bool) → Found → Carried → (puts : Card → List Entry) → Devices → Type 0
+IsPutOrCut false f w puts d = IsLitWith f w puts owes_nothing d
+IsPutOrCut true f w puts d = IsCarried f w d
+
+abbrev pub BooksPut : Option Card → Entry → (failed : Bool) → Cards → (d e : Devices) → Type 0
+BooksPut present entry failed cards d e = (f : Found) (w : Carried) (puts : Card → List Entry) → AreFoundCards f cards → MayPut f present entry w puts → IsLitWith f w puts owes_nothing d → AllGo f w owes_nothing cards d
+    → IsPutOrCut failed f w (and_put present entry puts) e
+
+-- what a minute says is owed
 abbrev pub owes_minute : HistoryMinute → Card → List Entry
 owes_minute i c = on_card c i
 

@@ -14,7 +14,7 @@ ghost use Rattle.run_keeping.specs.Keeping.{UnitReady, IsReady, HasItsRow, HaveR
 ghost use Rattle.run_keeping.specs.Keeping.{TellsPresent};
 ghost use Rattle.run_keeping.specs.Minutes.{Round, IsMinute, unit_mark};
 ghost use Rattle.run_keeping.specs.Books.{BooksMinute};
-ghost use Rattle.run_keeping.specs.Owing.{BooksOwed};
+ghost use Rattle.run_keeping.specs.Owing.{BooksPut, BooksOwed};
 ghost use Rattle.run_rule.specs.Between.{devices};
 
 use crate::keeper::{Keeper, Moment};
@@ -65,6 +65,7 @@ impl Keeper {
         ensures same { self.new ≡ self.old }
         ensures ready { OnOk result (UnitReady self.new (M.state unit.new)) }
         ensures rows { (card : Card) → HasItsRow self.old.cabin.cards (M.state unit.old) card → OnOk result (HasItsRow self.new.cabin.cards (M.state unit.new) card) }
+        ensures booked { BooksPut present entry.now (is_err result) self.old.cabin.cards (devices (M.state unit.old) (C.state card_a.now) (D.state card_b.now)) (devices (M.state unit.new) (C.state card_a.now) (D.state card_b.now)) }
         ensures clock { (M.state unit.old).clock ≤ (M.state unit.new).clock }
         ensures tells { is_some (M.state unit.new).image ≡ is_some (M.state unit.old).image }
         ensures cause { HasCause (M.state unit.old) (M.state unit.new) (is_err result) }
