@@ -1,7 +1,7 @@
 //! Two cards in their slots over memory: three minutes are kept, and the co-driver's card is torn out in the second of them.
 use super::*;
 use activity_codec::{Activity, Slot};
-use card_commands::{PortFault, SimCard, read_sizes};
+use card_commands::{Port, PortFault, SimCard, read_sizes};
 use card_files::{CardIdentity, blank_card};
 use card_layout::{LARGEST, LARGEST_IMAGE};
 use device_steps::{begin, enter};
@@ -243,11 +243,16 @@ fn one(alloc: Global, call: u64) -> Result<Vec<Stop>, AllocError> {
     Ok(stops)
 }
 
-/// Bytes of a card, once it works again.
-fn bytes_of<const N: usize>(card: SimCard<MemMedium>, place: u32) -> Result<[u8; N], Fail> {
-    let mut medium = card.into_medium();
+/// Bytes of a card, once it works again, read by its commands.
+fn bytes_of<const N: usize>(card: &mut SimCard<MemMedium>, place: u32) -> Result<[u8; N], Fail> {
+    if card.revive().is_err() {
+        return Err(Fail::from("not revived"));
+    }
+    let Ok(mut port) = Port::load(&mut *card) else {
+        return Err(Fail::from("no card"));
+    };
     let mut out = [0; N];
-    if medium.revive().is_err() || medium.read_at(place, &mut out).is_err() {
+    if port.read_at(place, &mut out).is_err() {
         return Err(Fail::from("not read"));
     }
     Ok(out)
@@ -281,8 +286,9 @@ fn a_card_is_torn_out_in_a_keep(rt: HostRuntime) -> Result<(), Fail> {
     assert_eq!(rt; drive.keeper.cabin.slot_of(Card::B), None);
     assert!(rt; drive.keeper.cabin.cards.b.accepted.is_none());
     // one day, 2010-03-01, with the words of work and driving in a crew
-    let days = bytes_of::<24>(drive.a, DAYS)?;
-    assert_eq!(rt; days[8..12], [0x4Bu8, 0x8B, 0x03, 0x80]);
+    let days = bytes_of::<24>(&mut drive.a, DAYS)?;
+    let date: &[u8] = &days[8..12];
+    assert!(rt; date == [0x4Bu8, 0x8B, 0x03, 0x80].as_slice());
     Ok(())
 }
 
