@@ -1,5 +1,5 @@
 -- How unit and cards stand while the entries of a minute are brought to the cards (profile).
-use Rattle.std.specs.Prelude.{◌≡◌, ◌⊎◌, ℕ, suc, ◌<◌, ◌≤◌, ◌++◌, ◌∷◌, Bool, true, false, None, Option, List, [], Contains, is_some, if◌then◌else◌}
+use Rattle.std.specs.Prelude.{◌≡◌, ◌⊎◌, ℕ, suc, ◌<◌, ◌≤◌, ◌++◌, ◌∷◌, Bool, true, false, None, Option, Some, List, [], Contains, is_some, if◌then◌else◌}
 use Rattle.activity_codec.specs.declared.entries.Entry.{Entry}
 use Rattle.trace_model.specs.declared.Card.{Card}
 use Rattle.tach_media.specs.Medium.{last_count}
@@ -92,10 +92,10 @@ IsBroughtOrCut true f w owes cards d = IsCarried f w d
 
 -- The entry of the card that was present is what is owed to it; that is valid, and the minute is later than the words at its start.
 abbrev pub MayBring : Found → Option Card → Kept → Carried → (owes : Card → List Entry) → Type 0
-MayBring f None kept w owes = Unit {0}
-MayBring f (Some c) kept w owes = IsOwnValid (found_of f c).image × (owes c ≡ kept.entry ∷ []) × IsPresent (found_of f c).start (w.standing c) kept.entry.minute
+MayBring f None said w owes = Unit {0}
+MayBring f (Some c) said w owes = IsOwnValid (found_of f c).image × (owes c ≡ said.entry ∷ []) × IsPresent (found_of f c).start (w.standing c) said.entry.minute
 
 -- AN ENTRY WAS TO BE BROUGHT to a card, of which this became (`bring`)
 abbrev pub BooksBrought : Option Card → Kept → (failed : Bool) → Fate → (cards cards_after : Cards) → (d e : Devices) → Type 0
-BooksBrought present kept failed fate cards cards_after d e = (f : Found) (w : Carried) (owes : Card → List Entry) → AreFoundCards f cards → MayBring f present kept w owes → IsLitOwing f w owes d → AllGo f w owes cards d → HaveTime e
-    → IsBroughtOrCut failed f (carried_brought fate present kept.entry.minute w) (but_to present owes) cards_after e
+BooksBrought present said failed fate cards cards_after d e = (f : Found) (w : Carried) (owes : Card → List Entry) → AreFoundCards f cards → MayBring f present said w owes → IsLitOwing f w owes d → AllGo f w owes cards d → HaveTime e
+    → IsBroughtOrCut failed f (carried_brought fate present said.entry.minute w) (but_to present owes) cards_after e
