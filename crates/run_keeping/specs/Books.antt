@@ -1,5 +1,6 @@
 -- What the keeping of a minute leaves of unit and cards, over devices that tell their images (profile).
-use Rattle.std.specs.Prelude.{◌≡◌, ◌≢◌, ◌⊎◌, ℕ, suc, max, ◌≤◌, ◌<◌, Bool, true, false, Option, Some, None, IfSome, List, [], Contains, if◌then◌else◌}
+use Rattle.std.specs.Prelude.{◌≡◌, ◌≢◌, ◌⊎◌, ℕ, suc, max, ◌≤◌, ◌<◌, Bool, true, false, Option, Some, None, IfSome, List, [], ◌++◌, Contains, if◌then◌else◌}
+use Rattle.activity_codec.specs.declared.entries.Entry.{Entry}
 use Rattle.trace_model.specs.declared.Card.{Card}
 use Rattle.tach_media.specs.Medium.{State, last_count}
 use Rattle.tacho_types.specs.CardNumber.{card_number_bytes}
@@ -49,24 +50,34 @@ pub record IsHeld (f : CardFound) (c : Card) (b : Book) (z : Standing) (card : S
   pub each : EachHolds (own_sizes f.image) f.image (brought_by c f.start b) next f.began card
   pub near : (x : List ℕ) → card.may_leave x → next ≤ suc (max f.start.word (since z (own_view x).newest))
 
--- A CARD IN ITS SLOT, with this session: it stands with the session's newest minute, its image is what the session knows, and its string goes
--- on with each later minute.
-pub record IsOn (f : CardFound) (c : Card) (b : Book) (z : Standing) (s : Session) (card : State) : Type 0 where
+-- A CARD IN ITS SLOT, with this session, and with these entries since the start: it stands with the session's newest minute, its image is
+-- what the session knows, and its string goes on with each later minute.
+pub record IsOn (f : CardFound) (has : List Entry) (z : Standing) (s : Session) (card : State) : Type 0 where
   pub time : ℕ
   pub stands : z ≡ In time s.minute
   pub sizes : s.application ≡ own_sizes f.image
   pub session : IfSome card.image (IsSession s)
-  pub goes : IfSome card.image (GoesSince s.application f.image (brought_by c f.start b) (suc s.minute))
+  pub goes : IfSome card.image (GoesSince s.application f.image has (suc s.minute))
 
 -- a card goes with its session, and is in its slot, accepted, exactly where it has one
-abbrev pub GoesWith : CardFound → Card → Book → Standing → Option Accepted → State → Type 0
-GoesWith f c b z None card = IsNotIn z
-GoesWith f c b z (Some accepted) card = IsOn f c b z accepted.session card
+abbrev pub GoesWith : CardFound → (has : List Entry) → Standing → Option Accepted → State → Type 0
+GoesWith f has z None card = IsNotIn z
+GoesWith f has z (Some accepted) card = IsOn f has z accepted.session card
+
+-- while these entries are owed to it: it has all others that it is to have
+pub record GoesOwing (f : CardFound) (c : Card) (b : Book) (owes : List Entry) (z : Standing) (session : Option Accepted) (card : State) : Type 0 where
+  pub has : List Entry
+  pub all : has ++ owes ≡ brought_by c f.start b
+  pub goes : GoesWith f has z session card
+
+-- nothing is owed
+abbrev pub owes_nothing : Card → List Entry
+owes_nothing c = []
 
 -- so do all that were valid
-pub record AllGo (f : Found) (w : Carried) (cards : Cards) (d : Devices) : Type 0 where
+pub record AllGo (f : Found) (w : Carried) (owes : Card → List Entry) (cards : Cards) (d : Devices) : Type 0 where
   pub held : (c : Card) → IsOwnValid (found_of f c).image → IsHeld (found_of f c) c w.book (w.standing c) (card_of d c)
-  pub goes : (c : Card) → IsOwnValid (found_of f c).image → GoesWith (found_of f c) c w.book (w.standing c) (session_of cards c) (card_of d c)
+  pub goes : (c : Card) → IsOwnValid (found_of f c).image → GoesOwing (found_of f c) c w.book (owes c) (w.standing c) (session_of cards c) (card_of d c)
 
 -- A minute may come: it is not earlier than it may, and says something on a card only where that is valid and present.
 pub record MayCome (f : Found) (w : Carried) (i : HistoryMinute) : Type 0 where
@@ -108,7 +119,7 @@ carried_broken i w = record w { due = suc i.minute; book = broken i w.book }
 -- failed, and the minute was not begun, or was, or it is kept and a card was torn out.
 abbrev pub IsBooked : Found → Carried → Present → HistoryMinute → (failed : Bool) → Option Round → Cards → Devices → Type 0
 IsBooked f w present i failed None cards d = IsCarried f w d ⊎ IsCarried f (carried_broken i w) d
-IsBooked f w present i false (Some round) cards d = IsLit f (carried_after present i round w) d × AllGo f (carried_after present i round w) cards d
+IsBooked f w present i false (Some round) cards d = IsLit f (carried_after present i round w) d × AllGo f (carried_after present i round w) owes_nothing cards d
 IsBooked f w present i true (Some round) cards d = IsCarried f (carried_after present i round w) d
 
 -- WHAT IS ASKED: all that is carried stands, with the marks that are told; the cards go with their sessions; and the minute may come.
@@ -116,7 +127,7 @@ pub record MayBook (f : Found) (w : Carried) (present : Present) (m : KeptMinute
   pub lit : IsLit f w d
   pub marks : w.marks ≡ t.marks.items
   pub found : AreFoundCards f t.keeper.cabin.cards
-  pub cards : AllGo f w t.keeper.cabin.cards d
+  pub cards : AllGo f w owes_nothing t.keeper.cabin.cards d
   pub comes : MayCome f w (history_minute present m)
   -- what acceptances brought is of minutes that the unit had kept by then
   pub early : (c : Card) (k : ℕ) → Contains (w.brought c) k → k < w.due

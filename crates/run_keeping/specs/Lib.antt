@@ -1,3 +1,4 @@
 pub mod Keeping
 pub mod Minutes
 pub mod Books
+pub mod Owing

@@ -8,6 +8,8 @@ ghost use Rattle.card_session.specs.declared.words.TheConstants.{LATEST_MINUTE};
 ghost use Rattle.unit_notes.specs.Journal.{LeavesJournal};
 ghost use Rattle.run_crew.specs.Cards.{known_of, session_of};
 ghost use Rattle.run_crew.specs.Cabin.{Stands, IsBehind, crew_of};
+ghost use Rattle.run_keeping.specs.Owing.{BooksBrought};
+ghost use Rattle.run_rule.specs.Between.{devices};
 ghost use Rattle.run_keeping.specs.Keeping.{UnitReady, CardReady, HasItsRow, IsReady, Fate, IsBrought, IsNotingFault, tears_of, session_at, state_at, is_this};
 
 use crate::keeper::{Keeper, Moment};
@@ -107,6 +109,8 @@ impl Keeper {
         requires breaks { length breaks.old.items + tears_of (session_at self.old.cabin.cards present) ≤ breaks.old.room }
         ensures brought { (fate : Fate) × IsBrought present kept.now at (is_err result) self.old self.new marks.old marks.new breaks.old breaks.new fate (M.state unit.old) (M.state unit.new) (state_at present (C.state card_a.old) (D.state card_b.old)) (state_at present (C.state card_a.new) (D.state card_b.new))
             × LeavesOnly (M.state unit.old) (M.state unit.new) (IsNotingFault fate at.second (crew_of self.new.cabin)) }
+        ensures booked { (fate : Fate) × IsBrought present kept.now at (is_err result) self.old self.new marks.old marks.new breaks.old breaks.new fate (M.state unit.old) (M.state unit.new) (state_at present (C.state card_a.old) (D.state card_b.old)) (state_at present (C.state card_a.new) (D.state card_b.new))
+            × BooksBrought present kept.now (is_err result) fate self.old.cabin.cards self.new.cabin.cards (devices (M.state unit.old) (C.state card_a.old) (D.state card_b.old)) (devices (M.state unit.new) (C.state card_a.new) (D.state card_b.new)) }
         ensures a_rests { is_this present A ≡ false → card_a.new ≡ card_a.old }
         ensures b_rests { is_this present B ≡ false → card_b.new ≡ card_b.old }
         ensures a_broken { HasBroken (C.state card_a.old) (C.state card_a.new) (tears_of self.old.cabin.cards.a.accepted - tears_of self.new.cabin.cards.a.accepted) }

@@ -11,7 +11,11 @@ ghost use Rattle.run_crew.specs.Cabin.{Stands, MayBeKept};
 ghost use Rattle.trace_model.specs.declared.Card.{Card};
 ghost use Rattle.trace_model.specs.declared.Card.TheVariants.{A, B};
 ghost use Rattle.run_keeping.specs.Keeping.{UnitReady, IsReady, HasItsRow, HaveRows, entry_in, kept_in, is_this, tears_of, most_tears, with_lines};
+ghost use Rattle.run_keeping.specs.Keeping.{TellsPresent};
 ghost use Rattle.run_keeping.specs.Minutes.{Round, IsMinute, unit_mark};
+ghost use Rattle.run_keeping.specs.Books.{BooksMinute};
+ghost use Rattle.run_keeping.specs.Owing.{BooksPut, BooksOwed};
+ghost use Rattle.run_rule.specs.Between.{devices};
 
 use crate::keeper::{Keeper, Moment};
 use activity_codec::{Entry, Slot};
@@ -61,6 +65,7 @@ impl Keeper {
         ensures same { self.new ≡ self.old }
         ensures ready { OnOk result (UnitReady self.new (M.state unit.new)) }
         ensures rows { (card : Card) → HasItsRow self.old.cabin.cards (M.state unit.old) card → OnOk result (HasItsRow self.new.cabin.cards (M.state unit.new) card) }
+        ensures booked { BooksPut present entry.now (is_err result) self.old.cabin.cards (devices (M.state unit.old) (C.state card_a.now) (D.state card_b.now)) (devices (M.state unit.new) (C.state card_a.now) (D.state card_b.now)) }
         ensures clock { (M.state unit.old).clock ≤ (M.state unit.new).clock }
         ensures tells { is_some (M.state unit.new).image ≡ is_some (M.state unit.old).image }
         ensures cause { HasCause (M.state unit.old) (M.state unit.new) (is_err result) }
@@ -114,6 +119,7 @@ impl Keeper {
         ensures marked { OnOk result (marks.new ≡ with_lines (unit_mark minute.now.minute (M.state unit.new).clock ∷ []) marks.old) }
         ensures ready { OnOk result (UnitReady self.new (M.state unit.new)) }
         ensures rows { (card : Card) → HasItsRow self.old.cabin.cards (M.state unit.old) card → OnOk result (HasItsRow self.new.cabin.cards (M.state unit.new) card) }
+        ensures booked { TellsPresent minute.now present → BooksOwed present minute.now (is_err result) (record { keeper = self.old; marks = marks.old; breaks = record { items = []; room = 0 } }) (record { keeper = self.new; marks = marks.new; breaks = record { items = []; room = 0 } }) (devices (M.state unit.old) (C.state card_a.now) (D.state card_b.now)) (devices (M.state unit.new) (C.state card_a.now) (D.state card_b.now)) }
         ensures clock { (M.state unit.old).clock ≤ (M.state unit.new).clock }
         ensures tells { is_some (M.state unit.new).image ≡ is_some (M.state unit.old).image }
         ensures cause { HasCause (M.state unit.old) (M.state unit.new) (is_err result) }
@@ -163,6 +169,7 @@ impl Keeper {
         ensures last { OnOk result (self.new.journal.kept ≡ minute.now.minute) }
         ensures minute { self.new.cabin.slots.minute ≤ at.second / 60 }
         ensures kept { (round : Option Round) × IsMinute present minute.now at (is_err result) (record { keeper = self.old; marks = marks.old; breaks = breaks.old }) (record { keeper = self.new; marks = marks.new; breaks = breaks.new }) (C.state card_a.old) (C.state card_a.new) (D.state card_b.old) (D.state card_b.new) round }
+        ensures booked { TellsPresent minute.now present → BooksMinute present minute.now at (is_err result) (record { keeper = self.old; marks = marks.old; breaks = breaks.old }) (record { keeper = self.new; marks = marks.new; breaks = breaks.new }) (devices (M.state unit.old) (C.state card_a.old) (D.state card_b.old)) (devices (M.state unit.new) (C.state card_a.new) (D.state card_b.new)) }
         ensures a_rests { is_this present.driver A ≡ false → is_this present.codriver A ≡ false → card_a.new ≡ card_a.old }
         ensures b_rests { is_this present.driver B ≡ false → is_this present.codriver B ≡ false → card_b.new ≡ card_b.old }
         ensures ready { OnOk result (IsReady self.new (M.state unit.new) (C.card card_a.new) (D.card card_b.new) (C.state card_a.new) (D.state card_b.new)) }
