@@ -1,5 +1,5 @@
 -- What is known of a card's string where each of its images holds it (profile).
-use Rattle.std.specs.Prelude.{◌≡◌, ℕ, suc, max, ◌≤◌, None, List, All}
+use Rattle.std.specs.Prelude.{◌≡◌, ℕ, suc, max, ◌≤◌, true, None, List, All, is_some}
 use Rattle.trace_model.specs.declared.Card.{Card}
 use Rattle.tach_media.specs.Medium.{State}
 use Rattle.card_layout.specs.Application.{IsApplication}
@@ -14,9 +14,10 @@ use Rattle.joint_rule.specs.Marked.{of_card}
 use Rattle.run_rule.specs.Found.{CardFound, Found, found_of, unit_seen, AnyKept}
 use Rattle.run_rule.specs.Cards.{brought_by}
 
--- THE STRING OF A CARD, by its images: each that a stop may leave now holds it, and an entry may come behind its newest minute as the card
--- stands; and each since the start keeps it.
+-- THE STRING OF A CARD, which tells its images: each that a stop may leave now holds it, and an entry may come behind its newest minute as
+-- the card stands; and each since the start keeps it.
 pub record IsHeld (f : CardFound) (c : Card) (b : Book) (z : Standing) (card : State) : Type 0 where
+  pub tells : is_some card.image ≡ true
   pub now : (x : List ℕ) → card.may_leave x →
       (own_sizes x ≡ own_sizes f.image) × HoldsSince (own_sizes f.image) f.image (brought_by c f.start b) (suc (max f.start.word (since z (own_view x).newest))) x
   pub since : (x : List ℕ) → card.left_since f.began x → (own_sizes x ≡ own_sizes f.image) × KeepsSince f.image (brought_by c f.start b) x
