@@ -1,18 +1,18 @@
 -- What the keeping of a minute leaves of unit and cards, over devices that tell their images (profile).
-use Rattle.std.specs.Prelude.{◌≡◌, ◌≢◌, ◌⊎◌, ℕ, suc, max, ◌≤◌, ◌<◌, Bool, true, false, Option, Some, None, IfSome, List, [], ◌++◌, Contains, if◌then◌else◌}
+use Rattle.std.specs.Prelude.{◌≡◌, ◌≢◌, ◌⊎◌, ℕ, suc, ◌≤◌, ◌<◌, Bool, true, false, Option, Some, None, IfSome, List, [], ◌++◌, Contains, if◌then◌else◌}
 use Rattle.activity_codec.specs.declared.entries.Entry.{Entry}
 use Rattle.trace_model.specs.declared.Card.{Card}
 use Rattle.tach_media.specs.Medium.{State, last_count}
 use Rattle.tacho_types.specs.CardNumber.{card_number_bytes}
 use Rattle.card_layout.specs.Application.{IsApplication}
+use Rattle.log_model.specs.declared.lines.Mark.{Mark}
 use Rattle.card_image.specs.Own.{own_view, own_sizes, IsOwnValid}
 use Rattle.card_session.specs.Sessions.{Session, IsSession}
 use Rattle.card_steps.specs.Since.{GoesSince}
-use Rattle.card_steps.specs.Each.{EachHolds}
 use Rattle.unit_journal.specs.declared.kept.KeptMinute.{KeptMinute}
 use Rattle.history_model.specs.Minutes.{HistoryMinute, on_card}
 use Rattle.history_model.specs.Book.{Book, kept, broken}
-use Rattle.joint_rule.specs.Rules.{Standing, Out, In, Torn, since, IsPresent}
+use Rattle.joint_rule.specs.Rules.{Standing, Out, In, Torn, IsPresent}
 use Rattle.safety_model.specs.Safe.{Devices, card_of}
 use Rattle.slot_machine.specs.declared.seats.Present.{Present}
 use Rattle.device_steps.specs.Minute.{IsNotIn}
@@ -22,9 +22,9 @@ use Rattle.run_crew.specs.Cards.{known_of, session_of}
 use Rattle.run_rule.specs.Found.{CardFound, Found, found_of}
 use Rattle.run_rule.specs.Cards.{brought_by}
 use Rattle.run_rule.specs.Between.{Carried, IsLit, IsCarried}
-use Rattle.run_keeping.specs.declared.keeper.Moment.{Moment}
+use Rattle.run_strung.specs.Strung.{IsHeld}
 use Rattle.run_keeping.specs.Keeping.{Fate, Still, Has, Fell, is_this}
-use Rattle.run_keeping.specs.Minutes.{Round, Told, IsMinute, marks_after}
+use Rattle.run_keeping.specs.Minutes.{Round, Told, marks_after}
 
 -- ---- before
 
@@ -42,13 +42,6 @@ pub record AreFoundCards (f : Found) (cards : Cards) : Type 0 where
   pub named : (c : Card) → IsOwnValid (found_of f c).image → IfSome (known_of cards c).number (λ n. card_number_bytes n ≡ (found_of f c).number)
   pub sizes : (c : Card) → IsOwnValid (found_of f c).image → IsApplication (own_sizes (found_of f c).image)
   pub entries : (c : Card) → IsOwnValid (found_of f c).image → (found_of f c).start.entries ≡ (own_view (found_of f c).image).held.entries
-
--- THE STRING OF A CARD, by its images: each that a stop may leave holds it, and each since the start keeps it; an entry may come behind the
--- newest minute of the card as it stands.
-pub record IsHeld (f : CardFound) (c : Card) (b : Book) (z : Standing) (card : State) : Type 0 where
-  pub next : ℕ
-  pub each : EachHolds (own_sizes f.image) f.image (brought_by c f.start b) next f.began card
-  pub near : (x : List ℕ) → card.may_leave x → next ≤ suc (max f.start.word (since z (own_view x).newest))
 
 -- A CARD IN ITS SLOT, with this session, and with these entries since the start: it stands with the session's newest minute, its image is
 -- what the session knows, and its string goes on with each later minute.
@@ -78,6 +71,15 @@ owes_nothing c = []
 pub record AllGo (f : Found) (w : Carried) (owes : Card → List Entry) (cards : Cards) (d : Devices) : Type 0 where
   pub held : (c : Card) → IsOwnValid (found_of f c).image → IsHeld (found_of f c) c w.book (w.standing c) (card_of d c)
   pub goes : (c : Card) → IsOwnValid (found_of f c).image → GoesOwing (found_of f c) c w.book (owes c) (w.standing c) (session_of cards c) (card_of d c)
+
+-- UNIT AND CARDS ARE AS THE BOOK SAYS, between two calls while the unit has power: all that is carried stands, with the marks that are told;
+-- the cards go with their sessions; and what acceptances brought is of minutes that the unit had kept by then.
+pub record AreBooked (f : Found) (w : Carried) (cards : Cards) (marks : List Mark) (d : Devices) : Type 0 where
+  pub lit : IsLit f w d
+  pub marks : w.marks ≡ marks
+  pub found : AreFoundCards f cards
+  pub cards : AllGo f w owes_nothing cards d
+  pub early : (c : Card) (k : ℕ) → Contains (w.brought c) k → k < w.due
 
 -- A minute may come: it is not earlier than it may, and says something on a card only where that is valid and present.
 pub record MayCome (f : Found) (w : Carried) (i : HistoryMinute) : Type 0 where
@@ -115,12 +117,22 @@ carried_after present i round w = record {
 abbrev pub carried_broken : HistoryMinute → Carried → Carried
 carried_broken i w = record w { due = suc i.minute; book = broken i w.book }
 
+-- a book without the minute that may be there
+abbrev pub sure_of : Book → Book
+sure_of b = record b { maybe = None }
+
+-- AS A STOP LEAVES THEM, with power or without: all that is carried stands, and the string of each card that was valid is held by the minutes
+-- that the unit has.
+pub record AreLeft (f : Found) (w : Carried) (d : Devices) : Type 0 where
+  pub carried : IsCarried f w d
+  pub held : (c : Card) → IsOwnValid (found_of f c).image → IsHeld (found_of f c) c (sure_of w.book) (w.standing c) (card_of d c)
+
 -- THE BOOK BEHIND A MINUTE that was to be kept: it is kept, all that is carried stands, and the cards go with their sessions; or the unit
 -- failed, and the minute was not begun, or was, or it is kept and a card was torn out.
 abbrev pub IsBooked : Found → Carried → Present → HistoryMinute → (failed : Bool) → Option Round → Cards → Devices → Type 0
-IsBooked f w present i failed None cards d = IsCarried f w d ⊎ IsCarried f (carried_broken i w) d
+IsBooked f w present i failed None cards d = AreLeft f w d ⊎ AreLeft f (carried_broken i w) d
 IsBooked f w present i false (Some round) cards d = IsLit f (carried_after present i round w) d × AllGo f (carried_after present i round w) owes_nothing cards d
-IsBooked f w present i true (Some round) cards d = IsCarried f (carried_after present i round w) d
+IsBooked f w present i true (Some round) cards d = AreLeft f (carried_after present i round w) d
 
 -- WHAT IS ASKED: all that is carried stands, with the marks that are told; the cards go with their sessions; and the minute may come.
 pub record MayBook (f : Found) (w : Carried) (present : Present) (m : KeptMinute) (t : Told) (d : Devices) : Type 0 where
@@ -138,7 +150,6 @@ pub record HaveTime (d : Devices) : Type 0 where
   pub card_a : d.card_a.clock < last_count
   pub card_b : d.card_b.clock < last_count
 
--- A MINUTE WAS TO BE KEPT, and is booked so.
-abbrev pub BooksMinute : Present → KeptMinute → Moment → (failed : Bool) → (t u : Told) → (d e : Devices) → Type 0
-BooksMinute present m at failed t u d e = (f : Found) (w : Carried) → MayBook f w present m t d → HaveTime e
-    → (round : Option Round) × IsMinute present m at failed t u d.card_a e.card_a d.card_b e.card_b round × IsBooked f w present (history_minute present m) failed round u.keeper.cabin.cards e
+-- A MINUTE WAS TO BE KEPT, and this came of it: so it is booked.
+abbrev pub BooksMinute : Present → KeptMinute → (failed : Bool) → Option Round → (t u : Told) → (d e : Devices) → Type 0
+BooksMinute present m failed round t u d e = (f : Found) (w : Carried) → MayBook f w present m t d → HaveTime e → IsBooked f w present (history_minute present m) failed round u.keeper.cabin.cards e

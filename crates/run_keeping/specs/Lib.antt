@@ -2,3 +2,4 @@ pub mod Keeping
 pub mod Minutes
 pub mod Books
 pub mod Owing
+pub mod Decided

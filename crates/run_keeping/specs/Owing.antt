@@ -20,7 +20,7 @@ use Rattle.run_rule.specs.Cards.{brought_by, CardMarksHold}
 use Rattle.run_rule.specs.Between.{Carried, IsCarried}
 use Rattle.run_keeping.specs.Keeping.{Fate, is_this, marks_by}
 use Rattle.run_keeping.specs.Minutes.{Told, unit_mark}
-use Rattle.run_keeping.specs.Books.{AllGo, AreFoundCards, HaveTime, owes_nothing, MayBook, history_minute, standing_by, carried_broken}
+use Rattle.run_keeping.specs.Books.{AllGo, AreFoundCards, AreLeft, HaveTime, owes_nothing, MayBook, history_minute, standing_by, carried_broken}
 
 -- All that is carried while the unit has power, but that these entries are put for the minute that comes, or these are still owed to the
 -- cards. The string of a card is carried apart (`AllGo`).
@@ -88,7 +88,7 @@ BooksOwed present m failed t u d e = (f : Found) (w : Carried) → MayBook f w p
 -- behind an entry: nothing is owed any more to the card that was present; or the unit failed
 abbrev pub IsBroughtOrCut : (failed : Bool) → Found → Carried → (owes : Card → List Entry) → Cards → Devices → Type 0
 IsBroughtOrCut false f w owes cards d = IsLitOwing f w owes d × AllGo f w owes cards d
-IsBroughtOrCut true f w owes cards d = IsCarried f w d
+IsBroughtOrCut true f w owes cards d = AreLeft f w d
 
 -- The entry of the card that was present is what is owed to it; that is valid, and the minute is later than the words at its start.
 abbrev pub MayBring : Found → Option Card → Kept → Carried → (owes : Card → List Entry) → Type 0

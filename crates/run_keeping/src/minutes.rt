@@ -6,7 +6,9 @@ ghost use Rattle.slot_machine.specs.Calls.{present_in};
 ghost use Rattle.unit_model.specs.declared.layout.TheConstants.{HIGHEST_ODOMETER};
 ghost use Rattle.run_crew.specs.Cabin.{Stands};
 ghost use Rattle.run_keeping.specs.Keeping.{IsReady, HasItsRow, tears_of, most_tears};
-ghost use Rattle.run_keeping.specs.Minutes.{odometer_by, kept_of, AreDue, AllHaveRows, kept_after, AreKeptUpTo};
+ghost use Rattle.run_keeping.specs.Minutes.{odometer_by, kept_of, AreDue, AllHaveRows, kept_after, Reach, IsReach};
+ghost use Rattle.run_keeping.specs.Decided.{BooksAll};
+ghost use Rattle.run_rule.specs.Between.{devices};
 
 use crate::keeper::{Keeper, Moment};
 use activity_codec::Activity;
@@ -78,7 +80,8 @@ impl Keeper {
         requires second { at.second ≢ 0 }
         requires marks { length marks.old.items + 3 * length decided.now ≤ marks.old.room }
         requires breaks { length breaks.old.items + most_tears self.old.cabin.cards ≤ breaks.old.room }
-        ensures kept { AreKeptUpTo decided.now at (is_err result) (record { keeper = self.old; marks = marks.old; breaks = breaks.old }) (record { keeper = self.new; marks = marks.new; breaks = breaks.new }) }
+        ensures kept { (reach : Reach) × IsReach decided.now at (is_err result) (record { keeper = self.old; marks = marks.old; breaks = breaks.old }) (record { keeper = self.new; marks = marks.new; breaks = breaks.new }) reach
+            × BooksAll decided.now (is_err result) reach (record { keeper = self.old; marks = marks.old; breaks = breaks.old }) (record { keeper = self.new; marks = marks.new; breaks = breaks.new }) (devices (M.state unit.old) (C.state card_a.old) (D.state card_b.old)) (devices (M.state unit.new) (C.state card_a.new) (D.state card_b.new)) }
         ensures ready { OnOk result (IsReady self.new (M.state unit.new) (C.card card_a.new) (D.card card_b.new) (C.state card_a.new) (D.state card_b.new)) }
         ensures rows { (card : Card) → HasItsRow self.old.cabin.cards (M.state unit.old) card → OnOk result (HasItsRow self.new.cabin.cards (M.state unit.new) card) }
         ensures same { (self.new.memory ≡ self.old.memory) × (self.new.odometer ≡ self.old.odometer) × (self.new.cabin.slots.past ≡ self.old.cabin.slots.past) }
