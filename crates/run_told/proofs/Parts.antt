@@ -10,13 +10,14 @@ use Rattle.log_model.specs.declared.lines.Mark.{Mark}
 use Rattle.card_retention.specs.Retains.{Rise}
 use Rattle.card_image.specs.View.{CardView}
 use Rattle.card_image.specs.Own.{own_view, own_sizes, IsOwnValid}
-use Rattle.card_steps.specs.Each.{EachHolds}
+use Rattle.card_steps.specs.Since.{HoldsSince}
+use Rattle.card_steps.specs.Each.{KeepsSince}
 use Rattle.history_model.specs.Minutes.{HistoryMinute, card_history}
 use Rattle.history_model.specs.Presence.{CardStart}
 use Rattle.history_model.specs.Book.{Book, all}
 use Rattle.history_model.proofs.Books.{history-none}
 use Rattle.joint_rule.specs.Views.{UnitView, unit_view, other}
-use Rattle.joint_rule.specs.Rules.{Standing, CardDark, CardRule}
+use Rattle.joint_rule.specs.Rules.{Standing, since, CardDark, CardRule}
 use Rattle.joint_rule.specs.Marked.{of_card, HasBrought}
 use Rattle.safety_model.specs.Safe.{Devices, card_of}
 use Rattle.unit_rule.specs.Rule.{Started}
@@ -28,10 +29,10 @@ use Rattle.run_crew.specs.Cards.{session_of}
 use Rattle.run_rule.specs.Found.{CardFound, Found, found_of, unit_seen, AnyKept}
 use Rattle.run_rule.specs.Cards.{brought_by, CardMarksHold, CardStands, CardWaits, IsStrung}
 use Rattle.run_rule.specs.Between.{Carried, IsLit, IsCarried, devices}
-use Rattle.run_strung.specs.Strung.{newest_on, EachIsStrung}
+use Rattle.run_strung.specs.Strung.{IsHeld, EachIsStrung}
 use Rattle.run_strung.proofs.Strung.{strung}
 use Rattle.run_brought.proofs.Stays.{stays, adds-none}
-use Rattle.run_told.specs.Told.{AreFoundCards, IsHeld, sure_of, IsHeldDark, AllWait, GoesOwing, owes_nothing, AllGo, IsLitWith, IsLitOwing, IsPowered, IsPowerless, arranged}
+use Rattle.run_told.specs.Told.{AreFoundCards, sure_of, IsHeldDark, AllWait, GoesOwing, owes_nothing, AllGo, IsLitWith, IsLitOwing, IsPowered, IsPowerless, arranged}
 
 -- ---- the rules of the steps are those of a run
 
@@ -80,19 +81,22 @@ left-one s whole tells = let one = told-one s.image tells in (one.0, whole.is_le
 -- by the entries alone
 pub held-same : (f : CardFound) (c : Card) (b d : Book) (z : Standing) (X : State) → brought_by c f.start b ≡ brought_by c f.start d → IsHeld f c b z X → IsHeld f c d z X
 held-same f c b d z X same h = record {
-  next = h.next;
-  each = subst (λ (es : List Entry). EachHolds (own_sizes f.image) f.image es h.next f.began X) same h.each;
-  near = λ x there. subst (λ (es : List Entry). h.next ≤ suc (max f.start.word (newest_on z es (own_view x)))) same (h.near x there);
+  tells = h.tells;
+  now = λ x there. subst (λ (es : List Entry). (own_sizes x ≡ own_sizes f.image) × HoldsSince (own_sizes f.image) f.image es (suc (max f.start.word (since z (own_view x).newest))) x) same (h.now x there);
+  since = λ x left. subst (λ (es : List Entry). (own_sizes x ≡ own_sizes f.image) × KeepsSince f.image es x) same (h.since x left);
 }
 
 -- a book that has no minute but the sure ones
 pub sure-same : (c : Card) (start : CardStart) (b : Book) → b.maybe ≡ None → brought_by c start b ≡ brought_by c start (sure_of b)
 sure-same c start b none = ap (λ (o : Option HistoryMinute). start.owed ++ card_history c (b.sure ++ option_to_list o)) none
 
+none-comes : (P : Entry → Type 0) (c : Card) (b : Book) → b.maybe ≡ None → All P (card_history c (option_to_list b.maybe))
+none-comes P c b none = subst (All P) (sym (ap (λ (o : Option HistoryMinute). card_history c (option_to_list o)) none ∙ history-none c)) (All-nil P)
+
 pub held-dark : (f : CardFound) (c : Card) (b : Book) (z : Standing) (X : State) → b.maybe ≡ None → IsHeld f c b z X → IsHeldDark f c b z X
 held-dark f c b z X none h = record {
   held = held-same f c b (sure_of b) z X (sure-same c f.start b none) h;
-  comes = subst (λ (es : List Entry). All (λ (e : Entry). h.next ≤ e.minute) es) (sym (ap (λ (o : Option HistoryMinute). card_history c (option_to_list o)) none ∙ history-none c)) (All-nil (λ (e : Entry). h.next ≤ e.minute));
+  comes = λ x there. none-comes (λ (e : Entry). suc (max f.start.word (since z (own_view x).newest)) ≤ e.minute) c b none;
 }
 
 pub held-lit : (f : CardFound) (c : Card) (b : Book) (z : Standing) (X : State) → b.maybe ≡ None → IsHeldDark f c b z X → IsHeld f c b z X
@@ -106,18 +110,22 @@ module _ (f : Found) (w : Carried) (cards : Cards) (d : Devices) (found : AreFou
 
   module _ (none : w.book.maybe ≡ None) (unit : Holds f.unit w.due w.book w.marks d.unit) where
     pub strung-of : (c : Card) (z : Standing) (X : State) → IsOwnValid (found_of f c).image → IsHeld (found_of f c) c w.book z X → ((x : List ℕ) → X.left_since (found_of f c).began x → IsOwnValid x) → Rise (brought_by c (found_of f c).start w.book)
-        → CardDark c (found_of f c).start AnyKept (found_of f c).began w.book z (unit_seen f d.unit) (of_card X) → IsStrung f c w.book z d.unit X
-    strung-of c z X valid held each rises rests = strung f c w.book z held.next d.unit X (record {
+        → CardDark c (found_of f c).start AnyKept (found_of f c).began w.book z (unit_seen f d.unit) (of_card X) → EachIsStrung f c w.book z d.unit X
+    strung-of c z X valid held each rises rests = record {
       sizes = found.sizes c valid;
       entries = found.entries c valid;
-      each = held.each;
-      near = held.near;
+      held = held;
       valid = each;
       rises = rises;
       none = none;
       sure = sure-here f.unit w.due w.book w.marks d.unit unit;
       rests = rests;
-    })
+    }
+
+  -- whatever is put or owed
+  pub strung-with : (puts owes : Card → List Entry) → IsLitWith f w puts owes d → (c : Card) → IsOwnValid (found_of f c).image → IsHeld (found_of f c) c w.book (w.standing c) (card_of d c) → IsStrung f c w.book (w.standing c) d.unit (card_of d c)
+  strung-with puts owes lit c valid held =
+      strung f c w.book (w.standing c) d.unit (card_of d c) (strung-of lit.none lit.unit c (w.standing c) (card_of d c) valid held (lit.valid c valid) (lit.rises c valid) (lit.rules c valid).dark)
 
   -- while nothing is put and nothing owed
   pub lit-of : IsLitOwing f w owes_nothing d → AllGo f w owes_nothing cards d → IsLit f w d
@@ -127,7 +135,7 @@ module _ (f : Found) (w : Carried) (cards : Cards) (d : Devices) (found : AreFou
     unit = lit.unit;
     none = lit.none;
     cards = λ c valid.
-        let s = strung-of lit.none lit.unit c (w.standing c) (card_of d c) valid (go.held c valid) (lit.valid c valid) (lit.rises c valid) (lit.rules c valid).dark in
+        let s = strung-with owes_nothing owes_nothing lit c valid (go.held c valid) in
         record { holds = lit.rules c valid; string = s.string; comes = s.comes; brought = lit.brought c valid };
     marks = lit.marks;
   }
@@ -138,7 +146,7 @@ module _ (f : Found) (w : Carried) (cards : Cards) (d : Devices) (found : AreFou
     tells = lit.tells;
     unit = lit.unit;
     cards = λ c valid.
-        let s = strung-of lit.none lit.unit c (w.standing c) (card_of d c) valid (go.held c valid) (lit.valid c valid) (lit.rises c valid) (lit.rules c valid).dark in
+        let s = strung-with puts owes lit c valid (go.held c valid) in
         record { rests = (lit.rules c valid).dark; string = s.string; comes = s.comes; brought = lit.brought c valid };
     marks = lit.marks;
   }
@@ -287,7 +295,7 @@ whole-off f w cards d found tells unit none one marks = record {
     unit = unit;
     cards = λ c valid.
         let o = one c valid in
-        let s = strung-of f w cards d found none unit c (w.standing c) (card_of d c) valid o.held o.valid o.rises o.rests in
+        let s = strung f c w.book (w.standing c) d.unit (card_of d c) (strung-of f w cards d found none unit c (w.standing c) (card_of d c) valid o.held o.valid o.rises o.rests) in
         record { rests = o.rests; string = s.string; comes = s.comes; brought = o.brought };
     marks = marks;
   };

@@ -11,10 +11,9 @@ use Rattle.card_retention.specs.Retains.{Rise}
 use Rattle.card_image.specs.Own.{own_view, own_sizes, IsOwnValid}
 use Rattle.card_session.specs.Sessions.{Session, IsSession}
 use Rattle.card_steps.specs.Since.{GoesSince}
-use Rattle.card_steps.specs.Each.{EachHolds}
 use Rattle.history_model.specs.Minutes.{card_history}
 use Rattle.history_model.specs.Book.{Book}
-use Rattle.joint_rule.specs.Rules.{Standing, In, CardRule, IsEntered}
+use Rattle.joint_rule.specs.Rules.{Standing, In, since, CardRule, IsEntered}
 use Rattle.joint_rule.specs.Marked.{of_card, HasBrought}
 use Rattle.safety_model.specs.Safe.{Devices, card_of}
 use Rattle.unit_rule.specs.Marks.{Holds}
@@ -25,7 +24,7 @@ use Rattle.run_crew.specs.Cards.{known_of, session_of}
 use Rattle.run_rule.specs.Found.{CardFound, Found, found_of, unit_seen, AnyKept}
 use Rattle.run_rule.specs.Cards.{brought_by, CardMarksHold}
 use Rattle.run_rule.specs.Between.{Carried, IsLit, IsCarried, devices}
-use Rattle.run_strung.specs.Strung.{newest_on}
+use Rattle.run_strung.specs.Strung.{IsHeld}
 
 -- ---- what was found
 
@@ -38,13 +37,6 @@ pub record AreFoundCards (f : Found) (cards : Cards) : Type 0 where
 
 -- ---- the string
 
--- THE STRING OF A CARD, by its images: each that a stop may leave holds it, and each since the start keeps it; an entry may come behind the
--- newest minute of the card as it stands.
-pub record IsHeld (f : CardFound) (c : Card) (b : Book) (z : Standing) (card : State) : Type 0 where
-  pub next : ℕ
-  pub each : EachHolds (own_sizes f.image) f.image (brought_by c f.start b) next f.began card
-  pub near : (x : List ℕ) → card.may_leave x → next ≤ suc (max f.start.word (newest_on z (brought_by c f.start b) (own_view x)))
-
 -- a book without the minute that may be there
 abbrev pub sure_of : Book → Book
 sure_of b = record b { maybe = None }
@@ -53,7 +45,7 @@ sure_of b = record b { maybe = None }
 -- come next.
 pub record IsHeldDark (f : CardFound) (c : Card) (b : Book) (z : Standing) (card : State) : Type 0 where
   pub held : IsHeld f c (sure_of b) z card
-  pub comes : All (λ e. held.next ≤ e.minute) (card_history c (option_to_list b.maybe))
+  pub comes : (x : List ℕ) → card.may_leave x → All (λ e. suc (max f.start.word (since z (own_view x).newest)) ≤ e.minute) (card_history c (option_to_list b.maybe))
 
 -- so does each card that was valid
 abbrev pub AllWait : Found → Carried → Devices → Type 0
