@@ -5,3 +5,7 @@ pub mod Counts
 pub mod Rounds
 pub mod Decided
 pub mod OnTheCard
+pub mod EntryPut
+pub mod StringMore
+pub mod MinuteOwed
+pub mod MinuteBegun

@@ -7,7 +7,7 @@ ghost use Rattle.unit_model.specs.declared.layout.TheConstants.{HIGHEST_ODOMETER
 ghost use Rattle.unit_model.specs.Image.{IsUnit};
 ghost use Rattle.owed_model.specs.Rows.{HasRow};
 ghost use Rattle.unit_journal.specs.Image.{Agrees};
-ghost use Rattle.run_crew.specs.Cabin.{Stands, MayBeKept};
+ghost use Rattle.run_crew.specs.Cabin.{Stands, MayBeKept, AreTwo};
 ghost use Rattle.trace_model.specs.declared.Card.{Card};
 ghost use Rattle.trace_model.specs.declared.Card.TheVariants.{A, B};
 ghost use Rattle.run_keeping.specs.Keeping.{UnitReady, IsReady, HasItsRow, HaveRows, entry_in, kept_in, is_this, tears_of, most_tears, with_lines};
@@ -113,6 +113,7 @@ impl Keeper {
         requires small { minute.now.minute ≤ LATEST_MINUTE }
         requires odometer { minute.now.odometer.0 ≤ HIGHEST_ODOMETER }
         requires room { length marks.old.items < marks.old.room }
+        requires apart { AreTwo present.driver present.codriver }
         ensures keeper { self.new ≡ record self.old { journal = self.new.journal } }
         ensures notes { OnOk result ((self.new.journal.kept ≡ minute.now.minute) × (self.new.journal.odometer ≡ minute.now.odometer.0)) }
         ensures same { OnErr result ((self.new.journal ≡ self.old.journal) × (marks.new ≡ marks.old)) }
