@@ -44,14 +44,11 @@ use Rattle.run_keeping.proofs.MinuteOwed.{owed-or-cut}
 -- ---- what it says
 
 module _ (m : KeptMinute) (present : Present) (says : TellsPresent m present) where
-  abbrev i : HistoryMinute
-  i = history_minute present m
-
   -- a minute by whether a card was present
   abbrev shown : Bool → Bool → UnitMinute
   shown a b = record { minute = m.minute; driver = record { act = m.driver.act; present = a }; codriver = record { act = m.codriver.act; present = b }; crew = a && b }
 
-  pub kept-seen : kept_minute m ≡ seen_by_unit i
+  pub kept-seen : kept_minute m ≡ seen_by_unit (history_minute present m)
   kept-seen = ap (λ (a : Bool). shown a m.codriver.present) says.driver ∙ ap (λ (b : Bool). shown (is_some present.driver) b) says.codriver
 
   abbrev saying : Slot → Bool → Bool → Entry
@@ -144,6 +141,10 @@ abbrev pub Commits : (m : KeptMinute) (failed : Bool) (U V X : State) → Type 0
 Commits m failed U V X = (r : Both) (c : Card) (s : Started) (due : ℕ) (b : Book) (marks : List Mark) (i : HistoryMinute) (z : Standing) → kept_minute m ≡ seen_by_unit i → Holds s due b marks U → b.maybe ≡ None → due ≤ i.minute
     → CardHolds r c b z (on_card c i) [] U X → Fits c (opened r c).start z i → IsCommitted r c b i z failed V X
 
+-- the cards are as they were
+go-on : (f : Found) (w : Carried) (cards : Cards) (U V X Y : State) → AllGo f w owes_nothing cards (devices U X Y) → AllGo f w owes_nothing cards (devices V X Y)
+go-on f w cards U V X Y go = record { held = go.held; goes = go.goes }
+
 -- by the entry and the cards
 pub put-at : (o : Option Card) (e d : Entry) (failed : Bool) (cards known : Cards) (U V X Y : State) → e ≡ d → cards ≡ known → BooksPut o e failed cards (devices U X Y) (devices V X Y) → BooksPut o d failed known (devices U X Y) (devices V X Y)
 put-at o e d failed cards known U V X Y same are puts =
@@ -192,7 +193,7 @@ module _ (m : KeptMinute) (present : Present) (says : TellsPresent m present) (t
       pub cut-second : BooksPut present.codriver d true t.keeper.cabin.cards (devices U1 X Y) (devices U2 X Y) → BooksOwed present m true t u (devices U X Y) (devices U2 X Y)
       cut-second puts = λ f w may time.
           let b = may.booked in
-          inl (puts f w (and_put present.driver e owes_nothing) b.found (may-codriver f w may.comes) (first f w owes_nothing b.found (may-driver f w may.comes) (owing-of f w (devices U X Y) b.powered.lit) b.powered.go) b.powered.go)
+          inl (puts f w (and_put present.driver e owes_nothing) b.found (may-codriver f w may.comes) (first f w owes_nothing b.found (may-driver f w may.comes) (owing-of f w (devices U X Y) b.powered.lit) b.powered.go) (go-on f w t.keeper.cabin.cards U U1 X Y b.powered.go))
 
       module _ (second : BooksPut present.codriver d false t.keeper.cabin.cards (devices U1 X Y) (devices U2 X Y)) (V : State) (failed : Bool) (whole : IsCoherent U2) (whole_a : IsCoherent X) (whole_b : IsCoherent Y)
           (tells : is_some V.image ≡ is_some U2.image) (cause : HasCause U2 V failed)
@@ -214,8 +215,8 @@ module _ (m : KeptMinute) (present : Present) (says : TellsPresent m present) (t
         pub kept-or-cut : BooksOwed present m failed t u (devices U X Y) (devices V X Y)
         kept-or-cut = λ f w may time.
             let b = may.booked in
-            let put = second f w (and_put present.driver e owes_nothing) b.found (may-codriver f w may.comes) (first f w owes_nothing b.found (may-driver f w may.comes) (owing-of f w (devices U X Y) b.powered.lit) b.powered.go) b.powered.go in
+            let put = second f w (and_put present.driver e owes_nothing) b.found (may-codriver f w may.comes) (first f w owes_nothing b.found (may-driver f w may.comes) (owing-of f w (devices U X Y) b.powered.lit) b.powered.go) (go-on f w t.keeper.cabin.cards U U1 X Y b.powered.go) in
             let h = lit-puts f w (both_put present.driver present.codriver e d) (owes_minute i) U2 X Y all-said put in
             subst (λ (cards : Cards). IsOwedOrCut failed f w i cards (devices V X Y)) (sym same)
-            (owed-or-cut f t.keeper.cabin.cards b.found w i U2 V X Y whole wholes h b.powered.go may.comes one b.early failed tells cause (holds f.unit w.due w.book w.marks i (kept-seen m present says) h.unit h.none may.comes.late)
+            (owed-or-cut f t.keeper.cabin.cards b.found w i U2 V X Y whole wholes h (go-on f w t.keeper.cabin.cards U U2 X Y b.powered.go) may.comes one b.early failed tells cause (holds f.unit w.due w.book w.marks i (kept-seen m present says) h.unit h.none may.comes.late)
             (committed f w b.found.two may.comes h) (views f.card_a.number f.card_b.number i (kept-seen m present says)) time)

@@ -40,7 +40,7 @@ returns-in_err-owe_to-2-clause-booked g c = λ says.
     (cut-second c.args.minute.now c.args.present says c.requires.apart (told_with c.args.self.now c.args.marks.now) (told_with c.owe_to-2.new.self c.args.marks.now) U U1 X Y
     (put-at c.args.present.driver c.kept_in-driver.result.entry (entry_in c.args.minute.now Driver) false c.args.self.now.cabin.cards c.args.self.now.cabin.cards U U1 X Y (ap (λ (k : Kept). k.entry) c.kept_in-driver.ensures) refl c.in_ok-owe_to.ensures.booked) U2
     (put-at c.args.present.codriver c.kept_in-codriver.result.entry (entry_in c.args.minute.now CoDriver) true c.owe_to.new.self.cabin.cards c.args.self.now.cabin.cards U1 U2 X Y (ap (λ (k : Kept). k.entry) c.kept_in-codriver.ensures)
-    (ap (λ (k : Keeper). k.cabin.cards) c.in_ok-owe_to.ensures.same) c.in_err-owe_to-2.ensures.booked))
+    (ap (λ (k : Keeper). k.cabin.cards) {y = c.args.self.now} c.in_ok-owe_to.ensures.same) c.in_err-owe_to-2.ensures.booked))
 
 -- ---- or as it kept the minute
 
@@ -58,7 +58,7 @@ returns-in_err-commit-clause-booked g c = λ says.
     (kept-or-cut c.args.minute.now c.args.present says c.requires.apart (told_with c.args.self.now c.args.marks.now) (told_with (record c.owe_to-2.new.self { journal = c.commit.new.journal }) c.args.marks.now) U U1 X Y
     (put-at c.args.present.driver c.kept_in-driver.result.entry (entry_in c.args.minute.now Driver) false c.args.self.now.cabin.cards c.args.self.now.cabin.cards U U1 X Y (ap (λ (k : Kept). k.entry) c.kept_in-driver.ensures) refl c.in_ok-owe_to.ensures.booked) U2
     (put-at c.args.present.codriver c.kept_in-codriver.result.entry (entry_in c.args.minute.now CoDriver) false c.owe_to.new.self.cabin.cards c.args.self.now.cabin.cards U1 U2 X Y (ap (λ (k : Kept). k.entry) c.kept_in-codriver.ensures)
-    (ap (λ (k : Keeper). k.cabin.cards) c.in_ok-owe_to.ensures.same) c.in_ok-owe_to-2.ensures.booked) V true
+    (ap (λ (k : Keeper). k.cabin.cards) {y = c.args.self.now} c.in_ok-owe_to.ensures.same) c.in_ok-owe_to-2.ensures.booked) V true
     (g.met.M.Medium.coherent c.owe_to-2.new.unit) (g.met.C.Chip.coherent c.args.card_a.now) (g.met.D.Chip.coherent c.args.card_b.now) e.tells e.cause e.holds e.first e.second e.views
     (ap (λ (k : Keeper). k.cabin.cards) (c.in_ok-owe_to-2.ensures.same ∙ c.in_ok-owe_to.ensures.same)))
 
@@ -76,6 +76,6 @@ returns-clause-booked g c = λ says.
     kept-or-cut c.args.minute.now c.args.present says c.requires.apart (told_with c.args.self.now c.args.marks.now) (told_with (record c.owe_to-2.new.self { journal = c.commit.new.journal }) c.add.new.self) U U1 X Y
     (put-at c.args.present.driver c.kept_in-driver.result.entry (entry_in c.args.minute.now Driver) false c.args.self.now.cabin.cards c.args.self.now.cabin.cards U U1 X Y (ap (λ (k : Kept). k.entry) c.kept_in-driver.ensures) refl c.in_ok-owe_to.ensures.booked) U2
     (put-at c.args.present.codriver c.kept_in-codriver.result.entry (entry_in c.args.minute.now CoDriver) false c.owe_to.new.self.cabin.cards c.args.self.now.cabin.cards U1 U2 X Y (ap (λ (k : Kept). k.entry) c.kept_in-codriver.ensures)
-    (ap (λ (k : Keeper). k.cabin.cards) c.in_ok-owe_to.ensures.same) c.in_ok-owe_to-2.ensures.booked) V false
+    (ap (λ (k : Keeper). k.cabin.cards) {y = c.args.self.now} c.in_ok-owe_to.ensures.same) c.in_ok-owe_to-2.ensures.booked) V false
     (g.met.M.Medium.coherent c.owe_to-2.new.unit) (g.met.C.Chip.coherent c.args.card_a.now) (g.met.D.Chip.coherent c.args.card_b.now) e.tells e.cause e.holds e.first e.second e.views
     (ap (λ (k : Keeper). k.cabin.cards) (c.in_ok-owe_to-2.ensures.same ∙ c.in_ok-owe_to.ensures.same))
