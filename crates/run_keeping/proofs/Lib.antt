@@ -4,5 +4,4 @@ pub mod Fates
 pub mod Counts
 pub mod Rounds
 pub mod Decided
-pub mod NotedLit
 pub mod OnTheCard

@@ -1,28 +1,19 @@
 -- What the keeping of a minute leaves of unit and cards, over devices that tell their images (profile).
-use Rattle.std.specs.Prelude.{◌≡◌, ◌≢◌, ◌⊎◌, ℕ, suc, ◌≤◌, ◌<◌, Bool, true, false, Option, Some, None, IfSome, List, [], ◌++◌, Contains, if◌then◌else◌}
-use Rattle.activity_codec.specs.declared.entries.Entry.{Entry}
+use Rattle.std.specs.Prelude.{◌≡◌, ◌⊎◌, ℕ, suc, ◌≤◌, ◌<◌, Bool, true, false, Option, Some, None, List, [], if◌then◌else◌}
 use Rattle.trace_model.specs.declared.Card.{Card}
-use Rattle.tach_media.specs.Medium.{State, last_count}
-use Rattle.tacho_types.specs.CardNumber.{card_number_bytes}
-use Rattle.card_layout.specs.Application.{IsApplication}
+use Rattle.tach_media.specs.Medium.{last_count}
 use Rattle.log_model.specs.declared.lines.Mark.{Mark}
-use Rattle.card_image.specs.Own.{own_view, own_sizes, IsOwnValid}
-use Rattle.card_session.specs.Sessions.{Session, IsSession}
-use Rattle.card_steps.specs.Since.{GoesSince}
+use Rattle.card_image.specs.Own.{IsOwnValid}
 use Rattle.unit_journal.specs.declared.kept.KeptMinute.{KeptMinute}
 use Rattle.history_model.specs.Minutes.{HistoryMinute, on_card}
-use Rattle.history_model.specs.Book.{Book, kept, broken}
+use Rattle.history_model.specs.Book.{kept, broken}
 use Rattle.joint_rule.specs.Rules.{Standing, Out, In, Torn, IsPresent}
-use Rattle.safety_model.specs.Safe.{Devices, card_of}
+use Rattle.safety_model.specs.Safe.{Devices}
 use Rattle.slot_machine.specs.declared.seats.Present.{Present}
-use Rattle.device_steps.specs.Minute.{IsNotIn}
-use Rattle.run_crew.specs.declared.cards.Accepted.{Accepted}
 use Rattle.run_crew.specs.declared.cards.Cards.{Cards}
-use Rattle.run_crew.specs.Cards.{known_of, session_of}
-use Rattle.run_rule.specs.Found.{CardFound, Found, found_of}
-use Rattle.run_rule.specs.Cards.{brought_by}
-use Rattle.run_rule.specs.Between.{Carried, IsLit, IsCarried}
-use Rattle.run_strung.specs.Strung.{IsHeld}
+use Rattle.run_rule.specs.Found.{Found, found_of}
+use Rattle.run_rule.specs.Between.{Carried, IsLit}
+use Rattle.run_told.specs.Told.{AreFoundCards, AllGo, AreEarly, IsPowered, IsPowerless, owes_nothing}
 use Rattle.run_keeping.specs.Keeping.{Fate, Still, Has, Fell, is_this}
 use Rattle.run_keeping.specs.Minutes.{Round, Told, marks_after}
 
@@ -36,50 +27,13 @@ history_minute present m = record {
   codriver = record { act = m.codriver.act; card = present.codriver };
 }
 
--- What was found of the cards: two numbers, which are those that they have told; and of each valid card sizes, and the entries of its image.
-pub record AreFoundCards (f : Found) (cards : Cards) : Type 0 where
-  pub two : f.card_a.number ≢ f.card_b.number
-  pub named : (c : Card) → IsOwnValid (found_of f c).image → IfSome (known_of cards c).number (λ n. card_number_bytes n ≡ (found_of f c).number)
-  pub sizes : (c : Card) → IsOwnValid (found_of f c).image → IsApplication (own_sizes (found_of f c).image)
-  pub entries : (c : Card) → IsOwnValid (found_of f c).image → (found_of f c).start.entries ≡ (own_view (found_of f c).image).held.entries
-
--- A CARD IN ITS SLOT, with this session, and with these entries since the start: it stands with the session's newest minute, its image is
--- what the session knows, and its string goes on with each later minute.
-pub record IsOn (f : CardFound) (has : List Entry) (z : Standing) (s : Session) (card : State) : Type 0 where
-  pub time : ℕ
-  pub stands : z ≡ In time s.minute
-  pub sizes : s.application ≡ own_sizes f.image
-  pub session : IfSome card.image (IsSession s)
-  pub goes : IfSome card.image (GoesSince s.application f.image has (suc s.minute))
-
--- a card goes with its session, and is in its slot, accepted, exactly where it has one
-abbrev pub GoesWith : CardFound → (has : List Entry) → Standing → Option Accepted → State → Type 0
-GoesWith f has z None card = IsNotIn z
-GoesWith f has z (Some accepted) card = IsOn f has z accepted.session card
-
--- while these entries are owed to it: it has all others that it is to have
-pub record GoesOwing (f : CardFound) (c : Card) (b : Book) (owes : List Entry) (z : Standing) (session : Option Accepted) (card : State) : Type 0 where
-  pub has : List Entry
-  pub all : has ++ owes ≡ brought_by c f.start b
-  pub goes : GoesWith f has z session card
-
--- nothing is owed
-abbrev pub owes_nothing : Card → List Entry
-owes_nothing c = []
-
--- so do all that were valid
-pub record AllGo (f : Found) (w : Carried) (owes : Card → List Entry) (cards : Cards) (d : Devices) : Type 0 where
-  pub held : (c : Card) → IsOwnValid (found_of f c).image → IsHeld (found_of f c) c w.book (w.standing c) (card_of d c)
-  pub goes : (c : Card) → IsOwnValid (found_of f c).image → GoesOwing (found_of f c) c w.book (owes c) (w.standing c) (session_of cards c) (card_of d c)
-
--- UNIT AND CARDS ARE AS THE BOOK SAYS, between two calls while the unit has power: all that is carried stands, with the marks that are told;
--- the cards go with their sessions; and what acceptances brought is of minutes that the unit had kept by then.
+-- UNIT AND CARDS ARE AS THE BOOK SAYS, between two calls while the unit has power: the cards are those that were found, all that is carried
+-- stands, with the marks that are told, and what acceptances brought is of minutes that the unit had kept by then.
 pub record AreBooked (f : Found) (w : Carried) (cards : Cards) (marks : List Mark) (d : Devices) : Type 0 where
-  pub lit : IsLit f w d
-  pub marks : w.marks ≡ marks
   pub found : AreFoundCards f cards
-  pub cards : AllGo f w owes_nothing cards d
-  pub early : (c : Card) (k : ℕ) → Contains (w.brought c) k → k < w.due
+  pub powered : IsPowered f w cards d
+  pub marks : w.marks ≡ marks
+  pub early : AreEarly w
 
 -- A minute may come: it is not earlier than it may, and says something on a card only where that is valid and present.
 pub record MayCome (f : Found) (w : Carried) (i : HistoryMinute) : Type 0 where
@@ -117,22 +71,12 @@ carried_after present i round w = record {
 abbrev pub carried_broken : HistoryMinute → Carried → Carried
 carried_broken i w = record w { due = suc i.minute; book = broken i w.book }
 
--- a book without the minute that may be there
-abbrev pub sure_of : Book → Book
-sure_of b = record b { maybe = None }
-
--- AS A STOP LEAVES THEM, with power or without: all that is carried stands, and the string of each card that was valid is held by the minutes
--- that the unit has.
-pub record AreLeft (f : Found) (w : Carried) (d : Devices) : Type 0 where
-  pub carried : IsCarried f w d
-  pub held : (c : Card) → IsOwnValid (found_of f c).image → IsHeld (found_of f c) c (sure_of w.book) (w.standing c) (card_of d c)
-
 -- THE BOOK BEHIND A MINUTE that was to be kept: it is kept, all that is carried stands, and the cards go with their sessions; or the unit
 -- failed, and the minute was not begun, or was, or it is kept and a card was torn out.
 abbrev pub IsBooked : Found → Carried → Present → HistoryMinute → (failed : Bool) → Option Round → Cards → Devices → Type 0
-IsBooked f w present i failed None cards d = AreLeft f w d ⊎ AreLeft f (carried_broken i w) d
-IsBooked f w present i false (Some round) cards d = IsLit f (carried_after present i round w) d × AllGo f (carried_after present i round w) owes_nothing cards d
-IsBooked f w present i true (Some round) cards d = AreLeft f (carried_after present i round w) d
+IsBooked f w present i failed None cards d = IsPowerless f w d ⊎ IsPowerless f (carried_broken i w) d
+IsBooked f w present i false (Some round) cards d = IsPowered f (carried_after present i round w) cards d
+IsBooked f w present i true (Some round) cards d = IsPowerless f (carried_after present i round w) d
 
 -- WHAT IS ASKED: all that is carried stands, with the marks that are told; the cards go with their sessions; and the minute may come.
 pub record MayBook (f : Found) (w : Carried) (present : Present) (m : KeptMinute) (t : Told) (d : Devices) : Type 0 where
@@ -141,8 +85,7 @@ pub record MayBook (f : Found) (w : Carried) (present : Present) (m : KeptMinute
   pub found : AreFoundCards f t.keeper.cabin.cards
   pub cards : AllGo f w owes_nothing t.keeper.cabin.cards d
   pub comes : MayCome f w (history_minute present m)
-  -- what acceptances brought is of minutes that the unit had kept by then
-  pub early : (c : Card) (k : ℕ) → Contains (w.brought c) k → k < w.due
+  pub early : AreEarly w
 
 -- no clock stands at its last value
 pub record HaveTime (d : Devices) : Type 0 where

@@ -1,44 +1,23 @@
 -- How unit and cards stand while the entries of a minute are brought to the cards (profile).
-use Rattle.std.specs.Prelude.{◌≡◌, ◌⊎◌, ℕ, suc, ◌<◌, ◌≤◌, ◌++◌, ◌∷◌, Bool, true, false, None, Option, Some, List, [], Contains, is_some, if◌then◌else◌}
+use Rattle.std.specs.Prelude.{◌≡◌, ◌⊎◌, ℕ, suc, ◌<◌, ◌≤◌, ◌++◌, ◌∷◌, Bool, true, false, None, Option, Some, List, [], if◌then◌else◌}
 use Rattle.activity_codec.specs.declared.entries.Entry.{Entry}
 use Rattle.trace_model.specs.declared.Card.{Card}
 use Rattle.tach_media.specs.Medium.{last_count}
-use Rattle.card_retention.specs.Retains.{Rise}
 use Rattle.card_image.specs.Own.{IsOwnValid}
 use Rattle.card_session.specs.declared.session.Kept.{Kept}
 use Rattle.unit_journal.specs.declared.kept.KeptMinute.{KeptMinute}
 use Rattle.history_model.specs.Minutes.{HistoryMinute, on_card}
 use Rattle.history_model.specs.Book.{kept}
-use Rattle.joint_rule.specs.Rules.{IsPresent, CardRule}
-use Rattle.joint_rule.specs.Marked.{of_card, HasBrought}
-use Rattle.safety_model.specs.Safe.{Devices, card_of}
-use Rattle.unit_rule.specs.Marks.{Holds}
+use Rattle.joint_rule.specs.Rules.{IsPresent}
+use Rattle.safety_model.specs.Safe.{Devices}
 use Rattle.slot_machine.specs.declared.seats.Present.{Present}
 use Rattle.run_crew.specs.declared.cards.Cards.{Cards}
-use Rattle.run_rule.specs.Found.{Found, found_of, unit_seen, AnyKept}
-use Rattle.run_rule.specs.Cards.{brought_by, CardMarksHold}
-use Rattle.run_rule.specs.Between.{Carried, IsCarried}
+use Rattle.run_rule.specs.Found.{Found, found_of}
+use Rattle.run_rule.specs.Between.{Carried}
+use Rattle.run_told.specs.Told.{AllGo, AreFoundCards, IsLitWith, IsLitOwing, IsPowerless, owes_nothing}
 use Rattle.run_keeping.specs.Keeping.{Fate, is_this, marks_by}
 use Rattle.run_keeping.specs.Minutes.{Told, unit_mark}
-use Rattle.run_keeping.specs.Books.{AllGo, AreFoundCards, AreLeft, HaveTime, owes_nothing, MayBook, history_minute, standing_by, carried_broken}
-
--- All that is carried while the unit has power, but that these entries are put for the minute that comes, or these are still owed to the
--- cards. The string of a card is carried apart (`AllGo`).
-pub record IsLitWith (f : Found) (w : Carried) (puts owes : Card → List Entry) (d : Devices) : Type 0 where
-  pub tells : is_some d.unit.image ≡ true
-  pub works : d.unit.works ≡ true
-  pub unit : Holds f.unit w.due w.book w.marks d.unit
-  pub none : w.book.maybe ≡ None
-  pub rules : (c : Card) → IsOwnValid (found_of f c).image →
-      CardRule c (found_of f c).start AnyKept (found_of f c).began w.book (w.standing c) (puts c) (owes c) (unit_seen f d.unit) (of_card (card_of d c))
-  pub valid : (c : Card) → IsOwnValid (found_of f c).image → (x : List ℕ) → (card_of d c).left_since (found_of f c).began x → IsOwnValid x
-  pub rises : (c : Card) → IsOwnValid (found_of f c).image → Rise (brought_by c (found_of f c).start w.book)
-  pub brought : (c : Card) → IsOwnValid (found_of f c).image → (k : ℕ) → Contains (w.brought c) k → HasBrought f.card_a.number f.card_b.number c k d.unit (card_of d c)
-  pub marks : (c : Card) → CardMarksHold (found_of f c) c w.book w.marks (card_of d c)
-
--- nothing is put any more
-abbrev pub IsLitOwing : Found → Carried → (owes : Card → List Entry) → Devices → Type 0
-IsLitOwing f w owes d = IsLitWith f w owes_nothing owes d
+use Rattle.run_keeping.specs.Books.{HaveTime, MayBook, history_minute, standing_by, carried_broken}
 
 -- an entry more is put, for the card that was present
 abbrev pub and_put : Option Card → Entry → (Card → List Entry) → Card → List Entry
@@ -51,7 +30,7 @@ MayPut f (Some c) entry w puts = IsOwnValid (found_of f c).image × (puts c ≡ 
 
 abbrev pub IsPutOrCut : (failed : Bool) → Found → Carried → (puts : Card → List Entry) → Devices → Type 0
 IsPutOrCut false f w puts d = IsLitWith f w puts owes_nothing d
-IsPutOrCut true f w puts d = IsCarried f w d
+IsPutOrCut true f w puts d = IsPowerless f w d
 
 abbrev pub BooksPut : Option Card → Entry → (failed : Bool) → Cards → (d e : Devices) → Type 0
 BooksPut present entry failed cards d e = (f : Found) (w : Carried) (puts : Card → List Entry) → AreFoundCards f cards → MayPut f present entry w puts → IsLitWith f w puts owes_nothing d → AllGo f w owes_nothing cards d
@@ -79,7 +58,7 @@ carried_brought fate present minute w = record w {
 -- behind the unit's part: it has the minute, and owes its entries to the cards; or it failed, and the minute was not begun, or was
 abbrev pub IsOwedOrCut : (failed : Bool) → Found → Carried → HistoryMinute → Cards → Devices → Type 0
 IsOwedOrCut false f w i cards d = IsLitOwing f (carried_kept i d.unit.clock w) (owes_minute i) d × AllGo f (carried_kept i d.unit.clock w) (owes_minute i) cards d
-IsOwedOrCut true f w i cards d = IsCarried f w d ⊎ IsCarried f (carried_broken i w) d
+IsOwedOrCut true f w i cards d = IsPowerless f w d ⊎ IsPowerless f (carried_broken i w) d
 
 -- THE UNIT WAS TO KEEP A MINUTE (`commit`)
 abbrev pub BooksOwed : Present → KeptMinute → (failed : Bool) → (t u : Told) → (d e : Devices) → Type 0
@@ -88,7 +67,7 @@ BooksOwed present m failed t u d e = (f : Found) (w : Carried) → MayBook f w p
 -- behind an entry: nothing is owed any more to the card that was present; or the unit failed
 abbrev pub IsBroughtOrCut : (failed : Bool) → Found → Carried → (owes : Card → List Entry) → Cards → Devices → Type 0
 IsBroughtOrCut false f w owes cards d = IsLitOwing f w owes d × AllGo f w owes cards d
-IsBroughtOrCut true f w owes cards d = AreLeft f w d
+IsBroughtOrCut true f w owes cards d = IsPowerless f w d
 
 -- The entry of the card that was present is what is owed to it; that is valid, and the minute is later than the words at its start.
 abbrev pub MayBring : Found → Option Card → Kept → Carried → (owes : Card → List Entry) → Type 0
