@@ -12,8 +12,8 @@ use Rattle.safety_model.specs.Safe.{Devices}
 use Rattle.slot_machine.specs.declared.seats.Present.{Present}
 use Rattle.run_crew.specs.declared.cards.Cards.{Cards}
 use Rattle.run_rule.specs.Found.{Found, found_of}
-use Rattle.run_rule.specs.Between.{Carried, IsLit}
-use Rattle.run_told.specs.Told.{AreFoundCards, AllGo, AreEarly, IsPowered, IsPowerless, owes_nothing}
+use Rattle.run_rule.specs.Between.{Carried}
+use Rattle.run_told.specs.Told.{AreFoundCards, IsPowered, IsPowerless, AreEarly}
 use Rattle.run_keeping.specs.Keeping.{Fate, Still, Has, Fell, is_this}
 use Rattle.run_keeping.specs.Minutes.{Round, Told, marks_after}
 
@@ -27,8 +27,8 @@ history_minute present m = record {
   codriver = record { act = m.codriver.act; card = present.codriver };
 }
 
--- UNIT AND CARDS ARE AS THE BOOK SAYS, between two calls while the unit has power: the cards are those that were found, all that is carried
--- stands, with the marks that are told, and what acceptances brought is of minutes that the unit had kept by then.
+-- UNIT AND CARDS ARE AS THE BOOK SAYS, between two calls while the unit has power: all that is carried stands, with the marks that are told,
+-- and the cards go with their sessions.
 pub record AreBooked (f : Found) (w : Carried) (cards : Cards) (marks : List Mark) (d : Devices) : Type 0 where
   pub found : AreFoundCards f cards
   pub powered : IsPowered f w cards d
@@ -78,14 +78,10 @@ IsBooked f w present i failed None cards d = IsPowerless f w d ⊎ IsPowerless f
 IsBooked f w present i false (Some round) cards d = IsPowered f (carried_after present i round w) cards d
 IsBooked f w present i true (Some round) cards d = IsPowerless f (carried_after present i round w) d
 
--- WHAT IS ASKED: all that is carried stands, with the marks that are told; the cards go with their sessions; and the minute may come.
+-- WHAT IS ASKED: unit and cards are as the book says, and the minute may come.
 pub record MayBook (f : Found) (w : Carried) (present : Present) (m : KeptMinute) (t : Told) (d : Devices) : Type 0 where
-  pub lit : IsLit f w d
-  pub marks : w.marks ≡ t.marks.items
-  pub found : AreFoundCards f t.keeper.cabin.cards
-  pub cards : AllGo f w owes_nothing t.keeper.cabin.cards d
+  pub booked : AreBooked f w t.keeper.cabin.cards t.marks.items d
   pub comes : MayCome f w (history_minute present m)
-  pub early : AreEarly w
 
 -- no clock stands at its last value
 pub record HaveTime (d : Devices) : Type 0 where

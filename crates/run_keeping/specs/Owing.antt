@@ -1,5 +1,5 @@
 -- How unit and cards stand while the entries of a minute are brought to the cards (profile).
-use Rattle.std.specs.Prelude.{◌≡◌, ◌⊎◌, ℕ, suc, ◌<◌, ◌≤◌, ◌++◌, ◌∷◌, Bool, true, false, None, Option, Some, List, [], if◌then◌else◌}
+use Rattle.std.specs.Prelude.{◌≡◌, ◌⊎◌, ℕ, suc, ◌<◌, ◌≤◌, ◌++◌, ◌∷◌, Bool, true, false, Option, Some, None, List, [], if◌then◌else◌}
 use Rattle.activity_codec.specs.declared.entries.Entry.{Entry}
 use Rattle.trace_model.specs.declared.Card.{Card}
 use Rattle.tach_media.specs.Medium.{last_count}
@@ -14,7 +14,7 @@ use Rattle.slot_machine.specs.declared.seats.Present.{Present}
 use Rattle.run_crew.specs.declared.cards.Cards.{Cards}
 use Rattle.run_rule.specs.Found.{Found, found_of}
 use Rattle.run_rule.specs.Between.{Carried}
-use Rattle.run_told.specs.Told.{AllGo, AreFoundCards, IsLitWith, IsLitOwing, IsPowerless, owes_nothing}
+use Rattle.run_told.specs.Told.{AreFoundCards, AllGo, owes_nothing, IsLitWith, IsLitOwing, IsPowerless}
 use Rattle.run_keeping.specs.Keeping.{Fate, is_this, marks_by}
 use Rattle.run_keeping.specs.Minutes.{Told, unit_mark}
 use Rattle.run_keeping.specs.Books.{HaveTime, MayBook, history_minute, standing_by, carried_broken}
