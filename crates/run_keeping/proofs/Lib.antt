@@ -5,3 +5,5 @@ pub mod Counts
 pub mod Rounds
 pub mod Decided
 pub mod OnTheCard
+pub mod MarksOn
+pub mod CardBrought

@@ -8,7 +8,7 @@ ghost use Rattle.card_session.specs.declared.words.TheConstants.{LATEST_MINUTE};
 ghost use Rattle.unit_notes.specs.Journal.{LeavesJournal};
 ghost use Rattle.run_crew.specs.Cards.{known_of, session_of};
 ghost use Rattle.run_crew.specs.Cabin.{Stands, IsBehind, crew_of};
-ghost use Rattle.run_keeping.specs.Owing.{BooksBrought};
+ghost use Rattle.run_keeping.specs.Owing.{BooksCard, BooksBrought};
 ghost use Rattle.run_rule.specs.Between.{devices};
 ghost use Rattle.run_keeping.specs.Keeping.{UnitReady, CardReady, HasItsRow, IsReady, Fate, IsBrought, IsNotingFault, tears_of, session_at, state_at, is_this};
 
@@ -54,7 +54,8 @@ impl Keeper {
         requires marks { length marks.old.items < marks.old.room }
         requires breaks { length breaks.old.items + tears_of (session_of self.old.cabin.cards which) ≤ breaks.old.room }
         ensures brought { (fate : Fate) × IsBrought (Some which) kept.now at (is_err result) self.old self.new marks.old marks.new breaks.old breaks.new fate (M.state unit.old) (M.state unit.new) (C.state card.old) (C.state card.new)
-            × LeavesOnly (M.state unit.old) (M.state unit.new) (IsNotingFault fate at.second (crew_of self.new.cabin)) }
+            × LeavesOnly (M.state unit.old) (M.state unit.new) (IsNotingFault fate at.second (crew_of self.new.cabin))
+            × BooksCard which kept.now fate self.old.cabin.cards self.new.cabin.cards (M.state unit.old) (C.state card.old) (C.state card.new) }
         ensures journal { LeavesOnly (M.state unit.old) (M.state unit.new) LeavesJournal }
         ensures cause { HasCause (M.state unit.old) (M.state unit.new) (is_err result) }
         ensures ready { OnOk result (UnitReady self.new (M.state unit.new)) }
@@ -108,8 +109,7 @@ impl Keeper {
         requires marks { length marks.old.items < marks.old.room }
         requires breaks { length breaks.old.items + tears_of (session_at self.old.cabin.cards present) ≤ breaks.old.room }
         ensures brought { (fate : Fate) × IsBrought present kept.now at (is_err result) self.old self.new marks.old marks.new breaks.old breaks.new fate (M.state unit.old) (M.state unit.new) (state_at present (C.state card_a.old) (D.state card_b.old)) (state_at present (C.state card_a.new) (D.state card_b.new))
-            × LeavesOnly (M.state unit.old) (M.state unit.new) (IsNotingFault fate at.second (crew_of self.new.cabin)) }
-        ensures booked { (fate : Fate) × IsBrought present kept.now at (is_err result) self.old self.new marks.old marks.new breaks.old breaks.new fate (M.state unit.old) (M.state unit.new) (state_at present (C.state card_a.old) (D.state card_b.old)) (state_at present (C.state card_a.new) (D.state card_b.new))
+            × LeavesOnly (M.state unit.old) (M.state unit.new) (IsNotingFault fate at.second (crew_of self.new.cabin))
             × BooksBrought present kept.now (is_err result) fate self.old.cabin.cards self.new.cabin.cards (devices (M.state unit.old) (C.state card_a.old) (D.state card_b.old)) (devices (M.state unit.new) (C.state card_a.new) (D.state card_b.new)) }
         ensures a_rests { is_this present A ≡ false → card_a.new ≡ card_a.old }
         ensures b_rests { is_this present B ≡ false → card_b.new ≡ card_b.old }

@@ -13,6 +13,7 @@ use Rattle.run_keeping.specs.declared.keeper.Keeper.{Keeper}
 use Rattle.run_keeping.specs.Keeping.{Has, Fell, IsNotingFault, with_lines}
 use Rattle.run_keeping.proofs.Sessions.{session-twice, stands-later, torn-stands}
 use Rattle.run_keeping.proofs.Fates.{has-brought, fell-brought}
+use Rattle.run_keeping.proofs.CardBrought.{card-still, card-fell, card-has}
 use Rattle.run_keeping.proofs.keeper.Keeper.bring_to.Goals as goal
 
 -- ---- the call failed
