@@ -82,7 +82,7 @@ card-still f c b z ks marks due m U X present one = record {
   brought = one.brought;
   held = one.held;
   goes = record { has = brought_by c (found_of f c).start b; all = append-nil (brought_by c (found_of f c).start b); goes = one.goes.goes };
-  marks = same-marks (found_of f c) c b marks X one.marks;
+  hold = same-marks (found_of f c) c b marks X one.hold;
 }
 
 -- ---- A KEEP
@@ -130,6 +130,8 @@ module _ (f : Found) (cards : Cards) (found : AreFoundCards f cards) (c : Card) 
 
   low : (x : CardView) → (of_card X).may_leave x → x.mark < e.minute
   low x there = let sits = (rule.stands.2 some-unit.0 x some-unit.1 there).open_ in omega (arith, sits.mark, late)
+
+  ready : (from : ℕ) × IfSome X.image (λ x. IsReady s (bound_since g.image one.goes.has) (own_covered g.image) from (counted_since g.image one.goes.has) (all_since g.image one.goes.has) e x)
   ready = ready-here g.image one.goes.has s e odometer g.start.word late fresh X whole sound on.sizes on.session on.goes is
 
   each-before : EachHolds (own_sizes g.image) g.image (brought_by c g.start b) (suc (max g.start.word s.minute)) g.began X
@@ -177,7 +179,7 @@ module _ (f : Found) (cards : Cards) (found : AreFoundCards f cards) (c : Card) 
     brought = brought-now;
     held = record { tells = run.tells ∙ held.tells; now = each-after.now; since = each-after.since };
     goes = record { has = brought_by c g.start b; all = append-nil (brought_by c g.start b); goes = tt };
-    marks = same-marks g c b marks Y (moment-hold g c b marks e X Y whole low views one.marks);
+    hold = same-marks g c b marks Y (moment-hold g c b marks e X Y whole low views one.hold);
   }
 
   pub card-fell : CardOwing f c b (standing_by Fell e.minute z) ks (marks ++ marks_by Fell (Some c) e.minute) [] None U Y
@@ -217,8 +219,8 @@ module _ (f : Found) (cards : Cards) (found : AreFoundCards f cards) (c : Card) 
           goes = goes-all;
         };
       };
-      marks = subst (λ (k : ℕ). CardMarksHold g c b (marks ++ record { device = device_of c; minute = e.minute; clock = k } ∷ []) Y) (sym is_clock)
-          (kept-hold g c b marks e X Y whole low views one.marks after valid some-view (omega (arith, rule.dark.later, run.later)) settled ends sure);
+      hold = subst (λ (k : ℕ). CardMarksHold g c b (marks ++ record { device = device_of c; minute = e.minute; clock = k } ∷ []) Y) (sym is_clock)
+          (kept-hold g c b marks e X Y whole low views one.hold after valid some-view (omega (arith, rule.dark.later, run.later)) settled ends sure);
     }
 
     pub card-has : (n : ℕ) → n ≡ Y.clock → CardOwing f c b (standing_by (Has t n) e.minute z) ks (marks ++ marks_by (Has t n) (Some c) e.minute) [] (Some t) U Y

@@ -7,3 +7,4 @@ pub mod Decided
 pub mod OnTheCard
 pub mod MarksOn
 pub mod CardBrought
+pub mod CardBooked

@@ -32,7 +32,7 @@ history_minute present m = record {
 pub record AreBooked (f : Found) (w : Carried) (cards : Cards) (marks : List Mark) (d : Devices) : Type 0 where
   pub found : AreFoundCards f cards
   pub powered : IsPowered f w cards d
-  pub marks : w.marks ≡ marks
+  pub told : w.marks ≡ marks
   pub early : AreEarly w
 
 -- A minute may come: it is not earlier than it may, and says something on a card only where that is valid and present.

@@ -88,7 +88,7 @@ pub record CardOwing (f : Found) (c : Card) (b : Book) (z : Standing) (ks : List
   pub brought : (k : ℕ) → Contains ks k → HasBrought f.card_a.number f.card_b.number c k unit card
   pub held : IsHeld (found_of f c) c b z card
   pub goes : GoesOwing (found_of f c) c b owes z session card
-  pub marks : CardMarksHold (found_of f c) c b marks card
+  pub hold : CardMarksHold (found_of f c) c b marks card
 
 -- AN ENTRY WAS TO BE BROUGHT to this card, of which this became (`bring_to`): so it is with it, by the unit as it was before.
 abbrev pub BooksCard : Card → Kept → Fate → (cards cards_after : Cards) → (unit card card_after : State) → Type 0
