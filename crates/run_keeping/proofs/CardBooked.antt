@@ -32,6 +32,28 @@ port-of : (c : Card) (cards : Cards) (a : Accepted) (chip : CardState) (X : Stat
 port-of A cards a chip X some ready = ready.port a.session.application (subst (λ (o : Option Accepted). IfSome o (λ a. cards.a.sizes ≡ Ok a.session.application)) some ready.is_known.sized)
 port-of B cards a chip X some ready = ready.port a.session.application (subst (λ (o : Option Accepted). IfSome o (λ a. cards.b.sizes ≡ Ok a.session.application)) some ready.is_known.sized)
 
+-- a card with bad sizes has none
+pub no-session : (c : Card) (cards : Cards) (chip : CardState) (X : State) → CardReady (known_of cards c) chip X → ((app : Application) → (known_of cards c).sizes ≡ Ok app → ⊥) → session_of cards c ≡ None
+no-session A cards chip X ready bad = by cards.a.accepted refl
+  where
+    by : (o : Option Accepted) → cards.a.accepted ≡ o → cards.a.accepted ≡ None
+    by None is = is
+    by (Some a) is = absurd (bad a.session.application (subst (λ (o : Option Accepted). IfSome o (λ a. cards.a.sizes ≡ Ok a.session.application)) is ready.is_known.sized))
+no-session B cards chip X ready bad = by cards.b.accepted refl
+  where
+    by : (o : Option Accepted) → cards.b.accepted ≡ o → cards.b.accepted ≡ None
+    by None is = is
+    by (Some a) is = absurd (bad a.session.application (subst (λ (o : Option Accepted). IfSome o (λ a. cards.b.sizes ≡ Ok a.session.application)) is ready.is_known.sized))
+
+pub none-there : (o : Option Accepted) → ((a : Accepted) → o ≡ Some a → ⊥) → o ≡ None
+none-there None no = refl
+none-there (Some a) no = absurd (no a refl)
+
+-- what had no session is as it was without one
+pub session-unset : (c : Card) (cards : Cards) → session_of cards c ≡ None → with_session c None cards ≡ cards
+session-unset A cards gone = ap (λ (o : Option Accepted). record cards { a = record cards.a { accepted = o } }) (sym gone)
+session-unset B cards gone = ap (λ (o : Option Accepted). record cards { b = record cards.b { accepted = o } }) (sym gone)
+
 module _ (c : Card) (said : Kept) (cards : Cards) (U X : State) where
   -- it has no session
   pub booked-still : session_of cards c ≡ None → BooksCard c said Still cards cards U X X

@@ -10,11 +10,40 @@ use Rattle.run_crew.specs.Cards.{session_of, with_session}
 use Rattle.run_crew.specs.Cabin.{Stands, torn_out, left_from, slot_with, crew_of}
 use Rattle.run_crew.proofs.Moves.{kept-stands}
 use Rattle.run_keeping.specs.declared.keeper.Keeper.{Keeper}
-use Rattle.run_keeping.specs.Keeping.{Has, Fell, IsNotingFault, with_lines}
+use Rattle.run_crew.specs.declared.cards.Known.{Known}
+use Rattle.run_keeping.specs.Owing.{BooksCard}
+use Rattle.run_keeping.specs.Keeping.{Still, Has, Fell, IsNotingFault, with_lines}
 use Rattle.run_keeping.proofs.Sessions.{session-twice, stands-later, torn-stands}
-use Rattle.run_keeping.proofs.Fates.{has-brought, fell-brought}
-use Rattle.run_keeping.proofs.CardBooked.{session-set, booked-fell, booked-has}
+use Rattle.run_keeping.proofs.Fates.{has-brought, fell-brought, still-brought}
+use Rattle.run_keeping.proofs.CardBooked.{session-set, no-session, none-there, session-unset, booked-still, booked-fell, booked-has}
 use Rattle.run_keeping.proofs.keeper.Keeper.bring_to.Goals as goal
+
+-- ---- it has no session
+
+pub returns-in_default-clause-brought : goal.returns-in_default-clause-brought
+returns-in_default-clause-brought g c =
+    let k = c.args.self.now in
+    let U = g.M.Medium.state c.args.unit.now in
+    let X = g.C.Chip.state c.args.card.now in
+    let gone = no-session c.args.which k.cabin.cards (g.C.Chip.card c.args.card.now) X c.requires.card (λ app is. c.in_default.not-Ok app (ap (λ (q : Known). q.sizes) c.of.ensures ∙ is)) in (
+      Still,
+      still-brought c.args.which c.args.kept.now c.args.at k k c.args.marks.now c.args.breaks.now U U X X gone refl,
+      starts U (IsNotingFault Still c.args.at.second (crew_of k.cabin)),
+      booked-still c.args.which c.args.kept.now k.cabin.cards U X gone,
+    )
+
+pub returns-in_default-take-clause-brought : goal.returns-in_default-take-clause-brought
+returns-in_default-take-clause-brought g c =
+    let k = c.args.self.now in
+    let U = g.M.Medium.state c.args.unit.now in
+    let X = g.C.Chip.state c.args.card.now in
+    let gone : session_of k.cabin.cards c.args.which ≡ None = sym c.take.ensures.taken ∙ none-there c.take.result c.in_default-take.not-Some in
+    let same : c.take.new.self ≡ k.cabin.cards = c.take.ensures.left ∙ session-unset c.args.which k.cabin.cards gone in (
+      Still,
+      still-brought c.args.which c.args.kept.now c.args.at k (record k { cabin = record { slots = k.cabin.slots; cards = c.take.new.self } }) c.args.marks.now c.args.breaks.now U U X X gone (ap (λ (q : Cards). record k { cabin = record { slots = k.cabin.slots; cards = q } }) same),
+      starts U (IsNotingFault Still c.args.at.second (crew_of (record { slots = k.cabin.slots; cards = c.take.new.self }))),
+      subst (λ (q : Cards). BooksCard c.args.which c.args.kept.now Still k.cabin.cards q U X X) (sym same) (booked-still c.args.which c.args.kept.now k.cabin.cards U X gone),
+    )
 
 -- ---- the call failed
 
