@@ -46,8 +46,8 @@ no-session B cards chip X ready bad = by cards.b.accepted refl
     by (Some a) is = absurd (bad a.session.application (subst (λ (o : Option Accepted). IfSome o (λ a. cards.b.sizes ≡ Ok a.session.application)) is ready.is_known.sized))
 
 pub none-there : (o : Option Accepted) → ((a : Accepted) → o ≡ Some a → ⊥) → o ≡ None
-none-there None no = refl
-none-there (Some a) no = absurd (no a refl)
+none-there None never = refl
+none-there (Some a) never = absurd (never a refl)
 
 -- what had no session is as it was without one
 pub session-unset : (c : Card) (cards : Cards) → session_of cards c ≡ None → with_session c None cards ≡ cards

@@ -8,3 +8,4 @@ pub mod OnTheCard
 pub mod MarksOn
 pub mod CardBrought
 pub mod CardBooked
+pub mod Brought
