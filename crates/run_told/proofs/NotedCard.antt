@@ -1,16 +1,21 @@
 -- An event or a place is noted on a card: its string and its session stay.
-use Rattle.std.proofs.Common.{◌≡◌, ℕ, ◌+◌, ◌/◌, ◌<◌, Option, Some, None, List, [], ◌∷◌, ◌++◌, refl, ap, subst, ◌∙◌, sym, arith}
-use Rattle.tach_media.specs.Medium.{bytes_at}
+use Rattle.std.proofs.Common.{◌≡◌, inl, inr, ⊎_elim, ℕ, ◌+◌, ◌/◌, ◌<◌, ◌≤◌, Option, Some, None, List, [], ◌∷◌, ◌++◌, refl, ap, subst, ◌∙◌, sym, arith}
+use Rattle.tach_media.specs.Medium.{bytes_at, SameOutside}
+use Rattle.tach_media.proofs.Images.{part_after}
+use Rattle.card_layout.specs.Files.{files_of, place_of, size_of}
+use Rattle.card_records.specs.Rings.{event_ring}
+use Rattle.card_records.proofs.Sets.{set_inside}
+use Rattle.gated_ring.proofs.Places.{place_high}
 use Rattle.card_layout.specs.declared.files.Application.{Application}
 use Rattle.card_layout.specs.Application.{IsApplication}
 use Rattle.card_records.specs.declared.vehicle.Vehicle.{Vehicle}
 use Rattle.card_records.specs.Vehicles.{vehicle_of}
 use Rattle.card_model.specs.Days.{Day}
-use Rattle.card_image.specs.Fields.{day_string, vehicle_ring, card_days, last_of, vehicle_at, newest_vehicle, last_use, end_mark, session_time}
+use Rattle.card_image.specs.Fields.{file, card_number, place_ring, day_string, vehicle_ring, card_days, last_of, vehicle_at, newest_vehicle, last_use, end_mark, session_time}
 use Rattle.card_image.specs.Judging.{IsValid}
-use Rattle.card_image.specs.Beside.{HaveSameDays, HaveSameVehicles}
-use Rattle.card_image.proofs.Beside.{days_same, session_same, last_use_same}
-use Rattle.gated_ring.specs.Ring.{PointsInside, indices, entry_at, is_there, IsShape, IsNewest, size_of as ring_size}
+use Rattle.card_image.specs.Beside.{HaveSameDays, HaveSameVehicles, HaveSameIdentification}
+use Rattle.card_image.proofs.Beside.{days_same, session_same, last_use_same, number_same}
+use Rattle.gated_ring.specs.Ring.{place_of as entry_place, PointsInside, indices, entry_at, is_there, IsShape, IsNewest, size_of as ring_size}
 use Rattle.gated_ring.proofs.Orders.{Each}
 use Rattle.gated_ring.proofs.Listing.{indices_below}
 use Rattle.gated_ring.proofs.Elsewhere.{points_elsewhere, indices_elsewhere, entry_elsewhere, there_elsewhere}
@@ -62,6 +67,27 @@ module _ (app : Application) (sound : IsApplication app) (x c : List ℕ) (known
   unfolding book_of
   book-same days = ap (λ (v : Option Vehicle). record { days = card_days app c; vehicle = v }) newest-same ∙ ap (λ (ds : List Day). record { days = ds; vehicle = newest_vehicle app x }) (days_same app x c days)
 
+-- the number lies behind
+module _ (app : Application) where
+  events_low : place_of app (file 0x0502) + size_of app (file 0x0502) ≤ place_of app (file 0x0520)
+  unfolding files_of
+  events_low = omega arith
+
+  places_low : (place_ring app).base + ring_size (place_ring app) ≤ place_of app (file 0x0520)
+  unfolding files_of
+  places_low = omega arith
+
+  event-behind : (kind i : ℕ) (x c : List ℕ) → i < (event_ring app kind).count → SameOutside (entry_place (event_ring app kind) i) (event_ring app kind).width x c → HaveSameIdentification app x c
+  event-behind kind i x c below outside = part_after (entry_place (event_ring app kind) i) (event_ring app kind).width (place_of app (file 0x0520)) 17 x c outside
+      (omega (arith, place_high (event_ring app kind) i below, set_inside app kind, events_low))
+
+  pub note-identification : (x c : List ℕ) → IsNote app x c → HaveSameIdentification app x c
+  note-identification x c (inl noting) = ⊎_elim
+      (λ same. ap (λ (l : List ℕ). bytes_at l (place_of app (file 0x0520)) 17) same)
+      (λ changed. ⊎_elim (λ absent. event-behind noting.0.kind noting.1.place x c noting.1.takes.below absent.outside) (λ replaced. event-behind noting.0.kind noting.1.place x c noting.1.takes.below replaced.outside) changed)
+      noting.1.entry
+  note-identification x c (inr noting) = part_after (place_ring app).base (ring_size (place_ring app)) (place_of app (file 0x0520)) 17 x c noting.1.outside places_low
+
 -- ---- a note
 
 module _ (app : Application) (sound : IsApplication app) (x : List ℕ) (valid : IsValid app x) (c : List ℕ) (note : IsNote app x c) where
@@ -76,6 +102,9 @@ module _ (app : Application) (sound : IsApplication app) (x : List ℕ) (valid :
 
   pub note-session_time : session_time app c ≡ session_time app x
   note-session_time = session_same app x c leaves.session
+
+  pub note-number : card_number app c ≡ card_number app x
+  note-number = number_same app x c leaves.sizes (note-identification app x c note)
 
   pub note-goes : (image : List ℕ) → (more : _) → (next : ℕ) → GoesSince app image more next x → GoesSince app image more next c
   note-goes image more next goes = goes_still app image x c note-days note-mark more next goes

@@ -11,7 +11,8 @@ use Rattle.card_layout.specs.declared.files.Fid.{Fid}
 use Rattle.card_layout.specs.Application.{IsApplication}
 use Rattle.card_image.specs.View.{CardView}
 use Rattle.card_image.specs.Judging.{first_bad_file, IsValid}
-use Rattle.card_image.specs.Own.{own_view, own_sizes, own_bad_file, IsOwnValid}
+use Rattle.card_image.specs.Fields.{card_number}
+use Rattle.card_image.specs.Own.{own_view, own_sizes, own_number, own_bad_file, IsOwnValid}
 use Rattle.card_steps.specs.Since.{HoldsSince}
 use Rattle.card_steps.specs.Each.{KeepsSince}
 use Rattle.card_steps.proofs.Kept.{holds_kept}
@@ -40,6 +41,14 @@ own-valid app x is valid = subst (λ (a : Application). IsValid a x) is valid
 pub valid-own : (app : Application) (x : List ℕ) → own_sizes x ≡ app → IsValid app x → IsOwnValid x
 unfolding own_bad_file
 valid-own app x is valid = subst (λ (a : Application). IsValid a x) (sym is) valid
+
+-- and its number
+pub number-own : (app : Application) (x : List ℕ) → own_sizes x ≡ app → own_number x ≡ card_number app x
+unfolding own_number
+number-own app x is = ap (λ (a : Application). card_number a x) is
+
+pub own-number-still : (app : Application) (x n : List ℕ) → own_sizes x ≡ app → own_sizes n ≡ app → card_number app n ≡ card_number app x → own_number n ≡ own_number x
+own-number-still app x n is is_then same = number-own app n is_then ∙ same ∙ sym (number-own app x is)
 
 pub valid-or : (x : List ℕ) → IsOwnValid x ⊎ (IsOwnValid x → ⊥)
 valid-or x = by (own_bad_file x) refl
@@ -106,12 +115,14 @@ module _ (f : CardFound) (c : Card) (b : Book) (sound : IsApplication (own_sizes
   Holds_at z x = (own_sizes x ≡ own_sizes f.image) × HoldsSince (own_sizes f.image) f.image (brought_by c f.start b) (bound_of f z x) x
 
   pub held-on : (y z : Standing) (R : List ℕ → List ℕ → Type 0) (X Y : State) → f.began ≤ X.clock → LeavesOnly X Y R → ((x : List ℕ) → X.may_leave x → Holds_at y x → Holds_at z x) → ((x n : List ℕ) → X.image ≡ Some x → R x n → Holds_at y x → Holds_at z n)
+      → ((x n : List ℕ) → X.image ≡ Some x → R x n → own_number n ≡ own_number x)
       → IsCoherent X → IsHeld f c b y X → IsHeld f c b z Y
-  held-on y z R X Y began run still made whole h = record {
+  held-on y z R X Y began run still made same whole h = record {
     tells = run.tells ∙ h.tells;
     now = λ n there. ⊎_elim (λ was. still n was (h.now n was)) (λ one. made one.0 n one.1 one.2 (h.now one.0 (whole.is_left one.0 one.1))) (run.now n there);
     since = λ n left. ⊎_elim (h.since n)
         (λ one. let is = made one.0 n one.1 one.2 (h.now one.0 (whole.is_left one.0 one.1)) in (is.0, holds_kept (own_sizes f.image) sound f.image n refl is.0 (brought_by c f.start b) (bound_of f z n) is.1)) (run.since f.began n began left);
+    number = λ n there. ⊎_elim (h.number n) (λ one. same one.0 n one.1 one.2 ∙ h.number one.0 (whole.is_left one.0 one.1)) (run.now n there);
   }
 
 -- a card that was only read
@@ -120,6 +131,7 @@ held-read f c b z X Y began run h = record {
   tells = run.tells ∙ h.tells;
   now = λ n there. ⊎_elim (h.now n) (λ one. absurd one.2) (run.now n there);
   since = λ n left. ⊎_elim (h.since n) (λ one. absurd one.2) (run.since f.began n began left);
+  number = λ n there. ⊎_elim (h.number n) (λ one. absurd one.2) (run.now n there);
 }
 
 -- each image since the start is valid still
