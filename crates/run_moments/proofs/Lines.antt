@@ -91,6 +91,12 @@ tear-before log s at slot failed b is up = record {
   found = λ p other behind. (break-more log b s.number).found p other;
 }
 
+-- a tear leaves all before its moment as it was, and the other slot
+pub tear-begun : (later log : RunLog) (before : Before) (s : TraceSecond) (at : Phase) (slot : Slot) (failed : Bool) (b : Break) → IsTearAt s at slot failed b → IsUpTo log s.number at → later ≡ and_break log b →
+    (begun_at later before s at ≡ begun_at log before s at) × (moved_at later before s at ≡ moved_at log before s at)
+tear-begun later log before s at slot failed b is up same =
+    subst (λ (l : RunLog). (begun_at l before s at ≡ begun_at log before s at) × (moved_at l before s at ≡ moved_at log before s at)) (sym same) (begun-same log (and_break log b) before s at (tear-before log s at slot failed b is up))
+
 append-none : {X : Type 0} (xs : List X) (x : X) (b : Bool) → b ≡ false → xs ++ cond b (x ∷ []) [] ≡ xs
 append-none xs x true is = absurd (cc)
 append-none xs x false is = append-nil xs
@@ -371,6 +377,12 @@ tears-at log s at slot failed b is old = record {
       (ap (tears_here s.number at (other_slot slot)) is.2 ∙ false-and (nat_eq s.number s.number && same_phase (phase_of is.0 is.1) at) (same_slot slot (other_slot slot)) (other-slot slot));
   found = λ other. (break-more log b s.number).found at other;
 }
+
+pub tear-other : (log : RunLog) (s : TraceSecond) (at : Phase) (slot : Slot) (failed : Bool) (b : Break) → IsTearAt s at slot failed b → is_torn_in (and_break log b) s.number at (other_slot slot) ≡ is_torn_in log s.number at (other_slot slot)
+tear-other log s at slot failed b is =
+    (break-more log b s.number).torn at (other_slot slot)
+    ∙ or-nothing (is_torn_in log s.number at (other_slot slot)) (tears_here s.number at (other_slot slot) b)
+    (ap (tears_here s.number at (other_slot slot)) is.2 ∙ false-and (nat_eq s.number s.number && same_phase (phase_of is.0 is.1) at) (same_slot slot (other_slot slot)) (other-slot slot))
 
 -- of both logs what is torn
 tear-seen-by : (log later : RunLog) (u : ℕ) (p : Phase) (slot : Slot) (moved : Moved) (c : Course) → ((at : Slot) → AllOf at (moved.leaving at)) → TearsAt log later u p slot →

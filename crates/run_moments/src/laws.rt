@@ -1,4 +1,5 @@
 ghost use Rattle.run_moments.specs.Lines.{ASecondIsReached, AnActionIsReached, TheKeepingIsReached, LinesOfTheMoment, WhoSitsIsNotTorn, ATearIsSeen, AFindIsSeen, ARefusalIsSeen};
+ghost use Rattle.run_moments.specs.Moment.{AMomentBegins, AnActionIsRefused, AnActionIsDone, ACardIsPulled};
 
 /// A second begins: nothing is told of it yet.
 pub fn a_second_is_reached()
@@ -38,4 +39,24 @@ pub fn a_find_is_seen()
 /// A refusal changes nothing of it.
 pub fn a_refusal_is_seen()
     ensures { ARefusalIsSeen }
+{}
+
+/// The second begins, with nothing told of it.
+pub fn a_moment_begins()
+    ensures { AMomentBegins }
+{}
+
+/// An action is refused.
+pub fn an_action_is_refused()
+    ensures { AnActionIsRefused }
+{}
+
+/// An action is done.
+pub fn an_action_is_done()
+    ensures { AnActionIsDone }
+{}
+
+/// A card is pulled out.
+pub fn a_card_is_pulled()
+    ensures { ACardIsPulled }
 {}
