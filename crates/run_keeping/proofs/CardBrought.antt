@@ -12,12 +12,16 @@ use Rattle.log_model.specs.Causes.{device_of}
 use Rattle.card_layout.specs.declared.files.Application.{Application}
 use Rattle.card_layout.specs.Application.{IsApplication}
 use Rattle.card_layout.specs.Files.{image_size_of}
-use Rattle.card_image.specs.Fields.{session_time}
+use Rattle.card_layout.specs.Files.{files_of, place_of}
+use Rattle.card_model.specs.Days.{Day}
+use Rattle.card_records.specs.declared.vehicle.Vehicle.{Vehicle}
+use Rattle.card_image.specs.Fields.{file, card_number, session_time}
+use Rattle.card_image.proofs.Beside.{number_same}
+use Rattle.card_session.proofs.Marks.{sizes_still, behind_vehicles}
 use Rattle.card_image.specs.View.{CardView}
-use Rattle.card_image.specs.Judging.{IsValid}
-use Rattle.card_image.specs.Own.{own_view, own_sizes, own_covered, own_bad_file, IsOwnValid}
+use Rattle.card_image.specs.Own.{own_view, own_sizes, own_covered, own_number, IsOwnValid}
 use Rattle.card_session.specs.Sessions.{Session, IsSession}
-use Rattle.card_session.specs.Cards.{IsCardKept, IsCardKeeping, grown}
+use Rattle.card_session.specs.Cards.{IsCard, IsCardKept, IsCardKeeping, grown}
 use Rattle.card_session.proofs.Stopping.{asked_at, days_there}
 use Rattle.card_session.proofs.Valid.{keep_valid}
 use Rattle.card_steps.specs.Since.{GoesSince, HoldsSince, bound_since, counted_since, all_since}
@@ -44,22 +48,17 @@ use Rattle.run_rule.specs.Cards.{brought_by, CardMarksHold}
 use Rattle.run_strung.specs.Strung.{IsHeld}
 use Rattle.run_told.specs.Told.{AreFoundCards, IsOn, GoesOwing}
 use Rattle.run_told.proofs.Parts.{both_of, as-steps, of-steps, left-one, told-one}
+use Rattle.run_told.proofs.OnCards.{own-valid, valid-own, valid-on, own-number-still}
 use Rattle.run_keeping.specs.Keeping.{Fate, Still, Has, Fell, marks_by}
 use Rattle.run_keeping.specs.Books.{standing_by}
 use Rattle.run_keeping.specs.Owing.{CardOwing}
 use Rattle.run_keeping.proofs.MarksOn.{moment-hold, kept-hold, same-marks}
 use Rattle.run_keeping.proofs.OnTheCard.{ready-here, each-kept, session-on, goes-on}
 
-own-valid : (app : Application) (x : List ℕ) → own_sizes x ≡ app → IsOwnValid x → IsValid app x
-unfolding own_bad_file
-own-valid app x is valid = subst (λ (a : Application). IsValid a x) is valid
-
-valid-own : (app : Application) (x : List ℕ) → own_sizes x ≡ app → IsValid app x → IsOwnValid x
-unfolding own_bad_file
-valid-own app x is valid = subst (λ (a : Application). IsValid a x) (sym is) valid
-
-valid-on : (began : ℕ) (R : List ℕ → List ℕ → Type 0) (X Y : State) → began ≤ X.clock → LeavesOnly X Y R → ((x n : List ℕ) → X.image ≡ Some x → R x n → IsOwnValid n) → ((x : List ℕ) → X.left_since began x → IsOwnValid x) → (n : List ℕ) → Y.left_since began n → IsOwnValid n
-valid-on began R X Y le run made each n left = ⊎_elim (each n) (λ one. made one.0 n one.1 one.2) (run.since began n le left)
+-- a keep leaves the card's number
+keep-number : (app : Application) (P : List Day → Option Vehicle → Type 0) (x y : List ℕ) → IsCard app P x y → card_number app y ≡ card_number app x
+unfolding files_of
+keep-number app P x y is = number_same app x y (sizes_still app P x y is) (behind_vehicles app P x y is (place_of app (file 0x0520)) 17 (omega arith))
 
 -- later than the words at the start, as the steps have them
 fresh-steps : (f : Found) (two : f.card_a.number ≢ f.card_b.number) (c : Card) (m : ℕ) → (found_of f c).start.word < m → (opened (both_of f two) c).start.word < m
@@ -161,6 +160,14 @@ module _ (f : Found) (cards : Cards) (found : AreFoundCards f cards) (c : Card) 
       (keep_valid s.application sound x (fits x told) (own-valid s.application x sizes (one.valid x (whole.counts_now g.began x rule.dark.later there))) (opened-here x told) (days_there s x knows) s.registration odometer (grown s.odometer odometer) e y
       (asked_at s x e.minute late knows) k.card)) one.valid
 
+  number-now : (x : List ℕ) → Y.may_leave x → own_number x ≡ g.number
+  number-now y left = ⊎_elim (held.number y)
+      (λ here.
+      let there = whole.is_left here.0 here.1 in
+      let sizes : own_sizes here.0 ≡ s.application = is here.0 there ∙ sym on.sizes in
+      own-number-still s.application here.0 y sizes (sizes-same s.application _ here.0 y here.2.card ∙ sizes) (keep-number s.application _ here.0 y here.2.card) ∙ held.number here.0 there)
+      (keeping.now y left)
+
   brought-now : (k : ℕ) → Contains ks k → HasBrought f.card_a.number f.card_b.number c k U Y
   brought-now k at = keep-stays c (unit_seen f U) (of_card X) (of_card Y) g.start g.began on.time s.minute e (omega (arith, late)) rule.stands views k (one.brought k at)
 
@@ -177,7 +184,7 @@ module _ (f : Found) (cards : Cards) (found : AreFoundCards f cards) (c : Card) 
     rule = of-steps f found.two c b (Torn on.time e.minute e.minute) [] [] U Y ((at-the-end true (λ well. absurd (cc))).torn refl);
     valid = valid-now;
     brought = brought-now;
-    held = record { tells = run.tells ∙ held.tells; now = each-after.now; since = each-after.since };
+    held = record { tells = run.tells ∙ held.tells; now = each-after.now; since = each-after.since; number = number-now };
     goes = record { has = brought_by c g.start b; all = append-nil (brought_by c g.start b); goes = tt };
     hold = same-marks g c b marks Y (moment-hold g c b marks e X Y whole low views one.hold);
   }
@@ -207,7 +214,7 @@ module _ (f : Found) (cards : Cards) (found : AreFoundCards f cards) (c : Card) 
       rule = of-steps f found.two c b (In on.time e.minute) [] [] U Y ((at-the-end false (λ well. ends)).kept refl);
       valid = valid-now;
       brought = brought-now;
-      held = record { tells = run.tells ∙ held.tells; now = each-after.now; since = each-after.since };
+      held = record { tells = run.tells ∙ held.tells; now = each-after.now; since = each-after.since; number = number-now };
       goes = record {
         has = brought_by c g.start b;
         all = append-nil (brought_by c g.start b);
