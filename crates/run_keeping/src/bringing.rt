@@ -8,13 +8,9 @@ ghost use Rattle.card_session.specs.declared.words.TheConstants.{LATEST_MINUTE};
 ghost use Rattle.unit_notes.specs.Journal.{LeavesJournal};
 ghost use Rattle.run_crew.specs.Cards.{known_of, session_of};
 ghost use Rattle.run_crew.specs.Cabin.{Stands, IsBehind, crew_of};
-<<<<<<< HEAD
 ghost use Rattle.run_keeping.specs.Owing.{BooksCard, BooksBrought};
 ghost use Rattle.run_rule.specs.Between.{devices};
-ghost use Rattle.run_keeping.specs.Keeping.{UnitReady, CardReady, HasItsRow, IsReady, Fate, IsBrought, IsNotingFault, tears_of, session_at, state_at, is_this};
-=======
 ghost use Rattle.run_keeping.specs.Keeping.{UnitReady, CardReady, HasItsRow, IsReady, AreEmptied, Fate, IsBrought, IsNotingFault, tears_of, session_at, state_at, is_this};
->>>>>>> told-work
 
 use crate::keeper::{Keeper, Moment};
 use card_session::Kept;

@@ -10,12 +10,8 @@ ghost use Rattle.unit_journal.specs.Image.{Agrees};
 ghost use Rattle.run_crew.specs.Cabin.{Stands, MayBeKept};
 ghost use Rattle.trace_model.specs.declared.Card.{Card};
 ghost use Rattle.trace_model.specs.declared.Card.TheVariants.{A, B};
-<<<<<<< HEAD
-ghost use Rattle.run_keeping.specs.Keeping.{UnitReady, IsReady, HasItsRow, HaveRows, entry_in, kept_in, is_this, tears_of, most_tears, with_lines};
-ghost use Rattle.run_keeping.specs.Keeping.{TellsPresent};
-=======
 ghost use Rattle.run_keeping.specs.Keeping.{UnitReady, CardReady, IsReady, HasItsRow, HaveRows, AreEmptied, entry_in, kept_in, is_this, tears_of, most_tears, with_lines};
->>>>>>> told-work
+ghost use Rattle.run_keeping.specs.Keeping.{TellsPresent};
 ghost use Rattle.run_keeping.specs.Minutes.{Round, IsMinute, unit_mark};
 ghost use Rattle.run_keeping.specs.Books.{BooksMinute};
 ghost use Rattle.run_keeping.specs.Owing.{BooksPut, BooksOwed};

@@ -5,15 +5,10 @@ ghost use Rattle.trace_model.specs.declared.Card.{Card};
 ghost use Rattle.slot_machine.specs.Calls.{present_in};
 ghost use Rattle.unit_model.specs.declared.layout.TheConstants.{HIGHEST_ODOMETER};
 ghost use Rattle.run_crew.specs.Cabin.{Stands};
-<<<<<<< HEAD
-ghost use Rattle.run_keeping.specs.Keeping.{IsReady, HasItsRow, tears_of, most_tears};
-ghost use Rattle.run_keeping.specs.Minutes.{odometer_by, kept_of, AreDue, AllHaveRows, kept_after, Reach, IsReach};
+ghost use Rattle.run_keeping.specs.Keeping.{IsReady, CardReady, HasItsRow, HaveRows, AreEmptied, tears_of, most_tears};
+ghost use Rattle.run_keeping.specs.Minutes.{odometer_by, kept_of, AreDue, kept_after, Reach, IsReach};
 ghost use Rattle.run_keeping.specs.Decided.{BooksAll};
 ghost use Rattle.run_rule.specs.Between.{devices};
-=======
-ghost use Rattle.run_keeping.specs.Keeping.{IsReady, CardReady, HasItsRow, HaveRows, AreEmptied, tears_of, most_tears};
-ghost use Rattle.run_keeping.specs.Minutes.{odometer_by, kept_of, AreDue, kept_after, AreKeptUpTo};
->>>>>>> told-work
 
 use crate::keeper::{Keeper, Moment};
 use activity_codec::Activity;
