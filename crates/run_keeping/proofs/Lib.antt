@@ -1,6 +1,7 @@
 pub mod Units
 pub mod Sessions
 pub mod Fates
+pub mod Seats
 pub mod Counts
 pub mod Rounds
 pub mod Decided
@@ -9,3 +10,7 @@ pub mod EntryPut
 pub mod StringMore
 pub mod MinuteOwed
 pub mod MinuteBegun
+pub mod MarksOn
+pub mod CardBrought
+pub mod CardBooked
+pub mod Brought

@@ -1,5 +1,5 @@
 -- A card in its slot keeps an entry that is owed to it: its session, and its string.
-use Rattle.std.proofs.Common.{◌≡◌, ◌∙◌, ℕ, suc, ◌<◌, ◌≤◌, List, [], ◌∷◌, ◌++◌, Option, Some, None, IfSome, is_some, refl, sym, subst, arith}
+use Rattle.std.proofs.Common.{◌≡◌, ◌∙◌, ℕ, suc, max, ◌<◌, ◌≤◌, List, [], ◌∷◌, ◌++◌, Option, Some, None, IfSome, is_some, refl, sym, subst, arith}
 use Rattle.activity_codec.specs.declared.entries.Entry.{Entry}
 use Rattle.tach_media.specs.Medium.{State, IsCoherent, LeavesOnly}
 use Rattle.tach_media.proofs.Runs.{at_image, if_told, told_too, weaken}
@@ -23,8 +23,8 @@ each-later app image all n next began X le each = record {
   since = each.since;
 }
 
-module _ (image : List ℕ) (has : List Entry) (s : Session) (e : Entry) (odometer : ℕ) (late : s.minute < e.minute) (X : State) (whole : IsCoherent X) (sound : IsApplication s.application) (sizes : s.application ≡ own_sizes image)
-    (session : IfSome X.image (IsSession s)) (goes : IfSome X.image (GoesSince s.application image has (suc s.minute))) (is : (x : List ℕ) → X.may_leave x → own_sizes x ≡ own_sizes image) where
+module _ (image : List ℕ) (has : List Entry) (s : Session) (e : Entry) (odometer word : ℕ) (late : s.minute < e.minute) (fresh : word < e.minute) (X : State) (whole : IsCoherent X) (sound : IsApplication s.application) (sizes : s.application ≡ own_sizes image)
+    (session : IfSome X.image (IsSession s)) (goes : IfSome X.image (GoesSince s.application image has (suc (max word s.minute)))) (is : (x : List ℕ) → X.may_leave x → own_sizes x ≡ own_sizes image) where
   abbrev Ready : (from : ℕ) → List ℕ → Type 0
   Ready from x = IsReady s (bound_since image has) (own_covered image) from (counted_since image has) (all_since image has) e x
 
@@ -35,7 +35,7 @@ module _ (image : List ℕ) (has : List Entry) (s : Session) (e : Entry) (odomet
       by : (o : Option (List ℕ)) → X.image ≡ o → (from : ℕ) × IfSome X.image (Ready from)
       by None none = (0, subst (λ (o : Option (List ℕ)). IfSome o (Ready 0)) (sym none) tt)
       by (Some x) here =
-          let go : GoesSince s.application image has (suc s.minute) x = at_image (GoesSince s.application image has (suc s.minute)) here goes in (
+          let go : GoesSince s.application image has (suc (max word s.minute)) x = at_image (GoesSince s.application image has (suc (max word s.minute))) here goes in (
             go.from,
             subst (λ (o : Option (List ℕ)). IfSome o (Ready go.from)) (sym here) (record {
               carried = record {
@@ -45,8 +45,8 @@ module _ (image : List ℕ) (has : List Entry) (s : Session) (e : Entry) (odomet
                 bytes = omega arith;
                 goes = go.goes;
               };
-              clear = may_come s.application image has (suc s.minute) x go e (omega (arith, late));
-              later = omega (arith, go.later, late);
+              clear = may_come s.application image has (suc (max word s.minute)) x go e (omega (arith, late, fresh));
+              later = omega (arith, go.later, late, fresh);
             }),
           )
 
@@ -56,8 +56,8 @@ module _ (image : List ℕ) (has : List Entry) (s : Session) (e : Entry) (odomet
   each-kept all same n began Y le first opened run each =
       subst (λ (es : List Entry). EachHolds (own_sizes image) image es (suc e.minute) began Y) same
       (subst (λ (app : Application). EachHolds app image (has ++ e ∷ []) (suc e.minute) began Y) sizes
-      (each_keeping s sound image (sym sizes) began X Y whole first has [] e odometer (suc s.minute) (suc e.minute) late (omega (arith, late)) tt (omega arith)
-      (λ x told. (at_image (IsSession s) told session, opened x told, at_image (GoesSince s.application image has (suc s.minute)) told goes))
+      (each_keeping s sound image (sym sizes) began X Y whole first has [] e odometer (suc (max word s.minute)) (suc e.minute) late (omega (arith, late, fresh)) tt (omega arith)
+      (λ x told. (at_image (IsSession s) told session, opened x told, at_image (GoesSince s.application image has (suc (max word s.minute))) told goes))
       (weaken run (λ x y told keeping. keeping (at_image (IsSession s) told session)))
       (subst (λ (app : Application). EachHolds app image (has ++ e ∷ []) (suc e.minute) began X) (sym sizes)
       (subst (λ (es : List Entry). EachHolds (own_sizes image) image es (suc e.minute) began X) (sym same) (each-later (own_sizes image) image all n (suc e.minute) began X le each)))))
@@ -72,9 +72,10 @@ module _ (image : List ℕ) (has : List Entry) (s : Session) (e : Entry) (odomet
     pub session-on : IfSome Y.image (IsSession t)
     session-on = if_told Y.image (IsSession t) (λ y told. (kept-image y told).2.knows)
 
-    pub goes-on : t.application ≡ s.application → ((x : List ℕ) → X.image ≡ Some x → 0 < session_time s.application x) → IfSome Y.image (GoesSince t.application image (has ++ e ∷ []) (suc t.minute))
-    goes-on same opened = if_told Y.image (GoesSince t.application image (has ++ e ∷ []) (suc t.minute)) (λ y told.
+    pub goes-on : t.application ≡ s.application → ((x : List ℕ) → X.image ≡ Some x → 0 < session_time s.application x) → IfSome Y.image (GoesSince t.application image (has ++ e ∷ []) (suc (max word t.minute)))
+    goes-on same opened = if_told Y.image (GoesSince t.application image (has ++ e ∷ []) (suc (max word t.minute))) (λ y told.
         let was = kept-image y told in
-        subst (λ (app : Application). GoesSince app image (has ++ e ∷ []) (suc t.minute) y) (sym same)
-        (subst (λ (n : ℕ). GoesSince s.application image (has ++ e ∷ []) (suc n) y) (sym at)
-        (card_kept s t image has e odometer (suc s.minute) was.0 y sound (at_image (IsSession s) was.1 session) (opened was.0 was.1) late (omega (arith, late)) (at_image (GoesSince s.application image has (suc s.minute)) was.1 goes) was.2)))
+        let bound : suc e.minute ≡ suc (max word t.minute) = omega (arith, at, fresh) in
+        subst (λ (app : Application). GoesSince app image (has ++ e ∷ []) (suc (max word t.minute)) y) (sym same)
+        (subst (λ (n : ℕ). GoesSince s.application image (has ++ e ∷ []) n y) bound
+        (card_kept s t image has e odometer (suc (max word s.minute)) was.0 y sound (at_image (IsSession s) was.1 session) (opened was.0 was.1) late (omega (arith, late, fresh)) (at_image (GoesSince s.application image has (suc (max word s.minute))) was.1 goes) was.2)))

@@ -1,20 +1,27 @@
 -- How unit and cards stand while the entries of a minute are brought to the cards (profile).
-use Rattle.std.specs.Prelude.{◌≡◌, ◌⊎◌, ℕ, suc, ◌<◌, ◌≤◌, ◌++◌, ◌∷◌, Bool, true, false, Option, Some, None, List, [], if◌then◌else◌}
+use Rattle.std.specs.Prelude.{◌≡◌, ◌⊎◌, ℕ, suc, ◌<◌, ◌≤◌, ◌++◌, ◌∷◌, Bool, true, false, Option, Some, None, List, [], Contains, is_some, if◌then◌else◌}
 use Rattle.activity_codec.specs.declared.entries.Entry.{Entry}
 use Rattle.trace_model.specs.declared.Card.{Card}
-use Rattle.tach_media.specs.Medium.{last_count}
+use Rattle.tach_media.specs.Medium.{State, last_count}
+use Rattle.log_model.specs.declared.lines.Mark.{Mark}
 use Rattle.card_image.specs.Own.{IsOwnValid}
 use Rattle.card_session.specs.declared.session.Kept.{Kept}
 use Rattle.unit_journal.specs.declared.kept.KeptMinute.{KeptMinute}
 use Rattle.history_model.specs.Minutes.{HistoryMinute, on_card}
-use Rattle.history_model.specs.Book.{kept}
-use Rattle.joint_rule.specs.Rules.{IsPresent}
+use Rattle.history_model.specs.Book.{Book, kept}
+use Rattle.joint_rule.specs.Rules.{Standing, CardRule, IsPresent}
+use Rattle.joint_rule.specs.Marked.{of_card, HasBrought}
 use Rattle.safety_model.specs.Safe.{Devices}
+use Rattle.unit_rule.specs.Marks.{Holds}
 use Rattle.slot_machine.specs.declared.seats.Present.{Present}
+use Rattle.run_crew.specs.declared.cards.Accepted.{Accepted}
 use Rattle.run_crew.specs.declared.cards.Cards.{Cards}
-use Rattle.run_rule.specs.Found.{Found, found_of}
+use Rattle.run_crew.specs.Cards.{session_of}
+use Rattle.run_rule.specs.Found.{Found, found_of, unit_seen, AnyKept}
+use Rattle.run_rule.specs.Cards.{CardMarksHold}
 use Rattle.run_rule.specs.Between.{Carried}
-use Rattle.run_told.specs.Told.{AreFoundCards, AllGo, owes_nothing, IsLitWith, IsLitOwing, IsPowerless}
+use Rattle.run_strung.specs.Strung.{IsHeld}
+use Rattle.run_told.specs.Told.{GoesOwing, AreFoundCards, AllGo, owes_nothing, IsLitWith, IsLitOwing, IsPowerless}
 use Rattle.run_keeping.specs.Keeping.{Fate, is_this, marks_by}
 use Rattle.run_keeping.specs.Minutes.{Told, unit_mark}
 use Rattle.run_keeping.specs.Books.{HaveTime, MayBook, history_minute, standing_by, carried_broken}
@@ -73,6 +80,22 @@ IsBroughtOrCut true f w owes cards d = IsPowerless f w d
 abbrev pub MayBring : Found → Option Card → Kept → Carried → (owes : Card → List Entry) → Type 0
 MayBring f None said w owes = Unit {0}
 MayBring f (Some c) said w owes = IsOwnValid (found_of f c).image × (owes c ≡ said.entry ∷ []) × IsPresent (found_of f c).start (w.standing c) said.entry.minute
+
+-- of a card that was valid, to which these entries are still owed
+pub record CardOwing (f : Found) (c : Card) (b : Book) (z : Standing) (ks : List ℕ) (marks : List Mark) (owes : List Entry) (session : Option Accepted) (unit card : State) : Type 0 where
+  pub rule : CardRule c (found_of f c).start AnyKept (found_of f c).began b z [] owes (unit_seen f unit) (of_card card)
+  pub valid : (x : List ℕ) → card.left_since (found_of f c).began x → IsOwnValid x
+  pub brought : (k : ℕ) → Contains ks k → HasBrought f.card_a.number f.card_b.number c k unit card
+  pub held : IsHeld (found_of f c) c b z card
+  pub goes : GoesOwing (found_of f c) c b owes z session card
+  pub hold : CardMarksHold (found_of f c) c b marks card
+
+-- AN ENTRY WAS TO BE BROUGHT to this card, of which this became (`bring_to`): so it is with it, by the unit as it was before.
+abbrev pub BooksCard : Card → Kept → Fate → (cards cards_after : Cards) → (unit card card_after : State) → Type 0
+BooksCard c said fate cards cards_after unit card card_after = (f : Found) (w : Carried) → AreFoundCards f cards → is_some unit.image ≡ true → Holds f.unit w.due w.book w.marks unit → w.book.maybe ≡ None → card_after.clock < last_count
+    → IsOwnValid (found_of f c).image → IsPresent (found_of f c).start (w.standing c) said.entry.minute
+    → CardOwing f c w.book (w.standing c) (w.brought c) w.marks (said.entry ∷ []) (session_of cards c) unit card
+    → CardOwing f c w.book (standing_by fate said.entry.minute (w.standing c)) (w.brought c) (w.marks ++ marks_by fate (Some c) said.entry.minute) [] (session_of cards_after c) unit card_after
 
 -- AN ENTRY WAS TO BE BROUGHT to a card, of which this became (`bring`)
 abbrev pub BooksBrought : Option Card → Kept → (failed : Bool) → Fate → (cards cards_after : Cards) → (d e : Devices) → Type 0
