@@ -127,6 +127,28 @@ present_at cabin minute = or_nobody (present_in cabin.slots.past minute)
 abbrev pub minute_of : Minute → Keeper → KeptMinute
 minute_of m k = kept_of k.odometer m (present_at k.cabin m.minute)
 
+-- THESE MINUTES ARE KEPT, one after another
+pub data AreKept (at : Moment) : List Minute → Told → Told → Type 0 where
+  none : (t : Told) → AreKept at [] t t
+  more : (m : Minute) (ms : List Minute) (round : Round) (t u : Told) → AreKept at ms t u → IsRound (present_at u.keeper.cabin m.minute) (minute_of m u.keeper) at false u.keeper round
+      → AreKept at (ms ++ m ∷ []) t (told_after (present_at u.keeper.cabin m.minute) m.minute at round u)
+
+-- Minutes were to be kept, the first that failed the last of them: those before it are kept; of it nothing has changed, or it is kept.
+pub record IsCutShort (decided : List Minute) (at : Moment) (t u : Told) : Type 0 where
+  pub front : List Minute
+  pub here : Minute
+  pub rest : List Minute
+  pub are : decided ≡ front ++ here ∷ rest
+  pub between : Told
+  pub kept : AreKept at front t between
+  pub last : (u ≡ between) ⊎ ((round : Round) × IsRound (present_at between.keeper.cabin here.minute) (minute_of here between.keeper) at true between.keeper round
+      × (u ≡ told_after (present_at between.keeper.cabin here.minute) here.minute at round between))
+
+-- all of them are kept, or it was cut short
+abbrev pub AreKeptUpTo : List Minute → Moment → (failed : Bool) → (t u : Told) → Type 0
+AreKeptUpTo decided at false t u = AreKept at decided t u
+AreKeptUpTo decided at true t u = IsCutShort decided at t u
+
 -- a decided minute that is kept, and its round
 pub record Done : Type 0 where
   pub minute : Minute
