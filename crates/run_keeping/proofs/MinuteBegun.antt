@@ -153,7 +153,7 @@ put-at o e d failed cards known U V X Y same are puts =
 abbrev pub told_with : Keeper → Listed Mark → Told
 told_with k marks = record { keeper = k; marks = marks; breaks = record { items = []; room = 0 } }
 
-module _ (m : KeptMinute) (present : Present) (says : TellsPresent m present) (two : AreTwo present.driver present.codriver) (t u : Told) where
+module _ (m : KeptMinute) (present : Present) (says : TellsPresent m present) (two : AreTwo present.driver present.codriver) where
   abbrev i : HistoryMinute
   i = history_minute present m
 
@@ -181,7 +181,7 @@ module _ (m : KeptMinute) (present : Present) (says : TellsPresent m present) (t
       (λ c is. ap (λ (b : Bool). if b then e ∷ [] else []) (apart-this present.driver c (subst (λ (o : Option Card). AreTwo present.driver o) is two)))
       (λ c is. says-some c (inr (ap (λ (o : Option Card). is_this o c) is ∙ this-card c)))
 
-  module _ (U U1 X Y : State) where
+  module _ (t u : Told) (U U1 X Y : State) where
     -- the unit failed in the first
     pub cut-first : BooksPut present.driver e true t.keeper.cabin.cards (devices U X Y) (devices U1 X Y) → BooksOwed present m true t u (devices U X Y) (devices U1 X Y)
     cut-first puts = λ f w may time.
