@@ -137,7 +137,7 @@ module _ (f : Found) (w : Carried) (owes : Card → List Entry) (cards : Cards) 
   rests-on c Z due rule =
       of-rests f found.two c w.book (w.standing c) V Z (noted-rests (both_of f found.two) c f.unit w.due w.book w.marks (w.standing c) Z whole lit.unit run (as-rests f found.two c w.book (w.standing c) U Z rule.dark))
 
-  off-on : (c : Card) (Z : State) → CardOwing f c w.book (w.standing c) (w.brought c) w.marks (owes c) (session_of cards c) U Z → IsOwnValid (found_of f c).image → CardOff f w c V Z
+  off-on : (c : Card) (Z : State) → CardOwing f c w.book (w.standing c) (w.brought c) w.marks (owes c) (session_of cards c) U Z → IsOwnValid (found_of f c).image → CardOff f w.book (w.standing c) (w.brought c) c V Z
   off-on c Z one valid = record {
     rests = rests-on c Z (owes c) one.rule;
     valid = one.valid;

@@ -53,7 +53,7 @@ use Rattle.run_keeping.specs.Keeping.{Fate, Still, Has, Fell, marks_by}
 use Rattle.run_keeping.specs.Books.{standing_by}
 use Rattle.run_keeping.specs.Owing.{CardOwing}
 use Rattle.run_keeping.proofs.MarksOn.{moment-hold, kept-hold, same-marks}
-use Rattle.run_keeping.proofs.OnTheCard.{ready-here, each-kept, session-on, goes-on}
+use Rattle.run_keeping.proofs.OnTheCard.{ready-here, each-kept, session-on, goes-on, ends-on}
 
 -- a keep leaves the card's number
 keep-number : (app : Application) (P : List Day → Option Vehicle → Type 0) (x y : List ℕ) → IsCard app P x y → card_number app y ≡ card_number app x
@@ -223,6 +223,9 @@ module _ (f : Found) (cards : Cards) (found : AreFoundCards f cards) (c : Card) 
           stands = ap (In on.time) (sym at);
           sizes = sizes ∙ on.sizes;
           session = session-on g.image one.goes.has s e odometer g.start.word late fresh X whole sound on.sizes on.session on.goes is t.session Y run.tells at kept;
+          ends = ends-on g.image one.goes.has s e odometer g.start.word late fresh X whole sound on.sizes on.session on.goes is t.session Y run.tells at kept sizes (λ x told.
+              let there = whole.is_left x told in
+              (fits x told, own-valid s.application x (is x there ∙ sym on.sizes) (one.valid x (whole.counts_now g.began x rule.dark.later there)), opened-here x told));
           goes = goes-all;
         };
       };

@@ -1,14 +1,21 @@
 -- A card in its slot keeps an entry that is owed to it: its session, and its string.
-use Rattle.std.proofs.Common.{◌≡◌, ◌∙◌, ℕ, suc, max, ◌<◌, ◌≤◌, List, [], ◌∷◌, ◌++◌, Option, Some, None, IfSome, is_some, refl, sym, subst, arith}
+use Rattle.std.proofs.Common.{◌≡◌, ◌∙◌, inr, ℕ, suc, max, ◌<◌, ◌≤◌, List, [], ◌∷◌, ◌++◌, length, Option, Some, None, IfSome, is_some, refl, sym, subst, arith}
 use Rattle.activity_codec.specs.declared.entries.Entry.{Entry}
 use Rattle.tach_media.specs.Medium.{State, IsCoherent, LeavesOnly}
 use Rattle.tach_media.proofs.Runs.{at_image, if_told, told_too, weaken}
 use Rattle.card_layout.specs.declared.files.Application.{Application}
 use Rattle.card_layout.specs.Application.{IsApplication}
+use Rattle.card_layout.specs.Files.{image_size_of}
 use Rattle.card_image.specs.Fields.{session_time}
+use Rattle.card_image.specs.Judging.{IsValid}
 use Rattle.card_image.specs.Own.{own_sizes, own_covered}
-use Rattle.card_session.specs.Sessions.{Session, IsSession}
-use Rattle.card_session.specs.Cards.{IsCardKept, IsCardKeeping}
+use Rattle.card_session.specs.Books.{with_entry}
+use Rattle.card_session.specs.Sessions.{Session, IsSession, book_of}
+use Rattle.card_session.specs.Cards.{IsCardKept, IsCardKeeping, MayEnd, grown}
+use Rattle.card_session.proofs.Ended.{keep_ends}
+use Rattle.card_session.proofs.Preparing.{used_at}
+use Rattle.card_session.proofs.Stopping.{asked_at, days_there, mark_at}
+use Rattle.card_session.proofs.Valid.{above_zero}
 use Rattle.card_steps.specs.Since.{GoesSince, bound_since, counted_since, all_since}
 use Rattle.card_steps.specs.Each.{EachHolds}
 use Rattle.card_steps.proofs.Since.{may_come, later_holds}
@@ -79,3 +86,14 @@ module _ (image : List ℕ) (has : List Entry) (s : Session) (e : Entry) (odomet
         subst (λ (app : Application). GoesSince app image (has ++ e ∷ []) (suc (max word t.minute)) y) (sym same)
         (subst (λ (n : ℕ). GoesSince s.application image (has ++ e ∷ []) n y) bound
         (card_kept s t image has e odometer (suc (max word s.minute)) was.0 y sound (at_image (IsSession s) was.1 session) (opened was.0 was.1) late (omega (arith, late, fresh)) (at_image (GoesSince s.application image has (suc (max word s.minute))) was.1 goes) was.2)))
+
+    -- and it would be valid, were the session ended
+    pub ends-on : t.application ≡ s.application → ((x : List ℕ) → X.image ≡ Some x → (image_size_of s.application ≤ length x) × IsValid s.application x × (0 < session_time s.application x)) → IfSome Y.image (MayEnd t.application)
+    ends-on same there = if_told Y.image (MayEnd t.application) (λ y told.
+        let was = kept-image y told in
+        let knows = at_image (IsSession s) was.1 session in
+        let before = there was.0 was.1 in
+        subst (λ (app : Application). MayEnd app y) (sym same)
+        (keep_ends s.application sound was.0 before.0 before.1 (above_zero (session_time s.application was.0) before.2) (days_there s was.0 knows) s.registration odometer (grown s.odometer odometer) e y (asked_at s was.0 e.minute late knows)
+        (record { outside = was.2.card.outside; holds = was.2.card.holds; points = was.2.card.points; told = inr (was.2.card.told.0, inr was.2.card.told.1) })
+        (mark_at s.application (with_entry s.application.activity s.registration odometer (grown s.odometer odometer) (book_of s.application was.0) e) y was.2.card.told.1 ∙ used_at s.registration odometer e.minute (book_of s.application was.0).vehicle)))

@@ -92,7 +92,7 @@ module _ (f : Found) (w : Carried) (cards : Cards) (c : Card) (U V X Y : State) 
       goes = record {
         has = brought_by c (found_of f c).start w.book;
         all = append-nil (brought_by c (found_of f c).start w.book);
-        goes = record { time = now; stands = refl; sizes = put.sizes; session = put.session; goes = put.goes };
+        goes = record { time = now; stands = refl; sizes = put.sizes; session = put.session; ends = put.ends; goes = put.goes };
       };
     }
 

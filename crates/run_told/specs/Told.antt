@@ -10,6 +10,7 @@ use Rattle.card_layout.specs.Application.{IsApplication}
 use Rattle.card_retention.specs.Retains.{Rise}
 use Rattle.card_image.specs.Own.{own_view, own_sizes, IsOwnValid}
 use Rattle.card_session.specs.Sessions.{Session, IsSession}
+use Rattle.card_session.specs.Cards.{MayEnd}
 use Rattle.card_steps.specs.Since.{GoesSince}
 use Rattle.history_model.specs.Minutes.{card_history}
 use Rattle.history_model.specs.Book.{Book}
@@ -56,12 +57,14 @@ AllWait f w d = (c : Card) → IsOwnValid (found_of f c).image → IsHeldDark (f
 -- ---- the sessions
 
 -- A CARD IN ITS SLOT, with this session, and with these entries since the start: it stands with the session's newest minute, its image is
--- what the session knows, and its string goes on with each minute later than that one and than the words at the start.
+-- what the session knows, and would be valid, were the session ended, and its string goes on with each minute later than that one and than
+-- the words at the start.
 pub record IsOn (f : CardFound) (has : List Entry) (z : Standing) (s : Session) (card : State) : Type 0 where
   pub time : ℕ
   pub stands : z ≡ In time s.minute
   pub sizes : s.application ≡ own_sizes f.image
   pub session : IfSome card.image (IsSession s)
+  pub ends : IfSome card.image (MayEnd s.application)
   pub goes : IfSome card.image (GoesSince s.application f.image has (suc (max f.start.word s.minute)))
 
 -- a card goes with its session, and is in its slot, accepted, exactly where it has one
@@ -84,11 +87,12 @@ pub record AllGo (f : Found) (w : Carried) (owes : Card → List Entry) (cards :
   pub held : (c : Card) → IsOwnValid (found_of f c).image → IsHeld (found_of f c) c w.book (w.standing c) (card_of d c)
   pub goes : (c : Card) → IsOwnValid (found_of f c).image → GoesOwing (found_of f c) c w.book (owes c) (w.standing c) (session_of cards c) (card_of d c)
 
--- A card that was put in and whose row is not begun yet: its image is what the session knows, and its string goes on.
+-- A card that was put in and whose row is not begun yet: so is its image, and so its string goes on.
 pub record IsPutIn (f : CardFound) (c : Card) (b : Book) (now : ℕ) (s : Session) (card : State) : Type 0 where
   pub entered : IsEntered f.start f.began now s.minute (of_card card)
   pub sizes : s.application ≡ own_sizes f.image
   pub session : IfSome card.image (IsSession s)
+  pub ends : IfSome card.image (MayEnd s.application)
   pub goes : IfSome card.image (GoesSince s.application f.image (brought_by c f.start b) (suc (max f.start.word s.minute)))
 
 -- ---- all of it
