@@ -53,7 +53,7 @@ use Rattle.run_told.proofs.StringMore.{rise-follow, held-more}
 
 -- ---- the string, as the book is settled
 
-follow-of : (m : ℕ) (es : List Entry) → Rise es → All (λ e. m < e.minute) es → Follow m es
+pub follow-of : (m : ℕ) (es : List Entry) → Rise es → All (λ e. m < e.minute) es → Follow m es
 follow-of m [] rise late = tt
 follow-of m (e ∷ es) rise late = rise-follow m e es (All-head (λ (d : Entry). m < d.minute) e es late) rise
 
