@@ -7,10 +7,11 @@ use Rattle.run_outcome.specs.Lines.{Listed}
 use Rattle.tach_media.proofs.Runs.{on_ok}
 use Rattle.run_crew.specs.Cabin.{Stands}
 use Rattle.run_keeping.specs.declared.keeper.Keeper.{Keeper}
-use Rattle.run_keeping.specs.Keeping.{Still, IsBrought, cabin_by, kept_in, state_at, most_tears}
+use Rattle.run_keeping.specs.Keeping.{Still, IsBrought, AreEmptied, cabin_by, kept_in, state_at, most_tears}
 use Rattle.run_keeping.specs.Minutes.{Round, IsMinute, unit_mark}
 use Rattle.run_keeping.proofs.Counts.{tears-one, lines-length, first-stays, second-stays}
 use Rattle.run_keeping.proofs.Rounds.{told-of, brought-minute, brought-past, brought-tears, brought-tear-room, brought-marks, brought-mark-room, cut-is, cut-told, whole-driver, whole-codriver, whole-is, whole-told}
+use Rattle.run_keeping.proofs.Seats.{emptied-then}
 use Rattle.run_keeping.proofs.keeper.Keeper.keep_minute.Goals as goal
 
 pub returns-in_err-bring-clause-kept : goal.returns-in_err-bring-clause-kept
@@ -171,3 +172,14 @@ returns-clause-minute g c =
 pub returns-clause-last : goal.returns-clause-last
 returns-clause-last g c =
     on_ok c.bring-2.result (λ well. ap (λ (q : Keeper). q.journal.kept) c.bring-2.ensures.brought.1.keeper ∙ ap (λ (q : Keeper). q.journal.kept) c.bring.ensures.brought.1.keeper ∙ c.in_ok-commit.ensures.notes.0)
+
+-- ---- the slots
+
+pub returns-in_err-bring-clause-seats : goal.returns-in_err-bring-clause-seats
+returns-in_err-bring-clause-seats g c =
+    subst (λ (q : Keeper). AreEmptied q.cabin.slots.seats c.bring.new.self.cabin.slots.seats) c.commit.ensures.keeper c.bring.ensures.seats
+
+pub returns-clause-seats : goal.returns-clause-seats
+returns-clause-seats g c =
+    emptied-then c.args.self.now.cabin.slots.seats c.bring.new.self.cabin.slots.seats c.bring-2.new.self.cabin.slots.seats
+    (subst (λ (q : Keeper). AreEmptied q.cabin.slots.seats c.bring.new.self.cabin.slots.seats) c.commit.ensures.keeper c.bring.ensures.seats) c.bring-2.ensures.seats
