@@ -72,7 +72,7 @@ gap-last t log (span ∷ next ∷ spans) x =
     ∙ sym (append_assoc (gap_event t log span next) (gaps_between t log (next ∷ spans)) (gap_before t log (next ∷ spans) x))
 
 -- no span is empty
-abbrev IsSome : List Seen → Type 0
+abbrev pub IsSome : List Seen → Type 0
 IsSome [] = ⊥
 IsSome (x ∷ span) = Unit {0}
 
@@ -80,7 +80,7 @@ some-more : (span : List Seen) (x : Seen) → IsSome (span ++ x ∷ [])
 some-more [] x = tt
 some-more (y ∷ span) x = tt
 
-abbrev AreSome : List (List Seen) → Type 0
+abbrev pub AreSome : List (List Seen) → Type 0
 AreSome spans = AllByRecursion IsSome spans
 
 some-on : (spans : List (List Seen)) (x : Seen) → AreSome spans → AreSome (seen_on spans x)

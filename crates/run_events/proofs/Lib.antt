@@ -4,3 +4,4 @@ pub mod Growing
 pub mod Later
 pub mod Sure
 pub mod Leading
+pub mod Gaps

@@ -38,7 +38,7 @@ in-map u h each [] = tt
 in-map u h each (x ∷ xs) = (each x, in-map u h each xs)
 
 -- RUNS that end with the second before
-last-push : (xs : List Seen) (x : Seen) → last_number (xs ++ x ∷ []) ≡ number_of x
+pub last-push : (xs : List Seen) (x : Seen) → last_number (xs ++ x ∷ []) ≡ number_of x
 last-push xs x = going 0 xs x
   where
     going : (n : ℕ) (xs : List Seen) (x : Seen) → fold (λ (last : ℕ) (y : Seen). number_of y) n (xs ++ x ∷ []) ≡ number_of x
