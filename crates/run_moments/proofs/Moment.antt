@@ -68,7 +68,7 @@ pub record HasCourse (p : Progress) (s : TraceSecond) (at : Phase) (log : RunLog
   pub judged : (e : Visit) → Contains c.entered e → IsWaiting waits c e ⊎ IsJudgedBy log s.number c e
   pub found_now : AllByRecursion (λ (f : Visit × Verdict). IsBehind at f.0.phase → ⊥) c.found
 
-pub parts-of : (p : Progress) (before : Before) (s : TraceSecond) (at : Phase) (log : RunLog) (waits : List Visit) (mid now : Device → ℕ) → Moment p before s at log waits mid now →
+abbrev pub parts-of : (p : Progress) (before : Before) (s : TraceSecond) (at : Phase) (log : RunLog) (waits : List Visit) (mid now : Device → ℕ) → Moment p before s at log waits mid now →
     HasCourse p s at log waits mid now (course_at log before s at)
 parts-of p before s at log waits mid now m = record {
   number = m.number;
