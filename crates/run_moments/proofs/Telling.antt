@@ -522,7 +522,7 @@ or-false false = refl
 
 -- a cut tells of no tear and no find
 module _ (log : RunLog) (s : TraceSecond) (k : ℕ) where
-  abbrev cut_log : RunLog
+  abbrev pub cut_log : RunLog
   cut_log = and_break log (cut_at s.number true k)
 
   cut-torn : (q : Phase) (slot : Slot) → is_torn_in cut_log s.number q slot ≡ is_torn_in log s.number q slot
@@ -531,7 +531,7 @@ module _ (log : RunLog) (s : TraceSecond) (k : ℕ) where
   cut-found : (q : Phase) (slot : Slot) → found_in cut_log s.number q slot ≡ found_in log s.number q slot
   cut-found q slot = (break-more log (cut_at s.number true k) s.number).found q slot
 
-  cut-now : cut_in log s.number ≡ None → cut_in cut_log s.number ≡ Some k
+  pub cut-now : cut_in log s.number ≡ None → cut_in cut_log s.number ≡ Some k
   cut-now none =
       (break-more log (cut_at s.number true k) s.number).cut ∙ ap (λ (o : Option ℕ). cond (is_some o) o (cond (nat_eq s.number s.number) (Some k) None)) none
       ∙ ap (λ (t : Bool). cond t (Some k) None) (same-number s.number)
