@@ -6,5 +6,5 @@ mod laws;
 pub use laws::{
     a_second_is_broken, a_second_is_recorded, an_off_cut_is_recorded, an_off_line_is_recorded,
     dark_seconds_are_recorded, more_is_recorded, nothing_is_recorded, quiet_seconds_are_recorded,
-    what_was_kept_is_found,
+    what_is_recorded_is_promised, what_was_kept_is_found,
 };
