@@ -126,7 +126,7 @@ pub moment-by : (p : Progress) (before : Before) (s : TraceSecond) (at : Phase) 
 moment-by p before s at log waits mid now c is r here h = moment-itself p before s at log waits mid now r here (subst (HasCourse p s at log waits mid now) (sym is) h)
 
 -- THE SECOND BEGINS
-entered-here : (starts : Bool) (slots : Slots) → AllByRecursion (λ (e : Visit). e.phase ≡ In 0) (fresh starts slots).entered
+pub entered-here : (starts : Bool) (slots : Slots) → AllByRecursion (λ (e : Visit). e.phase ≡ In 0) (fresh starts slots).entered
 entered-here false slots = tt
 entered-here true slots = both (visits (In 0) Driver slots) (visits (In 0) CoDriver slots) (one Driver) (one CoDriver)
   where

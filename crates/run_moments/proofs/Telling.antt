@@ -444,7 +444,7 @@ keeping-comes p before s log mid now m =
         none-behind (f ∷ fs) = ((λ h. h), none-behind fs)
 
 -- HOW A SECOND WENT
-lit-as : (log : RunLog) (before : Before) (s : TraceSecond) → has_power before s ≡ true → s.has_power ≡ true →
+pub lit-as : (log : RunLog) (before : Before) (s : TraceSecond) → has_power before s ≡ true → s.has_power ≡ true →
     second_told log before s ≡ told_with (not before.running) (is_some (cut_in log s.number)) s (second_told log before s).course
 lit-as log before s power given = rw power (given-as s.has_power given)
   where
@@ -545,7 +545,7 @@ module _ (log : RunLog) (s : TraceSecond) (k : ℕ) where
   }
 
 -- the course of a cut's second
-cut-course : (log : RunLog) (before : Before) (s : TraceSecond) (at : Phase) (rest : List Action) → has_power before s ≡ true → IsUpTo log s.number at → IsLeft s at rest →
+pub cut-course : (log : RunLog) (before : Before) (s : TraceSecond) (at : Phase) (rest : List Action) → has_power before s ≡ true → IsUpTo log s.number at → IsLeft s at rest →
     (second_told (and_break log (cut_at s.number true (begun_by s at))) before s).course ≡ cut_told true (not_begun rest (course_at log before s at))
 cut-course log before s (In n) rest power up left =
     let front : List Action = left.0 in
@@ -578,7 +578,7 @@ cut-by_then : (s : TraceSecond) (at : Phase) → CutBy (Some (begun_by s at)) at
 cut-by_then s (In n) = omega arith
 cut-by_then s Keeping = tt
 
-cut-causes : (p : Progress) (s : TraceSecond) (at : Phase) (log : RunLog) (waits : List Visit) (mid now later : Device → ℕ) (c : Course) (starts : Bool) (rest : List Action) → IsUpTo log s.number at → IsLeft s at rest →
+pub cut-causes : (p : Progress) (s : TraceSecond) (at : Phase) (log : RunLog) (waits : List Visit) (mid now later : Device → ℕ) (c : Course) (starts : Bool) (rest : List Action) → IsUpTo log s.number at → IsLeft s at rest →
     AllByRecursion (λ (e : Visit). e.phase ≡ at) waits → IsMore now later → RoseBy 1 (mid Recorder) (later Recorder) → (h : HasCourse p s at log waits mid now c) →
     AreNewCauses mid later (h.breaks ++ cut_at s.number true (begun_by s at) ∷ []) h.finds h.refused (and_break log (cut_at s.number true (begun_by s at))) s (told_with starts true s (cut_told true (not_begun rest c)))
 cut-causes p s at log waits mid now later c starts rest up left here more broke h =

@@ -14,10 +14,10 @@ use Rattle.log_model.specs.declared.lines.Find.{Find}
 use Rattle.log_model.specs.Log.{RunLog, Phase, In, Keeping, is_torn_in, found_in}
 use Rattle.log_model.specs.Slots.{Sitting, in_slot}
 use Rattle.log_model.specs.Causes.{device_of, RoseBy}
-use Rattle.log_model.specs.Course.{Told, Course, Visit, Before, visits, cut_told, went}
+use Rattle.log_model.specs.Course.{Told, Course, Visit, Before, visits, fresh, cut_told, went}
 use Rattle.history_model.specs.Presence.{Start}
 use Rattle.unit_course.specs.Lines.{cut_at}
-use Rattle.unit_course.specs.Followed.{Lit}
+use Rattle.unit_course.specs.Followed.{Lit, MayFail}
 use Rattle.unit_course.specs.Turn.{begins_with}
 use Rattle.run_course.specs.Moments.{and_break, and_find}
 use Rattle.run_course.specs.Followed.{Progress, Followed}
@@ -116,3 +116,12 @@ ACutEnds = (rule : Rule) (start : Start) (from first : ℕ) (done : List TraceSe
     let told_log : RunLog = and_break log cut in
     (next_told told_log done s ≡ told_with (begins_with span) true s (cut_told true (not_begun rest (course_at log (went p.log done).before s at))))
     × AreNewCauses mid later (m.breaks ++ cut ∷ []) m.finds m.refused told_log s (next_told told_log done s)
+
+-- A POWER-ON FAILS at once: the second with which power came is a cut's.
+abbrev pub APowerOnIsCut : Type 0
+APowerOnIsCut = (rule : Rule) (start : Start) (from first : ℕ) (done : List TraceSecond) (p : Progress) → Followed rule start from first done p →
+    MayFail p.supply p.next → (s : TraceSecond) → s.number ≡ p.next → s.has_power ≡ true → (mid later : Device → ℕ) → IsMore mid later → RoseBy 1 (mid Recorder) (later Recorder) →
+    let cut : Break = cut_at s.number true 0 in
+    let told_log : RunLog = and_break p.log cut in
+    (next_told told_log done s ≡ told_with true true s (cut_told true (not_begun s.actions (fresh true (went p.log done).before.slots))))
+    × AreNewCauses mid later (cut ∷ []) [] [] told_log s (next_told told_log done s)

@@ -1,6 +1,6 @@
 ghost use Rattle.run_moments.specs.Lines.{ASecondIsReached, AnActionIsReached, TheKeepingIsReached, LinesOfTheMoment, WhoSitsIsNotTorn, ATearIsSeen, AFindIsSeen, ARefusalIsSeen};
 ghost use Rattle.run_moments.specs.Moment.{AMomentBegins, AnActionIsRefused, AnActionIsDone, ACardIsPulled};
-ghost use Rattle.run_moments.specs.Telling.{BreakdownsOnly, ACardIsTorn, ATornCardWaitsNoMore, ACardIsJudged, TheKeepingComes, TheSecondEnds, ACutEnds};
+ghost use Rattle.run_moments.specs.Telling.{BreakdownsOnly, ACardIsTorn, ATornCardWaitsNoMore, ACardIsJudged, TheKeepingComes, TheSecondEnds, ACutEnds, APowerOnIsCut};
 
 /// A second begins: nothing is told of it yet.
 pub fn a_second_is_reached()
@@ -95,4 +95,9 @@ pub fn the_second_ends()
 /// A cut ends the second at a moment.
 pub fn a_cut_ends()
     ensures { ACutEnds }
+{}
+
+/// A power-on fails at once.
+pub fn a_power_on_is_cut()
+    ensures { APowerOnIsCut }
 {}

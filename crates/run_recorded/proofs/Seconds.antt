@@ -44,21 +44,22 @@ use Rattle.run_course.proofs.Complete.{more-marks, nothing-yet, acknowledged}
 use Rattle.run_course.proofs.Dark.{dark-caused, dark-complete, off-complete}
 use Rattle.run_course.proofs.New.{are-new}
 use Rattle.run_course.proofs.Quiet.{quiet-are-told, quiet-go-on, quiet-travelled, quiet-caused, quiet-complete}
-use Rattle.run_course.proofs.Staying.{refused-stays, found-stays, cut-stays_}
-use Rattle.run_course.proofs.Steps.{went-same_, now-told, goes_on, breaks_off, power_finds, stays_dark, off_dark, off_cuts, begins_run}
+use Rattle.run_course.proofs.Staying.{failure-stays, found-stays, cut-stays_}
+use Rattle.run_course.proofs.Steps.{went-same_, now-told, goes_on, breaks_off, power_finds, power_fails, stays_dark, off_dark, off_cuts, begins_run}
 use Rattle.run_course.proofs.Travelled as legs
 use Rattle.run_brought.specs.Going.{acceptances_in, AreAccounted, IsTakenAt, IsBehind}
 use Rattle.run_brought.proofs.Going.{second-accounted, sure-kept, nothing-accounted}
 use Rattle.run_brought.proofs.Lines.{accepts-none}
-use Rattle.run_brought.proofs.Quiet.{found-accounted, dark-accounted, off-accounted, off-cut-accounted}
+use Rattle.run_brought.proofs.Quiet.{failure-accounted, found-accounted, dark-accounted, off-accounted, off-cut-accounted}
 use Rattle.run_moments.specs.Reached.{course_at}
 use Rattle.run_moments.specs.Moment.{Moment, goes_on as lines_of}
 use Rattle.run_moments.specs.Telling.{IsMore, begun_by, IsLeft, told_with}
-use Rattle.run_moments.proofs.Reached.{goes-itself, push-each}
+use Rattle.run_moments.proofs.Reached.{nothing-told, goes-itself, push-each}
 use Rattle.run_moments.proofs.Moment.{moment-begins}
 use Rattle.run_moments.proofs.Telling.{keeping-comes, second-ends_told, cut-ends_told, cut-now}
+use Rattle.run_moments.proofs.Failing.{power-on_cut}
 use Rattle.run_recorded.specs.Origin.{Origin, rule_of, start_at, first_of, HasRecorded}
-use Rattle.run_recorded.specs.Seconds.{NothingIsRecorded, at_start, empty_log, found_again, WhatWasKeptIsFound, MoreIsRecorded, AreTaken, went_on, seated_now, ASecondIsRecorded, broke_off, seated_next, ASecondIsBroken, QuietSecondsAreRecorded, passed_dark, refused_for, fault_of, DarkSecondsAreRecorded, gone_off, AnOffLineIsRecorded, cut_off, AnOffCutIsRecorded}
+use Rattle.run_recorded.specs.Seconds.{NothingIsRecorded, at_start, empty_log, found_again, WhatWasKeptIsFound, MoreIsRecorded, AreTaken, went_on, seated_now, ASecondIsRecorded, broke_off, seated_next, ASecondIsBroken, failed_on, AFailedPowerOnIsRecorded, QuietSecondsAreRecorded, passed_dark, refused_for, fault_of, DarkSecondsAreRecorded, gone_off, AnOffLineIsRecorded, cut_off, AnOffCutIsRecorded}
 
 -- AT THE START
 pub nothing-recorded : NothingIsRecorded
@@ -234,6 +235,25 @@ second-is_broken o done p g marks more mid now later brought taken h span is s a
     } in
     broken-recorded o done p g marks mid brought h s (and_break log cut) by (begun_by s at) (cut-now log s (begun_by s at) m.up_to.uncut) span is more later taken m.refused m.refused_are ends.1
     (ap (λ (t : Told). t.cut) ends.0) (ap (λ (t : Told). t.second.number) ends.0 ∙ m.number) front d ds decides stay takes
+
+-- A POWER-ON FAILS
+pub failed-recorded : AFailedPowerOnIsRecorded
+failed-recorded o done p g marks mid later brought h may s number given more broke =
+    let cut : Break = cut_at s.number true 0 in
+    let log : RunLog = and_break p.log cut in
+    let ends = power-on_cut (rule_of o) (start_at o) o.from (first_of o) done p h.followed may s number given mid later more broke in
+    let by : GoesOnBy p log s = record { number = number; given = given; breaks = (cut ∷ [], refl, (number, tt)); finds = ([], sym (append-nil p.log.finds), tt) } in
+    let none = (nothing-told (rule_of o) (start_at o) o.from (first_of o) done p h.followed s.number (omega (arith, number))).cut in
+    let cut_ : cut_in log s.number ≡ Some 0 = cut-now p.log s 0 none in
+    record {
+      followed = power_fails (rule_of o) (start_at o) o.from (first_of o) done p h.followed may h.waiting s log by 0 cut_;
+      waiting = refl;
+      legs = legs.failure-travelled (rule_of o) (start_at o) o.from (first_of o) done p h.followed g h.legs may h.waiting s log by;
+      complete = failure-stays (rule_of o) (start_at o) o.from (first_of o) done p h.followed may h.waiting s log by marks h.complete;
+      caused = second-caused (rule_of o) (start_at o) o.from (first_of o) done p h.followed s log by [] (sym (append-nil p.log.refused)) o.breakdowns mid later ends.1 h.caused (failed_on s p) refl (λ dark. inr (ap (λ (t : Told). t.cut) ends.0));
+      accounts = λ c valid. failure-accounted o.recording c o.from (first_of o) done p h.followed may h.waiting s log by (length s.actions)
+          (accepts-none c (next_told log done s) (ap (λ (t : Told). t.course.found) ends.0)) (brought c) (h.accounts c valid);
+    }
 
 -- QUIET SECONDS
 begun-none : (n : ℕ) → begun_after n 0 ≡ 0

@@ -122,6 +122,23 @@ ASecondIsBroken = (o : Origin) (done : List TraceSecond) (p : Progress) (g : Tra
     AllMarked marks more → AreTaken o p.book (broken_at i (kept_all kept p.book)) t (seated_now o cut_log done s p (front ++ (option_to_list d ++ ds))) brought taken →
     HasRecorded o (done ++ s ∷ []) (broke_off cut_log s kept i p) (stranded_at d (all_travelled front g)) more later taken
 
+-- A POWER-ON FAILS at once, in the second with which power came.
+abbrev pub failed_on : TraceSecond → Progress → Progress
+failed_on s p = record {
+  log = and_break p.log (cut_at s.number true 0);
+  unfound = p.unfound;
+  next = suc p.next;
+  begun = length s.actions;
+  supply = Lost;
+  book = p.book;
+  waiting = [];
+}
+
+abbrev pub AFailedPowerOnIsRecorded : Type 0
+AFailedPowerOnIsRecorded = (o : Origin) (done : List TraceSecond) (p : Progress) (g : Travel) (marks : List Mark) (mid later : Device → ℕ) (brought : Card → List ℕ) → HasRecorded o done p g marks mid brought →
+    MayFail p.supply p.next → (s : TraceSecond) → s.number ≡ p.next → s.has_power ≡ true → IsMore mid later → RoseBy 1 (mid Recorder) (later Recorder) →
+    HasRecorded o (done ++ s ∷ []) (failed_on s p) g marks later brought
+
 -- SECONDS of a minute without actions, of which nothing is told
 abbrev pub QuietSecondsAreRecorded : Type 0
 QuietSecondsAreRecorded = (o : Origin) (done : List TraceSecond) (p : Progress) (g : Travel) (marks : List Mark) (now : Device → ℕ) (brought : Card → List ℕ) → HasRecorded o done p g marks now brought →

@@ -8,7 +8,7 @@ ghost use Rattle.run_rule.specs.Between.{Carried, IsCarried, IsFound, devices};
 ghost use Rattle.run_course.specs.Followed.{Progress};
 ghost use Rattle.run_recorded.specs.Origin.{Origin, HasRecorded};
 ghost use Rattle.run_recorded.specs.Ends.{recording_by, IsBeside, EndsRun};
-ghost use Rattle.run_recorded.specs.Seconds.{NothingIsRecorded, WhatWasKeptIsFound, MoreIsRecorded, ASecondIsRecorded, ASecondIsBroken, QuietSecondsAreRecorded, DarkSecondsAreRecorded, AnOffLineIsRecorded, AnOffCutIsRecorded};
+ghost use Rattle.run_recorded.specs.Seconds.{NothingIsRecorded, WhatWasKeptIsFound, MoreIsRecorded, ASecondIsRecorded, ASecondIsBroken, AFailedPowerOnIsRecorded, QuietSecondsAreRecorded, DarkSecondsAreRecorded, AnOffLineIsRecorded, AnOffCutIsRecorded};
 
 use tach_media::{Chip, Medium};
 
@@ -73,4 +73,9 @@ pub fn what_is_recorded_is_promised<M: Medium, C: Chip, D: Chip, N: Medium, E: C
         IsCarried o.found w (devices (N.state unit.now) (E.state card_a.now) (F.state card_b.now)) → w.book ≡ p.book → w.marks ≡ marks →
         IsBeside o done p g (devices (N.state unit.now) (E.state card_a.now) (F.state card_b.now)) →
         EndsRun (recording_by o done p.log) marks (devices (M.state old_unit.now) (C.state old_a.now) (D.state old_b.now)) (devices (N.state unit.now) (E.state card_a.now) (F.state card_b.now)) }
+{}
+
+/// A power-on that fails at once.
+pub fn a_failed_power_on_is_recorded()
+    ensures { AFailedPowerOnIsRecorded }
 {}
