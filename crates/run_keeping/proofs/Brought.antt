@@ -181,7 +181,7 @@ cards-by (Has a n) c second cabin = refl
 cards-by Fell c second cabin = refl
 
 -- the cards that were found are those
-found-session : (f : Found) (c : Card) (s : Option Accepted) (cards : Cards) → AreFoundCards f cards → AreFoundCards f (with_session c s cards)
+pub found-session : (f : Found) (c : Card) (s : Option Accepted) (cards : Cards) → AreFoundCards f cards → AreFoundCards f (with_session c s cards)
 found-session f A s cards found = record { two = found.two; named = named; told = told; sizes = found.sizes; entries = found.entries }
   where
     named : (c : Card) → IsOwnValid (found_of f c).image → IfSome (known_of (with_session A s cards) c).number (λ n. card_number_bytes n ≡ (found_of f c).number)

@@ -14,3 +14,4 @@ pub mod MarksOn
 pub mod CardBrought
 pub mod CardBooked
 pub mod Brought
+pub mod DecidedBooked
