@@ -14,3 +14,4 @@ pub mod CardBrought
 pub mod CardBooked
 pub mod Brought
 pub mod MinuteBooked
+pub mod DecidedBooked
