@@ -15,3 +15,4 @@ pub mod CardBooked
 pub mod Brought
 pub mod MinuteBooked
 pub mod DecidedBooked
+pub mod MarksBooked
