@@ -30,8 +30,8 @@ use Rattle.run_told.proofs.Parts.{both_of, as-rests, of-rests, brought-on, CardO
 use Rattle.run_told.proofs.Noted.{noted-with, go-unit}
 use Rattle.run_keeping.specs.declared.keeper.Keeper.{Keeper}
 use Rattle.run_keeping.specs.Keeping.{Fate, Still, Has, Fell, cabin_by, marks_by}
-use Rattle.run_keeping.specs.Books.{HaveTime, standing_by}
-use Rattle.run_keeping.specs.Owing.{CardOwing, BooksCard, BooksBrought, IsBroughtOrCut, carried_brought, but_to}
+use Rattle.run_keeping.specs.Books.{standing_by}
+use Rattle.run_keeping.specs.Owing.{CardOwing, BooksCard, HasTime, BooksBrought, IsBroughtOrCut, carried_brought, but_to}
 use Rattle.run_keeping.proofs.MarksOn.{unit-none, others-hold}
 use Rattle.run_keeping.proofs.CardBooked.{session-set}
 
@@ -203,9 +203,9 @@ found-session f B s cards found = record { two = found.two; named = named; told 
 
 -- ---- ALL OF IT
 
-time-of : (c : Card) (V Y Z : State) → HaveTime (arranged c V Y Z) → Y.clock < last_count
-time-of A V Y Z time = time.card_a
-time-of B V Y Z time = time.card_b
+time-of : (c : Card) (V Y Z : State) → HasTime (Some c) (arranged c V Y Z) → Y.clock < last_count
+time-of A V Y Z time = time
+time-of B V Y Z time = time
 
 card-before : (f : Found) (w : Carried) (owes : Card → List Entry) (cards : Cards) (c : Card) (U X Z : State) → IsLitOwing f w owes (arranged c U X Z) → AllGo f w owes cards (arranged c U X Z) → IsOwnValid (found_of f c).image
     → CardOwing f c w.book (w.standing c) (w.brought c) w.marks (owes c) (session_of cards c) U X

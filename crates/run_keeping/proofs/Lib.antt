@@ -15,3 +15,4 @@ pub mod CardBrought
 pub mod CardBooked
 pub mod Brought
 pub mod DecidedBooked
+pub mod MinuteBooked
