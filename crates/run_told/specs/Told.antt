@@ -1,11 +1,13 @@
 -- What is carried of unit and cards between two calls of a run (profile): beside the rules that join them, how each image of a card holds its
 -- string, and the sessions of the cards that are in their slots.
-use Rattle.std.specs.Prelude.{◌≡◌, ◌≢◌, ℕ, suc, max, ◌<◌, ◌≤◌, true, Option, Some, None, IfSome, List, [], ◌∷◌, ◌++◌, All, Contains, is_some, option_to_list}
+use Rattle.std.specs.Prelude.{◌≡◌, ◌≢◌, ℕ, suc, max, ◌<◌, ◌≤◌, true, Option, Some, None, IfSome, List, [], ◌∷◌, ◌++◌, All, Contains, map, is_some, option_to_list}
 use Rattle.activity_codec.specs.declared.entries.Entry.{Entry}
 use Rattle.trace_model.specs.declared.Card.{Card}
 use Rattle.trace_model.specs.declared.Card.TheVariants.{A, B}
 use Rattle.tach_media.specs.Medium.{State}
 use Rattle.tacho_types.specs.CardNumber.{card_number_bytes}
+use Rattle.log_model.specs.declared.lines.Mark.{Mark}
+use Rattle.log_model.specs.Causes.{device_of}
 use Rattle.card_layout.specs.Application.{IsApplication}
 use Rattle.card_retention.specs.Retains.{Rise}
 use Rattle.card_image.specs.Own.{own_view, own_sizes, IsOwnValid}
@@ -152,3 +154,11 @@ with_standing c z w = record w { standing = for_card c z w.standing }
 -- it is accepted in a second, with a newest minute, when the unit had kept this minute last
 abbrev pub with_acceptance : Card → (now newest kept : ℕ) → Carried → Carried
 with_acceptance c now newest kept w = record w { standing = for_card c (In now newest) w.standing; brought = for_card c (kept ∷ w.brought c) w.brought }
+
+-- the marks of entries that a card has, all at this clock
+abbrev pub card_marks : Card → (clock : ℕ) → List Entry → List Mark
+card_marks c clock es = map (λ e. record { device = device_of c; minute = e.minute; clock = clock }) es
+
+-- marks more
+abbrev pub with_marks : List Mark → Carried → Carried
+with_marks marks w = record w { marks = w.marks ++ marks }
