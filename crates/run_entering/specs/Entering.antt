@@ -1,5 +1,5 @@
 -- What becomes of a card that was put into a slot, or meets power there, by value (profile).
-use Rattle.std.specs.Prelude.{◌≡◌, ◌≢◌, ◌×◌, ℕ, ◌+◌, ◌-◌, ◌<◌, ◌≤◌, ◌^◌, min, Bool, true, false, Option, Some, None, Result, Ok, Err, IfSome, List, [], ◌∷◌, ◌++◌, length, drop, nat_lt, replicate, if◌then◌else◌}
+use Rattle.std.specs.Prelude.{◌≡◌, ◌≢◌, ℕ, ◌+◌, ◌-◌, ◌<◌, ◌≤◌, ◌^◌, min, Bool, true, false, Option, Some, None, Result, Ok, Err, IfSome, List, [], ◌∷◌, ◌++◌, length, drop, nat_lt, replicate, if◌then◌else◌}
 use Rattle.activity_codec.specs.declared.entries.Entry.{Entry}
 use Rattle.activity_codec.specs.declared.values.Slot.{Slot}
 use Rattle.activity_codec.specs.declared.values.Slot.TheVariants.{Driver, CoDriver}
@@ -190,7 +190,7 @@ falls_of (Lost entered clock entry) = 1
 -- keeper, number of insertions and outcome behind an ending
 pub record IsLeft (ending : Ending) (e : Entering) (k v : Keeper) (noted noted_after : ℕ) (o p : Outcome) : Type 0 where
   pub keeper : v ≡ record k { cabin = cabin_by ending e noted k.cabin }
-  pub noted : noted_after ≡ noted_by ending noted
+  pub count : noted_after ≡ noted_by ending noted
   pub outcome : p ≡ outcome_by ending e o
 
 -- a card is accepted by the insertion with this index; where there is none the unit failed as it noted it, and nothing else has changed
