@@ -12,7 +12,7 @@ begin-requires-clause-agrees g c =
     agrees-noted (g.met.M.Medium.coherent c.args.unit.now) (g.met.M.Medium.coherent c.note_insertion.new.unit) c.requires.ready.works c.note_insertion.ensures.journal c.args.keeper.now.journal c.requires.ready.agrees
 
 pub returns-clause-seated : goal.returns-clause-seated
-returns-clause-seated g c = (Some c.in_ok-note_insertion.field-0, (c.in_ok-note_insertion.ensures.below, (search rules, search rules)))
+returns-clause-seated g c = (Some c.in_ok-entry.field-0, (c.in_ok-entry.ensures.below, (search rules, search rules)))
 
 pub returns-clause-rows : goal.returns-clause-rows
 returns-clause-rows g c = λ card h.
@@ -22,7 +22,7 @@ returns-clause-rows g c = λ card h.
       subst (λ (b : Cabin). HasItsRow b.cards V card) (sym c.accept.ensures.kept)
       (rows-seated c.args.entering.slot c.args.entering.which card number _ c.args.keeper.now.cabin (g.M.Medium.state c.note_insertion.new.unit) V
       (ok_gives c.begin.result c.begin.ensures.row well)
-      (λ n told differ had. ok_gives c.begin.result (c.begin.ensures.spares n told differ had) well)
+      (λ n told differ had. ok_gives c.begin.result (c.begin.ensures.spares n (search (rules, told)) differ had) well)
       (record {
         number = h.number;
         told = h.told;
