@@ -12,7 +12,7 @@ begin-requires-clause-agrees g c =
     agrees-noted (g.met.M.Medium.coherent c.args.unit.now) (g.met.M.Medium.coherent c.note_insertion.new.unit) c.requires.ready.works c.note_insertion.ensures.journal c.args.keeper.now.journal c.requires.ready.agrees
 
 pub returns-clause-seated : goal.returns-clause-seated
-returns-clause-seated g c = (Some c.in_ok-entry.entry, (c.in_ok-entry.ensures.below, (search rules, search rules)))
+returns-clause-seated g c = (Some c.in_ok-entry.entry, (c.in_ok-entry.ensures.below, search rules, search rules))
 
 pub returns-clause-rows : goal.returns-clause-rows
 returns-clause-rows g c = λ card h.
