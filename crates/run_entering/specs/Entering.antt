@@ -37,13 +37,6 @@ use Rattle.run_keeping.specs.Keeping.{tear_of, with_lines}
 use Rattle.run_entering.specs.declared.lines.Entering.{Entering}
 use Rattle.run_entering.specs.declared.waking.TheConstants.{UNTOLD}
 
--- ---- what is known of a card that was read
-
--- a card that told these sizes goes by them; of another the field is the first bad one
-abbrev pub IsMeasured : Result Application ℕ → CardState → State → Type 0
-IsMeasured (Ok app) chip card = IsPort app None chip card × IfSome card.image (TellsSizes app)
-IsMeasured (Err field) chip card = IfSome card.image (λ x. first_bad_field (application_in x) ≡ Some field)
-
 -- ---- what becomes of a card
 
 -- A card that goes by its sizes is judged: a file of it fails at a place; or it tells of a later time; or a call on it failed; or the
@@ -151,31 +144,22 @@ cabin_by (Unnoted entered clock) e noted cabin = cabin
 cabin_by (Seated entered clock entry) e noted cabin = seated entered.look entered.session entry noted e cabin
 cabin_by (Lost entered clock entry) e noted cabin = torn_out e.which e.at.second (seated entered.look entered.session entry noted e cabin)
 
--- ---- what is said of each
+-- ---- how it ends
 
--- whether the unit failed, where that decides it
-abbrev pub IsEnding : Ending → (failed : Bool) → Type 0
-IsEnding (Unfit fid place) failed = Unit {0}
-IsEnding (Ahead stored) failed = Unit {0}
-IsEnding Fell failed = Unit {0}
-IsEnding Unasked failed = failed ≡ true
-IsEnding (Unnoted entered clock) failed = failed ≡ true
-IsEnding (Seated entered clock entry) failed = entry < insertion_ring.count
-IsEnding (Lost entered clock entry) failed = entry < insertion_ring.count
+-- a card is torn out, or is not
+abbrev pub fallen : Bool → Entering → Keeper → Keeper
+fallen false e k = k
+fallen true e k = record k { cabin = torn_out e.which e.at.second k.cabin }
 
--- only a card that is found to be accepted gets a session, by its sizes, and it has told so
-abbrev pub IsTold : Application → (second : ℕ) → Entered → List ℕ → Type 0
-IsTold app second entered x = IsLook app x entered.look × ((card_view app x).stored ≤ second)
+abbrev pub fallen_breaks : Bool → Entering → List Break
+fallen_breaks false e = []
+fallen_breaks true e = tear_of e.slot e.at ∷ []
 
--- what the image of the card was where it ended so
-abbrev pub IsFound : Application → (second : ℕ) → Ending → List ℕ → Type 0
-IsFound app second (Unfit fid place) x = first_bad_file app x ≡ Some (fid, place)
-IsFound app second (Ahead stored) x = IsValid app x × (stored ≡ (card_view app x).stored) × (second < stored)
-IsFound app second Fell x = Unit {0}
-IsFound app second Unasked x = Unit {0}
-IsFound app second (Unnoted entered clock) x = IsTold app second entered x
-IsFound app second (Seated entered clock entry) x = IsTold app second entered x
-IsFound app second (Lost entered clock entry) x = IsTold app second entered x
+-- an accepted card ended so
+abbrev pub taken_as : (fell : Bool) → Entered → (clock : ℕ) → Option ℕ → Ending
+taken_as fell entered clock None = Unnoted entered clock
+taken_as false entered clock (Some entry) = Seated entered clock entry
+taken_as true entered clock (Some entry) = Lost entered clock entry
 
 -- so often the card has failed
 abbrev pub falls_of : Ending → ℕ
@@ -187,50 +171,9 @@ falls_of (Unnoted entered clock) = 0
 falls_of (Seated entered clock entry) = 0
 falls_of (Lost entered clock entry) = 1
 
--- keeper, number of insertions and outcome behind an ending
-pub record IsLeft (ending : Ending) (e : Entering) (k v : Keeper) (noted noted_after : ℕ) (o p : Outcome) : Type 0 where
-  pub keeper : v ≡ record k { cabin = cabin_by ending e noted k.cabin }
-  pub count : noted_after ≡ noted_by ending noted
-  pub outcome : p ≡ outcome_by ending e o
-
--- a card is accepted by the insertion with this index; where there is none the unit failed as it noted it, and nothing else has changed
-abbrev pub IsSeated : CardLook → Session → Entering → (failed : Bool) → (k v : Keeper) → (noted noted_after : ℕ) → Option ℕ → Type 0
-IsSeated look session e failed k v noted noted_after None = (failed ≡ true) × (v ≡ k) × (noted_after ≡ noted)
-IsSeated look session e failed k v noted noted_after (Some entry) =
-    (entry < insertion_ring.count) × (v ≡ record k { cabin = seated look session entry noted e k.cabin }) × (noted_after ≡ and_one noted)
-
--- a card is torn out, or is not
-abbrev pub fallen : Bool → Entering → Keeper → Keeper
-fallen false e k = k
-fallen true e k = record k { cabin = torn_out e.which e.at.second k.cabin }
-
-abbrev pub fallen_breaks : Bool → Entering → List Break
-fallen_breaks false e = []
-fallen_breaks true e = tear_of e.slot e.at ∷ []
-
 abbrev pub count_of : Bool → ℕ
 count_of false = 0
 count_of true = 1
-
--- so it went as something was noted on an accepted card
-pub record IsNotedOn (fell : Bool) (e : Entering) (k v : Keeper) (breaks breaks_after : Listed Break) : Type 0 where
-  pub keeper : v ≡ fallen fell e k
-  pub told : breaks_after ≡ with_lines (fallen_breaks fell e) breaks
-
--- an accepted card ended so
-abbrev pub taken_as : (fell : Bool) → Entered → (clock : ℕ) → Option ℕ → Ending
-taken_as fell entered clock None = Unnoted entered clock
-taken_as false entered clock (Some entry) = Seated entered clock entry
-taken_as true entered clock (Some entry) = Lost entered clock entry
-
--- A CARD THAT GOES BY ITS SIZES was judged, and ended so.
-pub record IsJudgedSo (app : Application) (e : Entering) (failed : Bool) (k v : Keeper) (noted noted_after : ℕ) (o p : Outcome) (image : Option (List ℕ))
-    (ending : Ending) : Type 0 where
-  pub is : IsEnding ending failed
-  pub left : IsLeft ending e k v noted noted_after o p
-  pub found : IfSome image (λ x. IsFound app e.at.second ending x)
-
--- ---- a card that enters
 
 -- the ending of a card whose sizes are bad: the place of the field in Application_Identification
 abbrev pub APPLICATION_FILE : Fid
@@ -250,19 +193,6 @@ sizes_by (Judged app ending) = Ok app
 -- the keeper that knows these sizes
 abbrev pub measured : Way → Entering → Keeper → Keeper
 measured way e k = record k { cabin = with_sizes_of e.which (sizes_by way) k.cabin }
-
--- and what its image was then
-abbrev pub IsFoundIn : (second : ℕ) → Way → List ℕ → Type 0
-IsFoundIn second Unread x = Unit {0}
-IsFoundIn second (Unsized field) x = first_bad_field (application_in x) ≡ Some field
-IsFoundIn second (Judged app ending) x = IsFound app second ending x
-
--- A CARD ENTERED in this way: what is left behind it. Of a card that tells its image it was so of one that a stop might leave.
-pub record HasEntered (e : Entering) (failed : Bool) (k v : Keeper) (noted noted_after : ℕ) (o p : Outcome) (card card_after : State)
-    (way : Way) : Type 0 where
-  pub is : IsEnding (ending_of way) failed
-  pub left : IsLeft (ending_of way) e (measured way e k) v noted noted_after o p
-  pub found : IfSome card.image (λ x. (y : List ℕ) × card.may_leave y × IsFoundIn e.at.second way y)
 
 -- ---- the insertion's entry
 

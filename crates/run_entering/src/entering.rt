@@ -1,7 +1,7 @@
 //! A card that was put into a slot, or meets power there, is accepted or turned away.
 ghost use Rattle.std.specs.Prelude.{◌≡◌, ◌≢◌, ℕ, ◌+◌, ◌/◌, ◌<◌, ◌≤◌, ◌^◌, Bool, true, false, Option, Some, None, Ok, IfSome, OnOk, length, is_some, is_err};
 ghost use Rattle.trace_model.specs.declared.Card.{Card};
-ghost use Rattle.tach_media.specs.Medium.{HasCause, HasBroken};
+ghost use Rattle.tach_media.specs.Medium.{HasCause};
 ghost use Rattle.card_commands.specs.Ports.{IsPort};
 ghost use Rattle.slot_machine.specs.Calls.{seat_in, is_card};
 ghost use Rattle.log_model.specs.Slots.{other_slot};
@@ -11,7 +11,9 @@ ghost use Rattle.run_keeping.specs.Keeping.{UnitReady, CardReady, HasItsRow};
 ghost use Rattle.card_layout.specs.declared.files.TheConstants.{LARGEST_IMAGE};
 ghost use Rattle.card_judge.specs.Judged.{TellsSizes};
 ghost use Rattle.card_session.specs.declared.words.TheConstants.{LATEST_MINUTE};
-ghost use Rattle.run_entering.specs.Entering.{Ending, Way, IsJudgedSo, HasEntered, IsFound, outcome_by, falls_of, ending_of, Unfit, Ahead};
+ghost use Rattle.run_entering.specs.Entering.{Ending, Way, Unfit, Ahead, outcome_by};
+ghost use Rattle.run_entering.specs.Noted.{HasNoted, IsOnUnit, IsComing, notes_by};
+ghost use Rattle.run_entering.specs.Entered.{IsJudgedSo, HasEntered};
 
 use crate::lines::{Entering, find};
 use crate::noting::{note_not_valid, note_overlap};
@@ -38,6 +40,7 @@ fn refuse<M: Medium>(
     requires second { entering.at.second ≢ 0 }
     requires room { length outcome.old.finds.items < outcome.old.finds.room }
     ensures told { outcome.new ≡ outcome_by (Unfit fid place) entering outcome.old }
+    ensures notes { HasNoted IsOnUnit IsComing (notes_by (Unfit fid place) entering 0 keeper.now.cabin) (is_err result) (M.state unit.old) (M.state unit.new) }
     ensures ready { OnOk result (UnitReady keeper.now (M.state unit.new)) }
     ensures rows { (card : Card) → HasItsRow keeper.now.cabin.cards (M.state unit.old) card → OnOk result (HasItsRow keeper.now.cabin.cards (M.state unit.new) card) }
     ensures cause { HasCause (M.state unit.old) (M.state unit.new) (is_err result) }
@@ -62,6 +65,7 @@ fn defer<M: Medium>(
     requires second { entering.at.second ≢ 0 }
     requires room { length outcome.old.finds.items < outcome.old.finds.room }
     ensures told { outcome.new ≡ outcome_by (Ahead stored) entering outcome.old }
+    ensures notes { HasNoted IsOnUnit IsComing (notes_by (Ahead stored) entering 0 keeper.now.cabin) (is_err result) (M.state unit.old) (M.state unit.new) }
     ensures ready { OnOk result (UnitReady keeper.now (M.state unit.new)) }
     ensures rows { (card : Card) → HasItsRow keeper.now.cabin.cards (M.state unit.old) card → OnOk result (HasItsRow keeper.now.cabin.cards (M.state unit.new) card) }
     ensures cause { HasCause (M.state unit.old) (M.state unit.new) (is_err result) }
@@ -101,7 +105,7 @@ fn accept_by<M: Medium, C: Chip, D: Chip>(
     requires works { (C.state card.old).works ≡ true }
     requires breaks { length outcome.old.breaks.items < outcome.old.breaks.room }
     requires finds { length outcome.old.finds.items < outcome.old.finds.room }
-    ensures ended { (ending : Ending) × IsJudgedSo app entering (is_err result) keeper.old keeper.new noted.old noted.new outcome.old outcome.new (C.state card.old).image ending × HasBroken (C.state card.old) (C.state card.new) (falls_of ending) }
+    ensures ended { (ending : Ending) × IsJudgedSo app entering (is_err result) keeper.old keeper.new noted.old noted.new outcome.old outcome.new (M.state unit.old) (M.state unit.new) (C.state card.old) (C.state card.new) ending }
     ensures ready { OnOk result (UnitReady keeper.new (M.state unit.new)) }
     ensures rows { (card : Card) → HasItsRow keeper.old.cabin.cards (M.state unit.old) card → OnOk result (HasItsRow keeper.new.cabin.cards (M.state unit.new) card) }
     ensures row { IfSome (session_of keeper.new.cabin.cards entering.which) (λ a. OnOk result (HasItsRow keeper.new.cabin.cards (M.state unit.new) entering.which)) }
@@ -170,7 +174,7 @@ pub fn accept<M: Medium, C: Chip, D: Chip>(
     requires size { LARGEST_IMAGE ≤ (C.state card.old).size }
     requires breaks { length outcome.old.breaks.items < outcome.old.breaks.room }
     requires finds { length outcome.old.finds.items < outcome.old.finds.room }
-    ensures entered { (way : Way) × HasEntered entering (is_err result) keeper.old keeper.new noted.old noted.new outcome.old outcome.new (C.state card.old) (C.state card.new) way × HasBroken (C.state card.old) (C.state card.new) (falls_of (ending_of way)) }
+    ensures entered { (way : Way) × HasEntered entering (is_err result) keeper.old keeper.new noted.old noted.new outcome.old outcome.new (M.state unit.old) (M.state unit.new) (C.state card.old) (C.state card.new) way }
     ensures ready { OnOk result (UnitReady keeper.new (M.state unit.new)) }
     ensures rows { (card : Card) → HasItsRow keeper.old.cabin.cards (M.state unit.old) card → OnOk result (HasItsRow keeper.new.cabin.cards (M.state unit.new) card) }
     ensures row { IfSome (session_of keeper.new.cabin.cards entering.which) (λ a. OnOk result (HasItsRow keeper.new.cabin.cards (M.state unit.new) entering.which)) }

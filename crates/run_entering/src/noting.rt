@@ -5,7 +5,7 @@ ghost use Rattle.tach_media.specs.Medium.{LeavesOnly, HasCause};
 ghost use Rattle.event_model.specs.declared.kinds.TheConstants.{CARD_NOT_VALID, TIME_OVERLAP, INSERTION_WHILE_DRIVING, SESSION_NOT_CLOSED};
 ghost use Rattle.unit_notes.specs.Entries.{fault_bytes};
 ghost use Rattle.unit_notes.specs.Journal.{LeavesJournal};
-ghost use Rattle.unit_notes.specs.Noting.{IsEventNoted};
+ghost use Rattle.unit_notes.specs.Noting.{IsNotingEvent, IsEventNoted};
 ghost use Rattle.run_notes.specs.Entries.{entry_of};
 ghost use Rattle.run_crew.specs.Cabin.{crew_of};
 ghost use Rattle.run_keeping.specs.Keeping.{UnitReady, HasItsRow};
@@ -24,6 +24,7 @@ pub(crate) fn note_not_valid<M: Medium>(
     requires ready { UnitReady keeper.now (M.state unit.old) }
     requires begin { second ≢ 0 }
     ensures noted { OnOk result (IfSome (M.state unit.old).image (λ x. IfSome (M.state unit.new).image (IsEventNoted CARD_NOT_VALID (fault_bytes (entry_of CARD_NOT_VALID second second (crew_of keeper.now.cabin) (crew_of keeper.now.cabin))) x))) }
+    ensures moments { LeavesOnly (M.state unit.old) (M.state unit.new) (IsNotingEvent CARD_NOT_VALID (fault_bytes (entry_of CARD_NOT_VALID second second (crew_of keeper.now.cabin) (crew_of keeper.now.cabin)))) }
     ensures journal { LeavesOnly (M.state unit.old) (M.state unit.new) LeavesJournal }
     ensures ready { OnOk result (UnitReady keeper.now (M.state unit.new)) }
     ensures rows { (card : Card) → HasItsRow keeper.now.cabin.cards (M.state unit.old) card → OnOk result (HasItsRow keeper.now.cabin.cards (M.state unit.new) card) }
@@ -45,6 +46,7 @@ pub(crate) fn note_overlap<M: Medium>(
     requires ready { UnitReady keeper.now (M.state unit.old) }
     requires begin { second ≢ 0 }
     ensures noted { OnOk result (IfSome (M.state unit.old).image (λ x. IfSome (M.state unit.new).image (IsEventNoted TIME_OVERLAP (fault_bytes (entry_of TIME_OVERLAP second stored (crew_of keeper.now.cabin) (crew_of keeper.now.cabin))) x))) }
+    ensures moments { LeavesOnly (M.state unit.old) (M.state unit.new) (IsNotingEvent TIME_OVERLAP (fault_bytes (entry_of TIME_OVERLAP second stored (crew_of keeper.now.cabin) (crew_of keeper.now.cabin)))) }
     ensures journal { LeavesOnly (M.state unit.old) (M.state unit.new) LeavesJournal }
     ensures ready { OnOk result (UnitReady keeper.now (M.state unit.new)) }
     ensures rows { (card : Card) → HasItsRow keeper.now.cabin.cards (M.state unit.old) card → OnOk result (HasItsRow keeper.now.cabin.cards (M.state unit.new) card) }
@@ -65,6 +67,7 @@ pub(crate) fn note_driving<M: Medium>(
     requires ready { UnitReady keeper.now (M.state unit.old) }
     requires begin { second ≢ 0 }
     ensures noted { OnOk result (IfSome (M.state unit.old).image (λ x. IfSome (M.state unit.new).image (IsEventNoted INSERTION_WHILE_DRIVING (fault_bytes (entry_of INSERTION_WHILE_DRIVING second second (crew_of keeper.now.cabin) (crew_of keeper.now.cabin))) x))) }
+    ensures moments { LeavesOnly (M.state unit.old) (M.state unit.new) (IsNotingEvent INSERTION_WHILE_DRIVING (fault_bytes (entry_of INSERTION_WHILE_DRIVING second second (crew_of keeper.now.cabin) (crew_of keeper.now.cabin)))) }
     ensures journal { LeavesOnly (M.state unit.old) (M.state unit.new) LeavesJournal }
     ensures ready { OnOk result (UnitReady keeper.now (M.state unit.new)) }
     ensures rows { (card : Card) → HasItsRow keeper.now.cabin.cards (M.state unit.old) card → OnOk result (HasItsRow keeper.now.cabin.cards (M.state unit.new) card) }
@@ -84,6 +87,7 @@ pub(crate) fn note_unclosed<M: Medium>(
     requires ready { UnitReady keeper.now (M.state unit.old) }
     requires begin { session ≢ 0 }
     ensures noted { OnOk result (IfSome (M.state unit.old).image (λ x. IfSome (M.state unit.new).image (IsEventNoted SESSION_NOT_CLOSED (fault_bytes (entry_of SESSION_NOT_CLOSED session second (crew_of keeper.now.cabin) (crew_of keeper.now.cabin))) x))) }
+    ensures moments { LeavesOnly (M.state unit.old) (M.state unit.new) (IsNotingEvent SESSION_NOT_CLOSED (fault_bytes (entry_of SESSION_NOT_CLOSED session second (crew_of keeper.now.cabin) (crew_of keeper.now.cabin)))) }
     ensures journal { LeavesOnly (M.state unit.old) (M.state unit.new) LeavesJournal }
     ensures ready { OnOk result (UnitReady keeper.now (M.state unit.new)) }
     ensures rows { (card : Card) → HasItsRow keeper.now.cabin.cards (M.state unit.old) card → OnOk result (HasItsRow keeper.now.cabin.cards (M.state unit.new) card) }

@@ -1,14 +1,15 @@
 //! A card that is found to be accepted is so: its insertion is noted, its row begins, and what comes with it is noted.
 ghost use Rattle.std.specs.Prelude.{◌≡◌, ◌≢◌, ℕ, ◌+◌, ◌/◌, ◌<◌, ◌≤◌, ◌^◌, Bool, true, false, Option, Some, None, Ok, IfSome, OnOk, length, is_some, is_err};
 ghost use Rattle.trace_model.specs.declared.Card.{Card};
-ghost use Rattle.tach_media.specs.Medium.{HasCause, HasBroken};
+ghost use Rattle.tach_media.specs.Medium.{HasCause};
 ghost use Rattle.card_commands.specs.Ports.{IsPort};
 ghost use Rattle.slot_machine.specs.Calls.{seat_in, is_card};
 ghost use Rattle.log_model.specs.Slots.{other_slot};
 ghost use Rattle.run_crew.specs.Cards.{known_of, session_of};
 ghost use Rattle.run_crew.specs.Cabin.{Stands};
 ghost use Rattle.run_keeping.specs.Keeping.{UnitReady, CardReady, HasItsRow};
-ghost use Rattle.run_entering.specs.Entering.{Ending, IsSeated, IsNotedOn, IsJudgedSo, IsEnding, IsLeft, count_of, falls_of, taken_as};
+ghost use Rattle.run_entering.specs.Entering.{taken_as};
+ghost use Rattle.run_entering.specs.Entered.{IsSeated, IsMoved, IsNotedOn, IsEntry, IsTaken};
 
 use crate::lines::{Entering, find, insertion_of, other_card, tell_replayed};
 use crate::noting::{note_driving, note_unclosed};
@@ -42,7 +43,7 @@ fn seat<M: Medium, C: Chip, D: Chip>(
     requires sizes { (known_of keeper.old.cabin.cards entering.which).sizes ≡ Ok session.application }
     requires second { entering.at.second ≢ 0 }
     requires fits { entering.odometer.0 < 2 ^ 24 }
-    ensures seated { (entry : Option ℕ) × IsSeated look.now session entering (is_err result) keeper.old keeper.new noted.old noted.new entry }
+    ensures seated { (entry : Option ℕ) × IsSeated look.now session entering (is_err result) keeper.old keeper.new noted.old noted.new (M.state unit.old) (M.state unit.new) entry }
     ensures ready { OnOk result (UnitReady keeper.new (M.state unit.new)) }
     ensures rows { (card : Card) → HasItsRow keeper.old.cabin.cards (M.state unit.old) card → OnOk result (HasItsRow keeper.new.cabin.cards (M.state unit.new) card) }
     ensures row { OnOk result (HasItsRow keeper.new.cabin.cards (M.state unit.new) entering.which) }
@@ -90,7 +91,7 @@ fn note_moving<M: Medium, C: Chip>(
     requires works { (C.state card.old).works ≡ true }
     requires sizes { (known_of keeper.old.cabin.cards entering.which).sizes ≡ Ok app }
     requires room { length breaks.old.items < breaks.old.room }
-    ensures noted { (fell : Bool) × IsNotedOn fell entering keeper.old keeper.new breaks.old breaks.new × HasBroken (C.state card.old) (C.state card.new) (count_of fell) }
+    ensures noted { (fell : Bool) × IsMoved app entering (is_err result) keeper.old keeper.new breaks.old breaks.new (M.state unit.old) (M.state unit.new) (C.state card.old) (C.state card.new) fell }
     ensures ready { OnOk result (UnitReady keeper.new (M.state unit.new)) }
     ensures rows { (card : Card) → HasItsRow keeper.old.cabin.cards (M.state unit.old) card → OnOk result (HasItsRow keeper.new.cabin.cards (M.state unit.new) card) }
     ensures stands { (from : ℕ) → keeper.old.cabin.slots.minute ≤ from → Stands from None keeper.old.cabin → Stands from None keeper.new.cabin }
@@ -127,7 +128,7 @@ fn note_entered<M: Medium, C: Chip>(
     requires works { (C.state card.old).works ≡ true }
     requires sizes { (known_of keeper.old.cabin.cards entering.which).sizes ≡ Ok app }
     requires room { length breaks.old.items < breaks.old.room }
-    ensures noted { (fell : Bool) × IsNotedOn fell entering keeper.old keeper.new breaks.old breaks.new × HasBroken (C.state card.old) (C.state card.new) (count_of fell) }
+    ensures noted { (fell : Bool) × IsNotedOn app session entering (is_err result) keeper.old keeper.new breaks.old breaks.new (M.state unit.old) (M.state unit.new) (C.state card.old) (C.state card.new) fell }
     ensures ready { OnOk result (UnitReady keeper.new (M.state unit.new)) }
     ensures rows { (card : Card) → HasItsRow keeper.old.cabin.cards (M.state unit.old) card → OnOk result (HasItsRow keeper.new.cabin.cards (M.state unit.new) card) }
     ensures stands { (from : ℕ) → keeper.old.cabin.slots.minute ≤ from → Stands from None keeper.old.cabin → Stands from None keeper.new.cabin }
@@ -169,8 +170,8 @@ pub(crate) fn take_in<M: Medium, C: Chip, D: Chip>(
     requires works { (C.state card.old).works ≡ true }
     requires breaks { length outcome.old.breaks.items < outcome.old.breaks.room }
     requires finds { length outcome.old.finds.items < outcome.old.finds.room }
-    ensures ended { (fell : Bool) × (entry : Option ℕ) × IsEnding (taken_as fell entered (C.state card.old).clock entry) (is_err result) × IsLeft (taken_as fell entered (C.state card.old).clock entry) entering keeper.old keeper.new noted.old noted.new outcome.old outcome.new
-        × HasBroken (C.state card.old) (C.state card.new) (falls_of (taken_as fell entered (C.state card.old).clock entry)) }
+    ensures ended { (fell : Bool) × (entry : Option ℕ) × IsEntry entry (is_err result) (M.state unit.old).image
+        × IsTaken app entering (is_err result) keeper.old keeper.new noted.old noted.new outcome.old outcome.new (M.state unit.old) (M.state unit.new) (C.state card.old) (C.state card.new) (taken_as fell entered (C.state card.old).clock entry) }
     ensures ready { OnOk result (UnitReady keeper.new (M.state unit.new)) }
     ensures rows { (card : Card) → HasItsRow keeper.old.cabin.cards (M.state unit.old) card → OnOk result (HasItsRow keeper.new.cabin.cards (M.state unit.new) card) }
     ensures row { IfSome (session_of keeper.new.cabin.cards entering.which) (λ a. OnOk result (HasItsRow keeper.new.cabin.cards (M.state unit.new) entering.which)) }

@@ -2,7 +2,7 @@
 ghost use Rattle.std.specs.Prelude.{◌≡◌, ◌≤◌, IfOk, is_err};
 ghost use Rattle.card_layout.specs.Application.{place_of_field};
 ghost use Rattle.tach_media.specs.Medium.{LeavesOnly, Unchanged, HasCause, revivable};
-ghost use Rattle.run_entering.specs.Entering.{IsMeasured};
+ghost use Rattle.run_entering.specs.Entered.{IsMeasured};
 
 use card_commands::{PortFault, read_sizes};
 use card_layout::{Application, LARGEST_IMAGE};

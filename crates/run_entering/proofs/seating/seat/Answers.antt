@@ -19,12 +19,12 @@ returns-clause-rows g c = λ card h.
     let V = g.M.Medium.state c.begin.new.unit in
     let number = c.args.look.now.number in
     on_ok c.begin.result (λ well.
-      subst (λ (b : Cabin). HasItsRow b.cards V card) (sym c.accept.ensures.kept)
-      (rows-seated c.args.entering.slot c.args.entering.which card number _ c.args.keeper.now.cabin (g.M.Medium.state c.note_insertion.new.unit) V
-      (ok_gives c.begin.result c.begin.ensures.row well)
-      (λ n told differ had. ok_gives c.begin.result (c.begin.ensures.spares n (search (rules, told)) differ had) well)
-      (record {
-        number = h.number;
-        told = h.told;
-        row = row-noted (g.met.M.Medium.coherent c.args.unit.now) (g.met.M.Medium.coherent c.note_insertion.new.unit) c.requires.ready.works c.note_insertion.ensures.journal (card_number_bytes h.number) h.row;
-      })))
+    subst (λ (b : Cabin). HasItsRow b.cards V card) (sym c.accept.ensures.kept)
+    (rows-seated c.args.entering.slot c.args.entering.which card number _ c.args.keeper.now.cabin (g.M.Medium.state c.note_insertion.new.unit) V
+    (ok_gives c.begin.result c.begin.ensures.row well)
+    (λ n told differ had. ok_gives c.begin.result (c.begin.ensures.spares n (search (rules, told)) differ had) well)
+    (record {
+      number = h.number;
+      told = h.told;
+      row = row-noted (g.met.M.Medium.coherent c.args.unit.now) (g.met.M.Medium.coherent c.note_insertion.new.unit) c.requires.ready.works c.note_insertion.ensures.journal (card_number_bytes h.number) h.row;
+    })))
