@@ -93,6 +93,10 @@ and_marks device clock (e ∷ es) marks = and_marks device clock es (and_mark (r
 abbrev pub last_of : List Entry → (many : ℕ) → List Entry
 last_of es many = drop (length es - many) es
 
+-- so many entries are owed to a card at most
+abbrev pub most_owed : ℕ
+most_owed = 4
+
 -- the marks of the entries that were put on a card that is accepted
 abbrev pub replayed_marks : Entered → (clock : ℕ) → Entering → Listed Mark → Listed Mark
 replayed_marks entered clock e marks = and_marks (device_of e.which) clock (last_of entered.owed.items entered.replayed) marks

@@ -82,10 +82,10 @@ abbrev pub moved_notes : (fell : Bool) → Entering → Cabin → List UnitNote
 moved_notes false e cabin = event_of INSERTION_WHILE_DRIVING e.at.second e.at.second cabin ∷ []
 moved_notes true e cabin = event_of INSERTION_WHILE_DRIVING e.at.second e.at.second cabin ∷ fault_of e cabin ∷ []
 
--- what comes with an accepted card; which was torn out meanwhile, or was not
+-- What comes with an accepted card, which was torn out meanwhile, or was not: the events have the cards that were accepted before.
 abbrev pub notes_with : (fell : Bool) → (session : ℕ) → Entering → Cabin → List UnitNote
 notes_with false session e cabin = moving_notes e cabin ++ unclosed_notes session e cabin
-notes_with true session e cabin = moving_notes e cabin ++ fault_of e cabin ∷ unclosed_notes session e (torn_out e.which e.at.second cabin)
+notes_with true session e cabin = moving_notes e cabin ++ fault_of e cabin ∷ unclosed_notes session e cabin
 
 -- THE INSERTION, and then the row of the card, with now as its session
 abbrev pub row_of : CardLook → Entering → Cabin → UnitNote

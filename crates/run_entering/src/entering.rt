@@ -11,7 +11,7 @@ ghost use Rattle.run_keeping.specs.Keeping.{UnitReady, CardReady, HasItsRow};
 ghost use Rattle.card_layout.specs.declared.files.TheConstants.{LARGEST_IMAGE};
 ghost use Rattle.card_judge.specs.Judged.{TellsSizes};
 ghost use Rattle.card_session.specs.declared.words.TheConstants.{LATEST_MINUTE};
-ghost use Rattle.run_entering.specs.Entering.{Ending, Way, Unfit, Ahead, outcome_by};
+ghost use Rattle.run_entering.specs.Entering.{Ending, Way, Unfit, Ahead, outcome_by, most_owed};
 ghost use Rattle.run_entering.specs.Noted.{HasNoted, IsOnUnit, IsComing, notes_by};
 ghost use Rattle.run_entering.specs.Entered.{IsJudgedSo, HasEntered};
 
@@ -105,6 +105,7 @@ fn accept_by<M: Medium, C: Chip, D: Chip>(
     requires works { (C.state card.old).works ≡ true }
     requires breaks { length outcome.old.breaks.items < outcome.old.breaks.room }
     requires finds { length outcome.old.finds.items < outcome.old.finds.room }
+    ensures marks { (outcome.new.marks.room ≡ outcome.old.marks.room) × (length outcome.new.marks.items ≤ length outcome.old.marks.items + most_owed) }
     ensures ended { (ending : Ending) × IsJudgedSo app entering (is_err result) keeper.old keeper.new noted.old noted.new outcome.old outcome.new (M.state unit.old) (M.state unit.new) (C.state card.old) (C.state card.new) ending }
     ensures ready { OnOk result (UnitReady keeper.new (M.state unit.new)) }
     ensures rows { (card : Card) → HasItsRow keeper.old.cabin.cards (M.state unit.old) card → OnOk result (HasItsRow keeper.new.cabin.cards (M.state unit.new) card) }
@@ -174,6 +175,7 @@ pub fn accept<M: Medium, C: Chip, D: Chip>(
     requires size { LARGEST_IMAGE ≤ (C.state card.old).size }
     requires breaks { length outcome.old.breaks.items < outcome.old.breaks.room }
     requires finds { length outcome.old.finds.items < outcome.old.finds.room }
+    ensures marks { (outcome.new.marks.room ≡ outcome.old.marks.room) × (length outcome.new.marks.items ≤ length outcome.old.marks.items + most_owed) }
     ensures entered { (way : Way) × HasEntered entering (is_err result) keeper.old keeper.new noted.old noted.new outcome.old outcome.new (M.state unit.old) (M.state unit.new) (C.state card.old) (C.state card.new) way }
     ensures ready { OnOk result (UnitReady keeper.new (M.state unit.new)) }
     ensures rows { (card : Card) → HasItsRow keeper.old.cabin.cards (M.state unit.old) card → OnOk result (HasItsRow keeper.new.cabin.cards (M.state unit.new) card) }

@@ -1,9 +1,9 @@
 //! What is told of a card that enters.
-ghost use Rattle.std.specs.Prelude.{◌≡◌, ◌<◌, ℕ, ◌∷◌, [], length, drop};
+ghost use Rattle.std.specs.Prelude.{◌≡◌, ◌<◌, ◌≤◌, ◌+◌, ℕ, ◌∷◌, [], length, drop};
 ghost use Rattle.joint_rule.specs.Views.{other};
 ghost use Rattle.log_model.specs.Causes.{device_of};
 ghost use Rattle.run_keeping.specs.Keeping.{with_lines};
-ghost use Rattle.run_entering.specs.Entering.{find_of, and_mark, and_marks, last_of, slot_number, previous_of, previous_time_of, insertion_of};
+ghost use Rattle.run_entering.specs.Entering.{find_of, and_mark, and_marks, last_of, most_owed, slot_number, previous_of, previous_time_of, insertion_of};
 
 use activity_codec::{Entry, Owed, Slot};
 use card_judge::CardLook;
@@ -61,6 +61,8 @@ pub(crate) fn find(entering: Entering, verdict: Verdict, finds: &mut Lines<Find>
 // A mark is told, where there is room.
 fn tell_mark(mark: Mark, marks: &mut Lines<Mark>)
     ensures told { marks.new ≡ and_mark mark marks.old }
+    ensures room { marks.new.room ≡ marks.old.room }
+    ensures few { length marks.new.items ≤ length marks.old.items + 1 }
 {
     marks.add_if_room(mark);
 }
@@ -68,6 +70,8 @@ fn tell_mark(mark: Mark, marks: &mut Lines<Mark>)
 // The last ones of these entries, so many, are marked of a card.
 pub(crate) fn tell_replayed(which: Card, owed: &Owed, many: u8, clock: u64, marks: &mut Lines<Mark>)
     ensures told { marks.new ≡ and_marks (device_of which) clock (last_of owed.now.items many) marks.old }
+    ensures room { marks.new.room ≡ marks.old.room }
+    ensures few { length marks.new.items ≤ length marks.old.items + most_owed }
 {
     let device = device_of(which);
     let entries = owed.as_slice();

@@ -10,6 +10,7 @@ ghost use Rattle.run_notes.specs.Entries.{entry_of};
 ghost use Rattle.run_crew.specs.Cabin.{crew_of};
 ghost use Rattle.run_keeping.specs.Keeping.{UnitReady, HasItsRow};
 
+use run_crew::Crew;
 use run_keeping::Keeper;
 use run_notes::{card_driving, card_not_valid, card_overlap, card_unclosed};
 use tach_media::{Failed, Medium};
@@ -80,20 +81,20 @@ pub(crate) fn note_driving<M: Medium>(
 // The session of a card that is accepted was left open since another.
 pub(crate) fn note_unclosed<M: Medium>(
     keeper: &Keeper,
+    crew: Crew,
     second: u32,
     session: u32,
     unit: &mut M,
 ) -> Result<(), Failed>
     requires ready { UnitReady keeper.now (M.state unit.old) }
     requires begin { session ≢ 0 }
-    ensures noted { OnOk result (IfSome (M.state unit.old).image (λ x. IfSome (M.state unit.new).image (IsEventNoted SESSION_NOT_CLOSED (fault_bytes (entry_of SESSION_NOT_CLOSED session second (crew_of keeper.now.cabin) (crew_of keeper.now.cabin))) x))) }
-    ensures moments { LeavesOnly (M.state unit.old) (M.state unit.new) (IsNotingEvent SESSION_NOT_CLOSED (fault_bytes (entry_of SESSION_NOT_CLOSED session second (crew_of keeper.now.cabin) (crew_of keeper.now.cabin)))) }
+    ensures noted { OnOk result (IfSome (M.state unit.old).image (λ x. IfSome (M.state unit.new).image (IsEventNoted SESSION_NOT_CLOSED (fault_bytes (entry_of SESSION_NOT_CLOSED session second crew crew)) x))) }
+    ensures moments { LeavesOnly (M.state unit.old) (M.state unit.new) (IsNotingEvent SESSION_NOT_CLOSED (fault_bytes (entry_of SESSION_NOT_CLOSED session second crew crew))) }
     ensures journal { LeavesOnly (M.state unit.old) (M.state unit.new) LeavesJournal }
     ensures ready { OnOk result (UnitReady keeper.now (M.state unit.new)) }
     ensures rows { (card : Card) → HasItsRow keeper.now.cabin.cards (M.state unit.old) card → OnOk result (HasItsRow keeper.now.cabin.cards (M.state unit.new) card) }
     ensures cause { HasCause (M.state unit.old) (M.state unit.new) (is_err result) }
 {
-    let crew = keeper.cabin.crew();
     keeper
         .memory
         .note_event(unit, &card_unclosed(session, second, crew))

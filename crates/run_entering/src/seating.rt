@@ -8,7 +8,7 @@ ghost use Rattle.log_model.specs.Slots.{other_slot};
 ghost use Rattle.run_crew.specs.Cards.{known_of, session_of};
 ghost use Rattle.run_crew.specs.Cabin.{Stands};
 ghost use Rattle.run_keeping.specs.Keeping.{UnitReady, CardReady, HasItsRow};
-ghost use Rattle.run_entering.specs.Entering.{taken_as};
+ghost use Rattle.run_entering.specs.Entering.{taken_as, most_owed};
 ghost use Rattle.run_entering.specs.Entered.{IsSeated, IsMoved, IsNotedOn, IsEntry, IsTaken};
 
 use crate::lines::{Entering, find, insertion_of, other_card, tell_replayed};
@@ -50,6 +50,7 @@ fn seat<M: Medium, C: Chip, D: Chip>(
     ensures stands { (from : ℕ) → keeper.old.cabin.slots.minute ≤ from → Stands from None keeper.old.cabin → Stands from None keeper.new.cabin }
     ensures cause { HasCause (M.state unit.old) (M.state unit.new) (is_err result) }
 {
+    let begin_second = entering.at.second;
     let entry = keeper
         .memory
         .note_insertion(unit, &insertion_of(look, entering))?;
@@ -70,7 +71,7 @@ fn seat<M: Medium, C: Chip, D: Chip>(
         others,
         entering.which,
         &look.number,
-        entering.at.second,
+        begin_second,
         spared.as_ref(),
     )
 }
@@ -136,13 +137,14 @@ fn note_entered<M: Medium, C: Chip>(
     ensures card { CardReady (known_of keeper.new.cabin.cards entering.which) (C.card card.new) (C.state card.new) }
     ensures size { (C.state card.new).size ≡ (C.state card.old).size }
 {
+    let crew = keeper.cabin.crew();
     if entering.speed > 0 {
         note_moving(keeper, entering, app, unit, card, breaks)?;
     }
     if session == 0 {
         return Ok(());
     }
-    note_unclosed(keeper, entering.at.second, session, unit)
+    note_unclosed(keeper, crew, entering.at.second, session, unit)
 }
 
 // A card that is found to be accepted: that is told, the entries that were owed to it are marked, and it is seated.
@@ -170,6 +172,7 @@ pub(crate) fn take_in<M: Medium, C: Chip, D: Chip>(
     requires works { (C.state card.old).works ≡ true }
     requires breaks { length outcome.old.breaks.items < outcome.old.breaks.room }
     requires finds { length outcome.old.finds.items < outcome.old.finds.room }
+    ensures marks { (outcome.new.marks.room ≡ outcome.old.marks.room) × (length outcome.new.marks.items ≤ length outcome.old.marks.items + most_owed) }
     ensures ended { (fell : Bool) × (entry : Option ℕ) × IsEntry entry (is_err result) (M.state unit.old).image
         × IsTaken app entering (is_err result) keeper.old keeper.new noted.old noted.new outcome.old outcome.new (M.state unit.old) (M.state unit.new) (C.state card.old) (C.state card.new) (taken_as fell entered (C.state card.old).clock entry) }
     ensures ready { OnOk result (UnitReady keeper.new (M.state unit.new)) }
