@@ -148,7 +148,7 @@ module _ (app : Application) (session : ℕ) (e : Entering) (k v : Keeper) (brea
       ) (on-card failed m)
 
 -- a vehicle that stands
-module _ (app : Application) (session : ℕ) (e : Entering) (k : Keeper) (breaks : Listed Break) (U V X : State) (rests : 0 < e.speed → ⊥) (failed : Bool) where
+module _ (app : Application) (session : ℕ) (e : Entering) (k : Keeper) (breaks : Listed Break) (U V X : State) (rests : e.speed ≤ 0) (failed : Bool) where
   rested : HasNoted IsOnUnit IsComing (unclosed_notes session e k.cabin) failed U V → IsNotedOn app session e failed k k breaks breaks U V X X false
   rested notes = record {
     keeper = refl;
@@ -163,7 +163,7 @@ module _ (app : Application) (session : ℕ) (e : Entering) (k : Keeper) (breaks
   pub rests-unclosed : session ≢ 0 → HasNoted IsOnUnit IsComing (event_of SESSION_NOT_CLOSED session e.at.second k.cabin ∷ []) failed U V → IsNotedOn app session e failed k k breaks breaks U V X X false
   rests-unclosed some next = rested (notes-as IsOnUnit IsComing (sym (unclosed-some session e k.cabin some)) next)
 
-pub rests-closed : (app : Application) (session : ℕ) (e : Entering) (k : Keeper) (breaks : Listed Break) (U X : State) → (0 < e.speed → ⊥) → session ≡ 0 → IsNotedOn app session e false k k breaks breaks U U X X false
+pub rests-closed : (app : Application) (session : ℕ) (e : Entering) (k : Keeper) (breaks : Listed Break) (U X : State) → e.speed ≤ 0 → session ≡ 0 → IsNotedOn app session e false k k breaks breaks U U X X false
 rests-closed app session e k breaks U X rests none =
     rested app session e k breaks U U X rests false (notes-as IsOnUnit IsComing (sym (unclosed-none session e k.cabin none)) (no-notes IsOnUnit IsComing false U))
 

@@ -21,6 +21,7 @@ use Rattle.device_steps.specs.declared.entering.Entered.{Entered}
 use Rattle.device_steps.specs.declared.entering.NotEntered.{NotEntered}
 use Rattle.device_steps.specs.declared.entering.NotEntered.TheVariants.{UnitFailed, CardFailed, NotValid, TimeOverlap}
 use Rattle.device_steps.specs.Entering.{IsEntering, IsAccepted, owed_on}
+use Rattle.run_crew.specs.declared.cabin.Cabin.{Cabin}
 use Rattle.run_outcome.specs.Lines.{Listed}
 use Rattle.run_outcome.specs.declared.outcome.Outcome.{Outcome}
 use Rattle.run_keeping.specs.declared.keeper.Keeper.{Keeper}
@@ -35,6 +36,16 @@ use Rattle.run_entering.proofs.Accepted.{kept-broken, fell-broken}
 
 outcome-lines : (o : Outcome) (breaks : Listed Break) (finds : Listed Find) → record o { breaks = breaks } ≡ record o { breaks = with_lines [] breaks; finds = with_lines [] o.finds }
 outcome-lines o breaks finds = ap (λ (l : Listed Break). record o { breaks = l }) (no-lines breaks) ∙ ap (λ (l : Listed Find). record o { breaks = with_lines [] breaks; finds = l }) (no-lines o.finds)
+
+-- the same by other names of what was found
+pub unfit-told : (e : Entering) (o p : Outcome) (f fid : Fid) (t place : ℕ) → p ≡ outcome_by (Unfit f t) e o → f ≡ fid → t ≡ place → p ≡ outcome_by (Unfit fid place) e o
+unfit-told e o p f fid t place told one two = told ∙ ap (λ (g : Fid). outcome_by (Unfit g t) e o) one ∙ ap (λ (u : ℕ). outcome_by (Unfit fid u) e o) two
+
+pub ahead-told : (e : Entering) (o p : Outcome) (t stored : ℕ) → p ≡ outcome_by (Ahead t) e o → t ≡ stored → p ≡ outcome_by (Ahead stored) e o
+ahead-told e o p t stored told one = told ∙ ap (λ (u : ℕ). outcome_by (Ahead u) e o) one
+
+pub ahead-noted : (e : Entering) (cabin : Cabin) (t stored : ℕ) {failed : Bool} {U V : State} → HasNoted IsOnUnit IsComing (notes_by (Ahead t) e 0 cabin) failed U V → t ≡ stored → HasNoted IsOnUnit IsComing (notes_by (Ahead stored) e 0 cabin) failed U V
+ahead-noted e cabin t stored {failed} {U} {V} notes one = subst (λ (u : ℕ). HasNoted IsOnUnit IsComing (notes_by (Ahead u) e 0 cabin) failed U V) one notes
 
 module _ (app : Application) (e : Entering) (k : Keeper) (noted : ℕ) (o : Outcome) (U V X M : State) where
   abbrev vehicle : Registration

@@ -104,7 +104,7 @@ module _ {T : Type 0} (done moment : T → List ℕ → List ℕ → Type 0) whe
 pub lt_some : (n : ℕ) → 0 < n → nat_lt 0 n ≡ true
 lt_some n some = grind (arith, nat_tests)
 
-lt_none : (n : ℕ) → (0 < n → ⊥) → nat_lt 0 n ≡ false
+lt_none : (n : ℕ) → n ≤ 0 → nat_lt 0 n ≡ false
 lt_none n none = grind (arith, nat_tests)
 
 eq_none : (n : ℕ) → n ≡ 0 → nat_eq n 0 ≡ true
@@ -116,7 +116,7 @@ eq_some n some = grind (arith, nat_tests)
 pub moving-some : (e : Entering) (cabin : Cabin) → 0 < e.speed → moving_notes e cabin ≡ event_of INSERTION_WHILE_DRIVING e.at.second e.at.second cabin ∷ []
 moving-some e cabin some = ap (λ (b : Bool). if b then event_of INSERTION_WHILE_DRIVING e.at.second e.at.second cabin ∷ [] else []) (lt_some e.speed some)
 
-pub moving-none : (e : Entering) (cabin : Cabin) → (0 < e.speed → ⊥) → moving_notes e cabin ≡ []
+pub moving-none : (e : Entering) (cabin : Cabin) → e.speed ≤ 0 → moving_notes e cabin ≡ []
 moving-none e cabin none = ap (λ (b : Bool). if b then event_of INSERTION_WHILE_DRIVING e.at.second e.at.second cabin ∷ [] else []) (lt_none e.speed none)
 
 pub unclosed-none : (session : ℕ) (e : Entering) (cabin : Cabin) → session ≡ 0 → unclosed_notes session e cabin ≡ []
@@ -129,13 +129,13 @@ pub with-moved : (fell : Bool) (session : ℕ) (e : Entering) (cabin : Cabin) �
 with-moved false session e cabin some = ap (λ (ns : List UnitNote). ns ++ unclosed_notes session e cabin) (sym (moving-some e cabin some))
 with-moved true session e cabin some = ap (λ (ns : List UnitNote). ns ++ fault_of e cabin ∷ unclosed_notes session e cabin) (sym (moving-some e cabin some))
 
-pub with-rest : (session : ℕ) (e : Entering) (cabin : Cabin) → (0 < e.speed → ⊥) → unclosed_notes session e cabin ≡ notes_with false session e cabin
+pub with-rest : (session : ℕ) (e : Entering) (cabin : Cabin) → e.speed ≤ 0 → unclosed_notes session e cabin ≡ notes_with false session e cabin
 with-rest session e cabin none = ap (λ (ns : List UnitNote). ns ++ unclosed_notes session e cabin) (sym (moving-none e cabin none))
 
 pub card-moving : (vehicle : Registration) (e : Entering) → 0 < e.speed → Shows (moving_event vehicle e) ∷ [] ≡ moving_on_card vehicle e
 card-moving vehicle e some = sym (ap (λ (b : Bool). if b then Shows (moving_event vehicle e) ∷ [] else []) (lt_some e.speed some))
 
-pub card-resting : (vehicle : Registration) (e : Entering) → (0 < e.speed → ⊥) → [] ≡ moving_on_card vehicle e
+pub card-resting : (vehicle : Registration) (e : Entering) → e.speed ≤ 0 → [] ≡ moving_on_card vehicle e
 card-resting vehicle e none = sym (ap (λ (b : Bool). if b then Shows (moving_event vehicle e) ∷ [] else []) (lt_none e.speed none))
 
 -- ---- by what the calls say

@@ -38,9 +38,12 @@ returns-then-session-eq0-clause-noted g c =
     let U = g.M.Medium.state c.args.unit.now in
     let X = g.C.Chip.state c.args.card.now in
     elim c.if-entering-gt0.branch [
-      then-entering-gt0+in_ok-note_moving w ↦ let m = w.in_ok-note_moving.ensures.noted in
-          rw (w.keeper-is, w.breaks-is, w.unit-is, w.card-is) (m.0, entered-closed c.args.app c.args.session e k w.note_moving.new.keeper c.args.breaks.now w.note_moving.new.breaks U (g.M.Medium.state w.note_moving.new.unit) X (g.C.Chip.state w.note_moving.new.card)
-          m.0 w.if-entering-gt0.true c.if-session-eq0.true m.1)
+      | then-entering-gt0+in_ok-note_moving w ↦ let m = w.in_ok-note_moving.ensures.noted in
+          rw (w.keeper-is, w.breaks-is, w.unit-is, w.card-is) (
+            m.0,
+            entered-closed c.args.app c.args.session e k w.note_moving.new.keeper c.args.breaks.now w.note_moving.new.breaks U (g.M.Medium.state w.note_moving.new.unit) X (g.C.Chip.state w.note_moving.new.card)
+                m.0 w.if-entering-gt0.true c.if-session-eq0.true m.1,
+          )
       | else-entering-gt0 w ↦ rw (w.keeper-is, w.breaks-is, w.unit-is, w.card-is) (false, rests-closed c.args.app c.args.session e k c.args.breaks.now U X w.if-entering-gt0.false c.if-session-eq0.true)
     ]
 
@@ -52,9 +55,15 @@ returns-clause-noted g c =
     let X = g.C.Chip.state c.args.card.now in
     let next = unclosed-noted c.args.session e.at.second c.crew-crew.result k.cabin c.note_unclosed.result c.crew-crew.ensures c.note_unclosed.ensures.noted c.note_unclosed.ensures.moments in
     elim c.if-entering-gt0.branch [
-      then-entering-gt0+in_ok-note_moving w ↦ let m = w.in_ok-note_moving.ensures.noted in
-          rw (w.keeper-is, w.breaks-is, w.card-is) (m.0, entered-unclosed c.args.app c.args.session e k w.note_moving.new.keeper c.args.breaks.now w.note_moving.new.breaks U (g.M.Medium.state w.note_moving.new.unit) X (g.C.Chip.state w.note_moving.new.card)
-          m.0 w.if-entering-gt0.true (is_err c.note_unclosed.result) (g.M.Medium.state c.note_unclosed.new.unit) c.if-session-eq0.false m.1 (rw w.unit-is at next))
-      | else-entering-gt0 w ↦ rw (w.keeper-is, w.breaks-is, w.card-is) (false, rests-unclosed c.args.app c.args.session e k c.args.breaks.now U (g.M.Medium.state c.note_unclosed.new.unit) X w.if-entering-gt0.false (is_err c.note_unclosed.result)
-          c.if-session-eq0.false (rw w.unit-is at next))
+      | then-entering-gt0+in_ok-note_moving w ↦ let m = w.in_ok-note_moving.ensures.noted in
+          rw (w.keeper-is, w.breaks-is, w.card-is) (
+            m.0,
+            entered-unclosed c.args.app c.args.session e k w.note_moving.new.keeper c.args.breaks.now w.note_moving.new.breaks U (g.M.Medium.state w.note_moving.new.unit) X (g.C.Chip.state w.note_moving.new.card)
+                m.0 w.if-entering-gt0.true (is_err c.note_unclosed.result) (g.M.Medium.state c.note_unclosed.new.unit) c.if-session-eq0.false m.1 (rw w.unit-is at next),
+          )
+      | else-entering-gt0 w ↦ rw (w.keeper-is, w.breaks-is, w.card-is) (
+        false,
+        rests-unclosed c.args.app c.args.session e k c.args.breaks.now U (g.M.Medium.state c.note_unclosed.new.unit) X w.if-entering-gt0.false (is_err c.note_unclosed.result)
+            c.if-session-eq0.false (rw w.unit-is at next),
+      )
     ]

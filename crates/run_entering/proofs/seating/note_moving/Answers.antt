@@ -28,17 +28,21 @@ returns-in_err-note_driving-clause-noted g c =
 pub returns-in-Ok-clause-noted : goal.returns-in-Ok-clause-noted
 returns-in-Ok-clause-noted g c =
     let k = c.args.keeper.now in
-    let e = c.args.entering in
-    (false, moved-kept c.args.app e k c.args.breaks.now (g.M.Medium.state c.args.unit.now) (g.M.Medium.state c.note_driving.new.unit) (g.C.Chip.state c.args.card.now) (g.C.Chip.state c.note_event_on.new.card) c.on_card-event.result
-        (event-is _ _ _ _ e _ c.on_card-event.ensures c.card_driving.ensures c.identity.ensures) c.note_event_on.ensures.moments c.note_event_on.ensures.most
-        (one-note IsOnUnit IsComing (event_of INSERTION_WHILE_DRIVING e.at.second e.at.second k.cabin) (λ well. c.in_ok-note_driving.ensures.noted) c.note_driving.ensures.moments) c.in-Ok.ensures.noted c.in-Ok.ensures.cause)
+    let e = c.args.entering in (
+      false,
+      moved-kept c.args.app e k c.args.breaks.now (g.M.Medium.state c.args.unit.now) (g.M.Medium.state c.note_driving.new.unit) (g.C.Chip.state c.args.card.now) (g.C.Chip.state c.note_event_on.new.card) c.on_card-event.result
+          (event-is _ _ _ _ e c.crew.result c.on_card-event.ensures c.card_driving.ensures c.identity.ensures) c.note_event_on.ensures.moments c.note_event_on.ensures.most
+          (one-note IsOnUnit IsComing (event_of INSERTION_WHILE_DRIVING e.at.second e.at.second k.cabin) (λ well. c.in_ok-note_driving.ensures.noted) c.note_driving.ensures.moments) c.in-Ok.ensures.noted c.in-Ok.ensures.cause,
+    )
 
 pub returns-in-Err-clause-noted : goal.returns-in-Err-clause-noted
 returns-in-Err-clause-noted g c =
     let k = c.args.keeper.now in
-    let e = c.args.entering in
-    (true, moved-torn c.args.app e k c.args.breaks.now (g.M.Medium.state c.args.unit.now) (g.M.Medium.state c.note_driving.new.unit) (g.C.Chip.state c.args.card.now) (g.C.Chip.state c.note_event_on.new.card) c.on_card-event.result
-        (event-is _ _ _ _ e _ c.on_card-event.ensures c.card_driving.ensures c.identity.ensures) c.note_event_on.ensures.moments c.note_event_on.ensures.most
-        (one-note IsOnUnit IsComing (event_of INSERTION_WHILE_DRIVING e.at.second e.at.second k.cabin) (λ well. c.in_ok-note_driving.ensures.noted) c.note_driving.ensures.moments)
-        (is_err c.tear.result) c.tear.new.self c.tear.new.breaks (g.M.Medium.state c.tear.new.unit) c.requires.works c.in-Err.ensures.cause c.tear.ensures.keeper c.tear.ensures.told
-        (fault-noted e k c.tear.new.self c.tear.result c.tear.ensures.keeper c.tear.ensures.noted c.tear.ensures.moments))
+    let e = c.args.entering in (
+      true,
+      moved-torn c.args.app e k c.args.breaks.now (g.M.Medium.state c.args.unit.now) (g.M.Medium.state c.note_driving.new.unit) (g.C.Chip.state c.args.card.now) (g.C.Chip.state c.note_event_on.new.card) c.on_card-event.result
+          (event-is _ _ _ _ e c.crew.result c.on_card-event.ensures c.card_driving.ensures c.identity.ensures) c.note_event_on.ensures.moments c.note_event_on.ensures.most
+          (one-note IsOnUnit IsComing (event_of INSERTION_WHILE_DRIVING e.at.second e.at.second k.cabin) (λ well. c.in_ok-note_driving.ensures.noted) c.note_driving.ensures.moments)
+          (is_err c.tear.result) c.tear.new.self c.tear.new.breaks (g.M.Medium.state c.tear.new.unit) c.requires.works c.in-Err.ensures.cause c.tear.ensures.keeper c.tear.ensures.told
+          (fault-noted e k c.tear.new.self c.tear.result c.tear.ensures.keeper c.tear.ensures.noted c.tear.ensures.moments),
+    )
