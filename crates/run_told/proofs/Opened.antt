@@ -63,9 +63,6 @@ module _ (f : Found) (c : Card) (u x : List ℕ) (card : State) (whole : IsCoher
   abbrev view : UnitView
   view = unit_view f.card_a.number f.card_b.number u
 
-  abbrev due : List Entry
-  due = owed c view (own_view x)
-
   said : brought_by c (found_of f c).start not_begun ≡ owed c view (own_view x)
   said = ap (λ (es : List Entry). (found_of f c).start.owed ++ es) (history-none c) ∙ append-nil (found_of f c).start.owed ∙ ap (λ (s : CardStart). s.owed) looked.start
 
