@@ -1,9 +1,9 @@
 -- A card is put in: what is carried stands at each exit, and of a card that is accepted its session and its string are known.
-use Rattle.std.proofs.Common.{◌≡◌, ◌≢◌, ◌⊎◌, inl, inr, ⊎_elim, ℕ, zero, suc, max, ◌+◌, ◌/◌, ◌^◌, ◌<◌, ◌≤◌, Bool, true, false, cond, Option, Some, None, IfSome, is_some, List, [], ◌∷◌, ◌++◌, length, All, Contains, refl, ap, subst, ◌∙◌, sym, arith}
-use Rattle.std.specs.Prelude.{nat_eq, not, IfOk, Result, Ok, Err}
+use Rattle.std.proofs.Common.{◌≡◌, ◌≢◌, ◌⊎◌, inl, inr, ⊎_elim, ℕ, zero, suc, max, ◌/◌, ◌^◌, ◌<◌, ◌≤◌, Bool, true, false, cond, Option, Some, None, IfSome, List, [], ◌∷◌, ◌++◌, length, All, Contains, refl, ap, subst, ◌∙◌, sym, arith}
+use Rattle.std.specs.Prelude.{nat_eq, not, IfOk, Result, Ok}
 use Rattle.std.proofs.lemmas.Bool.Decides.{nat_tests}
 use Rattle.std.proofs.lemmas.List.{append-nil}
-use Rattle.std.proofs.lemmas.List.Elements.{All-head, All-tail, All-contains, All-drop, Contains-append_right}
+use Rattle.std.proofs.lemmas.List.Elements.{All-head, All-tail, All-contains, Contains-append_right}
 use Rattle.activity_codec.specs.declared.entries.Entry.{Entry}
 use Rattle.tacho_types.specs.declared.texts.Registration.{Registration}
 use Rattle.trace_model.specs.declared.Card.{Card}
@@ -19,7 +19,7 @@ use Rattle.card_model.specs.Days.{AreDays}
 use Rattle.card_retention.specs.Entries.{newest_minute}
 use Rattle.card_retention.specs.Retains.{Rise}
 use Rattle.card_retention.specs.Shown.{AllUpTo}
-use Rattle.card_image.specs.Fields.{card_days, card_number, end_mark, session_time}
+use Rattle.card_image.specs.Fields.{card_days, end_mark, session_time}
 use Rattle.card_image.specs.Judging.{IsValid}
 use Rattle.card_image.specs.View.{CardView, card_view}
 use Rattle.card_image.specs.Own.{own_view, own_sizes, own_number, IsOwnValid}
@@ -48,8 +48,8 @@ use Rattle.history_model.proofs.Filters.{all-back}
 use Rattle.joint_rule.specs.Views.{UnitView, unit_view, row, other, owed, owed_in}
 use Rattle.joint_rule.specs.Device.{LeavesViews}
 use Rattle.joint_rule.specs.Steps.{IsInserting}
-use Rattle.joint_rule.specs.Rules.{Standing, Out, since, CardDark, CardRule, IsEntered, Meets}
-use Rattle.joint_rule.specs.Marked.{of_card, HasBrought}
+use Rattle.joint_rule.specs.Rules.{Standing, Out, CardRule, IsEntered, Meets}
+use Rattle.joint_rule.specs.Marked.{of_card}
 use Rattle.joint_rule.proofs.OwedView.{owed-seen}
 use Rattle.joint_rule.proofs.Pairs.{owed-above}
 use Rattle.joint_rule.proofs.Brought.{all-up_to}
@@ -60,7 +60,7 @@ use Rattle.unit_rule.proofs.Moves.{shown-last}
 use Rattle.device_steps.specs.declared.entering.Entered.{Entered}
 use Rattle.device_steps.specs.declared.entering.NotEntered.{NotEntered}
 use Rattle.device_steps.specs.Entering.{owed_on, card_failed, IsEntering, IsAccepted, IsAsked}
-use Rattle.device_steps.specs.Rule.{Both, opened, card_seen, CardHolds}
+use Rattle.device_steps.specs.Rule.{opened, card_seen}
 use Rattle.device_steps.proofs.Enters.{unit-read, entering-rule, entered-answer, entering-moments}
 use Rattle.device_steps.proofs.Inserted.{inserting_open, inserting_shut}
 use Rattle.device_steps.proofs.OnCard.{AnyStep, own-is, session-is}
@@ -74,8 +74,8 @@ use Rattle.run_rule.specs.Between.{Carried}
 use Rattle.run_rule.proofs.OwedRises.{owed-rises}
 use Rattle.run_strung.specs.Strung.{IsHeld}
 use Rattle.run_told.specs.Told.{AreFoundCards, IsPutIn, IsPowered, IsPowerless, arranged, card_marks, with_marks}
-use Rattle.run_told.proofs.Parts.{both_of, as-steps, of-steps, told-one, CardLit, CardOff, off-of, UnitLit, AreParts, MarksLit, parts-of, powered-of, powerless-of, brought-on}
-use Rattle.run_told.proofs.OnCards.{own-valid, valid-own, valid-or, no-marks, number-own, own-number-still, Rises, rises-run, none-falls, marks-on, brought-card, bound_of, held-on, held-read, valid-on}
+use Rattle.run_told.proofs.Parts.{both_of, as-steps, of-steps, told-one, CardLit, off-of, UnitLit, AreParts, MarksLit, parts-of, powered-of, powerless-of, brought-on}
+use Rattle.run_told.proofs.OnCards.{valid-own, valid-or, no-marks, number-own, own-number-still, Rises, rises-run, none-falls, marks-on, brought-card, bound_of, held-on, held-read, valid-on}
 use Rattle.run_told.proofs.StringMore.{mark-own}
 use Rattle.run_told.proofs.Power.{follow-of}
 use Rattle.run_told.proofs.Opened.{owed-none}

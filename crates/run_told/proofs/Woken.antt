@@ -1,30 +1,20 @@
 -- Calls that only read: on a card that is not accepted, as one that is revived, and on the unit. And what is known of a card that was judged.
-use Rattle.std.proofs.Common.{◌≡◌, ◌≢◌, ◌⊎◌, inl, inr, ⊎_elim, ℕ, suc, ◌<◌, ◌≤◌, ◌^◌, ◌/◌, Bool, true, false, cond, Option, Some, None, IfSome, is_some, List, [], ◌∷◌, ◌++◌, length, All, Contains, refl, ap, subst, ◌∙◌, sym, arith}
-use Rattle.std.specs.Prelude.{nat_eq, IfOk, IfErr, Result, Ok, Err}
-use Rattle.std.proofs.lemmas.Bool.Decides.{nat_tests}
+use Rattle.std.proofs.Common.{◌≡◌, ◌⊎◌, inl, inr, ⊎_elim, ℕ, ◌≤◌, true, false, Option, Some, None, is_some, List, [], subst, ◌∙◌, sym}
+use Rattle.std.specs.Prelude.{Result, Ok, Err}
 use Rattle.std.proofs.lemmas.List.{append-nil}
-use Rattle.activity_codec.specs.declared.entries.Entry.{Entry}
 use Rattle.tacho_types.specs.declared.texts.Registration.{Registration}
 use Rattle.trace_model.specs.declared.Card.{Card}
 use Rattle.tach_media.specs.Medium.{State, IsCoherent, LeavesOnly, Unchanged, Reads}
-use Rattle.tach_media.proofs.Runs.{at_image}
 use Rattle.card_layout.specs.declared.files.Application.{Application}
-use Rattle.card_layout.specs.Application.{IsApplication}
-use Rattle.card_layout.specs.Files.{image_size_of}
-use Rattle.card_image.specs.Fields.{end_mark, session_time}
-use Rattle.card_image.specs.Judging.{first_bad_file, IsValid}
-use Rattle.card_image.specs.View.{CardView, card_view}
-use Rattle.card_image.specs.Own.{own_view, own_sizes, IsOwnValid}
-use Rattle.card_session.specs.Inserting.{lacked, replayed_count}
-use Rattle.history_model.specs.Book.{Book}
-use Rattle.joint_rule.specs.Views.{UnitView, unit_view, other, owed}
+use Rattle.card_image.specs.Own.{own_sizes, IsOwnValid}
+use Rattle.joint_rule.specs.Views.{other}
 use Rattle.joint_rule.specs.Rules.{Standing, Out}
 use Rattle.unit_rule.specs.Marks.{Holds}
 use Rattle.unit_rule.proofs.Marking.{holds-read}
 use Rattle.device_steps.specs.declared.entering.Entered.{Entered}
 use Rattle.device_steps.specs.declared.entering.NotEntered.{NotEntered}
 use Rattle.device_steps.specs.declared.entering.NotEntered.TheVariants.{UnitFailed, CardFailed, NotValid, TimeOverlap}
-use Rattle.device_steps.specs.Entering.{owed_on, IsEntering, IsRefused}
+use Rattle.device_steps.specs.Entering.{IsEntering}
 use Rattle.device_steps.proofs.Enters.{unit-read, card-read, entering-moments}
 use Rattle.run_crew.specs.declared.cards.Accepted.{Accepted}
 use Rattle.run_crew.specs.declared.cards.Cards.{Cards}
@@ -33,8 +23,8 @@ use Rattle.run_rule.specs.Found.{CardFound, Found, found_of}
 use Rattle.run_rule.specs.Cards.{brought_by, IsUntouched}
 use Rattle.run_rule.specs.Between.{Carried}
 use Rattle.run_told.specs.Told.{AreFoundCards, IsPowered, IsPowerless, arranged}
-use Rattle.run_told.proofs.Parts.{both_of, as-steps, of-steps, told-one, CardLit, off-of, UnitLit, AreParts, MarksLit, parts-of, powered-of, powerless-of, brought-on}
-use Rattle.run_told.proofs.OnCards.{valid-own, valid-or, no-marks, rises-run, none-falls, marks-on, brought-card, held-read, valid-on}
+use Rattle.run_told.proofs.Parts.{both_of, as-steps, of-steps, told-one, CardLit, off-of, AreParts, MarksLit, parts-of, powered-of, powerless-of, brought-on}
+use Rattle.run_told.proofs.OnCards.{valid-own, rises-run, none-falls, marks-on, brought-card, held-read, valid-on}
 
 -- ---- A CARD THAT IS NOT ACCEPTED was only read, or revived
 
