@@ -45,7 +45,7 @@ use Rattle.run_rule.specs.Between.{Carried, devices}
 use Rattle.run_rule.proofs.Waiting.{strung-found}
 use Rattle.run_strung.specs.Strung.{IsHeld}
 use Rattle.run_strung.proofs.Strung.{held-out}
-use Rattle.run_told.specs.Told.{AreFoundCards, sure_of, IsHeldDark, AllWait, IsPowered, IsPowerless}
+use Rattle.run_told.specs.Told.{carried_found, all_out, AreFoundCards, sure_of, IsHeldDark, AllWait, IsPowered, IsPowerless}
 use Rattle.run_told.proofs.Parts.{both_of, as-rests, of-rests, of-steps, left-one, held-same, held-dark, held-lit, CardLit, CardOff, powered-of, powerless-of, brought-on}
 use Rattle.run_told.proofs.OnCards.{bound_of}
 use Rattle.run_told.proofs.StringMore.{rise-follow, held-more}
@@ -111,10 +111,6 @@ beside-nothing U V a b run = record {
   now = λ w on. ⊎_elim (λ was. inl was) (λ one. absurd one.2) (run.now w on);
 }
 
--- what is carried once this minute is found to be the last-kept one
-abbrev pub carried_found : (k : ℕ) → Carried → Carried
-carried_found k w = record w { book = found k w.book }
-
 module _ (f : Found) (w : Carried) (d : Devices) (V : State) (two : f.card_a.number ≢ f.card_b.number) (before : IsCoherent d.unit) (after : IsCoherent V) (wholes : (c : Card) → IsCoherent (card_of d c)) (p : IsPowerless f w d) (run : LeavesOnly d.unit V Unchanged) (works : V.works ≡ true) (x : List ℕ) (is : V.image ≡ Some x) where
   abbrev k : ℕ
   k = last_kept x
@@ -171,9 +167,6 @@ module _ (f : Found) (w : Carried) (d : Devices) (V : State) (two : f.card_a.num
       wait B valid = held-dark f.card_b B (found (last_kept x) w.book) (w.standing B) d.card_b refl (held-one B valid)
 
 -- ---- THE UNIT IS MENDED, where the calls say this: no card is accepted any more
-
-abbrev pub all_out : Carried → Carried
-all_out w = record w { standing = λ c. Out }
 
 module _ (f : Found) (w : Carried) (cards : Cards) (U V X Y : State) (found_cards : AreFoundCards f cards) (whole : IsCoherent U) (none : w.book.maybe ≡ None) (p : IsPowerless f w (devices U X Y)) (failed : Bool)
     (holds : (s : Started) (due : ℕ) (b : Book) (marks : List Mark) → Holds s due b marks U → Holds s due b marks V)
