@@ -3,3 +3,4 @@ pub mod Lines
 pub mod Moment
 pub mod Telling
 pub mod Failing
+pub mod Kept
