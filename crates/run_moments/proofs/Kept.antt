@@ -66,7 +66,7 @@ twice p [] e = by (p e)
 twice p (x ∷ xs) e = ap (λ (o : Option ℕ). cond (p x) (Some x) o) (twice p xs e)
 
 -- a span whose settlings are doubled
-times-end : (k : ℕ) (span : Span) → end_of (settled_times k span) ≡ end_of span
+pub times-end : (k : ℕ) (span : Span) → end_of (settled_times k span) ≡ end_of span
 times-end zero span = refl
 times-end (suc k) span = times-end k span
 
@@ -81,7 +81,7 @@ find-times p (suc k) span =
     ∙ twice p (settled_times k span).settlings (end_of (settled_times k span)) ∙ find-times p k span
 
 -- what is decided behind a second of this speed and these selections, however often its settling is told
-fed-times : (times : ℕ) (settles : Bool) (picks : List (Slot × Pick)) (span : Span) (speed : ℕ) → nat_lt 0 times ≡ settles →
+pub fed-times : (times : ℕ) (settles : Bool) (picks : List (Slot × Pick)) (span : Span) (speed : ℕ) → nat_lt 0 times ≡ settles →
     decided_in (fed (picking picks (settled_times times span)) speed) ≡ decided_in (fed (picking picks (settled_where settles span)) speed)
 fed-times zero true picks span speed is = absurd (cc)
 fed-times zero false picks span speed is = refl
@@ -166,7 +166,7 @@ second-fed rule start told p span c sp speed ds more new h given = record {
 }
 
 -- the decided minutes of a span as the rules of minutes have it
-decided-span : (rule : Rule) (next : ℕ) (span : List Told) (t : Told) → decided_in (span_at rule next (span ++ t ∷ [])) ≡ decided_of rule (span ++ t ∷ [])
+pub decided-span : (rule : Rule) (next : ℕ) (span : List Told) (t : Told) → decided_in (span_at rule next (span ++ t ∷ [])) ≡ decided_of rule (span ++ t ∷ [])
 decided-span rule next [] t = refl
 decided-span rule next (x ∷ xs) t = refl
 

@@ -4,3 +4,4 @@ pub mod Moment
 pub mod Telling
 pub mod Failing
 pub mod Kept
+pub mod Cutting

@@ -1,5 +1,5 @@
 -- What a second has decided so far, and which of it is kept and acknowledged (profile).
-use Rattle.std.specs.Prelude.{◌≡◌, ◌⊎◌, ℕ, zero, suc, ◌+◌, ◌*◌, ◌≤◌, true, false, nat_lt, Option, Some, None, List, [], ◌∷◌, ◌++◌, Contains, length, is_some}
+use Rattle.std.specs.Prelude.{◌≡◌, ◌⊎◌, ℕ, zero, suc, ◌+◌, ◌*◌, ◌≤◌, ◌||◌, Bool, true, false, nat_lt, Option, Some, None, List, [], ◌∷◌, ◌++◌, Contains, length, is_some}
 use Rattle.activity_codec.specs.declared.entries.Entry.{Entry}
 use Rattle.activity_codec.specs.declared.values.Slot.{Slot}
 use Rattle.activity_codec.specs.declared.values.Pick.{Pick}
@@ -85,6 +85,15 @@ TheSecondHasDecided = (rule : Rule) (start : Start) (from first : ℕ) (done : L
     let t : Told = next_told log done s in
     t.second.picks ≡ c.picks → t.course.settled ≡ c.settled → t.second.speed ≡ s.speed →
     decided_of rule (span ++ t ∷ []) ≡ decided_of rule span ++ (ds ++ rest)
+
+-- OR A CUT ENDS IT before it is fed: these, and perhaps more.
+abbrev pub TheCutHasDecided : Type 0
+TheCutHasDecided = (rule : Rule) (start : Start) (from first : ℕ) (done : List TraceSecond) (p : Progress) → Followed rule start from first done p →
+    (span : List Told) → p.supply ≡ Lit span → (s : TraceSecond) (log : RunLog) → GoesOnBy p log s → (c : Course) (sp : Span) (ds rest : List Minute) (new : List HistoryMinute) →
+    HasDecided rule start (went p.log done).told p span c None sp ds rest new →
+    let t : Told = next_told log done s in
+    (later : Bool) → t.second.picks ≡ c.picks → t.course.settled ≡ (c.settled || later) → t.second.speed ≡ s.speed →
+    (more : List Minute) × (decided_of rule (span ++ t ∷ []) ≡ decided_of rule span ++ ((ds ++ rest) ++ more))
 
 -- what was travelled up to the minutes that are kept
 abbrev pub OneMoreIsTravelled : Type 0

@@ -1,7 +1,7 @@
 ghost use Rattle.run_moments.specs.Lines.{ASecondIsReached, AnActionIsReached, TheKeepingIsReached, LinesOfTheMoment, WhoSitsIsNotTorn, ATearIsSeen, AFindIsSeen, ARefusalIsSeen};
 ghost use Rattle.run_moments.specs.Moment.{AMomentBegins, AnActionIsRefused, AnActionIsDone, ACardIsPulled};
 ghost use Rattle.run_moments.specs.Telling.{BreakdownsOnly, ACardIsTorn, ATornCardWaitsNoMore, ACardIsJudged, TheKeepingComes, TheSecondEnds, ACutEnds, APowerOnIsCut};
-ghost use Rattle.run_moments.specs.Kept.{NothingIsDecidedYet, ASelectionIsHeard, ASettlingDecides, NothingElseDecides, AMinuteIsKept, TheSecondIsFed, TheSecondHasDecided, OneMoreIsTravelled, NothingIsMarkedYet, MarksStay, OneMoreIsMarked, AllAreAcknowledged};
+ghost use Rattle.run_moments.specs.Kept.{NothingIsDecidedYet, ASelectionIsHeard, ASettlingDecides, NothingElseDecides, AMinuteIsKept, TheSecondIsFed, TheSecondHasDecided, TheCutHasDecided, OneMoreIsTravelled, NothingIsMarkedYet, MarksStay, OneMoreIsMarked, AllAreAcknowledged};
 
 /// A second begins: nothing is told of it yet.
 pub fn a_second_is_reached()
@@ -161,4 +161,9 @@ pub fn one_more_is_marked()
 /// At the second's end all is acknowledged that is to be.
 pub fn all_are_acknowledged()
     ensures { AllAreAcknowledged }
+{}
+
+/// What a cut's second has decided.
+pub fn the_cut_has_decided()
+    ensures { TheCutHasDecided }
 {}

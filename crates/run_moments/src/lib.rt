@@ -11,6 +11,6 @@ pub use laws::{
     all_are_acknowledged, an_action_is_done, an_action_is_reached, an_action_is_refused,
     breakdowns_take_nothing_away, lines_of_the_moment, marks_stay, nothing_else_decides,
     nothing_is_decided_yet, nothing_is_marked_yet, one_more_is_marked, one_more_is_travelled,
-    the_keeping_comes, the_keeping_is_reached, the_second_ends, the_second_has_decided,
-    the_second_is_fed, who_sits_is_not_torn,
+    the_cut_has_decided, the_keeping_comes, the_keeping_is_reached, the_second_ends,
+    the_second_has_decided, the_second_is_fed, who_sits_is_not_torn,
 };
