@@ -65,7 +65,7 @@ module _ (app : Application) where
 
 -- ---- what it leaves of what is judged and shown
 
-record Leaves (app : Application) (x c : List ℕ) : Type 0 where
+pub record Leaves (app : Application) (x c : List ℕ) : Type 0 where
   pub sizes : HaveSameSizes app x c
   pub days : HaveSameDays app x c
   pub vehicles : HaveSameVehicles app x c
@@ -130,7 +130,7 @@ module _ (app : Application) (sound : IsApplication app) (x : List ℕ) (valid :
   points : PointsInside (vehicle_ring app) x
   points = pointer-passes (vehicle_ring app) x passes.vehicles
 
-  left : Leaves app x c
+  pub left : Leaves app x c
   left = note_leaves app x (pointer-passes (place_ring app) x passes.places) c note
 
   pub noted-view : card_view app c ≡ card_view app x

@@ -80,7 +80,7 @@ module _ (r : Both) (c : Card) (number : List ℕ) (named : number ≡ number_of
     putting A is x d told k low = first_putting (number_of r A) (number_of r B) e x d r.two (known x told) some low k
     putting B is x d told k low = second_putting (number_of r A) (number_of r B) e x d r.two (known x told) some low k
 
-    puts : LeavesViews (unit_seen r U) (unit_seen r V) (IsPutting c e)
+    pub puts : LeavesViews (unit_seen r U) (unit_seen r V) (IsPutting c e)
     puts = seen-run (unit_view (number_of r A) (number_of r B)) (λ x d. IsPutting c e (unit_view (number_of r A) (number_of r B) x) (unit_view (number_of r A) (number_of r B) d)) (IsPutting c e) U V whole
         (weaken run (λ x d told k. putting c refl x d told (subst (λ (n : List ℕ). IsPuttingRow n e x d) named k) (cells-low x told))) (λ x d k. k)
 

@@ -22,6 +22,7 @@ use Rattle.joint_rule.specs.Views.{UnitView, unit_view}
 use Rattle.joint_rule.specs.Device.{LeavesViews}
 use Rattle.joint_rule.specs.Steps.{IsKeeping, IsKept}
 use Rattle.joint_rule.specs.Filling.{seen_by_unit, KeepsMinute, GivesUpDay}
+use Rattle.joint_rule.specs.Marked.{of_unit}
 use Rattle.joint_rule.specs.Rules.{Standing, Fits}
 use Rattle.joint_rule.proofs.Viewed.{seen-run}
 use Rattle.joint_rule.proofs.KeepLaws.{keep-card, keep-dark}
@@ -48,6 +49,12 @@ same_minute k i is low = let same : k.minute ≡ i.minute = ap (λ (m : UnitMinu
 
 pub any-later : (next n : ℕ) (full : List Entry) (h : Held) → next ≤ n → AnyString next full h → AnyString n full h
 any-later next n full h le is = tt
+
+-- each view that it leaves
+pub keeps-views : {U V : State} (k : UnitMinute) (odometer : ℕ) (i : HistoryMinute) → k ≡ seen_by_unit i → IsCoherent U → LeavesOnly U V (journal.IsKeeping k odometer) → (a b : List ℕ)
+    → LeavesViews (of_unit a b U) (of_unit a b V) (IsKeeping KeepsMinute GivesUpDay i)
+keeps-views {U} {V} k odometer i is whole run a b =
+    seen-run (unit_view a b) (journal.IsKeeping (seen_by_unit i) odometer) (IsKeeping KeepsMinute GivesUpDay i) U V whole (subst (λ (m : UnitMinute). LeavesOnly U V (journal.IsKeeping m odometer)) is run) (keeping_view a b i odometer)
 
 module _ {U V : State} (k : UnitMinute) (odometer : ℕ) (i : HistoryMinute) (is : k ≡ seen_by_unit i) (whole : IsCoherent U) (run : LeavesOnly U V (journal.IsKeeping k odometer)) (s : Started) (due : ℕ) (b : Book) (marks : List Mark) (h : Holds s due b marks U) (none : b.maybe ≡ None) (late : due ≤ i.minute) where
   keeping : LeavesOnly U V (journal.IsKeeping (seen_by_unit i) odometer)

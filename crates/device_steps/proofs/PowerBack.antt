@@ -13,6 +13,7 @@ use Rattle.card_image.specs.Own.{own_view}
 use Rattle.joint_rule.specs.Views.{UnitView, unit_view}
 use Rattle.joint_rule.specs.Device.{LeavesViews, EndsWith, Nothing}
 use Rattle.joint_rule.specs.Steps.{IsMending, IsMended}
+use Rattle.joint_rule.specs.Marked.{of_unit}
 use Rattle.joint_rule.specs.Rules.{Standing, In, Torn}
 use Rattle.joint_rule.specs.Filling.{FillsDays}
 use Rattle.joint_rule.proofs.Viewed.{seen-run}
@@ -32,9 +33,12 @@ use Rattle.device_steps.proofs.MinuteKept.{any-later}
 pub mended-holds : (s : Started) {U V : State} (due : ℕ) (b : Book) (marks : List Mark) (j : Notes) → IsCoherent U → LeavesOnly U V (IsMendingImage j) → Holds s due b marks U → Holds s due b marks V
 mended-holds s {U} {V} due b marks j whole run h = holds-aside s due b marks h whole (IsMendingImage j) run (λ x c is. mending-aside j x c is)
 
+pub mends-views : {U V : State} (j : Notes) → IsCoherent U → LeavesOnly U V (IsMendingImage j) → (a b : List ℕ) → LeavesViews (of_unit a b U) (of_unit a b V) IsMending
+mends-views {U} {V} j whole run a b = seen-run (unit_view a b) (IsMendingImage j) IsMending U V whole run (λ x d k. mending_view a b x d j k)
+
 module _ (r : Both) (c : Card) (b : Book) (z : Standing) {U V : State} (X : State) (j : Notes) (whole : IsCoherent U) (run : LeavesOnly U V (IsMendingImage j)) (rests : CardRests r c b z U X) where
   mends : LeavesViews (unit_seen r U) (unit_seen r V) IsMending
-  mends = seen-run (unit_view (number_of r A) (number_of r B)) (IsMendingImage j) IsMending U V whole run (λ x d k. mending_view (number_of r A) (number_of r B) x d j k)
+  mends = mends-views j whole run (number_of r A) (number_of r B)
 
   pub taken-up : (failed : Bool) → IsCoherent V → (failed ≡ false → V.works ≡ true) → (failed ≡ false → IfSome U.image (λ x. IfSome V.image (IsMendedImage x))) → IsTakenUp r c b z failed V X
   taken-up failed after works said = record {

@@ -137,9 +137,9 @@ module _ (app : Application) (registration : Registration) (odometer now : ℕ) 
 -- ---- a card that is not accepted
 
 pub none_called : (U : State) (fault : InsertFault) → IsRead U U (unit_failed (refuses fault)) (unit_called (refuses fault))
-none_called U Failed = record { leaves = starts U Unchanged; same = λ no. refl; clock = refl; cause = λ no. absurd cc }
-none_called U (NotValid fid place) = record { leaves = starts U Unchanged; same = λ no. refl; clock = refl; cause = λ no. absurd cc }
-none_called U (TimeOverlap stored at) = record { leaves = starts U Unchanged; same = λ no. refl; clock = refl; cause = λ no. absurd cc }
+none_called U Failed = record { leaves = starts U Unchanged; same = λ no. refl; clock = refl; cause = λ no. absurd cc; rests = λ no works. (no_reads U works).cause }
+none_called U (NotValid fid place) = record { leaves = starts U Unchanged; same = λ no. refl; clock = refl; cause = λ no. absurd cc; rests = λ no works. (no_reads U works).cause }
+none_called U (TimeOverlap stored at) = record { leaves = starts U Unchanged; same = λ no. refl; clock = refl; cause = λ no. absurd cc; rests = λ no works. (no_reads U works).cause }
 
 pub fails_so : (fault : InsertFault) → card_failed (refuses fault) ≡ has_failed (answers fault)
 fails_so Failed = refl
@@ -184,10 +184,10 @@ refused_after app now X M Y (LaterCard stored at) reads refused =
 -- ---- the unit is read
 
 pub read_well : (U V : State) (failed called : Bool) → failed ≡ false → Reads U V false → IsRead U V failed called
-read_well U V failed called well reads = record { leaves = reads.leaves; same = λ no. reads.same refl; clock = reads.clock; cause = λ was. subst (HasCause U V) (sym well) reads.cause }
+read_well U V failed called well reads = record { leaves = reads.leaves; same = λ no. reads.same refl; clock = reads.clock; cause = λ was. subst (HasCause U V) (sym well) reads.cause; rests = λ was works. reads.cause }
 
 pub read_badly : (U V : State) → Reads U V true → IsRead U V true true
-read_badly U V reads = record { leaves = reads.leaves; same = λ no. absurd cc; clock = reads.clock; cause = λ was. reads.cause }
+read_badly U V reads = record { leaves = reads.leaves; same = λ no. absurd cc; clock = reads.clock; cause = λ was. reads.cause; rests = λ was. absurd cc }
 
 -- ---- what all calls leave
 

@@ -54,7 +54,7 @@ module _ (r : Both) (c : Card) (number : List ℕ) (named : number ≡ number_of
   beginning A x d told k = first_beginning (number_of r A) (number_of r B) session x d r.two (known x told) k
   beginning B x d told k = second_beginning (number_of r A) (number_of r B) session x d r.two (known x told) k
 
-  begins : LeavesViews (unit_seen r U) (unit_seen r V) (IsBeginning c)
+  pub begins : LeavesViews (unit_seen r U) (unit_seen r V) (IsBeginning c)
   begins = seen-run (unit_view (number_of r A) (number_of r B)) (λ x d. IsBeginning c (unit_view (number_of r A) (number_of r B) x) (unit_view (number_of r A) (number_of r B) d)) (IsBeginning c) U V whole
       (weaken run (λ x d told k. beginning c x d told (subst (λ (o : Option (List ℕ)). IsRowBeginning (number_of r c) session o x d) others (subst (λ (n : List ℕ). IsRowBeginning n session spared x d) named k)))) (λ x d k. k)
 

@@ -62,6 +62,8 @@ pub record IsRead (old new : State) (failed called : Bool) : Type 0 where
   pub same : failed ≡ false → new.image ≡ old.image
   pub clock : new.clock ≡ old.clock
   pub cause : called ≡ true → HasCause old new failed
+  -- where no call was made it works as it did
+  pub rests : called ≡ false → old.works ≡ true → HasCause old new false
 
 -- A CARD THAT IS ACCEPTED, of these images of unit and card before and of the card after it: it told this, was valid and of no later
 -- time, the entries that were owed to it are on it, so many of them new, and the session knows it.

@@ -1,18 +1,20 @@
 //! A card that was inserted gets its row in the unit.
 ghost use Rattle.std.specs.Prelude.{◌≡◌, ◌≢◌, ◌≤◌, ◌<◌, ◌/◌, ℕ, Some, List, [], option_map, OnOk, IfSome, is_some, is_err};
 ghost use Rattle.activity_codec.specs.declared.entries.Entry.{Entry};
-ghost use Rattle.tach_media.specs.Medium.{HasCause};
+ghost use Rattle.tach_media.specs.Medium.{HasCause, LeavesOnly};
 ghost use Rattle.tacho_types.specs.CardNumber.{card_number_bytes};
 ghost use Rattle.unit_model.specs.Image.{IsUnit};
 ghost use Rattle.unit_journal.specs.Image.{Agrees};
-ghost use Rattle.owed_model.specs.Rows.{HasRow};
+ghost use Rattle.owed_model.specs.Rows.{HasRow, IsRowBegun, IsRowBeginning};
 ghost use Rattle.log_model.specs.declared.lines.Mark.{Mark};
 ghost use Rattle.history_model.specs.Book.{Book};
+ghost use Rattle.joint_rule.specs.Device.{LeavesViews};
+ghost use Rattle.joint_rule.specs.Steps.{IsBeginning};
 ghost use Rattle.joint_rule.specs.Rules.{Standing, Out, IsEntered};
 ghost use Rattle.joint_rule.specs.Views.{other};
 ghost use Rattle.unit_rule.specs.Rule.{Started};
 ghost use Rattle.unit_rule.specs.Marks.{Holds};
-ghost use Rattle.device_steps.specs.Rule.{Both, opened, number_of, card_seen, CardHolds, IsKeptUp, IsRowTaken};
+ghost use Rattle.device_steps.specs.Rule.{Both, opened, number_of, unit_seen, card_seen, CardHolds, IsKeptUp, IsRowTaken};
 
 use tach_media::{Chip, Failed, Medium};
 use tacho_types::FullCardNumber;
@@ -48,6 +50,9 @@ pub fn begin<M: Medium, C: Chip, D: Chip>(
         → IsRowTaken r which b session newest (is_err result) (M.state unit.new) (C.state mine.now) }
     ensures other { (r : Both) (s : Started) (due : ℕ) (b : Book) (marks : List Mark) (z : Standing) (m d : List Entry) → card_number_bytes number.now ≡ number_of r which → option_map (λ s. card_number_bytes s.now) spared.entry ≡ Some (number_of r (other which))
         → CardHolds r (other which) b z m d (M.state unit.old) (D.state others.now) → IsKeptUp r (other which) b z m d (is_err result) (M.state unit.new) (D.state others.now) }
+    ensures views { (r : Both) → card_number_bytes number.now ≡ number_of r which → option_map (λ s. card_number_bytes s.now) spared.entry ≡ Some (number_of r (other which)) → LeavesViews (unit_seen r (M.state unit.old)) (unit_seen r (M.state unit.new)) (IsBeginning which) }
+    ensures begun { OnOk result (IfSome (M.state unit.old).image (λ x. IfSome (M.state unit.new).image (IsRowBegun (card_number_bytes number.now) session (option_map (λ s. card_number_bytes s.now) spared.entry) x))) }
+    ensures moments { LeavesOnly (M.state unit.old) (M.state unit.new) (IsRowBeginning (card_number_bytes number.now) session (option_map (λ s. card_number_bytes s.now) spared.entry)) }
     ensures clock { (M.state unit.old).clock ≤ (M.state unit.new).clock }
     ensures tells { is_some (M.state unit.new).image ≡ is_some (M.state unit.old).image }
     ensures cause { HasCause (M.state unit.old) (M.state unit.new) (is_err result) }

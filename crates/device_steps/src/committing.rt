@@ -10,7 +10,10 @@ ghost use Rattle.unit_journal.specs.Kept.{kept_minute};
 ghost use Rattle.log_model.specs.declared.lines.Mark.{Mark};
 ghost use Rattle.history_model.specs.Minutes.{HistoryMinute, on_card};
 ghost use Rattle.history_model.specs.Book.{Book};
-ghost use Rattle.joint_rule.specs.Filling.{seen_by_unit};
+ghost use Rattle.joint_rule.specs.Device.{LeavesViews};
+ghost use Rattle.joint_rule.specs.Steps.{IsKeeping};
+ghost use Rattle.joint_rule.specs.Marked.{of_unit};
+ghost use Rattle.joint_rule.specs.Filling.{seen_by_unit, KeepsMinute, GivesUpDay};
 ghost use Rattle.joint_rule.specs.Rules.{Standing, Fits};
 ghost use Rattle.unit_rule.specs.Rule.{Started};
 ghost use Rattle.unit_rule.specs.Marks.{Holds};
@@ -47,6 +50,7 @@ pub fn commit<M: Medium, C: Chip, D: Chip>(
         → CardHolds r c b z (on_card c i) [] (M.state unit.old) (C.state first.now) → Fits c (opened r c).start z i → IsCommitted r c b i z (is_err result) (M.state unit.new) (C.state first.now) }
     ensures second { (r : Both) (c : Card) (s : Started) (due : ℕ) (b : Book) (marks : List Mark) (i : HistoryMinute) (z : Standing) → kept_minute kept.now ≡ seen_by_unit i → Holds s due b marks (M.state unit.old) → b.maybe ≡ None → due ≤ i.minute
         → CardHolds r c b z (on_card c i) [] (M.state unit.old) (D.state second.now) → Fits c (opened r c).start z i → IsCommitted r c b i z (is_err result) (M.state unit.new) (D.state second.now) }
+    ensures views { (a b : List ℕ) (i : HistoryMinute) → kept_minute kept.now ≡ seen_by_unit i → LeavesViews (of_unit a b (M.state unit.old)) (of_unit a b (M.state unit.new)) (IsKeeping KeepsMinute GivesUpDay i) }
     ensures rows { (n : List ℕ) → IfSome (M.state unit.old).image (HasRow n) → OnOk result (IfSome (M.state unit.new).image (HasRow n)) }
     ensures clock { (M.state unit.old).clock ≤ (M.state unit.new).clock }
     ensures tells { is_some (M.state unit.new).image ≡ is_some (M.state unit.old).image }

@@ -199,6 +199,7 @@ pub fn enter<M: Medium, C: Chip, D: Chip>(
         → IfOk result (λ e. IsEntered (opened r which).start (opened r which).began now.0 e.session.minute (card_seen (C.state card.new))) }
     ensures unit { IsUnit (M.state unit.new) }
     ensures agrees { unit_failed result ≡ false → IfSome (M.state unit.new).image (Agrees journal.now) }
+    ensures leaves { LeavesOnly (C.state card.old) (C.state card.new) Anything }
     ensures port { IsPort app None (C.card card.new) (C.state card.new) }
     ensures long { length registration.now.0 ≡ 15 }
     ensures most { (C.state card.new).clock ≤ (C.state card.old).clock + (DAYS_MOST + 84) }

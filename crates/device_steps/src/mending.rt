@@ -7,6 +7,9 @@ ghost use Rattle.unit_journal.specs.Image.{Agrees};
 ghost use Rattle.unit_journal.specs.Mends.{IsMendable, notes_mended};
 ghost use Rattle.log_model.specs.declared.lines.Mark.{Mark};
 ghost use Rattle.history_model.specs.Book.{Book};
+ghost use Rattle.joint_rule.specs.Device.{LeavesViews};
+ghost use Rattle.joint_rule.specs.Steps.{IsMending};
+ghost use Rattle.joint_rule.specs.Marked.{of_unit};
 ghost use Rattle.joint_rule.specs.Rules.{Standing};
 ghost use Rattle.unit_rule.specs.Rule.{Started};
 ghost use Rattle.unit_rule.specs.Marks.{Holds};
@@ -35,6 +38,7 @@ pub fn mend<M: Medium, C: Chip, D: Chip>(
     ensures holds { (s : Started) (due : ℕ) (b : Book) (marks : List Mark) → Holds s due b marks (M.state unit.old) → Holds s due b marks (M.state unit.new) }
     ensures first { (r : Both) (c : Card) (b : Book) (z : Standing) → CardRests r c b z (M.state unit.old) (C.state first.now) → IsTakenUp r c b z (is_err result) (M.state unit.new) (C.state first.now) }
     ensures second { (r : Both) (c : Card) (b : Book) (z : Standing) → CardRests r c b z (M.state unit.old) (D.state second.now) → IsTakenUp r c b z (is_err result) (M.state unit.new) (D.state second.now) }
+    ensures views { (a b : List ℕ) → LeavesViews (of_unit a b (M.state unit.old)) (of_unit a b (M.state unit.new)) IsMending }
     ensures clock { (M.state unit.old).clock ≤ (M.state unit.new).clock }
     ensures tells { is_some (M.state unit.new).image ≡ is_some (M.state unit.old).image }
     ensures cause { HasCause (M.state unit.old) (M.state unit.new) (is_err result) }

@@ -11,7 +11,9 @@ ghost use Rattle.joint_rule.specs.Rules.{Standing, IsPresent};
 ghost use Rattle.joint_rule.specs.Views.{other};
 ghost use Rattle.unit_rule.specs.Rule.{Started};
 ghost use Rattle.unit_rule.specs.Marks.{Holds};
-ghost use Rattle.device_steps.specs.Rule.{Both, opened, number_of, CardHolds, IsKeptUp};
+ghost use Rattle.joint_rule.specs.Device.{LeavesViews};
+ghost use Rattle.joint_rule.specs.Steps.{IsPutting};
+ghost use Rattle.device_steps.specs.Rule.{unit_seen, Both, opened, number_of, CardHolds, IsKeptUp};
 
 use activity_codec::Entry;
 use tach_media::{Chip, Failed, Medium};
@@ -44,6 +46,8 @@ pub fn owe<M: Medium, C: Chip, D: Chip>(
     ensures mine { (r : Both) (s : Started) (due : ℕ) (b : Book) (marks : List Mark) (z : Standing) → card_number_bytes number.now ≡ number_of r which → Holds s due b marks (M.state unit.old)
         → due ≤ entry.now.minute → 1440 ≤ entry.now.minute → IsPresent (opened r which).start z entry.now.minute → CardHolds r which b z [] [] (M.state unit.old) (C.state mine.now)
         → IsKeptUp r which b z (entry.now ∷ []) [] (is_err result) (M.state unit.new) (C.state mine.now) }
+    ensures views { (r : Both) (s : Started) (due : ℕ) (b : Book) (marks : List Mark) (z : Standing) → card_number_bytes number.now ≡ number_of r which → Holds s due b marks (M.state unit.old) → due ≤ entry.now.minute → 1440 ≤ entry.now.minute → CardHolds r which b z [] [] (M.state unit.old) (C.state mine.now)
+        → LeavesViews (unit_seen r (M.state unit.old)) (unit_seen r (M.state unit.new)) (IsPutting which entry.now) }
     ensures other { (r : Both) (s : Started) (due : ℕ) (b : Book) (marks : List Mark) (y z : Standing) (m d : List Entry) → card_number_bytes number.now ≡ number_of r which → Holds s due b marks (M.state unit.old)
         → due ≤ entry.now.minute → 1440 ≤ entry.now.minute → CardHolds r which b y [] [] (M.state unit.old) (C.state mine.now) → CardHolds r (other which) b z m d (M.state unit.old) (D.state others.now)
         → IsKeptUp r (other which) b z m d (is_err result) (M.state unit.new) (D.state others.now) }

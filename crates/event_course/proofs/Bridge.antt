@@ -1,5 +1,5 @@
 -- Where no card bears on a run, its events are those that its power spans tell by themselves.
-use Rattle.std.proofs.Common.{◌≡◌, ℕ, zero, suc, ◌+◌, Bool, true, false, cond, not, ◌&&◌, nat_lt, Option, Some, None, List, [], ◌∷◌, ◌++◌, length, map, take, fold, max, sum, ◌/◌, refl, ap, sym, subst, ◌∙◌, is_some}
+use Rattle.std.proofs.Common.{◌≡◌, ℕ, zero, suc, ◌+◌, Bool, true, false, cond, not, ◌&&◌, nat_lt, Option, Some, None, List, [], ◌∷◌, ◌++◌, length, map, filter, take, fold, max, sum, ◌/◌, refl, ap, sym, subst, ◌∙◌, is_some}
 use Rattle.std.specs.Prelude.{◌==◌, flat_map, option_map, option_to_list}
 use Rattle.std.specs.List.{AllByRecursion, list_any, filter_map, cons_option}
 use Rattle.std.proofs.lemmas.List.{map-append}
@@ -7,6 +7,7 @@ use Rattle.std.proofs.lemmas.Simd.{map-map}
 use Rattle.activity_codec.specs.declared.values.Slot.{Slot}
 use Rattle.activity_codec.specs.declared.values.Slot.TheVariants.{Driver, CoDriver}
 use Rattle.activity_codec.specs.declared.values.Pick.{Pick}
+use Rattle.activity_codec.specs.Activity.{same_slot}
 use Rattle.trace_model.specs.declared.Card.{Card}
 use Rattle.trace_model.specs.declared.Action.{Action}
 use Rattle.trace_model.specs.declared.Action.TheVariants.{Select, Insert, Withdraw, Tear, Place}
@@ -15,7 +16,7 @@ use Rattle.minute_model.specs.Activity.{last}
 use Rattle.log_model.specs.declared.lines.Break.{Break}
 use Rattle.log_model.specs.declared.lines.Break.TheVariants.{Cut, Tear as Torn}
 use Rattle.log_model.specs.declared.lines.Verdict.{Verdict}
-use Rattle.log_model.specs.Log.{RunLog, Phase, In, Keeping, cut_in, kept_after, tears_here, is_torn_in, found_in}
+use Rattle.log_model.specs.Log.{RunLog, Phase, In, Keeping, cut_in, kept_after, same_phase, tears_here, is_torn_in, found_in, is_accepting}
 use Rattle.log_model.specs.Slots.{Slots, is_accepted}
 use Rattle.log_model.specs.Course.{Course, Visit, Told, Went, Before, Moved, moved_by, unmoved, slot_told, both_told, begins, acted, all_acted, fresh, cut_told, lit_course, has_power, second_told, before_next, went_on, went, not_begun}
 use Rattle.log_model.specs.Spans.{go_on, spans_with, spans_of}
@@ -25,7 +26,7 @@ use Rattle.event_model.specs.declared.entries.Over.{Over}
 use Rattle.event_model.specs.declared.entries.Span.{Span}
 use Rattle.event_model.specs.Runs.{runs_behind, ended_runs}
 use Rattle.event_model.specs.Spans.{SpeedSecond, DriverSecond, bare_of, bares_of, over_of, overs_of, is_above, gap_of}
-use Rattle.event_model.specs.Events.{Crew, Event, crew_of, Seen, Watched, watched_on, course_by, seen_by, seen_of, seen_on, seen_with, seen_spans, number_of, last_seen, run_event, is_bare, bare_events, over_events, noted_with, last_number, gaps_between, gap_events, found_events, judged_events, fault_of, fault_events, events_of}
+use Rattle.event_model.specs.Events.{Crew, Event, Tearing, crew_of, Seen, Watched, watched_on, course_by, seen_by, seen_of, seen_on, seen_with, seen_spans, number_of, last_seen, run_event, is_bare, bare_events, over_events, noted_with, last_number, gaps_between, gap_events, found_events, judged_events, first_card, accepted_at, standing, fault_of, torn_in_turn, fault_events, events_of}
 use Rattle.event_model.specs.Events as seen
 use Rattle.unit_course.specs.Turn.{IsSelection, empty_slots, plain_course}
 use Rattle.event_course.specs.Plain.{nobody, driver_second, speed_second, bare_event, over_event, gap_event, bares_in, overs_in, gap_to, last_in, gap_between, gaps_in, plain_events, IsWithoutCards, OnlySelect}
@@ -136,14 +137,13 @@ told-bare log h before s slots each = by (has_power before s) refl
 -- a second as events see it
 record IsPlainSeen (x : Seen) : Type 0 where
   itself : x.itself ≡ empty_slots
-  powered : x.after 0 ≡ empty_slots
   found : x.told.course.found ≡ []
   torn : x.told.course.torn ≡ []
 
 seen-one : (log : RunLog) → IsWithoutCards log → (before : Before) (s : TraceSecond) → before.slots ≡ empty_slots → AllByRecursion IsSelection s.actions → IsPlainSeen (seen_by log before s)
 seen-one log h before s slots each =
     let t = told-bare log h before s slots each in
-    record { itself = course-empty log h before s slots each (length s.actions); powered = course-empty log h before s slots each 0; found = t.found; torn = t.torn }
+    record { itself = course-empty log h before s slots each (length s.actions); found = t.found; torn = t.torn }
 
 pub each-push : {T : Type 0} (P : T → Type 0) (xs : List T) (x : T) → AllByRecursion P xs → P x → AllByRecursion P (xs ++ x ∷ [])
 each-push P [] x h is = (is, tt)
@@ -339,19 +339,30 @@ gap-made : (o : Option Span) → option_to_list (option_map {T = Span} {U = Even
 gap-made None = refl
 gap-made (Some s) = refl
 
-gap-one : (log : RunLog) (span : List Seen) (x : Seen) (next : List Seen) → IsPlainSeen x → seen.gap_event log span (x ∷ next) ≡ gap_between log (told_span span) (told_span (x ∷ next))
-gap-one log span x next is =
-    ap (λ (c : Crew). option_to_list (option_map {T = Span} {U = Event} (λ gap. noted_with POWER_INTERRUPTION gap.begin gap.end c) (gap_of (kept_after log (last_number span)) (number_of x)))) (ap crew_of is.powered)
+-- no card was accepted at a power-on
+standing-none : (t : Tearing) (x : Seen) (slot : Slot) → IsPlainSeen x → standing t x slot ≡ None
+standing-none t x slot is =
+    ap (λ (vs : List Visit). cond (list_any (λ (v : Visit). same_phase v.phase (In 0) && same_slot v.slot slot) vs && not (t.by_gap (number_of x) slot)) None (accepted_at x (In 0) slot)) is.torn
+    ∙ ap (λ (fs : List (Visit × Verdict)). first_card (filter (λ (f : Visit × Verdict). same_phase f.0.phase (In 0) && (same_slot f.0.slot slot && is_accepting f.1)) fs)) is.found
+
+nobody-stands : (t : Tearing) (x : Seen) → IsPlainSeen x → (let c : Crew = record { driver = standing t x Driver; codriver = standing t x CoDriver } in c) ≡ nobody
+nobody-stands t x is =
+    ap (λ (d : Option Card). let c : Crew = record { driver = d; codriver = standing t x CoDriver } in c) (standing-none t x Driver is)
+    ∙ ap (λ (d : Option Card). let c : Crew = record { driver = None; codriver = d } in c) (standing-none t x CoDriver is)
+
+gap-one : (t : Tearing) (log : RunLog) (span : List Seen) (x : Seen) (next : List Seen) → IsPlainSeen x → seen.gap_event t log span (x ∷ next) ≡ gap_between log (told_span span) (told_span (x ∷ next))
+gap-one t log span x next is =
+    ap (λ (c : Crew). option_to_list (option_map {T = Span} {U = Event} (λ gap. noted_with POWER_INTERRUPTION gap.begin gap.end c) (gap_of (kept_after log (last_number span)) (number_of x)))) (nobody-stands t x is)
     ∙ gap-made (gap_of (kept_after log (last_number span)) (number_of x))
     ∙ ap (λ (u : ℕ). gap_to (kept_after log u) (number_of x)) (last-same span)
 
-gaps-same : (log : RunLog) (sp : List (List Seen)) → ArePlainSpans sp → gaps_between log sp ≡ gaps_in log (map told_span sp)
-gaps-same log [] all = refl
-gaps-same log (span ∷ []) all = refl
-gaps-same log (span ∷ [] ∷ sp) all = gaps-same log ([] ∷ sp) all.1
-gaps-same log (span ∷ (x ∷ next) ∷ sp) all =
-    ap (λ (es : List Event). es ++ gaps_between log ((x ∷ next) ∷ sp)) (gap-one log span x next all.1.0.0)
-    ∙ ap (λ (es : List Event). gap_between log (told_span span) (told_span (x ∷ next)) ++ es) (gaps-same log ((x ∷ next) ∷ sp) all.1)
+gaps-same : (t : Tearing) (log : RunLog) (sp : List (List Seen)) → ArePlainSpans sp → gaps_between t log sp ≡ gaps_in log (map told_span sp)
+gaps-same t log [] all = refl
+gaps-same t log (span ∷ []) all = refl
+gaps-same t log (span ∷ [] ∷ sp) all = gaps-same t log ([] ∷ sp) all.1
+gaps-same t log (span ∷ (x ∷ next) ∷ sp) all =
+    ap (λ (es : List Event). es ++ gaps_between t log ((x ∷ next) ∷ sp)) (gap-one t log span x next all.1.0.0)
+    ∙ ap (λ (es : List Event). gap_between log (told_span span) (told_span (x ∷ next)) ++ es) (gaps-same t log ((x ∷ next) ∷ sp) all.1)
 
 -- NOTHING ELSE
 flat-nothing : (h : Seen → List Event) → ((x : Seen) → IsPlainSeen x → h x ≡ []) → (xs : List Seen) → AllByRecursion IsPlainSeen xs → flat_map h xs ≡ []
@@ -377,13 +388,13 @@ module _ (log : RunLog) (h : IsWithoutCards log) (ss : List TraceSecond) (each :
   unfolding spans_of
   spans-are = sym (spans-same (seen_of log ss) []) ∙ ap (λ (ts : List Told). fold spans_with [] ts) (watches log h ss each).0
 
-  pub events-plain : (kind limit : ℕ) (sessions : ℕ → Card → ℕ) → events_of kind limit sessions log ss ≡ plain_events kind limit log (spans_of (went log ss).told)
-  events-plain kind limit sessions =
+  pub events-plain : (kind limit : ℕ) (sessions : ℕ → Visit → ℕ) (t : Tearing) → events_of kind limit sessions t log ss ≡ plain_events kind limit log (spans_of (went log ss).told)
+  events-plain kind limit sessions t =
       by-kind (kind == DRIVING_WITHOUT_CARD) (kind == OVER_SPEEDING) (kind == POWER_INTERRUPTION) (kind == CARD_FAULT)
-      (bare_events log ss) (over_events limit log ss) (gap_events log ss) (fault_events log ss) (judged_events kind sessions log ss)
+      (bare_events log ss) (over_events limit log ss) (gap_events t log ss) (fault_events t log ss) (judged_events kind sessions t log ss)
       (flat_map bares_in (spans_of (went log ss).told)) (flat_map (overs_in limit) (spans_of (went log ss).told)) (gaps_in log (spans_of (went log ss).told))
       (flat-same (λ (span : List Seen). filter_map seen.bare_event (ended_runs is_bare span)) bares_in bare-span (seen_spans (seen_of log ss)) plain-spans ∙ ap (flat_map bares_in) spans-are)
       (flat-same (λ (span : List Seen). filter_map seen.over_event (ended_runs (λ (x : Seen). is_above limit (seen.speed_second x)) span)) (overs_in limit) (over-span limit) (seen_spans (seen_of log ss)) plain-spans ∙ ap (flat_map (overs_in limit)) spans-are)
-      (gaps-same log (seen_spans (seen_of log ss)) plain-spans ∙ ap (gaps_in log) spans-are)
-      (flat-nothing (λ (x : Seen). map (fault_of log x) x.told.course.torn) (λ x is. ap (map (fault_of log x)) is.torn) (seen_of log ss) plain)
-      (flat-nothing (λ (x : Seen). flat_map (λ (f : Visit × Verdict). found_events kind (sessions (number_of x) f.0.card) x f.0 f.1) x.told.course.found) (λ x is. ap (flat_map (λ (f : Visit × Verdict). found_events kind (sessions (number_of x) f.0.card) x f.0 f.1)) is.found) (seen_of log ss) plain)
+      (gaps-same t log (seen_spans (seen_of log ss)) plain-spans ∙ ap (gaps_in log) spans-are)
+      (flat-nothing (λ (x : Seen). map (fault_of t log x) (torn_in_turn t x x.told.course.torn)) (λ x is. ap (λ (vs : List Visit). map (fault_of t log x) (torn_in_turn t x vs)) is.torn) (seen_of log ss) plain)
+      (flat-nothing (λ (x : Seen). flat_map (λ (f : Visit × Verdict). found_events kind (sessions (number_of x) f.0) t x f.0 f.1) x.told.course.found) (λ x is. ap (flat_map (λ (f : Visit × Verdict). found_events kind (sessions (number_of x) f.0) t x f.0 f.1)) is.found) (seen_of log ss) plain)

@@ -9,7 +9,7 @@ use Rattle.log_model.specs.declared.lines.Break.{Break}
 use Rattle.log_model.specs.declared.lines.Break.TheVariants.{Cut, Tear}
 use Rattle.log_model.specs.declared.lines.Refused.{Refused}
 use Rattle.log_model.specs.Log.{RunLog, kept_after}
-use Rattle.log_model.specs.Course.{Told, Went, went}
+use Rattle.log_model.specs.Course.{Told, Visit, Went, went}
 use Rattle.log_model.specs.Spans.{spans_of}
 use Rattle.log_model.specs.Causes.{is_cut}
 use Rattle.unit_model.specs.declared.layout.TheConstants.{SPEED_LIMIT, FIRST_OVER, OVER_COUNT}
@@ -18,7 +18,7 @@ use Rattle.event_model.specs.declared.kinds.TheConstants.{DRIVING_WITHOUT_CARD, 
 use Rattle.event_model.specs.declared.entries.Over.{Over}
 use Rattle.event_model.specs.declared.entries.Span.{Span}
 use Rattle.event_model.specs.Spans.{bares_of, overs_of, gap_of}
-use Rattle.event_model.specs.Events.{Crew, Event, events_of}
+use Rattle.event_model.specs.Events.{Crew, Event, Tearing, events_of}
 use Rattle.event_model.specs.Places.{place_of, day_place}
 use Rattle.side_model.specs.Tables.{table_in, held_in, held_of, number_or_none, HasNumbers, HasSpeeds, HasRest, IsNotedAt, IsNoted, AreNoted}
 use Rattle.unit_course.specs.Lines.{log_of, IsCutBefore}
@@ -114,9 +114,9 @@ module _ (limit number : ℕ) (breaks : List Break) (refused : List Refused) (ss
   abbrev spans : List (List Told)
   spans = spans_of (went (log_of breaks) ss).told
 
-  plain-logged : (kind : ℕ) (sessions : ℕ → Card → ℕ) → events_of kind limit sessions (logged breaks refused) ss ≡ plain_events kind limit (log_of breaks) spans
-  plain-logged kind sessions =
-      events-plain (logged breaks refused) (record { breaks = all-cuts number breaks cuts; finds = refl }) ss each kind limit sessions
+  plain-logged : (kind : ℕ) (sessions : ℕ → Visit → ℕ) (t : Tearing) → events_of kind limit sessions t (logged breaks refused) ss ≡ plain_events kind limit (log_of breaks) spans
+  plain-logged kind sessions t =
+      events-plain (logged breaks refused) (record { breaks = all-cuts number breaks cuts; finds = refl }) ss each kind limit sessions t
       ∙ ap (λ (w : Went). plain_events kind limit (logged breaks refused) (spans_of w.told)) (went-refusing breaks refused ss)
       ∙ ap (λ (gaps : List Event). cond (kind == DRIVING_WITHOUT_CARD) (flat_map bares_in spans) (cond (kind == OVER_SPEEDING) (flat_map (overs_in limit) spans) (cond (kind == POWER_INTERRUPTION) gaps [])))
       (gaps-log (log_of breaks) (logged breaks refused) (kept-logged breaks refused) spans)
@@ -134,11 +134,11 @@ module _ (limit number : ℕ) (breaks : List Break) (refused : List Refused) (ss
       none Lost on = refl
 
   pub shows-run : (start x : List ℕ) (supply : Supply) (next : ℕ) → number_of start SPEED_LIMIT ≡ limit → IsNotDue supply → ShowsEvents start (log_of breaks) (lists_of limit (log_of breaks) spans supply next) x →
-      (numbers : Card → List ℕ) (sessions : ℕ → Card → ℕ) → ShowsRun numbers start (logged breaks refused) ss sessions x
-  shows-run start x supply next limit_is on s numbers sessions =
+      (numbers : Card → List ℕ) (sessions : ℕ → Visit → ℕ) (t : Tearing) → ShowsRun numbers start (logged breaks refused) ss sessions t x
+  shows-run start x supply next limit_is on s numbers sessions t =
       let l : Lists = lists_of limit (log_of breaks) spans supply next in
-      let is : (kind : ℕ) → of_kind kind l ≡ events_of kind (number_of start SPEED_LIMIT) sessions (logged breaks refused) ss =
-      λ kind. lists-plain kind supply next on ∙ sym (plain-logged kind sessions) ∙ ap (λ (n : ℕ). events_of kind n sessions (logged breaks refused) ss) (sym limit_is) in
+      let is : (kind : ℕ) → of_kind kind l ≡ events_of kind (number_of start SPEED_LIMIT) sessions t (logged breaks refused) ss =
+      λ kind. lists-plain kind supply next on ∙ sym (plain-logged kind sessions t) ∙ ap (λ (n : ℕ). events_of kind n sessions t (logged breaks refused) ss) (sym limit_is) in
       record {
         events = λ kind there sure.
             let empty : AreEmpty (of_kind kind l) = subst AreEmpty (sym (lists-plain kind supply next on)) (empty-events kind limit (log_of breaks) spans) in

@@ -6,10 +6,11 @@ use Rattle.trace_model.specs.declared.Card.{Card}
 use Rattle.trace_model.specs.Trace.{TraceSecond}
 use Rattle.tach_media.specs.Medium.{State}
 use Rattle.log_model.specs.Log.{RunLog}
+use Rattle.log_model.specs.Course.{Visit}
 use Rattle.unit_model.specs.declared.layout.TheConstants.{SPEED_LIMIT, FIRST_OVER, OVER_COUNT, INSERTIONS}
 use Rattle.unit_model.specs.Image.{number_of}
 use Rattle.event_model.specs.declared.kinds.TheConstants.{CARD_NOT_VALID, TIME_OVERLAP, DRIVING_WITHOUT_CARD, INSERTION_WHILE_DRIVING, SESSION_NOT_CLOSED, OVER_SPEEDING, POWER_INTERRUPTION, CARD_FAULT}
-use Rattle.event_model.specs.Events.{Event, events_of}
+use Rattle.event_model.specs.Events.{Event, Tearing, events_of}
 use Rattle.side_model.specs.Tables.{table_in, AreNoted}
 use Rattle.event_course.specs.Noted.{Lists, of_kind, are_sure}
 
@@ -61,14 +62,14 @@ pub record ShowsMore (log : RunLog) (l more : Lists) (x c : List ℕ) : Type 0 w
   pub begins : HaveBegins more.overs
 
 -- What an image shows of the events of a run without cards at its end, by its log: `sessions` tells the session times that were found
--- open, of which there are none.
-pub record ShowsRun (number : Card → List ℕ) (start : List ℕ) (log : RunLog) (ss : List TraceSecond) (sessions : ℕ → Card → ℕ) (x : List ℕ) : Type 0 where
-  pub events : (kind : ℕ) → Contains all_kinds kind → are_sure log (events_of kind (number_of start SPEED_LIMIT) sessions log ss) ≡ true →
-      AreNoted number (table_in kind start) (events_of kind (number_of start SPEED_LIMIT) sessions log ss) (table_in kind x)
-  pub first_over : are_sure log (events_of OVER_SPEEDING (number_of start SPEED_LIMIT) sessions log ss) ≡ true →
-      number_of x FIRST_OVER ≡ first_on (number_of start FIRST_OVER) (events_of OVER_SPEEDING (number_of start SPEED_LIMIT) sessions log ss)
-  pub over_count : are_sure log (events_of OVER_SPEEDING (number_of start SPEED_LIMIT) sessions log ss) ≡ true →
-      number_of x OVER_COUNT ≡ count_on (number_of start OVER_COUNT) (events_of OVER_SPEEDING (number_of start SPEED_LIMIT) sessions log ss)
+-- open, and `t` what no log tells of tears, of which there are none.
+pub record ShowsRun (number : Card → List ℕ) (start : List ℕ) (log : RunLog) (ss : List TraceSecond) (sessions : ℕ → Visit → ℕ) (t : Tearing) (x : List ℕ) : Type 0 where
+  pub events : (kind : ℕ) → Contains all_kinds kind → are_sure log (events_of kind (number_of start SPEED_LIMIT) sessions t log ss) ≡ true →
+      AreNoted number (table_in kind start) (events_of kind (number_of start SPEED_LIMIT) sessions t log ss) (table_in kind x)
+  pub first_over : are_sure log (events_of OVER_SPEEDING (number_of start SPEED_LIMIT) sessions t log ss) ≡ true →
+      number_of x FIRST_OVER ≡ first_on (number_of start FIRST_OVER) (events_of OVER_SPEEDING (number_of start SPEED_LIMIT) sessions t log ss)
+  pub over_count : are_sure log (events_of OVER_SPEEDING (number_of start SPEED_LIMIT) sessions t log ss) ≡ true →
+      number_of x OVER_COUNT ≡ count_on (number_of start OVER_COUNT) (events_of OVER_SPEEDING (number_of start SPEED_LIMIT) sessions t log ss)
 
 -- nothing has changed that tells of events: the two numbers of over speedings, and what stands from the insertions on
 pub record KeepsEvents (x c : List ℕ) : Type 0 where

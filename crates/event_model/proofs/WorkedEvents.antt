@@ -1,11 +1,11 @@
 -- Worked events of runs, computed from the lines of a trace and a written run log.
 use Rattle.std.proofs.Common.{◌≡◌, ℕ, ◌+◌, ◌/◌, true, false, cond, Some, None, List, [], ◌∷◌, refl}
-use Rattle.std.specs.Prelude.{nat_eq}
+use Rattle.std.specs.Prelude.{Bool, nat_eq}
 use Rattle.activity_codec.specs.declared.values.Slot.{Slot}
 use Rattle.activity_codec.specs.declared.values.Slot.TheVariants.{Driver, CoDriver}
 use Rattle.trace_model.specs.declared.Card.{Card}
 use Rattle.trace_model.specs.declared.Card.TheVariants.{A, B}
-use Rattle.trace_model.specs.declared.Action.TheVariants.{Insert}
+use Rattle.trace_model.specs.declared.Action.TheVariants.{Insert, Withdraw}
 use Rattle.trace_model.specs.declared.Item.{Item}
 use Rattle.trace_model.specs.declared.Item.TheVariants.{Run, Off, Act}
 use Rattle.trace_model.specs.Trace.{seconds_of}
@@ -15,7 +15,8 @@ use Rattle.log_model.specs.declared.lines.Find.{Find}
 use Rattle.log_model.specs.declared.lines.Verdict.{Verdict}
 use Rattle.log_model.specs.declared.lines.Verdict.TheVariants.{Accepted, TimeOverlap}
 use Rattle.log_model.specs.Log.{RunLog, cut_in, kept_after, is_torn_in, found_in}
-use Rattle.event_model.specs.Events.{Crew, Event, noted_with, seen_of, events_of}
+use Rattle.log_model.specs.Course.{Visit}
+use Rattle.event_model.specs.Events.{Crew, Event, Tearing, noted_with, seen_of, events_of}
 
 -- 2010-03-01 00:00:00
 abbrev start : ℕ
@@ -32,12 +33,19 @@ abbrev nobody : Crew
 nobody = record { driver = None; codriver = None }
 
 -- no session was found open
-abbrev none_open : ℕ → Card → ℕ
-none_open second card = 0
+abbrev none_open : ℕ → Visit → ℕ
+none_open second visit = 0
 
--- the events of a type, with limit 90
-abbrev of_type : ℕ → (ℕ → Card → ℕ) → RunLog → List Item → List Event
-of_type kind sessions log lines = events_of kind 90 sessions log (seconds_of start lines)
+-- a card that is torn out at a power-on is so as it is judged, and of two that are in one action the driver's is the first
+abbrev plain : Tearing
+plain = record { by_gap = λ u slot. false; driver_first = λ u n. true }
+
+-- the events of a type, with limit 90, by a choice of what no log tells of tears
+abbrev of_type_by : Tearing → ℕ → (ℕ → Visit → ℕ) → RunLog → List Item → List Event
+of_type_by t kind sessions log lines = events_of kind 90 sessions t log (seconds_of start lines)
+
+abbrev of_type : ℕ → (ℕ → Visit → ℕ) → RunLog → List Item → List Event
+of_type = of_type_by plain
 
 -- a minute and a second at 100 km/h without a card, then two minutes at rest
 abbrev fast_minute : List Item
@@ -60,8 +68,8 @@ abbrev torn_log : RunLog
 torn_log = logged (Tear (start + 239) Driver true 0 true ∷ []) (found Driver start 1 (Accepted 0) ∷ found Driver (start + 360) 1 (Accepted 2) ∷ [])
 
 -- its session was open then
-abbrev open_at_second : ℕ → Card → ℕ
-open_at_second second card = cond (nat_eq second (start + 360)) start 0
+abbrev open_at_second : ℕ → Visit → ℕ
+open_at_second second visit = cond (nat_eq second (start + 360)) start 0
 
 driving_without_it : of_type 0x04 open_at_second torn_log torn_card ≡ noted_with 0x04 (start + 240) (start + 359) nobody ∷ []
 unfolding seen_of seconds_of cut_in kept_after is_torn_in found_in
@@ -108,3 +116,91 @@ time_overlap : of_type 0x03 none_open (logged [] (found Driver (start + 1) 1 (Ac
     ≡ noted_with 0x03 (start + 1) (start + 99) (record { driver = Some A; codriver = None }) ∷ []
 unfolding seen_of seconds_of cut_in kept_after is_torn_in found_in
 time_overlap = refl
+
+-- Two accepted cards lose power, and are accepted anew ten minutes later, with this many seconds at this speed from then on.
+abbrev two_cards : (speed : ℕ) → List Item
+two_cards speed = Act (Insert Driver A) ∷ Act (Insert CoDriver B) ∷ Run 600 0 ∷ Off 600 ∷ Run 2 speed ∷ []
+
+-- both are torn out at the power-on
+abbrev both_torn : RunLog
+both_torn = logged
+    (Cut (start + 599) (start / 60 + 7) false 0 ∷ Tear (start + 1200) Driver true 0 false ∷ Tear (start + 1200) CoDriver true 0 false ∷ [])
+    (found Driver start 1 (Accepted 0) ∷ found CoDriver start 2 (Accepted 0) ∷ found Driver (start + 1200) 0 (Accepted 0) ∷ found CoDriver (start + 1200) 0 (Accepted 0) ∷ [])
+
+abbrev driver_alone : Card → Crew
+driver_alone card = record { driver = Some card; codriver = None }
+
+abbrev codriver_alone : Card → Crew
+codriver_alone card = record { driver = None; codriver = Some card }
+
+-- at rest both are so as the interruption is noted on them: it has both, and the driver's fault has the co-driver's card
+abbrev both_by_gap : Tearing
+both_by_gap = record { by_gap = λ u slot. true; driver_first = λ u n. true }
+
+interruption_of_both : of_type_by both_by_gap 0x08 none_open both_torn (two_cards 0) ≡ noted_with 0x08 (start + 480) (start + 1200) (record { driver = Some A; codriver = Some B }) ∷ []
+unfolding seen_of seconds_of cut_in kept_after is_torn_in found_in
+interruption_of_both = refl
+
+faults_of_both : of_type_by both_by_gap 0x40 none_open both_torn (two_cards 0)
+    ≡ noted_with 0x40 (start + 1200) (start + 1200) (codriver_alone B) ∷ noted_with 0x40 (start + 1200) (start + 1200) nobody ∷ []
+unfolding seen_of seconds_of cut_in kept_after is_torn_in found_in
+faults_of_both = refl
+
+-- in motion the co-driver's may be so as it is judged, and the driver's as the interruption is noted: this has the driver's card alone, and
+-- the co-driver's fault, which has the driver's card, comes first
+abbrev driver_by_gap : Tearing
+driver_by_gap = record { by_gap = λ u slot. is_driver slot; driver_first = λ u n. true }
+  where
+    is_driver : Slot → Bool
+    is_driver Driver = true
+    is_driver CoDriver = false
+
+interruption_in_motion : of_type_by driver_by_gap 0x08 none_open both_torn (two_cards 30) ≡ noted_with 0x08 (start + 480) (start + 1200) (driver_alone A) ∷ []
+unfolding seen_of seconds_of cut_in kept_after is_torn_in found_in
+interruption_in_motion = refl
+
+faults_in_motion : of_type_by driver_by_gap 0x40 none_open both_torn (two_cards 30)
+    ≡ noted_with 0x40 (start + 1200) (start + 1200) (driver_alone A) ∷ noted_with 0x40 (start + 1200) (start + 1200) nobody ∷ []
+unfolding seen_of seconds_of cut_in kept_after is_torn_in found_in
+faults_in_motion = refl
+
+-- each is accepted before it is torn out
+insertions_in_motion : of_type_by driver_by_gap 0x05 none_open both_torn (two_cards 30)
+    ≡ noted_with 0x05 (start + 1200) (start + 1200) (driver_alone A) ∷ noted_with 0x05 (start + 1200) (start + 1200) (record { driver = Some A; codriver = Some B }) ∷ []
+unfolding seen_of seconds_of cut_in kept_after is_torn_in found_in
+insertions_in_motion = refl
+
+-- or both may be so as they are judged: the interruption has no card
+interruption_without_cards : of_type 0x08 none_open both_torn (two_cards 30) ≡ noted_with 0x08 (start + 480) (start + 1200) nobody ∷ []
+unfolding seen_of seconds_of cut_in kept_after is_torn_in found_in
+interruption_without_cards = refl
+
+-- The driver's card is withdrawn, and what that settles tears both out: the driver's is out of its slot by then.
+abbrev withdrawn : List Item
+withdrawn = Act (Insert Driver A) ∷ Act (Insert CoDriver B) ∷ Run 300 0 ∷ Act (Withdraw Driver) ∷ Run 60 0 ∷ []
+
+abbrev torn_by_settling : RunLog
+torn_by_settling = logged (Tear (start + 300) Driver true 1 false ∷ Tear (start + 300) CoDriver true 1 false ∷ [])
+    (found Driver start 1 (Accepted 0) ∷ found CoDriver start 2 (Accepted 0) ∷ [])
+
+withdrawal_of_the_first : of_type 0x40 none_open torn_by_settling withdrawn
+    ≡ noted_with 0x40 (start + 300) (start + 300) (codriver_alone B) ∷ noted_with 0x40 (start + 300) (start + 300) nobody ∷ []
+unfolding seen_of seconds_of cut_in kept_after is_torn_in found_in
+withdrawal_of_the_first = refl
+
+-- or the co-driver's is torn out by the settling, and then the driver's as its session is closed
+abbrev codriver_first : Tearing
+codriver_first = record { by_gap = λ u slot. false; driver_first = λ u n. false }
+
+withdrawal_of_the_last : of_type_by codriver_first 0x40 none_open torn_by_settling withdrawn
+    ≡ noted_with 0x40 (start + 300) (start + 300) nobody ∷ noted_with 0x40 (start + 300) (start + 300) nobody ∷ []
+unfolding seen_of seconds_of cut_in kept_after is_torn_in found_in
+withdrawal_of_the_last = refl
+
+-- A card is put into the driver slot, and what that settles tears the co-driver's out: the driver's is not accepted by then.
+put_in_beside : of_type_by codriver_first 0x40 none_open
+    (logged (Tear (start + 300) CoDriver true 1 false ∷ []) (found CoDriver start 1 (Accepted 0) ∷ found Driver (start + 300) 1 (Accepted 0) ∷ []))
+    (Act (Insert CoDriver B) ∷ Run 300 0 ∷ Act (Insert Driver A) ∷ Run 60 0 ∷ [])
+    ≡ noted_with 0x40 (start + 300) (start + 300) nobody ∷ []
+unfolding seen_of seconds_of cut_in kept_after is_torn_in found_in
+put_in_beside = refl

@@ -1,16 +1,14 @@
 -- Decided minutes are kept, one after another.
-use Rattle.std.proofs.Common.{◌≡◌, ◌∙◌, inl, inr, ℕ, ◌+◌, ◌<◌, Bool, true, false, List, [], ◌∷◌, ◌++◌, length, take, drop, All, Option, Some, None, refl, ap, sym, subst}
-use Rattle.std.specs.Prelude.{get_or, nat_eq}
+use Rattle.std.proofs.Common.{◌≡◌, ◌∙◌, inl, inr, ℕ, ◌+◌, ◌<◌, ◌≤◌, arith, Bool, true, false, IfSome, List, [], ◌∷◌, ◌++◌, length, take, drop, All, Option, Some, None, refl, ap, sym, subst}
+use Rattle.std.specs.Prelude.{get_or}
 use Rattle.std.proofs.lemmas.List.{drop_more, take_more, take-append-drop}
-use Rattle.std.proofs.lemmas.List.Elements.{All-head, All-tail, All-get_or}
+use Rattle.std.proofs.lemmas.List.Elements.{All-get_or}
 use Rattle.activity_codec.specs.declared.values.Activity.TheVariants.{Rest}
 use Rattle.trace_model.specs.declared.Card.{Card}
 use Rattle.tach_media.specs.Medium.{State}
 use Rattle.minute_model.specs.declared.Minute.{Minute}
 use Rattle.unit_journal.specs.declared.kept.KeptMinute.{KeptMinute}
-use Rattle.slot_machine.specs.declared.seats.Ended.{Ended}
 use Rattle.slot_machine.specs.declared.seats.Present.{Present}
-use Rattle.slot_machine.specs.Calls.{present_in}
 use Rattle.run_crew.specs.declared.cards.Cards.{Cards}
 use Rattle.run_keeping.specs.declared.keeper.Moment.{Moment}
 use Rattle.run_keeping.specs.Keeping.{HasItsRow, HaveRows}
@@ -63,19 +61,17 @@ module _ (ds : List Minute) (i : ℕ) (low : i < length ds) where
     cut-on None h = record { front = take i ds; here = this; rest = drop (i + 1) ds; are = whole; between = u; kept = so; last = inl h.1 }
     cut-on (Some r) h = record { front = take i ds; here = this; rest = drop (i + 1) ds; are = whole; between = u; kept = so; last = inr (r, round-here true r h.0, told-here r h.2) }
 
+-- the last one is none of those before
+pub due-most : (kept : ℕ) (ms : List Minute) → AreDue kept ms → kept ≤ kept_after kept ms
+due-most kept [] due = omega arith
+due-most kept (m ∷ ms) due = let here = due.0 in let rest = due-most m.minute ms due.3 in omega (arith, here, rest)
+
 -- ---- who was present
 
--- what holds of all that were present holds of those of a minute
-pub present-here : (P : Present → Type 0) (m : ℕ) (p : Present) (past : List Ended) → All (λ e. P e.present) past → Some p ≡ present_in past m → P p
-present-here P m p [] h is = absurd (cc)
-present-here P m p (e ∷ past) h is = by (λ at. present-here P m p past (All-tail (λ (e : Ended). P e.present) e past h) at) (nat_eq e.minute m) refl
-  where
-    by : (Some p ≡ present_in past m → P p) → (b : Bool) → nat_eq e.minute m ≡ b → P p
-    by rest true here =
-        let at : Some p ≡ Some e.present = rw here at is in
-        let same : p ≡ e.present = cc in
-        subst P (sym same) (All-head (λ (e : Ended). P e.present) e past h)
-    by rest false other = rest (rw other at is)
+-- what holds of those of a minute, by what is known of it
+pub present-here : (P : Present → Type 0) (o : Option Present) (p : Present) → Some p ≡ o → IfSome o P → P p
+present-here P None p is h = absurd (cc)
+present-here P (Some q) p is h = let same : q ≡ p = cc in subst P same h
 
 -- their rows are there still
 pub rows-on : (old new : Cards) (U V : State) (p : Present) → ((card : Card) → HasItsRow old U card → HasItsRow new V card) → HaveRows old U p → HaveRows new V p

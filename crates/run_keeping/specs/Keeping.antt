@@ -1,5 +1,5 @@
 -- What the keeping of a minute is given, and what becomes of its entries on the cards, by value (profile).
-use Rattle.std.specs.Prelude.{◌≡◌, ℕ, ◌+◌, Bool, true, false, Option, Some, None, Ok, IfSome, List, [], ◌∷◌, ◌++◌, is_some}
+use Rattle.std.specs.Prelude.{◌≡◌, ◌⊎◌, ℕ, ◌+◌, Bool, true, false, Option, Some, None, Ok, IfSome, List, [], ◌∷◌, ◌++◌, is_some}
 use Rattle.activity_codec.specs.declared.entries.Entry.{Entry}
 use Rattle.activity_codec.specs.declared.values.Activity.{Activity}
 use Rattle.activity_codec.specs.declared.values.Slot.{Slot}
@@ -27,6 +27,7 @@ use Rattle.log_model.specs.declared.lines.Mark.{Mark}
 use Rattle.log_model.specs.Causes.{device_of}
 use Rattle.log_model.specs.Slots.{same_card}
 use Rattle.slot_machine.specs.declared.seats.Present.{Present}
+use Rattle.slot_machine.specs.Calls.{Seats}
 use Rattle.run_crew.specs.declared.cards.Accepted.{Accepted}
 use Rattle.run_crew.specs.declared.cards.Cards.{Cards}
 use Rattle.run_crew.specs.declared.cards.Crew.{Crew}
@@ -77,6 +78,20 @@ tears_of (Some accepted) = 1
 
 abbrev pub most_tears : Cards → ℕ
 most_tears cards = tears_of cards.a.accepted + tears_of cards.b.accepted
+
+-- each slot has what it had, or nothing
+abbrev pub AreEmptied : (old new : Seats) → Type 0
+AreEmptied old new = ((new.driver ≡ old.driver) ⊎ (new.driver ≡ None)) × ((new.codriver ≡ old.codriver) ⊎ (new.codriver ≡ None))
+
+-- a session goes on by the entry of its insertion, or is gone
+abbrev pub GoesOnFrom : (old new : Option Accepted) → Type 0
+GoesOnFrom old None = Unit {0}
+GoesOnFrom None (Some new) = ⊥
+GoesOnFrom (Some old) (Some new) = (new.entry ≡ old.entry) × (new.noted ≡ old.noted)
+
+pub record SessionsGoOn (old new : Cards) : Type 0 where
+  pub a : GoesOnFrom old.a.accepted new.a.accepted
+  pub b : GoesOnFrom old.b.accepted new.b.accepted
 
 -- ---- what a minute says
 

@@ -115,10 +115,6 @@ abbrev pub kept_after : (kept : ℕ) → List Minute → ℕ
 kept_after kept [] = kept
 kept_after kept (m ∷ ms) = kept_after m.minute ms
 
--- those that were present in the minutes that ended have their rows
-abbrev pub AllHaveRows : Cabin → (unit : State) → Type 0
-AllHaveRows cabin unit = All (λ e. HaveRows cabin.cards unit e.present) cabin.slots.past
-
 -- the cards that were present in a minute: nobody in one that has not ended, or is not known any more
 abbrev pub or_nobody : Option Present → Present
 or_nobody None = record { driver = None; codriver = None }

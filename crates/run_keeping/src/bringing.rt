@@ -8,7 +8,7 @@ ghost use Rattle.card_session.specs.declared.words.TheConstants.{LATEST_MINUTE};
 ghost use Rattle.unit_notes.specs.Journal.{LeavesJournal};
 ghost use Rattle.run_crew.specs.Cards.{known_of, session_of};
 ghost use Rattle.run_crew.specs.Cabin.{Stands, IsBehind, crew_of};
-ghost use Rattle.run_keeping.specs.Keeping.{UnitReady, CardReady, HasItsRow, IsReady, Fate, IsBrought, IsNotingFault, tears_of, session_at, state_at, is_this};
+ghost use Rattle.run_keeping.specs.Keeping.{UnitReady, CardReady, HasItsRow, IsReady, AreEmptied, SessionsGoOn, Fate, IsBrought, IsNotingFault, tears_of, session_at, state_at, is_this};
 
 use crate::keeper::{Keeper, Moment};
 use card_session::Kept;
@@ -58,6 +58,7 @@ impl Keeper {
         ensures ready { OnOk result (UnitReady self.new (M.state unit.new)) }
         ensures rows { (card : Card) → HasItsRow self.old.cabin.cards (M.state unit.old) card → OnOk result (HasItsRow self.new.cabin.cards (M.state unit.new) card) }
         ensures card { CardReady (known_of self.new.cabin.cards which) (C.card card.new) (C.state card.new) }
+        ensures size { (C.state card.new).size ≡ (C.state card.old).size }
         ensures broken { HasBroken (C.state card.old) (C.state card.new) (tears_of (session_of self.old.cabin.cards which) - tears_of (session_of self.new.cabin.cards which)) }
         ensures stands { (from : ℕ) (leaving : Option Card) → from ≤ kept.now.entry.minute + 1 → Stands from leaving self.old.cabin → Stands (kept.now.entry.minute + 1) leaving self.new.cabin }
     {
@@ -114,6 +115,12 @@ impl Keeper {
         ensures journal { LeavesOnly (M.state unit.old) (M.state unit.new) LeavesJournal }
         ensures cause { HasCause (M.state unit.old) (M.state unit.new) (is_err result) }
         ensures ready { OnOk result (IsReady self.new (M.state unit.new) (C.card card_a.new) (D.card card_b.new) (C.state card_a.new) (D.state card_b.new)) }
+        ensures seats { AreEmptied self.old.cabin.slots.seats self.new.cabin.slots.seats }
+        ensures sessions { SessionsGoOn self.old.cabin.cards self.new.cabin.cards }
+        ensures card_a { CardReady self.new.cabin.cards.a (C.card card_a.new) (C.state card_a.new) }
+        ensures card_b { CardReady self.new.cabin.cards.b (D.card card_b.new) (D.state card_b.new) }
+        ensures size_a { (C.state card_a.new).size ≡ (C.state card_a.old).size }
+        ensures size_b { (D.state card_b.new).size ≡ (D.state card_b.old).size }
         ensures rows { (card : Card) → HasItsRow self.old.cabin.cards (M.state unit.old) card → OnOk result (HasItsRow self.new.cabin.cards (M.state unit.new) card) }
         ensures stands { (from : ℕ) (leaving : Option Card) → from ≤ kept.now.entry.minute + 1 → Stands from leaving self.old.cabin → Stands (kept.now.entry.minute + 1) leaving self.new.cabin }
     {

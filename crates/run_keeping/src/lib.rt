@@ -9,6 +9,7 @@ mod minutes;
 mod tearing;
 
 pub use keeper::{Keeper, Moment};
+pub use minutes::odometer_after;
 
 #[cfg(test)]
 mod tests;

@@ -4,9 +4,10 @@ ghost use Rattle.tach_media.specs.Medium.{HasCause, HasBroken};
 ghost use Rattle.trace_model.specs.declared.Card.{Card};
 ghost use Rattle.slot_machine.specs.Calls.{present_in};
 ghost use Rattle.unit_model.specs.declared.layout.TheConstants.{HIGHEST_ODOMETER};
+ghost use Rattle.unit_model.specs.Image.{IsUnit};
 ghost use Rattle.run_crew.specs.Cabin.{Stands};
-ghost use Rattle.run_keeping.specs.Keeping.{IsReady, HasItsRow, tears_of, most_tears};
-ghost use Rattle.run_keeping.specs.Minutes.{odometer_by, kept_of, AreDue, AllHaveRows, kept_after, AreKeptUpTo};
+ghost use Rattle.run_keeping.specs.Keeping.{IsReady, CardReady, HasItsRow, HaveRows, AreEmptied, SessionsGoOn, tears_of, most_tears};
+ghost use Rattle.run_keeping.specs.Minutes.{odometer_by, kept_of, AreDue, kept_after, AreKeptUpTo};
 
 use crate::keeper::{Keeper, Moment};
 use activity_codec::Activity;
@@ -20,8 +21,8 @@ use trace_model::Card;
 use unit_journal::{KeptMinute, State};
 use unit_model::layout::HIGHEST_ODOMETER;
 
-// The odometer in kilometres, where it stood at `stored` and so many km/h were summed up by seconds since.
-fn odometer_after(stored: u32, travelled: u64) -> Odometer
+/// The odometer in kilometres, where it stood at `stored` and so many km/h were summed up by seconds since.
+pub fn odometer_after(stored: u32, travelled: u64) -> Odometer
     requires { stored ≤ HIGHEST_ODOMETER }
     ensures { result.0 ≡ odometer_by stored travelled }
 {
@@ -71,7 +72,7 @@ impl Keeper {
         requires ready { IsReady self.old (M.state unit.old) (C.card card_a.old) (D.card card_b.old) (C.state card_a.old) (D.state card_b.old) }
         requires due { AreDue self.old.journal.kept decided.now }
         requires ended { All (λ m. is_some (present_in self.old.cabin.slots.past m.minute) ≡ true) decided.now }
-        requires rows { AllHaveRows self.old.cabin (M.state unit.old) }
+        requires rows { All (λ m. IfSome (present_in self.old.cabin.slots.past m.minute) (HaveRows self.old.cabin.cards (M.state unit.old))) decided.now }
         requires stands { (from : ℕ) × (leaving : Option Card) × All (λ m. from ≤ m.minute) decided.now × Stands from leaving self.old.cabin }
         requires odometer { self.old.odometer ≤ HIGHEST_ODOMETER }
         requires minute { self.old.cabin.slots.minute ≤ at.second / 60 }
@@ -79,12 +80,20 @@ impl Keeper {
         requires marks { length marks.old.items + 3 * length decided.now ≤ marks.old.room }
         requires breaks { length breaks.old.items + most_tears self.old.cabin.cards ≤ breaks.old.room }
         ensures kept { AreKeptUpTo decided.now at (is_err result) (record { keeper = self.old; marks = marks.old; breaks = breaks.old }) (record { keeper = self.new; marks = marks.new; breaks = breaks.new }) }
+        ensures unit { IsUnit (M.state unit.new) }
+        ensures more { length breaks.old.items ≤ length breaks.new.items }
         ensures ready { OnOk result (IsReady self.new (M.state unit.new) (C.card card_a.new) (D.card card_b.new) (C.state card_a.new) (D.state card_b.new)) }
         ensures rows { (card : Card) → HasItsRow self.old.cabin.cards (M.state unit.old) card → OnOk result (HasItsRow self.new.cabin.cards (M.state unit.new) card) }
         ensures same { (self.new.memory ≡ self.old.memory) × (self.new.odometer ≡ self.old.odometer) × (self.new.cabin.slots.past ≡ self.old.cabin.slots.past) }
         ensures minute { self.new.cabin.slots.minute ≤ at.second / 60 }
         ensures last { OnOk result (self.new.journal.kept ≡ kept_after self.old.journal.kept decided.now) }
-        ensures stands { OnOk result ((from : ℕ) (leaving : Option Card) → All (λ m. from ≤ m.minute) decided.now → Stands from leaving self.old.cabin → (next : ℕ) → from ≤ next → kept_after self.old.journal.kept decided.now < next → Stands next leaving self.new.cabin) }
+        ensures stands { (from : ℕ) (leaving : Option Card) → All (λ m. from ≤ m.minute) decided.now → Stands from leaving self.old.cabin → (next : ℕ) → from ≤ next → kept_after self.old.journal.kept decided.now < next → Stands next leaving self.new.cabin }
+        ensures seats { AreEmptied self.old.cabin.slots.seats self.new.cabin.slots.seats }
+        ensures sessions { SessionsGoOn self.old.cabin.cards self.new.cabin.cards }
+        ensures card_a { CardReady self.new.cabin.cards.a (C.card card_a.new) (C.state card_a.new) }
+        ensures card_b { CardReady self.new.cabin.cards.b (D.card card_b.new) (D.state card_b.new) }
+        ensures size_a { (C.state card_a.new).size ≡ (C.state card_a.old).size }
+        ensures size_b { (D.state card_b.new).size ≡ (D.state card_b.old).size }
         ensures marks { (marks.new.room ≡ marks.old.room) × (length marks.new.items ≤ length marks.old.items + 3 * length decided.now) }
         ensures breaks { (breaks.new.room ≡ breaks.old.room) × (length breaks.new.items + most_tears self.new.cabin.cards ≤ length breaks.old.items + most_tears self.old.cabin.cards) }
         ensures a_broken { HasBroken (C.state card_a.old) (C.state card_a.new) (tears_of self.old.cabin.cards.a.accepted - tears_of self.new.cabin.cards.a.accepted) }

@@ -1,26 +1,34 @@
 -- What is known of a card's string where each of its images holds it (profile).
-use Rattle.std.specs.Prelude.{◌≡◌, ℕ, suc, max, ◌≤◌, None, List, All}
+use Rattle.std.specs.Prelude.{◌≡◌, ℕ, suc, max, ◌≤◌, true, None, List, All, is_some}
 use Rattle.trace_model.specs.declared.Card.{Card}
 use Rattle.tach_media.specs.Medium.{State}
 use Rattle.card_layout.specs.Application.{IsApplication}
 use Rattle.card_retention.specs.Retains.{Rise}
-use Rattle.card_image.specs.Own.{own_view, own_sizes, IsOwnValid}
-use Rattle.card_steps.specs.Each.{EachHolds}
+use Rattle.card_image.specs.Own.{own_view, own_sizes, own_number, IsOwnValid}
+use Rattle.card_steps.specs.Since.{HoldsSince}
+use Rattle.card_steps.specs.Each.{KeepsSince}
 use Rattle.history_model.specs.Book.{Book}
 use Rattle.joint_rule.specs.Views.{UnitView}
 use Rattle.joint_rule.specs.Rules.{Standing, since, CardDark}
 use Rattle.joint_rule.specs.Marked.{of_card}
-use Rattle.run_rule.specs.Found.{Found, found_of, unit_seen, AnyKept}
+use Rattle.run_rule.specs.Found.{CardFound, Found, found_of, unit_seen, AnyKept}
 use Rattle.run_rule.specs.Cards.{brought_by}
 
--- Each image that a stop may leave of the card holds its string, with a bound that is not later than a minute behind the newest one as the
--- card stands; each since the start keeps it, and is valid; the entries rise. Nothing of a minute is half kept, and the rule that joins
+-- THE STRING OF A CARD, which tells its images: each that a stop may leave now holds it, and an entry may come behind its newest minute as
+-- the card stands; and each since the start keeps it. The card has its number still.
+pub record IsHeld (f : CardFound) (c : Card) (b : Book) (z : Standing) (card : State) : Type 0 where
+  pub tells : is_some card.image ≡ true
+  pub now : (x : List ℕ) → card.may_leave x →
+      (own_sizes x ≡ own_sizes f.image) × HoldsSince (own_sizes f.image) f.image (brought_by c f.start b) (suc (max f.start.word (since z (own_view x).newest))) x
+  pub since : (x : List ℕ) → card.left_since f.began x → (own_sizes x ≡ own_sizes f.image) × KeepsSince f.image (brought_by c f.start b) x
+  pub number : (x : List ℕ) → card.may_leave x → own_number x ≡ f.number
+
+-- So its string is held; each image since the start is valid; the entries rise. Nothing of a minute is half kept, and the rule that joins
 -- unit and card holds.
-pub record EachIsStrung (f : Found) (c : Card) (b : Book) (z : Standing) (n : ℕ) (unit card : State) : Type 0 where
+pub record EachIsStrung (f : Found) (c : Card) (b : Book) (z : Standing) (unit card : State) : Type 0 where
   pub sizes : IsApplication (own_sizes (found_of f c).image)
   pub entries : (found_of f c).start.entries ≡ (own_view (found_of f c).image).held.entries
-  pub each : EachHolds (own_sizes (found_of f c).image) (found_of f c).image (brought_by c (found_of f c).start b) n (found_of f c).began card
-  pub near : (x : List ℕ) → card.may_leave x → n ≤ suc (max (found_of f c).start.word (since z (own_view x).newest))
+  pub held : IsHeld (found_of f c) c b z card
   pub valid : (x : List ℕ) → card.left_since (found_of f c).began x → IsOwnValid x
   pub rises : Rise (brought_by c (found_of f c).start b)
   pub none : b.maybe ≡ None

@@ -11,13 +11,13 @@ use Rattle.log_model.specs.declared.lines.Find.{Find}
 use Rattle.log_model.specs.declared.lines.Verdict.{Verdict}
 use Rattle.log_model.specs.declared.lines.Verdict.TheVariants.{Accepted, TimeOverlap}
 use Rattle.log_model.specs.Log.{RunLog, cut_in, is_torn_in, found_in, kept_after}
-use Rattle.log_model.specs.Course.{went}
+use Rattle.log_model.specs.Course.{Visit, went}
 use Rattle.log_model.specs.Spans.{spans_of}
 use Rattle.side_model.specs.Done.{done_of, has_failed_in}
 use Rattle.side_model.specs.Noted.{Accepts, Withdraws, Enters, notes_of, insertions_of}
 use Rattle.side_model.specs.Odometer.{driven_before, odometer_before}
 use Rattle.side_model.specs.Tables.{table_of}
-use Rattle.event_model.specs.Events.{Event, seen_of, events_of}
+use Rattle.event_model.specs.Events.{Event, Tearing, seen_of, events_of}
 use Rattle.side_model.specs.Events.{noting_second}
 
 -- a second with power
@@ -28,8 +28,12 @@ abbrev found : (second begun : ℕ) → Verdict → Find
 found second begun verdict = record { second = second; slot = Driver; verdict = verdict; begun = begun }
 
 -- no session was found open
-abbrev none_open : ℕ → Card → ℕ
-none_open second card = 0
+abbrev none_open : ℕ → Visit → ℕ
+none_open second visit = 0
+
+-- no card is torn out as an interruption is noted, and of two that are in one action the driver's is the first
+abbrev plain : Tearing
+plain = record { by_gap = λ u slot. false; driver_first = λ u n. true }
 
 -- a card is inserted, the vehicle drives a second, a place is entered, and the card is withdrawn
 abbrev drive : List TraceSecond
@@ -58,7 +62,7 @@ torn_insertions : map (λ i. i.withdrawn) (insertions_of (notes_of torn (done_of
 unfolding notes_of done_of cut_in is_torn_in found_in
 torn_insertions = refl
 
-torn_events : map {B = ℕ × ℕ × Option Card} (λ (e : Event). (e.kind, e.begin, e.at_begin.driver)) (events_of 0x40 90 none_open torn drive) ≡ (0x40, 1267401602, None) ∷ []
+torn_events : map {B = ℕ × ℕ × Option Card} (λ (e : Event). (e.kind, e.begin, e.at_begin.driver)) (events_of 0x40 90 none_open plain torn drive) ≡ (0x40, 1267401602, None) ∷ []
 unfolding seen_of cut_in is_torn_in found_in kept_after
 torn_events = refl
 
@@ -67,7 +71,7 @@ torn_events = refl
 abbrev overlapping : RunLog
 overlapping = record { breaks = []; refused = []; finds = found 1267401600 1 (TimeOverlap 1267500000 1267401600) ∷ [] }
 
-overlap_events : map {B = ℕ × ℕ × ℕ × ℕ} (λ (e : Event). (e.kind, e.begin, e.end, noting_second e)) (events_of 0x03 90 none_open overlapping drive ++ events_of 0x04 90 none_open overlapping drive)
+overlap_events : map {B = ℕ × ℕ × ℕ × ℕ} (λ (e : Event). (e.kind, e.begin, e.end, noting_second e)) (events_of 0x03 90 none_open plain overlapping drive ++ events_of 0x04 90 none_open plain overlapping drive)
     ≡ (0x03, 1267401600, 1267500000, 1267401600) ∷ (0x04, 1267401601, 1267401601, 1267401602) ∷ []
 unfolding seen_of cut_in is_torn_in found_in kept_after
 overlap_events = refl
@@ -80,16 +84,16 @@ cut_drive = second 1267401600 0 (Insert Driver A ∷ []) ∷ second 1267401601 5
 abbrev cut : RunLog
 cut = record { breaks = Cut 1267401601 21123300 true 0 ∷ []; refused = []; finds = found 1267401600 1 (Accepted 0) ∷ found 1267401660 0 (Accepted 0) ∷ [] }
 
-cut_events : map {B = ℕ × ℕ × ℕ × ℕ × Option Card} (λ (e : Event). (e.kind, e.begin, e.end, noting_second e, e.at_end.driver)) (events_of 0x05 90 none_open cut cut_drive ++ events_of 0x08 90 none_open cut cut_drive)
+cut_events : map {B = ℕ × ℕ × ℕ × ℕ × Option Card} (λ (e : Event). (e.kind, e.begin, e.end, noting_second e, e.at_end.driver)) (events_of 0x05 90 none_open plain cut cut_drive ++ events_of 0x08 90 none_open plain cut cut_drive)
     ≡ (0x05, 1267401660, 1267401660, 1267401660, Some A) ∷ (0x08, 1267398060, 1267401660, 1267401660, Some A) ∷ []
 unfolding seen_of cut_in is_torn_in found_in kept_after
 cut_events = refl
 
 -- the session that the cut left open is found again: it began when the card was accepted first, and is noted at the power-on
-abbrev left_open : ℕ → Card → ℕ
-left_open second card = cond (nat_eq second 1267401660) 1267401600 0
+abbrev left_open : ℕ → Visit → ℕ
+left_open second visit = cond (nat_eq second 1267401660) 1267401600 0
 
-cut_sessions : map {B = ℕ × ℕ × ℕ} (λ (e : Event). (e.begin, e.end, noting_second e)) (events_of 0x06 90 left_open cut (second 1267401600 0 (Insert Driver A ∷ []) ∷ second 1267401601 50 [] ∷ second 1267401659 0 [] ∷ second 1267401660 0 [] ∷ [])) ≡ (1267401600, 1267401660, 1267401660) ∷ []
+cut_sessions : map {B = ℕ × ℕ × ℕ} (λ (e : Event). (e.begin, e.end, noting_second e)) (events_of 0x06 90 left_open plain cut (second 1267401600 0 (Insert Driver A ∷ []) ∷ second 1267401601 50 [] ∷ second 1267401659 0 [] ∷ second 1267401660 0 [] ∷ [])) ≡ (1267401600, 1267401660, 1267401660) ∷ []
 unfolding seen_of cut_in is_torn_in found_in kept_after
 cut_sessions = refl
 

@@ -1,7 +1,7 @@
 use Rattle.std.proofs.Common.{◌≡◌, Bool, true, false}
 use Rattle.tach_media.proofs.Runs.{ok_gives}
 use Rattle.device_steps.proofs.EntryOwed.{worked}
-use Rattle.device_steps.proofs.RowBegun.{begun-holds, row-spared, taken-other}
+use Rattle.device_steps.proofs.RowBegun.{begun-holds, row-spared, begins, taken-other}
 use Rattle.device_steps.proofs.RowAlone.{ends-alone, taken-alone}
 use Rattle.device_steps.proofs.beginning.begin.Goals as goal
 
@@ -20,3 +20,7 @@ returns-clause-mine g c = λ r s due b marks newest named h late rule entered.
 pub returns-clause-other : goal.returns-clause-other
 returns-clause-other g c = λ r s due b marks z m d named others rule.
     taken-other r c.args.which _ named _ others c.args.session (g.met.M.Medium.coherent c.args.unit.now) _ c.requires.agrees c.begin_owed.ensures.moments (g.D.Chip.state c.args.others.now) b z m d _ rule
+
+pub returns-clause-views : goal.returns-clause-views
+returns-clause-views g c = λ r named others.
+    begins r c.args.which _ named _ others c.args.session (g.met.M.Medium.coherent c.args.unit.now) _ c.requires.agrees c.begin_owed.ensures.moments

@@ -1,7 +1,7 @@
 use Rattle.std.proofs.Common.{◌≡◌, sym, ap, subst}
 use Rattle.tach_media.proofs.Runs.{ok_gives}
 use Rattle.device_steps.proofs.EntryOwed.{worked}
-use Rattle.device_steps.proofs.MinuteKept.{committed-unit, committed-card, same_minute, rows-kept}
+use Rattle.device_steps.proofs.MinuteKept.{committed-unit, committed-card, keeps-views, same_minute, rows-kept}
 use Rattle.device_steps.proofs.committing.commit.Goals as goal
 
 pub returns-clause-holds : goal.returns-clause-holds
@@ -21,3 +21,6 @@ returns-clause-second g c = λ r card s due b marks i z is h none late rule fits
 
 pub returns-clause-rows : goal.returns-clause-rows
 returns-clause-rows g c = rows-kept c.keep.result _ _ _ c.keep.ensures.moments.tells c.keep.ensures.kept
+
+pub returns-clause-views : goal.returns-clause-views
+returns-clause-views g c = λ a b i is. keeps-views _ c.args.kept.now.odometer.0 i is (g.met.M.Medium.coherent c.args.unit.now) c.keep.ensures.moments a b

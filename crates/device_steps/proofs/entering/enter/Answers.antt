@@ -2,13 +2,14 @@ use Rattle.std.proofs.Common.{rules, ◌≡◌, ◌/◌, ◌<◌, ◌≤◌, ◌
 use Rattle.card_layout.proofs.Sizes.{largest_image}
 use Rattle.joint_rule.specs.Views.{other}
 use Rattle.unit_rule.proofs.Marking.{holds-read}
+use Rattle.device_steps.specs.OnCard.{Anything}
 use Rattle.device_steps.proofs.Enters.{unit-read, unit-still, agrees-still, entering-rule, entered-answer}
 use Rattle.card_layout.specs.declared.files.Application.{Application}
-use Rattle.tach_media.specs.Medium.{State, lent}
+use Rattle.tach_media.specs.Medium.{State, LeavesOnly, lent}
 use Rattle.card_commands.specs.Ports.{port_state}
 use Rattle.card_session.specs.Inserting.{MayInsert}
 use Rattle.device_steps.specs.Entering.{IsEntering}
-use Rattle.device_steps.proofs.Ported.{may_insert_port, port_same, port_enters}
+use Rattle.device_steps.proofs.Ported.{may_insert_port, port_same, port_leaves, port_enters}
 use Rattle.device_steps.proofs.entering.enter.Goals as goal
 
 pub enter_by-requires-clause-card : goal.enter_by-requires-clause-card
@@ -27,6 +28,18 @@ returns-clause-enters g c =
     c.enter_by.result c.enter_by.ensures.enters in
     let moved = subst (λ (k : State). IsEntering c.args.app c.args.registration.now c.args.odometer.0 c.args.now.0 (g.M.Medium.state c.args.unit.now) (g.M.Medium.state c.enter_by.new.unit) k (g.C.Chip.state c.enter_by.new.card.chip.now) c.enter_by.result) was enters in
     search (rules, moved)
+
+pub returns-clause-leaves : goal.returns-clause-leaves
+returns-clause-leaves g c =
+    let name = c.resume-port.result.chip.ghost_name in
+    let after = c.enter_by.new.card.chip.ghost_name in
+    let X = g.C.Chip.state c.resume-port.result.chip.now in
+    let Y = g.C.Chip.state c.enter_by.new.card.chip.now in
+    let was : g.C.Chip.state c.resume-port.result.chip.now ≡ g.C.Chip.state c.args.card.now = search rules in
+    let same = port_same c.resume-port.result.application c.enter_by.new.card.application name after X Y c.enter_by.ensures.leaves in
+    let run = port_leaves c.resume-port.result.application c.enter_by.new.card.application name after X Y same c.enter_by.ensures.leaves in
+    let leaves = subst (λ (s : State). LeavesOnly s (g.C.Chip.state c.enter_by.new.card.chip.now) Anything) was run in
+    search (rules, leaves)
 
 pub returns-clause-holds : goal.returns-clause-holds
 returns-clause-holds g c = λ s due b marks h. holds-read s due b marks h (g.met.M.Medium.coherent c.args.unit.now) c.enter_by.ensures.enters.unit.leaves

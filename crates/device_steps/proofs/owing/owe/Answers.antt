@@ -1,6 +1,6 @@
 use Rattle.std.proofs.Common.{◌≡◌, Bool, true, false}
 use Rattle.tach_media.proofs.Runs.{ok_gives}
-use Rattle.device_steps.proofs.EntryOwed.{owed-holds, owed-mine, owed-other, put, worked, row-still}
+use Rattle.device_steps.proofs.EntryOwed.{owed-holds, puts, owed-mine, owed-other, put, worked, row-still}
 use Rattle.device_steps.proofs.owing.owe.Goals as goal
 
 pub returns-clause-holds : goal.returns-clause-holds
@@ -18,3 +18,7 @@ returns-clause-other g c = λ r s due b marks y z m d named h late some rule oth
 
 pub returns-clause-rows : goal.returns-clause-rows
 returns-clause-rows g c = row-still c.put_owed.result _ _ _ c.args.entry.now c.put_owed.ensures.moments.tells c.put_owed.ensures.put
+
+pub returns-clause-views : goal.returns-clause-views
+returns-clause-views g c = λ r s due b marks z named h late some rule.
+    puts r c.args.which _ named c.args.entry.now some (g.met.M.Medium.coherent c.args.unit.now) _ c.requires.agrees s due b marks h late c.put_owed.ensures.moments (g.C.Chip.state c.args.mine.now) z rule

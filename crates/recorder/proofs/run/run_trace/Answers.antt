@@ -253,11 +253,11 @@ returns-clause-followed g c = λ start x starts below few.
           (λ y left shown. shown_leg Original start c.args.trace.now.start (started x (g.U.Medium.state c.args.unit.now).clock).first (seconds_of c.args.trace.now.start items) c.loop-i.outcome.breaks.items c.loop-i.run.unfound c.loop-i.run.next c.loop-i.run.begun r.supply r.book f r.travel l
           (run_log c.loop-i.outcome) refl finds (last_kept y) shown.leg
           (may-show (begun_with x (g.U.Medium.state c.args.unit.now).clock) (due_of c.loop-i.run) r.book r.travel c.loop-i.outcome.marks.items (g.U.Medium.state c.loop-i.unit) r.booked.stands y left shown));
-      events = λ number sessions y left. subst (λ (fs : List Find). ShowsRun number x (record { breaks = c.loop-i.outcome.breaks.items; refused = c.loop-i.outcome.refused.items; finds = fs }) (seconds_of c.args.trace.now.start items) sessions y) (sym finds)
+      events = λ number sessions t y left. subst (λ (fs : List Find). ShowsRun number x (record { breaks = c.loop-i.outcome.breaks.items; refused = c.loop-i.outcome.refused.items; finds = fs }) (seconds_of c.args.trace.now.start items) sessions t y) (sym finds)
           (events-shown start c.args.trace.now.start (started x (g.U.Medium.state c.args.unit.now).clock).first c.args.trace.now.start items x y c.loop-i.outcome.breaks.items c.loop-i.outcome.refused.items
           c.loop-i.run.unfound c.loop-i.run.next c.loop-i.run.begun r.supply r.book (g.U.Medium.state c.loop-i.unit) c.requires.for_unit r.second f
           (subst (λ (is : List Item). HasNoted x (log_of c.loop-i.outcome.breaks.items) (lists_at (number_of x SPEED_LIMIT) (seconds_of c.args.trace.now.start is)
-          (progress c.loop-i.outcome.breaks.items c.loop-i.run.unfound c.loop-i.run.next c.loop-i.run.begun r.supply r.book)) (g.U.Medium.state c.loop-i.unit)) whole r.noted) left number sessions);
+          (progress c.loop-i.outcome.breaks.items c.loop-i.run.unfound c.loop-i.run.next c.loop-i.run.begun r.supply r.book)) (g.U.Medium.state c.loop-i.unit)) whole r.noted) left number sessions t);
       follows = follows;
       supply = r.supply;
       unfound = c.loop-i.run.unfound;

@@ -1,4 +1,4 @@
-use Rattle.std.proofs.Common.{rules, [], ◌≡◌, ◌∙◌, ℕ, ◌+◌, ◌-◌, ◌<◌, ◌≤◌, Bool, true, List, is_some, drop, refl, ap, sym, subst, arith}
+use Rattle.std.proofs.Common.{rules, [], ◌≡◌, ◌∙◌, ℕ, ◌+◌, ◌-◌, ◌<◌, ◌≤◌, Bool, true, IfSome, List, is_some, drop, refl, ap, sym, subst, arith}
 use Rattle.std.specs.Prelude.{is_err}
 use Rattle.std.proofs.lemmas.List.{take_all, drop_all}
 use Rattle.tach_media.proofs.Runs.{cause_after, no_reads}
@@ -12,7 +12,8 @@ use Rattle.run_keeping.specs.Keeping.{HaveRows, tears_of}
 use Rattle.run_keeping.specs.Minutes.{AreKept, AreKeptUpTo, or_nobody, kept_after, none}
 use Rattle.run_keeping.proofs.Sessions.{stands-later}
 use Rattle.run_keeping.proofs.Rounds.{told-of}
-use Rattle.run_keeping.proofs.Decided.{this, due-here, kept-here, all-here, kept-on, cut-on, present-here, rows-on}
+use Rattle.run_keeping.proofs.Decided.{this, due-here, due-most, kept-here, all-here, kept-on, cut-on, present-here, rows-on}
+use Rattle.run_keeping.proofs.Seats.{emptied-none, emptied-then, sessions-none, sessions-then}
 use Rattle.run_keeping.proofs.keeper.Keeper.keep_all.Goals as goal
 
 pub present-present-requires : goal.present-present-requires
@@ -25,11 +26,15 @@ present-present-requires g c =
 pub keep_minute-requires-clause-rows : goal.keep_minute-requires-clause-rows
 keep_minute-requires-clause-rows g c =
     let v = c.loop-minute.invariant in
+    let ds = c.args.decided.now in
+    let i = c.loop-minute.minute-index in
     let U = g.M.Medium.state c.args.unit.now in
     let cards = c.args.self.now.cabin.cards in
+    let past = c.args.self.now.cabin.slots.past in
+    let m : ℕ = (this ds i c.loop-minute-test.true).minute in
+    let here = all-here ds i c.loop-minute-test.true (λ (d : Minute). IfSome (present_in past d.minute) (HaveRows cards U)) c.requires.rows in
     rows-on cards c.loop-minute.self.cabin.cards U (g.M.Medium.state c.loop-minute.unit) c.present-present.result v.rows
-    (present-here (HaveRows cards U) _ c.present-present.result c.args.self.now.cabin.slots.past c.requires.rows
-    (c.present-present.ensures.present ∙ ap (λ (past : List Ended). present_in past (this c.args.decided.now c.loop-minute.minute-index c.loop-minute-test.true).minute) v.past))
+    (present-here (HaveRows cards U) (present_in past m) c.present-present.result (c.present-present.ensures.present ∙ ap (λ (es : List Ended). present_in es m) v.past) here)
 
 pub keep_minute-requires-clause-kept : goal.keep_minute-requires-clause-kept
 keep_minute-requires-clause-kept g c =
@@ -79,10 +84,15 @@ loop-minute-init g c = record {
   minute = c.requires.minute;
   rows = λ card h. h;
   stands = λ from leaving all h next le low. stands-later from next le leaving c.args.self.now.cabin h;
+  seats = emptied-none c.args.self.now.cabin.slots.seats;
+  sessions = sessions-none c.args.self.now.cabin.cards;
+  size_a = refl;
+  size_b = refl;
   kept = none (told-of c.args.self.now c.args.marks.now c.args.breaks.now);
   mark_room = refl;
   few = omega arith;
   tear_room = refl;
+  more = omega arith;
   tears = omega arith;
   a_broken = let few : tears_of c.args.self.now.cabin.cards.a.accepted - tears_of c.args.self.now.cabin.cards.a.accepted ≤ 0 = omega arith in fewer_broken few (none_broken (g.C.Chip.state c.args.card_a.now));
   b_broken = let few : tears_of c.args.self.now.cabin.cards.b.accepted - tears_of c.args.self.now.cabin.cards.b.accepted ≤ 0 = omega arith in fewer_broken few (none_broken (g.D.Chip.state c.args.card_b.now));
@@ -116,11 +126,16 @@ loop-minute-preserved g c =
           let before : Stands m leaving c.loop-minute.self.cabin = v.stands from leaving all h m here later in
           let after : Stands (c.kept_of-kept.result.minute + 1) leaving c.keep_minute.new.self.cabin = e.stands m leaving (omega (arith, same)) before in
           stands-later (c.kept_of-kept.result.minute + 1) next (omega (arith, same, now, late)) leaving c.keep_minute.new.self.cabin after;
+      seats = emptied-then c.args.self.now.cabin.slots.seats c.loop-minute.self.cabin.slots.seats c.keep_minute.new.self.cabin.slots.seats v.seats e.seats;
+      sessions = sessions-then c.args.self.now.cabin.cards c.loop-minute.self.cabin.cards c.keep_minute.new.self.cabin.cards v.sessions e.sessions;
+      size_a = e.size_a ∙ v.size_a;
+      size_b = e.size_b ∙ v.size_b;
       kept = kept-on ds i low c.args.at (told-of c.args.self.now c.args.marks.now c.args.breaks.now) (told-of c.loop-minute.self c.loop-minute.marks c.loop-minute.breaks) (told-of c.keep_minute.new.self c.keep_minute.new.marks c.keep_minute.new.breaks)
           c.present-present.result c.kept_of-kept.result _ _ _ _ (ap or_nobody c.present-present.ensures.present) c.kept_of-kept.ensures v.kept e.kept.0 e.kept.1;
       mark_room = e.marks.0 ∙ v.mark_room;
       few = let one = e.marks.1 in let few = v.few in omega (arith, one, few);
       tear_room = e.breaks.0 ∙ v.tear_room;
+      more = let one = e.more in let was = v.more in omega (arith, one, was);
       tears = let one = e.breaks.1 in let tears = v.tears in omega (arith, one, tears);
       a_broken =
           let few : tears_of c.args.self.now.cabin.cards.a.accepted - tears_of c.keep_minute.new.self.cabin.cards.a.accepted
@@ -192,6 +207,38 @@ returns-in_err-keep_minute-clause-same g c =
     let e = c.in_err-keep_minute.ensures in
     (e.same.0 ∙ v.memory, e.same.1 ∙ v.odometer, e.same.2 ∙ v.past)
 
+pub returns-in_err-keep_minute-clause-seats : goal.returns-in_err-keep_minute-clause-seats
+returns-in_err-keep_minute-clause-seats g c =
+    emptied-then c.args.self.now.cabin.slots.seats c.loop-minute.self.cabin.slots.seats c.keep_minute.new.self.cabin.slots.seats c.loop-minute.invariant.seats c.in_err-keep_minute.ensures.seats
+
+pub returns-in_err-keep_minute-clause-sessions : goal.returns-in_err-keep_minute-clause-sessions
+returns-in_err-keep_minute-clause-sessions g c =
+    sessions-then c.args.self.now.cabin.cards c.loop-minute.self.cabin.cards c.keep_minute.new.self.cabin.cards c.loop-minute.invariant.sessions c.in_err-keep_minute.ensures.sessions
+
+pub returns-in_err-keep_minute-clause-size_a : goal.returns-in_err-keep_minute-clause-size_a
+returns-in_err-keep_minute-clause-size_a g c = c.in_err-keep_minute.ensures.size_a ∙ c.loop-minute.invariant.size_a
+
+pub returns-in_err-keep_minute-clause-size_b : goal.returns-in_err-keep_minute-clause-size_b
+returns-in_err-keep_minute-clause-size_b g c = c.in_err-keep_minute.ensures.size_b ∙ c.loop-minute.invariant.size_b
+
+pub returns-in_err-keep_minute-clause-stands : goal.returns-in_err-keep_minute-clause-stands
+returns-in_err-keep_minute-clause-stands g c = λ from leaving all h next le late.
+    let v = c.loop-minute.invariant in
+    let ds = c.args.decided.now in
+    let i = c.loop-minute.minute-index in
+    let low = c.loop-minute-test.true in
+    let k = c.loop-minute.self.journal.kept in
+    let m : ℕ = (this ds i low).minute in
+    let same : c.kept_of-kept.result.minute ≡ m = ap (λ (q : KeptMinute). q.minute) c.kept_of-kept.ensures in
+    let due = due-here ds i low k v.due in
+    let here : from ≤ m = all-here ds i low (λ (d : Minute). from ≤ d.minute) all in
+    let later : k < m = due.0 in
+    let most : m ≤ kept_after m (drop (i + 1) ds) = due-most m (drop (i + 1) ds) due.3 in
+    let last : kept_after m (drop (i + 1) ds) ≡ kept_after c.args.self.now.journal.kept ds = sym (kept-here ds i low k) ∙ v.last in
+    let before : Stands m leaving c.loop-minute.self.cabin = v.stands from leaving all h m here later in
+    let after : Stands (c.kept_of-kept.result.minute + 1) leaving c.keep_minute.new.self.cabin = c.in_err-keep_minute.ensures.stands m leaving (omega (arith, same)) before in
+    stands-later (c.kept_of-kept.result.minute + 1) next (omega (arith, same, most, last, late)) leaving c.keep_minute.new.self.cabin after
+
 pub returns-in_err-keep_minute-clause-marks : goal.returns-in_err-keep_minute-clause-marks
 returns-in_err-keep_minute-clause-marks g c =
     let v = c.loop-minute.invariant in
@@ -208,6 +255,9 @@ returns-in_err-keep_minute-clause-breaks g c =
     let one = e.breaks.1 in
     let few = v.tears in
     (e.breaks.0 ∙ v.tear_room, omega (arith, one, few))
+
+pub returns-in_err-keep_minute-clause-more : goal.returns-in_err-keep_minute-clause-more
+returns-in_err-keep_minute-clause-more g c = let one = c.in_err-keep_minute.ensures.more in let was = c.loop-minute.invariant.more in omega (arith, one, was)
 
 pub returns-in_err-keep_minute-clause-a_broken : goal.returns-in_err-keep_minute-clause-a_broken
 returns-in_err-keep_minute-clause-a_broken g c =
