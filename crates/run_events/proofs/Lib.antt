@@ -5,3 +5,4 @@ pub mod Later
 pub mod Sure
 pub mod Leading
 pub mod Gaps
+pub mod Ordered

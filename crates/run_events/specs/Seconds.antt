@@ -1,5 +1,5 @@
 -- Which events one more second of a run brings, by type (Annex IB, section III.12; the moments: profile).
-use Rattle.std.specs.Prelude.{◌≡◌, ℕ, ◌+◌, ◌==◌, Bool, true, false, List, [], ◌∷◌, ◌++◌, flat_map, map, if◌then◌else◌}
+use Rattle.std.specs.Prelude.{◌≡◌, ◌⊎◌, ℕ, ◌+◌, ◌==◌, Bool, true, false, List, [], ◌∷◌, ◌++◌, flat_map, map, if◌then◌else◌}
 use Rattle.std.specs.List.{filter_map}
 use Rattle.trace_model.specs.declared.Card.{Card}
 use Rattle.trace_model.specs.Trace.{TraceSecond}
@@ -53,6 +53,10 @@ second_events kind limit sessions t log spans x =
     else (if kind == OVER_SPEEDING then (if x.told.lit then overs_by limit (span_before spans x) (x ∷ []) else [])
     else (if kind == POWER_INTERRUPTION then gap_by t log spans x
     else (if kind == CARD_FAULT then faults_by t log x else found_by kind sessions t x)))
+
+-- a second with power comes right behind those of its own span
+abbrev pub IsBehind : List (List Seen) → Seen → Type 0
+IsBehind spans x = x.told.lit ≡ true → (span_before spans x ≡ []) ⊎ (last_number (span_before spans x) + 1 ≡ number_of x)
 
 -- one second more as its events see it
 abbrev pub seen_next : RunLog → List TraceSecond → TraceSecond → Seen
