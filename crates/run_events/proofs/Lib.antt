@@ -6,3 +6,4 @@ pub mod Sure
 pub mod Leading
 pub mod Gaps
 pub mod Ordered
+pub mod Choosing

@@ -1,3 +1,4 @@
 pub mod Shown
 pub mod Seconds
 pub mod Gaps
+pub mod Choice
