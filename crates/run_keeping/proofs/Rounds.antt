@@ -35,6 +35,11 @@ module _ (present : Option Card) (kept : Kept) (at : Moment) (failed : Bool) (k 
       let m : most_tears v.cabin.cards ≡ most_tears (cabin_by fate present at.second k.cabin).cards = ap (λ (q : Keeper). most_tears q.cabin.cards) b.keeper in
       omega (arith, t, e, m)
 
+  pub brought-more : length bs.items ≤ length cs.items
+  brought-more =
+      let e : length cs.items ≡ length bs.items + length (breaks_by fate kept.entry.slot at) = ap (λ (l : Listed Break). length l.items) b.told ∙ lines-length (breaks_by fate kept.entry.slot at) bs in
+      omega (arith, e)
+
   pub brought-tear-room : cs.room ≡ bs.room
   brought-tear-room = ap (λ (l : Listed Break). l.room) b.told
 

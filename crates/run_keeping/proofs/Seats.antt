@@ -1,4 +1,4 @@
--- The slots behind an entry, and the card that was not asked.
+-- The slots and the sessions behind an entry, and the card that was not asked.
 use Rattle.std.proofs.Common.{◌≡◌, ◌⊎◌, inl, inr, ⊎_elim, ℕ, Option, Some, None, refl, sym, subst, ◌∙◌}
 use Rattle.activity_codec.specs.declared.values.Slot.{Slot}
 use Rattle.activity_codec.specs.declared.values.Slot.TheVariants.{Driver, CoDriver}
@@ -7,10 +7,13 @@ use Rattle.trace_model.specs.declared.Card.TheVariants.{A, B}
 use Rattle.slot_machine.specs.declared.seats.Seat.{Seat}
 use Rattle.slot_machine.specs.Calls.{Seats}
 use Rattle.slot_machine.specs.Kept.{Kept as Slots}
+use Rattle.card_session.specs.declared.session.Kept.{Kept}
+use Rattle.run_crew.specs.declared.cards.Accepted.{Accepted}
+use Rattle.run_crew.specs.declared.cards.Cards.{Cards}
 use Rattle.run_crew.specs.declared.cabin.Cabin.{Cabin}
 use Rattle.run_crew.specs.Cabin.{left_from, slot_with}
 use Rattle.run_keeping.specs.declared.keeper.Keeper.{Keeper}
-use Rattle.run_keeping.specs.Keeping.{AreEmptied, Fate, Still, Has, Fell, cabin_by}
+use Rattle.run_keeping.specs.Keeping.{AreEmptied, GoesOnFrom, SessionsGoOn, Fate, Still, Has, Fell, IsFateOf, cabin_by, session_at}
 
 pub emptied-none : (s : Seats) → AreEmptied s s
 emptied-none s = (inl refl, inl refl)
@@ -48,3 +51,39 @@ pub fate-b : (fate : Fate) (second : ℕ) (cabin : Cabin) → (cabin_by fate (So
 fate-b Still second cabin = refl
 fate-b (Has accepted clock) second cabin = refl
 fate-b Fell second cabin = refl
+
+-- ---- sessions
+
+goes-same : (o : Option Accepted) → GoesOnFrom o o
+goes-same None = tt
+goes-same (Some a) = (refl, refl)
+
+goes-then : (a b c : Option Accepted) → GoesOnFrom a b → GoesOnFrom b c → GoesOnFrom a c
+goes-then a b None first next = tt
+goes-then a None (Some z) first next = absurd next
+goes-then None (Some y) (Some z) first next = absurd first
+goes-then (Some x) (Some y) (Some z) first next = (next.0 ∙ first.0, next.1 ∙ first.1)
+
+pub sessions-none : (cards : Cards) → SessionsGoOn cards cards
+sessions-none cards = record { a = goes-same cards.a.accepted; b = goes-same cards.b.accepted }
+
+pub sessions-then : (x y z : Cards) → SessionsGoOn x y → SessionsGoOn y z → SessionsGoOn x z
+sessions-then x y z first next = record { a = goes-then x.a.accepted y.a.accepted z.a.accepted first.a next.a; b = goes-then x.b.accepted y.b.accepted z.b.accepted first.b next.b }
+
+has-goes : (o : Option Accepted) (kept : Kept) (after : Accepted) (clock : ℕ) → IsFateOf o kept (Has after clock) → GoesOnFrom o (Some after)
+has-goes None kept after clock h = absurd h
+has-goes (Some before) kept after clock h = (h.entry, h.noted)
+
+fate-sessions : (fate : Fate) (present : Option Card) (kept : Kept) (second : ℕ) (cabin : Cabin) → IsFateOf (session_at cabin.cards present) kept fate → SessionsGoOn cabin.cards (cabin_by fate present second cabin).cards
+fate-sessions Still None kept second cabin is = sessions-none cabin.cards
+fate-sessions (Has accepted clock) None kept second cabin is = sessions-none cabin.cards
+fate-sessions Fell None kept second cabin is = sessions-none cabin.cards
+fate-sessions Still (Some card) kept second cabin is = sessions-none cabin.cards
+fate-sessions (Has accepted clock) (Some A) kept second cabin is = record { a = has-goes cabin.cards.a.accepted kept accepted clock is; b = goes-same cabin.cards.b.accepted }
+fate-sessions (Has accepted clock) (Some B) kept second cabin is = record { a = goes-same cabin.cards.a.accepted; b = has-goes cabin.cards.b.accepted kept accepted clock is }
+fate-sessions Fell (Some A) kept second cabin is = record { a = tt; b = goes-same cabin.cards.b.accepted }
+fate-sessions Fell (Some B) kept second cabin is = record { a = goes-same cabin.cards.a.accepted; b = tt }
+
+pub brought-sessions : (fate : Fate) (present : Option Card) (kept : Kept) (second : ℕ) (k v : Keeper) → IsFateOf (session_at k.cabin.cards present) kept fate → v ≡ record k { cabin = cabin_by fate present second k.cabin }
+    → SessionsGoOn k.cabin.cards v.cabin.cards
+brought-sessions fate present kept second k v goes is = subst (λ (q : Keeper). SessionsGoOn k.cabin.cards q.cabin.cards) (sym is) (fate-sessions fate present kept second k.cabin goes)

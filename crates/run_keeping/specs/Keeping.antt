@@ -83,6 +83,16 @@ most_tears cards = tears_of cards.a.accepted + tears_of cards.b.accepted
 abbrev pub AreEmptied : (old new : Seats) → Type 0
 AreEmptied old new = ((new.driver ≡ old.driver) ⊎ (new.driver ≡ None)) × ((new.codriver ≡ old.codriver) ⊎ (new.codriver ≡ None))
 
+-- a session goes on by the entry of its insertion, or is gone
+abbrev pub GoesOnFrom : (old new : Option Accepted) → Type 0
+GoesOnFrom old None = Unit {0}
+GoesOnFrom None (Some new) = ⊥
+GoesOnFrom (Some old) (Some new) = (new.entry ≡ old.entry) × (new.noted ≡ old.noted)
+
+pub record SessionsGoOn (old new : Cards) : Type 0 where
+  pub a : GoesOnFrom old.a.accepted new.a.accepted
+  pub b : GoesOnFrom old.b.accepted new.b.accepted
+
 -- ---- what a minute says
 
 -- a minute that is kept tells of each slot whether a card was present

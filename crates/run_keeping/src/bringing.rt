@@ -8,7 +8,7 @@ ghost use Rattle.card_session.specs.declared.words.TheConstants.{LATEST_MINUTE};
 ghost use Rattle.unit_notes.specs.Journal.{LeavesJournal};
 ghost use Rattle.run_crew.specs.Cards.{known_of, session_of};
 ghost use Rattle.run_crew.specs.Cabin.{Stands, IsBehind, crew_of};
-ghost use Rattle.run_keeping.specs.Keeping.{UnitReady, CardReady, HasItsRow, IsReady, AreEmptied, Fate, IsBrought, IsNotingFault, tears_of, session_at, state_at, is_this};
+ghost use Rattle.run_keeping.specs.Keeping.{UnitReady, CardReady, HasItsRow, IsReady, AreEmptied, SessionsGoOn, Fate, IsBrought, IsNotingFault, tears_of, session_at, state_at, is_this};
 
 use crate::keeper::{Keeper, Moment};
 use card_session::Kept;
@@ -116,6 +116,7 @@ impl Keeper {
         ensures cause { HasCause (M.state unit.old) (M.state unit.new) (is_err result) }
         ensures ready { OnOk result (IsReady self.new (M.state unit.new) (C.card card_a.new) (D.card card_b.new) (C.state card_a.new) (D.state card_b.new)) }
         ensures seats { AreEmptied self.old.cabin.slots.seats self.new.cabin.slots.seats }
+        ensures sessions { SessionsGoOn self.old.cabin.cards self.new.cabin.cards }
         ensures card_a { CardReady self.new.cabin.cards.a (C.card card_a.new) (C.state card_a.new) }
         ensures card_b { CardReady self.new.cabin.cards.b (D.card card_b.new) (D.state card_b.new) }
         ensures size_a { (C.state card_a.new).size ≡ (C.state card_a.old).size }

@@ -10,7 +10,7 @@ ghost use Rattle.unit_journal.specs.Image.{Agrees};
 ghost use Rattle.run_crew.specs.Cabin.{Stands, MayBeKept};
 ghost use Rattle.trace_model.specs.declared.Card.{Card};
 ghost use Rattle.trace_model.specs.declared.Card.TheVariants.{A, B};
-ghost use Rattle.run_keeping.specs.Keeping.{UnitReady, CardReady, IsReady, HasItsRow, HaveRows, AreEmptied, entry_in, kept_in, is_this, tears_of, most_tears, with_lines};
+ghost use Rattle.run_keeping.specs.Keeping.{UnitReady, CardReady, IsReady, HasItsRow, HaveRows, AreEmptied, SessionsGoOn, entry_in, kept_in, is_this, tears_of, most_tears, with_lines};
 ghost use Rattle.run_keeping.specs.Minutes.{Round, IsMinute, unit_mark};
 
 use crate::keeper::{Keeper, Moment};
@@ -108,6 +108,7 @@ impl Keeper {
         requires small { minute.now.minute ≤ LATEST_MINUTE }
         requires odometer { minute.now.odometer.0 ≤ HIGHEST_ODOMETER }
         requires room { length marks.old.items < marks.old.room }
+        ensures unit { IsUnit (M.state unit.new) }
         ensures keeper { self.new ≡ record self.old { journal = self.new.journal } }
         ensures notes { OnOk result ((self.new.journal.kept ≡ minute.now.minute) × (self.new.journal.odometer ≡ minute.now.odometer.0)) }
         ensures same { OnErr result ((self.new.journal ≡ self.old.journal) × (marks.new ≡ marks.old)) }
@@ -165,10 +166,13 @@ impl Keeper {
         ensures kept { (round : Option Round) × IsMinute present minute.now at (is_err result) (record { keeper = self.old; marks = marks.old; breaks = breaks.old }) (record { keeper = self.new; marks = marks.new; breaks = breaks.new }) (C.state card_a.old) (C.state card_a.new) (D.state card_b.old) (D.state card_b.new) round }
         ensures a_rests { is_this present.driver A ≡ false → is_this present.codriver A ≡ false → card_a.new ≡ card_a.old }
         ensures b_rests { is_this present.driver B ≡ false → is_this present.codriver B ≡ false → card_b.new ≡ card_b.old }
+        ensures unit { IsUnit (M.state unit.new) }
+        ensures more { length breaks.old.items ≤ length breaks.new.items }
         ensures ready { OnOk result (IsReady self.new (M.state unit.new) (C.card card_a.new) (D.card card_b.new) (C.state card_a.new) (D.state card_b.new)) }
         ensures rows { (card : Card) → HasItsRow self.old.cabin.cards (M.state unit.old) card → OnOk result (HasItsRow self.new.cabin.cards (M.state unit.new) card) }
         ensures stands { (from : ℕ) (leaving : Option Card) → from ≤ minute.now.minute + 1 → Stands from leaving self.old.cabin → Stands (minute.now.minute + 1) leaving self.new.cabin }
         ensures seats { AreEmptied self.old.cabin.slots.seats self.new.cabin.slots.seats }
+        ensures sessions { SessionsGoOn self.old.cabin.cards self.new.cabin.cards }
         ensures card_a { CardReady self.new.cabin.cards.a (C.card card_a.new) (C.state card_a.new) }
         ensures card_b { CardReady self.new.cabin.cards.b (D.card card_b.new) (D.state card_b.new) }
         ensures size_a { (C.state card_a.new).size ≡ (C.state card_a.old).size }

@@ -4,8 +4,9 @@ ghost use Rattle.tach_media.specs.Medium.{HasCause, HasBroken};
 ghost use Rattle.trace_model.specs.declared.Card.{Card};
 ghost use Rattle.slot_machine.specs.Calls.{present_in};
 ghost use Rattle.unit_model.specs.declared.layout.TheConstants.{HIGHEST_ODOMETER};
+ghost use Rattle.unit_model.specs.Image.{IsUnit};
 ghost use Rattle.run_crew.specs.Cabin.{Stands};
-ghost use Rattle.run_keeping.specs.Keeping.{IsReady, CardReady, HasItsRow, HaveRows, AreEmptied, tears_of, most_tears};
+ghost use Rattle.run_keeping.specs.Keeping.{IsReady, CardReady, HasItsRow, HaveRows, AreEmptied, SessionsGoOn, tears_of, most_tears};
 ghost use Rattle.run_keeping.specs.Minutes.{odometer_by, kept_of, AreDue, kept_after, AreKeptUpTo};
 
 use crate::keeper::{Keeper, Moment};
@@ -79,6 +80,8 @@ impl Keeper {
         requires marks { length marks.old.items + 3 * length decided.now ≤ marks.old.room }
         requires breaks { length breaks.old.items + most_tears self.old.cabin.cards ≤ breaks.old.room }
         ensures kept { AreKeptUpTo decided.now at (is_err result) (record { keeper = self.old; marks = marks.old; breaks = breaks.old }) (record { keeper = self.new; marks = marks.new; breaks = breaks.new }) }
+        ensures unit { IsUnit (M.state unit.new) }
+        ensures more { length breaks.old.items ≤ length breaks.new.items }
         ensures ready { OnOk result (IsReady self.new (M.state unit.new) (C.card card_a.new) (D.card card_b.new) (C.state card_a.new) (D.state card_b.new)) }
         ensures rows { (card : Card) → HasItsRow self.old.cabin.cards (M.state unit.old) card → OnOk result (HasItsRow self.new.cabin.cards (M.state unit.new) card) }
         ensures same { (self.new.memory ≡ self.old.memory) × (self.new.odometer ≡ self.old.odometer) × (self.new.cabin.slots.past ≡ self.old.cabin.slots.past) }
@@ -86,6 +89,7 @@ impl Keeper {
         ensures last { OnOk result (self.new.journal.kept ≡ kept_after self.old.journal.kept decided.now) }
         ensures stands { (from : ℕ) (leaving : Option Card) → All (λ m. from ≤ m.minute) decided.now → Stands from leaving self.old.cabin → (next : ℕ) → from ≤ next → kept_after self.old.journal.kept decided.now < next → Stands next leaving self.new.cabin }
         ensures seats { AreEmptied self.old.cabin.slots.seats self.new.cabin.slots.seats }
+        ensures sessions { SessionsGoOn self.old.cabin.cards self.new.cabin.cards }
         ensures card_a { CardReady self.new.cabin.cards.a (C.card card_a.new) (C.state card_a.new) }
         ensures card_b { CardReady self.new.cabin.cards.b (D.card card_b.new) (D.state card_b.new) }
         ensures size_a { (C.state card_a.new).size ≡ (C.state card_a.old).size }

@@ -49,10 +49,6 @@ most_minutes items = total_seconds items / 60 + 2
 abbrev pub most_cuts : List Item → ℕ
 most_cuts items = most_minutes items + offs items
 
--- each minute is acknowledged once by each of the three devices, and each card acknowledges what it is owed at the start
-abbrev pub most_marks : List Item → ℕ
-most_marks items = 3 * most_minutes items + 2 * MOST_OWED
-
 -- a card is torn out of a slot only where it was put in since the last tear, or sat there at its begin
 abbrev pub most_breaks : List Item → ℕ
 most_breaks items = most_cuts items + insertions items
@@ -64,6 +60,10 @@ most_refused items = length items
 -- a power-on finds two cards at most, and an insertion one
 abbrev pub most_finds : List Item → ℕ
 most_finds items = 2 * most_cuts items + insertions items
+
+-- each minute is acknowledged once by each of the three devices, and a card that is found acknowledges what it was owed
+abbrev pub most_marks : List Item → ℕ
+most_marks items = 3 * most_minutes items + MOST_OWED * most_finds items
 
 -- an outcome has no line, and was reserved for a trace
 pub record IsReserved (items : List Item) (o : Outcome) : Type 0 where

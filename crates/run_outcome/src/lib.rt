@@ -6,4 +6,4 @@ mod outcome;
 
 pub use lines::Lines;
 pub use log_model::{Break, Find, Mark, Refused, SlotFault, Verdict};
-pub use outcome::Outcome;
+pub use outcome::{MOST_OWED, Outcome};

@@ -1,5 +1,5 @@
 //! What a run tells of itself.
-ghost use Rattle.std.specs.Prelude.{◌≡◌, ◌+◌, ◌≤◌, [], IfOk};
+ghost use Rattle.std.specs.Prelude.{◌≡◌, ◌+◌, ◌*◌, ◌≤◌, [], IfOk};
 ghost use Rattle.trace_model.specs.Trace.{item_seconds, total_seconds};
 ghost use Rattle.trace_text.specs.Trace.{IsWellFormed};
 ghost use Rattle.run_outcome.specs.Room.{offs, is_off, insertions, is_insertion, IsReserved};
@@ -11,7 +11,7 @@ use tach_media::Memory;
 use trace_text::{Action, Item, Items, Trace};
 
 /// So many entries may be owed to a card.
-const MOST_OWED: usize = 4;
+pub const MOST_OWED: usize = 4;
 
 /// The lines of a run, each list in order of time: what the devices have acknowledged, where power was lost or a card torn
 /// out, which actions were refused, and what insertions found.
@@ -51,10 +51,11 @@ impl Outcome {
         let minutes = seconds_of(&trace.items) / 60 + 2;
         let cuts = minutes + offs_of(&trace.items);
         let insertions = insertions_of(&trace.items);
-        let marks = Lines::with_room(alloc, 3 * minutes + 2 * MOST_OWED)?;
+        let most_finds = room_for(2 * cuts, insertions)?;
+        let marks = Lines::with_room(alloc, marks_for(minutes, most_finds)?)?;
         let breaks = Lines::with_room(alloc, room_for(cuts, insertions)?)?;
         let refused = Lines::with_room(alloc, trace.items.len())?;
-        let finds = Lines::with_room(alloc, room_for(2 * cuts, insertions)?)?;
+        let finds = Lines::with_room(alloc, most_finds)?;
         Ok(Outcome {
             marks,
             breaks,
@@ -70,6 +71,17 @@ fn room_for(some: usize, more: usize) -> Result<usize, Memory>
 {
     match some.checked_add(more) {
         Some(room) => Ok(room),
+        None => Err(Memory),
+    }
+}
+
+// Room for the marks of so many minutes, and of what was owed to so many cards that are found.
+fn marks_for(minutes: usize, finds: usize) -> Result<usize, Memory>
+    requires few { minutes ≤ 576002 }
+    ensures { IfOk result (λ room. room ≡ 3 * minutes + MOST_OWED * finds) }
+{
+    match finds.checked_mul(MOST_OWED) {
+        Some(owed) => room_for(3 * minutes, owed),
         None => Err(Memory),
     }
 }

@@ -111,4 +111,4 @@ module _ (f : Found) (c : Card) (b : Book) (z : Standing) (unit card : State) (s
     out-image x there (e ∷ rest) some = out-lacking e rest x (held u x on there) some
 
     pub held-out : IsHeld g c b Out card
-    held-out = record { tells = s.held.tells; now = λ x there. ((s.held.now x there).0, out-image x there (held u x on there).rest refl); since = s.held.since }
+    held-out = record { tells = s.held.tells; now = λ x there. ((s.held.now x there).0, out-image x there (held u x on there).rest refl); since = s.held.since; number = s.held.number }

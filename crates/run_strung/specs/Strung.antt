@@ -4,7 +4,7 @@ use Rattle.trace_model.specs.declared.Card.{Card}
 use Rattle.tach_media.specs.Medium.{State}
 use Rattle.card_layout.specs.Application.{IsApplication}
 use Rattle.card_retention.specs.Retains.{Rise}
-use Rattle.card_image.specs.Own.{own_view, own_sizes, IsOwnValid}
+use Rattle.card_image.specs.Own.{own_view, own_sizes, own_number, IsOwnValid}
 use Rattle.card_steps.specs.Since.{HoldsSince}
 use Rattle.card_steps.specs.Each.{KeepsSince}
 use Rattle.history_model.specs.Book.{Book}
@@ -15,12 +15,13 @@ use Rattle.run_rule.specs.Found.{CardFound, Found, found_of, unit_seen, AnyKept}
 use Rattle.run_rule.specs.Cards.{brought_by}
 
 -- THE STRING OF A CARD, which tells its images: each that a stop may leave now holds it, and an entry may come behind its newest minute as
--- the card stands; and each since the start keeps it.
+-- the card stands; and each since the start keeps it. The card has its number still.
 pub record IsHeld (f : CardFound) (c : Card) (b : Book) (z : Standing) (card : State) : Type 0 where
   pub tells : is_some card.image ≡ true
   pub now : (x : List ℕ) → card.may_leave x →
       (own_sizes x ≡ own_sizes f.image) × HoldsSince (own_sizes f.image) f.image (brought_by c f.start b) (suc (max f.start.word (since z (own_view x).newest))) x
   pub since : (x : List ℕ) → card.left_since f.began x → (own_sizes x ≡ own_sizes f.image) × KeepsSince f.image (brought_by c f.start b) x
+  pub number : (x : List ℕ) → card.may_leave x → own_number x ≡ f.number
 
 -- So its string is held; each image since the start is valid; the entries rise. Nothing of a minute is half kept, and the rule that joins
 -- unit and card holds.

@@ -32,7 +32,7 @@ use Rattle.run_rule.specs.Between.{Carried, IsLit, IsCarried, devices}
 use Rattle.run_strung.specs.Strung.{IsHeld, EachIsStrung}
 use Rattle.run_strung.proofs.Strung.{strung}
 use Rattle.run_brought.proofs.Stays.{stays, adds-none}
-use Rattle.run_told.specs.Told.{AreFoundCards, sure_of, IsHeldDark, AllWait, GoesOwing, owes_nothing, AllGo, IsLitWith, IsLitOwing, IsPowered, IsPowerless, arranged}
+use Rattle.run_told.specs.Told.{AreFoundCards, sure_of, IsHeldDark, AllWait, GoesOwing, owes_nothing, AllGo, IsLitWith, IsLitOwing, IsPowered, IsPowerless, arranged, for_card}
 
 -- ---- the rules of the steps are those of a run
 
@@ -84,6 +84,7 @@ held-same f c b d z X same h = record {
   tells = h.tells;
   now = λ x there. subst (λ (es : List Entry). (own_sizes x ≡ own_sizes f.image) × HoldsSince (own_sizes f.image) f.image es (suc (max f.start.word (since z (own_view x).newest))) x) same (h.now x there);
   since = λ x left. subst (λ (es : List Entry). (own_sizes x ≡ own_sizes f.image) × KeepsSince f.image es x) same (h.since x left);
+  number = h.number;
 }
 
 -- a book that has no minute but the sure ones
@@ -183,22 +184,25 @@ pub record UnitLit (f : Found) (w : Carried) (U : State) : Type 0 where
   pub unit : Holds f.unit w.due w.book w.marks U
   pub none : w.book.maybe ≡ None
 
--- of a card that was valid, while the unit has power and nothing is owed
-pub record CardLit (f : Found) (w : Carried) (session : Option Accepted) (c : Card) (U X : State) : Type 0 where
-  pub rule : CardRule c (found_of f c).start AnyKept (found_of f c).began w.book (w.standing c) [] [] (unit_seen f U) (of_card X)
+-- of a card that was valid, as it stands and with what was brought, while the unit has power and nothing is owed
+pub record CardLit (f : Found) (b : Book) (z : Standing) (ks : List ℕ) (session : Option Accepted) (c : Card) (U X : State) : Type 0 where
+  pub rule : CardRule c (found_of f c).start AnyKept (found_of f c).began b z [] [] (unit_seen f U) (of_card X)
   pub valid : (x : List ℕ) → X.left_since (found_of f c).began x → IsOwnValid x
-  pub rises : Rise (brought_by c (found_of f c).start w.book)
-  pub brought : (k : ℕ) → Contains (w.brought c) k → HasBrought f.card_a.number f.card_b.number c k U X
-  pub held : IsHeld (found_of f c) c w.book (w.standing c) X
-  pub goes : GoesOwing (found_of f c) c w.book [] (w.standing c) session X
+  pub rises : Rise (brought_by c (found_of f c).start b)
+  pub brought : (k : ℕ) → Contains ks k → HasBrought f.card_a.number f.card_b.number c k U X
+  pub held : IsHeld (found_of f c) c b z X
+  pub goes : GoesOwing (found_of f c) c b [] z session X
 
 -- and where it has none
-pub record CardOff (f : Found) (w : Carried) (c : Card) (U X : State) : Type 0 where
-  pub rests : CardDark c (found_of f c).start AnyKept (found_of f c).began w.book (w.standing c) (unit_seen f U) (of_card X)
+pub record CardOff (f : Found) (b : Book) (z : Standing) (ks : List ℕ) (c : Card) (U X : State) : Type 0 where
+  pub rests : CardDark c (found_of f c).start AnyKept (found_of f c).began b z (unit_seen f U) (of_card X)
   pub valid : (x : List ℕ) → X.left_since (found_of f c).began x → IsOwnValid x
-  pub rises : Rise (brought_by c (found_of f c).start w.book)
-  pub brought : (k : ℕ) → Contains (w.brought c) k → HasBrought f.card_a.number f.card_b.number c k U X
-  pub held : IsHeld (found_of f c) c w.book (w.standing c) X
+  pub rises : Rise (brought_by c (found_of f c).start b)
+  pub brought : (k : ℕ) → Contains ks k → HasBrought f.card_a.number f.card_b.number c k U X
+  pub held : IsHeld (found_of f c) c b z X
+
+pub off-of : (f : Found) (b : Book) (z : Standing) (ks : List ℕ) (session : Option Accepted) (c : Card) (U X : State) → CardLit f b z ks session c U X → CardOff f b z ks c U X
+off-of f b z ks session c U X one = record { rests = one.rule.dark; valid = one.valid; rises = one.rises; brought = one.brought; held = one.held }
 
 abbrev pub MarksLit : (f : Found) (w : Carried) (c : Card) (X : State) → Type 0
 MarksLit f w c X = CardMarksHold (found_of f c) c w.book w.marks X
@@ -206,8 +210,8 @@ MarksLit f w c X = CardMarksHold (found_of f c) c w.book w.marks X
 -- all of it, by the card that a call is about
 pub record AreParts (f : Found) (w : Carried) (cards : Cards) (c : Card) (U X Y : State) : Type 0 where
   pub unit : UnitLit f w U
-  pub mine : IsOwnValid (found_of f c).image → CardLit f w (session_of cards c) c U X
-  pub others : IsOwnValid (found_of f (other c)).image → CardLit f w (session_of cards (other c)) (other c) U Y
+  pub mine : IsOwnValid (found_of f c).image → CardLit f w.book (w.standing c) (w.brought c) (session_of cards c) c U X
+  pub others : IsOwnValid (found_of f (other c)).image → CardLit f w.book (w.standing (other c)) (w.brought (other c)) (session_of cards (other c)) (other c) U Y
   pub marks_mine : MarksLit f w c X
   pub marks_others : MarksLit f w (other c) Y
 
@@ -215,12 +219,12 @@ pub record AreOff (f : Found) (w : Carried) (c : Card) (U X Y : State) : Type 0 
   pub tells : is_some U.image ≡ true
   pub unit : Holds f.unit w.due w.book w.marks U
   pub none : w.book.maybe ≡ None
-  pub mine : IsOwnValid (found_of f c).image → CardOff f w c U X
-  pub others : IsOwnValid (found_of f (other c)).image → CardOff f w (other c) U Y
+  pub mine : IsOwnValid (found_of f c).image → CardOff f w.book (w.standing c) (w.brought c) c U X
+  pub others : IsOwnValid (found_of f (other c)).image → CardOff f w.book (w.standing (other c)) (w.brought (other c)) (other c) U Y
   pub marks_mine : MarksLit f w c X
   pub marks_others : MarksLit f w (other c) Y
 
-one-lit : (f : Found) (w : Carried) (cards : Cards) (d : Devices) → IsPowered f w cards d → (c : Card) → IsOwnValid (found_of f c).image → CardLit f w (session_of cards c) c d.unit (card_of d c)
+one-lit : (f : Found) (w : Carried) (cards : Cards) (d : Devices) → IsPowered f w cards d → (c : Card) → IsOwnValid (found_of f c).image → CardLit f w.book (w.standing c) (w.brought c) (session_of cards c) c d.unit (card_of d c)
 one-lit f w cards d p c valid = record {
   rule = (p.lit.cards c valid).holds;
   valid = (p.lit.cards c valid).string.valid;
@@ -249,7 +253,7 @@ parts-of f w cards B U X Y p = record {
   marks_others = p.lit.marks A;
 }
 
-whole-lit : (f : Found) (w : Carried) (cards : Cards) (d : Devices) → AreFoundCards f cards → UnitLit f w d.unit → ((c : Card) → IsOwnValid (found_of f c).image → CardLit f w (session_of cards c) c d.unit (card_of d c)) → ((c : Card) → MarksLit f w c (card_of d c)) → IsPowered f w cards d
+whole-lit : (f : Found) (w : Carried) (cards : Cards) (d : Devices) → AreFoundCards f cards → UnitLit f w d.unit → ((c : Card) → IsOwnValid (found_of f c).image → CardLit f w.book (w.standing c) (w.brought c) (session_of cards c) c d.unit (card_of d c)) → ((c : Card) → MarksLit f w c (card_of d c)) → IsPowered f w cards d
 whole-lit f w cards d found unit one marks =
     let go : AllGo f w owes_nothing cards d = record { held = λ c valid. (one c valid).held; goes = λ c valid. (one c valid).goes } in
     record {
@@ -270,7 +274,7 @@ whole-lit f w cards d found unit one marks =
 pub powered-of : (f : Found) (w : Carried) (cards : Cards) (c : Card) (U X Y : State) → AreFoundCards f cards → AreParts f w cards c U X Y → IsPowered f w cards (arranged c U X Y)
 powered-of f w cards A U X Y found p = whole-lit f w cards (devices U X Y) found p.unit one marks
   where
-    one : (c : Card) → IsOwnValid (found_of f c).image → CardLit f w (session_of cards c) c U (card_of (devices U X Y) c)
+    one : (c : Card) → IsOwnValid (found_of f c).image → CardLit f w.book (w.standing c) (w.brought c) (session_of cards c) c U (card_of (devices U X Y) c)
     one A = p.mine
     one B = p.others
 
@@ -279,7 +283,7 @@ powered-of f w cards A U X Y found p = whole-lit f w cards (devices U X Y) found
     marks B = p.marks_others
 powered-of f w cards B U X Y found p = whole-lit f w cards (devices U Y X) found p.unit one marks
   where
-    one : (c : Card) → IsOwnValid (found_of f c).image → CardLit f w (session_of cards c) c U (card_of (devices U Y X) c)
+    one : (c : Card) → IsOwnValid (found_of f c).image → CardLit f w.book (w.standing c) (w.brought c) (session_of cards c) c U (card_of (devices U Y X) c)
     one A = p.others
     one B = p.mine
 
@@ -287,7 +291,7 @@ powered-of f w cards B U X Y found p = whole-lit f w cards (devices U Y X) found
     marks A = p.marks_others
     marks B = p.marks_mine
 
-whole-off : (f : Found) (w : Carried) (cards : Cards) (d : Devices) → AreFoundCards f cards → is_some d.unit.image ≡ true → Holds f.unit w.due w.book w.marks d.unit → w.book.maybe ≡ None → ((c : Card) → IsOwnValid (found_of f c).image → CardOff f w c d.unit (card_of d c))
+whole-off : (f : Found) (w : Carried) (cards : Cards) (d : Devices) → AreFoundCards f cards → is_some d.unit.image ≡ true → Holds f.unit w.due w.book w.marks d.unit → w.book.maybe ≡ None → ((c : Card) → IsOwnValid (found_of f c).image → CardOff f w.book (w.standing c) (w.brought c) c d.unit (card_of d c))
     → ((c : Card) → MarksLit f w c (card_of d c)) → IsPowerless f w d
 whole-off f w cards d found tells unit none one marks = record {
   carried = record {
@@ -305,7 +309,7 @@ whole-off f w cards d found tells unit none one marks = record {
 pub powerless-of : (f : Found) (w : Carried) (cards : Cards) (c : Card) (U X Y : State) → AreFoundCards f cards → AreOff f w c U X Y → IsPowerless f w (arranged c U X Y)
 powerless-of f w cards A U X Y found p = whole-off f w cards (devices U X Y) found p.tells p.unit p.none one marks
   where
-    one : (c : Card) → IsOwnValid (found_of f c).image → CardOff f w c U (card_of (devices U X Y) c)
+    one : (c : Card) → IsOwnValid (found_of f c).image → CardOff f w.book (w.standing c) (w.brought c) c U (card_of (devices U X Y) c)
     one A = p.mine
     one B = p.others
 
@@ -314,7 +318,7 @@ powerless-of f w cards A U X Y found p = whole-off f w cards (devices U X Y) fou
     marks B = p.marks_others
 powerless-of f w cards B U X Y found p = whole-off f w cards (devices U Y X) found p.tells p.unit p.none one marks
   where
-    one : (c : Card) → IsOwnValid (found_of f c).image → CardOff f w c U (card_of (devices U Y X) c)
+    one : (c : Card) → IsOwnValid (found_of f c).image → CardOff f w.book (w.standing c) (w.brought c) c U (card_of (devices U Y X) c)
     one A = p.others
     one B = p.mine
 
@@ -335,3 +339,13 @@ brought-on f c k b y z s due marks U V X whole tells h none before behind = stay
   rises = λ x there. (x, there, omega arith);
   adds = adds-none c (found_of f c).start k b none;
 })
+
+-- ---- one card has this, and the other what it had
+
+pub at-card : {T : Type 0} (c : Card) (t : T) (had : Card → T) (P : T → Type 0) → P t → P (for_card c t had c)
+at-card A t had P p = p
+at-card B t had P p = p
+
+pub at-other : {T : Type 0} (c : Card) (t : T) (had : Card → T) (P : T → Type 0) → P (had (other c)) → P (for_card c t had (other c))
+at-other A t had P p = p
+at-other B t had P p = p

@@ -28,10 +28,12 @@ use Rattle.run_strung.specs.Strung.{IsHeld}
 
 -- ---- what was found
 
--- What was found of the cards: two numbers, which are those that they have told; and of each valid card sizes, and the entries of its image.
+-- What was found of the cards: two numbers, which are those that the valid ones have told; and of each valid card sizes, and the entries of
+-- its image.
 pub record AreFoundCards (f : Found) (cards : Cards) : Type 0 where
   pub two : f.card_a.number ≢ f.card_b.number
   pub named : (c : Card) → IsOwnValid (found_of f c).image → IfSome (known_of cards c).number (λ n. card_number_bytes n ≡ (found_of f c).number)
+  pub told : (c : Card) → IsOwnValid (found_of f c).image → is_some (known_of cards c).number ≡ true
   pub sizes : (c : Card) → IsOwnValid (found_of f c).image → IsApplication (own_sizes (found_of f c).image)
   pub entries : (c : Card) → IsOwnValid (found_of f c).image → (found_of f c).start.entries ≡ (own_view (found_of f c).image).held.entries
 

@@ -13,7 +13,7 @@ use Rattle.run_keeping.specs.Minutes.{AreKept, AreKeptUpTo, or_nobody, kept_afte
 use Rattle.run_keeping.proofs.Sessions.{stands-later}
 use Rattle.run_keeping.proofs.Rounds.{told-of}
 use Rattle.run_keeping.proofs.Decided.{this, due-here, due-most, kept-here, all-here, kept-on, cut-on, present-here, rows-on}
-use Rattle.run_keeping.proofs.Seats.{emptied-none, emptied-then}
+use Rattle.run_keeping.proofs.Seats.{emptied-none, emptied-then, sessions-none, sessions-then}
 use Rattle.run_keeping.proofs.keeper.Keeper.keep_all.Goals as goal
 
 pub present-present-requires : goal.present-present-requires
@@ -85,12 +85,14 @@ loop-minute-init g c = record {
   rows = λ card h. h;
   stands = λ from leaving all h next le low. stands-later from next le leaving c.args.self.now.cabin h;
   seats = emptied-none c.args.self.now.cabin.slots.seats;
+  sessions = sessions-none c.args.self.now.cabin.cards;
   size_a = refl;
   size_b = refl;
   kept = none (told-of c.args.self.now c.args.marks.now c.args.breaks.now);
   mark_room = refl;
   few = omega arith;
   tear_room = refl;
+  more = omega arith;
   tears = omega arith;
   a_broken = let few : tears_of c.args.self.now.cabin.cards.a.accepted - tears_of c.args.self.now.cabin.cards.a.accepted ≤ 0 = omega arith in fewer_broken few (none_broken (g.C.Chip.state c.args.card_a.now));
   b_broken = let few : tears_of c.args.self.now.cabin.cards.b.accepted - tears_of c.args.self.now.cabin.cards.b.accepted ≤ 0 = omega arith in fewer_broken few (none_broken (g.D.Chip.state c.args.card_b.now));
@@ -125,6 +127,7 @@ loop-minute-preserved g c =
           let after : Stands (c.kept_of-kept.result.minute + 1) leaving c.keep_minute.new.self.cabin = e.stands m leaving (omega (arith, same)) before in
           stands-later (c.kept_of-kept.result.minute + 1) next (omega (arith, same, now, late)) leaving c.keep_minute.new.self.cabin after;
       seats = emptied-then c.args.self.now.cabin.slots.seats c.loop-minute.self.cabin.slots.seats c.keep_minute.new.self.cabin.slots.seats v.seats e.seats;
+      sessions = sessions-then c.args.self.now.cabin.cards c.loop-minute.self.cabin.cards c.keep_minute.new.self.cabin.cards v.sessions e.sessions;
       size_a = e.size_a ∙ v.size_a;
       size_b = e.size_b ∙ v.size_b;
       kept = kept-on ds i low c.args.at (told-of c.args.self.now c.args.marks.now c.args.breaks.now) (told-of c.loop-minute.self c.loop-minute.marks c.loop-minute.breaks) (told-of c.keep_minute.new.self c.keep_minute.new.marks c.keep_minute.new.breaks)
@@ -132,6 +135,7 @@ loop-minute-preserved g c =
       mark_room = e.marks.0 ∙ v.mark_room;
       few = let one = e.marks.1 in let few = v.few in omega (arith, one, few);
       tear_room = e.breaks.0 ∙ v.tear_room;
+      more = let one = e.more in let was = v.more in omega (arith, one, was);
       tears = let one = e.breaks.1 in let tears = v.tears in omega (arith, one, tears);
       a_broken =
           let few : tears_of c.args.self.now.cabin.cards.a.accepted - tears_of c.keep_minute.new.self.cabin.cards.a.accepted
@@ -207,6 +211,10 @@ pub returns-in_err-keep_minute-clause-seats : goal.returns-in_err-keep_minute-cl
 returns-in_err-keep_minute-clause-seats g c =
     emptied-then c.args.self.now.cabin.slots.seats c.loop-minute.self.cabin.slots.seats c.keep_minute.new.self.cabin.slots.seats c.loop-minute.invariant.seats c.in_err-keep_minute.ensures.seats
 
+pub returns-in_err-keep_minute-clause-sessions : goal.returns-in_err-keep_minute-clause-sessions
+returns-in_err-keep_minute-clause-sessions g c =
+    sessions-then c.args.self.now.cabin.cards c.loop-minute.self.cabin.cards c.keep_minute.new.self.cabin.cards c.loop-minute.invariant.sessions c.in_err-keep_minute.ensures.sessions
+
 pub returns-in_err-keep_minute-clause-size_a : goal.returns-in_err-keep_minute-clause-size_a
 returns-in_err-keep_minute-clause-size_a g c = c.in_err-keep_minute.ensures.size_a ∙ c.loop-minute.invariant.size_a
 
@@ -247,6 +255,9 @@ returns-in_err-keep_minute-clause-breaks g c =
     let one = e.breaks.1 in
     let few = v.tears in
     (e.breaks.0 ∙ v.tear_room, omega (arith, one, few))
+
+pub returns-in_err-keep_minute-clause-more : goal.returns-in_err-keep_minute-clause-more
+returns-in_err-keep_minute-clause-more g c = let one = c.in_err-keep_minute.ensures.more in let was = c.loop-minute.invariant.more in omega (arith, one, was)
 
 pub returns-in_err-keep_minute-clause-a_broken : goal.returns-in_err-keep_minute-clause-a_broken
 returns-in_err-keep_minute-clause-a_broken g c =

@@ -2,7 +2,7 @@ use Rattle.std.proofs.Common.{◌≡◌, ℕ, ◌+◌, ◌-◌, ◌*◌, ◌/◌
 use Rattle.trace_model.specs.declared.Card.{Card}
 use Rattle.tach_media.specs.Medium.{HasCause, HasBroken}
 use Rattle.run_crew.specs.Cabin.{Stands}
-use Rattle.run_keeping.specs.Keeping.{IsReady, HasItsRow, AreEmptied, tears_of, most_tears}
+use Rattle.run_keeping.specs.Keeping.{IsReady, HasItsRow, AreEmptied, SessionsGoOn, tears_of, most_tears}
 use Rattle.run_keeping.specs.Minutes.{AreDue, AreKept, kept_after}
 use Rattle.run_keeping.proofs.Rounds.{told-of}
 use Rattle.run_keeping.proofs.keeper.Keeper.keep_all.Given as goal
@@ -19,12 +19,14 @@ invariant-loop-minute g l = record {
   rows : (card : Card) → HasItsRow l.fn.self.cabin.cards (g.M.Medium.state l.fn.unit) card → HasItsRow l.self.cabin.cards (g.M.Medium.state l.unit) card;
   stands : (from : ℕ) (leaving : Option Card) → All (λ m. from ≤ m.minute) l.decided → Stands from leaving l.fn.self.cabin → (next : ℕ) → from ≤ next → l.self.journal.kept < next → Stands next leaving l.self.cabin;
   seats : AreEmptied l.fn.self.cabin.slots.seats l.self.cabin.slots.seats;
+  sessions : SessionsGoOn l.fn.self.cabin.cards l.self.cabin.cards;
   size_a : (g.C.Chip.state l.card_a).size ≡ (g.C.Chip.state l.fn.card_a).size;
   size_b : (g.D.Chip.state l.card_b).size ≡ (g.D.Chip.state l.fn.card_b).size;
   kept : AreKept l.at (take l.minute-index l.decided) (told-of l.fn.self l.fn.marks l.fn.breaks) (told-of l.self l.marks l.breaks);
   mark_room : l.marks.room ≡ l.fn.marks.room;
   few : length l.marks.items ≤ length l.fn.marks.items + 3 * l.minute-index;
   tear_room : l.breaks.room ≡ l.fn.breaks.room;
+  more : length l.fn.breaks.items ≤ length l.breaks.items;
   tears : length l.breaks.items + most_tears l.self.cabin.cards ≤ length l.fn.breaks.items + most_tears l.fn.self.cabin.cards;
   a_broken : HasBroken (g.C.Chip.state l.fn.card_a) (g.C.Chip.state l.card_a) (tears_of l.fn.self.cabin.cards.a.accepted - tears_of l.self.cabin.cards.a.accepted);
   b_broken : HasBroken (g.D.Chip.state l.fn.card_b) (g.D.Chip.state l.card_b) (tears_of l.fn.self.cabin.cards.b.accepted - tears_of l.self.cabin.cards.b.accepted);

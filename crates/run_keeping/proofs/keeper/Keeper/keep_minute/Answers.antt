@@ -7,11 +7,12 @@ use Rattle.run_outcome.specs.Lines.{Listed}
 use Rattle.tach_media.proofs.Runs.{on_ok}
 use Rattle.run_crew.specs.Cabin.{Stands}
 use Rattle.run_keeping.specs.declared.keeper.Keeper.{Keeper}
-use Rattle.run_keeping.specs.Keeping.{Still, IsBrought, AreEmptied, cabin_by, kept_in, state_at, most_tears}
+use Rattle.run_keeping.specs.Keeping.{Still, IsBrought, AreEmptied, SessionsGoOn, cabin_by, kept_in, state_at, most_tears}
 use Rattle.run_keeping.specs.Minutes.{Round, IsMinute, unit_mark}
 use Rattle.run_keeping.proofs.Counts.{tears-one, lines-length, first-stays, second-stays}
-use Rattle.run_keeping.proofs.Rounds.{told-of, brought-minute, brought-past, brought-tears, brought-tear-room, brought-marks, brought-mark-room, cut-is, cut-told, whole-driver, whole-codriver, whole-is, whole-told}
-use Rattle.run_keeping.proofs.Seats.{emptied-then}
+use Rattle.run_keeping.proofs.Rounds.{told-of, brought-minute, brought-past, brought-tears, brought-more, brought-tear-room, brought-marks, brought-mark-room, cut-is, cut-told, whole-driver, whole-codriver, whole-is, whole-told}
+use Rattle.run_keeping.proofs.Units.{unit-stays}
+use Rattle.run_keeping.proofs.Seats.{emptied-then, sessions-none, sessions-then}
 use Rattle.run_keeping.proofs.keeper.Keeper.keep_minute.Goals as goal
 
 pub returns-in_err-bring-clause-kept : goal.returns-in_err-bring-clause-kept
@@ -183,3 +184,34 @@ pub returns-clause-seats : goal.returns-clause-seats
 returns-clause-seats g c =
     emptied-then c.args.self.now.cabin.slots.seats c.bring.new.self.cabin.slots.seats c.bring-2.new.self.cabin.slots.seats
     (subst (λ (q : Keeper). AreEmptied q.cabin.slots.seats c.bring.new.self.cabin.slots.seats) c.commit.ensures.keeper c.bring.ensures.seats) c.bring-2.ensures.seats
+
+-- ---- the sessions
+
+pub returns-in_err-commit-clause-sessions : goal.returns-in_err-commit-clause-sessions
+returns-in_err-commit-clause-sessions g c =
+    subst (λ (q : Keeper). SessionsGoOn c.args.self.now.cabin.cards q.cabin.cards) (sym c.commit.ensures.keeper) (sessions-none c.args.self.now.cabin.cards)
+
+pub returns-in_err-bring-clause-sessions : goal.returns-in_err-bring-clause-sessions
+returns-in_err-bring-clause-sessions g c = subst (λ (q : Keeper). SessionsGoOn q.cabin.cards c.bring.new.self.cabin.cards) c.commit.ensures.keeper c.bring.ensures.sessions
+
+pub returns-clause-sessions : goal.returns-clause-sessions
+returns-clause-sessions g c =
+    sessions-then c.args.self.now.cabin.cards c.bring.new.self.cabin.cards c.bring-2.new.self.cabin.cards
+    (subst (λ (q : Keeper). SessionsGoOn q.cabin.cards c.bring.new.self.cabin.cards) c.commit.ensures.keeper c.bring.ensures.sessions) c.bring-2.ensures.sessions
+
+-- ---- the unit
+
+pub returns-in_err-bring-clause-unit : goal.returns-in_err-bring-clause-unit
+returns-in_err-bring-clause-unit g c = unit-stays c.bring.ensures.journal c.commit.ensures.unit
+
+pub returns-clause-unit : goal.returns-clause-unit
+returns-clause-unit g c = unit-stays c.bring-2.ensures.journal (unit-stays c.bring.ensures.journal c.commit.ensures.unit)
+
+pub returns-in_err-bring-clause-more : goal.returns-in_err-bring-clause-more
+returns-in_err-bring-clause-more g c = brought-more _ _ _ _ _ _ _ _ _ _ _ _ _ _ _ c.bring.ensures.brought.1
+
+pub returns-clause-more : goal.returns-clause-more
+returns-clause-more g c =
+    let one = brought-more _ _ _ _ _ _ _ _ _ _ _ _ _ _ _ c.in_ok-bring.ensures.brought.1 in
+    let two = brought-more _ _ _ _ _ _ _ _ _ _ _ _ _ _ _ c.bring-2.ensures.brought.1 in
+    omega (arith, one, two)
