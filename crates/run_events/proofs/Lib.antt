@@ -7,3 +7,4 @@ pub mod Leading
 pub mod Gaps
 pub mod Ordered
 pub mod Choosing
+pub mod Notes
