@@ -40,13 +40,13 @@ module _ (t u : Tearing) (sessions others : ℕ → Visit → ℕ) (x : Seen) (a
       ap (λ (c : Crew). cond (kind == INSERTION_WHILE_DRIVING && nat_lt 0 x.told.second.speed) (noted_with kind (number_of x) (number_of x) c ∷ [])
       (cond (kind == SESSION_NOT_CLOSED && nat_lt 0 session) (noted_with kind session (number_of x) c ∷ []) [])) (crew-same v (Some v.card))
 
-  flat-same : (kind : ℕ) (fs : List (Visit × Verdict)) →
+  pub flat-same : (kind : ℕ) (fs : List (Visit × Verdict)) →
       flat_map (λ (f : Visit × Verdict). found_events kind (others (number_of x) f.0) u x f.0 f.1) fs ≡ flat_map (λ (f : Visit × Verdict). found_events kind (sessions (number_of x) f.0) t x f.0 f.1) fs
   flat-same kind [] = refl
   flat-same kind (f ∷ fs) =
       λ i. (ap (λ (n : ℕ). found_events kind n u x f.0 f.1) (agree.sessions_are f.0) ∙ found-same kind (sessions (number_of x) f.0) f.0 f.1) i ++ flat-same kind fs i
 
-  first-same : (k : ℕ) (slot : Slot) → is_first u (number_of x) k slot ≡ is_first t (number_of x) k slot
+  pub first-same : (k : ℕ) (slot : Slot) → is_first u (number_of x) k slot ≡ is_first t (number_of x) k slot
   first-same k Driver = agree.driver_first k
   first-same k CoDriver = ap not (agree.driver_first k)
 
@@ -166,7 +166,7 @@ module _ (n : ℕ) (here t : Tearing) where
   all-agree own sessions [] all = tt
   all-agree own sessions (x ∷ xs) all = (earlier-agree own sessions (number_of x) all.0, all-agree own sessions xs all.1)
 
-  here-agree : (own sessions : ℕ → Visit → ℕ) (u : ℕ) → u ≡ n → AgreeIn here (chosen n here t) own (told_at n own sessions) u
+  pub here-agree : (own sessions : ℕ → Visit → ℕ) (u : ℕ) → u ≡ n → AgreeIn here (chosen n here t) own (told_at n own sessions) u
   here-agree own sessions u is =
       let at : nat_eq u n ≡ true = this-second n u is in record {
         by_gap = λ slot. ap (λ (b : Bool). cond b (here.by_gap u slot) (t.by_gap u slot)) at;

@@ -8,3 +8,4 @@ pub mod Gaps
 pub mod Ordered
 pub mod Choosing
 pub mod Notes
+pub mod Running
