@@ -9,3 +9,4 @@ pub mod Ordered
 pub mod Choosing
 pub mod Notes
 pub mod Running
+pub mod Quiet

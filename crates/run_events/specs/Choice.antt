@@ -1,5 +1,5 @@
 -- What no log tells of a run, as its seconds come: which session times were found open, and which card was torn out first (profile).
-use Rattle.std.specs.Prelude.{◌≡◌, ℕ, suc, ◌<◌, Bool, true, false, Option, None, List, [], ◌∷◌, ◌++◌, is_some, nat_eq, if◌then◌else◌}
+use Rattle.std.specs.Prelude.{◌≡◌, ℕ, suc, ◌<◌, ◌≤◌, Bool, true, false, Option, None, List, [], ◌∷◌, ◌++◌, is_some, nat_eq, if◌then◌else◌}
 use Rattle.std.specs.List.{AllByRecursion}
 use Rattle.activity_codec.specs.declared.values.Slot.{Slot}
 use Rattle.trace_model.specs.declared.Card.{Card}
@@ -36,3 +36,10 @@ pub record IsTornIn (t : Tearing) (x : Seen) : Type 0 where
   pub still : (slot : Slot) → x.told.second.speed ≡ 0 → torn_at x (In 0) slot ≡ true → is_some (accepted_at x (In 0) slot) ≡ true → t.by_gap (number_of x) slot ≡ true
   pub before : (slot : Slot) → accepted_at x (In 0) slot ≡ None → t.by_gap (number_of x) slot ≡ false
   pub put_in : (n : ℕ) (slot : Slot) → entered_at x (In (suc n)) slot ≡ true → is_first t (number_of x) (suc n) slot ≡ false
+
+-- from a second on nothing is chosen of it yet: no card was torn out as an interruption was noted
+abbrev pub IsPlainFrom : ℕ → Tearing → Type 0
+IsPlainFrom n t = (u : ℕ) → n ≤ u → (slot : Slot) → t.by_gap u slot ≡ false
+
+abbrev pub plain : Tearing
+plain = record { by_gap = λ u slot. false; driver_first = λ u k. true }

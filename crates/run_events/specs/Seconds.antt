@@ -62,9 +62,22 @@ IsBehind spans x = x.told.lit ≡ true → (span_before spans x ≡ []) ⊎ (las
 abbrev pub seen_next : RunLog → List TraceSecond → TraceSecond → Seen
 seen_next log done s = seen_by log (went log done).before s
 
--- it goes on its span, and no card entered it or was torn out in it
-pub record IsQuiet (x : Seen) : Type 0 where
-  pub lit : x.told.lit ≡ true
-  pub goes_on : x.told.starts ≡ false
+-- no card was judged or torn out in it, and none entered
+pub record IsIdle (x : Seen) : Type 0 where
   pub found : x.told.course.found ≡ []
   pub torn : x.told.course.torn ≡ []
+  pub entered : x.told.course.entered ≡ []
+
+-- and it goes on its span, or is without power
+pub record IsQuiet (x : Seen) : Type 0 where
+  pub idle : IsIdle x
+  pub lit : x.told.lit ≡ true
+  pub goes_on : x.told.starts ≡ false
+
+pub record IsDarkSeen (x : Seen) : Type 0 where
+  pub idle : IsIdle x
+  pub lit : x.told.lit ≡ false
+
+-- what quiet seconds behind those of a span bring
+abbrev pub quiet_events : (kind limit : ℕ) → (span xs : List Seen) → List Event
+quiet_events kind limit span xs = if kind == DRIVING_WITHOUT_CARD then bares_by span xs else (if kind == OVER_SPEEDING then overs_by limit span xs else [])
