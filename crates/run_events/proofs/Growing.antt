@@ -116,7 +116,7 @@ gaps-on t log (span ∷ (y ∷ next) ∷ []) x all = refl
 gaps-on t log (span ∷ (y ∷ next) ∷ third ∷ spans) x all =
     ap (λ (es : List Event). gap_event t log span (y ∷ next) ++ es) (gaps-on t log ((y ∷ next) ∷ third ∷ spans) x all.1)
 
-gaps-with : (t : Tearing) (log : RunLog) (spans : List (List Seen)) (x : Seen) → AreSome spans → gaps_between t log (seen_with spans x) ≡ gaps_between t log spans ++ gap_by t log spans x
+pub gaps-with : (t : Tearing) (log : RunLog) (spans : List (List Seen)) (x : Seen) → AreSome spans → gaps_between t log (seen_with spans x) ≡ gaps_between t log spans ++ gap_by t log spans x
 gaps-with t log spans x all = by x.told.lit x.told.starts
   where
     by : (lit starts : Bool) → gaps_between t log (cond lit (cond starts (spans ++ (x ∷ []) ∷ []) (seen_on spans x)) spans)

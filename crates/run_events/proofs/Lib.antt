@@ -10,3 +10,4 @@ pub mod Choosing
 pub mod Notes
 pub mod Running
 pub mod Quiet
+pub mod Offs

@@ -1,11 +1,12 @@
 -- The events that a second notes, and what is carried of them from second to second (profile).
-use Rattle.std.specs.Prelude.{◌≡◌, ◌⊎◌, ℕ, ◌+◌, Option, Some, None, nat_lt, List, [], ◌∷◌, ◌++◌, flat_map, if◌then◌else◌}
+use Rattle.std.specs.Prelude.{◌≡◌, ◌⊎◌, ℕ, ◌+◌, Option, Some, None, nat_lt, List, [], ◌∷◌, ◌++◌, length, flat_map, if◌then◌else◌}
 use Rattle.trace_model.specs.declared.Card.{Card}
 use Rattle.trace_model.specs.Trace.{TraceSecond}
 use Rattle.tach_media.specs.Medium.{State}
 use Rattle.log_model.specs.declared.lines.Verdict.{Verdict}
 use Rattle.log_model.specs.declared.lines.Verdict.TheVariants.{Accepted, NotValid, TimeOverlap}
-use Rattle.log_model.specs.Log.{RunLog}
+use Rattle.activity_codec.specs.declared.values.Slot.{Slot}
+use Rattle.log_model.specs.Log.{RunLog, Phase, cut_in, is_torn_in, found_in}
 use Rattle.log_model.specs.Course.{Visit}
 use Rattle.event_model.specs.declared.kinds.TheConstants.{CARD_NOT_VALID, TIME_OVERLAP, INSERTION_WHILE_DRIVING, SESSION_NOT_CLOSED}
 use Rattle.event_model.specs.Events.{Event, Seen, Tearing, AreTorn, number_of, noted_with, crew_judged, seen_of, events_of}
@@ -33,3 +34,10 @@ second_notes limit sessions t log spans x =
 pub record HasEvents (number : Card → List ℕ) (start : List ℕ) (limit : ℕ) (log : RunLog) (done : List TraceSecond) (unit : State) (t : Tearing) (sessions : ℕ → Visit → ℕ) : Type 0 where
   pub torn : AreTorn t (seen_of log done)
   pub noted : HasNoted number start log (λ kind. events_of kind limit sessions t log done) unit
+
+-- A SECOND WITH POWER TURNS OUT TO BE A CUT'S, behind all of its actions, as one log tells and one before it does not.
+pub record IsCutOff (log later : RunLog) (s : TraceSecond) : Type 0 where
+  pub uncut : cut_in log s.number ≡ None
+  pub cut : cut_in later s.number ≡ Some (length s.actions)
+  pub torn : (p : Phase) (slot : Slot) → is_torn_in later s.number p slot ≡ is_torn_in log s.number p slot
+  pub found : (p : Phase) (slot : Slot) → found_in later s.number p slot ≡ found_in log s.number p slot
