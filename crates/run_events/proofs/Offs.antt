@@ -21,6 +21,7 @@ use Rattle.unit_course.specs.Lines.{tells_cut}
 use Rattle.unit_course.specs.Followed.{Supply, Lit, Due, Lost, IsDark}
 use Rattle.event_model.specs.declared.kinds.TheConstants.{CARD_NOT_VALID, TIME_OVERLAP, DRIVING_WITHOUT_CARD, INSERTION_WHILE_DRIVING, SESSION_NOT_CLOSED, OVER_SPEEDING, POWER_INTERRUPTION, CARD_FAULT}
 use Rattle.event_model.specs.Events.{Event, Crew, Seen, Tearing, AreTorn, noted_with, with_card, beside_judged, crew_judged, found_events, beside_torn, fault_of, is_codriver_first, torn_in_turn, number_of, last_number, course_by, moved_by_action, within_by, seen_by, seen_of, seen_on, seen_with, seen_spans, gaps_between, gap_events, events_of}
+use Rattle.side_model.specs.Done.{has_failed_in}
 use Rattle.event_course.specs.Noted.{Leads, StayFailed}
 use Rattle.event_course.proofs.Failing.{leads-stay}
 use Rattle.run_events.specs.Shown.{none}
@@ -201,6 +202,42 @@ module _ (log later : RunLog) (t : Tearing) (spans : List (List Seen)) (x : Seen
       (gap_by t log spans x) (faults_by t log x) (found_by kind sessions t x) (gap_by t later spans (cut_seen x)) (faults_by t later (cut_seen x)) (found_by kind sessions t (cut_seen x)) other faults-off
       (flat-off kind sessions x.told.course.found)
 
+-- what is known of the gaps is so with it
+gap-as : (log : RunLog) (found : List Break) (span next other : List Seen) → first_number next ≡ first_number other → IsKnownGap log found span next → IsKnownGap log found span other
+gap-as log found span next other is (inl told) = inl told
+gap-as log found span next other is (inr failed) = inr (record { told = failed.told; failed = ap (has_failed_in log) (sym is) ∙ failed.failed; kept = failed.kept })
+
+first-as : (next : List Seen) (x y : Seen) → number_of x ≡ number_of y → first_number (next ++ x ∷ []) ≡ first_number (next ++ y ∷ [])
+first-as [] x y is = is
+first-as (z ∷ next) x y is = refl
+
+on-as : (log : RunLog) (found : List Break) (spans : List (List Seen)) (x y : Seen) → number_of x ≡ number_of y → AreKnownGaps log found (seen_on spans x) → AreKnownGaps log found (seen_on spans y)
+on-as log found [] x y is all = tt
+on-as log found (span ∷ []) x y is all = tt
+on-as log found (span ∷ next ∷ []) x y is all = (gap-as log found span (next ++ x ∷ []) (next ++ y ∷ []) (first-as next x y is) all.0, tt)
+on-as log found (span ∷ next ∷ third ∷ spans) x y is all = (all.0, on-as log found (next ∷ third ∷ spans) x y is all.1)
+
+one-as : (log : RunLog) (found : List Break) (spans : List (List Seen)) (x y : Seen) → number_of x ≡ number_of y → AreKnownGaps log found (spans ++ (x ∷ []) ∷ []) → AreKnownGaps log found (spans ++ (y ∷ []) ∷ [])
+one-as log found [] x y is all = tt
+one-as log found (span ∷ []) x y is all = (gap-as log found span (x ∷ []) (y ∷ []) is all.0, tt)
+one-as log found (span ∷ next ∷ spans) x y is all = (all.0, one-as log found (next ∷ spans) x y is all.1)
+
+with-as : (log : RunLog) (found : List Break) (spans : List (List Seen)) (x : Seen) → AreKnownGaps log found (seen_with spans x) → AreKnownGaps log found (seen_with spans (cut_seen x))
+with-as log found spans x = by x.told.lit x.told.starts
+  where
+    by : (lit starts : Bool) → AreKnownGaps log found (cond lit (cond starts (spans ++ (x ∷ []) ∷ []) (seen_on spans x)) spans) → AreKnownGaps log found (cond lit (cond starts (spans ++ (cut_seen x ∷ []) ∷ []) (seen_on spans (cut_seen x))) spans)
+    by true true all = one-as log found spans x (cut_seen x) refl all
+    by true false all = on-as log found spans x (cut_seen x) refl all
+    by false starts all = all
+
+last-with : (P : List Seen → Type 0) (spans : List (List Seen)) (x : Seen) → x.told.lit ≡ true → ((span : List Seen) → P (span ++ x ∷ [])) → OfLast P (seen_with spans x)
+last-with P spans x lit each = by x.told.lit x.told.starts lit
+  where
+    by : (l starts : Bool) → l ≡ true → OfLast P (cond l (cond starts (spans ++ (x ∷ []) ∷ []) (seen_on spans x)) spans)
+    by true true is = last-one P spans (x ∷ []) (each [])
+    by true false is = last-on P spans x each
+    by false starts is = absurd (cc)
+
 -- THE RUN, whose last second it is
 module _ (log later : RunLog) (front : List TraceSecond) (s : TraceSecond) (same : All (λ s. SameAt log later s.number) front) (off : IsCutOff log later s) (power : has_power (went log front).before s ≡ true) where
   abbrev x : Seen
@@ -262,3 +299,16 @@ module _ (log later : RunLog) (front : List TraceSecond) (s : TraceSecond) (same
           (λ kind. off-leads kind limit sessions t)
           (λ c left. (c, left, nothing-more number later (λ kind. events_of kind limit sessions t later (front ++ s ∷ [])) c c (record { tables = λ kind there. refl; first_over = refl; over_count = refl })));
     }
+
+  -- and what is known of the cuts, which this one is among
+  pub off-gaps : (unfound : ℕ) (supply : Supply) (rest : List Break) → later.breaks ≡ log.breaks ++ rest → take unfound later.breaks ≡ take unfound log.breaks → HasGaps log unfound supply (front ++ s ∷ []) → x.told.lit ≡ true →
+      IsUntold later (take unfound log.breaks) (x ∷ []) → HasGaps later unfound Lost (front ++ s ∷ [])
+  off-gaps unfound supply rest breaks same_front g lit cut =
+      let found : List Break = take unfound log.breaks in
+      let mine : AreKnownGaps later found (seen_with old (cut_seen x)) =
+      with-as later found old x (gaps-later log later found rest breaks (seen_with old x) (subst (AreKnownGaps log found) spans-were g.known)) in
+      let here : IsUntold later found (cut_seen x ∷ []) = record { told = cut.told; unfound = cut.unfound; kept = cut.kept } in
+      let last : OfLast (IsUntold later found) (seen_with old (cut_seen x)) = last-with (IsUntold later found) old (cut_seen x) lit (ends-untold later found (cut_seen x) here) in record {
+        known = subst (λ (fs : List Break). AreKnownGaps later fs (seen_spans (seen_of later (front ++ s ∷ [])))) (sym same_front) (subst (AreKnownGaps later found) (sym spans-now) mine);
+        last = subst (λ (fs : List Break). OfLast (IsUntold later fs) (seen_spans (seen_of later (front ++ s ∷ [])))) (sym same_front) (subst (OfLast (IsUntold later found)) (sym spans-now) last);
+      }
