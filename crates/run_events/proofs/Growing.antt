@@ -16,7 +16,7 @@ use Rattle.event_model.specs.Events.{Event, Seen, Watched, Tearing, watched_on, 
 use Rattle.run_events.specs.Seconds.{last_of, span_before, bares_by, is_fast, overs_by, gap_before, gap_by, faults_by, found_by, second_events, seen_next}
 
 -- THE SECONDS as their events see them
-sees-all : (log : RunLog) (ss : List TraceSecond) (w : Watched) (v : Went) → w.before ≡ v.before → (fold (watched_on log) w ss).before ≡ (fold (went_on log) v ss).before
+pub sees-all : (log : RunLog) (ss : List TraceSecond) (w : Watched) (v : Went) → w.before ≡ v.before → (fold (watched_on log) w ss).before ≡ (fold (went_on log) v ss).before
 sees-all log [] w v is = is
 sees-all log (s ∷ ss) w v is = sees-all log ss (watched_on log w s) (went_on log v s) (ap (λ (b : Before). before_next b (second_told log b s)) is)
 

@@ -1,15 +1,15 @@
-ghost use Rattle.std.specs.Prelude.{◌≡◌, ◌≢◌, ℕ, ◌+◌, ◌^◌, ◌<◌, ◌≤◌, true, false, List, [], ◌∷◌, ◌++◌, All, length, take, Contains};
+ghost use Rattle.std.specs.Prelude.{◌≡◌, ◌≢◌, ℕ, suc, ◌+◌, ◌^◌, ◌<◌, ◌≤◌, true, false, List, [], ◌∷◌, ◌++◌, All, length, take, Contains};
 ghost use Rattle.std.specs.List.{AllByRecursion};
 ghost use Rattle.byte_fields.specs.Images.{SameOutside};
 ghost use Rattle.trace_model.specs.declared.Card.{Card};
 ghost use Rattle.trace_model.specs.Trace.{TraceSecond};
 ghost use Rattle.tacho_types.specs.declared.card_number.FullCardNumber.{FullCardNumber};
 ghost use Rattle.log_model.specs.declared.lines.Break.{Break};
-ghost use Rattle.log_model.specs.Log.{RunLog};
+ghost use Rattle.log_model.specs.Log.{RunLog, kept_after};
 ghost use Rattle.log_model.specs.Same.{SameAt};
 ghost use Rattle.log_model.specs.Spans.{AreInOrder};
-ghost use Rattle.log_model.specs.Course.{Told, Visit};
-ghost use Rattle.unit_course.specs.Lines.{found_from};
+ghost use Rattle.log_model.specs.Course.{Told, Visit, has_power, went};
+ghost use Rattle.unit_course.specs.Lines.{tells_cut, found_from};
 ghost use Rattle.unit_course.specs.Turn.{begins_with};
 ghost use Rattle.unit_course.specs.Followed.{Supply, Lit, Due, Lost, IsDark};
 ghost use Rattle.side_model.specs.Done.{has_failed_in};
@@ -22,13 +22,13 @@ ghost use Rattle.unit_notes.specs.declared.unit_event.UnitEvent.{UnitEvent};
 ghost use Rattle.unit_notes.specs.Entries.{fault_bytes, over_bytes};
 ghost use Rattle.unit_notes.specs.Fields.{IsEventOf, IsOverOf};
 ghost use Rattle.unit_notes.specs.Noting.{IsEventNoted, IsNotingEvent, IsNotingOver, IsOverNoted};
-ghost use Rattle.event_course.specs.Noted.{are_sure, Leads};
+ghost use Rattle.event_course.specs.Noted.{are_sure, Leads, StayFailed};
 ghost use Rattle.event_course.specs.Shown.{all_kinds, KeepsEvents};
 ghost use Rattle.run_events.specs.Shown.{by_kind, none, ShowsEvents, ShowsMore, AllLead, AreNumbers, SaysNothing, SaysNothingBut};
-ghost use Rattle.run_events.specs.Seconds.{second_events, IsBehind, seen_next};
+ghost use Rattle.run_events.specs.Seconds.{last_of, bares_by, overs_by, second_events, quiet_events, IsBehind, IsIdle, IsQuiet, IsDarkSeen, seen_next};
 ghost use Rattle.run_events.specs.Gaps.{IsUntold, HasGaps, TellsMore};
-ghost use Rattle.run_events.specs.Choice.{chosen, told_at, AreEarlier, IsTornIn};
-ghost use Rattle.run_events.specs.Running.{second_notes};
+ghost use Rattle.run_events.specs.Choice.{chosen, told_at, AreEarlier, IsTornIn, IsPlainFrom};
+ghost use Rattle.run_events.specs.Running.{second_notes, IsCutOff};
 
 /// What an image shows of the events goes on by a step: where the step leads to more events, and the image shows these more than one
 /// before it, it shows all.
@@ -127,4 +127,28 @@ pub fn it_is_known_what_was_kept()
         has_failed_in later (number_of (seen_next later done s)) ≡ true → IsUntold later (take unfound log.breaks) (seen_next later done s ∷ []) → HasGaps later unfound Lost (done ++ s ∷ []) }
     ensures dark { (log later : RunLog) (unfound : ℕ) (done : List TraceSecond) (s : TraceSecond) → All (λ s. SameAt log later s.number) done → (rest : List Break) → later.breaks ≡ log.breaks ++ rest →
         take unfound later.breaks ≡ take unfound log.breaks → (supply now : Supply) → IsDark supply → IsDark now → HasGaps log unfound supply done → (seen_next later done s).told.lit ≡ false → HasGaps later unfound now (done ++ s ∷ []) }
+{}
+
+/// Seconds in which no card was judged or torn out, and none entered: with power they bring what they end, and without it nothing; and a
+/// choice of which nothing was chosen from them on fits them.
+pub fn quiet_seconds_bring_what_they_end()
+    ensures quiet { (kind limit : ℕ) (sessions : ℕ → Visit → ℕ) (t : Tearing) (log : RunLog) (done more : List TraceSecond) (xs : List Seen) → seen_of log (done ++ more) ≡ seen_of log done ++ xs → AllByRecursion IsQuiet xs →
+        events_of kind limit sessions t log (done ++ more) ≡ events_of kind limit sessions t log done ++ quiet_events kind limit (last_of (seen_spans (seen_of log done))) xs }
+    ensures dark { (kind limit : ℕ) (sessions : ℕ → Visit → ℕ) (t : Tearing) (log : RunLog) (done more : List TraceSecond) (xs : List Seen) → seen_of log (done ++ more) ≡ seen_of log done ++ xs → AllByRecursion IsDarkSeen xs →
+        events_of kind limit sessions t log (done ++ more) ≡ events_of kind limit sessions t log done }
+    ensures parts { (limit : ℕ) (span xs ys : List Seen) → (bares_by span (xs ++ ys) ≡ bares_by span xs ++ bares_by (span ++ xs) ys) × (overs_by limit span (xs ++ ys) ≡ overs_by limit span xs ++ overs_by limit (span ++ xs) ys) }
+    ensures fits { (t : Tearing) (n : ℕ) (seen xs : List Seen) → IsPlainFrom n t → AreTorn t seen → AllByRecursion (λ (x : Seen). n ≤ number_of x) xs → AllByRecursion IsIdle xs → AreTorn t (seen ++ xs) }
+    ensures plain { (n : ℕ) (here t : Tearing) → IsPlainFrom n t → IsPlainFrom (suc n) (chosen n here t) }
+{}
+
+/// Where the last second with power turns out to be a cut's, behind all of its actions, its events are the same.
+pub fn a_cut_behind_a_second_leaves_its_events()
+    ensures events { (log later : RunLog) (front : List TraceSecond) (s : TraceSecond) → All (λ s. SameAt log later s.number) front → IsCutOff log later s → has_power (went log front).before s ≡ true → (unfound : ℕ) (supply : Supply) →
+        HasGaps log unfound supply (front ++ s ∷ []) → StayFailed log later → ((u : ℕ) → tells_cut u (take unfound log.breaks) ≡ true → kept_after later u ≡ kept_after log u) →
+        (kind limit : ℕ) (sessions : ℕ → Visit → ℕ) (t : Tearing) → Leads log (events_of kind limit sessions t log (front ++ s ∷ [])) [] later (events_of kind limit sessions t later (front ++ s ∷ [])) }
+    ensures fits { (log later : RunLog) (front : List TraceSecond) (s : TraceSecond) → All (λ s. SameAt log later s.number) front → IsCutOff log later s → has_power (went log front).before s ≡ true →
+        (t : Tearing) → AreTorn t (seen_of log (front ++ s ∷ [])) → AreTorn t (seen_of later (front ++ s ∷ [])) }
+    ensures gaps { (log later : RunLog) (front : List TraceSecond) (s : TraceSecond) → All (λ s. SameAt log later s.number) front → IsCutOff log later s → has_power (went log front).before s ≡ true → (unfound : ℕ) (supply : Supply) (rest : List Break) →
+        later.breaks ≡ log.breaks ++ rest → take unfound later.breaks ≡ take unfound log.breaks → HasGaps log unfound supply (front ++ s ∷ []) → (seen_next log front s).told.lit ≡ true →
+        IsUntold later (take unfound log.breaks) (seen_next log front s ∷ []) → HasGaps later unfound Lost (front ++ s ∷ []) }
 {}
