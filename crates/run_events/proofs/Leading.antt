@@ -12,7 +12,7 @@ use Rattle.event_model.specs.Events.{Event, Seen, Tearing, number_of, last_numbe
 use Rattle.event_course.specs.Noted.{are_sure, Leads, StayFailed}
 use Rattle.event_course.proofs.Failing.{leads-stay, leads-more, leads-none, leads-then}
 use Rattle.run_events.specs.Shown.{by_kind, none, AllLead}
-use Rattle.run_events.specs.Seconds.{span_before, second_events, seen_next}
+use Rattle.run_events.specs.Seconds.{IsBehind, second_events, seen_next}
 use Rattle.run_events.proofs.Growing.{second-brings}
 use Rattle.run_events.proofs.Later.{events-same}
 use Rattle.run_events.proofs.Sure.{second-in, none-sure}
@@ -42,8 +42,7 @@ module _ (log later : RunLog) (done : List TraceSecond) (same : All (λ s. SameA
         (lines-lead kind limit sessions) (leads-more later later (events_of kind limit sessions t later done) brought (λ u h. h)))
 
     -- OR ONE in which a call failed
-    pub failed-leads : has_failed_in later (number_of (seen_next later done s)) ≡ true →
-        (span_before (seen_spans (seen_of later done)) (seen_next later done s) ≡ []) ⊎ (last_number (span_before (seen_spans (seen_of later done)) (seen_next later done s)) + 1 ≡ number_of (seen_next later done s)) →
+    pub failed-leads : has_failed_in later (number_of (seen_next later done s)) ≡ true → IsBehind (seen_spans (seen_of later done)) (seen_next later done s) →
         Leads log (events_of kind limit sessions t log done) [] later (events_of kind limit sessions t later (done ++ s ∷ []))
     failed-leads failed behind =
         subst (λ (es : List Event). Leads log (events_of kind limit sessions t log done) [] later es) (sym (second-brings kind limit sessions t later done s))

@@ -17,6 +17,14 @@ use Rattle.event_course.proofs.Shows.{noted-on, first-none, first-parts, count-p
 use Rattle.event_course.proofs.Failing.{leads-stay, leads-more, leads-then}
 use Rattle.run_events.specs.Shown.{by_kind, none, ShowsEvents, HasNoted, ShowsMore, AllLead, SaysNothing, SaysNothingBut}
 
+-- a type is another one, or that one
+pub kind-or : (kind other : ℕ) → (other ≡ kind) ⊎ (other ≡ kind → ⊥)
+kind-or kind other = by (nat_eq other kind) refl
+  where
+    by : (b : Bool) → nat_eq other kind ≡ b → (other ≡ kind) ⊎ (other ≡ kind → ⊥)
+    by true is = inl (eqb-true other kind is)
+    by false is = inr (eqb-false other kind is)
+
 module _ (number : Card → List ℕ) where
   -- AN IMAGE behind a step
   pub shows-then : (start x c : List ℕ) (log later : RunLog) (l more now : ℕ → List Event) → ShowsEvents number start log l x → AllLead log l more later now → ShowsMore number later now more x c → ShowsEvents number start later now c
@@ -63,13 +71,6 @@ module _ (number : Card → List ℕ) where
     over_count = λ sure few. same.over_count ∙ count-none (number_of x OVER_COUNT) few;
     begins = tt;
   }
-
-  kind-or : (kind other : ℕ) → (other ≡ kind) ⊎ (other ≡ kind → ⊥)
-  kind-or kind other = by (nat_eq other kind) refl
-    where
-      by : (b : Bool) → nat_eq other kind ≡ b → (other ≡ kind) ⊎ (other ≡ kind → ⊥)
-      by true is = inl (eqb-true other kind is)
-      by false is = inr (eqb-false other kind is)
 
   pub nothing-but : (log : RunLog) (now : ℕ → List Event) (kind : ℕ) (x c : List ℕ) → SaysNothingBut kind x c → (are_sure log (now kind) ≡ true → ⊥) → ShowsMore number log now none x c
   nothing-but log now kind x c same unsure =

@@ -1,8 +1,9 @@
 -- A card is put in: what is carried stands at each exit, and of a card that is accepted its session and its string are known.
-use Rattle.std.proofs.Common.{◌≡◌, ◌≢◌, ◌⊎◌, inl, inr, ⊎_elim, ℕ, suc, max, ◌+◌, ◌/◌, ◌^◌, ◌<◌, ◌≤◌, Bool, true, false, Option, Some, None, IfSome, is_some, List, [], ◌∷◌, ◌++◌, length, All, Contains, refl, ap, subst, ◌∙◌, sym, arith}
-use Rattle.std.specs.Prelude.{not, IfOk, Result, Ok, Err}
+use Rattle.std.proofs.Common.{◌≡◌, ◌≢◌, ◌⊎◌, inl, inr, ⊎_elim, ℕ, zero, suc, max, ◌/◌, ◌^◌, ◌<◌, ◌≤◌, Bool, true, false, cond, Option, Some, None, IfSome, List, [], ◌∷◌, ◌++◌, length, All, Contains, refl, ap, subst, ◌∙◌, sym, arith}
+use Rattle.std.specs.Prelude.{nat_eq, not, IfOk, Result, Ok}
+use Rattle.std.proofs.lemmas.Bool.Decides.{nat_tests}
 use Rattle.std.proofs.lemmas.List.{append-nil}
-use Rattle.std.proofs.lemmas.List.Elements.{All-head, All-tail, All-contains, All-drop, Contains-append_right}
+use Rattle.std.proofs.lemmas.List.Elements.{All-head, All-tail, All-contains, Contains-append_right}
 use Rattle.activity_codec.specs.declared.entries.Entry.{Entry}
 use Rattle.tacho_types.specs.declared.texts.Registration.{Registration}
 use Rattle.trace_model.specs.declared.Card.{Card}
@@ -18,13 +19,13 @@ use Rattle.card_model.specs.Days.{AreDays}
 use Rattle.card_retention.specs.Entries.{newest_minute}
 use Rattle.card_retention.specs.Retains.{Rise}
 use Rattle.card_retention.specs.Shown.{AllUpTo}
-use Rattle.card_image.specs.Fields.{card_days, card_number, end_mark, session_time}
+use Rattle.card_image.specs.Fields.{card_days, end_mark, session_time}
 use Rattle.card_image.specs.Judging.{IsValid}
 use Rattle.card_image.specs.View.{CardView, card_view}
 use Rattle.card_image.specs.Own.{own_view, own_sizes, own_number, IsOwnValid}
 use Rattle.card_session.specs.Sessions.{Session, IsSession}
 use Rattle.card_session.specs.Cards.{MayEnd}
-use Rattle.card_session.specs.Inserting.{AreOwed, Follow, InsertingOpen, InsertingClosed, InsertsOpen, InsertsClosed, IsCardInserting, IsCardInserted}
+use Rattle.card_session.specs.Inserting.{AreOwed, Follow, lacked, replayed_count, InsertingOpen, InsertingClosed, InsertsOpen, InsertsClosed, IsCardInserting, IsCardInserted}
 use Rattle.card_session.specs.Repairs.{newest_behind, lacked_by, mark_behind, NewestSoFar}
 use Rattle.card_session.proofs.Ended.{open_ends, none_ends}
 use Rattle.card_session.proofs.Ends.{closed_end, inserted_moment}
@@ -47,8 +48,8 @@ use Rattle.history_model.proofs.Filters.{all-back}
 use Rattle.joint_rule.specs.Views.{UnitView, unit_view, row, other, owed, owed_in}
 use Rattle.joint_rule.specs.Device.{LeavesViews}
 use Rattle.joint_rule.specs.Steps.{IsInserting}
-use Rattle.joint_rule.specs.Rules.{Standing, Out, since, CardDark, CardRule, IsEntered, Meets}
-use Rattle.joint_rule.specs.Marked.{of_card, HasBrought}
+use Rattle.joint_rule.specs.Rules.{Standing, Out, CardRule, IsEntered, Meets}
+use Rattle.joint_rule.specs.Marked.{of_card}
 use Rattle.joint_rule.proofs.OwedView.{owed-seen}
 use Rattle.joint_rule.proofs.Pairs.{owed-above}
 use Rattle.joint_rule.proofs.Brought.{all-up_to}
@@ -59,7 +60,7 @@ use Rattle.unit_rule.proofs.Moves.{shown-last}
 use Rattle.device_steps.specs.declared.entering.Entered.{Entered}
 use Rattle.device_steps.specs.declared.entering.NotEntered.{NotEntered}
 use Rattle.device_steps.specs.Entering.{owed_on, card_failed, IsEntering, IsAccepted, IsAsked}
-use Rattle.device_steps.specs.Rule.{Both, opened, card_seen, CardHolds}
+use Rattle.device_steps.specs.Rule.{opened, card_seen}
 use Rattle.device_steps.proofs.Enters.{unit-read, entering-rule, entered-answer, entering-moments}
 use Rattle.device_steps.proofs.Inserted.{inserting_open, inserting_shut}
 use Rattle.device_steps.proofs.OnCard.{AnyStep, own-is, session-is}
@@ -73,8 +74,8 @@ use Rattle.run_rule.specs.Between.{Carried}
 use Rattle.run_rule.proofs.OwedRises.{owed-rises}
 use Rattle.run_strung.specs.Strung.{IsHeld}
 use Rattle.run_told.specs.Told.{AreFoundCards, IsPutIn, IsPowered, IsPowerless, arranged, card_marks, with_marks}
-use Rattle.run_told.proofs.Parts.{both_of, as-steps, of-steps, told-one, CardLit, CardOff, off-of, UnitLit, AreParts, MarksLit, parts-of, powered-of, powerless-of, brought-on}
-use Rattle.run_told.proofs.OnCards.{own-valid, valid-own, valid-or, no-marks, number-own, own-number-still, Rises, rises-run, none-falls, marks-on, brought-card, bound_of, held-on, held-read, valid-on}
+use Rattle.run_told.proofs.Parts.{both_of, as-steps, of-steps, told-one, CardLit, off-of, UnitLit, AreParts, MarksLit, parts-of, powered-of, powerless-of, brought-on}
+use Rattle.run_told.proofs.OnCards.{valid-own, valid-or, no-marks, number-own, own-number-still, Rises, rises-run, none-falls, marks-on, brought-card, bound_of, held-on, held-read, valid-on}
 use Rattle.run_told.proofs.StringMore.{mark-own}
 use Rattle.run_told.proofs.Power.{follow-of}
 use Rattle.run_told.proofs.Opened.{owed-none}
@@ -93,6 +94,9 @@ row-shown f B u = refl
 up-of : (m : ℕ) (es : List Entry) → All (λ e. e.minute ≤ m) es → AllUpTo m es
 up-of m [] each = tt
 up-of m (e ∷ es) each = (All-head (λ (d : Entry). d.minute ≤ m) e es each, up-of m es (All-tail (λ (d : Entry). d.minute ≤ m) e es each))
+
+some-session : (s n : ℕ) → s ≡ suc n → nat_eq s 0 ≡ false
+some-session s n is = grind (arith, nat_tests)
 
 up-contains : (m : ℕ) (es : List Entry) (d : Entry) → AllUpTo m es → Contains es d → d.minute ≤ m
 up-contains m es d up in_ = All-contains (λ (e : Entry). e.minute ≤ m) es d (all-up_to m es up) in_
@@ -427,6 +431,26 @@ module _ (f : Found) (w : Carried) (c : Card) (U V X Y : State) (two : f.card_a.
           own-y : own_sizes y ≡ own_sizes (found_of f c).image
           own-y = same-sizes f w.book c u x sound registration long odometer now few fits sizes (one.held.number x there) was-valid unit.none sure meets (one.held.now x there).1 y (inserted_moment (own_sizes (found_of f c).image) registration odometer now (owed_on (own_sizes (found_of f c).image) u x) x y done-at) ∙ sizes
 
+      -- so many entries were put on it: all that was owed to it
+      put-number : e.replayed ≡ length (owed c (unit_view f.card_a.number f.card_b.number u) (own_view x))
+      put-number = told-number ∙ by (session_time (own_sizes (found_of f c).image) x) refl
+        where
+          told-number : e.replayed ≡ replayed_count (session_time (own_sizes (found_of f c).image) x) (end_mark (own_sizes (found_of f c).image) x) e.owed.items
+          told-number = at_image (λ x. e.replayed ≡ replayed_count (session_time (own_sizes (found_of f c).image) x) (end_mark (own_sizes (found_of f c).image) x) e.owed.items) is took.number
+
+          session : (own_view x).session ≡ session_time (own_sizes (found_of f c).image) x
+          session = ap (λ (k : CardView). k.session) (own-is (own_sizes (found_of f c).image) x sizes) ∙ session-is (own_sizes (found_of f c).image) x
+
+          lacks : lacked (end_mark (own_sizes (found_of f c).image) x) e.owed.items ≡ e.owed.items
+          lacks = lacks-all (end_mark (own_sizes (found_of f c).image) x) e.owed.items
+              (subst (Follow (end_mark (own_sizes (found_of f c).image) x)) (sym owed-are) (follows f w.book c u x sound registration long odometer now few fits sizes (one.held.number x there) was-valid unit.none sure meets (one.held.now x there).1))
+
+          by : (n : ℕ) → session_time (own_sizes (found_of f c).image) x ≡ n → replayed_count (session_time (own_sizes (found_of f c).image) x) (end_mark (own_sizes (found_of f c).image) x) e.owed.items ≡ length (owed c (unit_view f.card_a.number f.card_b.number u) (own_view x))
+          by zero none = ap (λ (s : ℕ). replayed_count s (end_mark (own_sizes (found_of f c).image) x) e.owed.items) none
+              ∙ ap (λ (es : List Entry). length es) (sym (owed-none c (unit_view f.card_a.number f.card_b.number u) (own_view x) (session ∙ none)))
+          by (suc n) some = ap (λ (b : Bool). cond b 0 (length (lacked (end_mark (own_sizes (found_of f c).image) x) e.owed.items))) (some-session (session_time (own_sizes (found_of f c).image) x) n some)
+              ∙ ap (λ (es : List Entry). length es) (lacks ∙ owed-view)
+
   told-u : (u : List ℕ) × (U.image ≡ Some u)
   told-u = told-one U.image unit.tells
 
@@ -480,6 +504,32 @@ module _ (f : Found) (w : Carried) (c : Card) (U V X Y : State) (two : f.card_a.
         there = λ n left. put-marked told-u.0 told-x.0 told-u.1 told-x.1 e n ok (after.only n works left);
         older = λ m held. put-later told-u.0 told-x.0 told-u.1 told-x.1 e y.0 ok y.1 m.minute
             (held.holds.1 (own_view told-x.0) (told-x.0, whole.counts_now m.clock told-x.0 held.holds.0 (whole.is_left told-x.0 told-x.1), refl));
+      }
+
+  -- what its find is to tell: by an image of unit and card, so many entries were owed to it, and it told of no later time
+  pub record IsFoundSo (e : Entered) : Type 0 where
+    pub unit_image : List ℕ
+    pub card_image : List ℕ
+    pub on : U.may_leave unit_image
+    pub there : X.may_leave card_image
+    pub valid : IsOwnValid card_image
+    pub early : (own_view card_image).stored ≤ now
+    pub number : length (owed c (unit_view f.card_a.number f.card_b.number unit_image) (own_view card_image)) ≡ e.replayed
+
+  pub verdict-found : (e : Entered) → answer ≡ Ok e → IsFoundSo e
+  verdict-found e ok =
+      let y = told-one Y.image so.held.tells in
+      let took-now = took told-u.0 told-x.0 told-u.1 told-x.1 e y.0 ok y.1 in
+      let was = at_image (λ x. IsValid (own_sizes (found_of f c).image) x × ((card_view (own_sizes (found_of f c).image) x).stored ≤ now)) told-x.1 took-now.valid in
+      let is-own = (one.held.now told-x.0 (whole.is_left told-x.0 told-x.1)).0 in
+      record {
+        unit_image = told-u.0;
+        card_image = told-x.0;
+        on = unit_whole.is_left told-u.0 told-u.1;
+        there = whole.is_left told-x.0 told-x.1;
+        valid = valid-own (own_sizes (found_of f c).image) told-x.0 is-own was.0;
+        early = subst (λ (k : CardView). k.stored ≤ now) (sym (own-is (own_sizes (found_of f c).image) told-x.0 is-own)) was.1;
+        number = sym (put-number told-u.0 told-x.0 told-u.1 told-x.1 e y.0 ok y.1);
       }
 
 -- ---- so all of it stands, where nothing more is written on the unit

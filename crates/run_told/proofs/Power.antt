@@ -1,8 +1,8 @@
 -- Power is back: the unit is read, and its last-kept minute found; then it is mended.
-use Rattle.std.proofs.Common.{◌≡◌, ◌≢◌, ◌⊎◌, inl, inr, ⊎_elim, ℕ, suc, max, ◌<◌, ◌≤◌, Bool, true, false, Option, Some, None, IfSome, is_some, List, [], ◌∷◌, ◌++◌, All, Contains, refl, ap, subst, ◌∙◌, sym, arith, append_assoc}
+use Rattle.std.proofs.Common.{◌≡◌, ◌≢◌, inl, ⊎_elim, ℕ, ◌<◌, ◌≤◌, Bool, true, false, Option, Some, None, is_some, List, [], ◌∷◌, ◌++◌, All, Contains, refl, ap, subst, ◌∙◌, sym, arith, append_assoc}
 use Rattle.std.specs.Prelude.{option_to_list}
 use Rattle.std.proofs.lemmas.List.{append-nil}
-use Rattle.std.proofs.lemmas.List.Elements.{All-weaker, All-head, All-contains, Contains-append_left, Contains-append_right, Contains-append_cases}
+use Rattle.std.proofs.lemmas.List.Elements.{All-weaker, All-head, Contains-append_left}
 use Rattle.activity_codec.specs.declared.entries.Entry.{Entry}
 use Rattle.trace_model.specs.declared.Card.{Card}
 use Rattle.trace_model.specs.declared.Card.TheVariants.{A, B}
@@ -10,19 +10,18 @@ use Rattle.tach_media.specs.Medium.{State, IsCoherent, LeavesOnly, Unchanged}
 use Rattle.log_model.specs.declared.lines.Mark.{Mark}
 use Rattle.log_model.specs.Causes.{device_of}
 use Rattle.card_retention.specs.Retains.{Rise}
-use Rattle.card_image.specs.Own.{own_view, own_sizes, IsOwnValid}
+use Rattle.card_image.specs.Own.{own_view, IsOwnValid}
 use Rattle.card_session.specs.Inserting.{Follow}
 use Rattle.card_session.specs.Repairs.{first_minute}
 use Rattle.unit_model.specs.Image.{last_kept}
 use Rattle.history_model.specs.Minutes.{HistoryMinute, card_history, up_to}
-use Rattle.history_model.specs.Presence.{CardStart}
-use Rattle.history_model.specs.Book.{Book, all, found}
+use Rattle.history_model.specs.Book.{Book, found}
 use Rattle.history_model.proofs.Books.{history-append, all-found, up_to-all, up_to-one}
 use Rattle.history_model.proofs.Filters.{all-back}
-use Rattle.joint_rule.specs.Views.{UnitView, unit_view}
+use Rattle.joint_rule.specs.Views.{unit_view}
 use Rattle.joint_rule.specs.Device.{LeavesViews, Nothing}
-use Rattle.joint_rule.specs.Rules.{Standing, Out, since, CardDark, CardRule}
-use Rattle.joint_rule.specs.Marked.{of_card, HasBrought, IsBeside}
+use Rattle.joint_rule.specs.Rules.{Standing, Out}
+use Rattle.joint_rule.specs.Marked.{of_card, IsBeside}
 use Rattle.joint_rule.specs.Filling.{FillsDays}
 use Rattle.joint_rule.proofs.Holding.{rise-back}
 use Rattle.joint_rule.proofs.Staying.{note-stays}
@@ -40,14 +39,14 @@ use Rattle.device_steps.proofs.PowerBack.{found-rests}
 use Rattle.run_crew.specs.declared.cards.Accepted.{Accepted}
 use Rattle.run_crew.specs.declared.cards.Cards.{Cards}
 use Rattle.run_crew.specs.Cards.{session_of}
-use Rattle.run_rule.specs.Found.{CardFound, Found, found_of, unit_seen, AnyKept}
-use Rattle.run_rule.specs.Cards.{brought_by, StringHolds, CardWaits, IsCardHeld, CardMarksHold}
-use Rattle.run_rule.specs.Between.{Carried, IsCarried, devices}
+use Rattle.run_rule.specs.Found.{CardFound, Found, found_of, unit_seen}
+use Rattle.run_rule.specs.Cards.{brought_by, CardWaits, IsCardHeld, CardMarksHold}
+use Rattle.run_rule.specs.Between.{Carried, devices}
 use Rattle.run_rule.proofs.Waiting.{strung-found}
 use Rattle.run_strung.specs.Strung.{IsHeld}
 use Rattle.run_strung.proofs.Strung.{held-out}
-use Rattle.run_told.specs.Told.{AreFoundCards, sure_of, IsHeldDark, AllWait, GoesOwing, IsPowered, IsPowerless, arranged}
-use Rattle.run_told.proofs.Parts.{both_of, as-rests, of-rests, of-steps, left-one, held-same, held-dark, held-lit, CardLit, CardOff, AreParts, AreOff, MarksLit, powered-of, powerless-of, brought-on}
+use Rattle.run_told.specs.Told.{carried_found, all_out, AreFoundCards, sure_of, IsHeldDark, AllWait, IsPowered, IsPowerless}
+use Rattle.run_told.proofs.Parts.{both_of, as-rests, of-rests, of-steps, left-one, held-same, held-dark, held-lit, CardLit, CardOff, powered-of, powerless-of, brought-on}
 use Rattle.run_told.proofs.OnCards.{bound_of}
 use Rattle.run_told.proofs.StringMore.{rise-follow, held-more}
 
@@ -112,10 +111,6 @@ beside-nothing U V a b run = record {
   now = λ w on. ⊎_elim (λ was. inl was) (λ one. absurd one.2) (run.now w on);
 }
 
--- what is carried once this minute is found to be the last-kept one
-abbrev pub carried_found : (k : ℕ) → Carried → Carried
-carried_found k w = record w { book = found k w.book }
-
 module _ (f : Found) (w : Carried) (d : Devices) (V : State) (two : f.card_a.number ≢ f.card_b.number) (before : IsCoherent d.unit) (after : IsCoherent V) (wholes : (c : Card) → IsCoherent (card_of d c)) (p : IsPowerless f w d) (run : LeavesOnly d.unit V Unchanged) (works : V.works ≡ true) (x : List ℕ) (is : V.image ≡ Some x) where
   abbrev k : ℕ
   k = last_kept x
@@ -172,9 +167,6 @@ module _ (f : Found) (w : Carried) (d : Devices) (V : State) (two : f.card_a.num
       wait B valid = held-dark f.card_b B (found (last_kept x) w.book) (w.standing B) d.card_b refl (held-one B valid)
 
 -- ---- THE UNIT IS MENDED, where the calls say this: no card is accepted any more
-
-abbrev pub all_out : Carried → Carried
-all_out w = record w { standing = λ c. Out }
 
 module _ (f : Found) (w : Carried) (cards : Cards) (U V X Y : State) (found_cards : AreFoundCards f cards) (whole : IsCoherent U) (none : w.book.maybe ≡ None) (p : IsPowerless f w (devices U X Y)) (failed : Bool)
     (holds : (s : Started) (due : ℕ) (b : Book) (marks : List Mark) → Holds s due b marks U → Holds s due b marks V)

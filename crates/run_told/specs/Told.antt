@@ -15,8 +15,8 @@ use Rattle.card_session.specs.Sessions.{Session, IsSession}
 use Rattle.card_session.specs.Cards.{MayEnd}
 use Rattle.card_steps.specs.Since.{GoesSince}
 use Rattle.history_model.specs.Minutes.{card_history}
-use Rattle.history_model.specs.Book.{Book}
-use Rattle.joint_rule.specs.Rules.{Standing, In, since, CardRule, IsEntered}
+use Rattle.history_model.specs.Book.{Book, found}
+use Rattle.joint_rule.specs.Rules.{Standing, In, Out, since, CardRule, IsEntered}
 use Rattle.joint_rule.specs.Marked.{of_card, HasBrought}
 use Rattle.safety_model.specs.Safe.{Devices, card_of}
 use Rattle.unit_rule.specs.Marks.{Holds}
@@ -162,3 +162,11 @@ card_marks c clock es = map (λ e. record { device = device_of c; minute = e.min
 -- marks more
 abbrev pub with_marks : List Mark → Carried → Carried
 with_marks marks w = record w { marks = w.marks ++ marks }
+
+-- this minute is found to be the last-kept one
+abbrev pub carried_found : (k : ℕ) → Carried → Carried
+carried_found k w = record w { book = found k w.book }
+
+-- no card is accepted
+abbrev pub all_out : Carried → Carried
+all_out w = record w { standing = λ c. Out }
