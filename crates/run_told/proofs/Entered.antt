@@ -65,6 +65,9 @@ use Rattle.device_steps.proofs.Enters.{unit-read, entering-rule, entered-answer,
 use Rattle.device_steps.proofs.Inserted.{inserting_open, inserting_shut}
 use Rattle.device_steps.proofs.OnCard.{AnyStep, own-is, session-is}
 use Rattle.device_steps.proofs.Passed.{valid-days}
+use Rattle.device_steps.proofs.PutIn.{number_told}
+use Rattle.card_judge.specs.Judged.{IsLook}
+use Rattle.tacho_types.specs.CardNumber.{card_number_bytes}
 use Rattle.run_crew.specs.declared.cards.Accepted.{Accepted}
 use Rattle.run_crew.specs.declared.cards.Cards.{Cards}
 use Rattle.run_crew.specs.Cards.{session_of}
@@ -532,6 +535,15 @@ module _ (f : Found) (w : Carried) (c : Card) (U V X Y : State) (two : f.card_a.
         number = sym (put-number told-u.0 told-x.0 told-u.1 told-x.1 e y.0 ok y.1);
       }
 
+  -- the number that it told is the card's
+  pub told-own : (e : Entered) → answer ≡ Ok e → card_number_bytes e.look.number ≡ (found_of f c).number
+  told-own e ok =
+      let y = told-one Y.image so.held.tells in
+      let looked = at_image (λ x. IsLook (own_sizes (found_of f c).image) x e.look) told-x.1 (took told-u.0 told-x.0 told-u.1 told-x.1 e y.0 ok y.1).looked in
+      let there = whole.is_left told-x.0 told-x.1 in
+      number_told (own_sizes (found_of f c).image) told-x.0 e.look (omega (arith, room, whole.sized told-x.0 told-x.1)) looked
+      ∙ sym (number-own (own_sizes (found_of f c).image) told-x.0 (one.held.now told-x.0 there).0) ∙ one.held.number told-x.0 there
+
 -- ---- so all of it stands, where nothing more is written on the unit
 
 module _ (f : Found) (w : Carried) (cards : Cards) (c : Card) (U V X Y Z : State) (found : AreFoundCards f cards) (unit_whole : IsCoherent U) (unit_after : IsCoherent V) (whole : IsCoherent X) (after : IsCoherent Y) (registration : Registration) (long : length registration.0 ≡ 15) (odometer now : ℕ) (few : now < 2 ^ 32) (answer : Result Entered NotEntered)
@@ -600,3 +612,7 @@ module _ (f : Found) (w : Carried) (cards : Cards) (c : Card) (U V X Y Z : State
   accepted-marked valid e ok works settled =
       let facts = entered-owed f w c U V X Y found.two (found.sizes c valid) unit_whole unit_after whole after registration long odometer now few answer parts.unit (w.brought c) (one-before valid) late room enters e ok in
       marked-powered f w cards c V Y Z found (entered-powered works) after settled valid facts.began e.owed.items facts.rises facts.sure facts.there (λ m in_. facts.older m (All-contains (IsCardHeld (found_of f c) c w.book X) (marks_of (device_of c) w.marks) m parts.marks_mine.held in_))
+
+  -- the number that it told is its own
+  pub accepted-number : IsOwnValid (found_of f c).image → (e : Entered) → answer ≡ Ok e → card_number_bytes e.look.number ≡ (found_of f c).number
+  accepted-number valid e ok = told-own f w c U V X Y found.two (found.sizes c valid) unit_whole unit_after whole after registration long odometer now few answer parts.unit (w.brought c) (one-before valid) late room enters e ok
