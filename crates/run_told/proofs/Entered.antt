@@ -535,6 +535,12 @@ module _ (f : Found) (w : Carried) (c : Card) (U V X Y : State) (two : f.card_a.
       number_told (own_sizes (found_of f c).image) told-x.0 e.look (omega (arith, room, whole.sized told-x.0 told-x.1)) looked
       ∙ sym (number-own (own_sizes (found_of f c).image) told-x.0 (one.held.now told-x.0 there).0) ∙ one.held.number told-x.0 there
 
+  -- all the entries that were owed were put on it
+  pub told-whole : (e : Entered) → answer ≡ Ok e → e.replayed ≡ length e.owed.items
+  told-whole e ok =
+      let y = told-one Y.image so.held.tells in
+      put-number told-u.0 told-x.0 told-u.1 told-x.1 e y.0 ok y.1 ∙ ap (λ (es : List Entry). length es) (sym (owed-view told-u.0 told-x.0 told-u.1 told-x.1 e y.0 ok y.1))
+
 -- ---- so all of it stands, where nothing more is written on the unit
 
 module _ (f : Found) (w : Carried) (cards : Cards) (c : Card) (U V X Y Z : State) (found : AreFoundCards f cards) (unit_whole : IsCoherent U) (unit_after : IsCoherent V) (whole : IsCoherent X) (after : IsCoherent Y) (registration : Registration) (long : length registration.0 ≡ 15) (odometer now : ℕ) (few : now < 2 ^ 32) (answer : Result Entered NotEntered)
@@ -617,6 +623,9 @@ module _ (f : Found) (w : Carried) (cards : Cards) (c : Card) (U V X Y Z : State
   -- and by some images of unit and card that a stop might leave then so many entries were owed
   pub accepted-found-by : IsOwnValid (found_of f c).image → (e : Entered) → answer ≡ Ok e → HasFoundSo f c U X now e.replayed
   accepted-found-by valid e ok = verdict-found f w c U V X Y found.two (found.sizes c valid) unit_whole unit_after whole after registration long odometer now few answer parts.unit (w.brought c) (one-before valid) late (room valid) (enters valid) e ok
+
+  pub accepted-whole-by : IsOwnValid (found_of f c).image → (e : Entered) → answer ≡ Ok e → e.replayed ≡ length e.owed.items
+  accepted-whole-by valid e ok = told-whole f w c U V X Y found.two (found.sizes c valid) unit_whole unit_after whole after registration long odometer now few answer parts.unit (w.brought c) (one-before valid) late (room valid) (enters valid) e ok
 
 -- ---- by the card's own sizes
 
