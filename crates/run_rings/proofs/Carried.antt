@@ -1,14 +1,13 @@
 -- Rings of which entries are added, one after another, or get a few bytes; and notes that these stand for.
-use Rattle.std.proofs.Common.{◌≡◌, ◌⊎◌, inl, inr, ⊎_elim, ℕ, zero, suc, ◌+◌, ◌-◌, ◌<◌, ◌≤◌, Bool, true, false, cond, List, [], ◌∷◌, ◌++◌, length, take, drop, map, refl, ap, sym, subst, ◌∙◌, arith, append_assoc, append-nil, length-append, nat_lt}
+use Rattle.std.proofs.Common.{◌≡◌, ◌⊎◌, inl, inr, ⊎_elim, ℕ, suc, ◌+◌, ◌-◌, ◌<◌, ◌≤◌, Bool, true, false, cond, List, [], ◌∷◌, ◌++◌, length, take, drop, map, refl, ap, sym, subst, ◌∙◌, arith, append_assoc, append-nil, length-append, nat_lt}
 use Rattle.std.specs.Prelude.{◌==◌, if◌then◌else◌}
 use Rattle.std.specs.List.{AllByRecursion}
 use Rattle.std.proofs.lemmas.Bool.{ltb-true, ltb-false}
 use Rattle.std.proofs.lemmas.List.{take-append-drop, length-drop, map-append, length-map}
 use Rattle.byte_fields.specs.Images.{SameOutside}
-use Rattle.gated_ring.specs.Ring.{Shape, IsShape, IsRun, PointsInside, size_of, pointer, indices, ring_list, entry_at, taken, with_head, IsDense, newest_of}
+use Rattle.gated_ring.specs.Ring.{Shape, IsShape, PointsInside, size_of, pointer, indices, ring_list, entry_at, taken, with_head, IsDense, newest_of}
 use Rattle.gated_ring.specs.Change.{IsShortened, IsExtended, IsAdding, IsAdded}
 use Rattle.gated_ring.proofs.Elsewhere.{ring_outside, ring_elsewhere}
-use Rattle.side_model.specs.Rings.{Stand, RingShows}
 use Rattle.run_rings.specs.Carried.{Carries}
 
 -- THE NEWEST of a list
