@@ -1,0 +1,4 @@
+pub mod Seats
+pub mod Notes
+pub mod Accepted
+pub mod Judged

@@ -1,0 +1,136 @@
+-- What the recorder with cards carries WITHIN A SECOND that has power (profile): at its power-on, at each of its actions, and in its keeping.
+use Rattle.std.specs.Prelude.{◌≡◌, ◌⊎◌, ◌&&◌, ℕ, suc, ◌+◌, ◌*◌, ◌/◌, ◌≤◌, ◌<◌, true, false, Option, Some, None, List, [], ◌∷◌, ◌++◌, All, Contains, length, map, filter}
+use Rattle.activity_codec.specs.declared.values.Slot.{Slot}
+use Rattle.trace_model.specs.declared.Card.{Card}
+use Rattle.trace_model.specs.Trace.{TraceSecond}
+use Rattle.run_model.specs.declared.Device.{Device}
+use Rattle.minute_model.specs.declared.Minute.{Minute}
+use Rattle.minute_model.specs.Span.{Span, count_from, ungiven_of}
+use Rattle.minute_rules.specs.Kept.{StandsFor}
+use Rattle.log_model.specs.declared.lines.Mark.{Mark}
+use Rattle.log_model.specs.declared.lines.Verdict.{Verdict}
+use Rattle.log_model.specs.declared.lines.Verdict.TheVariants.{Accepted, NotValid, TimeOverlap}
+use Rattle.log_model.specs.Log.{RunLog, Phase, is_accepting, is_torn_in}
+use Rattle.log_model.specs.Slots.{same_card}
+use Rattle.log_model.specs.Course.{Told, Course, Visit, went}
+use Rattle.history_model.specs.Minutes.{HistoryMinute}
+use Rattle.history_model.specs.Book.{Book}
+use Rattle.joint_rule.specs.Rules.{Standing}
+use Rattle.unit_course.specs.Followed.{Lit}
+use Rattle.unit_course.specs.Legs.{Travel, all_travelled}
+use Rattle.unit_model.specs.Image.{odometer_at}
+use Rattle.unit_rule.specs.Odometer.{HasTravelled}
+use Rattle.joint_rule.specs.Views.{owed}
+use Rattle.card_image.specs.Own.{own_view, own_bad_file, IsOwnValid}
+use Rattle.safety_model.specs.Recording.{card_image, unit_seen}
+use Rattle.safety_model.specs.Cards.{entered, overlaps, is_overlap}
+use Rattle.safety_model.specs.Safe.{Devices, card_of, breakdowns_of, entered_by}
+use Rattle.run_rule.specs.Found.{found_of}
+use Rattle.run_rule.specs.Cards.{IsUntouched}
+use Rattle.run_rule.specs.Between.{Carried}
+use Rattle.run_course.specs.Followed.{Progress}
+use Rattle.run_course.specs.Seconds.{kept_all}
+use Rattle.run_course.specs.Presence.{SlotsTell}
+use Rattle.run_brought.specs.Going.{IsTakenAt}
+use Rattle.run_moments.specs.Reached.{course_at}
+use Rattle.run_moments.specs.Lines.{times_of}
+use Rattle.run_moments.specs.Moment.{Moment}
+use Rattle.run_moments.specs.Kept.{HasDecided, AreMarkedSoFar}
+use Rattle.run_told.specs.Told.{AreFoundCards, IsPowered, AreEarly}
+use Rattle.run_recorded.specs.Origin.{Origin, rule_of, start_at, first_of, HasRecorded}
+use Rattle.run_recorded.specs.Ends.{recording_by, AreVerdicts, MayBeWritten}
+use Rattle.run_present.specs.Presence.{PresentStand}
+use Rattle.run_within.specs.Recorded.{Values, carried}
+
+-- as the second began, behind its power-on: how far the run had gone, the seconds of the span, what was travelled, the marks, how often each
+-- device had broken down, and what acceptances had brought
+pub record Beginning : Type 0 where
+  pub run : Progress
+  pub span : List Told
+  pub travel : Travel
+  pub marks : List Mark
+  pub broken : Device → ℕ
+  pub brought : Card → List ℕ
+
+-- the seconds before it, and its course at a moment
+abbrev pub told_before : Beginning → List TraceSecond → List Told
+told_before b done = (went b.run.log done).told
+
+abbrev pub course_in : Beginning → List TraceSecond → TraceSecond → Phase → RunLog → Course
+course_in b done s at log = course_at log (went b.run.log done).before s at
+
+-- these minutes are decided and still to be kept: one after another from this one on, up to those that the span has not decided yet
+pub record AreNext (sp : Span) (rest : List Minute) (from : ℕ) : Type 0 where
+  pub counted : map (λ (m : Minute). m.minute) rest ≡ count_from from (length rest)
+  pub until : from + length rest ≡ ungiven_of sp
+
+-- What may be found of a card in a second in whose minute it has entered so often (the same as `IsVerdict` of safety_model, by that number).
+abbrev pub VerdictBy : Origin → (often : ℕ) → (unit card : List ℕ → Type 0) → Card → ℕ → Verdict → Type 0
+VerdictBy o often unit card c u (Accepted replayed) =
+    IsOwnValid (card_image o.recording c) × ((own_view (card_image o.recording c)).stored ≤ u)
+    × ((i x : List ℕ) × unit i × card x × ((own_view x).stored ≤ u) × (length (owed c (unit_seen o.recording i) (own_view x)) ≡ replayed))
+VerdictBy o often unit card c u (NotValid fid place) = own_bad_file (card_image o.recording c) ≡ Some (fid, place)
+VerdictBy o often unit card c u (TimeOverlap stored now) = IsOwnValid (card_image o.recording c) × (now ≡ u) × ((u < stored)
+    × ((stored ≡ (own_view (card_image o.recording c)).stored)
+    ⊎ (((own_view (card_image o.recording c)).stored ≤ u) × (1 < often) × (stored ≡ 60 * suc (u / 60)) × ((x : List ℕ) × card x × ((own_view x).stored ≡ stored)))))
+
+-- how often a card entered in the minute of a second, by what has come of that so far
+abbrev pub often : Origin → Beginning → List TraceSecond → Course → ℕ → Card → ℕ
+often o b done c u card = entered_by (recording_by o done b.run.log) card u + times_of card c.entered
+
+-- WHAT WAS FOUND of cards in this second so far may be found of them; each acceptance is taken at the unit's last-kept minute, and
+-- behind it no minute before this one is to be kept.
+pub record IsFoundSo (o : Origin) (b : Beginning) (done : List TraceSecond) (c : Course) (u from : ℕ) (new : List HistoryMinute) (brought : Card → List ℕ) (d : Devices) : Type 0 where
+  pub may : (e : Visit) (v : Verdict) → Contains c.found (e, v) → (n : ℕ) × (n ≤ often o b done c u e.card)
+      × VerdictBy o n (d.unit.left_since o.found.unit.began) ((card_of d e.card).left_since (found_of o.found e.card).began) e.card u v
+  pub taken : (e : Visit) (v : Verdict) → Contains c.found (e, v) → is_accepting v ≡ true → (k : ℕ) × Contains (brought e.card) k × IsTakenAt (first_of o) b.run.book (kept_all new b.run.book) new k
+  pub late : (e : Visit) (v : Verdict) → Contains c.found (e, v) → is_accepting v ≡ true → u / 60 ≤ from
+
+-- of what was found, what tells of a later time of a card
+abbrev pub overlaps_by : Origin → Card → List (Visit × Verdict) → List (Visit × Verdict)
+overlaps_by o card found = filter (λ f. same_card card f.0.card && is_overlap o.recording card f.1) found
+
+-- A card is as it was, or may be written: it was valid, and it entered more often than it was found to tell of a later time.
+abbrev pub IsSparedSo : Origin → Beginning → List TraceSecond → Course → Devices → Card → Type 0
+IsSparedSo o b done c d card = IsUntouched (found_of o.found card) (card_of d card)
+    ⊎ (IsOwnValid (card_image o.recording card)
+    × (overlaps (recording_by o done b.run.log) card + length (overlaps_by o card c.found) < entered (recording_by o done b.run.log) card + times_of card c.entered))
+
+-- THE RECORD AT A MOMENT of a second. These cards have entered at it and are not judged yet; one may be leaving its slot, whose session is
+-- not closed yet; the second is fed, or not; and of the minutes that it has decided these are still to be kept.
+pub record Within (o : Origin) (done : List TraceSecond) (s : TraceSecond) (at : Phase) (waits : List Visit) (speed : Option ℕ) (rest : List Minute) (v : Values) (d : Devices) : Type 0 where
+  -- as the second began
+  pub b : Beginning
+  pub lit : b.run.supply ≡ Lit b.span
+  pub began : HasRecorded o done b.run b.travel b.marks b.broken b.brought
+  pub unfound : v.unfound ≡ b.run.unfound
+  pub next : v.next ≡ b.run.next
+  -- what the log tells of it so far, and what it has decided
+  pub moment : Moment b.run (went b.run.log done).before s at v.log waits b.broken (breakdowns_of d)
+  pub sp : Span
+  pub minutes : StandsFor v.minutes sp
+  pub ds : List Minute
+  pub new : List HistoryMinute
+  pub decided : HasDecided (rule_of o) (start_at o) (told_before b done) b.run b.span (course_in b done s at v.log) speed sp ds rest new
+  pub from : ℕ
+  pub comes : AreNext sp rest from
+  -- what is acknowledged
+  pub stay : (mark : Mark) → Contains b.marks mark → Contains v.marks mark
+  pub marked : AreMarkedSoFar v.marks (told_before b done) (course_in b done s at v.log) s.number new
+  -- unit and cards are as the book says that has what is kept
+  pub due : ℕ
+  pub standing : Card → Standing
+  pub brought : Card → List ℕ
+  pub powered : IsPowered o.found (carried v due (kept_all new b.run.book) standing brought) v.cabin.cards d
+  pub found : AreFoundCards o.found v.cabin.cards
+  pub early : AreEarly (carried v due (kept_all new b.run.book) standing brought)
+  pub late : due ≤ from
+  pub more : (c : Card) (k : ℕ) → Contains (b.brought c) k → Contains (brought c) k
+  -- who is present
+  pub tells : SlotsTell (start_at o) (told_before b done) (b.run.book.sure ++ new) (course_in b done s at v.log).left s.number from (course_in b done s at v.log).slots v.cabin.slots
+  pub present : PresentStand o.found standing (told_before b done) (course_in b done s at v.log) s.number from v.cabin
+  -- what was found of cards, which may be written, and the odometer
+  pub verdicts : AreVerdicts o done b.run.log d
+  pub finds : IsFoundSo o b done (course_in b done s at v.log) s.number from new brought d
+  pub spared : (c : Card) → IsSparedSo o b done (course_in b done s at v.log) d c
+  pub travels : HasTravelled (odometer_at o.recording.unit) (kept_all new b.run.book) (all_travelled ds b.travel) d.unit
