@@ -67,20 +67,20 @@ use Rattle.run_within.specs.Within.{Beginning, told_before, course_in, lost_minu
 use Rattle.run_within.proofs.Parts.{still, verdict-by, often-by, entered-by_end, overlaps-by_end, HasAccepted, accepted-or, none-next}
 
 -- ALL MINUTES that are decided are over
-all-rec : (n : ℕ) (xs : List Minute) → All (λ (d : Minute). d.minute < n) xs → AllByRecursion (λ (d : Minute). d.minute < n) xs
+pub all-rec : (n : ℕ) (xs : List Minute) → All (λ (d : Minute). d.minute < n) xs → AllByRecursion (λ (d : Minute). d.minute < n) xs
 all-rec n [] h = tt
 all-rec n (x ∷ xs) h = (All-head (λ (d : Minute). d.minute < n) x xs h, all-rec n xs (All-tail (λ (d : Minute). d.minute < n) x xs h))
 
-rec-back : (n : ℕ) (xs ys : List Minute) → AllByRecursion (λ (d : Minute). d.minute < n) (xs ++ ys) → AllByRecursion (λ (d : Minute). d.minute < n) ys
+pub rec-back : (n : ℕ) (xs ys : List Minute) → AllByRecursion (λ (d : Minute). d.minute < n) (xs ++ ys) → AllByRecursion (λ (d : Minute). d.minute < n) ys
 rec-back n [] ys h = h
 rec-back n (x ∷ xs) ys h = rec-back n xs ys h.1
 
-rec-front : (n : ℕ) (xs ys : List Minute) → AllByRecursion (λ (d : Minute). d.minute < n) (xs ++ ys) → AllByRecursion (λ (d : Minute). d.minute < n) xs
+pub rec-front : (n : ℕ) (xs ys : List Minute) → AllByRecursion (λ (d : Minute). d.minute < n) (xs ++ ys) → AllByRecursion (λ (d : Minute). d.minute < n) xs
 rec-front n [] ys h = tt
 rec-front n (x ∷ xs) ys h = (h.0, rec-front n xs ys h.1)
 
 -- minutes that follow one another, behind some of them
-counted-part : (xs ys : List Minute) (a : ℕ) → map (λ (m : Minute). m.minute) (xs ++ ys) ≡ count_from a (length (xs ++ ys)) → map (λ (m : Minute). m.minute) ys ≡ count_from (a + length xs) (length ys)
+pub counted-part : (xs ys : List Minute) (a : ℕ) → map (λ (m : Minute). m.minute) (xs ++ ys) ≡ count_from a (length (xs ++ ys)) → map (λ (m : Minute). m.minute) ys ≡ count_from (a + length xs) (length ys)
 counted-part [] ys a is = is ∙ ap (λ (n : ℕ). count_from n (length ys)) (omega arith)
 counted-part (x ∷ xs) ys a is =
     let rest : map (λ (m : Minute). m.minute) (xs ++ ys) ≡ count_from (a + 1) (length (xs ++ ys)) = cc in
@@ -115,7 +115,7 @@ dark-seat : (o : Option Sitting) → is_accepted (powerless o) ≡ false
 dark-seat None = refl
 dark-seat (Some x) = refl
 
-marks-all : (marks more : List Mark) → ((mark : Mark) → Contains marks mark → Contains more mark) → AllMarked marks more
+pub marks-all : (marks more : List Mark) → ((mark : Mark) → Contains marks mark → Contains more mark) → AllMarked marks more
 marks-all marks more stay device m k = (k.0, stay k.0 k.1, k.2, k.3)
 
 taken-broken : (first : ℕ) (old later : Book) (i : Option HistoryMinute) (new : List HistoryMinute) (k : ℕ) → IsTakenAt first old later new k → IsTakenAt first old (broken_at i later) new k

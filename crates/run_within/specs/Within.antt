@@ -36,7 +36,7 @@ use Rattle.run_rule.specs.Cards.{IsUntouched}
 use Rattle.run_rule.specs.Between.{Carried}
 use Rattle.run_course.specs.Followed.{Progress}
 use Rattle.run_course.specs.Moments.{and_break}
-use Rattle.run_course.specs.Seconds.{kept_all, broken_at}
+use Rattle.run_course.specs.Seconds.{next_told, kept_all, broken_at}
 use Rattle.run_course.specs.Presence.{SlotsTell}
 use Rattle.run_brought.specs.Going.{IsTakenAt}
 use Rattle.run_moments.specs.Reached.{course_at}
@@ -196,3 +196,12 @@ cut_values s at v = record v {
 abbrev pub ACutIsRecorded : Devices → Type 0
 ACutIsRecorded d = (o : Origin) (done : List TraceSecond) (s : TraceSecond) (at : Phase) (waits : List Visit) (speed : Option ℕ) (v : Values) → CutWithin o done s at waits speed v d → (rest : List Action) → IsLeft s at rest →
     Recorded o (done ++ s ∷ []) Lost (cut_values s at v) d
+
+-- what a run has by value behind a second
+abbrev pub passed_values : TraceSecond → Values → Values
+passed_values s v = record v { next = suc v.next; begun = length s.actions }
+
+-- THE SECOND ENDS: all that it decided is kept, and behind it all is recorded.
+abbrev pub TheSecondIsOver : Devices → Type 0
+TheSecondIsOver d = (o : Origin) (done : List TraceSecond) (s : TraceSecond) (v : Values) → (w : Within o done s Keeping [] (Some s.speed) [] v d) →
+    Recorded o (done ++ s ∷ []) (Lit (w.b.span ++ next_told v.log done s ∷ [])) (passed_values s v) d

@@ -3,4 +3,4 @@
 
 mod laws;
 
-pub use laws::a_cut_is_recorded;
+pub use laws::{a_cut_is_recorded, the_second_is_over};
