@@ -17,7 +17,9 @@ use Rattle.run_crew.specs.Cards.{known_of, session_of}
 use Rattle.run_crew.specs.Cabin.{with_accepted, with_sizes_of}
 use Rattle.card_layout.specs.declared.files.Application.{Application}
 use Rattle.chip_model.specs.declared.command.CardState.{CardState}
-use Rattle.card_commands.specs.Ports.{IsPort}
+use Rattle.card_layout.specs.Application.{application_in}
+use Rattle.card_commands.specs.Ports.{IsPort, IsJudged}
+use Rattle.card_image.specs.Own.{own_sizes}
 use Rattle.card_judge.specs.declared.looking.CardLook.{CardLook}
 use Rattle.card_session.specs.Sessions.{Session}
 use Rattle.run_keeping.specs.declared.keeper.Keeper.{Keeper}
@@ -134,3 +136,17 @@ unsized-ready B cabin field chip card none = record {
   port = λ app is. absurd (not-told field app is);
   works = subst (λ (o : Option Accepted). IfSome o (λ a. card.works ≡ true)) (sym none) tt;
 }
+
+-- ---- the sizes that were read are those of its image
+
+module _ (app : Application) where
+  own-told : (x : List ℕ) → IsJudged (application_in x) (Ok app) → own_sizes x ≡ app
+  unfolding own_sizes
+  own-told x judged = sym judged.1
+
+  own-by : (o : Option (List ℕ)) → IfSome o (λ x. IsJudged (application_in x) (Ok app)) → IfSome o (λ x. own_sizes x ≡ app)
+  own-by None judged = tt
+  own-by (Some x) judged = own-told x judged
+
+  pub own-read : (o p : Option (List ℕ)) → p ≡ o → IfSome o (λ x. IsJudged (application_in x) (Ok app)) → IfSome p (λ x. own_sizes x ≡ app)
+  own-read o p same judged = subst (λ (q : Option (List ℕ)). IfSome q (λ x. own_sizes x ≡ app)) (sym same) (own-by o judged)

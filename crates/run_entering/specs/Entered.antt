@@ -6,6 +6,7 @@ use Rattle.card_layout.specs.declared.files.Application.{Application}
 use Rattle.card_layout.specs.Application.{application_in, first_bad_field}
 use Rattle.chip_model.specs.declared.command.CardState.{CardState}
 use Rattle.card_commands.specs.Ports.{IsPort}
+use Rattle.card_image.specs.Own.{own_sizes}
 use Rattle.card_image.specs.Fields.{session_time, end_mark}
 use Rattle.card_image.specs.Judging.{first_bad_file, IsValid}
 use Rattle.card_image.specs.View.{card_view}
@@ -28,7 +29,7 @@ use Rattle.run_entering.specs.Noted.{HasNoted, IsOnUnit, IsComing, IsOnCard, IsC
 
 -- a card that told these sizes goes by them; of another the field is the first bad one
 abbrev pub IsMeasured : Result Application ℕ → CardState → State → Type 0
-IsMeasured (Ok app) chip card = IsPort app None chip card × IfSome card.image (TellsSizes app)
+IsMeasured (Ok app) chip card = IsPort app None chip card × IfSome card.image (TellsSizes app) × IfSome card.image (λ x. own_sizes x ≡ app)
 IsMeasured (Err field) chip card = IfSome card.image (λ x. first_bad_field (application_in x) ≡ Some field)
 
 -- ---- what is said of an accepted card, whatever the devices tell

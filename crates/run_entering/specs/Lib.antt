@@ -1,3 +1,4 @@
 pub mod Entering
 pub mod Noted
 pub mod Entered
+pub mod Told

@@ -1,7 +1,8 @@
 //! A card that was put into a slot, or meets power there, is accepted or turned away.
 ghost use Rattle.std.specs.Prelude.{◌≡◌, ◌≢◌, ℕ, ◌+◌, ◌/◌, ◌<◌, ◌≤◌, ◌^◌, Bool, true, false, Option, Some, None, Ok, IfSome, OnOk, length, is_some, is_err};
 ghost use Rattle.trace_model.specs.declared.Card.{Card};
-ghost use Rattle.tach_media.specs.Medium.{HasCause};
+ghost use Rattle.tach_media.specs.Medium.{LeavesOnly, HasCause};
+ghost use Rattle.unit_notes.specs.Journal.{LeavesJournal};
 ghost use Rattle.card_commands.specs.Ports.{IsPort};
 ghost use Rattle.slot_machine.specs.Calls.{seat_in, is_card};
 ghost use Rattle.log_model.specs.Slots.{other_slot};
@@ -9,7 +10,9 @@ ghost use Rattle.run_crew.specs.Cards.{known_of, session_of};
 ghost use Rattle.run_crew.specs.Cabin.{Stands};
 ghost use Rattle.run_keeping.specs.Keeping.{UnitReady, CardReady, HasItsRow};
 ghost use Rattle.card_layout.specs.declared.files.TheConstants.{LARGEST_IMAGE};
+ghost use Rattle.card_image.specs.Own.{own_sizes};
 ghost use Rattle.card_judge.specs.Judged.{TellsSizes};
+ghost use Rattle.run_entering.specs.Told.{BooksJudged, BooksEntered};
 ghost use Rattle.card_session.specs.declared.words.TheConstants.{LATEST_MINUTE};
 ghost use Rattle.run_entering.specs.Entering.{Ending, Way, Unfit, Ahead, outcome_by, most_owed};
 ghost use Rattle.run_entering.specs.Noted.{HasNoted, IsOnUnit, IsComing, notes_by};
@@ -40,6 +43,7 @@ fn refuse<M: Medium>(
     requires second { entering.at.second ≢ 0 }
     requires room { length outcome.old.finds.items < outcome.old.finds.room }
     ensures told { outcome.new ≡ outcome_by (Unfit fid place) entering outcome.old }
+    ensures journal { LeavesOnly (M.state unit.old) (M.state unit.new) LeavesJournal }
     ensures notes { HasNoted IsOnUnit IsComing (notes_by (Unfit fid place) entering 0 keeper.now.cabin) (is_err result) (M.state unit.old) (M.state unit.new) }
     ensures ready { OnOk result (UnitReady keeper.now (M.state unit.new)) }
     ensures rows { (card : Card) → HasItsRow keeper.now.cabin.cards (M.state unit.old) card → OnOk result (HasItsRow keeper.now.cabin.cards (M.state unit.new) card) }
@@ -65,6 +69,7 @@ fn defer<M: Medium>(
     requires second { entering.at.second ≢ 0 }
     requires room { length outcome.old.finds.items < outcome.old.finds.room }
     ensures told { outcome.new ≡ outcome_by (Ahead stored) entering outcome.old }
+    ensures journal { LeavesOnly (M.state unit.old) (M.state unit.new) LeavesJournal }
     ensures notes { HasNoted IsOnUnit IsComing (notes_by (Ahead stored) entering 0 keeper.now.cabin) (is_err result) (M.state unit.old) (M.state unit.new) }
     ensures ready { OnOk result (UnitReady keeper.now (M.state unit.new)) }
     ensures rows { (card : Card) → HasItsRow keeper.now.cabin.cards (M.state unit.old) card → OnOk result (HasItsRow keeper.now.cabin.cards (M.state unit.new) card) }
@@ -102,11 +107,13 @@ fn accept_by<M: Medium, C: Chip, D: Chip>(
     requires bare { session_of keeper.old.cabin.cards entering.which ≡ None }
     requires port { IsPort app None (C.card card.old) (C.state card.old) }
     requires told { IfSome (C.state card.old).image (TellsSizes app) }
+    requires sized { IfSome (C.state card.old).image (λ x. own_sizes x ≡ app) }
     requires works { (C.state card.old).works ≡ true }
     requires breaks { length outcome.old.breaks.items < outcome.old.breaks.room }
     requires finds { length outcome.old.finds.items < outcome.old.finds.room }
     ensures marks { (outcome.new.marks.room ≡ outcome.old.marks.room) × (length outcome.new.marks.items ≤ length outcome.old.marks.items + most_owed) }
-    ensures ended { (ending : Ending) × IsJudgedSo app entering (is_err result) keeper.old keeper.new noted.old noted.new outcome.old outcome.new (M.state unit.old) (M.state unit.new) (C.state card.old) (C.state card.new) ending }
+    ensures ended { (ending : Ending) × IsJudgedSo app entering (is_err result) keeper.old keeper.new noted.old noted.new outcome.old outcome.new (M.state unit.old) (M.state unit.new) (C.state card.old) (C.state card.new) ending
+        × BooksJudged ending entering (is_err result) keeper.old keeper.new (M.state unit.old) (M.state unit.new) (C.state card.old) (C.state card.new) (D.state others.now) }
     ensures ready { OnOk result (UnitReady keeper.new (M.state unit.new)) }
     ensures rows { (card : Card) → HasItsRow keeper.old.cabin.cards (M.state unit.old) card → OnOk result (HasItsRow keeper.new.cabin.cards (M.state unit.new) card) }
     ensures row { IfSome (session_of keeper.new.cabin.cards entering.which) (λ a. OnOk result (HasItsRow keeper.new.cabin.cards (M.state unit.new) entering.which)) }
@@ -176,7 +183,8 @@ pub fn accept<M: Medium, C: Chip, D: Chip>(
     requires breaks { length outcome.old.breaks.items < outcome.old.breaks.room }
     requires finds { length outcome.old.finds.items < outcome.old.finds.room }
     ensures marks { (outcome.new.marks.room ≡ outcome.old.marks.room) × (length outcome.new.marks.items ≤ length outcome.old.marks.items + most_owed) }
-    ensures entered { (way : Way) × HasEntered entering (is_err result) keeper.old keeper.new noted.old noted.new outcome.old outcome.new (M.state unit.old) (M.state unit.new) (C.state card.old) (C.state card.new) way }
+    ensures entered { (way : Way) × HasEntered entering (is_err result) keeper.old keeper.new noted.old noted.new outcome.old outcome.new (M.state unit.old) (M.state unit.new) (C.state card.old) (C.state card.new) way
+        × BooksEntered way entering (is_err result) keeper.old keeper.new (M.state unit.old) (M.state unit.new) (C.state card.old) (C.state card.new) (D.state others.now) }
     ensures ready { OnOk result (UnitReady keeper.new (M.state unit.new)) }
     ensures rows { (card : Card) → HasItsRow keeper.old.cabin.cards (M.state unit.old) card → OnOk result (HasItsRow keeper.new.cabin.cards (M.state unit.new) card) }
     ensures row { IfSome (session_of keeper.new.cabin.cards entering.which) (λ a. OnOk result (HasItsRow keeper.new.cabin.cards (M.state unit.new) entering.which)) }

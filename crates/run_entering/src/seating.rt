@@ -9,6 +9,9 @@ ghost use Rattle.run_crew.specs.Cards.{known_of, session_of};
 ghost use Rattle.run_crew.specs.Cabin.{Stands};
 ghost use Rattle.run_keeping.specs.Keeping.{UnitReady, CardReady, HasItsRow};
 ghost use Rattle.run_entering.specs.Entering.{taken_as, most_owed};
+ghost use Rattle.card_session.specs.Sessions.{IsValue};
+ghost use Rattle.run_told.specs.Told.{arranged};
+ghost use Rattle.run_entering.specs.Told.{BooksSeat, BooksNotes, BooksTaken};
 ghost use Rattle.run_entering.specs.Entered.{IsSeated, IsMoved, IsNotedOn, IsEntry, IsTaken};
 
 use crate::lines::{Entering, find, insertion_of, other_card, tell_replayed};
@@ -44,6 +47,8 @@ fn seat<M: Medium, C: Chip, D: Chip>(
     requires second { entering.at.second ≢ 0 }
     requires fits { entering.odometer.0 < 2 ^ 24 }
     ensures seated { (entry : Option ℕ) × IsSeated look.now session entering (is_err result) keeper.old keeper.new noted.old noted.new (M.state unit.old) (M.state unit.new) entry }
+    ensures value { IsValue session }
+    ensures booked { BooksSeat look.now session entering (is_err result) keeper.old keeper.new (M.state unit.old) (M.state unit.new) (C.state card.now) (D.state others.now) }
     ensures ready { OnOk result (UnitReady keeper.new (M.state unit.new)) }
     ensures rows { (card : Card) → HasItsRow keeper.old.cabin.cards (M.state unit.old) card → OnOk result (HasItsRow keeper.new.cabin.cards (M.state unit.new) card) }
     ensures row { OnOk result (HasItsRow keeper.new.cabin.cards (M.state unit.new) entering.which) }
@@ -77,12 +82,13 @@ fn seat<M: Medium, C: Chip, D: Chip>(
 }
 
 // That the vehicle moved is noted on the unit and on the accepted card, which is torn out where it fails.
-fn note_moving<M: Medium, C: Chip>(
+fn note_moving<M: Medium, C: Chip, D: Chip>(
     keeper: &mut Keeper,
     entering: Entering,
     app: Application,
     unit: &mut M,
     card: &mut C,
+    others: &D,
     breaks: &mut Lines<Break>,
 ) -> Result<(), Failed>
     requires ready { UnitReady keeper.old (M.state unit.old) }
@@ -92,7 +98,8 @@ fn note_moving<M: Medium, C: Chip>(
     requires works { (C.state card.old).works ≡ true }
     requires sizes { (known_of keeper.old.cabin.cards entering.which).sizes ≡ Ok app }
     requires room { length breaks.old.items < breaks.old.room }
-    ensures noted { (fell : Bool) × IsMoved app entering (is_err result) keeper.old keeper.new breaks.old breaks.new (M.state unit.old) (M.state unit.new) (C.state card.old) (C.state card.new) fell }
+    ensures noted { (fell : Bool) × IsMoved app entering (is_err result) keeper.old keeper.new breaks.old breaks.new (M.state unit.old) (M.state unit.new) (C.state card.old) (C.state card.new) fell
+        × BooksNotes app entering (is_err result) keeper.old keeper.new fell (arranged entering.which (M.state unit.old) (C.state card.old) (D.state others.now)) (arranged entering.which (M.state unit.new) (C.state card.new) (D.state others.now)) }
     ensures ready { OnOk result (UnitReady keeper.new (M.state unit.new)) }
     ensures rows { (card : Card) → HasItsRow keeper.old.cabin.cards (M.state unit.old) card → OnOk result (HasItsRow keeper.new.cabin.cards (M.state unit.new) card) }
     ensures stands { (from : ℕ) → keeper.old.cabin.slots.minute ≤ from → Stands from None keeper.old.cabin → Stands from None keeper.new.cabin }
@@ -113,13 +120,14 @@ fn note_moving<M: Medium, C: Chip>(
 }
 
 // What comes with an accepted card is noted: that the vehicle moved, and that the card's last session was not closed.
-fn note_entered<M: Medium, C: Chip>(
+fn note_entered<M: Medium, C: Chip, D: Chip>(
     keeper: &mut Keeper,
     entering: Entering,
     app: Application,
     session: u32,
     unit: &mut M,
     card: &mut C,
+    others: &D,
     breaks: &mut Lines<Break>,
 ) -> Result<(), Failed>
     requires ready { UnitReady keeper.old (M.state unit.old) }
@@ -129,7 +137,8 @@ fn note_entered<M: Medium, C: Chip>(
     requires works { (C.state card.old).works ≡ true }
     requires sizes { (known_of keeper.old.cabin.cards entering.which).sizes ≡ Ok app }
     requires room { length breaks.old.items < breaks.old.room }
-    ensures noted { (fell : Bool) × IsNotedOn app session entering (is_err result) keeper.old keeper.new breaks.old breaks.new (M.state unit.old) (M.state unit.new) (C.state card.old) (C.state card.new) fell }
+    ensures noted { (fell : Bool) × IsNotedOn app session entering (is_err result) keeper.old keeper.new breaks.old breaks.new (M.state unit.old) (M.state unit.new) (C.state card.old) (C.state card.new) fell
+        × BooksNotes app entering (is_err result) keeper.old keeper.new fell (arranged entering.which (M.state unit.old) (C.state card.old) (D.state others.now)) (arranged entering.which (M.state unit.new) (C.state card.new) (D.state others.now)) }
     ensures ready { OnOk result (UnitReady keeper.new (M.state unit.new)) }
     ensures rows { (card : Card) → HasItsRow keeper.old.cabin.cards (M.state unit.old) card → OnOk result (HasItsRow keeper.new.cabin.cards (M.state unit.new) card) }
     ensures stands { (from : ℕ) → keeper.old.cabin.slots.minute ≤ from → Stands from None keeper.old.cabin → Stands from None keeper.new.cabin }
@@ -139,7 +148,7 @@ fn note_entered<M: Medium, C: Chip>(
 {
     let crew = keeper.cabin.crew();
     if entering.speed > 0 {
-        note_moving(keeper, entering, app, unit, card, breaks)?;
+        note_moving(keeper, entering, app, unit, card, others, breaks)?;
     }
     if session == 0 {
         return Ok(());
@@ -174,7 +183,8 @@ pub(crate) fn take_in<M: Medium, C: Chip, D: Chip>(
     requires finds { length outcome.old.finds.items < outcome.old.finds.room }
     ensures marks { (outcome.new.marks.room ≡ outcome.old.marks.room) × (length outcome.new.marks.items ≤ length outcome.old.marks.items + most_owed) }
     ensures ended { (fell : Bool) × (entry : Option ℕ) × IsEntry entry (is_err result) (M.state unit.old).image
-        × IsTaken app entering (is_err result) keeper.old keeper.new noted.old noted.new outcome.old outcome.new (M.state unit.old) (M.state unit.new) (C.state card.old) (C.state card.new) (taken_as fell entered (C.state card.old).clock entry) }
+        × IsTaken app entering (is_err result) keeper.old keeper.new noted.old noted.new outcome.old outcome.new (M.state unit.old) (M.state unit.new) (C.state card.old) (C.state card.new) (taken_as fell entered (C.state card.old).clock entry)
+        × BooksTaken entered (taken_as fell entered (C.state card.old).clock entry) entering (is_err result) keeper.old keeper.new (M.state unit.old) (M.state unit.new) (C.state card.old) (C.state card.new) (D.state others.now) }
     ensures ready { OnOk result (UnitReady keeper.new (M.state unit.new)) }
     ensures rows { (card : Card) → HasItsRow keeper.old.cabin.cards (M.state unit.old) card → OnOk result (HasItsRow keeper.new.cabin.cards (M.state unit.new) card) }
     ensures row { IfSome (session_of keeper.new.cabin.cards entering.which) (λ a. OnOk result (HasItsRow keeper.new.cabin.cards (M.state unit.new) entering.which)) }
@@ -211,6 +221,7 @@ pub(crate) fn take_in<M: Medium, C: Chip, D: Chip>(
         look.session,
         unit,
         card,
+        others,
         &mut outcome.breaks,
     )
 }
