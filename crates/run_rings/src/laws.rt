@@ -1,7 +1,7 @@
 ghost use Rattle.std.specs.Prelude.{◌≡◌, ◌⊎◌, ℕ, ◌+◌, ◌≤◌, ◌==◌, true, false, Some, List, [], ◌∷◌, ◌++◌, length, map, if◌then◌else◌};
 ghost use Rattle.std.specs.List.{AllByRecursion, list_any};
 ghost use Rattle.byte_fields.specs.Images.{SameOutside};
-ghost use Rattle.gated_ring.specs.Ring.{Shape, IsShape, PointsInside, size_of, pointer, indices, ring_list, entry_at, taken, with_head, IsDense};
+ghost use Rattle.gated_ring.specs.Ring.{Shape, IsShape, PointsInside, size_of, pointer, indices, ring_list, entry_at, taken, staying, with_head, IsDense};
 ghost use Rattle.gated_ring.specs.Change.{IsAdding, IsAdded};
 ghost use Rattle.log_model.specs.Slots.{same_card};
 ghost use Rattle.side_model.specs.Noted.{InsertionNote, Withdrawal, with_withdrawal};
@@ -28,4 +28,14 @@ pub fn what_a_ring_carries()
 pub fn a_withdrawal_is_told_by_the_last_insertion()
     ensures { (w : Withdrawal) (older : List InsertionNote) (i : InsertionNote) (newer : List InsertionNote) → same_card i.accepted.card w.card ≡ true →
         list_any (λ (j : InsertionNote). same_card j.accepted.card w.card) newer ≡ false → with_withdrawal w (older ++ i ∷ newer) ≡ older ++ record i { withdrawn = Some w.second } ∷ newer }
+{}
+
+/// An entry that was added stands with the last index, and as more are added with those behind it, until one takes its place; and no index
+/// stands twice.
+pub fn an_index_stays()
+    ensures last { (r : Shape) (head x y : List ℕ) → PointsInside r x → IsAdded r head x y → indices r y ≡ staying r x ++ taken r x ∷ [] }
+    ensures stays { (r : Shape) (head x y : List ℕ) → PointsInside r x → IsAdded r head x y → (front : List ℕ) (i : ℕ) (back : List ℕ) → indices r x ≡ front ++ i ∷ back →
+        ((before : List ℕ) × (indices r y ≡ before ++ i ∷ (back ++ taken r x ∷ []))) ⊎ ((front ≡ []) × (indices r y ≡ back ++ taken r x ∷ [])) }
+    ensures alone { (r : Shape) (x front : List ℕ) (i : ℕ) (back : List ℕ) → indices r x ≡ front ++ i ∷ back → AllByRecursion (λ (j : ℕ). (j == i) ≡ false) (front ++ back) }
+    ensures itself { (i : ℕ) → (i == i) ≡ true }
 {}

@@ -3,4 +3,4 @@
 
 mod laws;
 
-pub use laws::{a_withdrawal_is_told_by_the_last_insertion, what_a_ring_carries};
+pub use laws::{a_withdrawal_is_told_by_the_last_insertion, an_index_stays, what_a_ring_carries};
