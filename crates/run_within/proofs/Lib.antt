@@ -1,4 +1,5 @@
 pub mod Parts
 pub mod Cutting
 pub mod Spans
+pub mod Beginning
 pub mod Ending
