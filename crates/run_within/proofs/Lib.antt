@@ -2,4 +2,5 @@ pub mod Parts
 pub mod Cutting
 pub mod Spans
 pub mod Beginning
+pub mod Feeding
 pub mod Ending

@@ -7,8 +7,8 @@ use Rattle.trace_model.specs.declared.Action.{Action}
 use Rattle.run_model.specs.declared.Device.{Device}
 use Rattle.run_model.specs.declared.Device.TheVariants.{Unit as Recorder}
 use Rattle.minute_model.specs.declared.Minute.{Minute}
-use Rattle.minute_model.specs.Span.{Span, count_from, ungiven_of}
-use Rattle.minute_rules.specs.Kept.{StandsFor}
+use Rattle.minute_model.specs.Span.{Span, fed, decided_in, ungiven_of}
+use Rattle.minute_rules.specs.Kept.{Kept, StandsFor}
 use Rattle.log_model.specs.declared.lines.Mark.{Mark}
 use Rattle.log_model.specs.declared.lines.Verdict.{Verdict}
 use Rattle.log_model.specs.declared.lines.Verdict.TheVariants.{Accepted, NotValid, TimeOverlap}
@@ -222,3 +222,9 @@ AMinuteIsOver d = (o : Origin) (done : List TraceSecond) (s : TraceSecond) (t : 
     ((card : Card) → (found_of o.found card).start ≡ card_start (start_at o) card) →
     v.next / 60 ≡ (v.next - 1) / 60 + 1 → undecided_from o (t ∷ span) v ≤ (v.next - 1) / 60 → (v.next - 1) / 60 ≤ undecided_from o (t ∷ span) v + 3 →
     Stands (undecided_from o (t ∷ span) v) None v.cabin → Within o done s (In 0) [] None [] (record v { cabin = with_minute_ended ((v.next - 1) / 60) v.cabin }) d
+
+-- THE SECOND IS FED behind all of its actions: these minutes are to be kept then.
+abbrev pub ASecondIsFed : Devices → Type 0
+ASecondIsFed d = (o : Origin) (done : List TraceSecond) (s : TraceSecond) (v : Values) → (w : Within o done s (In (length s.actions)) [] None [] v d) →
+    (minutes : Kept) → StandsFor minutes (fed w.sp s.speed) → (rest : List Minute) → decided_in (fed w.sp s.speed) ≡ decided_in w.sp ++ rest →
+    Within o done s Keeping [] (Some s.speed) rest (record v { minutes = minutes }) d
