@@ -1,5 +1,5 @@
 -- What the recorder with cards carries WITHIN A SECOND that has power (profile): at its power-on, at each of its actions, and in its keeping.
-use Rattle.std.specs.Prelude.{◌≡◌, ◌⊎◌, ◌&&◌, ℕ, suc, ◌+◌, ◌*◌, ◌/◌, ◌≤◌, ◌<◌, true, false, Option, Some, None, List, [], ◌∷◌, ◌++◌, All, Contains, length, map, filter, option_map, option_to_list}
+use Rattle.std.specs.Prelude.{◌≡◌, ◌⊎◌, ◌&&◌, ℕ, suc, ◌+◌, ◌-◌, ◌*◌, ◌/◌, ◌≤◌, ◌<◌, true, false, Option, Some, None, List, [], ◌∷◌, ◌++◌, All, Contains, length, map, filter, option_map, option_to_list}
 use Rattle.activity_codec.specs.declared.values.Slot.{Slot}
 use Rattle.trace_model.specs.declared.Card.{Card}
 use Rattle.trace_model.specs.Trace.{TraceSecond}
@@ -7,16 +7,17 @@ use Rattle.trace_model.specs.declared.Action.{Action}
 use Rattle.run_model.specs.declared.Device.{Device}
 use Rattle.run_model.specs.declared.Device.TheVariants.{Unit as Recorder}
 use Rattle.minute_model.specs.declared.Minute.{Minute}
-use Rattle.minute_model.specs.Span.{Span, count_from, ungiven_of}
-use Rattle.minute_rules.specs.Kept.{StandsFor}
+use Rattle.minute_model.specs.Span.{Span, fed, decided_in, ungiven_of}
+use Rattle.minute_rules.specs.Kept.{Kept, StandsFor}
 use Rattle.log_model.specs.declared.lines.Mark.{Mark}
 use Rattle.log_model.specs.declared.lines.Verdict.{Verdict}
 use Rattle.log_model.specs.declared.lines.Verdict.TheVariants.{Accepted, NotValid, TimeOverlap}
 use Rattle.log_model.specs.Causes.{RoseBy}
-use Rattle.log_model.specs.Log.{RunLog, Phase, Keeping, is_accepting}
+use Rattle.log_model.specs.Log.{RunLog, Phase, In, Keeping, is_accepting}
 use Rattle.log_model.specs.Slots.{same_card}
 use Rattle.log_model.specs.Course.{Told, Course, Visit, went}
 use Rattle.history_model.specs.Minutes.{HistoryMinute}
+use Rattle.history_model.specs.Presence.{card_start}
 use Rattle.history_model.specs.History.{seated}
 use Rattle.history_model.specs.Book.{Book}
 use Rattle.joint_rule.specs.Rules.{Standing}
@@ -48,7 +49,7 @@ use Rattle.run_told.specs.Told.{AreFoundCards, IsPowered, IsPowerless, AreEarly}
 use Rattle.run_recorded.specs.Origin.{Origin, rule_of, start_at, first_of, HasRecorded}
 use Rattle.run_recorded.specs.Ends.{recording_by, AreVerdicts, MayBeWritten}
 use Rattle.run_present.specs.Presence.{PresentStand}
-use Rattle.run_crew.specs.Cabin.{with_power_lost}
+use Rattle.run_crew.specs.Cabin.{Stands, with_minute_ended, with_power_lost}
 use Rattle.run_within.specs.Recorded.{Values, carried, Recorded}
 
 -- as the second began, behind its power-on: how far the run had gone, the seconds of the span, what was travelled, the marks, how often each
@@ -205,3 +206,25 @@ passed_values s v = record v { next = suc v.next; begun = length s.actions }
 abbrev pub TheSecondIsOver : Devices → Type 0
 TheSecondIsOver d = (o : Origin) (done : List TraceSecond) (s : TraceSecond) (v : Values) → (w : Within o done s Keeping [] (Some s.speed) [] v d) →
     Recorded o (done ++ s ∷ []) (Lit (w.b.span ++ next_told v.log done s ∷ [])) (passed_values s v) d
+
+-- the first minute that a span has not decided
+abbrev pub undecided_from : Origin → List Told → Values → ℕ
+undecided_from o span v = ungiven_of (span_at (rule_of o) v.next span)
+
+-- A SECOND BEGINS behind one with power, in the same minute: nothing of it is told or decided yet.
+abbrev pub ASecondBegins : Devices → Type 0
+ASecondBegins d = (o : Origin) (done : List TraceSecond) (s : TraceSecond) (t : Told) (span : List Told) (v : Values) → Recorded o done (Lit (t ∷ span)) v d → s.number ≡ v.next → s.has_power ≡ true →
+    v.next / 60 ≡ (v.next - 1) / 60 → Within o done s (In 0) [] None [] v d
+
+-- OR A MINUTE IS OVER: who was present in it is known.
+abbrev pub AMinuteIsOver : Devices → Type 0
+AMinuteIsOver d = (o : Origin) (done : List TraceSecond) (s : TraceSecond) (t : Told) (span : List Told) (v : Values) → Recorded o done (Lit (t ∷ span)) v d → s.number ≡ v.next → s.has_power ≡ true →
+    ((card : Card) → (found_of o.found card).start ≡ card_start (start_at o) card) →
+    v.next / 60 ≡ (v.next - 1) / 60 + 1 → undecided_from o (t ∷ span) v ≤ (v.next - 1) / 60 → (v.next - 1) / 60 ≤ undecided_from o (t ∷ span) v + 3 →
+    Stands (undecided_from o (t ∷ span) v) None v.cabin → Within o done s (In 0) [] None [] (record v { cabin = with_minute_ended ((v.next - 1) / 60) v.cabin }) d
+
+-- THE SECOND IS FED behind all of its actions: these minutes are to be kept then.
+abbrev pub ASecondIsFed : Devices → Type 0
+ASecondIsFed d = (o : Origin) (done : List TraceSecond) (s : TraceSecond) (v : Values) → (w : Within o done s (In (length s.actions)) [] None [] v d) →
+    (minutes : Kept) → StandsFor minutes (fed w.sp s.speed) → (rest : List Minute) → decided_in (fed w.sp s.speed) ≡ decided_in w.sp ++ rest →
+    Within o done s Keeping [] (Some s.speed) rest (record v { minutes = minutes }) d
