@@ -1,6 +1,6 @@
 -- A card that sits in a slot is put in: however it stood before, by the sizes that it was measured by.
-use Rattle.std.proofs.Common.{◌≡◌, ◌≢◌, ◌⊎◌, inl, inr, ⊎_elim, ℕ, ◌/◌, ◌^◌, ◌<◌, ◌≤◌, true, Option, Some, None, IfSome, is_some, List, [], ◌∷◌, ◌++◌, length, refl, ap, subst, ◌∙◌, sym, arith}
-use Rattle.std.specs.Prelude.{IfOk, Result, Ok, Err}
+use Rattle.std.proofs.Common.{◌≡◌, ◌⊎◌, ⊎_elim, ℕ, ◌/◌, ◌^◌, ◌<◌, ◌≤◌, true, None, IfSome, is_some, length, refl, subst}
+use Rattle.std.specs.Prelude.{IfOk, Result, Ok}
 use Rattle.tacho_types.specs.declared.texts.Registration.{Registration}
 use Rattle.tacho_types.specs.CardNumber.{card_number_bytes}
 use Rattle.trace_model.specs.declared.Card.{Card}
@@ -11,18 +11,17 @@ use Rattle.card_layout.specs.Files.{image_size_of}
 use Rattle.card_image.specs.Judging.{IsValid}
 use Rattle.card_image.specs.View.{card_view}
 use Rattle.card_image.specs.Own.{own_sizes, IsOwnValid}
-use Rattle.joint_rule.specs.Views.{other}
 use Rattle.joint_rule.specs.Rules.{Standing, Out}
 use Rattle.device_steps.specs.declared.entering.Entered.{Entered}
 use Rattle.device_steps.specs.declared.entering.NotEntered.{NotEntered}
 use Rattle.device_steps.specs.Entering.{IsEntering, IsAccepted}
 use Rattle.run_crew.specs.declared.cards.Cards.{Cards}
 use Rattle.run_crew.specs.Cards.{session_of}
-use Rattle.run_rule.specs.Found.{CardFound, Found, found_of}
+use Rattle.run_rule.specs.Found.{Found, found_of}
 use Rattle.run_rule.specs.Cards.{IsUntouched}
 use Rattle.run_rule.specs.Between.{Carried}
 use Rattle.run_told.specs.Told.{AreFoundCards, IsPutIn, IsPowered, IsPowerless, HasFoundSo, arranged, with_standing, card_marks, with_marks}
-use Rattle.run_told.proofs.Parts.{told-one, at-card, parts-of}
+use Rattle.run_told.proofs.Parts.{told-one, at-card}
 use Rattle.run_told.proofs.OnCards.{valid-own}
 use Rattle.run_told.proofs.Begun.{out-powered}
 use Rattle.run_told.proofs.Entered.{entered-powered-by, entered-powerless-by, accepted-put-by, accepted-marked-by, accepted-number-by, accepted-found-by, accepted-whole-by, measured-own}

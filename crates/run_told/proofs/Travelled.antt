@@ -1,9 +1,9 @@
 -- The odometer, over the steps on the unit beside the keeping of a minute.
-use Rattle.std.proofs.Common.{◌≡◌, ℕ, ◌+◌, ◌≤◌, Option, List, sym, ap, subst, ◌∙◌, arith}
+use Rattle.std.proofs.Common.{◌≡◌, ℕ, Option, List, arith}
 use Rattle.tach_media.specs.Medium.{State, IsCoherent, LeavesOnly, SameOutside}
 use Rattle.tach_media.proofs.Images.{part_before}
 use Rattle.unit_model.specs.declared.layout.TheConstants.{OWED, ODOMETER}
-use Rattle.unit_model.specs.Image.{last_kept, odometer_at}
+use Rattle.unit_model.specs.Image.{odometer_at}
 use Rattle.unit_model.proofs.Numbers.{number_same}
 use Rattle.owed_model.specs.Rows.{IsRowBeginning}
 use Rattle.unit_journal.specs.declared.notes.Notes.{Notes}
