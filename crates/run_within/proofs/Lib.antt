@@ -3,4 +3,5 @@ pub mod Cutting
 pub mod Spans
 pub mod Beginning
 pub mod Feeding
+pub mod Rounds
 pub mod Ending

@@ -1,5 +1,6 @@
 -- What the recorder with cards carries WITHIN A SECOND that has power (profile): at its power-on, at each of its actions, and in its keeping.
 use Rattle.std.specs.Prelude.{◌≡◌, ◌⊎◌, ◌&&◌, ℕ, suc, ◌+◌, ◌-◌, ◌*◌, ◌/◌, ◌≤◌, ◌<◌, true, false, Option, Some, None, List, [], ◌∷◌, ◌++◌, All, Contains, length, map, filter, option_map, option_to_list}
+use Rattle.activity_codec.specs.declared.entries.Entry.{Entry}
 use Rattle.activity_codec.specs.declared.values.Slot.{Slot}
 use Rattle.trace_model.specs.declared.Card.{Card}
 use Rattle.trace_model.specs.Trace.{TraceSecond}
@@ -12,17 +13,18 @@ use Rattle.minute_rules.specs.Kept.{Kept, StandsFor}
 use Rattle.log_model.specs.declared.lines.Mark.{Mark}
 use Rattle.log_model.specs.declared.lines.Verdict.{Verdict}
 use Rattle.log_model.specs.declared.lines.Verdict.TheVariants.{Accepted, NotValid, TimeOverlap}
-use Rattle.log_model.specs.Causes.{RoseBy}
+use Rattle.log_model.specs.Causes.{device_of, RoseBy}
 use Rattle.log_model.specs.Log.{RunLog, Phase, In, Keeping, is_accepting}
 use Rattle.log_model.specs.Slots.{same_card}
 use Rattle.log_model.specs.Course.{Told, Course, Visit, went}
-use Rattle.history_model.specs.Minutes.{HistoryMinute}
+use Rattle.history_model.specs.Minutes.{HistoryMinute, on_card}
+use Rattle.history_model.specs.Completeness.{IsMarked}
 use Rattle.history_model.specs.Presence.{card_start}
 use Rattle.history_model.specs.History.{seated}
-use Rattle.history_model.specs.Book.{Book}
+use Rattle.history_model.specs.Book.{Book, kept}
 use Rattle.joint_rule.specs.Rules.{Standing}
 use Rattle.unit_course.specs.Followed.{Lit, Lost}
-use Rattle.unit_course.specs.Legs.{Travel, stranded_at, all_travelled}
+use Rattle.unit_course.specs.Legs.{Travel, travelled, stranded_at, all_travelled}
 use Rattle.unit_course.specs.Lines.{cut_at}
 use Rattle.unit_course.specs.Turn.{span_at}
 use Rattle.unit_model.specs.Image.{odometer_at}
@@ -44,11 +46,13 @@ use Rattle.run_moments.specs.Reached.{course_at}
 use Rattle.run_moments.specs.Lines.{times_of}
 use Rattle.run_moments.specs.Moment.{Moment}
 use Rattle.run_moments.specs.Telling.{IsMore, begun_by, IsLeft}
-use Rattle.run_moments.specs.Kept.{HasDecided, AreMarkedSoFar}
+use Rattle.run_moments.specs.Kept.{HasDecided, BrokenSince, AreMarkedSoFar}
 use Rattle.run_told.specs.Told.{AreFoundCards, IsPowered, IsPowerless, AreEarly}
 use Rattle.run_recorded.specs.Origin.{Origin, rule_of, start_at, first_of, HasRecorded}
 use Rattle.run_recorded.specs.Ends.{recording_by, AreVerdicts, MayBeWritten}
-use Rattle.run_present.specs.Presence.{PresentStand}
+use Rattle.run_recorded.specs.Beside.{HaveLeftMore}
+use Rattle.run_present.specs.Presence.{PresentStand, StaysSo, HasMore}
+use Rattle.run_crew.specs.declared.cards.Cards.{Cards}
 use Rattle.run_crew.specs.Cabin.{Stands, with_minute_ended, with_power_lost}
 use Rattle.run_within.specs.Recorded.{Values, carried, Recorded}
 
@@ -228,3 +232,34 @@ abbrev pub ASecondIsFed : Devices → Type 0
 ASecondIsFed d = (o : Origin) (done : List TraceSecond) (s : TraceSecond) (v : Values) → (w : Within o done s (In (length s.actions)) [] None [] v d) →
     (minutes : Kept) → StandsFor minutes (fed w.sp s.speed) → (rest : List Minute) → decided_in (fed w.sp s.speed) ≡ decided_in w.sp ++ rest →
     Within o done s Keeping [] (Some s.speed) rest (record v { minutes = minutes }) d
+
+-- the next minute that is to be kept, with its cards
+abbrev pub minute_next : (o : Origin) (done : List TraceSecond) (s : TraceSecond) (m : Minute) (rest : List Minute) (v : Values) (d : Devices) → Within o done s Keeping [] (Some s.speed) (m ∷ rest) v d → HistoryMinute
+minute_next o done s m rest v d w = seated (start_at o) (told_before w.b done) (w.b.run.book.sure ++ w.new) m
+
+-- what a run has by value behind it, with these marks and sessions
+abbrev pub kept_values : List Mark → Cards → Values → Values
+kept_values marks cards v = record v { marks = marks; cabin = record v.cabin { cards = cards } }
+
+-- A MINUTE WAS KEPT, and no card was torn out: it is the first that was still to be kept and is over as the second begins; unit and cards go
+-- with the book that has it and have acknowledged it, and each card stands as it did, or has one minute more.
+pub record IsOneKept (o : Origin) (done : List TraceSecond) (s : TraceSecond) (m : Minute) (rest : List Minute) (v : Values) (d e : Devices) (w : Within o done s Keeping [] (Some s.speed) (m ∷ rest) v d) (marks : List Mark) (cards : Cards) : Type 0 where
+  pub minute : m.minute ≡ w.from
+  pub over : w.from < s.number / 60
+  pub stay : (mark : Mark) → Contains v.marks mark → Contains marks mark
+  pub unit : IsMarked marks Recorder m.minute
+  pub cards_ : (card : Card) (x : Entry) → Contains (on_card card (minute_next o done s m rest v d w)) x →
+      IsMarked marks (device_of card) m.minute ⊎ BrokenSince (told_before w.b done) (course_in w.b done s Keeping v.log) card (60 * (m.minute + 1)) s.number
+  pub standing : Card → Standing
+  pub powered : IsPowered o.found (carried (kept_values marks cards v) (suc w.from) (kept (minute_next o done s m rest v d w) (kept_all w.new w.b.run.book)) standing w.brought) cards e
+  pub found : AreFoundCards o.found cards
+  pub each : (card : Card) → StaysSo w.standing standing v.cabin.cards cards card ⊎ HasMore (suc w.from) w.standing standing cards card
+  pub breakdowns : IsMore (breakdowns_of d) (breakdowns_of e)
+  pub left : HaveLeftMore o d e
+  pub spared : (card : Card) → IsSparedSo o w.b done (course_in w.b done s Keeping v.log) d card → IsSparedSo o w.b done (course_in w.b done s Keeping v.log) e card
+  pub travels : HasTravelled (odometer_at o.recording.unit) (kept (minute_next o done s m rest v d w) (kept_all w.new w.b.run.book)) (travelled m.travelled (all_travelled w.ds w.b.travel)) e.unit
+
+-- A MINUTE IS KEPT in the keeping of a second.
+abbrev pub AMinuteIsKeptSo : (d e : Devices) → Type 0
+AMinuteIsKeptSo d e = (o : Origin) (done : List TraceSecond) (s : TraceSecond) (m : Minute) (rest : List Minute) (v : Values) → (w : Within o done s Keeping [] (Some s.speed) (m ∷ rest) v d) →
+    (marks : List Mark) (cards : Cards) → IsOneKept o done s m rest v d e w marks cards → Within o done s Keeping [] (Some s.speed) rest (kept_values marks cards v) e
