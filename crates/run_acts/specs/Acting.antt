@@ -127,3 +127,12 @@ pub record IsNotedOn (card : Card) (slot : Slot) (at : Moment) (old new : Run) (
 abbrev pub IsPlaced : Option Card → Slot → Moment → (old new : Run) → (breaks after : Listed Break) → (fell : Bool) → Type 0
 IsPlaced None slot at old new breaks after fell = (new ≡ old) × (after ≡ breaks)
 IsPlaced (Some card) slot at old new breaks after fell = IsNotedOn card slot at old new breaks after fell
+
+-- the begin of the next second, before its actions
+abbrev pub now_moment : Run → Moment
+now_moment run = record { second = run.next; begun = 0; late = false }
+
+-- IT IS NOTED ON THE CARD OF A SLOT, where there is one that is accepted
+abbrev pub IsNotedIn : Option Card → Slot → Moment → (old new : Run) → (breaks after : Listed Break) → (fell : Bool) → Type 0
+IsNotedIn None slot at old new breaks after fell = (new ≡ old) × (after ≡ breaks)
+IsNotedIn (Some card) slot at old new breaks after fell = IsNotedOn card slot at old new breaks after fell

@@ -1,7 +1,6 @@
 -- Interruptions of power, as the log tells more, and what is known of the cuts between spans.
-use Rattle.std.proofs.Common.{◌≡◌, ◌⊎◌, inl, inr, ⊎_elim, ℕ, zero, suc, ◌+◌, ◌*◌, ◌≤◌, Bool, true, false, cond, not, ◌&&◌, ◌||◌, Option, Some, None, List, [], ◌∷◌, ◌++◌, All, length, take, drop, map, refl, ap, sym, subst, ◌∙◌, arith, append-nil}
+use Rattle.std.proofs.Common.{◌≡◌, inl, inr, ℕ, ◌+◌, ◌*◌, Bool, true, false, cond, not, ◌&&◌, ◌||◌, Option, Some, None, List, [], ◌∷◌, ◌++◌, All, length, take, refl, ap, sym, subst, ◌∙◌, append-nil}
 use Rattle.std.specs.Prelude.{◌==◌, option_map, option_to_list}
-use Rattle.std.specs.List.{AllByRecursion, list_all}
 use Rattle.std.proofs.lemmas.List.Folds.{list_all-append}
 use Rattle.activity_codec.specs.declared.values.Slot.TheVariants.{Driver, CoDriver}
 use Rattle.trace_model.specs.Trace.{TraceSecond}
@@ -20,8 +19,8 @@ use Rattle.unit_course.specs.Turn.{begins_with}
 use Rattle.unit_course.specs.Followed.{Supply, Lit, Due, Lost, IsDark}
 use Rattle.unit_course.proofs.Lines.{kept-known, tells-append, tells-front, tells-found}
 use Rattle.event_course.specs.Noted.{are_sure, Leads, StayFailed}
-use Rattle.event_course.proofs.Failing.{sure-before, sure-parts, failed-append, both, and-both}
-use Rattle.run_events.specs.Gaps.{first_number, IsTold, IsUntold, IsFailedOn, IsKnownGap, AreKnownGaps, OfLast, IsKnownLast, HasGaps, TellsMore}
+use Rattle.event_course.proofs.Failing.{sure-before, sure-parts, failed-append, and-both}
+use Rattle.run_events.specs.Gaps.{first_number, IsTold, IsUntold, IsKnownGap, AreKnownGaps, OfLast, IsKnownLast, HasGaps, TellsMore}
 use Rattle.run_events.specs.Seconds.{seen_next}
 use Rattle.run_events.proofs.Growing.{AreSome, some-spans, seen-more, spans-more}
 use Rattle.run_events.proofs.Later.{seen-same}

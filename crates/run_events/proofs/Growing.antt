@@ -1,18 +1,17 @@
 -- The events of a run as one second more comes.
-use Rattle.std.proofs.Common.{◌≡◌, ℕ, zero, suc, ◌+◌, Bool, true, false, cond, Option, Some, None, List, [], ◌∷◌, ◌++◌, length, map, take, fold, refl, ap, sym, subst, ◌∙◌, append_assoc, append-nil}
+use Rattle.std.proofs.Common.{◌≡◌, ℕ, Bool, true, false, cond, List, [], ◌∷◌, ◌++◌, fold, refl, ap, sym, ◌∙◌, append_assoc, append-nil}
 use Rattle.std.specs.Prelude.{◌==◌, flat_map}
 use Rattle.std.specs.List.{AllByRecursion, filter_map}
 use Rattle.std.proofs.lemmas.Grind.{flat_map-append}
 use Rattle.std.proofs.lemmas.List.Sums.{fold-append}
 use Rattle.std.proofs.lemmas.List.Elements.{filter_map-append}
-use Rattle.trace_model.specs.declared.Card.{Card}
 use Rattle.trace_model.specs.Trace.{TraceSecond}
-use Rattle.log_model.specs.Log.{RunLog, kept_after}
-use Rattle.log_model.specs.Course.{Visit, Told, Went, Before, second_told, before_next, went, went_on, not_begun}
+use Rattle.log_model.specs.Log.{RunLog}
+use Rattle.log_model.specs.Course.{Visit, Went, Before, second_told, before_next, went, went_on, not_begun}
 use Rattle.event_model.specs.declared.kinds.TheConstants.{DRIVING_WITHOUT_CARD, OVER_SPEEDING, POWER_INTERRUPTION, CARD_FAULT}
-use Rattle.event_model.specs.Runs.{run_with, last_run, ended_by, runs_behind, ended_runs}
+use Rattle.event_model.specs.Runs.{last_run, runs_behind, ended_runs}
 use Rattle.event_model.proofs.RunLemmas.{ended_runs-append}
-use Rattle.event_model.specs.Events.{Event, Seen, Watched, Tearing, watched_on, seen_by, seen_of, seen_on, seen_with, seen_spans, number_of, is_bare, bare_event, bare_events, over_event, over_events, gap_event, gaps_between, gap_events, fault_events, judged_events, events_of}
+use Rattle.event_model.specs.Events.{Event, Seen, Watched, Tearing, watched_on, seen_by, seen_of, seen_on, seen_with, seen_spans, is_bare, bare_event, bare_events, over_event, over_events, gap_event, gaps_between, gap_events, fault_events, judged_events, events_of}
 use Rattle.run_events.specs.Seconds.{last_of, span_before, bares_by, is_fast, overs_by, gap_before, gap_by, faults_by, found_by, second_events, seen_next}
 
 -- THE SECONDS as their events see them

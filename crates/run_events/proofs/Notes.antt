@@ -1,5 +1,5 @@
 -- All that a second notes, by type.
-use Rattle.std.proofs.Common.{◌≡◌, ◌≢◌, ⊎_elim, ℕ, ◌+◌, ◌*◌, Bool, true, false, cond, not, ◌&&◌, nat_lt, nat_eq, Option, Some, None, List, [], ◌∷◌, ◌++◌, map, Contains, refl, ap, sym, subst, ◌∙◌, append-nil}
+use Rattle.std.proofs.Common.{◌≡◌, ◌≢◌, ⊎_elim, ℕ, ◌+◌, ◌*◌, Bool, true, false, cond, ◌&&◌, nat_lt, nat_eq, Option, Some, None, List, [], ◌∷◌, ◌++◌, map, Contains, refl, ap, sym, subst, ◌∙◌, append-nil}
 use Rattle.std.specs.Prelude.{◌==◌, flat_map, option_map, option_to_list}
 use Rattle.std.specs.List.{AllByRecursion, filter_map, cons_option}
 use Rattle.std.proofs.lemmas.Bool.{ne_eqb, eq-eqb}
@@ -13,8 +13,8 @@ use Rattle.event_model.specs.declared.kinds.TheConstants.{CARD_NOT_VALID, TIME_O
 use Rattle.event_model.specs.declared.entries.Over.{Over}
 use Rattle.event_model.specs.declared.entries.Span.{Span}
 use Rattle.event_model.specs.Runs.{last_run, runs_behind}
-use Rattle.event_model.specs.Spans.{SpeedSecond, over_of}
-use Rattle.event_model.specs.Events.{Event, Crew, Seen, Tearing, number_of, last_number, is_bare, bare_event, speed_second, over_event, run_event, noted_with, standing, gap_event, crew_judged, found_events, fault_of, torn_in_turn}
+use Rattle.event_model.specs.Spans.{over_of}
+use Rattle.event_model.specs.Events.{Event, Seen, Tearing, number_of, last_number, is_bare, bare_event, speed_second, over_event, run_event, noted_with, standing, gap_event, crew_judged, found_events, fault_of, torn_in_turn}
 use Rattle.event_course.specs.Shown.{all_kinds}
 use Rattle.event_course.proofs.Shows.{each-kind}
 use Rattle.run_events.specs.Shown.{by_kind}

@@ -1,5 +1,5 @@
 -- The last second turns out to be a cut's, behind all of its actions: its events are the same.
-use Rattle.std.proofs.Common.{◌≡◌, ◌⊎◌, inl, inr, ℕ, zero, suc, ◌+◌, ◌<◌, ◌≤◌, Bool, true, false, cond, not, ◌&&◌, Option, Some, None, List, [], ◌∷◌, ◌++◌, All, length, map, take, fold, refl, ap, sym, subst, ◌∙◌, arith, nat_lt, is_some, append-nil}
+use Rattle.std.proofs.Common.{◌≡◌, inl, inr, ℕ, zero, suc, ◌+◌, ◌<◌, ◌≤◌, Bool, true, false, cond, not, ◌&&◌, Option, Some, None, List, [], ◌∷◌, ◌++◌, All, length, map, take, refl, ap, sym, subst, ◌∙◌, arith, nat_lt, is_some}
 use Rattle.std.specs.Prelude.{◌==◌, flat_map, slice_get}
 use Rattle.std.specs.List.{AllByRecursion}
 use Rattle.std.proofs.lemmas.Bool.{lt-ltb, eqb-true}
@@ -12,21 +12,21 @@ use Rattle.tach_media.specs.Medium.{State}
 use Rattle.log_model.specs.declared.lines.Break.{Break}
 use Rattle.log_model.specs.declared.lines.Verdict.{Verdict}
 use Rattle.log_model.specs.declared.lines.Verdict.TheVariants.{Accepted, NotValid, TimeOverlap}
-use Rattle.log_model.specs.Log.{RunLog, Phase, In, Keeping, same_phase, cut_in, is_torn_in, found_in, kept_after}
-use Rattle.log_model.specs.Slots.{Slots, refusal, other_slot}
+use Rattle.log_model.specs.Log.{RunLog, Phase, In, Keeping, same_phase, cut_in, is_torn_in, kept_after}
+use Rattle.log_model.specs.Slots.{refusal, other_slot}
 use Rattle.log_model.specs.Same.{SameAt}
-use Rattle.log_model.specs.Course.{Course, Visit, Told, Went, Before, Moved, slot_told, both_told, acted, all_acted, begins, moved_by, unmoved, answered, fresh, cut_told, lit_course, dark_course, has_power, second_told, went}
+use Rattle.log_model.specs.Course.{Course, Visit, Told, Went, Before, Moved, slot_told, both_told, acted, all_acted, begins, moved_by, unmoved, answered, fresh, cut_told, lit_course, has_power, second_told, went}
 use Rattle.log_model.proofs.Growth.{went-same}
 use Rattle.unit_course.specs.Lines.{tells_cut}
-use Rattle.unit_course.specs.Followed.{Supply, Lit, Due, Lost, IsDark}
+use Rattle.unit_course.specs.Followed.{Supply, Lost}
 use Rattle.event_model.specs.declared.kinds.TheConstants.{CARD_NOT_VALID, TIME_OVERLAP, DRIVING_WITHOUT_CARD, INSERTION_WHILE_DRIVING, SESSION_NOT_CLOSED, OVER_SPEEDING, POWER_INTERRUPTION, CARD_FAULT}
-use Rattle.event_model.specs.Events.{Event, Crew, Seen, Tearing, AreTorn, noted_with, with_card, beside_judged, crew_judged, found_events, beside_torn, fault_of, is_codriver_first, torn_in_turn, number_of, last_number, course_by, moved_by_action, within_by, seen_by, seen_of, seen_on, seen_with, seen_spans, gaps_between, gap_events, events_of}
+use Rattle.event_model.specs.Events.{Event, Crew, Seen, Tearing, AreTorn, noted_with, with_card, beside_judged, crew_judged, found_events, beside_torn, fault_of, is_codriver_first, torn_in_turn, number_of, course_by, moved_by_action, within_by, seen_by, seen_of, seen_on, seen_with, seen_spans, gaps_between, gap_events, events_of}
 use Rattle.side_model.specs.Done.{has_failed_in}
 use Rattle.event_course.specs.Noted.{Leads, StayFailed}
 use Rattle.event_course.proofs.Failing.{leads-stay}
 use Rattle.run_events.specs.Shown.{none}
 use Rattle.run_events.specs.Seconds.{span_before, bares_by, overs_by, gap_before, gap_by, faults_by, found_by, second_events, seen_next}
-use Rattle.run_events.specs.Gaps.{first_number, IsTold, IsUntold, IsFailedOn, IsKnownGap, AreKnownGaps, OfLast, IsKnownLast, HasGaps}
+use Rattle.run_events.specs.Gaps.{first_number, IsUntold, IsKnownGap, AreKnownGaps, OfLast, HasGaps}
 use Rattle.run_events.specs.Choice.{IsTornIn}
 use Rattle.run_events.specs.Running.{HasEvents, IsCutOff}
 use Rattle.run_events.proofs.Shows.{nothing-more, noted-then}

@@ -1,12 +1,12 @@
 -- A second with power comes right behind those of its own span.
-use Rattle.std.proofs.Common.{◌≡◌, ◌⊎◌, inl, inr, ℕ, zero, suc, ◌+◌, Bool, true, false, cond, not, ◌&&◌, List, [], ◌∷◌, ◌++◌, length, refl, ap, sym, subst, ◌∙◌, arith, length-append}
+use Rattle.std.proofs.Common.{◌≡◌, ◌⊎◌, inl, inr, ℕ, ◌+◌, Bool, true, false, cond, not, ◌&&◌, List, [], ◌∷◌, ◌++◌, length, refl, ap, sym, subst, ◌∙◌, arith, length-append}
 use Rattle.trace_model.specs.Trace.{TraceSecond}
 use Rattle.log_model.specs.Log.{RunLog}
 use Rattle.log_model.specs.Spans.{AreInOrder}
-use Rattle.log_model.specs.Course.{Told, Before, Went, has_power, second_told, before_next, went, went_on}
+use Rattle.log_model.specs.Course.{Told, Before, Went, has_power, second_told, before_next, went}
 use Rattle.log_model.proofs.Growth.{went-more}
 use Rattle.event_model.specs.Events.{Seen, number_of, last_number, seen_of, seen_on, seen_with, seen_spans}
-use Rattle.run_events.specs.Seconds.{last_of, span_before, IsBehind, seen_next}
+use Rattle.run_events.specs.Seconds.{last_of, IsBehind, seen_next}
 use Rattle.run_events.proofs.Growing.{seen-more, spans-more}
 use Rattle.run_events.proofs.Later.{told-number}
 use Rattle.run_events.proofs.Sure.{last-push}

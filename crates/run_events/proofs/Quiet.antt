@@ -1,6 +1,6 @@
 -- Seconds in which nothing happens, at once: with power, and without it.
-use Rattle.std.proofs.Common.{◌≡◌, ◌⊎◌, ℕ, zero, suc, ◌+◌, ◌<◌, ◌≤◌, Bool, true, false, cond, not, ◌&&◌, Option, Some, None, List, [], ◌∷◌, ◌++◌, map, fold, refl, ap, sym, subst, ◌∙◌, arith, append_assoc, append-nil, nat_eq, is_some}
-use Rattle.std.specs.Prelude.{◌==◌, flat_map, filter}
+use Rattle.std.proofs.Common.{◌≡◌, ℕ, suc, ◌≤◌, Bool, true, false, cond, ◌&&◌, Option, List, [], ◌∷◌, ◌++◌, map, fold, refl, ap, sym, subst, ◌∙◌, arith, append_assoc, append-nil, nat_eq}
+use Rattle.std.specs.Prelude.{◌==◌, flat_map}
 use Rattle.std.specs.List.{AllByRecursion, filter_map, list_any}
 use Rattle.std.proofs.lemmas.Bool.Decides.{nat_tests}
 use Rattle.std.proofs.lemmas.Grind.{flat_map-append}
@@ -12,12 +12,12 @@ use Rattle.trace_model.specs.declared.Card.{Card}
 use Rattle.trace_model.specs.Trace.{TraceSecond}
 use Rattle.tach_media.specs.Medium.{State}
 use Rattle.log_model.specs.declared.lines.Verdict.{Verdict}
-use Rattle.log_model.specs.Log.{RunLog, Phase, In, same_phase, is_accepting}
+use Rattle.log_model.specs.Log.{RunLog, In, same_phase}
 use Rattle.log_model.specs.Course.{Visit}
 use Rattle.event_model.specs.declared.kinds.TheConstants.{DRIVING_WITHOUT_CARD, OVER_SPEEDING, POWER_INTERRUPTION, CARD_FAULT}
 use Rattle.event_model.specs.Runs.{run_with, last_run, ended_by, runs_behind, ended_runs}
 use Rattle.event_model.proofs.RunLemmas.{last_run-append}
-use Rattle.event_model.specs.Events.{Event, Seen, Tearing, AreTorn, number_of, first_card, torn_at, accepted_at, entered_at, seen_of, seen_on, seen_with, seen_spans, is_bare, bare_event, over_event, bare_events, over_events, gaps_between, gap_events, fault_events, judged_events, found_events, fault_of, torn_in_turn, events_of}
+use Rattle.event_model.specs.Events.{Event, Seen, Tearing, AreTorn, number_of, torn_at, entered_at, seen_of, seen_on, seen_with, seen_spans, is_bare, bare_event, over_event, bare_events, over_events, gaps_between, gap_events, fault_events, judged_events, found_events, fault_of, torn_in_turn, events_of}
 use Rattle.event_course.specs.Noted.{Leads}
 use Rattle.event_course.proofs.Failing.{leads-stay}
 use Rattle.run_events.specs.Shown.{none, SaysNothing}

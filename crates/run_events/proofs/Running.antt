@@ -1,13 +1,10 @@
 -- What every image shows of the events of a run with cards, from second to second.
-use Rattle.std.proofs.Common.{◌≡◌, ◌⊎◌, inl, inr, ⊎_elim, ℕ, zero, suc, ◌+◌, ◌<◌, Bool, true, false, cond, List, [], ◌∷◌, ◌++◌, All, length, take, map, Contains, refl, ap, sym, subst, ◌∙◌, arith, append-nil, nat_eq, Option, None, is_some}
-use Rattle.std.specs.Prelude.{◌==◌, flat_map}
-use Rattle.std.specs.List.{AllByRecursion}
-use Rattle.activity_codec.specs.declared.values.Slot.{Slot}
+use Rattle.std.proofs.Common.{◌≡◌, ◌⊎◌, ⊎_elim, ℕ, Bool, true, cond, List, [], ◌∷◌, ◌++◌, take, Contains, refl, ap, sym, subst, ◌∙◌, arith}
+use Rattle.std.specs.Prelude.{◌==◌}
 use Rattle.trace_model.specs.declared.Card.{Card}
 use Rattle.trace_model.specs.Trace.{TraceSecond}
 use Rattle.tach_media.specs.Medium.{State}
 use Rattle.log_model.specs.Log.{RunLog}
-use Rattle.log_model.specs.Same.{SameAt}
 use Rattle.log_model.specs.Course.{Visit, went}
 use Rattle.unit_course.specs.Followed.{Supply}
 use Rattle.unit_model.specs.declared.layout.TheConstants.{FIRST_OVER, OVER_COUNT}
@@ -16,13 +13,13 @@ use Rattle.side_model.specs.Done.{has_failed_in}
 use Rattle.event_model.specs.declared.kinds.TheConstants.{DRIVING_WITHOUT_CARD, OVER_SPEEDING, POWER_INTERRUPTION, CARD_FAULT}
 use Rattle.event_model.specs.Events.{Event, Seen, Tearing, AreTorn, number_of, seen_of, seen_spans, events_of}
 use Rattle.side_model.specs.Tables.{table_in, AreNoted}
-use Rattle.event_course.specs.Noted.{are_sure, Leads, StayFailed}
+use Rattle.event_course.specs.Noted.{are_sure, Leads}
 use Rattle.event_course.specs.Shown.{all_kinds, HaveBegins, first_on, count_on}
 use Rattle.event_course.proofs.Failing.{sure-parts}
-use Rattle.run_events.specs.Shown.{by_kind, none, HasNoted, ShowsMore, SaysNothing, AllLead}
+use Rattle.run_events.specs.Shown.{by_kind, none, ShowsMore, SaysNothing}
 use Rattle.run_events.specs.Seconds.{span_before, bares_by, overs_by, gap_before, gap_by, faults_by, found_by, second_events, IsBehind, seen_next}
 use Rattle.run_events.specs.Gaps.{HasGaps, TellsMore}
-use Rattle.run_events.specs.Choice.{chosen, told_at, AgreeIn, Agree, AreEarlier, IsTornIn}
+use Rattle.run_events.specs.Choice.{chosen, told_at, AgreeIn, AreEarlier, IsTornIn}
 use Rattle.run_events.specs.Running.{HasEvents}
 use Rattle.run_events.proofs.Shows.{nothing-more, noted-then}
 use Rattle.run_events.proofs.Growing.{seen-more, second-brings}

@@ -1,5 +1,5 @@
 -- Which second each event is noted in, and that none of a second in which a call failed is sure.
-use Rattle.std.proofs.Common.{◌≡◌, ◌⊎◌, inl, inr, ⊎_elim, ℕ, zero, suc, ◌+◌, ◌*◌, ◌<◌, ◌≤◌, Bool, true, false, cond, not, ◌&&◌, ◌||◌, nat_lt, nat_eq, Option, Some, None, List, [], ◌∷◌, ◌++◌, map, fold, refl, ap, sym, subst, ◌∙◌, arith}
+use Rattle.std.proofs.Common.{◌≡◌, ◌⊎◌, inl, inr, ℕ, ◌+◌, ◌*◌, Bool, true, false, cond, not, ◌&&◌, nat_lt, Option, Some, None, List, [], ◌∷◌, ◌++◌, map, fold, refl, ap, sym, subst, ◌∙◌}
 use Rattle.std.specs.Prelude.{◌==◌, flat_map, option_map, option_to_list}
 use Rattle.std.specs.List.{AllByRecursion, filter_map, cons_option}
 use Rattle.std.proofs.lemmas.Bool.{eqb-true}
@@ -13,11 +13,11 @@ use Rattle.side_model.specs.Events.{noting_second}
 use Rattle.event_model.specs.declared.kinds.TheConstants.{CARD_NOT_VALID, TIME_OVERLAP, DRIVING_WITHOUT_CARD, INSERTION_WHILE_DRIVING, SESSION_NOT_CLOSED, OVER_SPEEDING, POWER_INTERRUPTION, CARD_FAULT}
 use Rattle.event_model.specs.declared.entries.Over.{Over}
 use Rattle.event_model.specs.declared.entries.Span.{Span}
-use Rattle.event_model.specs.Runs.{run_with, last_run, ended_by, runs_behind}
-use Rattle.event_model.specs.Spans.{over_of, gap_of, SpeedSecond}
-use Rattle.event_model.specs.Events.{Event, Crew, Seen, Tearing, number_of, last_number, last_seen, is_bare, bare_event, speed_second, over_event, run_event, noted_with, gap_event, standing, found_events, crew_judged, fault_of, torn_in_turn}
+use Rattle.event_model.specs.Runs.{run_with, last_run, runs_behind}
+use Rattle.event_model.specs.Spans.{over_of}
+use Rattle.event_model.specs.Events.{Event, Seen, Tearing, number_of, last_number, last_seen, is_bare, bare_event, speed_second, over_event, run_event, noted_with, gap_event, standing, found_events, crew_judged, fault_of, torn_in_turn}
 use Rattle.event_course.specs.Noted.{are_sure}
-use Rattle.run_events.specs.Seconds.{last_of, span_before, bares_by, is_fast, overs_by, gap_before, gap_by, faults_by, found_by, second_events, IsBehind}
+use Rattle.run_events.specs.Seconds.{span_before, bares_by, is_fast, overs_by, gap_before, gap_by, faults_by, found_by, second_events, IsBehind}
 
 abbrev NotedIn : ℕ → Event → Type 0
 NotedIn u e = noting_second e ≡ u

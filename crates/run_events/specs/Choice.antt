@@ -1,11 +1,10 @@
 -- What no log tells of a run, as its seconds come: which session times were found open, and which card was torn out first (profile).
-use Rattle.std.specs.Prelude.{◌≡◌, ℕ, suc, ◌<◌, ◌≤◌, Bool, true, false, Option, None, List, [], ◌∷◌, ◌++◌, is_some, nat_eq, if◌then◌else◌}
+use Rattle.std.specs.Prelude.{◌≡◌, ℕ, suc, ◌<◌, ◌≤◌, true, false, None, List, is_some, nat_eq, if◌then◌else◌}
 use Rattle.std.specs.List.{AllByRecursion}
 use Rattle.activity_codec.specs.declared.values.Slot.{Slot}
-use Rattle.trace_model.specs.declared.Card.{Card}
 use Rattle.log_model.specs.Log.{In}
 use Rattle.log_model.specs.Course.{Visit}
-use Rattle.event_model.specs.Events.{Seen, Tearing, number_of, torn_at, accepted_at, entered_at, is_first, AreTorn}
+use Rattle.event_model.specs.Events.{Seen, Tearing, number_of, torn_at, accepted_at, entered_at, is_first}
 
 -- the choice of one second, and that of the others
 abbrev pub chosen : ℕ → (here : Tearing) → Tearing → Tearing

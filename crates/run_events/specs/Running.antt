@@ -1,5 +1,5 @@
 -- The events that a second notes, and what is carried of them from second to second (profile).
-use Rattle.std.specs.Prelude.{◌≡◌, ◌⊎◌, ℕ, ◌+◌, Option, Some, None, nat_lt, List, [], ◌∷◌, ◌++◌, length, flat_map, if◌then◌else◌}
+use Rattle.std.specs.Prelude.{◌≡◌, ℕ, Some, None, nat_lt, List, [], ◌∷◌, ◌++◌, length, flat_map, if◌then◌else◌}
 use Rattle.trace_model.specs.declared.Card.{Card}
 use Rattle.trace_model.specs.Trace.{TraceSecond}
 use Rattle.tach_media.specs.Medium.{State}

@@ -1,12 +1,11 @@
 -- Which events one more second of a run brings, by type (Annex IB, section III.12; the moments: profile).
-use Rattle.std.specs.Prelude.{◌≡◌, ◌⊎◌, ℕ, ◌+◌, ◌==◌, Bool, true, false, List, [], ◌∷◌, ◌++◌, flat_map, map, if◌then◌else◌}
+use Rattle.std.specs.Prelude.{◌≡◌, ◌⊎◌, ℕ, ◌+◌, ◌==◌, Bool, true, false, List, [], ◌∷◌, flat_map, map, if◌then◌else◌}
 use Rattle.std.specs.List.{filter_map}
-use Rattle.trace_model.specs.declared.Card.{Card}
 use Rattle.trace_model.specs.Trace.{TraceSecond}
 use Rattle.log_model.specs.Log.{RunLog}
 use Rattle.log_model.specs.Course.{Visit, went}
 use Rattle.event_model.specs.declared.kinds.TheConstants.{DRIVING_WITHOUT_CARD, OVER_SPEEDING, POWER_INTERRUPTION, CARD_FAULT}
-use Rattle.event_model.specs.Runs.{last_run, ended_by, runs_behind}
+use Rattle.event_model.specs.Runs.{last_run, runs_behind}
 use Rattle.event_model.specs.Spans.{is_above}
 use Rattle.event_model.specs.Events.{Event, Seen, Tearing, number_of, last_number, seen_by, is_bare, bare_event, speed_second, over_event, gap_event, found_events, fault_of, torn_in_turn}
 

@@ -65,6 +65,9 @@ use Rattle.device_steps.proofs.Enters.{unit-read, entering-rule, entered-answer,
 use Rattle.device_steps.proofs.Inserted.{inserting_open, inserting_shut}
 use Rattle.device_steps.proofs.OnCard.{AnyStep, own-is, session-is}
 use Rattle.device_steps.proofs.Passed.{valid-days}
+use Rattle.device_steps.proofs.PutIn.{number_told}
+use Rattle.card_judge.specs.Judged.{IsLook}
+use Rattle.tacho_types.specs.CardNumber.{card_number_bytes}
 use Rattle.run_crew.specs.declared.cards.Accepted.{Accepted}
 use Rattle.run_crew.specs.declared.cards.Cards.{Cards}
 use Rattle.run_crew.specs.Cards.{session_of}
@@ -73,7 +76,7 @@ use Rattle.run_rule.specs.Cards.{brought_by, IsCardHeld}
 use Rattle.run_rule.specs.Between.{Carried}
 use Rattle.run_rule.proofs.OwedRises.{owed-rises}
 use Rattle.run_strung.specs.Strung.{IsHeld}
-use Rattle.run_told.specs.Told.{AreFoundCards, IsPutIn, IsPowered, IsPowerless, arranged, card_marks, with_marks}
+use Rattle.run_told.specs.Told.{HasFoundSo, AreFoundCards, IsPutIn, IsPowered, IsPowerless, arranged, card_marks, with_marks}
 use Rattle.run_told.proofs.Parts.{both_of, as-steps, of-steps, told-one, CardLit, off-of, UnitLit, AreParts, MarksLit, parts-of, powered-of, powerless-of, brought-on}
 use Rattle.run_told.proofs.OnCards.{valid-own, valid-or, no-marks, number-own, own-number-still, Rises, rises-run, none-falls, marks-on, brought-card, bound_of, held-on, held-read, valid-on}
 use Rattle.run_told.proofs.StringMore.{mark-own}
@@ -506,17 +509,8 @@ module _ (f : Found) (w : Carried) (c : Card) (U V X Y : State) (two : f.card_a.
             (held.holds.1 (own_view told-x.0) (told-x.0, whole.counts_now m.clock told-x.0 held.holds.0 (whole.is_left told-x.0 told-x.1), refl));
       }
 
-  -- what its find is to tell: by an image of unit and card, so many entries were owed to it, and it told of no later time
-  pub record IsFoundSo (e : Entered) : Type 0 where
-    pub unit_image : List ℕ
-    pub card_image : List ℕ
-    pub on : U.may_leave unit_image
-    pub there : X.may_leave card_image
-    pub valid : IsOwnValid card_image
-    pub early : (own_view card_image).stored ≤ now
-    pub number : length (owed c (unit_view f.card_a.number f.card_b.number unit_image) (own_view card_image)) ≡ e.replayed
-
-  pub verdict-found : (e : Entered) → answer ≡ Ok e → IsFoundSo e
+  -- what its find is to tell
+  pub verdict-found : (e : Entered) → answer ≡ Ok e → HasFoundSo f c U X now e.replayed
   verdict-found e ok =
       let y = told-one Y.image so.held.tells in
       let took-now = took told-u.0 told-x.0 told-u.1 told-x.1 e y.0 ok y.1 in
@@ -532,10 +526,31 @@ module _ (f : Found) (w : Carried) (c : Card) (U V X Y : State) (two : f.card_a.
         number = sym (put-number told-u.0 told-x.0 told-u.1 told-x.1 e y.0 ok y.1);
       }
 
+  -- the number that it told is the card's
+  pub told-own : (e : Entered) → answer ≡ Ok e → card_number_bytes e.look.number ≡ (found_of f c).number
+  told-own e ok =
+      let y = told-one Y.image so.held.tells in
+      let looked = at_image (λ x. IsLook (own_sizes (found_of f c).image) x e.look) told-x.1 (took told-u.0 told-x.0 told-u.1 told-x.1 e y.0 ok y.1).looked in
+      let there = whole.is_left told-x.0 told-x.1 in
+      number_told (own_sizes (found_of f c).image) told-x.0 e.look (omega (arith, room, whole.sized told-x.0 told-x.1)) looked
+      ∙ sym (number-own (own_sizes (found_of f c).image) told-x.0 (one.held.now told-x.0 there).0) ∙ one.held.number told-x.0 there
+
+  -- all the entries that were owed were put on it
+  pub told-whole : (e : Entered) → answer ≡ Ok e → e.replayed ≡ length e.owed.items
+  told-whole e ok =
+      let y = told-one Y.image so.held.tells in
+      put-number told-u.0 told-x.0 told-u.1 told-x.1 e y.0 ok y.1 ∙ ap (λ (es : List Entry). length es) (sym (owed-view told-u.0 told-x.0 told-u.1 told-x.1 e y.0 ok y.1))
+
 -- ---- so all of it stands, where nothing more is written on the unit
 
 module _ (f : Found) (w : Carried) (cards : Cards) (c : Card) (U V X Y Z : State) (found : AreFoundCards f cards) (unit_whole : IsCoherent U) (unit_after : IsCoherent V) (whole : IsCoherent X) (after : IsCoherent Y) (registration : Registration) (long : length registration.0 ≡ 15) (odometer now : ℕ) (few : now < 2 ^ 32) (answer : Result Entered NotEntered)
-    (out : w.standing c ≡ Out) (bare : session_of cards c ≡ None) (p : IsPowered f w cards (arranged c U X Z)) (late : w.due ≤ now / 60) (room : image_size_of (own_sizes (found_of f c).image) ≤ X.size) (enters : IsEntering (own_sizes (found_of f c).image) registration odometer now U V X Y answer) where
+    (out : w.standing c ≡ Out) (bare : session_of cards c ≡ None) (p : IsPowered f w cards (arranged c U X Z)) (late : w.due ≤ now / 60) (app : Application) (measured : IsOwnValid (found_of f c).image → app ≡ own_sizes (found_of f c).image) (size : image_size_of app ≤ X.size) (told : IsEntering app registration odometer now U V X Y answer) where
+  room : IsOwnValid (found_of f c).image → image_size_of (own_sizes (found_of f c).image) ≤ X.size
+  room valid = subst (λ (a : Application). image_size_of a ≤ X.size) (measured valid) size
+
+  enters : IsOwnValid (found_of f c).image → IsEntering (own_sizes (found_of f c).image) registration odometer now U V X Y answer
+  enters valid = subst (λ (a : Application). IsEntering a registration odometer now U V X Y answer) (measured valid) told
+
   parts : AreParts f w cards c U X Z
   parts = parts-of f w cards c U X Z p
 
@@ -544,12 +559,12 @@ module _ (f : Found) (w : Carried) (cards : Cards) (c : Card) (U V X Y Z : State
 
   one-after : IsOwnValid (found_of f c).image → CardLit f w.book (w.standing c) (w.brought c) (session_of cards c) c V Y
   one-after valid = subst (λ (z : Standing). CardLit f w.book z (w.brought c) (session_of cards c) c V Y) (sym out) (subst (λ (o : Option Accepted). CardLit f w.book Out (w.brought c) o c V Y) (sym bare)
-      (entered-lit f w c U V X Y found.two (found.sizes c valid) unit_whole unit_after whole after registration long odometer now few answer parts.unit (w.brought c) (one-before valid) late room enters))
+      (entered-lit f w c U V X Y found.two (found.sizes c valid) unit_whole unit_after whole after registration long odometer now few answer parts.unit (w.brought c) (one-before valid) late (room valid) (enters valid)))
 
   others-after : IsOwnValid (found_of f (other c)).image → CardLit f w.book (w.standing (other c)) (w.brought (other c)) (session_of cards (other c)) (other c) V Z
   others-after valid =
       let was = parts.others valid in
-      let rule = of-steps f found.two (other c) w.book (w.standing (other c)) [] [] V Z (unit-read (both_of f found.two) (other c) w.book (w.standing (other c)) [] [] U V Z unit_whole enters.unit.leaves (as-steps f found.two (other c) w.book (w.standing (other c)) [] [] U Z was.rule)) in
+      let rule = of-steps f found.two (other c) w.book (w.standing (other c)) [] [] V Z (unit-read (both_of f found.two) (other c) w.book (w.standing (other c)) [] [] U V Z unit_whole told.unit.leaves (as-steps f found.two (other c) w.book (w.standing (other c)) [] [] U Z was.rule)) in
       record {
         rule = rule;
         valid = was.valid;
@@ -563,16 +578,16 @@ module _ (f : Found) (w : Carried) (cards : Cards) (c : Card) (U V X Y Z : State
   marks-after = by (valid-or (found_of f c).image)
     where
       by : IsOwnValid (found_of f c).image ⊎ (IsOwnValid (found_of f c).image → ⊥) → MarksLit f w c Y
-      by (inl valid) = entered-marks f w c U V X Y found.two (found.sizes c valid) unit_whole unit_after whole after registration long odometer now few answer parts.unit (w.brought c) (one-before valid) late room enters parts.marks_mine
+      by (inl valid) = entered-marks f w c U V X Y found.two (found.sizes c valid) unit_whole unit_after whole after registration long odometer now few answer parts.unit (w.brought c) (one-before valid) late (room valid) (enters valid) parts.marks_mine
       by (inr bad) = no-marks f c w.book w.marks X Y bad parts.marks_mine
 
   unit-after : Holds f.unit w.due w.book w.marks V
-  unit-after = holds-read f.unit w.due w.book w.marks parts.unit.unit unit_whole enters.unit.leaves
+  unit-after = holds-read f.unit w.due w.book w.marks parts.unit.unit unit_whole told.unit.leaves
 
   -- however it was answered, where the unit works
-  pub entered-powered : V.works ≡ true → IsPowered f w cards (arranged c V Y Z)
-  entered-powered works = powered-of f w cards c V Y Z found (record {
-    unit = record { tells = enters.unit.leaves.tells ∙ parts.unit.tells; works = works; unit = unit-after; none = parts.unit.none };
+  pub entered-powered-by : V.works ≡ true → IsPowered f w cards (arranged c V Y Z)
+  entered-powered-by works = powered-of f w cards c V Y Z found (record {
+    unit = record { tells = told.unit.leaves.tells ∙ parts.unit.tells; works = works; unit = unit-after; none = parts.unit.none };
     mine = one-after;
     others = others-after;
     marks_mine = marks-after;
@@ -580,9 +595,9 @@ module _ (f : Found) (w : Carried) (cards : Cards) (c : Card) (U V X Y Z : State
   })
 
   -- or the unit failed
-  pub entered-powerless : IsPowerless f w (arranged c V Y Z)
-  entered-powerless = powerless-of f w cards c V Y Z found (record {
-    tells = enters.unit.leaves.tells ∙ parts.unit.tells;
+  pub entered-powerless-by : IsPowerless f w (arranged c V Y Z)
+  entered-powerless-by = powerless-of f w cards c V Y Z found (record {
+    tells = told.unit.leaves.tells ∙ parts.unit.tells;
     unit = unit-after;
     none = parts.unit.none;
     mine = λ valid. off-of f w.book (w.standing c) (w.brought c) (session_of cards c) c V Y (one-after valid);
@@ -592,11 +607,45 @@ module _ (f : Found) (w : Carried) (cards : Cards) (c : Card) (U V X Y Z : State
   })
 
   -- a card that is accepted
-  pub accepted-put : IsOwnValid (found_of f c).image → (e : Entered) → answer ≡ Ok e → IsPutIn (found_of f c) c w.book now e.session Y
-  accepted-put valid e ok = entered-put f w c U V X Y found.two (found.sizes c valid) unit_whole unit_after whole after registration long odometer now few answer parts.unit (w.brought c) (one-before valid) late room enters e ok
+  pub accepted-put-by : IsOwnValid (found_of f c).image → (e : Entered) → answer ≡ Ok e → IsPutIn (found_of f c) c w.book now e.session Y
+  accepted-put-by valid e ok = entered-put f w c U V X Y found.two (found.sizes c valid) unit_whole unit_after whole after registration long odometer now few answer parts.unit (w.brought c) (one-before valid) late (room valid) (enters valid) e ok
 
   -- and the entries that were put on it are marked, where its clock has not stopped
+  pub accepted-marked-by : IsOwnValid (found_of f c).image → (e : Entered) → answer ≡ Ok e → V.works ≡ true → IsSettled Y → IsPowered f (with_marks (card_marks c Y.clock e.owed.items) w) cards (arranged c V Y Z)
+  accepted-marked-by valid e ok works settled =
+      let facts = entered-owed f w c U V X Y found.two (found.sizes c valid) unit_whole unit_after whole after registration long odometer now few answer parts.unit (w.brought c) (one-before valid) late (room valid) (enters valid) e ok in
+      marked-powered f w cards c V Y Z found (entered-powered-by works) after settled valid facts.began e.owed.items facts.rises facts.sure facts.there (λ m in_. facts.older m (All-contains (IsCardHeld (found_of f c) c w.book X) (marks_of (device_of c) w.marks) m parts.marks_mine.held in_))
+
+  -- the number that it told is its own
+  pub accepted-number-by : IsOwnValid (found_of f c).image → (e : Entered) → answer ≡ Ok e → card_number_bytes e.look.number ≡ (found_of f c).number
+  accepted-number-by valid e ok = told-own f w c U V X Y found.two (found.sizes c valid) unit_whole unit_after whole after registration long odometer now few answer parts.unit (w.brought c) (one-before valid) late (room valid) (enters valid) e ok
+
+  -- and by some images of unit and card that a stop might leave then so many entries were owed
+  pub accepted-found-by : IsOwnValid (found_of f c).image → (e : Entered) → answer ≡ Ok e → HasFoundSo f c U X now e.replayed
+  accepted-found-by valid e ok = verdict-found f w c U V X Y found.two (found.sizes c valid) unit_whole unit_after whole after registration long odometer now few answer parts.unit (w.brought c) (one-before valid) late (room valid) (enters valid) e ok
+
+  pub accepted-whole-by : IsOwnValid (found_of f c).image → (e : Entered) → answer ≡ Ok e → e.replayed ≡ length e.owed.items
+  accepted-whole-by valid e ok = told-whole f w c U V X Y found.two (found.sizes c valid) unit_whole unit_after whole after registration long odometer now few answer parts.unit (w.brought c) (one-before valid) late (room valid) (enters valid) e ok
+
+-- ---- by the card's own sizes
+
+module _ (f : Found) (w : Carried) (cards : Cards) (c : Card) (U V X Y Z : State) (found : AreFoundCards f cards) (unit_whole : IsCoherent U) (unit_after : IsCoherent V) (whole : IsCoherent X) (after : IsCoherent Y) (registration : Registration) (long : length registration.0 ≡ 15) (odometer now : ℕ) (few : now < 2 ^ 32) (answer : Result Entered NotEntered)
+    (out : w.standing c ≡ Out) (bare : session_of cards c ≡ None) (p : IsPowered f w cards (arranged c U X Z)) (late : w.due ≤ now / 60) (room : image_size_of (own_sizes (found_of f c).image) ≤ X.size) (enters : IsEntering (own_sizes (found_of f c).image) registration odometer now U V X Y answer) where
+  pub entered-powered : V.works ≡ true → IsPowered f w cards (arranged c V Y Z)
+  entered-powered = entered-powered-by f w cards c U V X Y Z found unit_whole unit_after whole after registration long odometer now few answer out bare p late (own_sizes (found_of f c).image) (λ valid. refl) room enters
+
+  pub entered-powerless : IsPowerless f w (arranged c V Y Z)
+  entered-powerless = entered-powerless-by f w cards c U V X Y Z found unit_whole unit_after whole after registration long odometer now few answer out bare p late (own_sizes (found_of f c).image) (λ valid. refl) room enters
+
+  pub accepted-put : IsOwnValid (found_of f c).image → (e : Entered) → answer ≡ Ok e → IsPutIn (found_of f c) c w.book now e.session Y
+  accepted-put = accepted-put-by f w cards c U V X Y Z found unit_whole unit_after whole after registration long odometer now few answer out bare p late (own_sizes (found_of f c).image) (λ valid. refl) room enters
+
   pub accepted-marked : IsOwnValid (found_of f c).image → (e : Entered) → answer ≡ Ok e → V.works ≡ true → IsSettled Y → IsPowered f (with_marks (card_marks c Y.clock e.owed.items) w) cards (arranged c V Y Z)
-  accepted-marked valid e ok works settled =
-      let facts = entered-owed f w c U V X Y found.two (found.sizes c valid) unit_whole unit_after whole after registration long odometer now few answer parts.unit (w.brought c) (one-before valid) late room enters e ok in
-      marked-powered f w cards c V Y Z found (entered-powered works) after settled valid facts.began e.owed.items facts.rises facts.sure facts.there (λ m in_. facts.older m (All-contains (IsCardHeld (found_of f c) c w.book X) (marks_of (device_of c) w.marks) m parts.marks_mine.held in_))
+  accepted-marked = accepted-marked-by f w cards c U V X Y Z found unit_whole unit_after whole after registration long odometer now few answer out bare p late (own_sizes (found_of f c).image) (λ valid. refl) room enters
+
+-- the sizes that it was measured by are those that it told at the start
+pub measured-own : (f : Found) (w : Carried) (cards : Cards) (c : Card) (U X Z : State) → IsPowered f w cards (arranged c U X Z) → IsCoherent X → (app : Application) → IfSome X.image (λ x. own_sizes x ≡ app) → IsOwnValid (found_of f c).image → app ≡ own_sizes (found_of f c).image
+measured-own f w cards c U X Z p whole app told valid =
+    let one = (parts-of f w cards c U X Z p).mine valid in
+    let x = told-one X.image one.held.tells in
+    sym (at_image (λ x. own_sizes x ≡ app) x.1 told) ∙ (one.held.now x.0 (whole.is_left x.0 x.1)).0

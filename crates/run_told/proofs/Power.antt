@@ -23,6 +23,7 @@ use Rattle.joint_rule.specs.Device.{LeavesViews, Nothing}
 use Rattle.joint_rule.specs.Rules.{Standing, Out}
 use Rattle.joint_rule.specs.Marked.{of_card, IsBeside}
 use Rattle.joint_rule.specs.Filling.{FillsDays}
+use Rattle.joint_rule.proofs.CardLaws.{dark-beside}
 use Rattle.joint_rule.proofs.Holding.{rise-back}
 use Rattle.joint_rule.proofs.Staying.{note-stays}
 use Rattle.joint_rule.proofs.UnitLaws.{sure-found}
@@ -32,17 +33,17 @@ use Rattle.safety_model.specs.Unit.{marks_of}
 use Rattle.unit_rule.specs.Rule.{Started, seen_unit}
 use Rattle.unit_rule.specs.Marks.{Holds}
 use Rattle.unit_rule.proofs.Found.{one-image}
-use Rattle.unit_rule.proofs.Marking.{holds-found}
+use Rattle.unit_rule.proofs.Marking.{holds-found, holds-read}
 use Rattle.unit_rule.proofs.Moves.{shown-last}
 use Rattle.device_steps.specs.Rule.{Both, CardRests, IsTakenUp}
 use Rattle.device_steps.proofs.PowerBack.{found-rests}
 use Rattle.run_crew.specs.declared.cards.Accepted.{Accepted}
 use Rattle.run_crew.specs.declared.cards.Cards.{Cards}
 use Rattle.run_crew.specs.Cards.{session_of}
-use Rattle.run_rule.specs.Found.{CardFound, Found, found_of, unit_seen}
+use Rattle.run_rule.specs.Found.{CardFound, Found, found_of, unit_seen, AnyKept}
 use Rattle.run_rule.specs.Cards.{brought_by, CardWaits, IsCardHeld, CardMarksHold}
 use Rattle.run_rule.specs.Between.{Carried, devices}
-use Rattle.run_rule.proofs.Waiting.{strung-found}
+use Rattle.run_rule.proofs.Waiting.{comes-beside, strung-found}
 use Rattle.run_strung.specs.Strung.{IsHeld}
 use Rattle.run_strung.proofs.Strung.{held-out}
 use Rattle.run_told.specs.Told.{carried_found, all_out, AreFoundCards, sure_of, IsHeldDark, AllWait, IsPowered, IsPowerless}
@@ -165,6 +166,40 @@ module _ (f : Found) (w : Carried) (d : Devices) (V : State) (two : f.card_a.num
       wait : AllWait f (carried_found (last_kept x) w) (devices V d.card_a d.card_b)
       wait A valid = held-dark f.card_a A (found (last_kept x) w.book) (w.standing A) d.card_a refl (held-one A valid)
       wait B valid = held-dark f.card_b B (found (last_kept x) w.book) (w.standing B) d.card_b refl (held-one B valid)
+
+-- ---- THE UNIT IS READ, and that failed: nothing is found
+
+module _ (f : Found) (w : Carried) (d : Devices) (V : State) (two : f.card_a.number ≢ f.card_b.number) (before : IsCoherent d.unit) (p : IsPowerless f w d) (run : LeavesOnly d.unit V Unchanged) where
+  unread : LeavesViews (unit_seen f d.unit) (unit_seen f V) Nothing
+  unread = seen-run (unit_view f.card_a.number f.card_b.number) Unchanged Nothing d.unit V before run (λ y e never. absurd never)
+
+  waits : (c : Card) → IsOwnValid (found_of f c).image → CardWaits f c w.book (w.standing c) (w.brought c) V (card_of d c)
+  waits c valid =
+      let was = p.carried.cards c valid in
+      record {
+        rests = dark-beside c (found_of f c).start AnyKept {U = unit_seen f d.unit} {V = unit_seen f V} {X = of_card (card_of d c)} Nothing (found_of f c).began w.book (w.standing c) unread (λ u v never. absurd never) was.rests;
+        string = was.string;
+        comes = comes-beside f c Nothing w.book (w.standing c) d.unit V (card_of d c) (λ u v never. absurd never) unread was.comes;
+        brought = λ n in_. note-stays c (unit_seen f d.unit) (unit_seen f V) (of_card (card_of d c)) (beside-nothing d.unit V f.card_a.number f.card_b.number unread) n (was.brought n in_);
+      }
+
+  pub unread-powerless : IsPowerless f w (devices V d.card_a d.card_b)
+  unread-powerless = record {
+    carried = record { tells = run.tells ∙ p.carried.tells; unit = holds-read f.unit w.due w.book w.marks p.carried.unit before run; cards = cards; marks = marks };
+    wait = wait;
+  }
+    where
+      cards : (c : Card) → IsOwnValid (found_of f c).image → CardWaits f c w.book (w.standing c) (w.brought c) V (card_of (devices V d.card_a d.card_b) c)
+      cards A valid = waits A valid
+      cards B valid = waits B valid
+
+      marks : (c : Card) → CardMarksHold (found_of f c) c w.book w.marks (card_of (devices V d.card_a d.card_b) c)
+      marks A = p.carried.marks A
+      marks B = p.carried.marks B
+
+      wait : AllWait f w (devices V d.card_a d.card_b)
+      wait A valid = p.wait A valid
+      wait B valid = p.wait B valid
 
 -- ---- THE UNIT IS MENDED, where the calls say this: no card is accepted any more
 

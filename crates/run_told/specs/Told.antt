@@ -1,6 +1,6 @@
 -- What is carried of unit and cards between two calls of a run (profile): beside the rules that join them, how each image of a card holds its
 -- string, and the sessions of the cards that are in their slots.
-use Rattle.std.specs.Prelude.{◌≡◌, ◌≢◌, ℕ, suc, max, ◌<◌, ◌≤◌, true, Option, Some, None, IfSome, List, [], ◌∷◌, ◌++◌, All, Contains, map, is_some, option_to_list}
+use Rattle.std.specs.Prelude.{◌≡◌, ◌≢◌, ℕ, suc, max, ◌<◌, ◌≤◌, true, Option, Some, None, IfSome, List, [], ◌∷◌, ◌++◌, All, Contains, length, map, is_some, option_to_list}
 use Rattle.activity_codec.specs.declared.entries.Entry.{Entry}
 use Rattle.trace_model.specs.declared.Card.{Card}
 use Rattle.trace_model.specs.declared.Card.TheVariants.{A, B}
@@ -16,6 +16,7 @@ use Rattle.card_session.specs.Cards.{MayEnd}
 use Rattle.card_steps.specs.Since.{GoesSince}
 use Rattle.history_model.specs.Minutes.{card_history}
 use Rattle.history_model.specs.Book.{Book, found}
+use Rattle.joint_rule.specs.Views.{unit_view, owed}
 use Rattle.joint_rule.specs.Rules.{Standing, In, Out, since, CardRule, IsEntered}
 use Rattle.joint_rule.specs.Marked.{of_card, HasBrought}
 use Rattle.safety_model.specs.Safe.{Devices, card_of}
@@ -170,3 +171,14 @@ carried_found k w = record w { book = found k w.book }
 -- no card is accepted
 abbrev pub all_out : Carried → Carried
 all_out w = record w { standing = λ c. Out }
+
+-- WHAT THE FIND OF AN ACCEPTANCE IS TO TELL: by an image of unit and of card that a stop might have left then so many entries were owed, and
+-- the card was valid and told of no later time.
+pub record HasFoundSo (f : Found) (c : Card) (unit card : State) (now replayed : ℕ) : Type 0 where
+  pub unit_image : List ℕ
+  pub card_image : List ℕ
+  pub on : unit.may_leave unit_image
+  pub there : card.may_leave card_image
+  pub valid : IsOwnValid card_image
+  pub early : (own_view card_image).stored ≤ now
+  pub number : length (owed c (unit_view f.card_a.number f.card_b.number unit_image) (own_view card_image)) ≡ replayed

@@ -1,0 +1,4 @@
+pub mod Parts
+pub mod Cutting
+pub mod Spans
+pub mod Ending

@@ -1,23 +1,29 @@
 -- What the recorder with cards carries WITHIN A SECOND that has power (profile): at its power-on, at each of its actions, and in its keeping.
-use Rattle.std.specs.Prelude.{◌≡◌, ◌⊎◌, ◌&&◌, ℕ, suc, ◌+◌, ◌*◌, ◌/◌, ◌≤◌, ◌<◌, true, false, Option, Some, None, List, [], ◌∷◌, ◌++◌, All, Contains, length, map, filter}
+use Rattle.std.specs.Prelude.{◌≡◌, ◌⊎◌, ◌&&◌, ℕ, suc, ◌+◌, ◌*◌, ◌/◌, ◌≤◌, ◌<◌, true, false, Option, Some, None, List, [], ◌∷◌, ◌++◌, All, Contains, length, map, filter, option_map, option_to_list}
 use Rattle.activity_codec.specs.declared.values.Slot.{Slot}
 use Rattle.trace_model.specs.declared.Card.{Card}
 use Rattle.trace_model.specs.Trace.{TraceSecond}
+use Rattle.trace_model.specs.declared.Action.{Action}
 use Rattle.run_model.specs.declared.Device.{Device}
+use Rattle.run_model.specs.declared.Device.TheVariants.{Unit as Recorder}
 use Rattle.minute_model.specs.declared.Minute.{Minute}
 use Rattle.minute_model.specs.Span.{Span, count_from, ungiven_of}
 use Rattle.minute_rules.specs.Kept.{StandsFor}
 use Rattle.log_model.specs.declared.lines.Mark.{Mark}
 use Rattle.log_model.specs.declared.lines.Verdict.{Verdict}
 use Rattle.log_model.specs.declared.lines.Verdict.TheVariants.{Accepted, NotValid, TimeOverlap}
-use Rattle.log_model.specs.Log.{RunLog, Phase, is_accepting, is_torn_in}
+use Rattle.log_model.specs.Causes.{RoseBy}
+use Rattle.log_model.specs.Log.{RunLog, Phase, Keeping, is_accepting}
 use Rattle.log_model.specs.Slots.{same_card}
 use Rattle.log_model.specs.Course.{Told, Course, Visit, went}
 use Rattle.history_model.specs.Minutes.{HistoryMinute}
+use Rattle.history_model.specs.History.{seated}
 use Rattle.history_model.specs.Book.{Book}
 use Rattle.joint_rule.specs.Rules.{Standing}
-use Rattle.unit_course.specs.Followed.{Lit}
-use Rattle.unit_course.specs.Legs.{Travel, all_travelled}
+use Rattle.unit_course.specs.Followed.{Lit, Lost}
+use Rattle.unit_course.specs.Legs.{Travel, stranded_at, all_travelled}
+use Rattle.unit_course.specs.Lines.{cut_at}
+use Rattle.unit_course.specs.Turn.{span_at}
 use Rattle.unit_model.specs.Image.{odometer_at}
 use Rattle.unit_rule.specs.Odometer.{HasTravelled}
 use Rattle.joint_rule.specs.Views.{owed}
@@ -29,18 +35,21 @@ use Rattle.run_rule.specs.Found.{found_of}
 use Rattle.run_rule.specs.Cards.{IsUntouched}
 use Rattle.run_rule.specs.Between.{Carried}
 use Rattle.run_course.specs.Followed.{Progress}
-use Rattle.run_course.specs.Seconds.{kept_all}
+use Rattle.run_course.specs.Moments.{and_break}
+use Rattle.run_course.specs.Seconds.{next_told, kept_all, broken_at}
 use Rattle.run_course.specs.Presence.{SlotsTell}
 use Rattle.run_brought.specs.Going.{IsTakenAt}
 use Rattle.run_moments.specs.Reached.{course_at}
 use Rattle.run_moments.specs.Lines.{times_of}
 use Rattle.run_moments.specs.Moment.{Moment}
+use Rattle.run_moments.specs.Telling.{IsMore, begun_by, IsLeft}
 use Rattle.run_moments.specs.Kept.{HasDecided, AreMarkedSoFar}
-use Rattle.run_told.specs.Told.{AreFoundCards, IsPowered, AreEarly}
+use Rattle.run_told.specs.Told.{AreFoundCards, IsPowered, IsPowerless, AreEarly}
 use Rattle.run_recorded.specs.Origin.{Origin, rule_of, start_at, first_of, HasRecorded}
 use Rattle.run_recorded.specs.Ends.{recording_by, AreVerdicts, MayBeWritten}
 use Rattle.run_present.specs.Presence.{PresentStand}
-use Rattle.run_within.specs.Recorded.{Values, carried}
+use Rattle.run_crew.specs.Cabin.{with_power_lost}
+use Rattle.run_within.specs.Recorded.{Values, carried, Recorded}
 
 -- as the second began, behind its power-on: how far the run had gone, the seconds of the span, what was travelled, the marks, how often each
 -- device had broken down, and what acceptances had brought
@@ -58,11 +67,6 @@ told_before b done = (went b.run.log done).told
 
 abbrev pub course_in : Beginning → List TraceSecond → TraceSecond → Phase → RunLog → Course
 course_in b done s at log = course_at log (went b.run.log done).before s at
-
--- these minutes are decided and still to be kept: one after another from this one on, up to those that the span has not decided yet
-pub record AreNext (sp : Span) (rest : List Minute) (from : ℕ) : Type 0 where
-  pub counted : map (λ (m : Minute). m.minute) rest ≡ count_from from (length rest)
-  pub until : from + length rest ≡ ungiven_of sp
 
 -- What may be found of a card in a second in whose minute it has entered so often (the same as `IsVerdict` of safety_model, by that number).
 abbrev pub VerdictBy : Origin → (often : ℕ) → (unit card : List ℕ → Type 0) → Card → ℕ → Verdict → Type 0
@@ -112,8 +116,10 @@ pub record Within (o : Origin) (done : List TraceSecond) (s : TraceSecond) (at :
   pub ds : List Minute
   pub new : List HistoryMinute
   pub decided : HasDecided (rule_of o) (start_at o) (told_before b done) b.run b.span (course_in b done s at v.log) speed sp ds rest new
+  -- the first minute that is still to be kept, behind those that are kept; with the others it is the first that is not decided
   pub from : ℕ
-  pub comes : AreNext sp rest from
+  pub kept_to : from ≡ ungiven_of (span_at (rule_of o) b.run.next b.span) + length ds
+  pub until : from + length rest ≡ ungiven_of sp
   -- what is acknowledged
   pub stay : (mark : Mark) → Contains b.marks mark → Contains v.marks mark
   pub marked : AreMarkedSoFar v.marks (told_before b done) (course_in b done s at v.log) s.number new
@@ -134,3 +140,68 @@ pub record Within (o : Origin) (done : List TraceSecond) (s : TraceSecond) (at :
   pub finds : IsFoundSo o b done (course_in b done s at v.log) s.number from new brought d
   pub spared : (c : Card) → IsSparedSo o b done (course_in b done s at v.log) d c
   pub travels : HasTravelled (odometer_at o.recording.unit) (kept_all new b.run.book) (all_travelled ds b.travel) d.unit
+
+-- the minute whose keeping was broken off, with its cards
+abbrev pub lost_minute : Origin → Beginning → List TraceSecond → (new : List HistoryMinute) → Option Minute → Option HistoryMinute
+lost_minute o b done new lost = option_map {T = Minute} (seated (start_at o) (told_before b done) (b.run.book.sure ++ new)) lost
+
+-- THE RECORD WHERE A CALL ON THE UNIT HAS FAILED at a moment of a second, and the power is about to be cut: of what is decided the next minute
+-- may be kept or not.
+pub record CutWithin (o : Origin) (done : List TraceSecond) (s : TraceSecond) (at : Phase) (waits : List Visit) (speed : Option ℕ) (v : Values) (d : Devices) : Type 0 where
+  pub b : Beginning
+  pub lit : b.run.supply ≡ Lit b.span
+  pub began : HasRecorded o done b.run b.travel b.marks b.broken b.brought
+  pub unfound : v.unfound ≡ b.run.unfound
+  pub next : v.next ≡ b.run.next
+  pub counted : Device → ℕ
+  pub moment : Moment b.run (went b.run.log done).before s at v.log waits b.broken counted
+  pub rise : IsMore counted (breakdowns_of d)
+  pub broke : RoseBy 1 (b.broken Recorder) (breakdowns_of d Recorder)
+  pub sp : Span
+  pub ds : List Minute
+  pub lost : Option Minute
+  pub rest : List Minute
+  pub new : List HistoryMinute
+  pub decided : HasDecided (rule_of o) (start_at o) (told_before b done) b.run b.span (course_in b done s at v.log) speed sp ds (option_to_list lost ++ rest) new
+  pub fed : (at ≡ Keeping → ⊥) → speed ≡ None
+  pub kept : at ≡ Keeping → speed ≡ Some s.speed
+  pub from : ℕ
+  pub kept_to : from ≡ ungiven_of (span_at (rule_of o) b.run.next b.span) + length ds
+  pub stay : (mark : Mark) → Contains b.marks mark → Contains v.marks mark
+  pub due : ℕ
+  pub standing : Card → Standing
+  pub brought : Card → List ℕ
+  pub powerless : IsPowerless o.found (carried v due (broken_at (lost_minute o b done new lost) (kept_all new b.run.book)) standing brought) d
+  pub found : AreFoundCards o.found v.cabin.cards
+  pub early : AreEarly (carried v due (broken_at (lost_minute o b done new lost) (kept_all new b.run.book)) standing brought)
+  pub late : due ≤ s.number / 60
+  pub low : from ≤ s.number / 60
+  pub more : (c : Card) (k : ℕ) → Contains (b.brought c) k → Contains (brought c) k
+  pub tells : SlotsTell (start_at o) (told_before b done) (b.run.book.sure ++ new) (course_in b done s at v.log).left s.number from (course_in b done s at v.log).slots v.cabin.slots
+  pub verdicts : AreVerdicts o done b.run.log d
+  pub finds : IsFoundSo o b done (course_in b done s at v.log) s.number from new brought d
+  pub spared : (c : Card) → IsSparedSo o b done (course_in b done s at v.log) d c
+  pub travels : HasTravelled (odometer_at o.recording.unit) (broken_at (lost_minute o b done new lost) (kept_all new b.run.book)) (stranded_at lost (all_travelled ds b.travel)) d.unit
+
+-- what a run has by value behind the cut of a second, once that has gone
+abbrev pub cut_values : TraceSecond → Phase → Values → Values
+cut_values s at v = record v {
+  log = and_break v.log (cut_at s.number true (begun_by s at));
+  cabin = with_power_lost s.number v.cabin;
+  next = suc v.next;
+  begun = length s.actions;
+}
+
+-- POWER IS CUT: behind the second all is recorded.
+abbrev pub ACutIsRecorded : Devices → Type 0
+ACutIsRecorded d = (o : Origin) (done : List TraceSecond) (s : TraceSecond) (at : Phase) (waits : List Visit) (speed : Option ℕ) (v : Values) → CutWithin o done s at waits speed v d → (rest : List Action) → IsLeft s at rest →
+    Recorded o (done ++ s ∷ []) Lost (cut_values s at v) d
+
+-- what a run has by value behind a second
+abbrev pub passed_values : TraceSecond → Values → Values
+passed_values s v = record v { next = suc v.next; begun = length s.actions }
+
+-- THE SECOND ENDS: all that it decided is kept, and behind it all is recorded.
+abbrev pub TheSecondIsOver : Devices → Type 0
+TheSecondIsOver d = (o : Origin) (done : List TraceSecond) (s : TraceSecond) (v : Values) → (w : Within o done s Keeping [] (Some s.speed) [] v d) →
+    Recorded o (done ++ s ∷ []) (Lit (w.b.span ++ next_told v.log done s ∷ [])) (passed_values s v) d

@@ -1,0 +1,14 @@
+ghost use Rattle.run_rule.specs.Between.{devices};
+ghost use Rattle.run_within.specs.Within.{ACutIsRecorded, TheSecondIsOver};
+
+use tach_media::{Chip, Medium};
+
+/// A call on the unit has failed, and power is cut: behind the second all is recorded.
+pub fn a_cut_is_recorded<M: Medium, C: Chip, D: Chip>(unit: &M, card_a: &C, card_b: &D)
+    ensures { ACutIsRecorded (devices (M.state unit.now) (C.state card_a.now) (D.state card_b.now)) }
+{}
+
+/// A second ends with its keeping: behind it all is recorded.
+pub fn the_second_is_over<M: Medium, C: Chip, D: Chip>(unit: &M, card_a: &C, card_b: &D)
+    ensures { TheSecondIsOver (devices (M.state unit.now) (C.state card_a.now) (D.state card_b.now)) }
+{}
