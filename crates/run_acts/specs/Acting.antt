@@ -1,5 +1,5 @@
 -- What the actions of a second do that need no card to be judged, by value (profile).
-use Rattle.std.specs.Prelude.{◌≡◌, ◌⊎◌, ℕ, ◌+◌, ◌/◌, ◌<◌, ◌≤◌, Bool, true, false, Option, Some, None, List, [], ◌∷◌, ◌++◌}
+use Rattle.std.specs.Prelude.{◌≡◌, ◌⊎◌, ℕ, ◌+◌, ◌/◌, ◌<◌, ◌≤◌, Bool, true, false, Option, Some, None, IfSome, List, [], ◌∷◌, ◌++◌}
 use Rattle.activity_codec.specs.declared.values.Slot.{Slot}
 use Rattle.trace_model.specs.declared.Card.{Card}
 use Rattle.minute_model.specs.declared.Minute.{Minute}
@@ -32,6 +32,10 @@ pub record IsSettled (at : Moment) (failed : Bool) (old new : Run) (before after
   pub given : (span : Span) → StandsFor old.minutes span → decided_in (settled span) ≡ decided_in span ++ decided
   pub kept : AreKeptUpTo decided at failed (told_of old before) (told_of new after)
   pub outcome : after ≡ record before { marks = after.marks; breaks = after.breaks }
+
+-- a slot is empty, or its card has no session
+abbrev pub IsBareIn : Cabin → Slot → Type 0
+IsBareIn cabin slot = IfSome (seat_in cabin.slots.seats slot) (λ s. session_of cabin.cards s.card ≡ None)
 
 -- ---- a card is withdrawn
 
