@@ -1,5 +1,5 @@
 //! The minutes before that of an action are decided and kept.
-ghost use Rattle.std.specs.Prelude.{◌≡◌, ℕ, ◌+◌, ◌-◌, ◌*◌, ◌/◌, ◌≤◌, Option, OnOk, length, is_err};
+ghost use Rattle.std.specs.Prelude.{◌≡◌, ℕ, ◌+◌, ◌-◌, ◌*◌, ◌/◌, ◌≤◌, ◌++◌, List, Option, OnOk, length, is_err};
 ghost use Rattle.trace_model.specs.declared.Card.{Card};
 ghost use Rattle.tach_media.specs.Medium.{HasCause, HasBroken};
 ghost use Rattle.run_keeping.specs.Keeping.{tears_of, most_tears};
@@ -8,7 +8,13 @@ ghost use Rattle.run_power.specs.Going.{first_second, end_of_seconds, IsHeld, Is
 ghost use Rattle.run_power.specs.Room.{Takes};
 ghost use Rattle.activity_codec.specs.declared.values.Slot.{Slot};
 ghost use Rattle.slot_machine.specs.Calls.{seat_in};
-ghost use Rattle.run_acts.specs.Acting.{IsSettled, IsBareIn};
+ghost use Rattle.minute_model.specs.declared.Minute.{Minute};
+ghost use Rattle.minute_model.specs.Span.{Span, settled, decided_in};
+ghost use Rattle.minute_rules.specs.Kept.{StandsFor};
+ghost use Rattle.run_rule.specs.Between.{devices};
+ghost use Rattle.run_keeping.specs.Minutes.{Reach, IsReach};
+ghost use Rattle.run_keeping.specs.Decided.{BooksAll};
+ghost use Rattle.run_acts.specs.Acting.{IsSettled, IsBareIn, told_of};
 
 use run_keeping::Moment;
 use run_outcome::Outcome;
@@ -37,6 +43,9 @@ pub fn settle<M: Medium, C: Chip, D: Chip>(
     requires marks { length outcome.old.marks.items + 3 * run.old.minutes.owing ≤ outcome.old.marks.room }
     requires breaks { length outcome.old.breaks.items + most_tears run.old.keeper.cabin.cards ≤ outcome.old.breaks.room }
     ensures settled { IsSettled at (is_err result) run.old run.new outcome.old outcome.new }
+    ensures booked { (decided : List Minute) × (reach : Reach) × ((span : Span) → StandsFor run.old.minutes span → decided_in (settled span) ≡ decided_in span ++ decided)
+        × IsReach decided at (is_err result) (told_of run.old outcome.old) (told_of run.new outcome.new) reach
+        × BooksAll decided (is_err result) reach (told_of run.old outcome.old) (told_of run.new outcome.new) (devices (M.state unit.old) (C.state card_a.old) (D.state card_b.old)) (devices (M.state unit.new) (C.state card_a.new) (D.state card_b.new)) }
     ensures none { run.new.minutes.owing ≡ 0 }
     ensures held { IsHeld (run.new.next / 60) run.new (M.state unit.new) (C.card card_a.new) (D.card card_b.new) (C.state card_a.new) (D.state card_b.new) }
     ensures going { (leaving : Option Card) → IsGoingOn leaving (run.old.next / 60) run.old (M.state unit.old) (C.card card_a.old) (D.card card_b.old) (C.state card_a.old) (D.state card_b.old)

@@ -1,7 +1,10 @@
 //! A card leaves its slot by hand: it is withdrawn, or pulled out.
-ghost use Rattle.std.specs.Prelude.{◌≡◌, ◌≢◌, ℕ, ◌+◌, ◌*◌, ◌/◌, ◌<◌, ◌≤◌, Option, Some, None, IfSome, OnOk, length, is_err};
+ghost use Rattle.std.specs.Prelude.{◌≡◌, ◌≢◌, ℕ, ◌+◌, ◌*◌, ◌/◌, ◌<◌, ◌≤◌, List, Option, Some, None, IfSome, OnOk, length, is_err};
 ghost use Rattle.trace_model.specs.declared.Card.{Card};
+ghost use Rattle.activity_codec.specs.declared.values.Activity.{Activity};
 ghost use Rattle.tach_media.specs.Medium.{LeavesOnly, HasCause, HasBroken};
+ghost use Rattle.card_session.specs.Sessions.{IsSession};
+ghost use Rattle.card_session.specs.Cards.{IsCardClosing};
 ghost use Rattle.message_model.specs.Records.{insertion_ring};
 ghost use Rattle.unit_model.specs.declared.layout.TheConstants.{HIGHEST_ODOMETER};
 ghost use Rattle.unit_model.specs.Image.{IsUnit};
@@ -91,6 +94,9 @@ fn close<M: Medium, C: Chip>(
     requires second { at.second ≢ 0 }
     requires room { length breaks.old.items + tears_of (session_of run.old.keeper.cabin.cards which) ≤ breaks.old.room }
     ensures closed { (closing : Closing) × IsClosed which slot at run.old run.new breaks.old breaks.new closing × HasBroken (C.state card.old) (C.state card.new) (closed_falls closing) }
+    ensures journal { LeavesOnly (M.state unit.old) (M.state unit.new) LeavesJournal }
+    ensures left { IfSome (session_of run.old.keeper.cabin.cards which) (λ s. (act : Activity) × LeavesOnly (C.state card.old) (C.state card.new) (λ x c. IsSession s.session x → IsCardClosing s.session act x c)) }
+    ensures bare { session_of run.old.keeper.cabin.cards which ≡ None → card.new ≡ card.old }
     ensures unit { IsUnit (M.state unit.new) }
     ensures ready { OnOk result (UnitReady run.new.keeper (M.state unit.new)) }
     ensures rows { (c : Card) → HasItsRow run.old.keeper.cabin.cards (M.state unit.old) c → OnOk result (HasItsRow run.new.keeper.cabin.cards (M.state unit.new) c) }

@@ -162,4 +162,3 @@ returns-in-B-clause-more g c =
     let n = c.note_on-in-B.ensures.noted in
     let length_is : length c.note_on-in-B.new.breaks.items ≡ length c.args.breaks.now.items + length (noted_breaks n.0 c.args.slot (now_moment c.args.run.now)) = ap (λ (l : Listed Break). length l.items) n.1.told ∙ lines-length (noted_breaks n.0 c.args.slot (now_moment c.args.run.now)) c.args.breaks.now in
     omega (arith, length_is)
-

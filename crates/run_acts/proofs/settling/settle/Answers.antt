@@ -59,6 +59,11 @@ returns-clause-settled g c = record {
   outcome = refl;
 }
 
+pub returns-clause-booked : goal.returns-clause-booked
+returns-clause-booked g c =
+    let b = rw c.as_slice.ensures.value at c.keep_all.ensures.booked in
+    (c.settle-decided.result.items, b.0, c.settle-decided.ensures.given, b.1, b.2)
+
 pub returns-clause-none : goal.returns-clause-none
 returns-clause-none g c =
     let h = c.requires.going in

@@ -1,8 +1,13 @@
 use Rattle.std.proofs.Common.{◌≡◌, ◌∙◌, ℕ, ◌+◌, ◌≤◌, Bool, true, false, Option, Some, None, Ok, refl, ap, sym, subst, arith}
+use Rattle.run_acts.proofs.Withdrawn.{closed-powered}
 use Rattle.std.specs.Prelude.{not, is_err, IfSome}
 use Rattle.card_layout.specs.declared.files.Application.{Application}
 use Rattle.card_commands.specs.Ports.{IsPort}
-use Rattle.tach_media.specs.Medium.{broken_by}
+use Rattle.activity_codec.specs.declared.values.Activity.{Activity}
+use Rattle.card_session.specs.Sessions.{IsSession}
+use Rattle.activity_codec.specs.Activity.{activity_of}
+use Rattle.card_session.specs.Cards.{IsCardClosing}
+use Rattle.tach_media.specs.Medium.{LeavesOnly, broken_by}
 use Rattle.tach_media.proofs.Runs.{on_ok}
 use Rattle.tach_media.proofs.Breakdowns.{none_broken, call_broken, fewer_broken}
 use Rattle.run_crew.specs.declared.cards.Accepted.{Accepted}
@@ -66,3 +71,15 @@ returns-in-Err-clause-card g c =
     ap (λ (k : Keeper). k.cabin.cards) c.tear.ensures.keeper ∙ ap (λ (b : Cabin). with_session which None b.cards) c.close.ensures.kept in
     subst (λ (q : Cards). CardReady (known_of q which) chip X) (sym after)
     (twice-ready which cards (λ app is. let same : c.in-Ok.app ≡ app = cc in subst (λ (a : Application). IsPort a None chip X) same c.leave.ensures.port))
+
+-- ---- what the call on the card leaves of it
+
+pub returns-in-Ok-leave-clause-left : goal.returns-in-Ok-leave-clause-left
+returns-in-Ok-leave-clause-left g c =
+    subst (λ (o : Option Accepted). IfSome o (λ s. (act : Activity) × LeavesOnly (g.C.Chip.state c.args.card.now) (g.C.Chip.state c.leave.new.card) (λ x n. IsSession s.session x → IsCardClosing s.session act x n))) c.in-Some.ensures.session
+    (activity_of c.selected-selected.result, c.leave.ensures.moments)
+
+pub returns-in-Err-clause-left : goal.returns-in-Err-clause-left
+returns-in-Err-clause-left g c =
+    subst (λ (o : Option Accepted). IfSome o (λ s. (act : Activity) × LeavesOnly (g.C.Chip.state c.args.card.now) (g.C.Chip.state c.leave.new.card) (λ x n. IsSession s.session x → IsCardClosing s.session act x n))) c.in-Some.ensures.session
+    (activity_of c.selected-selected.result, c.leave.ensures.moments)
