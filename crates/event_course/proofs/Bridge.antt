@@ -388,7 +388,7 @@ module _ (log : RunLog) (h : IsWithoutCards log) (ss : List TraceSecond) (each :
   unfolding spans_of
   spans-are = sym (spans-same (seen_of log ss) []) ∙ ap (λ (ts : List Told). fold spans_with [] ts) (watches log h ss each).0
 
-  pub events-plain : (kind limit : ℕ) (sessions : ℕ → Card → ℕ) (t : Tearing) → events_of kind limit sessions t log ss ≡ plain_events kind limit log (spans_of (went log ss).told)
+  pub events-plain : (kind limit : ℕ) (sessions : ℕ → Visit → ℕ) (t : Tearing) → events_of kind limit sessions t log ss ≡ plain_events kind limit log (spans_of (went log ss).told)
   events-plain kind limit sessions t =
       by-kind (kind == DRIVING_WITHOUT_CARD) (kind == OVER_SPEEDING) (kind == POWER_INTERRUPTION) (kind == CARD_FAULT)
       (bare_events log ss) (over_events limit log ss) (gap_events t log ss) (fault_events t log ss) (judged_events kind sessions t log ss)
@@ -397,4 +397,4 @@ module _ (log : RunLog) (h : IsWithoutCards log) (ss : List TraceSecond) (each :
       (flat-same (λ (span : List Seen). filter_map seen.over_event (ended_runs (λ (x : Seen). is_above limit (seen.speed_second x)) span)) (overs_in limit) (over-span limit) (seen_spans (seen_of log ss)) plain-spans ∙ ap (flat_map (overs_in limit)) spans-are)
       (gaps-same t log (seen_spans (seen_of log ss)) plain-spans ∙ ap (gaps_in log) spans-are)
       (flat-nothing (λ (x : Seen). map (fault_of t log x) (torn_in_turn t x x.told.course.torn)) (λ x is. ap (λ (vs : List Visit). map (fault_of t log x) (torn_in_turn t x vs)) is.torn) (seen_of log ss) plain)
-      (flat-nothing (λ (x : Seen). flat_map (λ (f : Visit × Verdict). found_events kind (sessions (number_of x) f.0.card) t x f.0 f.1) x.told.course.found) (λ x is. ap (flat_map (λ (f : Visit × Verdict). found_events kind (sessions (number_of x) f.0.card) t x f.0 f.1)) is.found) (seen_of log ss) plain)
+      (flat-nothing (λ (x : Seen). flat_map (λ (f : Visit × Verdict). found_events kind (sessions (number_of x) f.0) t x f.0 f.1) x.told.course.found) (λ x is. ap (flat_map (λ (f : Visit × Verdict). found_events kind (sessions (number_of x) f.0) t x f.0 f.1)) is.found) (seen_of log ss) plain)

@@ -9,7 +9,7 @@ use Rattle.log_model.specs.declared.lines.Break.{Break}
 use Rattle.log_model.specs.declared.lines.Break.TheVariants.{Cut, Tear}
 use Rattle.log_model.specs.declared.lines.Refused.{Refused}
 use Rattle.log_model.specs.Log.{RunLog, kept_after}
-use Rattle.log_model.specs.Course.{Told, Went, went}
+use Rattle.log_model.specs.Course.{Told, Visit, Went, went}
 use Rattle.log_model.specs.Spans.{spans_of}
 use Rattle.log_model.specs.Causes.{is_cut}
 use Rattle.unit_model.specs.declared.layout.TheConstants.{SPEED_LIMIT, FIRST_OVER, OVER_COUNT}
@@ -114,7 +114,7 @@ module _ (limit number : ℕ) (breaks : List Break) (refused : List Refused) (ss
   abbrev spans : List (List Told)
   spans = spans_of (went (log_of breaks) ss).told
 
-  plain-logged : (kind : ℕ) (sessions : ℕ → Card → ℕ) (t : Tearing) → events_of kind limit sessions t (logged breaks refused) ss ≡ plain_events kind limit (log_of breaks) spans
+  plain-logged : (kind : ℕ) (sessions : ℕ → Visit → ℕ) (t : Tearing) → events_of kind limit sessions t (logged breaks refused) ss ≡ plain_events kind limit (log_of breaks) spans
   plain-logged kind sessions t =
       events-plain (logged breaks refused) (record { breaks = all-cuts number breaks cuts; finds = refl }) ss each kind limit sessions t
       ∙ ap (λ (w : Went). plain_events kind limit (logged breaks refused) (spans_of w.told)) (went-refusing breaks refused ss)
@@ -134,7 +134,7 @@ module _ (limit number : ℕ) (breaks : List Break) (refused : List Refused) (ss
       none Lost on = refl
 
   pub shows-run : (start x : List ℕ) (supply : Supply) (next : ℕ) → number_of start SPEED_LIMIT ≡ limit → IsNotDue supply → ShowsEvents start (log_of breaks) (lists_of limit (log_of breaks) spans supply next) x →
-      (numbers : Card → List ℕ) (sessions : ℕ → Card → ℕ) (t : Tearing) → ShowsRun numbers start (logged breaks refused) ss sessions t x
+      (numbers : Card → List ℕ) (sessions : ℕ → Visit → ℕ) (t : Tearing) → ShowsRun numbers start (logged breaks refused) ss sessions t x
   shows-run start x supply next limit_is on s numbers sessions t =
       let l : Lists = lists_of limit (log_of breaks) spans supply next in
       let is : (kind : ℕ) → of_kind kind l ≡ events_of kind (number_of start SPEED_LIMIT) sessions t (logged breaks refused) ss =

@@ -34,7 +34,7 @@ pub count-low : 576 + 4 ≤ 580
 count-low = omega arith
 
 -- a part of a part
-part_of : (p w q n : ℕ) (x c : List ℕ) → q + n ≤ w → bytes_at c p w ≡ bytes_at x p w → bytes_at c (p + q) n ≡ bytes_at x (p + q) n
+pub part_of : (p w q n : ℕ) (x c : List ℕ) → q + n ≤ w → bytes_at c p w ≡ bytes_at x p w → bytes_at c (p + q) n ≡ bytes_at x (p + q) n
 part_of p w q n x c inside same = sym (part_in c p w q n inside) ∙ ap (λ (l : List ℕ). bytes_at l q n) same ∙ part_in x p w q n inside
 
 -- where the places begin

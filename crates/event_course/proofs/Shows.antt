@@ -48,7 +48,7 @@ kind-leads log later l more now lead kind = by (kind == DRIVING_WITHOUT_CARD) (k
     by false false false = λ sure. (refl, refl)
 
 -- events noted one after another, and more
-noted-on : (number : Card → List ℕ) (old mid new : List (List ℕ)) (es fs : List Event) → AreNoted number old es mid → AreNoted number mid fs new → AreNoted number old (es ++ fs) new
+pub noted-on : (number : Card → List ℕ) (old mid new : List (List ℕ)) (es fs : List Event) → AreNoted number old es mid → AreNoted number mid fs new → AreNoted number old (es ++ fs) new
 noted-on number old mid new [] fs is more = subst (λ (rows : List (List ℕ)). AreNoted number rows fs new) is more
 noted-on number old mid new (e ∷ es) fs (next, one, rest) more = (next, one, noted-on number next mid new es fs rest more)
 
@@ -63,7 +63,7 @@ first-none held = by (nat_eq held 0) refl
     by true is = let zero_ : held ≡ 0 = grind (arith, nat_tests) in sym zero_
     by false is = refl
 
-first-parts : (held : ℕ) (es fs : List Event) → HaveBegins es → first_on held (es ++ fs) ≡ first_on (first_on held es) fs
+pub first-parts : (held : ℕ) (es fs : List Event) → HaveBegins es → first_on held (es ++ fs) ≡ first_on (first_on held es) fs
 first-parts held [] fs all = ap (λ (n : ℕ). first_on n fs) (sym (first-none held))
 first-parts held (e ∷ es) fs all = by (nat_eq held 0) refl
   where
@@ -72,16 +72,16 @@ first-parts held (e ∷ es) fs all = by (nat_eq held 0) refl
     by false is = rw is refl
 
 -- and their number
-count-parts : (held : ℕ) (es fs : List Event) → count_on held (es ++ fs) ≡ count_on (count_on held es) fs
+pub count-parts : (held : ℕ) (es fs : List Event) → count_on held (es ++ fs) ≡ count_on (count_on held es) fs
 count-parts held es fs = let many : length (es ++ fs) ≡ length es + length fs = length-append es fs in omega (arith, many)
 
 pub count-none : (held : ℕ) → held ≤ 255 → held ≡ count_on held []
 count-none held few = omega (arith, few)
 
-count-few : (held n : ℕ) (es : List Event) → n ≡ count_on held es → n ≤ 255
+pub count-few : (held n : ℕ) (es : List Event) → n ≡ count_on held es → n ≤ 255
 count-few held n es is = omega (arith, is)
 
-begins-on : (es fs : List Event) → HaveBegins es → HaveBegins fs → HaveBegins (es ++ fs)
+pub begins-on : (es fs : List Event) → HaveBegins es → HaveBegins fs → HaveBegins (es ++ fs)
 begins-on [] fs all more = more
 begins-on (e ∷ es) fs all more = (all.0, begins-on es fs all.1 more)
 

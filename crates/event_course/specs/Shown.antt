@@ -6,6 +6,7 @@ use Rattle.trace_model.specs.declared.Card.{Card}
 use Rattle.trace_model.specs.Trace.{TraceSecond}
 use Rattle.tach_media.specs.Medium.{State}
 use Rattle.log_model.specs.Log.{RunLog}
+use Rattle.log_model.specs.Course.{Visit}
 use Rattle.unit_model.specs.declared.layout.TheConstants.{SPEED_LIMIT, FIRST_OVER, OVER_COUNT, INSERTIONS}
 use Rattle.unit_model.specs.Image.{number_of}
 use Rattle.event_model.specs.declared.kinds.TheConstants.{CARD_NOT_VALID, TIME_OVERLAP, DRIVING_WITHOUT_CARD, INSERTION_WHILE_DRIVING, SESSION_NOT_CLOSED, OVER_SPEEDING, POWER_INTERRUPTION, CARD_FAULT}
@@ -62,7 +63,7 @@ pub record ShowsMore (log : RunLog) (l more : Lists) (x c : List ℕ) : Type 0 w
 
 -- What an image shows of the events of a run without cards at its end, by its log: `sessions` tells the session times that were found
 -- open, and `t` what no log tells of tears, of which there are none.
-pub record ShowsRun (number : Card → List ℕ) (start : List ℕ) (log : RunLog) (ss : List TraceSecond) (sessions : ℕ → Card → ℕ) (t : Tearing) (x : List ℕ) : Type 0 where
+pub record ShowsRun (number : Card → List ℕ) (start : List ℕ) (log : RunLog) (ss : List TraceSecond) (sessions : ℕ → Visit → ℕ) (t : Tearing) (x : List ℕ) : Type 0 where
   pub events : (kind : ℕ) → Contains all_kinds kind → are_sure log (events_of kind (number_of start SPEED_LIMIT) sessions t log ss) ≡ true →
       AreNoted number (table_in kind start) (events_of kind (number_of start SPEED_LIMIT) sessions t log ss) (table_in kind x)
   pub first_over : are_sure log (events_of OVER_SPEEDING (number_of start SPEED_LIMIT) sessions t log ss) ≡ true →

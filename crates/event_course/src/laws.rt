@@ -8,7 +8,7 @@ ghost use Rattle.run_model.specs.Span.{picks_of};
 ghost use Rattle.log_model.specs.declared.lines.Break.{Break};
 ghost use Rattle.log_model.specs.declared.lines.Refused.{Refused};
 ghost use Rattle.log_model.specs.Log.{RunLog};
-ghost use Rattle.log_model.specs.Course.{Told, went};
+ghost use Rattle.log_model.specs.Course.{Told, Visit, went};
 ghost use Rattle.log_model.specs.Spans.{spans_of};
 ghost use Rattle.history_model.specs.Minutes.{HistoryMinute};
 ghost use Rattle.history_model.specs.Presence.{Start};
@@ -30,7 +30,7 @@ ghost use Rattle.event_course.specs.Shown.{ShowsEvents, ShowsMore, ShowsRun};
 /// Where no card bears on a run, its events are those that its power spans tell by themselves: runs of moving seconds, runs above
 /// the limit, and what was found kept between two spans.
 pub fn the_events_of_a_run_without_cards()
-    ensures { (log : RunLog) → IsWithoutCards log → (ss : List TraceSecond) → OnlySelect ss → (kind limit : ℕ) (sessions : ℕ → Card → ℕ) (t : Tearing) →
+    ensures { (log : RunLog) → IsWithoutCards log → (ss : List TraceSecond) → OnlySelect ss → (kind limit : ℕ) (sessions : ℕ → Visit → ℕ) (t : Tearing) →
         events_of kind limit sessions t log ss ≡ plain_events kind limit log (spans_of (went log ss).told) }
 {}
 
@@ -105,5 +105,5 @@ pub fn a_run_is_shown()
     ensures { (limit number : ℕ) (breaks : List Break) (refused : List Refused) (ss : List TraceSecond) → AllByRecursion (IsCutBefore number) breaks → OnlySelect ss →
         (start x : List ℕ) (supply : Supply) (next : ℕ) → number_of start SPEED_LIMIT ≡ limit → IsNotDue supply →
         ShowsEvents start (log_of breaks) (lists_of limit (log_of breaks) (spans_of (went (log_of breaks) ss).told) supply next) x →
-        (numbers : Card → List ℕ) (sessions : ℕ → Card → ℕ) (t : Tearing) → ShowsRun numbers start (record { breaks = breaks; refused = refused; finds = [] }) ss sessions t x }
+        (numbers : Card → List ℕ) (sessions : ℕ → Visit → ℕ) (t : Tearing) → ShowsRun numbers start (record { breaks = breaks; refused = refused; finds = [] }) ss sessions t x }
 {}

@@ -15,6 +15,7 @@ use Rattle.log_model.specs.declared.lines.Find.{Find}
 use Rattle.log_model.specs.declared.lines.Verdict.{Verdict}
 use Rattle.log_model.specs.declared.lines.Verdict.TheVariants.{Accepted, TimeOverlap}
 use Rattle.log_model.specs.Log.{RunLog, cut_in, kept_after, is_torn_in, found_in}
+use Rattle.log_model.specs.Course.{Visit}
 use Rattle.event_model.specs.Events.{Crew, Event, Tearing, noted_with, seen_of, events_of}
 
 -- 2010-03-01 00:00:00
@@ -32,18 +33,18 @@ abbrev nobody : Crew
 nobody = record { driver = None; codriver = None }
 
 -- no session was found open
-abbrev none_open : ℕ → Card → ℕ
-none_open second card = 0
+abbrev none_open : ℕ → Visit → ℕ
+none_open second visit = 0
 
 -- a card that is torn out at a power-on is so as it is judged, and of two that are in one action the driver's is the first
 abbrev plain : Tearing
 plain = record { by_gap = λ u slot. false; driver_first = λ u n. true }
 
 -- the events of a type, with limit 90, by a choice of what no log tells of tears
-abbrev of_type_by : Tearing → ℕ → (ℕ → Card → ℕ) → RunLog → List Item → List Event
+abbrev of_type_by : Tearing → ℕ → (ℕ → Visit → ℕ) → RunLog → List Item → List Event
 of_type_by t kind sessions log lines = events_of kind 90 sessions t log (seconds_of start lines)
 
-abbrev of_type : ℕ → (ℕ → Card → ℕ) → RunLog → List Item → List Event
+abbrev of_type : ℕ → (ℕ → Visit → ℕ) → RunLog → List Item → List Event
 of_type = of_type_by plain
 
 -- a minute and a second at 100 km/h without a card, then two minutes at rest
@@ -67,8 +68,8 @@ abbrev torn_log : RunLog
 torn_log = logged (Tear (start + 239) Driver true 0 true ∷ []) (found Driver start 1 (Accepted 0) ∷ found Driver (start + 360) 1 (Accepted 2) ∷ [])
 
 -- its session was open then
-abbrev open_at_second : ℕ → Card → ℕ
-open_at_second second card = cond (nat_eq second (start + 360)) start 0
+abbrev open_at_second : ℕ → Visit → ℕ
+open_at_second second visit = cond (nat_eq second (start + 360)) start 0
 
 driving_without_it : of_type 0x04 open_at_second torn_log torn_card ≡ noted_with 0x04 (start + 240) (start + 359) nobody ∷ []
 unfolding seen_of seconds_of cut_in kept_after is_torn_in found_in

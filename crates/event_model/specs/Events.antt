@@ -218,10 +218,10 @@ found_events kind session t x v (Accepted replayed) =
     else (if kind == SESSION_NOT_CLOSED && nat_lt 0 session
     then noted_with kind session (number_of x) (crew_judged t x v (Some v.card)) ∷ [] else [])
 
--- those of all cards that were judged, where `sessions` tells the session time found open by second and card
-abbrev pub judged_events : (kind : ℕ) → (sessions : ℕ → Card → ℕ) → Tearing → RunLog → List TraceSecond → List Event
+-- those of all cards that were judged, where `sessions` tells the session time found open by second and visit
+abbrev pub judged_events : (kind : ℕ) → (sessions : ℕ → Visit → ℕ) → Tearing → RunLog → List TraceSecond → List Event
 judged_events kind sessions t log ss =
-    flat_map (λ x. flat_map (λ f. found_events kind (sessions (number_of x) f.0.card) t x f.0 f.1) x.told.course.found) (seen_of log ss)
+    flat_map (λ x. flat_map (λ f. found_events kind (sessions (number_of x) f.0) t x f.0 f.1) x.told.course.found) (seen_of log ss)
 
 -- whether the card of this slot was the first of two that were torn out in an action
 abbrev pub is_first : Tearing → ℕ → ℕ → Slot → Bool
@@ -279,7 +279,7 @@ pub record AreTorn (t : Tearing) (seen : List Seen) : Type 0 where
   pub put_in : AllByRecursion (λ x. (n : ℕ) (slot : Slot) → entered_at x (In (suc n)) slot ≡ true → is_first t (number_of x) (suc n) slot ≡ false) seen
 
 -- the events of a type in a run, in order of time
-abbrev pub events_of : (kind limit : ℕ) → (sessions : ℕ → Card → ℕ) → Tearing → RunLog → List TraceSecond → List Event
+abbrev pub events_of : (kind limit : ℕ) → (sessions : ℕ → Visit → ℕ) → Tearing → RunLog → List TraceSecond → List Event
 events_of kind limit sessions t log ss =
     if kind == DRIVING_WITHOUT_CARD then bare_events log ss
     else (if kind == OVER_SPEEDING then over_events limit log ss

@@ -23,10 +23,10 @@ use Rattle.event_course.proofs.Shows.{each-kind, first-none, count-none, same-mo
 use Rattle.event_course.proofs.Frames.{before-tables, first-low, count-low, table-apart}
 
 -- THE NOTES: each leaves the places of the other types alone
-abbrev IsApart : ℕ → ℕ → Type 0
+abbrev pub IsApart : ℕ → ℕ → Type 0
 IsApart kind noted = ((table_of kind).base + size_of (table_of kind) ≤ (table_of noted).base) ⊎ ((table_of noted).base + size_of (table_of noted) ≤ (table_of kind).base)
 
-abbrev AreApart : ℕ → Type 0
+abbrev pub AreApart : ℕ → Type 0
 AreApart noted = (kind : ℕ) → Contains all_kinds kind → kind ≢ noted → IsApart kind noted
 
 pub bares-apart : AreApart 0x04
@@ -63,10 +63,10 @@ gaps-apart = each-kind (λ (kind : ℕ). kind ≢ 0x08 → IsApart kind 0x08)
     (λ ne. let is : 2390534 + 830 ≤ 2391674 = omega arith in inr is)
 
 module _ (noted : ℕ) (apart : AreApart noted) (x c : List ℕ) (same : SameOutside (table_of noted).base (size_of (table_of noted)) x c) where
-  others-same : (kind : ℕ) → Contains all_kinds kind → kind ≢ noted → table_in kind c ≡ table_in kind x
+  pub others-same : (kind : ℕ) → Contains all_kinds kind → kind ≢ noted → table_in kind c ≡ table_in kind x
   others-same kind there ne = table-apart kind (table_of noted).base (size_of (table_of noted)) x c same (apart kind there ne)
 
-  numbers-same : (number_of c FIRST_OVER ≡ number_of x FIRST_OVER) × (number_of c OVER_COUNT ≡ number_of x OVER_COUNT)
+  pub numbers-same : (number_of c FIRST_OVER ≡ number_of x FIRST_OVER) × (number_of c OVER_COUNT ≡ number_of x OVER_COUNT)
   numbers-same = (
     number_before (table_of noted).base (size_of (table_of noted)) 572 4 x c same (before-tables (table_of noted).base 572 (table_inside noted).0 first-low),
     number_before (table_of noted).base (size_of (table_of noted)) 576 4 x c same (before-tables (table_of noted).base 576 (table_inside noted).0 count-low),
@@ -138,7 +138,7 @@ gap-noted later now e front x c kind_is long tells done = record {
 }
 
 -- the type of over speedings, or another one
-over-or : (kind : ℕ) → (kind ≡ 0x07) ⊎ (kind ≢ 0x07)
+pub over-or : (kind : ℕ) → (kind ≡ 0x07) ⊎ (kind ≢ 0x07)
 over-or kind = by (nat_eq kind 0x07) refl
   where
     by : (b : Bool) → nat_eq kind 0x07 ≡ b → (kind ≡ 0x07) ⊎ (kind ≢ 0x07)
@@ -146,28 +146,28 @@ over-or kind = by (nat_eq kind 0x07) refl
     by false is = inr (eqb-false kind 0x07 is)
 
 -- AN OVER SPEEDING was noted: its entry, then the begin of the first one, then their number
-first-outside : (begin : ℕ) (y : List ℕ) → 580 ≤ length y → SameOutside 572 4 y (with_first begin y)
+pub first-outside : (begin : ℕ) (y : List ℕ) → 580 ≤ length y → SameOutside 572 4 y (with_first begin y)
 first-outside begin y long = by (number_at y 572 4 == 0)
   where
     by : (b : Bool) → SameOutside 572 4 y (cond b (put 572 (to_be_bytes w32 begin) y) y)
     by true = put_outside 572 (to_be_bytes w32 begin) y (omega (arith, long))
     by false = outside_same 572 4 y
 
-more-outside : (y : List ℕ) → 580 ≤ length y → SameOutside 576 4 y (with_one_more y)
+pub more-outside : (y : List ℕ) → 580 ≤ length y → SameOutside 576 4 y (with_one_more y)
 more-outside y long = by (nat_lt (number_at y 576 4) 255)
   where
     by : (b : Bool) → SameOutside 576 4 y (cond b (put 576 (to_be_bytes w32 (number_at y 576 4 + 1)) y) y)
     by true = put_outside 576 (to_be_bytes w32 (number_at y 576 4 + 1)) y (omega (arith, long))
     by false = outside_same 576 4 y
 
-first-value : (begin : ℕ) (y : List ℕ) → 580 ≤ length y → begin < 2 ^ 32 → number_of (with_first begin y) FIRST_OVER ≡ cond (number_at y 572 4 == 0) begin (number_at y 572 4)
+pub first-value : (begin : ℕ) (y : List ℕ) → 580 ≤ length y → begin < 2 ^ 32 → number_of (with_first begin y) FIRST_OVER ≡ cond (number_at y 572 4 == 0) begin (number_at y 572 4)
 first-value begin y long small = by (number_at y 572 4 == 0)
   where
     by : (b : Bool) → number_at (cond b (put 572 (to_be_bytes w32 begin) y) y) 572 4 ≡ cond b begin (number_at y 572 4)
     by true = number_put4 572 begin y (omega (arith, long)) (omega (arith, small))
     by false = refl
 
-more-value : (y : List ℕ) → 580 ≤ length y → number_of y OVER_COUNT ≤ 255 → number_of (with_one_more y) OVER_COUNT ≡ min 255 (number_of y OVER_COUNT + 1)
+pub more-value : (y : List ℕ) → 580 ≤ length y → number_of y OVER_COUNT ≤ 255 → number_of (with_one_more y) OVER_COUNT ≡ min 255 (number_of y OVER_COUNT + 1)
 more-value y long few = by (nat_lt (number_at y 576 4) 255) refl
   where
     by : (b : Bool) → nat_lt (number_at y 576 4) 255 ≡ b → number_at (cond b (put 576 (to_be_bytes w32 (number_at y 576 4 + 1)) y) y) 576 4 ≡ min 255 (number_at y 576 4 + 1)
@@ -178,19 +178,19 @@ more-value y long few = by (nat_lt (number_at y 576 4) 255) refl
     by false more = let large : 255 ≤ number_at y 576 4 = ltb-false (number_at y 576 4) 255 more in omega (arith, large, few)
 
 module _ (begin : ℕ) (front x : List ℕ) (long : length x ≡ 2485808) where
-  tables-first : (y c : List ℕ) → 580 ≤ length y → c ≡ with_first begin y → (kind : ℕ) → table_in kind c ≡ table_in kind y
+  pub tables-first : (y c : List ℕ) → 580 ≤ length y → c ≡ with_first begin y → (kind : ℕ) → table_in kind c ≡ table_in kind y
   tables-first y c some is kind =
       let low = (table_inside kind).0 in
       ap (table_in kind) is ∙ table-apart kind 572 4 y (with_first begin y) (first-outside begin y some) (inr (before-tables (table_of kind).base 572 low first-low))
 
-  tables-both : (y c : List ℕ) → 580 ≤ length y → c ≡ with_one_more (with_first begin y) → (kind : ℕ) → table_in kind c ≡ table_in kind y
+  pub tables-both : (y c : List ℕ) → 580 ≤ length y → c ≡ with_one_more (with_first begin y) → (kind : ℕ) → table_in kind c ≡ table_in kind y
   tables-both y c some is kind =
       let low = (table_inside kind).0 in
       let more : 580 ≤ length (with_first begin y) = omega (arith, some, (first-outside begin y some).same_length) in
       ap (table_in kind) is ∙ table-apart kind 576 4 (with_first begin y) (with_one_more (with_first begin y)) (more-outside (with_first begin y) more) (inr (before-tables (table_of kind).base 576 low count-low))
       ∙ tables-first y (with_first begin y) some refl kind
 
-  enough : (y : List ℕ) → IsEventNoted 0x07 front x y → 580 ≤ length y
+  pub enough : (y : List ℕ) → IsEventNoted 0x07 front x y → 580 ≤ length y
   enough y done = omega (arith, long, done.outside.same_length)
 
   bares-aside : (c : List ℕ) → SameOutside (table_of 0x07).base (size_of (table_of 0x07)) x c → table_in 0x04 c ≡ table_in 0x04 x

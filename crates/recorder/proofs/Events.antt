@@ -11,6 +11,7 @@ use Rattle.tach_media.specs.Medium.{State}
 use Rattle.minute_model.specs.declared.Rule.TheVariants.{Original}
 use Rattle.log_model.specs.declared.lines.Break.{Break}
 use Rattle.log_model.specs.declared.lines.Refused.{Refused}
+use Rattle.log_model.specs.Course.{Visit}
 use Rattle.history_model.specs.Presence.{Start}
 use Rattle.history_model.specs.Book.{Book}
 use Rattle.unit_model.specs.declared.layout.TheConstants.{SPEED_LIMIT}
@@ -69,6 +70,6 @@ not-due Lost h = tt
 pub events-shown : (start : Start) (from first origin : ℕ) (items : List Item) (x y : List ℕ) (breaks : List Break) (refused : List Refused) (unfound next begun : ℕ) (supply : Supply) (book : Book) (unit : State) → IsForUnit items → HasSecond supply →
     Followed Original start from first (seconds_of origin items) (progress breaks unfound next begun supply book) →
     HasNoted x (log_of breaks) (lists_at (number_of x SPEED_LIMIT) (seconds_of origin items) (progress breaks unfound next begun supply book)) unit →
-    unit.may_leave y → (number : Card → List ℕ) (sessions : ℕ → Card → ℕ) (t : Tearing) → ShowsRun number x (record { breaks = breaks; refused = refused; finds = [] }) (seconds_of origin items) sessions t y
+    unit.may_leave y → (number : Card → List ℕ) (sessions : ℕ → Visit → ℕ) (t : Tearing) → ShowsRun number x (record { breaks = breaks; refused = refused; finds = [] }) (seconds_of origin items) sessions t y
 events-shown start from first origin items x y breaks refused unfound next begun supply book unit alone second f noted left number sessions t =
     shows-run (number_of x SPEED_LIMIT) _ breaks refused (seconds_of origin items) f.breaks (trace-selects origin items alone) x y supply next refl (not-due supply second) (noted.shows y left) number sessions t

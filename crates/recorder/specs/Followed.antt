@@ -9,7 +9,7 @@ use Rattle.run_model.specs.declared.Device.{Device}
 use Rattle.run_model.specs.declared.Device.TheVariants.{Unit as Recorder, CardA, CardB}
 use Rattle.log_model.specs.declared.lines.Verdict.{Verdict}
 use Rattle.log_model.specs.Log.{RunLog}
-use Rattle.log_model.specs.Course.{Told, went}
+use Rattle.log_model.specs.Course.{Told, Visit, went}
 use Rattle.event_model.specs.Events.{Tearing}
 use Rattle.history_model.specs.Book.{Book, Follows}
 use Rattle.history_model.specs.Minutes.{HistoryMinute}
@@ -63,7 +63,7 @@ pub record IsFollowed (start : Start) (x : List ℕ) (origin : ℕ) (items : Lis
   pub odometer : (y : List ℕ) → unit.may_leave y → OdometerSafe Original (run_log o) (told_of o origin items) (odometer_at x) y
   -- of each type of event none of which was noted in a second in which a call on the unit failed, each image that a stop may leave
   -- holds those of the run; so it is with the first over speeding and their number
-  pub events : (number : Card → List ℕ) (sessions : ℕ → Card → ℕ) (t : Tearing) (y : List ℕ) → unit.may_leave y → ShowsRun number x (run_log o) (seconds_of origin items) sessions t y
+  pub events : (number : Card → List ℕ) (sessions : ℕ → Visit → ℕ) (t : Tearing) (y : List ℕ) → unit.may_leave y → ShowsRun number x (run_log o) (seconds_of origin items) sessions t y
   pub follows : Follows (history_of start o origin items) (lost_of start o origin items) book
   pub supply : Supply
   pub unfound : ℕ

@@ -1,3 +1,5 @@
 pub mod Reached
 pub mod Lines
 pub mod Moment
+pub mod Telling
+pub mod Failing

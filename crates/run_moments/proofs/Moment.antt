@@ -68,7 +68,7 @@ pub record HasCourse (p : Progress) (s : TraceSecond) (at : Phase) (log : RunLog
   pub judged : (e : Visit) → Contains c.entered e → IsWaiting waits c e ⊎ IsJudgedBy log s.number c e
   pub found_now : AllByRecursion (λ (f : Visit × Verdict). IsBehind at f.0.phase → ⊥) c.found
 
-pub parts-of : (p : Progress) (before : Before) (s : TraceSecond) (at : Phase) (log : RunLog) (waits : List Visit) (mid now : Device → ℕ) → Moment p before s at log waits mid now →
+abbrev pub parts-of : (p : Progress) (before : Before) (s : TraceSecond) (at : Phase) (log : RunLog) (waits : List Visit) (mid now : Device → ℕ) → Moment p before s at log waits mid now →
     HasCourse p s at log waits mid now (course_at log before s at)
 parts-of p before s at log waits mid now m = record {
   number = m.number;
@@ -126,7 +126,7 @@ pub moment-by : (p : Progress) (before : Before) (s : TraceSecond) (at : Phase) 
 moment-by p before s at log waits mid now c is r here h = moment-itself p before s at log waits mid now r here (subst (HasCourse p s at log waits mid now) (sym is) h)
 
 -- THE SECOND BEGINS
-entered-here : (starts : Bool) (slots : Slots) → AllByRecursion (λ (e : Visit). e.phase ≡ In 0) (fresh starts slots).entered
+pub entered-here : (starts : Bool) (slots : Slots) → AllByRecursion (λ (e : Visit). e.phase ≡ In 0) (fresh starts slots).entered
 entered-here false slots = tt
 entered-here true slots = both (visits (In 0) Driver slots) (visits (In 0) CoDriver slots) (one Driver) (one CoDriver)
   where

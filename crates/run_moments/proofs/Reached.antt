@@ -108,7 +108,7 @@ nothing-told rule start from first done p f u le = record {
   found = λ ph slot. found-by p.log u ph slot ∙ ap (map (λ (f : Find). f.verdict)) (no-find p.next u ph slot p.log.finds f.lines.finds le);
 }
 
-goes-itself : (p : Progress) (s : TraceSecond) → s.number ≡ p.next → s.has_power ≡ true → GoesOnBy p p.log s
+abbrev pub goes-itself : (p : Progress) (s : TraceSecond) → s.number ≡ p.next → s.has_power ≡ true → GoesOnBy p p.log s
 goes-itself p s is power = record { number = is; given = power; breaks = ([], sym (append-nil p.log.breaks), tt); finds = ([], sym (append-nil p.log.finds), tt) }
 
 -- THE SECOND BEGINS

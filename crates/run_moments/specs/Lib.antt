@@ -1,3 +1,4 @@
 pub mod Reached
 pub mod Lines
 pub mod Moment
+pub mod Telling

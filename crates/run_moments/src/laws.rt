@@ -1,5 +1,6 @@
 ghost use Rattle.run_moments.specs.Lines.{ASecondIsReached, AnActionIsReached, TheKeepingIsReached, LinesOfTheMoment, WhoSitsIsNotTorn, ATearIsSeen, AFindIsSeen, ARefusalIsSeen};
 ghost use Rattle.run_moments.specs.Moment.{AMomentBegins, AnActionIsRefused, AnActionIsDone, ACardIsPulled};
+ghost use Rattle.run_moments.specs.Telling.{BreakdownsOnly, ACardIsTorn, ATornCardWaitsNoMore, ACardIsJudged, TheKeepingComes, TheSecondEnds, ACutEnds, APowerOnIsCut};
 
 /// A second begins: nothing is told of it yet.
 pub fn a_second_is_reached()
@@ -59,4 +60,44 @@ pub fn an_action_is_done()
 /// A card is pulled out.
 pub fn a_card_is_pulled()
     ensures { ACardIsPulled }
+{}
+
+/// Breakdowns of which nothing is told take nothing away.
+pub fn breakdowns_take_nothing_away()
+    ensures { BreakdownsOnly }
+{}
+
+/// A card is torn out, since a call on it failed.
+pub fn a_card_is_torn()
+    ensures { ACardIsTorn }
+{}
+
+/// A card that is torn out is not judged.
+pub fn a_torn_card_waits_no_more()
+    ensures { ATornCardWaitsNoMore }
+{}
+
+/// A card that entered is judged.
+pub fn a_card_is_judged()
+    ensures { ACardIsJudged }
+{}
+
+/// The keeping comes behind all actions.
+pub fn the_keeping_comes()
+    ensures { TheKeepingComes }
+{}
+
+/// The second ends behind its keeping.
+pub fn the_second_ends()
+    ensures { TheSecondEnds }
+{}
+
+/// A cut ends the second at a moment.
+pub fn a_cut_ends()
+    ensures { ACutEnds }
+{}
+
+/// A power-on fails at once.
+pub fn a_power_on_is_cut()
+    ensures { APowerOnIsCut }
 {}

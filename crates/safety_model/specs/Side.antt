@@ -12,12 +12,13 @@ use Rattle.card_image.specs.Fields.{file_bytes, newest_vehicle, session_time}
 use Rattle.card_image.specs.Own.{own_sizes, own_number}
 use Rattle.event_model.specs.declared.kinds.TheConstants.{CARD_NOT_VALID, TIME_OVERLAP, DRIVING_WITHOUT_CARD, INSERTION_WHILE_DRIVING, SESSION_NOT_CLOSED, OVER_SPEEDING, POWER_INTERRUPTION, CARD_FAULT}
 use Rattle.message_model.specs.Records.{insertion_ring, unit_place_ring}
+use Rattle.log_model.specs.Course.{Visit}
 use Rattle.side_model.specs.Done.{Done, done_of, has_failed_in}
 use Rattle.side_model.specs.Odometer.{SpanFrom, AreSpansFrom, MayStore}
 use Rattle.side_model.specs.Noted.{Note, notes_of, insertions_of, places_of}
 use Rattle.side_model.specs.Rings.{Holder, RingShows, IsInsertion, IsPlace, is_sure_insertion, is_sure_place}
 use Rattle.event_model.specs.Events.{Event, Tearing, AreTorn, seen_of, events_of}
-use Rattle.side_model.specs.Events.{noting_second, AcceptedOnce, AreSessions}
+use Rattle.side_model.specs.Events.{noting_second, AreSessions}
 use Rattle.side_model.specs.Tables.{table_in, AreNoted}
 use Rattle.safety_model.specs.Recording.{Recording, card_image, told_of}
 use Rattle.safety_model.specs.Safe.{Devices, card_of}
@@ -57,12 +58,12 @@ module _ (r : Recording) where
   abbrev pub notes_in : List Note
   notes_in = notes_of r.log done_in
 
-  -- where these session times were found open on the cards that were accepted, by second and card, and the cards were torn out so
-  abbrev pub events_in : (sessions : ℕ → Card → ℕ) → Tearing → (kind : ℕ) → List Event
+  -- where these session times were found open on the cards that were accepted, by second and visit, and the cards were torn out so
+  abbrev pub events_in : (sessions : ℕ → Visit → ℕ) → Tearing → (kind : ℕ) → List Event
   events_in sessions t kind = events_of kind (number_of r.unit SPEED_LIMIT) sessions t r.log r.trace
 
   -- no event of the type was noted in a second in which a call on the unit failed
-  abbrev pub are_sure : (sessions : ℕ → Card → ℕ) → Tearing → (kind : ℕ) → Bool
+  abbrev pub are_sure : (sessions : ℕ → Visit → ℕ) → Tearing → (kind : ℕ) → Bool
   are_sure sessions t kind = list_all (λ e. not (has_failed_in r.log (noting_second e))) (events_in sessions t kind)
 
   -- the vehicle and the time of the newest vehicle entry; zeros without one
@@ -88,15 +89,14 @@ module _ (r : Recording) where
     pub places : IsDense unit_place_ring r.unit →
         RingShows unit_place_ring (is_sure_place r.log spans holder_of) (IsPlace r.log spans holder_of) (places_of notes_in) r.unit x
     -- the session times that were found open on the cards
-    pub sessions : ℕ → Card → ℕ
+    pub sessions : ℕ → Visit → ℕ
     pub are_sessions : AreSessions (λ c. (card_of now c).left_since (card_of began c).clock)
         (λ y. session_time (own_sizes y) y) (told_of r) sessions
     -- what the log does not tell of tears
     pub tearing : Tearing
     pub are_torn : AreTorn tearing (seen_of r.log r.trace)
-    -- events and faults, those of sessions that were not closed where no card was accepted twice in a second; and the first over
-    -- speeding and how many there were
-    pub events : (kind : ℕ) → Contains told_kinds kind → (kind ≡ SESSION_NOT_CLOSED → AcceptedOnce (told_of r)) →
+    -- events and faults, the first over speeding, and how many there were
+    pub events : (kind : ℕ) → Contains told_kinds kind →
         are_sure sessions tearing kind ≡ true →
         AreNoted (λ c. own_number (card_image r c)) (table_in kind r.unit) (events_in sessions tearing kind) (table_in kind x)
     pub first_over : are_sure sessions tearing OVER_SPEEDING ≡ true → number_of x FIRST_OVER

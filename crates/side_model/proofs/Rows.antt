@@ -11,7 +11,7 @@ use Rattle.log_model.specs.declared.lines.Find.{Find}
 use Rattle.log_model.specs.declared.lines.Verdict.{Verdict}
 use Rattle.log_model.specs.declared.lines.Verdict.TheVariants.{Accepted, TimeOverlap}
 use Rattle.log_model.specs.Log.{RunLog, cut_in, is_torn_in, found_in, kept_after}
-use Rattle.log_model.specs.Course.{went}
+use Rattle.log_model.specs.Course.{Visit, went}
 use Rattle.log_model.specs.Spans.{spans_of}
 use Rattle.side_model.specs.Done.{done_of, has_failed_in}
 use Rattle.side_model.specs.Noted.{Accepts, Withdraws, Enters, notes_of, insertions_of}
@@ -28,8 +28,8 @@ abbrev found : (second begun : ℕ) → Verdict → Find
 found second begun verdict = record { second = second; slot = Driver; verdict = verdict; begun = begun }
 
 -- no session was found open
-abbrev none_open : ℕ → Card → ℕ
-none_open second card = 0
+abbrev none_open : ℕ → Visit → ℕ
+none_open second visit = 0
 
 -- no card is torn out as an interruption is noted, and of two that are in one action the driver's is the first
 abbrev plain : Tearing
@@ -90,8 +90,8 @@ unfolding seen_of cut_in is_torn_in found_in kept_after
 cut_events = refl
 
 -- the session that the cut left open is found again: it began when the card was accepted first, and is noted at the power-on
-abbrev left_open : ℕ → Card → ℕ
-left_open second card = cond (nat_eq second 1267401660) 1267401600 0
+abbrev left_open : ℕ → Visit → ℕ
+left_open second visit = cond (nat_eq second 1267401660) 1267401600 0
 
 cut_sessions : map {B = ℕ × ℕ × ℕ} (λ (e : Event). (e.begin, e.end, noting_second e)) (events_of 0x06 90 left_open plain cut (second 1267401600 0 (Insert Driver A ∷ []) ∷ second 1267401601 50 [] ∷ second 1267401659 0 [] ∷ second 1267401660 0 [] ∷ [])) ≡ (1267401600, 1267401660, 1267401660) ∷ []
 unfolding seen_of cut_in is_torn_in found_in kept_after

@@ -1,9 +1,9 @@
 -- When the events and faults of a run are noted on the unit, and which sessions of its cards were found open (profile).
-use Rattle.std.specs.Prelude.{◌≡◌, ℕ, ◌+◌, ◌≤◌, ◌&&◌, ◌||◌, List, Contains, length, filter, nat_eq, if◌then◌else◌}
+use Rattle.std.specs.Prelude.{◌≡◌, ℕ, ◌+◌, ◌||◌, true, List, Contains, nat_eq, if◌then◌else◌}
 use Rattle.trace_model.specs.declared.Card.{Card}
+use Rattle.log_model.specs.declared.lines.Verdict.{Verdict}
 use Rattle.log_model.specs.Log.{is_accepting}
-use Rattle.log_model.specs.Slots.{same_card}
-use Rattle.log_model.specs.Course.{Told}
+use Rattle.log_model.specs.Course.{Told, Visit}
 use Rattle.event_model.specs.declared.kinds.TheConstants.{TIME_OVERLAP, DRIVING_WITHOUT_CARD, OVER_SPEEDING}
 use Rattle.event_model.specs.Events.{Event}
 
@@ -14,15 +14,8 @@ noting_second e =
     if nat_eq e.kind OVER_SPEEDING || nat_eq e.kind DRIVING_WITHOUT_CARD then e.end + 1
     else (if nat_eq e.kind TIME_OVERLAP then e.begin else e.end)
 
--- how often a card was accepted in a second
-abbrev pub acceptances_in : Card → Told → ℕ
-acceptances_in card t = length (filter (λ f. same_card f.0.card card && is_accepting f.1) t.course.found)
-
--- each card was accepted at most once in each of these seconds
-abbrev pub AcceptedOnce : List Told → Type 0
-AcceptedOnce told = (t : Told) (card : Card) → Contains told t → acceptances_in card t ≤ 1
-
 -- where a card was accepted in one of these seconds, some image of it told this session time then
-abbrev pub AreSessions : (images : Card → List ℕ → Type 0) → (session_time : List ℕ → ℕ) → List Told → (ℕ → Card → ℕ) → Type 0
-AreSessions images session_time told sessions = (t : Told) (card : Card) → Contains told t → 1 ≤ acceptances_in card t →
-    (x : List ℕ) × images card x × (session_time x ≡ sessions t.second.number card)
+abbrev pub AreSessions : (images : Card → List ℕ → Type 0) → (session_time : List ℕ → ℕ) → List Told → (ℕ → Visit → ℕ) → Type 0
+AreSessions images session_time told sessions =
+    (t : Told) (f : Visit × Verdict) → Contains told t → Contains t.course.found f → is_accepting f.1 ≡ true →
+    (x : List ℕ) × images f.0.card x × (session_time x ≡ sessions t.second.number f.0)

@@ -1,0 +1,4 @@
+pub mod Groups
+pub mod Pushed
+pub mod Formed
+mod Rows

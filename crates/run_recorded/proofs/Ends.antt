@@ -1,0 +1,114 @@
+-- What a run promises at its end, of what was carried to it.
+use Rattle.std.proofs.Common.{◌≡◌, ◌⊎◌, inl, inr, ⊎_elim, ℕ, ◌<◌, ◌≤◌, List, [], ◌∷◌, ◌++◌, All, Contains, refl, ap, sym, subst, ◌∙◌, arith}
+use Rattle.std.specs.List.{AllByRecursion}
+use Rattle.trace_model.specs.declared.Card.{Card}
+use Rattle.trace_model.specs.Trace.{TraceSecond}
+use Rattle.run_model.specs.declared.Device.{Device}
+use Rattle.tach_media.specs.Medium.{IsCoherent}
+use Rattle.log_model.specs.declared.lines.Break.{Break}
+use Rattle.log_model.specs.declared.lines.Mark.{Mark}
+use Rattle.log_model.specs.declared.lines.Verdict.{Verdict}
+use Rattle.log_model.specs.Log.{RunLog}
+use Rattle.log_model.specs.Course.{Told, Visit, went}
+use Rattle.log_model.specs.Causes.{HasCauses, IsBegun}
+use Rattle.unit_model.specs.Image.{last_kept, odometer_at}
+use Rattle.unit_model.specs.Decoding.{Decodes}
+use Rattle.history_model.specs.Minutes.{HistoryMinute}
+use Rattle.history_model.specs.Book.{Book, all, IsMark}
+use Rattle.unit_course.specs.Legs.{Travel}
+use Rattle.unit_course.specs.Travelled.{MayShow}
+use Rattle.unit_rule.specs.Rule.{Started}
+use Rattle.unit_rule.specs.Odometer.{ShowsOdometer, OdometerSafe}
+use Rattle.unit_rule.proofs.Travelling.{odometer-safe}
+use Rattle.joint_rule.specs.Views.{UnitView, unit_view}
+use Rattle.card_image.specs.Own.{IsOwnValid}
+use Rattle.safety_model.specs.Recording.{Recording, card_image, start_of, told_of}
+use Rattle.safety_model.specs.Cards.{entered, overlaps, MayNotWrite}
+use Rattle.safety_model.specs.Safe.{Devices, card_of, breakdowns_of, IsVerdict, IsSafe, IsCaused}
+use Rattle.run_rule.specs.Found.{found_of}
+use Rattle.run_rule.specs.Cards.{IsUntouched}
+use Rattle.run_rule.specs.Between.{Carried, IsCarried, IsFound, AreBrought, AreUntouched}
+use Rattle.run_rule.proofs.End.{safe-followed}
+use Rattle.run_course.specs.Followed.{Progress, Followed}
+use Rattle.run_course.specs.Caused.{AreCaused}
+use Rattle.run_course.proofs.Travelled.{legs-shown}
+use Rattle.run_brought.specs.Accounts.{so_far}
+use Rattle.run_brought.specs.Going.{StandsFor, AreAccounted}
+use Rattle.run_brought.proofs.Accounts.{last-of}
+use Rattle.run_brought.proofs.Ends.{ends-follow, ends-brought}
+use Rattle.run_moments.proofs.Telling.{each-of}
+use Rattle.run_recorded.specs.Origin.{Origin, rule_of, start_at, first_of, HasRecorded}
+use Rattle.run_recorded.specs.Ends.{recording_by, AreVerdicts, MayBeWritten, AreSpared, IsBeside, EndsRun}
+
+-- accounts are of the recording so far
+accounts-by : (r : Recording) (c : Card) (first : ℕ) (done : List TraceSecond) (p : Progress) (ks : List ℕ) → AreAccounted r c first done p ks → AreAccounted (so_far r done p.log) c first done p ks
+accounts-by r c first done p ks a = record {
+  each = λ u at. let k = a.each u at in (k.0, k.1, let s = k.2 in record { account = s.account; before = s.before; due = s.due; cuts = s.cuts });
+  waits = a.waits;
+}
+
+module _ (o : Origin) (done : List TraceSecond) (p : Progress) (g : Travel) (marks : List Mark) (w : Carried) (began now : Devices) where
+  abbrev r : Recording
+  r = recording_by o done p.log
+
+  module _ (h : HasRecorded o done p g marks (breakdowns_of now) w.brought) (found : IsFound r o.found began) (carried : IsCarried o.found w now) (book : w.book ≡ p.book) (told : w.marks ≡ marks) (beside : IsBeside o done p g now) where
+    unit-began : o.found.unit.began ≡ began.unit.clock
+    unit-began = ap (λ (s : Started). s.began) found.unit
+
+    untouched : AreUntouched r o.found now
+    untouched c never = ⊎_elim
+        (λ as_. as_)
+        (λ may. ⊎_elim
+        (λ bad. absurd (bad may.0))
+        (λ same. absurd (let lt = may.1 in omega (arith, lt, same)))
+        never)
+        (beside.spared c)
+
+    safe : IsCoherent now.unit → ((c : Card) → IsCoherent (card_of now c)) → Decodes o.recording.unit → IsSafe r w.marks began now
+    safe unit_whole card_whole decodes =
+        safe-followed r o.found w began now unit_whole card_whole decodes o.from h.followed.order h.followed.early found (ends-follow r o.from (first_of o) p w.book h.followed refl book) carried
+        (λ c valid. ends-brought r c o.from p w.book (w.brought c) h.followed refl book (accounts-by o.recording c (first_of o) done p (w.brought c) (h.accounts c valid))) untouched
+
+    causes : o.breakdowns ≡ breakdowns_of began → HasCauses (λ c u v. IsVerdict r (now.unit.left_since began.unit.clock) ((card_of now c).left_since (card_of began c).clock) c u v) (breakdowns_of began) (breakdowns_of now) r.trace r.log
+    causes same =
+        let c = subst (λ (f : Device → ℕ). AreCaused f (breakdowns_of now) done p.log) same h.caused.caused in
+        record {
+          refused = c.refused;
+          cut_seconds = c.cut_seconds;
+          off_lines = c.off_lines;
+          failed_cuts = c.failed_cuts;
+          tear_lines = c.tear_lines;
+          failed_tears = c.failed_tears;
+          torn_cards = c.torn_cards;
+          begun = λ b at. each-of (IsBegun done) p.log.breaks b c.begun at;
+          finds = c.finds;
+          judged = c.judged;
+          verdicts = λ t e v at seen.
+              subst (λ (n : ℕ). IsVerdict r (now.unit.left_since n) ((card_of now e.card).left_since (card_of began e.card).clock) e.card t.second.number v) unit-began
+              (subst (λ (n : ℕ). IsVerdict r (now.unit.left_since o.found.unit.began) ((card_of now e.card).left_since n) e.card t.second.number v) (found.clock e.card) (beside.verdicts.each t e v at seen));
+        }
+
+    may-show : (x : List ℕ) → now.unit.may_leave x → (shown : ShowsOdometer (odometer_at o.recording.unit) p.book g x) → MayShow (first_of o) p.book g (last_kept x) shown.leg
+    may-show x on shown =
+        let v : UnitView = unit_view [] [] x in
+        let shows = (carried.unit.unit_holds [] []).now v (x, on, refl) in
+        let first : o.found.unit.first ≡ first_of o = ap (λ (s : Started). s.first) found.unit in
+        record {
+          mark = subst (λ (b : Book). IsMark (first_of o) (all b) (last_kept x)) book
+              (subst (λ (n : ℕ). IsMark n (all w.book) (last_kept x)) first (subst (λ (k : ℕ). IsMark o.found.unit.first (all w.book) k) (last-of [] [] x) shows.mark));
+          low = subst (λ (b : Book). All (λ (i : HistoryMinute). i.minute ≤ last_kept x) b.sure) book (subst (λ (k : ℕ). All (λ (i : HistoryMinute). i.minute ≤ k) w.book.sure) (last-of [] [] x) shows.sure);
+          side = shown.side;
+          behind = shown.behind;
+        }
+
+    odometer : (x : List ℕ) → now.unit.may_leave x → OdometerSafe r.rule r.log (told_of r) (odometer_at r.unit) x
+    odometer x on =
+        odometer-safe (rule_of o) p.log (went p.log done).told (odometer_at o.recording.unit) p.book g now.unit beside.travels
+        (λ y left shown. legs-shown (rule_of o) (start_at o) o.from (first_of o) done p h.followed h.waiting g h.legs (last_kept y) shown.leg (may-show y left shown)) x on
+
+    pub ends-run : IsCoherent now.unit → ((c : Card) → IsCoherent (card_of now c)) → Decodes o.recording.unit → o.breakdowns ≡ breakdowns_of began → EndsRun r marks began now
+    ends-run unit_whole card_whole decodes same = record {
+      safe = subst (λ (ms : List Mark). IsSafe r ms began now) told (safe unit_whole card_whole decodes);
+      caused = record { causes = causes same; complete = h.complete };
+      odometer = odometer;
+    }

@@ -1,0 +1,56 @@
+-- What is carried beside the rules of unit and cards from second to second, and what a run promises at its end (profile).
+use Rattle.std.specs.Prelude.{◌≡◌, ◌⊎◌, ℕ, ◌<◌, List, Contains}
+use Rattle.trace_model.specs.declared.Card.{Card}
+use Rattle.trace_model.specs.Trace.{TraceSecond}
+use Rattle.log_model.specs.declared.lines.Mark.{Mark}
+use Rattle.log_model.specs.declared.lines.Verdict.{Verdict}
+use Rattle.log_model.specs.Log.{RunLog}
+use Rattle.log_model.specs.Course.{Told, Visit}
+use Rattle.unit_model.specs.Image.{odometer_at}
+use Rattle.unit_course.specs.Legs.{Travel}
+use Rattle.unit_rule.specs.Odometer.{OdometerSafe, HasTravelled}
+use Rattle.card_image.specs.Own.{IsOwnValid}
+use Rattle.safety_model.specs.Recording.{Recording, card_image, told_of}
+use Rattle.safety_model.specs.Cards.{entered, overlaps}
+use Rattle.safety_model.specs.Safe.{Devices, card_of, breakdowns_of, IsVerdict, IsSafe, IsCaused}
+use Rattle.run_rule.specs.Found.{found_of}
+use Rattle.run_rule.specs.Cards.{IsUntouched}
+use Rattle.run_rule.specs.Between.{Carried, IsCarried}
+use Rattle.run_course.specs.Followed.{Progress}
+use Rattle.run_brought.specs.Accounts.{so_far}
+use Rattle.run_recorded.specs.Origin.{Origin, HasRecorded}
+
+-- the recording of a run so far
+abbrev pub recording_by : Origin → List TraceSecond → RunLog → Recording
+recording_by o done log = so_far o.recording done log
+
+-- WHAT WAS FOUND OF CARDS so far may be found of them, by the images that the devices have left since the start.
+pub record AreVerdicts (o : Origin) (done : List TraceSecond) (log : RunLog) (d : Devices) : Type 0 where
+  pub each : (t : Told) (e : Visit) (v : Verdict) → Contains (told_of (recording_by o done log)) t → Contains t.course.found (e, v) →
+      IsVerdict (recording_by o done log) (d.unit.left_since o.found.unit.began) ((card_of d e.card).left_since (found_of o.found e.card).began) e.card t.second.number v
+
+-- a card may be written: it was valid, and it entered more often than it was found to tell of a later time
+abbrev pub MayBeWritten : Recording → Card → Type 0
+MayBeWritten r c = IsOwnValid (card_image r c) × (overlaps r c < entered r c)
+
+-- any other is as it was
+abbrev pub AreSpared : Origin → List TraceSecond → RunLog → Devices → Type 0
+AreSpared o done log d = (c : Card) → IsUntouched (found_of o.found c) (card_of d c) ⊎ MayBeWritten (recording_by o done log) c
+
+-- BESIDE WHAT IS RECORDED: what was found of cards, which cards may be written, and the odometer of the unit's images
+pub record IsBeside (o : Origin) (done : List TraceSecond) (p : Progress) (g : Travel) (d : Devices) : Type 0 where
+  pub verdicts : AreVerdicts o done p.log d
+  pub spared : AreSpared o done p.log d
+  pub travels : HasTravelled (odometer_at o.recording.unit) p.book g d.unit
+
+-- WHAT A RUN PROMISES, where its devices began as a recording has them: `began` are they at the opening, `now` at the end.
+pub record EndsRun (r : Recording) (marks : List Mark) (began now : Devices) : Type 0 where
+  -- The crash-safety theorem: every image that a stop may leave of unit or card shows what it held at the start followed by a part of the
+  -- run's history from its front, with every acknowledged minute; and what a card lacks is owed to it.
+  pub safe : IsSafe r marks began now
+  -- Each line of the log has its cause, and what happened has its line; each decided minute is acknowledged, and each entry of a card, but
+  -- where a break came in between.
+  pub caused : IsCaused r marks began now
+  -- The odometer of each image that a stop may leave is the start's and the whole kilometres of each span, up to its last-kept minute or one
+  -- of which the keeping was broken off.
+  pub odometer : (x : List ℕ) → now.unit.may_leave x → OdometerSafe r.rule r.log (told_of r) (odometer_at r.unit) x

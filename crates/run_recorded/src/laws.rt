@@ -1,0 +1,81 @@
+ghost use Rattle.std.specs.Prelude.{◌≡◌, List};
+ghost use Rattle.trace_model.specs.Trace.{TraceSecond};
+ghost use Rattle.log_model.specs.declared.lines.Mark.{Mark};
+ghost use Rattle.unit_model.specs.Decoding.{Decodes};
+ghost use Rattle.unit_course.specs.Legs.{Travel};
+ghost use Rattle.safety_model.specs.Safe.{breakdowns_of};
+ghost use Rattle.run_rule.specs.Between.{Carried, IsCarried, IsFound, devices};
+ghost use Rattle.run_course.specs.Followed.{Progress};
+ghost use Rattle.run_recorded.specs.Origin.{Origin, HasRecorded};
+ghost use Rattle.run_recorded.specs.Ends.{recording_by, IsBeside, EndsRun};
+ghost use Rattle.run_recorded.specs.Seconds.{NothingIsRecorded, WhatWasKeptIsFound, MoreIsRecorded, ASecondIsRecorded, ASecondIsBroken, AFailedPowerOnIsRecorded, QuietSecondsAreRecorded, DarkSecondsAreRecorded, AnOffLineIsRecorded, AnOffCutIsRecorded};
+
+use tach_media::{Chip, Medium};
+
+/// A run begins with nothing recorded.
+pub fn nothing_is_recorded()
+    ensures { NothingIsRecorded }
+{}
+
+/// Power is back, and it is found what was kept.
+pub fn what_was_kept_is_found()
+    ensures { WhatWasKeptIsFound }
+{}
+
+/// Breakdowns of which nothing is told, and further marks, take nothing away.
+pub fn more_is_recorded()
+    ensures { MoreIsRecorded }
+{}
+
+/// One second more with power, all whose decided minutes are kept.
+pub fn a_second_is_recorded()
+    ensures { ASecondIsRecorded }
+{}
+
+/// One second more that is a cut's.
+pub fn a_second_is_broken()
+    ensures { ASecondIsBroken }
+{}
+
+/// Seconds of a minute without actions, of which nothing is told.
+pub fn quiet_seconds_are_recorded()
+    ensures { QuietSecondsAreRecorded }
+{}
+
+/// Seconds after a failed call, up to the minute's end.
+pub fn dark_seconds_are_recorded()
+    ensures { DarkSecondsAreRecorded }
+{}
+
+/// An `off` line while there is no power.
+pub fn an_off_line_is_recorded()
+    ensures { AnOffLineIsRecorded }
+{}
+
+/// An `off` line while there is power.
+pub fn an_off_cut_is_recorded()
+    ensures { AnOffCutIsRecorded }
+{}
+
+/// THE END OF A RUN: what was recorded, and carried by unit and cards, is what a run promises.
+pub fn what_is_recorded_is_promised<M: Medium, C: Chip, D: Chip, N: Medium, E: Chip, F: Chip>(
+    old_unit: &M,
+    old_a: &C,
+    old_b: &D,
+    unit: &N,
+    card_a: &E,
+    card_b: &F,
+)
+    ensures { (o : Origin) (done : List TraceSecond) (p : Progress) (g : Travel) (marks : List Mark) (w : Carried) → Decodes o.recording.unit →
+        IsFound (recording_by o done p.log) o.found (devices (M.state old_unit.now) (C.state old_a.now) (D.state old_b.now)) →
+        o.breakdowns ≡ breakdowns_of (devices (M.state old_unit.now) (C.state old_a.now) (D.state old_b.now)) →
+        HasRecorded o done p g marks (breakdowns_of (devices (N.state unit.now) (E.state card_a.now) (F.state card_b.now))) w.brought →
+        IsCarried o.found w (devices (N.state unit.now) (E.state card_a.now) (F.state card_b.now)) → w.book ≡ p.book → w.marks ≡ marks →
+        IsBeside o done p g (devices (N.state unit.now) (E.state card_a.now) (F.state card_b.now)) →
+        EndsRun (recording_by o done p.log) marks (devices (M.state old_unit.now) (C.state old_a.now) (D.state old_b.now)) (devices (N.state unit.now) (E.state card_a.now) (F.state card_b.now)) }
+{}
+
+/// A power-on that fails at once.
+pub fn a_failed_power_on_is_recorded()
+    ensures { AFailedPowerOnIsRecorded }
+{}
