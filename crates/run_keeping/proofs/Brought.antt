@@ -30,8 +30,8 @@ use Rattle.run_told.proofs.Parts.{both_of, as-rests, of-rests, brought-on, CardO
 use Rattle.run_told.proofs.Noted.{noted-with, go-unit}
 use Rattle.run_keeping.specs.declared.keeper.Keeper.{Keeper}
 use Rattle.run_keeping.specs.Keeping.{Fate, Still, Has, Fell, cabin_by, marks_by}
-use Rattle.run_keeping.specs.Books.{HaveTime, standing_by}
-use Rattle.run_keeping.specs.Owing.{CardOwing, BooksCard, BooksBrought, IsBroughtOrCut, carried_brought, but_to}
+use Rattle.run_keeping.specs.Books.{standing_by}
+use Rattle.run_keeping.specs.Owing.{CardOwing, BooksCard, HasTime, BooksBrought, IsBroughtOrCut, carried_brought, but_to}
 use Rattle.run_keeping.proofs.MarksOn.{unit-none, others-hold}
 use Rattle.run_keeping.proofs.CardBooked.{session-set}
 
@@ -137,7 +137,7 @@ module _ (f : Found) (w : Carried) (owes : Card → List Entry) (cards : Cards) 
   rests-on c Z due rule =
       of-rests f found.two c w.book (w.standing c) V Z (noted-rests (both_of f found.two) c f.unit w.due w.book w.marks (w.standing c) Z whole lit.unit run (as-rests f found.two c w.book (w.standing c) U Z rule.dark))
 
-  off-on : (c : Card) (Z : State) → CardOwing f c w.book (w.standing c) (w.brought c) w.marks (owes c) (session_of cards c) U Z → IsOwnValid (found_of f c).image → CardOff f w c V Z
+  off-on : (c : Card) (Z : State) → CardOwing f c w.book (w.standing c) (w.brought c) w.marks (owes c) (session_of cards c) U Z → IsOwnValid (found_of f c).image → CardOff f w.book (w.standing c) (w.brought c) c V Z
   off-on c Z one valid = record {
     rests = rests-on c Z (owes c) one.rule;
     valid = one.valid;
@@ -181,7 +181,7 @@ cards-by (Has a n) c second cabin = refl
 cards-by Fell c second cabin = refl
 
 -- the cards that were found are those
-found-session : (f : Found) (c : Card) (s : Option Accepted) (cards : Cards) → AreFoundCards f cards → AreFoundCards f (with_session c s cards)
+pub found-session : (f : Found) (c : Card) (s : Option Accepted) (cards : Cards) → AreFoundCards f cards → AreFoundCards f (with_session c s cards)
 found-session f A s cards found = record { two = found.two; named = named; told = told; sizes = found.sizes; entries = found.entries }
   where
     named : (c : Card) → IsOwnValid (found_of f c).image → IfSome (known_of (with_session A s cards) c).number (λ n. card_number_bytes n ≡ (found_of f c).number)
@@ -203,9 +203,9 @@ found-session f B s cards found = record { two = found.two; named = named; told 
 
 -- ---- ALL OF IT
 
-time-of : (c : Card) (V Y Z : State) → HaveTime (arranged c V Y Z) → Y.clock < last_count
-time-of A V Y Z time = time.card_a
-time-of B V Y Z time = time.card_b
+time-of : (c : Card) (V Y Z : State) → HasTime (Some c) (arranged c V Y Z) → Y.clock < last_count
+time-of A V Y Z time = time
+time-of B V Y Z time = time
 
 card-before : (f : Found) (w : Carried) (owes : Card → List Entry) (cards : Cards) (c : Card) (U X Z : State) → IsLitOwing f w owes (arranged c U X Z) → AllGo f w owes cards (arranged c U X Z) → IsOwnValid (found_of f c).image
     → CardOwing f c w.book (w.standing c) (w.brought c) w.marks (owes c) (session_of cards c) U X

@@ -122,7 +122,7 @@ module _ (f : Found) (cards : Cards) (found : AreFoundCards f cards) (w : Carrie
     marks = h.marks;
   }
 
-  off : (k : Card) → IsOwnValid (found_of f k).image → CardOff f w k V (card k)
+  off : (k : Card) → IsOwnValid (found_of f k).image → CardOff f w.book (w.standing k) (w.brought k) k V (card k)
   off k valid = record { rests = dark k valid; valid = h.valid k valid; rises = h.rises k valid; brought = brought k valid; held = go.held k valid }
 
   cut : IsPowerless f w (devices V X Y)

@@ -14,3 +14,5 @@ pub mod MarksOn
 pub mod CardBrought
 pub mod CardBooked
 pub mod Brought
+pub mod DecidedBooked
+pub mod MinuteBooked

@@ -59,13 +59,13 @@ module _ (m : KeptMinute) (present : Present) (says : TellsPresent m present) wh
 
 -- ---- what is put
 
-abbrev both_put : Option Card → Option Card → Entry → Entry → Card → List Entry
+abbrev pub both_put : Option Card → Option Card → Entry → Entry → Card → List Entry
 both_put driver codriver e d = and_put codriver d (and_put driver e owes_nothing)
 
 abbrev said_on : Option Card → Option Card → Entry → Entry → Card → List Entry
 said_on driver codriver e d c = map (λ k. e) (filter (same_card c) (option_to_list driver)) ++ map (λ k. d) (filter (same_card c) (option_to_list codriver))
 
-clash : {T : Type 0} → true ≡ false → T
+pub clash : {T : Type 0} → true ≡ false → T
 clash is = absurd (empty is)
   where
     empty : true ≡ false → ⊥
@@ -95,7 +95,7 @@ one-put a true e d = (Some d, refl)
 one-put true false e d = (Some e, refl)
 one-put false false e d = (None, refl)
 
-this-card : (c : Card) → is_this (Some c) c ≡ true
+pub this-card : (c : Card) → is_this (Some c) c ≡ true
 this-card A = refl
 this-card B = refl
 
@@ -105,7 +105,7 @@ some-put true false e d here is = cc
 some-put false false e d (inl here) is = cc
 some-put false false e d (inr here) is = cc
 
-apart-this : (driver : Option Card) (c : Card) → AreTwo driver (Some c) → is_this driver c ≡ false
+pub apart-this : (driver : Option Card) (c : Card) → AreTwo driver (Some c) → is_this driver c ≡ false
 apart-this None c two = refl
 apart-this (Some k) c two = two
 
@@ -153,7 +153,7 @@ put-at o e d failed cards known U V X Y same are puts =
 abbrev pub told_with : Keeper → Listed Mark → Told
 told_with k marks = record { keeper = k; marks = marks; breaks = record { items = []; room = 0 } }
 
-module _ (m : KeptMinute) (present : Present) (says : TellsPresent m present) (two : AreTwo present.driver present.codriver) (t u : Told) where
+module _ (m : KeptMinute) (present : Present) (says : TellsPresent m present) (two : AreTwo present.driver present.codriver) where
   abbrev i : HistoryMinute
   i = history_minute present m
 
@@ -163,14 +163,14 @@ module _ (m : KeptMinute) (present : Present) (says : TellsPresent m present) (t
   abbrev d : Entry
   d = entry_in m CoDriver
 
-  all-said : (c : Card) → both_put present.driver present.codriver e d c ≡ on_card c i
+  pub all-said : (c : Card) → both_put present.driver present.codriver e d c ≡ on_card c i
   all-said c = both-said present.driver present.codriver e d two c
       ∙ ap (λ (x : Entry). said_on present.driver present.codriver x d c) (entry-said m present says Driver) ∙ ap (λ (x : Entry). said_on present.driver present.codriver (saying m present says Driver (is_some present.driver) (is_some present.codriver)) x c) (entry-said m present says CoDriver)
 
   one : (c : Card) → (o : Option Entry) × (on_card c i ≡ option_to_list o)
   one c = let here = one-put (is_this present.driver c) (is_this present.codriver c) e d in (here.0, sym (all-said c) ∙ here.1)
 
-  says-some : (c : Card) → (is_this present.driver c ≡ true) ⊎ (is_this present.codriver c ≡ true) → on_card c i ≡ [] → ⊥
+  pub says-some : (c : Card) → (is_this present.driver c ≡ true) ⊎ (is_this present.codriver c ≡ true) → on_card c i ≡ [] → ⊥
   says-some c here none = some-put (is_this present.driver c) (is_this present.codriver c) e d here (all-said c ∙ none)
 
   may-driver : (f : Found) (w : Carried) → MayCome f w i → MayPut f present.driver e w owes_nothing
@@ -181,7 +181,7 @@ module _ (m : KeptMinute) (present : Present) (says : TellsPresent m present) (t
       (λ c is. ap (λ (b : Bool). if b then e ∷ [] else []) (apart-this present.driver c (subst (λ (o : Option Card). AreTwo present.driver o) is two)))
       (λ c is. says-some c (inr (ap (λ (o : Option Card). is_this o c) is ∙ this-card c)))
 
-  module _ (U U1 X Y : State) where
+  module _ (t u : Told) (U U1 X Y : State) where
     -- the unit failed in the first
     pub cut-first : BooksPut present.driver e true t.keeper.cabin.cards (devices U X Y) (devices U1 X Y) → BooksOwed present m true t u (devices U X Y) (devices U1 X Y)
     cut-first puts = λ f w may time.

@@ -11,7 +11,7 @@ use Rattle.history_model.specs.Minutes.{HistoryMinute, on_card}
 use Rattle.history_model.specs.Book.{Book, kept}
 use Rattle.joint_rule.specs.Rules.{Standing, CardRule, IsPresent}
 use Rattle.joint_rule.specs.Marked.{of_card, HasBrought}
-use Rattle.safety_model.specs.Safe.{Devices}
+use Rattle.safety_model.specs.Safe.{Devices, card_of}
 use Rattle.unit_rule.specs.Marks.{Holds}
 use Rattle.slot_machine.specs.declared.seats.Present.{Present}
 use Rattle.run_crew.specs.declared.cards.Accepted.{Accepted}
@@ -24,7 +24,7 @@ use Rattle.run_strung.specs.Strung.{IsHeld}
 use Rattle.run_told.specs.Told.{GoesOwing, AreFoundCards, AllGo, owes_nothing, IsLitWith, IsLitOwing, IsPowerless}
 use Rattle.run_keeping.specs.Keeping.{Fate, is_this, marks_by}
 use Rattle.run_keeping.specs.Minutes.{Told, unit_mark}
-use Rattle.run_keeping.specs.Books.{HaveTime, MayBook, history_minute, standing_by, carried_broken}
+use Rattle.run_keeping.specs.Books.{MayBook, history_minute, standing_by, carried_broken}
 
 -- an entry more is put, for the card that was present
 abbrev pub and_put : Option Card → Entry → (Card → List Entry) → Card → List Entry
@@ -97,7 +97,12 @@ BooksCard c said fate cards cards_after unit card card_after = (f : Found) (w : 
     → CardOwing f c w.book (w.standing c) (w.brought c) w.marks (said.entry ∷ []) (session_of cards c) unit card
     → CardOwing f c w.book (standing_by fate said.entry.minute (w.standing c)) (w.brought c) (w.marks ++ marks_by fate (Some c) said.entry.minute) [] (session_of cards_after c) unit card_after
 
+-- the clock of the card that was present does not stand at its last value
+abbrev pub HasTime : Option Card → Devices → Type 0
+HasTime None d = Unit {0}
+HasTime (Some c) d = (card_of d c).clock < last_count
+
 -- AN ENTRY WAS TO BE BROUGHT to a card, of which this became (`bring`)
 abbrev pub BooksBrought : Option Card → Kept → (failed : Bool) → Fate → (cards cards_after : Cards) → (d e : Devices) → Type 0
-BooksBrought present said failed fate cards cards_after d e = (f : Found) (w : Carried) (owes : Card → List Entry) → AreFoundCards f cards → MayBring f present said w owes → IsLitOwing f w owes d → AllGo f w owes cards d → HaveTime e
+BooksBrought present said failed fate cards cards_after d e = (f : Found) (w : Carried) (owes : Card → List Entry) → AreFoundCards f cards → MayBring f present said w owes → IsLitOwing f w owes d → AllGo f w owes cards d → HasTime present e
     → IsBroughtOrCut failed f (carried_brought fate present said.entry.minute w) (but_to present owes) cards_after e

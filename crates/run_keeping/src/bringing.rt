@@ -62,6 +62,7 @@ impl Keeper {
         ensures rows { (card : Card) → HasItsRow self.old.cabin.cards (M.state unit.old) card → OnOk result (HasItsRow self.new.cabin.cards (M.state unit.new) card) }
         ensures card { CardReady (known_of self.new.cabin.cards which) (C.card card.new) (C.state card.new) }
         ensures size { (C.state card.new).size ≡ (C.state card.old).size }
+        ensures clock { (C.state card.old).clock ≤ (C.state card.new).clock }
         ensures broken { HasBroken (C.state card.old) (C.state card.new) (tears_of (session_of self.old.cabin.cards which) - tears_of (session_of self.new.cabin.cards which)) }
         ensures stands { (from : ℕ) (leaving : Option Card) → from ≤ kept.now.entry.minute + 1 → Stands from leaving self.old.cabin → Stands (kept.now.entry.minute + 1) leaving self.new.cabin }
     {
@@ -125,6 +126,8 @@ impl Keeper {
         ensures card_b { CardReady self.new.cabin.cards.b (D.card card_b.new) (D.state card_b.new) }
         ensures size_a { (C.state card_a.new).size ≡ (C.state card_a.old).size }
         ensures size_b { (D.state card_b.new).size ≡ (D.state card_b.old).size }
+        ensures clock_a { (C.state card_a.old).clock ≤ (C.state card_a.new).clock }
+        ensures clock_b { (D.state card_b.old).clock ≤ (D.state card_b.new).clock }
         ensures rows { (card : Card) → HasItsRow self.old.cabin.cards (M.state unit.old) card → OnOk result (HasItsRow self.new.cabin.cards (M.state unit.new) card) }
         ensures stands { (from : ℕ) (leaving : Option Card) → from ≤ kept.now.entry.minute + 1 → Stands from leaving self.old.cabin → Stands (kept.now.entry.minute + 1) leaving self.new.cabin }
     {

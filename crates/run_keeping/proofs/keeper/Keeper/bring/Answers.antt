@@ -1,4 +1,4 @@
-use Rattle.std.proofs.Common.{◌≡◌, ◌∙◌, Bool, Option, Some, ap, sym, subst}
+use Rattle.std.proofs.Common.{rules, ◌≡◌, ◌∙◌, Bool, Option, Some, ap, sym, subst}
 use Rattle.std.specs.Prelude.{is_err}
 use Rattle.trace_model.specs.declared.Card.{Card}
 use Rattle.trace_model.specs.declared.Card.TheVariants.{A, B}
@@ -22,7 +22,7 @@ returns-in-Some-A-clause-brought g c =
     let Y = g.C.Chip.state c.bring_to.new.card in
     let Z = g.D.Chip.state c.args.card_b.now in
     let failed : Bool = is_err c.bring_to.result in
-    let is : c.args.present ≡ Some A = c.in-Some-A.is ∙ ap (λ (card : Card). Some card) c.in-Some-A.field-0-is in
+    let is : c.args.present ≡ Some A = search rules in
     subst (λ (o : Option Card). (fate : Fate) × IsBrought o c.args.kept.now c.args.at failed k v c.args.marks.now c.bring_to.new.marks c.args.breaks.now c.bring_to.new.breaks fate U V (state_at o X Z) (state_at o Y Z)
     × LeavesOnly U V (IsNotingFault fate c.args.at.second (crew_of v.cabin)) × BooksBrought o c.args.kept.now failed fate k.cabin.cards v.cabin.cards (devices U X Z) (devices V Y Z)) (sym is) (
       was.0,
@@ -42,7 +42,7 @@ returns-in-Some-B-clause-brought g c =
     let Y = g.D.Chip.state c.bring_to-in-Some-B.new.card in
     let Z = g.C.Chip.state c.args.card_a.now in
     let failed : Bool = is_err c.bring_to-in-Some-B.result in
-    let is : c.args.present ≡ Some B = c.in-Some-B.is ∙ ap (λ (card : Card). Some card) c.in-Some-B.field-0-is in
+    let is : c.args.present ≡ Some B = search rules in
     subst (λ (o : Option Card). (fate : Fate) × IsBrought o c.args.kept.now c.args.at failed k v c.args.marks.now c.bring_to-in-Some-B.new.marks c.args.breaks.now c.bring_to-in-Some-B.new.breaks fate U V (state_at o Z X) (state_at o Z Y)
     × LeavesOnly U V (IsNotingFault fate c.args.at.second (crew_of v.cabin)) × BooksBrought o c.args.kept.now failed fate k.cabin.cards v.cabin.cards (devices U Z X) (devices V Z Y)) (sym is) (
       was.0,
