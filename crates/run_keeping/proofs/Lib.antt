@@ -7,7 +7,6 @@ pub mod Rounds
 pub mod Decided
 pub mod OnTheCard
 pub mod EntryPut
-pub mod StringMore
 pub mod MinuteOwed
 pub mod MinuteBegun
 pub mod MarksOn

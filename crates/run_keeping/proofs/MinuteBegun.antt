@@ -38,7 +38,7 @@ use Rattle.run_keeping.specs.Keeping.{TellsPresent, act_in, entry_in, is_this}
 use Rattle.run_keeping.specs.Minutes.{Told}
 use Rattle.run_keeping.specs.Books.{history_minute, MayCome, MayBook}
 use Rattle.run_keeping.specs.Owing.{and_put, MayPut, BooksPut, owes_minute, IsOwedOrCut, BooksOwed}
-use Rattle.run_keeping.proofs.EntryPut.{start-same}
+use Rattle.run_keeping.proofs.Counts.{apart-turned}
 use Rattle.run_keeping.proofs.MinuteOwed.{owed-or-cut}
 
 -- ---- what it says
@@ -104,10 +104,6 @@ some-put a true e d here is = cc
 some-put true false e d here is = cc
 some-put false false e d (inl here) is = cc
 some-put false false e d (inr here) is = cc
-
-pub apart-this : (driver : Option Card) (c : Card) → AreTwo driver (Some c) → is_this driver c ≡ false
-apart-this None c two = refl
-apart-this (Some k) c two = two
 
 -- an entry may be put
 may-put : (f : Found) (w : Carried) (i : HistoryMinute) (o : Option Card) (e : Entry) (puts : Card → List Entry) → e.minute ≡ i.minute → MayCome f w i → ((c : Card) → o ≡ Some c → puts c ≡ []) → ((c : Card) → o ≡ Some c → on_card c i ≡ [] → ⊥) → MayPut f o e w puts
@@ -178,7 +174,7 @@ module _ (m : KeptMinute) (present : Present) (says : TellsPresent m present) (t
 
   may-codriver : (f : Found) (w : Carried) → MayCome f w i → MayPut f present.codriver d w (and_put present.driver e owes_nothing)
   may-codriver f w comes = may-put f w i present.codriver d (and_put present.driver e owes_nothing) refl comes
-      (λ c is. ap (λ (b : Bool). if b then e ∷ [] else []) (apart-this present.driver c (subst (λ (o : Option Card). AreTwo present.driver o) is two)))
+      (λ c is. ap (λ (b : Bool). if b then e ∷ [] else []) (apart-turned present.driver present.codriver c is two))
       (λ c is. says-some c (inr (ap (λ (o : Option Card). is_this o c) is ∙ this-card c)))
 
   module _ (t u : Told) (U U1 X Y : State) where

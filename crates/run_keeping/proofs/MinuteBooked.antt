@@ -31,9 +31,10 @@ use Rattle.run_keeping.specs.Keeping.{Fate, Still, TellsPresent, entry_in, kept_
 use Rattle.run_keeping.specs.Minutes.{Round, Told, unit_mark}
 use Rattle.run_keeping.specs.Books.{history_minute, standing_by, carried_after, MayCome, MayBook, HaveTime, IsBooked, BooksMinute}
 use Rattle.run_keeping.specs.Owing.{owes_minute, but_to, carried_kept, carried_brought, HasTime, MayBring, IsBroughtOrCut, BooksBrought, BooksOwed}
+use Rattle.run_keeping.proofs.Counts.{apart-turned}
 use Rattle.run_keeping.proofs.Rounds.{told-of}
 use Rattle.run_keeping.proofs.Brought.{cards-by, found-session}
-use Rattle.run_keeping.proofs.MinuteBegun.{told_with, both_put, clash, this-card, apart-this, all-said, says-some}
+use Rattle.run_keeping.proofs.MinuteBegun.{told_with, both_put, clash, this-card, all-said, says-some}
 
 -- ---- what is carried, by what became of each entry
 
@@ -152,7 +153,7 @@ module _ (m : KeptMinute) (present : Present) (says : TellsPresent m present) (t
   this-codriver c is = ap (λ (o : Option Card). is_this o c) is ∙ this-card c
 
   not-driver : (c : Card) → present.codriver ≡ Some c → is_this present.driver c ≡ false
-  not-driver c is = apart-this present.driver c (subst (λ (o : Option Card). AreTwo present.driver o) is two)
+  not-driver c is = apart-turned present.driver present.codriver c is two
 
   owes-driver : (c : Card) → present.driver ≡ Some c → owes_minute i c ≡ e ∷ []
   owes-driver c is = sym (all-said m present says two c)

@@ -43,7 +43,7 @@ use Rattle.run_told.proofs.Parts.{both_of, of-steps, of-rests, told-one, held-sa
 use Rattle.run_keeping.specs.Minutes.{unit_mark}
 use Rattle.run_keeping.specs.Books.{MayCome, carried_broken}
 use Rattle.run_keeping.specs.Owing.{owes_minute, carried_kept, IsOwedOrCut}
-use Rattle.run_keeping.proofs.StringMore.{held-more}
+use Rattle.run_told.proofs.StringMore.{held-more}
 
 -- ---- what a card is to have, with a minute more
 

@@ -53,7 +53,7 @@ use Rattle.run_told.specs.Told.{AreFoundCards, IsOn, GoesOwing, IsPowered, for_c
 use Rattle.run_told.proofs.Parts.{both_of, as-steps, of-steps, left-one, CardLit, UnitLit, AreParts, MarksLit, parts-of, powered-of, at-card, at-other}
 use Rattle.run_told.proofs.OnCards.{own-valid, valid-own, valid-or, no-marks, own-number-still, Rises, rises-run, none-falls, marks-on, brought-card, held-on, valid-on, bound_of as place_on}
 
-own-sizes-same : (app : Application) (x y : List ℕ) → HaveSameSizes app x y → own_sizes y ≡ own_sizes x
+pub own-sizes-same : (app : Application) (x y : List ℕ) → HaveSameSizes app x y → own_sizes y ≡ own_sizes x
 unfolding own_sizes files_of
 own-sizes-same app x y same = ap application_of same
 
@@ -71,7 +71,7 @@ mark_low : (app : Application) (x : List ℕ) → end_mark app x ≤ newest_minu
 unfolding card_view
 mark_low app x = bound_of app x
 
-newest-low : (app : Application) (x : List ℕ) (word : ℕ) → AreDays 0 (card_days app x) → EndsBy (end_mark app x) (card_days app x) → (card_view app x).word ≤ max word (card_view app x).newest → newest_minute (end_mark app x) (card_days app x) ≤ max word (card_view app x).newest
+pub newest-low : (app : Application) (x : List ℕ) (word : ℕ) → AreDays 0 (card_days app x) → EndsBy (end_mark app x) (card_days app x) → (card_view app x).word ≤ max word (card_view app x).newest → newest_minute (end_mark app x) (card_days app x) ≤ max word (card_view app x).newest
 unfolding card_view
 newest-low app x word are ends low = by (is_open (end_mark app x) (card_days app x)) refl
   where

@@ -38,7 +38,7 @@ follow-later m [] follow = All-nil (λ (e : Entry). m < e.minute)
 follow-later m (e ∷ es) follow = All-cons (λ (e : Entry). m < e.minute) e es follow.0 (follow-later m es (follow-low m e.minute es (omega (arith, follow.0)) follow.1))
 
 -- entries that rise follow a minute where the first does
-rise-follow : (m : ℕ) (e : Entry) (es : List Entry) → m < e.minute → Rise (e ∷ es) → Follow m (e ∷ es)
+pub rise-follow : (m : ℕ) (e : Entry) (es : List Entry) → m < e.minute → Rise (e ∷ es) → Follow m (e ∷ es)
 rise-follow m e [] late rise = (late, tt)
 rise-follow m e (d ∷ es) late rise = (late, rise-follow e.minute d es rise.0 rise.1)
 
