@@ -1,0 +1,11 @@
+//! The actions of a run that need no card to be judged (profile): what is decided is kept, a card is withdrawn or pulled out, and a place is
+//! noted.
+#![tactic(auto)]
+
+mod placing;
+mod settling;
+mod withdrawing;
+
+pub use placing::{note_place, place};
+pub use settling::settle;
+pub use withdrawing::{pull, withdraw};
