@@ -1,3 +1,4 @@
 pub mod Settled
 pub mod Leaving
 pub mod Cabins
+pub mod Bare

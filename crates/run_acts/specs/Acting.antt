@@ -1,5 +1,5 @@
 -- What the actions of a second do that need no card to be judged, by value (profile).
-use Rattle.std.specs.Prelude.{◌≡◌, ◌⊎◌, ℕ, ◌+◌, ◌/◌, ◌<◌, ◌≤◌, Bool, true, false, Option, Some, None, List, [], ◌∷◌, ◌++◌}
+use Rattle.std.specs.Prelude.{◌≡◌, ◌⊎◌, ℕ, ◌+◌, ◌/◌, ◌<◌, ◌≤◌, Bool, true, false, Option, Some, None, IfSome, List, [], ◌∷◌, ◌++◌}
 use Rattle.activity_codec.specs.declared.values.Slot.{Slot}
 use Rattle.trace_model.specs.declared.Card.{Card}
 use Rattle.minute_model.specs.declared.Minute.{Minute}
@@ -32,6 +32,10 @@ pub record IsSettled (at : Moment) (failed : Bool) (old new : Run) (before after
   pub given : (span : Span) → StandsFor old.minutes span → decided_in (settled span) ≡ decided_in span ++ decided
   pub kept : AreKeptUpTo decided at failed (told_of old before) (told_of new after)
   pub outcome : after ≡ record before { marks = after.marks; breaks = after.breaks }
+
+-- a slot is empty, or its card has no session
+abbrev pub IsBareIn : Cabin → Slot → Type 0
+IsBareIn cabin slot = IfSome (seat_in cabin.slots.seats slot) (λ s. session_of cabin.cards s.card ≡ None)
 
 -- ---- a card is withdrawn
 
@@ -127,3 +131,12 @@ pub record IsNotedOn (card : Card) (slot : Slot) (at : Moment) (old new : Run) (
 abbrev pub IsPlaced : Option Card → Slot → Moment → (old new : Run) → (breaks after : Listed Break) → (fell : Bool) → Type 0
 IsPlaced None slot at old new breaks after fell = (new ≡ old) × (after ≡ breaks)
 IsPlaced (Some card) slot at old new breaks after fell = IsNotedOn card slot at old new breaks after fell
+
+-- the begin of the next second, before its actions
+abbrev pub now_moment : Run → Moment
+now_moment run = record { second = run.next; begun = 0; late = false }
+
+-- IT IS NOTED ON THE CARD OF A SLOT, where there is one that is accepted
+abbrev pub IsNotedIn : Option Card → Slot → Moment → (old new : Run) → (breaks after : Listed Break) → (fell : Bool) → Type 0
+IsNotedIn None slot at old new breaks after fell = (new ≡ old) × (after ≡ breaks)
+IsNotedIn (Some card) slot at old new breaks after fell = IsNotedOn card slot at old new breaks after fell

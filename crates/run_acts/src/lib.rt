@@ -2,10 +2,12 @@
 //! noted.
 #![tactic(auto)]
 
+mod gap;
 mod placing;
 mod settling;
 mod withdrawing;
 
+pub use gap::note_gap;
 pub use placing::{note_place, place};
 pub use settling::settle;
 pub use withdrawing::{pull, withdraw};

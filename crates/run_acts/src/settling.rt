@@ -6,7 +6,9 @@ ghost use Rattle.run_keeping.specs.Keeping.{tears_of, most_tears};
 ghost use Rattle.run_power.specs.declared.run.Power.TheVariants.{Lit};
 ghost use Rattle.run_power.specs.Going.{first_second, end_of_seconds, IsHeld, IsGoingOn};
 ghost use Rattle.run_power.specs.Room.{Takes};
-ghost use Rattle.run_acts.specs.Acting.{IsSettled};
+ghost use Rattle.activity_codec.specs.declared.values.Slot.{Slot};
+ghost use Rattle.slot_machine.specs.Calls.{seat_in};
+ghost use Rattle.run_acts.specs.Acting.{IsSettled, IsBareIn};
 
 use run_keeping::Moment;
 use run_outcome::Outcome;
@@ -39,6 +41,7 @@ pub fn settle<M: Medium, C: Chip, D: Chip>(
     ensures held { IsHeld (run.new.next / 60) run.new (M.state unit.new) (C.card card_a.new) (D.card card_b.new) (C.state card_a.new) (D.state card_b.new) }
     ensures going { (leaving : Option Card) → IsGoingOn leaving (run.old.next / 60) run.old (M.state unit.old) (C.card card_a.old) (D.card card_b.old) (C.state card_a.old) (D.state card_b.old)
         → OnOk result (IsGoingOn leaving (run.new.next / 60) run.new (M.state unit.new) (C.card card_a.new) (D.card card_b.new) (C.state card_a.new) (D.state card_b.new)) }
+    ensures bare { OnOk result ((slot : Slot) → IsBareIn run.old.keeper.cabin slot → (seat_in run.new.keeper.cabin.slots.seats slot ≡ seat_in run.old.keeper.cabin.slots.seats slot) × IsBareIn run.new.keeper.cabin slot) }
     ensures takes { Takes 0 0 0 run.old run.new outcome.old outcome.new }
     ensures more { length outcome.old.breaks.items ≤ length outcome.new.breaks.items }
     ensures cause { HasCause (M.state unit.old) (M.state unit.new) (is_err result) }

@@ -13,5 +13,6 @@ pub mod MarksOn
 pub mod CardBrought
 pub mod CardBooked
 pub mod Brought
-pub mod DecidedBooked
 pub mod MinuteBooked
+pub mod DecidedBooked
+pub mod MarksBooked

@@ -76,6 +76,7 @@ power-on_cut rule start from first done p f may s number given mid later more br
       begun = tt;
       told_finds = refl;
       judged = λ e at. inl (record { among = at; none = refl });
+      counted = λ card. omega arith;
       found_now = tt;
     } in (
       told,

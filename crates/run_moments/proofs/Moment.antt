@@ -37,9 +37,9 @@ use Rattle.run_course.proofs.Lookups.{break-more}
 use Rattle.run_course.proofs.Moments.{slot-still, both-still}
 use Rattle.run_moments.specs.Reached.{IsBehind, begun_at, moved_at, course_at, IsUpTo, Reaches, IsTearAt, IsFindAt}
 use Rattle.run_moments.specs.Lines.{times_of, IsTornAt}
-use Rattle.run_moments.specs.Moment.{refused_as, refused_at, find_as, found_at, found_by, IsJudgedBy, IsWaiting, Moment, goes_on, AMomentBegins, AnActionIsRefused, AnActionIsDone, ACardIsPulled, entering_by, pulls}
+use Rattle.run_moments.specs.Moment.{finds_by, refused_as, refused_at, find_as, found_at, found_by, IsJudgedBy, IsWaiting, Moment, goes_on, AMomentBegins, AnActionIsRefused, AnActionIsDone, ACardIsPulled, entering_by, pulls}
 use Rattle.run_moments.proofs.Reached.{push-each, second-reached, action-reached, lines-reached, tear-up_to, refusal-up_to}
-use Rattle.run_moments.proofs.Lines.{tear-begun, tear-other, tear-seen, refusal-seen}
+use Rattle.run_moments.proofs.Lines.{times-append, tear-begun, tear-other, tear-seen, refusal-seen}
 
 -- what is reached
 pub reaches-of : (p : Progress) (before : Before) (s : TraceSecond) (at : Phase) (log : RunLog) (waits : List Visit) (mid now : Device → ℕ) → Moment p before s at log waits mid now → Reaches p s at log
@@ -66,6 +66,7 @@ pub record HasCourse (p : Progress) (s : TraceSecond) (at : Phase) (log : RunLog
   pub begun : AllByRecursion (IsBegun (s ∷ [])) breaks
   pub told_finds : map find_as finds ≡ map (found_at s.number) c.found
   pub judged : (e : Visit) → Contains c.entered e → IsWaiting waits c e ⊎ IsJudgedBy log s.number c e
+  pub counted : (card : Card) → times_of card waits + finds_by card c.found ≤ times_of card c.entered
   pub found_now : AllByRecursion (λ (f : Visit × Verdict). IsBehind at f.0.phase → ⊥) c.found
 
 abbrev pub parts-of : (p : Progress) (before : Before) (s : TraceSecond) (at : Phase) (log : RunLog) (waits : List Visit) (mid now : Device → ℕ) → Moment p before s at log waits mid now →
@@ -90,6 +91,7 @@ parts-of p before s at log waits mid now m = record {
   begun = m.begun;
   told_finds = m.told_finds;
   judged = m.judged;
+  counted = m.counted;
   found_now = m.found_now;
 }
 
@@ -117,6 +119,7 @@ moment-itself p before s at log waits mid now r here h = record {
   begun = h.begun;
   told_finds = h.told_finds;
   judged = h.judged;
+  counted = h.counted;
   found_now = h.found_now;
   waits_here = here;
 }
@@ -166,6 +169,7 @@ moment-begins rule start from first done p f span is s number power mid =
             begun = tt;
             told_finds = refl;
             judged = λ e at. inl (record { among = at; none = refl });
+            counted = λ card. omega arith;
             found_now = tt;
           }),
       r.1,
@@ -210,6 +214,7 @@ refused-more p s n log mid now c fault h =
       begun = h.begun;
       told_finds = h.told_finds;
       judged = λ e at. inr (let j = nobody log s.number c e (h.judged e at) in record { once = j.once; missing = j.missing });
+      counted = h.counted;
       found_now = found-later n c.found h.found_now;
     }
 
@@ -250,8 +255,8 @@ record SameTold (c d : Course) : Type 0 where
   found : d.found ≡ c.found
 
 done-more : (p : Progress) (s : TraceSecond) (n : ℕ) (log : RunLog) (waits : List Visit) (mid now : Device → ℕ) (c d : Course) → HasCourse p s (In n) log [] mid now c → SameTold c d →
-    ((e : Visit) → Contains d.entered e → Contains c.entered e ⊎ (Contains waits e × (e.phase ≡ In (suc n)))) → HasCourse p s (In (suc n)) log waits mid now d
-done-more p s n log waits mid now c d h same enters = record {
+    ((card : Card) → times_of card waits + times_of card c.entered ≤ times_of card d.entered) → ((e : Visit) → Contains d.entered e → Contains c.entered e ⊎ (Contains waits e × (e.phase ≡ In (suc n)))) → HasCourse p s (In (suc n)) log waits mid now d
+done-more p s n log waits mid now c d h same more enters = record {
   number = h.number;
   given = h.given;
   breaks = h.breaks;
@@ -282,6 +287,7 @@ done-more p s n log waits mid now c d h same enters = record {
             ∙ none-found n e.slot c.found h.found_now;
       }))
       (enters e at);
+  counted = λ card. subst (λ (fs : List (Visit × Verdict)). times_of card waits + finds_by card fs ≤ times_of card d.entered) (sym same.found) (let le = h.counted card in let on = more card in omega (arith, le, on));
   found_now = subst (AllByRecursion (λ (f : Visit × Verdict). IsBehind (In (suc n)) f.0.phase → ⊥)) (sym same.found) (found-later n c.found h.found_now);
 }
 
@@ -290,18 +296,19 @@ plain-told c d a b e f = record { refused = a; pulled = b; torn = e; found = f }
 
 done-by : (p : Progress) (s : TraceSecond) (log : RunLog) (mid now : Device → ℕ) (n : ℕ) (a : Action) (c : Course) → pulls a ≡ None → HasCourse p s (In n) log [] mid now c →
     HasCourse p s (In (suc n)) log (entering_by n a) mid now (answered n None a c)
-done-by p s log mid now n (Select slot pick) c none h = done-more p s n log [] mid now c (carried_out n (Select slot pick) c) h (plain-told c (carried_out n (Select slot pick) c) refl refl refl refl) (λ e at. inl at)
+done-by p s log mid now n (Select slot pick) c none h = done-more p s n log [] mid now c (carried_out n (Select slot pick) c) h (plain-told c (carried_out n (Select slot pick) c) refl refl refl refl) (λ card. omega arith) (λ e at. inl at)
 done-by p s log mid now n (Insert slot card) c none h =
     let more : n + 1 ≡ suc n = omega arith in
     done-more p s n log (record { phase = In (suc n); slot = slot; card = card } ∷ []) mid now c (carried_out n (Insert slot card) c) h (plain-told c (carried_out n (Insert slot card) c) refl refl refl refl)
+    (λ other. (let e = times-append other c.entered (record { phase = In (n + 1); slot = slot; card = card } ∷ []) in let same : times_of other (record { phase = In (n + 1); slot = slot; card = card } ∷ []) ≡ times_of other (record { phase = In (suc n); slot = slot; card = card } ∷ []) = refl in omega (arith, e, same)))
     (λ e at. ⊎_elim (λ old. inl old)
     (λ (here : record { phase = In (n + 1); slot = slot; card = card } ≡ e).
     let is : record { phase = In (suc n); slot = slot; card = card } ≡ e = ap (λ (k : ℕ). record { phase = In k; slot = slot; card = card }) (sym more) ∙ here in
     inr (subst (λ (v : Visit). Contains (record { phase = In (suc n); slot = slot; card = card } ∷ []) v) is (Contains-push [] (record { phase = In (suc n); slot = slot; card = card })), ap (λ (v : Visit). v.phase) (sym is)))
     (Contains-push_cases c.entered (record { phase = In (n + 1); slot = slot; card = card }) e at))
-done-by p s log mid now n (Withdraw slot) c none h = done-more p s n log [] mid now c (carried_out n (Withdraw slot) c) h (plain-told c (carried_out n (Withdraw slot) c) refl refl refl refl) (λ e at. inl at)
+done-by p s log mid now n (Withdraw slot) c none h = done-more p s n log [] mid now c (carried_out n (Withdraw slot) c) h (plain-told c (carried_out n (Withdraw slot) c) refl refl refl refl) (λ card. omega arith) (λ e at. inl at)
 done-by p s log mid now n (Pull slot) c none h = absurd (cc)
-done-by p s log mid now n (Place slot ending country region) c none h = done-more p s n log [] mid now c c h (plain-told c c refl refl refl refl) (λ e at. inl at)
+done-by p s log mid now n (Place slot ending country region) c none h = done-more p s n log [] mid now c c h (plain-told c c refl refl refl refl) (λ card. omega arith) (λ e at. inl at)
 
 waits-by : (n : ℕ) (a : Action) → AllByRecursion (λ (e : Visit). e.phase ≡ In (suc n)) (entering_by n a)
 waits-by n (Select slot pick) = tt
@@ -358,6 +365,7 @@ pulled-parts p s n log mid now c slot x sits few h =
       begun = push-each (IsBegun (s ∷ [])) h.breaks b h.begun (λ y at same. (only s y at (suc n) few, λ late. absurd (cc)));
       told_finds = h.told_finds;
       judged = λ e at. inr (let j = nobody log s.number c e (h.judged e at) in record { once = j.once; missing = λ none. torn-more log b s.number e.phase e.slot (j.missing none) });
+      counted = h.counted;
       found_now = found-later n c.found h.found_now;
     }
   where

@@ -42,7 +42,7 @@ use Rattle.run_course.proofs.Told.{lit-power, lit-starts}
 use Rattle.run_course.proofs.Within.{second-ends, cut-ends}
 use Rattle.run_moments.specs.Reached.{IsBehind, begun_at, moved_at, course_at, IsUpTo, Reaches, IsTearAt, IsFindAt}
 use Rattle.run_moments.specs.Lines.{times_of, IsTornAt}
-use Rattle.run_moments.specs.Moment.{refused_as, refused_at, find_as, found_at, found_by, IsJudgedBy, IsWaiting, Moment, goes_on}
+use Rattle.run_moments.specs.Moment.{finds_by, refused_as, refused_at, find_as, found_at, found_by, IsJudgedBy, IsWaiting, Moment, goes_on}
 use Rattle.run_moments.specs.Telling.{IsMore, BreakdownsOnly, BrokeDown, IsOneOut, ACardIsTorn, WaitBut, ATornCardWaitsNoMore, ACardIsJudged, TheKeepingComes, told_with, TheSecondEnds, begun_by, IsLeft, ACutEnds}
 use Rattle.run_moments.proofs.Reached.{at-by, push-each, keeping-reached, lines-reached}
 use Rattle.run_moments.proofs.Lines.{tear-seen, find-seen, who-sits}
@@ -97,6 +97,7 @@ breakdowns-only p before s at log waits mid now later m more =
       begun = h.begun;
       told_finds = h.told_finds;
       judged = h.judged;
+      counted = h.counted;
       found_now = h.found_now;
     })
 
@@ -161,6 +162,7 @@ torn-parts p s at log waits mid now later c d slot b card is broke t h =
             missing = λ none. torn-still log b s.number e.phase e.slot (j.missing (sym (found-same e) ∙ none));
           }))
           (h.judged e (subst (λ (vs : List Visit). Contains vs e) t.is.entered among));
+      counted = λ other. subst (λ (fs : List (Visit × Verdict)). times_of other waits + finds_by other fs ≤ times_of other d.entered) (sym t.is.found) (subst (λ (vs : List Visit). times_of other waits + finds_by other c.found ≤ times_of other vs) (sym t.is.entered) (h.counted other));
       found_now = subst (AllByRecursion (λ (f : Visit × Verdict). IsBehind at f.0.phase → ⊥)) (sym t.is.found) h.found_now;
     }
   where
@@ -179,7 +181,7 @@ card-torn p before s at log waits mid now later m slot b is old card out broke =
 
 -- WHO WAITS
 pub waits-no_more : ATornCardWaitsNoMore
-waits-no_more p before s at log waits fewer mid now m slot torn but here =
+waits-no_more p before s at log waits fewer mid now m slot card torn but here =
     let h = parts-of p before s at log waits mid now m in
     let c : Course = course_at log before s at in
     moment-by p before s at log fewer mid now c refl (reaches-of p before s at log waits mid now m) here
@@ -211,9 +213,10 @@ waits-no_more p before s at log waits fewer mid now m slot torn but here =
                 ap (λ (q : Phase). is_torn_in log s.number q e.slot) (each-of (λ (e : Visit). e.phase ≡ at) waits e m.waits_here w.among)
                 ∙ ap (is_torn_in log s.number at) there ∙ torn;
           }))
-          (but e w.among))
+          (but.others e w.among))
           (λ j. inr j)
           (h.judged e among);
+      counted = λ other. (let le = h.counted other in let few = but.fewer_by other in omega (arith, le, few));
       found_now = h.found_now;
     })
 
@@ -248,6 +251,18 @@ found-more c d v verdict e is b same =
     one : (b : Bool) → map (λ (f : Visit × Verdict). f.1) (cond b ((v, verdict) ∷ []) []) ≡ cond b (verdict ∷ []) []
     one true = refl
     one false = refl
+
+-- how often something was found of a card
+finds-append : (card : Card) (xs ys : List (Visit × Verdict)) → finds_by card (xs ++ ys) ≡ finds_by card xs + finds_by card ys
+finds-append card xs ys =
+    ap length (filter-append (λ (f : Visit × Verdict). same_card card f.0.card) xs ys) ∙ length-append (filter (λ (f : Visit × Verdict). same_card card f.0.card) xs) (filter (λ (f : Visit × Verdict). same_card card f.0.card) ys)
+
+one-find : (card : Card) (v : Visit) (verdict : Verdict) → finds_by card ((v, verdict) ∷ []) ≡ times_of card (v ∷ [])
+one-find card v verdict = by (same_card card v.card)
+  where
+    by : (b : Bool) → length {A = Visit × Verdict} (cond b ((v, verdict) ∷ []) []) ≡ length {A = Card} (cond b (v.card ∷ []) [])
+    by true = refl
+    by false = refl
 
 -- two visits of one place have the same found
 phase-is : (a b : Phase) → same_phase a b ≡ true → a ≡ b
@@ -319,7 +334,7 @@ untold p s at log waits mid now c slot h none =
 
 module _ (p : Progress) (s : TraceSecond) (at : Phase) (log : RunLog) (waits fewer : List Visit) (mid now : Device → ℕ) (c d : Course) (f : Find) (is : IsFindAt s at f) (v : Visit) (place : v.phase ≡ at) (slot : v.slot ≡ f.slot)
     (found : d.found ≡ c.found ++ (v, f.verdict) ∷ []) (fresh_ : found_by c v ≡ []) (entered : d.entered ≡ c.entered) (torn : d.torn ≡ c.torn) (pulled : d.pulled ≡ c.pulled) (refused : d.refused ≡ c.refused)
-    (but : WaitBut f.slot waits fewer) (here : AllByRecursion (λ (e : Visit). e.phase ≡ at) waits) where
+    (but : WaitBut at f.slot v.card waits fewer) (here : AllByRecursion (λ (e : Visit). e.phase ≡ at) waits) where
   judged-one : (e : Visit) → IsWaiting waits c e ⊎ IsJudgedBy log s.number c e → IsWaiting fewer d e ⊎ IsJudgedBy (and_find log f) s.number d e
   judged-one e h = by (same_phase v.phase e.phase && same_slot v.slot e.slot) refl
     where
@@ -346,7 +361,7 @@ module _ (p : Progress) (s : TraceSecond) (at : Phase) (log : RunLog) (waits few
           ap (λ (q : Phase). same_phase q e.phase && same_slot v.slot e.slot) (place ∙ sym ph) ∙ ap (λ (t : Bool). t && same_slot v.slot e.slot) (same-phase e.phase)
           ∙ ap (λ (q : Slot). same_slot q e.slot) (slot ∙ sym there) ∙ tears-self e.slot in
           let clash : true ≡ false = sym yes_ ∙ same in absurd (cc))
-          (but e w.among))
+          (but.others e w.among))
           (λ j. inr (record {
             once = subst (λ (vs : List Verdict). length vs ≤ 1) (sym now_) j.once;
             missing = λ gone. torn-same ∙ j.missing (sym now_ ∙ gone);
@@ -377,10 +392,16 @@ module _ (p : Progress) (s : TraceSecond) (at : Phase) (log : RunLog) (waits few
         ∙ sym (map-append (found_at s.number) c.found ((v, f.verdict) ∷ []))
         ∙ ap (map (found_at s.number)) (sym found);
     judged = λ e among. judged-one e (h.judged e (subst (λ (vs : List Visit). Contains vs e) entered among));
+    counted = λ other. subst (λ (fs : List (Visit × Verdict)). times_of other fewer + finds_by other fs ≤ times_of other d.entered) (sym found)
+        (subst (λ (vs : List Visit). times_of other fewer + finds_by other (c.found ++ (v, f.verdict) ∷ []) ≤ times_of other vs) (sym entered)
+        (let le = h.counted other in let few = but.fewer_by other in let e = finds-append other c.found ((v, f.verdict) ∷ []) in let one = one-find other v f.verdict in let same = here-as other in omega (arith, le, few, e, one, same)));
     found_now = subst (AllByRecursion (λ (f : Visit × Verdict). IsBehind at f.0.phase → ⊥)) (sym found)
         (push-each (λ (f : Visit × Verdict). IsBehind at f.0.phase → ⊥) c.found (v, f.verdict) h.found_now (λ behind. not-behind at (subst (IsBehind at) place behind)));
   }
     where
+      here-as : (other : Card) → times_of other (record { phase = at; slot = f.slot; card = v.card } ∷ []) ≡ times_of other (v ∷ [])
+      here-as other = refl
+
       one-as : find_as f ≡ found_at s.number (v, f.verdict)
       one-as =
           ap (λ (n : ℕ). (n, In f.begun, f.slot, f.verdict)) is.second
@@ -436,6 +457,7 @@ keeping-comes p before s log mid now m =
       begun = h.begun;
       told_finds = h.told_finds;
       judged = h.judged;
+      counted = h.counted;
       found_now = none-behind (course_at log before s (In (length s.actions))).found;
     }
       where

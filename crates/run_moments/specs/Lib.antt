@@ -2,3 +2,4 @@ pub mod Reached
 pub mod Lines
 pub mod Moment
 pub mod Telling
+pub mod Kept

@@ -18,7 +18,7 @@ use Rattle.log_model.specs.declared.lines.Refused.{Refused}
 use Rattle.log_model.specs.declared.lines.SlotFault.{SlotFault}
 use Rattle.log_model.specs.declared.lines.Verdict.{Verdict}
 use Rattle.log_model.specs.Log.{RunLog, Phase, In, Keeping, same_phase, is_torn_in, found_in}
-use Rattle.log_model.specs.Slots.{Sitting, in_slot, refusal}
+use Rattle.log_model.specs.Slots.{Sitting, same_card, in_slot, refusal}
 use Rattle.log_model.specs.Causes.{device_of, is_cut, second_of, tears, places, visit_places, in_the_slot, RoseBy, IsBegun}
 use Rattle.log_model.specs.Course.{Told, Course, Visit, Before, visits, answered, fresh, is_settling, cut_told, went}
 use Rattle.history_model.specs.Presence.{Start}
@@ -45,6 +45,10 @@ find_as f = (f.second, In f.begun, f.slot, f.verdict)
 
 abbrev pub found_at : ℕ → Visit × Verdict → ℕ × Phase × Slot × Verdict
 found_at u f = (u, f.0.phase, f.0.slot, f.1)
+
+-- how often something was found of a card
+abbrev pub finds_by : Card → List (Visit × Verdict) → ℕ
+finds_by card fs = length (filter (λ (f : Visit × Verdict). same_card card f.0.card) fs)
 
 -- what was found of a card that entered, so far
 abbrev pub found_by : Course → Visit → List Verdict
@@ -84,6 +88,8 @@ pub record Moment (p : Progress) (before : Before) (s : TraceSecond) (at : Phase
   pub begun : AllByRecursion (IsBegun (s ∷ [])) breaks
   pub told_finds : map find_as finds ≡ map (found_at s.number) (course_at log before s at).found
   pub judged : (e : Visit) → Contains (course_at log before s at).entered e → IsWaiting waits (course_at log before s at) e ⊎ IsJudgedBy log s.number (course_at log before s at) e
+  -- of a card no more was found than it entered, those aside that wait
+  pub counted : (card : Card) → times_of card waits + finds_by card (course_at log before s at).found ≤ times_of card (course_at log before s at).entered
   pub found_now : AllByRecursion (λ (f : Visit × Verdict). IsBehind at f.0.phase → ⊥) (course_at log before s at).found
   pub waits_here : AllByRecursion (λ (e : Visit). e.phase ≡ at) waits
 

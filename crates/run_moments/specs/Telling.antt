@@ -25,7 +25,7 @@ use Rattle.run_course.specs.Seconds.{GoesOnBy, next_told}
 use Rattle.run_course.specs.Within.{IsFoundOf, not_begun}
 use Rattle.run_course.specs.Caused.{AreNewCauses}
 use Rattle.run_moments.specs.Reached.{course_at, moved_at, IsTearAt, IsFindAt}
-use Rattle.run_moments.specs.Lines.{IsTornAt}
+use Rattle.run_moments.specs.Lines.{times_of, IsTornAt}
 use Rattle.run_moments.specs.Moment.{Moment, goes_on}
 
 -- each device broke down as often as before, or more often
@@ -55,13 +55,14 @@ ACardIsTorn = (p : Progress) (before : Before) (s : TraceSecond) (at : Phase) (l
     × IsTornAt s.number slot (record { phase = at; slot = slot; card = card } ∷ []) (course_at log before s at) (course_at (and_break log b) before s at)
 
 -- the cards that enter wait, but that of a slot
-abbrev pub WaitBut : Slot → (waits fewer : List Visit) → Type 0
-WaitBut slot waits fewer = (e : Visit) → Contains waits e → Contains fewer e ⊎ (e.slot ≡ slot)
+pub record WaitBut (at : Phase) (slot : Slot) (card : Card) (waits fewer : List Visit) : Type 0 where
+  pub others : (e : Visit) → Contains waits e → Contains fewer e ⊎ (e.slot ≡ slot)
+  pub fewer_by : (other : Card) → times_of other fewer + times_of other (record { phase = at; slot = slot; card = card } ∷ []) ≤ times_of other waits
 
 -- A CARD THAT WAITS is torn out before it was judged: it waits no more;
 abbrev pub ATornCardWaitsNoMore : Type 0
 ATornCardWaitsNoMore = (p : Progress) (before : Before) (s : TraceSecond) (at : Phase) (log : RunLog) (waits fewer : List Visit) (mid now : Device → ℕ) →
-    Moment p before s at log waits mid now → (slot : Slot) → is_torn_in log s.number at slot ≡ true → WaitBut slot waits fewer →
+    Moment p before s at log waits mid now → (slot : Slot) (card : Card) → is_torn_in log s.number at slot ≡ true → WaitBut at slot card waits fewer →
     AllByRecursion (λ (e : Visit). e.phase ≡ at) fewer → Moment p before s at log fewer mid now
 
 -- or it is judged, the driver's before the co-driver's.
@@ -70,7 +71,7 @@ ACardIsJudged = (p : Progress) (before : Before) (s : TraceSecond) (at : Phase) 
     Moment p before s at log waits mid now → (f : Find) → IsFindAt s at f → (x : Sitting) → in_slot (course_at log before s at).slots f.slot ≡ Some x →
     found_in log s.number at f.slot ≡ [] → (moved_at log before s at).enters f.slot ≡ true →
     (f.slot ≡ Driver → ((moved_at log before s at).enters CoDriver ≡ false) ⊎ (found_in log s.number at CoDriver ≡ [])) →
-    WaitBut f.slot waits fewer → AllByRecursion (λ (e : Visit). e.phase ≡ at) fewer →
+    WaitBut at f.slot x.card waits fewer → AllByRecursion (λ (e : Visit). e.phase ≡ at) fewer →
     Moment p before s at (and_find log f) fewer mid now
     × IsFoundOf s.number at f.slot f.verdict (course_at log before s at) (course_at (and_find log f) before s at)
 

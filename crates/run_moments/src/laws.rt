@@ -1,6 +1,7 @@
 ghost use Rattle.run_moments.specs.Lines.{ASecondIsReached, AnActionIsReached, TheKeepingIsReached, LinesOfTheMoment, WhoSitsIsNotTorn, ATearIsSeen, AFindIsSeen, ARefusalIsSeen};
 ghost use Rattle.run_moments.specs.Moment.{AMomentBegins, AnActionIsRefused, AnActionIsDone, ACardIsPulled};
 ghost use Rattle.run_moments.specs.Telling.{BreakdownsOnly, ACardIsTorn, ATornCardWaitsNoMore, ACardIsJudged, TheKeepingComes, TheSecondEnds, ACutEnds, APowerOnIsCut};
+ghost use Rattle.run_moments.specs.Kept.{NothingIsDecidedYet, ASelectionIsHeard, ASettlingDecides, NothingElseDecides, AMinuteIsKept, TheSecondIsFed, TheSecondHasDecided, TheCutHasDecided, OneMoreIsTravelled, NothingIsMarkedYet, MarksStay, OneMoreIsMarked, AllAreAcknowledged};
 
 /// A second begins: nothing is told of it yet.
 pub fn a_second_is_reached()
@@ -100,4 +101,69 @@ pub fn a_cut_ends()
 /// A power-on fails at once.
 pub fn a_power_on_is_cut()
     ensures { APowerOnIsCut }
+{}
+
+/// Nothing is decided as a second begins.
+pub fn nothing_is_decided_yet()
+    ensures { NothingIsDecidedYet }
+{}
+
+/// A selection is heard.
+pub fn a_selection_is_heard()
+    ensures { ASelectionIsHeard }
+{}
+
+/// A settling decides the minutes before this one.
+pub fn a_settling_decides()
+    ensures { ASettlingDecides }
+{}
+
+/// Whatever else happens decides nothing.
+pub fn nothing_else_decides()
+    ensures { NothingElseDecides }
+{}
+
+/// A minute is kept with its cards.
+pub fn a_minute_is_kept()
+    ensures { AMinuteIsKept }
+{}
+
+/// The second is fed behind all of its actions.
+pub fn the_second_is_fed()
+    ensures { TheSecondIsFed }
+{}
+
+/// The minutes that a second has decided, as it went.
+pub fn the_second_has_decided()
+    ensures { TheSecondHasDecided }
+{}
+
+/// What was travelled up to the minutes that are kept.
+pub fn one_more_is_travelled()
+    ensures { OneMoreIsTravelled }
+{}
+
+/// Of no minute nothing is to be acknowledged.
+pub fn nothing_is_marked_yet()
+    ensures { NothingIsMarkedYet }
+{}
+
+/// Further marks and tears take nothing away.
+pub fn marks_stay()
+    ensures { MarksStay }
+{}
+
+/// One minute more is acknowledged.
+pub fn one_more_is_marked()
+    ensures { OneMoreIsMarked }
+{}
+
+/// At the second's end all is acknowledged that is to be.
+pub fn all_are_acknowledged()
+    ensures { AllAreAcknowledged }
+{}
+
+/// What a cut's second has decided.
+pub fn the_cut_has_decided()
+    ensures { TheCutHasDecided }
 {}

@@ -1,2 +1,3 @@
 pub mod Seconds
 pub mod Ends
+pub mod Beside

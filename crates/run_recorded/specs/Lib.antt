@@ -1,3 +1,4 @@
 pub mod Origin
 pub mod Seconds
 pub mod Ends
+pub mod Beside

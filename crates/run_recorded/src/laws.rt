@@ -7,6 +7,7 @@ ghost use Rattle.safety_model.specs.Safe.{breakdowns_of};
 ghost use Rattle.run_rule.specs.Between.{Carried, IsCarried, IsFound, devices};
 ghost use Rattle.run_course.specs.Followed.{Progress};
 ghost use Rattle.run_recorded.specs.Origin.{Origin, HasRecorded};
+ghost use Rattle.run_recorded.specs.Beside.{FindsGoOn, NothingIsFound, CardsAreSpared, IdleCardsAreSpared, ASecondTellsMore, FoundTellsNoMore, QuietSecondsTellMore, DarkSecondsTellMore, AnOffLineTellsMore, AnOffCutTellsMore, FewerAreFound};
 ghost use Rattle.run_recorded.specs.Ends.{recording_by, IsBeside, EndsRun};
 ghost use Rattle.run_recorded.specs.Seconds.{NothingIsRecorded, WhatWasKeptIsFound, MoreIsRecorded, ASecondIsRecorded, ASecondIsBroken, AFailedPowerOnIsRecorded, QuietSecondsAreRecorded, DarkSecondsAreRecorded, AnOffLineIsRecorded, AnOffCutIsRecorded};
 
@@ -78,4 +79,87 @@ pub fn what_is_recorded_is_promised<M: Medium, C: Chip, D: Chip, N: Medium, E: C
 /// A power-on that fails at once.
 pub fn a_failed_power_on_is_recorded()
     ensures { AFailedPowerOnIsRecorded }
+{}
+
+/// A second that the trace gives power tells of cards what it tells, behind all others.
+pub fn a_second_tells_more()
+    ensures { ASecondTellsMore }
+{}
+
+/// At a power-on the seconds tell of cards as before.
+pub fn found_tells_no_more()
+    ensures { FoundTellsNoMore }
+{}
+
+/// In quiet seconds no card enters.
+pub fn quiet_seconds_tell_more()
+    ensures { QuietSecondsTellMore }
+{}
+
+/// Nor in those after a failed call.
+pub fn dark_seconds_tell_more()
+    ensures { DarkSecondsTellMore }
+{}
+
+/// Nor in those of an `off` line,
+pub fn an_off_line_tells_more()
+    ensures { AnOffLineTellsMore }
+{}
+
+/// also where it takes the power.
+pub fn an_off_cut_tells_more()
+    ensures { AnOffCutTellsMore }
+{}
+
+/// No more is found of cards than they entered.
+pub fn fewer_are_found()
+    ensures { FewerAreFound }
+{}
+
+/// What was found of cards stays found, and further finds are made.
+pub fn finds_go_on<M: Medium, C: Chip, D: Chip, N: Medium, E: Chip, F: Chip>(
+    old_unit: &M,
+    old_a: &C,
+    old_b: &D,
+    unit: &N,
+    card_a: &E,
+    card_b: &F,
+)
+    ensures { FindsGoOn (devices (M.state old_unit.now) (C.state old_a.now) (D.state old_b.now)) (devices (N.state unit.now) (E.state card_a.now) (F.state card_b.now)) }
+{}
+
+/// Where no card enters nothing is found.
+pub fn nothing_is_found<M: Medium, C: Chip, D: Chip, N: Medium, E: Chip, F: Chip>(
+    old_unit: &M,
+    old_a: &C,
+    old_b: &D,
+    unit: &N,
+    card_a: &E,
+    card_b: &F,
+)
+    ensures { NothingIsFound (devices (M.state old_unit.now) (C.state old_a.now) (D.state old_b.now)) (devices (N.state unit.now) (E.state card_a.now) (F.state card_b.now)) }
+{}
+
+/// Which cards may be written may be written from then on.
+pub fn cards_are_spared<M: Medium, C: Chip, D: Chip, N: Medium, E: Chip, F: Chip>(
+    old_unit: &M,
+    old_a: &C,
+    old_b: &D,
+    unit: &N,
+    card_a: &E,
+    card_b: &F,
+)
+    ensures { CardsAreSpared (devices (M.state old_unit.now) (C.state old_a.now) (D.state old_b.now)) (devices (N.state unit.now) (E.state card_a.now) (F.state card_b.now)) }
+{}
+
+/// So it is where no card enters.
+pub fn idle_cards_are_spared<M: Medium, C: Chip, D: Chip, N: Medium, E: Chip, F: Chip>(
+    old_unit: &M,
+    old_a: &C,
+    old_b: &D,
+    unit: &N,
+    card_a: &E,
+    card_b: &F,
+)
+    ensures { IdleCardsAreSpared (devices (M.state old_unit.now) (C.state old_a.now) (D.state old_b.now)) (devices (N.state unit.now) (E.state card_a.now) (F.state card_b.now)) }
 {}

@@ -1,6 +1,5 @@
 -- A card is accepted: what the log's accounts ask of the minute that the unit had kept last.
-use Rattle.std.proofs.Common.{◌≡◌, ℕ, ◌<◌, ◌≤◌, List, [], ◌++◌, refl, ap, subst, ◌∙◌, sym, arith}
-use Rattle.trace_model.specs.declared.Card.{Card}
+use Rattle.std.proofs.Common.{◌≡◌, ℕ, ◌<◌, List, [], ◌++◌, refl, subst}
 use Rattle.tach_media.specs.Medium.{State}
 use Rattle.log_model.specs.declared.lines.Mark.{Mark}
 use Rattle.unit_model.specs.Image.{last_kept}

@@ -1,5 +1,5 @@
 -- A card is taken out in order.
-use Rattle.std.proofs.Common.{◌≡◌, ◌≢◌, ◌⊎◌, inl, inr, ⊎_elim, ℕ, suc, max, ◌<◌, ◌≤◌, Bool, true, false, cond, Option, Some, None, IfSome, is_some, List, [], ◌∷◌, ◌++◌, length, All, Contains, refl, ap, subst, ◌∙◌, sym, arith}
+use Rattle.std.proofs.Common.{◌≡◌, ◌≢◌, ◌⊎◌, inl, inr, ⊎_elim, ℕ, suc, max, ◌<◌, ◌≤◌, Bool, true, false, cond, Option, Some, None, List, [], length, refl, ap, subst, ◌∙◌, sym, arith}
 use Rattle.std.proofs.lemmas.List.{append-nil}
 use Rattle.activity_codec.specs.declared.entries.Entry.{Entry}
 use Rattle.activity_codec.specs.declared.values.Activity.{Activity}
@@ -9,7 +9,7 @@ use Rattle.tach_media.proofs.Runs.{at_image, if_told, weaken}
 use Rattle.card_layout.specs.declared.files.Application.{Application}
 use Rattle.card_layout.specs.Application.{application_of, IsApplication}
 use Rattle.card_layout.specs.Files.{files_of, image_size_of}
-use Rattle.card_model.specs.Days.{Day, AreDays}
+use Rattle.card_model.specs.Days.{AreDays}
 use Rattle.card_model.specs.Changes.{trimmed}
 use Rattle.card_retention.specs.Entries.{newest_minute, newest_word, EndsBy}
 use Rattle.card_retention.proofs.Newest.{at_mark}
@@ -20,7 +20,7 @@ use Rattle.card_image.specs.View.{CardView, card_view}
 use Rattle.card_image.specs.Own.{own_view, own_sizes, IsOwnValid}
 use Rattle.card_session.specs.Books.{closed}
 use Rattle.card_session.specs.Moments.{IsBook, IsCloseMoment}
-use Rattle.card_session.specs.Sessions.{Session, IsSession, IsOpenBook, book_of}
+use Rattle.card_session.specs.Sessions.{IsSession, IsOpenBook, book_of}
 use Rattle.card_session.specs.Cards.{IsCardClosing, IsCardClosed, MayEnd}
 use Rattle.card_image.specs.Beside.{HaveSameSizes, HaveSameIdentification}
 use Rattle.card_session.proofs.InsertingAgain.{ended_keeps}
@@ -33,7 +33,6 @@ use Rattle.card_image.proofs.Beside.{number_same}
 use Rattle.card_steps.specs.Since.{GoesSince, HoldsSince}
 use Rattle.card_steps.proofs.Since.{later_holds}
 use Rattle.card_steps.proofs.OfCards.{card_close_holds}
-use Rattle.history_model.specs.Book.{Book}
 use Rattle.joint_rule.specs.Views.{UnitView, unit_view, other, newest_with}
 use Rattle.joint_rule.specs.Steps.{IsClosing}
 use Rattle.joint_rule.specs.Device.{LeavesViews}
@@ -48,8 +47,7 @@ use Rattle.run_crew.specs.Cards.{session_of}
 use Rattle.run_rule.specs.Found.{Found, found_of, unit_seen, AnyKept}
 use Rattle.run_rule.specs.Cards.{brought_by}
 use Rattle.run_rule.specs.Between.{Carried}
-use Rattle.run_strung.specs.Strung.{IsHeld}
-use Rattle.run_told.specs.Told.{AreFoundCards, IsOn, GoesOwing, IsPowered, for_card, arranged, with_standing}
+use Rattle.run_told.specs.Told.{AreFoundCards, IsOn, IsPowered, for_card, arranged, with_standing}
 use Rattle.run_told.proofs.Parts.{both_of, as-steps, of-steps, left-one, CardLit, UnitLit, AreParts, MarksLit, parts-of, powered-of, at-card, at-other}
 use Rattle.run_told.proofs.OnCards.{own-valid, valid-own, valid-or, no-marks, own-number-still, Rises, rises-run, none-falls, marks-on, brought-card, held-on, valid-on, bound_of as place_on}
 

@@ -1,5 +1,5 @@
 -- A note on the unit, of an insertion, a withdrawal, a place or an event, and a note on a card: what is carried stands behind it.
-use Rattle.std.proofs.Common.{◌≡◌, ◌≢◌, ◌⊎◌, inl, inr, ⊎_elim, ℕ, suc, max, ◌<◌, ◌≤◌, Bool, true, false, Option, Some, None, IfSome, is_some, List, [], ◌∷◌, ◌++◌, length, All, Contains, refl, ap, subst, ◌∙◌, sym, arith}
+use Rattle.std.proofs.Common.{◌≡◌, ◌≢◌, ◌⊎◌, inl, inr, ℕ, suc, max, ◌≤◌, true, Option, Some, None, IfSome, List, [], length, Contains, ap, subst, ◌∙◌, sym, arith}
 use Rattle.std.proofs.lemmas.List.{append-nil}
 use Rattle.activity_codec.specs.declared.entries.Entry.{Entry}
 use Rattle.trace_model.specs.declared.Card.{Card}
@@ -12,18 +12,17 @@ use Rattle.card_layout.specs.Files.{image_size_of}
 use Rattle.card_image.specs.Judging.{IsValid}
 use Rattle.card_image.specs.View.{CardView}
 use Rattle.card_image.specs.Own.{own_view, own_sizes, IsOwnValid}
-use Rattle.card_session.specs.Sessions.{Session, IsSession, IsValue}
+use Rattle.card_session.specs.Sessions.{IsSession, IsValue}
 use Rattle.card_session.specs.Cards.{MayEnd}
 use Rattle.card_steps.specs.Since.{GoesSince, HoldsSince}
 use Rattle.card_steps.proofs.Since.{beside_holds}
 use Rattle.unit_notes.specs.Journal.{LeavesJournal}
-use Rattle.history_model.specs.Book.{Book}
 use Rattle.joint_rule.specs.Views.{other}
 use Rattle.joint_rule.specs.Device.{LeavesViews}
-use Rattle.joint_rule.specs.Rules.{Standing, In, Out, Torn, since, CardDark, CardRule}
+use Rattle.joint_rule.specs.Rules.{Standing, In, Torn, since, CardDark, CardRule}
 use Rattle.joint_rule.specs.Marked.{of_card, HasBrought}
 use Rattle.safety_model.specs.Safe.{card_of}
-use Rattle.device_steps.specs.Rule.{Both, CardHolds}
+use Rattle.device_steps.specs.Rule.{CardHolds}
 use Rattle.device_steps.specs.CardNotes.{IsNote, IsSound}
 use Rattle.device_steps.proofs.Noted.{noted-holds, noted-card}
 use Rattle.device_steps.proofs.CardNoted.{noted-valid, noted-sizes, noted-own, noted-tears, noted-holds as card-noted}
@@ -34,7 +33,7 @@ use Rattle.run_rule.specs.Found.{Found, found_of, unit_seen, AnyKept}
 use Rattle.run_rule.specs.Cards.{brought_by, CardMarksHold}
 use Rattle.run_rule.specs.Between.{Carried, devices}
 use Rattle.run_strung.specs.Strung.{IsHeld}
-use Rattle.run_told.specs.Told.{AreFoundCards, IsOn, GoesWith, GoesOwing, owes_nothing, AllGo, IsLitWith, IsPowered, IsPowerless, for_card, arranged, with_standing}
+use Rattle.run_told.specs.Told.{AreFoundCards, IsOn, GoesOwing, owes_nothing, AllGo, IsLitWith, IsPowered, IsPowerless, arranged, with_standing}
 use Rattle.run_told.proofs.Parts.{both_of, as-steps, of-steps, CardLit, off-of, UnitLit, AreParts, MarksLit, parts-of, powered-of, powerless-of, owing-of, brought-on, at-card, at-other}
 use Rattle.run_told.proofs.OnCards.{own-number-still, own-valid, valid-own, valid-or, no-marks, time-of, Rises, rises-run, none-falls, marks-on, brought-card, bound_of, held-on, valid-on, told-on}
 use Rattle.run_told.proofs.NotedCard.{note-ends, note-number, note-days, note-mark, note-session_time, note-goes, note-session}

@@ -1,5 +1,5 @@
 -- An event or a place is noted on a card: its string and its session stay.
-use Rattle.std.proofs.Common.{◌≡◌, inl, inr, ⊎_elim, ℕ, ◌+◌, ◌/◌, ◌<◌, ◌≤◌, Option, Some, None, option_map, List, [], ◌∷◌, ◌++◌, length, refl, ap, subst, ◌∙◌, sym, arith}
+use Rattle.std.proofs.Common.{◌≡◌, inl, inr, ⊎_elim, ℕ, ◌+◌, ◌/◌, ◌<◌, ◌≤◌, Option, Some, None, option_map, List, [], ◌∷◌, length, refl, ap, subst, ◌∙◌, sym, arith}
 use Rattle.tach_media.specs.Medium.{bytes_at, SameOutside}
 use Rattle.byte_fields.specs.Images.{big_number}
 use Rattle.tach_media.proofs.Images.{part_after, part_put}
@@ -16,14 +16,14 @@ use Rattle.card_image.specs.Fields.{file, card_number, place_ring, day_string, v
 use Rattle.card_image.specs.Judging.{word_checks, IsValid}
 use Rattle.card_image.specs.Beside.{HaveSameDays, HaveSameVehicles, HaveSameIdentification}
 use Rattle.card_image.proofs.Beside.{days_same, session_same, last_use_same, number_same}
-use Rattle.gated_ring.specs.Ring.{place_of as entry_place, PointsInside, indices, entry_at, is_there, IsShape, IsNewest, size_of as ring_size}
+use Rattle.gated_ring.specs.Ring.{place_of as entry_place, PointsInside, indices, IsNewest, size_of as ring_size}
 use Rattle.gated_ring.proofs.Orders.{Each}
 use Rattle.gated_ring.proofs.Listing.{indices_below}
 use Rattle.gated_ring.proofs.Elsewhere.{points_elsewhere, indices_elsewhere, entry_elsewhere, there_elsewhere}
 use Rattle.cyclic_days.proofs.Elsewhere.{knows_elsewhere}
 use Rattle.cyclic_days.specs.Held.{Knows}
 use Rattle.card_session.specs.Books.{Book}
-use Rattle.card_session.specs.Sessions.{Session, IsSession, KnowsCard, IsOpenBook, newest_in, book_of}
+use Rattle.card_session.specs.Sessions.{Session, IsSession, IsOpenBook, newest_in, book_of}
 use Rattle.card_session.proofs.OnCard.{ring_shape}
 use Rattle.card_steps.specs.Since.{GoesSince}
 use Rattle.card_steps.proofs.Since.{goes_still}

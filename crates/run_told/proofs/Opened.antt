@@ -1,5 +1,5 @@
 -- The opening: each card that is valid holds its string, with what the unit owes to it.
-use Rattle.std.proofs.Common.{◌≡◌, inl, inr, ⊎_elim, ℕ, zero, suc, max, ◌/◌, ◌<◌, ◌≤◌, Bool, true, false, cond, Option, Some, None, is_some, List, [], ◌∷◌, ◌++◌, filter, All, refl, ap, subst, ◌∙◌, sym, arith}
+use Rattle.std.proofs.Common.{◌≡◌, ℕ, zero, suc, max, ◌/◌, ◌<◌, ◌≤◌, Bool, true, false, cond, is_some, List, [], ◌++◌, filter, All, refl, ap, subst, ◌∙◌, sym, arith}
 use Rattle.std.specs.Prelude.{◌&&◌, nat_lt, nat_eq}
 use Rattle.std.proofs.lemmas.Bool.Decides.{nat_tests}
 use Rattle.std.proofs.lemmas.List.{append-nil}
@@ -11,7 +11,6 @@ use Rattle.card_layout.specs.Application.{IsApplication}
 use Rattle.card_model.specs.Changes.{trimmed}
 use Rattle.card_retention.specs.Entries.{newest_word}
 use Rattle.card_image.specs.Fields.{card_days, end_mark, session_time}
-use Rattle.card_image.specs.Judging.{IsValid}
 use Rattle.card_image.specs.View.{CardView, card_view}
 use Rattle.card_image.specs.Own.{own_view, own_sizes, own_number, IsOwnValid}
 use Rattle.card_session.specs.Inserting.{Follow}
@@ -21,20 +20,19 @@ use Rattle.card_steps.specs.Each.{KeepsSince}
 use Rattle.card_steps.proofs.Kept.{holds_kept}
 use Rattle.card_steps.proofs.Small.{card_small, trimmed_small, last_of_small}
 use Rattle.card_steps.proofs.Start.{starts_open, starts_shut}
-use Rattle.owed_model.specs.Owed.{Row}
 use Rattle.history_model.specs.Book.{not_begun}
 use Rattle.history_model.specs.Presence.{CardStart}
 use Rattle.history_model.proofs.Books.{history-none}
-use Rattle.joint_rule.specs.Views.{UnitView, unit_view, row, owed, owed_in, counts, is_session, beyond}
+use Rattle.joint_rule.specs.Views.{UnitView, unit_view, row, owed, counts, is_session, beyond}
 use Rattle.joint_rule.specs.Rules.{Out}
 use Rattle.joint_rule.proofs.Pairs.{owed-above}
 use Rattle.safety_model.specs.Safe.{Devices, card_of}
 use Rattle.device_steps.proofs.OnCard.{own-is, session-is}
 use Rattle.device_steps.proofs.Inserted.{bound_of as bound_in, beyond_shut}
-use Rattle.run_rule.specs.Found.{CardFound, Found, found_of}
+use Rattle.run_rule.specs.Found.{Found, found_of}
 use Rattle.run_rule.specs.Cards.{brought_by}
 use Rattle.run_rule.specs.Between.{IsCarried}
-use Rattle.run_rule.specs.Opening.{BeginsAs, as_found, IsLookedAt, carried_first}
+use Rattle.run_rule.specs.Opening.{BeginsAs, IsLookedAt, carried_first}
 use Rattle.run_rule.proofs.OwedRises.{owed-rises}
 use Rattle.run_strung.specs.Strung.{IsHeld}
 use Rattle.run_told.specs.Told.{IsHeldDark, IsPowerless}
@@ -62,9 +60,6 @@ word-own app x is = ap (λ (a : Application). newest_word (card_days a x)) is
 module _ (f : Found) (c : Card) (u x : List ℕ) (card : State) (whole : IsCoherent card) (begins : BeginsAs x card) (looked : IsLookedAt f c u x card.clock) (valid : IsOwnValid x) (sound : IsApplication (own_sizes x)) (number : (found_of f c).number ≡ own_number x) (bytes : All (λ b. b < 256) x) where
   abbrev view : UnitView
   view = unit_view f.card_a.number f.card_b.number u
-
-  abbrev due : List Entry
-  due = owed c view (own_view x)
 
   said : brought_by c (found_of f c).start not_begun ≡ owed c view (own_view x)
   said = ap (λ (es : List Entry). (found_of f c).start.owed ++ es) (history-none c) ∙ append-nil (found_of f c).start.owed ∙ ap (λ (s : CardStart). s.owed) looked.start

@@ -1,8 +1,8 @@
 -- Power is back: the unit is read, and its last-kept minute found; then it is mended.
-use Rattle.std.proofs.Common.{◌≡◌, ◌≢◌, ◌⊎◌, inl, inr, ⊎_elim, ℕ, suc, max, ◌<◌, ◌≤◌, Bool, true, false, Option, Some, None, IfSome, is_some, List, [], ◌∷◌, ◌++◌, All, Contains, refl, ap, subst, ◌∙◌, sym, arith, append_assoc}
+use Rattle.std.proofs.Common.{◌≡◌, ◌≢◌, inl, ⊎_elim, ℕ, ◌<◌, ◌≤◌, Bool, true, false, Option, Some, None, is_some, List, [], ◌∷◌, ◌++◌, All, Contains, refl, ap, subst, ◌∙◌, sym, arith, append_assoc}
 use Rattle.std.specs.Prelude.{option_to_list}
 use Rattle.std.proofs.lemmas.List.{append-nil}
-use Rattle.std.proofs.lemmas.List.Elements.{All-weaker, All-head, All-contains, Contains-append_left, Contains-append_right, Contains-append_cases}
+use Rattle.std.proofs.lemmas.List.Elements.{All-weaker, All-head, Contains-append_left}
 use Rattle.activity_codec.specs.declared.entries.Entry.{Entry}
 use Rattle.trace_model.specs.declared.Card.{Card}
 use Rattle.trace_model.specs.declared.Card.TheVariants.{A, B}
@@ -10,20 +10,20 @@ use Rattle.tach_media.specs.Medium.{State, IsCoherent, LeavesOnly, Unchanged}
 use Rattle.log_model.specs.declared.lines.Mark.{Mark}
 use Rattle.log_model.specs.Causes.{device_of}
 use Rattle.card_retention.specs.Retains.{Rise}
-use Rattle.card_image.specs.Own.{own_view, own_sizes, IsOwnValid}
+use Rattle.card_image.specs.Own.{own_view, IsOwnValid}
 use Rattle.card_session.specs.Inserting.{Follow}
 use Rattle.card_session.specs.Repairs.{first_minute}
 use Rattle.unit_model.specs.Image.{last_kept}
 use Rattle.history_model.specs.Minutes.{HistoryMinute, card_history, up_to}
-use Rattle.history_model.specs.Presence.{CardStart}
-use Rattle.history_model.specs.Book.{Book, all, found}
+use Rattle.history_model.specs.Book.{Book, found}
 use Rattle.history_model.proofs.Books.{history-append, all-found, up_to-all, up_to-one}
 use Rattle.history_model.proofs.Filters.{all-back}
-use Rattle.joint_rule.specs.Views.{UnitView, unit_view}
+use Rattle.joint_rule.specs.Views.{unit_view}
 use Rattle.joint_rule.specs.Device.{LeavesViews, Nothing}
-use Rattle.joint_rule.specs.Rules.{Standing, Out, since, CardDark, CardRule}
-use Rattle.joint_rule.specs.Marked.{of_card, HasBrought, IsBeside}
+use Rattle.joint_rule.specs.Rules.{Standing, Out}
+use Rattle.joint_rule.specs.Marked.{of_card, IsBeside}
 use Rattle.joint_rule.specs.Filling.{FillsDays}
+use Rattle.joint_rule.proofs.CardLaws.{dark-beside}
 use Rattle.joint_rule.proofs.Holding.{rise-back}
 use Rattle.joint_rule.proofs.Staying.{note-stays}
 use Rattle.joint_rule.proofs.UnitLaws.{sure-found}
@@ -33,7 +33,7 @@ use Rattle.safety_model.specs.Unit.{marks_of}
 use Rattle.unit_rule.specs.Rule.{Started, seen_unit}
 use Rattle.unit_rule.specs.Marks.{Holds}
 use Rattle.unit_rule.proofs.Found.{one-image}
-use Rattle.unit_rule.proofs.Marking.{holds-found}
+use Rattle.unit_rule.proofs.Marking.{holds-found, holds-read}
 use Rattle.unit_rule.proofs.Moves.{shown-last}
 use Rattle.device_steps.specs.Rule.{Both, CardRests, IsTakenUp}
 use Rattle.device_steps.proofs.PowerBack.{found-rests}
@@ -41,13 +41,13 @@ use Rattle.run_crew.specs.declared.cards.Accepted.{Accepted}
 use Rattle.run_crew.specs.declared.cards.Cards.{Cards}
 use Rattle.run_crew.specs.Cards.{session_of}
 use Rattle.run_rule.specs.Found.{CardFound, Found, found_of, unit_seen, AnyKept}
-use Rattle.run_rule.specs.Cards.{brought_by, StringHolds, CardWaits, IsCardHeld, CardMarksHold}
-use Rattle.run_rule.specs.Between.{Carried, IsCarried, devices}
-use Rattle.run_rule.proofs.Waiting.{strung-found}
+use Rattle.run_rule.specs.Cards.{brought_by, CardWaits, IsCardHeld, CardMarksHold}
+use Rattle.run_rule.specs.Between.{Carried, devices}
+use Rattle.run_rule.proofs.Waiting.{comes-beside, strung-found}
 use Rattle.run_strung.specs.Strung.{IsHeld}
 use Rattle.run_strung.proofs.Strung.{held-out}
-use Rattle.run_told.specs.Told.{AreFoundCards, sure_of, IsHeldDark, AllWait, GoesOwing, IsPowered, IsPowerless, arranged}
-use Rattle.run_told.proofs.Parts.{both_of, as-rests, of-rests, of-steps, left-one, held-same, held-dark, held-lit, CardLit, CardOff, AreParts, AreOff, MarksLit, powered-of, powerless-of, brought-on}
+use Rattle.run_told.specs.Told.{carried_found, all_out, AreFoundCards, sure_of, IsHeldDark, AllWait, IsPowered, IsPowerless}
+use Rattle.run_told.proofs.Parts.{both_of, as-rests, of-rests, of-steps, left-one, held-same, held-dark, held-lit, CardLit, CardOff, powered-of, powerless-of, brought-on}
 use Rattle.run_told.proofs.OnCards.{bound_of}
 use Rattle.run_told.proofs.StringMore.{rise-follow, held-more}
 
@@ -112,10 +112,6 @@ beside-nothing U V a b run = record {
   now = λ w on. ⊎_elim (λ was. inl was) (λ one. absurd one.2) (run.now w on);
 }
 
--- what is carried once this minute is found to be the last-kept one
-abbrev pub carried_found : (k : ℕ) → Carried → Carried
-carried_found k w = record w { book = found k w.book }
-
 module _ (f : Found) (w : Carried) (d : Devices) (V : State) (two : f.card_a.number ≢ f.card_b.number) (before : IsCoherent d.unit) (after : IsCoherent V) (wholes : (c : Card) → IsCoherent (card_of d c)) (p : IsPowerless f w d) (run : LeavesOnly d.unit V Unchanged) (works : V.works ≡ true) (x : List ℕ) (is : V.image ≡ Some x) where
   abbrev k : ℕ
   k = last_kept x
@@ -171,10 +167,41 @@ module _ (f : Found) (w : Carried) (d : Devices) (V : State) (two : f.card_a.num
       wait A valid = held-dark f.card_a A (found (last_kept x) w.book) (w.standing A) d.card_a refl (held-one A valid)
       wait B valid = held-dark f.card_b B (found (last_kept x) w.book) (w.standing B) d.card_b refl (held-one B valid)
 
--- ---- THE UNIT IS MENDED, where the calls say this: no card is accepted any more
+-- ---- THE UNIT IS READ, and that failed: nothing is found
 
-abbrev pub all_out : Carried → Carried
-all_out w = record w { standing = λ c. Out }
+module _ (f : Found) (w : Carried) (d : Devices) (V : State) (two : f.card_a.number ≢ f.card_b.number) (before : IsCoherent d.unit) (p : IsPowerless f w d) (run : LeavesOnly d.unit V Unchanged) where
+  unread : LeavesViews (unit_seen f d.unit) (unit_seen f V) Nothing
+  unread = seen-run (unit_view f.card_a.number f.card_b.number) Unchanged Nothing d.unit V before run (λ y e never. absurd never)
+
+  waits : (c : Card) → IsOwnValid (found_of f c).image → CardWaits f c w.book (w.standing c) (w.brought c) V (card_of d c)
+  waits c valid =
+      let was = p.carried.cards c valid in
+      record {
+        rests = dark-beside c (found_of f c).start AnyKept {U = unit_seen f d.unit} {V = unit_seen f V} {X = of_card (card_of d c)} Nothing (found_of f c).began w.book (w.standing c) unread (λ u v never. absurd never) was.rests;
+        string = was.string;
+        comes = comes-beside f c Nothing w.book (w.standing c) d.unit V (card_of d c) (λ u v never. absurd never) unread was.comes;
+        brought = λ n in_. note-stays c (unit_seen f d.unit) (unit_seen f V) (of_card (card_of d c)) (beside-nothing d.unit V f.card_a.number f.card_b.number unread) n (was.brought n in_);
+      }
+
+  pub unread-powerless : IsPowerless f w (devices V d.card_a d.card_b)
+  unread-powerless = record {
+    carried = record { tells = run.tells ∙ p.carried.tells; unit = holds-read f.unit w.due w.book w.marks p.carried.unit before run; cards = cards; marks = marks };
+    wait = wait;
+  }
+    where
+      cards : (c : Card) → IsOwnValid (found_of f c).image → CardWaits f c w.book (w.standing c) (w.brought c) V (card_of (devices V d.card_a d.card_b) c)
+      cards A valid = waits A valid
+      cards B valid = waits B valid
+
+      marks : (c : Card) → CardMarksHold (found_of f c) c w.book w.marks (card_of (devices V d.card_a d.card_b) c)
+      marks A = p.carried.marks A
+      marks B = p.carried.marks B
+
+      wait : AllWait f w (devices V d.card_a d.card_b)
+      wait A valid = p.wait A valid
+      wait B valid = p.wait B valid
+
+-- ---- THE UNIT IS MENDED, where the calls say this: no card is accepted any more
 
 module _ (f : Found) (w : Carried) (cards : Cards) (U V X Y : State) (found_cards : AreFoundCards f cards) (whole : IsCoherent U) (none : w.book.maybe ≡ None) (p : IsPowerless f w (devices U X Y)) (failed : Bool)
     (holds : (s : Started) (due : ℕ) (b : Book) (marks : List Mark) → Holds s due b marks U → Holds s due b marks V)

@@ -1,6 +1,5 @@
 -- A card that is to have an entry more, which it lacks: its string is held still, and so is the rest that is carried of it.
-use Rattle.std.proofs.Common.{◌≡◌, ◌∙◌, ◌⊎◌, inl, inr, ⊎_elim, ℕ, suc, max, ◌<◌, ◌≤◌, false, List, [], ◌∷◌, ◌++◌, All, refl, ap, subst, sym, arith, append_assoc}
-use Rattle.std.proofs.lemmas.List.{append-nil}
+use Rattle.std.proofs.Common.{◌≡◌, ◌∙◌, inl, inr, ⊎_elim, ℕ, suc, max, ◌<◌, ◌≤◌, List, [], ◌∷◌, ◌++◌, All, ap, subst, sym, arith, append_assoc}
 use Rattle.std.proofs.lemmas.List.Elements.{All-nil, All-cons}
 use Rattle.activity_codec.specs.declared.entries.Entry.{Entry}
 use Rattle.trace_model.specs.declared.Card.{Card}
@@ -19,7 +18,7 @@ use Rattle.history_model.specs.Book.{Book}
 use Rattle.joint_rule.specs.Rules.{Standing, since}
 use Rattle.joint_rule.proofs.Holding.{rise-back}
 use Rattle.run_rule.specs.Found.{CardFound}
-use Rattle.run_rule.specs.Cards.{brought_by, counted_to}
+use Rattle.run_rule.specs.Cards.{brought_by}
 use Rattle.run_rule.proofs.Waiting.{counted-more}
 use Rattle.run_strung.specs.Strung.{IsHeld}
 

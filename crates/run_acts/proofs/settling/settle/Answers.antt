@@ -3,13 +3,14 @@ use Rattle.tach_media.proofs.Runs.{on_ok, ok_gives}
 use Rattle.minute_model.specs.declared.Minute.{Minute}
 use Rattle.minute_model.specs.Span.{ungiven_of, end_of, settled}
 use Rattle.run_keeping.specs.Keeping.{most_tears}
-use Rattle.run_keeping.specs.Minutes.{AreDue, AreKeptUpTo, kept_after}
+use Rattle.run_keeping.specs.Minutes.{AreDue, AreKept, AreKeptUpTo, Told, kept_after}
 use Rattle.run_power.specs.declared.run.Run.{Run}
 use Rattle.run_power.specs.declared.run.Power.{Power}
 use Rattle.run_power.specs.Room.{waiting, bare_seats}
 use Rattle.run_power.proofs.Kept.{given-ended, given-rows, kept-going, seats-less, owing-is, owing-sum}
 use Rattle.run_acts.specs.Acting.{told_of}
 use Rattle.run_acts.proofs.Settled.{settled-ungiven, settled-later, settled-decides}
+use Rattle.run_acts.proofs.Bare.{all-bare}
 use Rattle.run_acts.proofs.settling.settle.Goals as goal
 
 pub keep_all-requires-clause-due : goal.keep_all-requires-clause-due
@@ -122,3 +123,13 @@ returns-clause-takes g c =
       finds = omega arith;
       refused = omega arith;
     }
+
+pub returns-clause-bare : goal.returns-clause-bare
+returns-clause-bare g c =
+    on_ok c.keep_all.result (λ well slot h.
+    let o = c.args.outcome.now in
+    let t = told_of c.args.run.now o in
+    let u : Told = record { keeper = c.keep_all.new.self; marks = c.keep_all.new.marks; breaks = c.keep_all.new.breaks } in
+    let kept : AreKept c.args.at c.as_slice.result.now t u = rw well at c.keep_all.ensures.kept in
+    let stays = all-bare c.args.at c.as_slice.result.now t u slot kept h in
+    (stays.seat, stays.bare))

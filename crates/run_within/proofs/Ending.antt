@@ -1,0 +1,250 @@
+-- A second ends: behind it all is recorded.
+use Rattle.run_moments.specs.Lines.{times_of}
+use Rattle.run_moments.specs.Kept.{HasDecided, AreMarkedSoFar}
+use Rattle.std.proofs.Common.{◌≡◌, ◌⊎◌, inl, inr, ⊎_elim, ℕ, zero, suc, ◌+◌, ◌-◌, ◌*◌, ◌/◌, ◌<◌, ◌≤◌, Bool, true, false, ◌||◌, Option, Some, None, is_some, List, [], ◌∷◌, ◌++◌, All, Contains, length, map, refl, ap, sym, subst, ◌∙◌, arith, append-nil, append_assoc}
+use Rattle.std.specs.Prelude.{option_map, option_to_list}
+use Rattle.std.specs.List.{AllByRecursion, list_any}
+use Rattle.std.proofs.lemmas.List.Elements.{All-head, All-tail, Contains-push_cases}
+use Rattle.trace_model.specs.declared.Card.{Card}
+use Rattle.trace_model.specs.declared.Card.TheVariants.{A, B}
+use Rattle.trace_model.specs.declared.Action.{Action}
+use Rattle.trace_model.specs.Trace.{TraceSecond}
+use Rattle.run_model.specs.declared.Device.{Device}
+use Rattle.minute_model.specs.declared.Minute.{Minute}
+use Rattle.minute_model.specs.Span.{Span, fed, ungiven_of}
+use Rattle.minute_rules.specs.Kept.{StandsFor}
+use Rattle.history_model.specs.Growth.{picking, settled_where}
+use Rattle.log_model.specs.declared.lines.Break.{Break}
+use Rattle.log_model.specs.declared.lines.Mark.{Mark}
+use Rattle.log_model.specs.declared.lines.Verdict.{Verdict}
+use Rattle.log_model.specs.Log.{RunLog, Phase, In, Keeping, is_accepting}
+use Rattle.log_model.specs.Slots.{Slots, Sitting, is_accepted}
+use Rattle.log_model.specs.Causes.{second_of}
+use Rattle.log_model.specs.Course.{Told, Went, Course, Visit, powerless, is_settling, fresh, went}
+use Rattle.history_model.specs.Minutes.{HistoryMinute}
+use Rattle.history_model.specs.Presence.{Start}
+use Rattle.history_model.specs.History.{seated, minutes_after, decided_of}
+use Rattle.history_model.specs.Book.{Book, IsMark}
+use Rattle.history_model.proofs.Stilled.{minutes-still}
+use Rattle.unit_course.specs.Lines.{cut_at}
+use Rattle.unit_course.specs.Followed.{Lit, Lost}
+use Rattle.unit_course.specs.Legs.{Travel, stranded_at, all_travelled}
+use Rattle.unit_course.specs.Turn.{begins_with, span_at}
+use Rattle.card_image.specs.Own.{IsOwnValid}
+use Rattle.safety_model.specs.Recording.{card_image}
+use Rattle.safety_model.specs.Safe.{Devices, card_of, breakdowns_of, IsVerdict}
+use Rattle.run_crew.specs.declared.cards.Cards.{Cards}
+use Rattle.run_crew.specs.declared.cabin.Cabin.{Cabin}
+use Rattle.run_crew.specs.Cabin.{with_power_lost}
+use Rattle.run_crew.specs.Cards.{known_of, with_session}
+use Rattle.run_crew.proofs.Sessions.{all_gone}
+use Rattle.run_rule.specs.Found.{Found, found_of}
+use Rattle.run_course.specs.Moments.{and_break}
+use Rattle.run_course.specs.Followed.{Progress, Followed}
+use Rattle.run_course.specs.Seconds.{GoesOnBy, next_told, kept_all, broken_at}
+use Rattle.run_course.specs.Presence.{SlotsTell}
+use Rattle.run_course.specs.Within.{not_begun}
+use Rattle.run_course.specs.Complete.{AllMarked, AreAcknowledged}
+use Rattle.run_course.proofs.New.{are-new}
+use Rattle.run_course.proofs.Presence.{second-gone}
+use Rattle.run_course.proofs.Steps.{now-is, now-told, rules_see}
+use Rattle.run_brought.specs.Going.{acceptances_in, IsTakenAt}
+use Rattle.run_brought.proofs.Going.{sure-kept}
+use Rattle.run_moments.specs.Moment.{Moment, goes_on}
+use Rattle.run_moments.specs.Telling.{begun_by, IsLeft, told_with}
+use Rattle.run_moments.proofs.Reached.{push-each}
+use Rattle.run_moments.proofs.Telling.{second-ends_told}
+use Rattle.run_moments.proofs.Kept.{second-decided, all-acknowledged}
+use Rattle.run_present.specs.Presence.{PresentStand}
+use Rattle.run_present.proofs.Presence.{next-begins}
+use Rattle.run_told.specs.Told.{AreFoundCards}
+use Rattle.run_recorded.specs.Origin.{Origin, rule_of, start_at, first_of, HasRecorded}
+use Rattle.run_recorded.specs.Seconds.{went_on, seated_now, AreTaken}
+use Rattle.run_recorded.specs.Ends.{recording_by, AreVerdicts, MayBeWritten, AreSpared}
+use Rattle.run_recorded.proofs.Seconds.{second-is_recorded}
+use Rattle.run_recorded.proofs.Beside.{second-tells, verdicts-on}
+use Rattle.run_within.specs.Recorded.{Values, progress, carried, Recorded}
+use Rattle.run_within.specs.Within.{Beginning, told_before, course_in, lost_minute, overlaps_by, IsFoundSo, IsSparedSo, Within, passed_values, TheSecondIsOver}
+use Rattle.run_within.proofs.Cutting.{rec-front, marks-all}
+use Rattle.run_within.proofs.Spans.{AreAlike, alike}
+use Rattle.run_within.proofs.Parts.{still, verdict-by, often-by, entered-by_end, overlaps-by_end, HasAccepted, accepted-or, none-next}
+
+module _ (o : Origin) (done : List TraceSecond) (s : TraceSecond) (v : Values) (d : Devices) (w : Within o done s Keeping [] (Some s.speed) [] v d) where
+  abbrev p : Progress
+  p = w.b.run
+
+  abbrev log : RunLog
+  log = v.log
+
+  abbrev c : Course
+  c = course_in w.b done s Keeping log
+
+  abbrev t : Told
+  t = next_told log done s
+
+  abbrev told0 : List Told
+  told0 = told_before w.b done
+
+  abbrev f : Followed (rule_of o) (start_at o) o.from (first_of o) done p
+  f = w.began.followed
+
+  abbrev T : Told
+  T = told_with (begins_with w.b.span) false s c
+
+  ends : t ≡ T
+  ends = (second-ends_told (rule_of o) (start_at o) o.from (first_of o) done p f w.b.span w.lit s log w.b.broken (breakdowns_of d) w.moment).0
+
+  abbrev goes : GoesOnBy p log s
+  goes = goes_on w.moment
+
+  number : t.second.number ≡ p.next
+  number = ap (λ (x : Told). x.second.number) ends ∙ w.moment.number
+
+  course-is : t.course ≡ c
+  course-is = ap (λ (x : Told). x.course) ends
+
+  decides : decided_of (rule_of o) (w.b.span ++ t ∷ []) ≡ decided_of (rule_of o) w.b.span ++ w.ds
+  decides =
+      second-decided (rule_of o) (start_at o) o.from (first_of o) done p f w.b.span w.lit s log goes c w.sp w.ds [] w.new w.decided (ap (λ (x : Told). x.second.picks) ends) (ap (λ (x : Told). x.course.settled) ends) (ap (λ (x : Told). x.second.speed) ends)
+      ∙ ap (λ (xs : List Minute). decided_of (rule_of o) w.b.span ++ xs) (append-nil w.ds)
+
+  new-is : seated_now o log done s p w.ds ≡ w.new
+  new-is =
+      still (start_at o) told0 t p.book.sure p.next w.ds [] number
+      (subst (All (λ (d : Minute). d.minute < p.next / 60)) (sym (append-nil w.ds)) (are-new (rule_of o) (start_at o) o.from (first_of o) done p f w.b.span w.lit w.began.waiting s log goes w.ds decides).over)
+      ∙ sym w.decided.seated_
+
+  found-is : t.course.found ≡ c.found
+  found-is = ap (λ (x : Course). x.found) course-is
+
+  takes : AreTaken o p.book (kept_all (seated_now o log done s p w.ds) p.book) t (seated_now o log done s p w.ds) w.b.brought w.brought
+  takes card valid = (
+    w.more card,
+    ⊎_elim
+        (λ none. inl none)
+        (λ (one : HasAccepted card t.course.found).
+        let there : Contains c.found (one.e, one.v) = subst (λ (fs : List (Visit × Verdict)). Contains fs (one.e, one.v)) found-is one.at in
+        let k = w.finds.taken one.e one.v there one.accepts in
+        inr (
+          k.0,
+          subst (λ (x : Card). Contains (w.brought x) k.0) one.card k.1,
+          subst (λ (is : List HistoryMinute). IsTakenAt (first_of o) p.book (kept_all is p.book) is k.0) (sym new-is) k.2,
+        ))
+        (accepted-or card t),
+  )
+
+  acks : AreAcknowledged v.marks (told0 ++ t ∷ []) p.next t (seated_now o log done s p w.ds)
+  acks = subst (AreAcknowledged v.marks (told0 ++ t ∷ []) p.next t) (sym new-is)
+      (all-acknowledged v.marks told0 t p.next w.new number
+      (subst (λ (n : ℕ). AreMarkedSoFar v.marks told0 t.course n w.new) w.moment.number (subst (λ (x : Course). AreMarkedSoFar v.marks told0 x s.number w.new) (sym course-is) w.marked)))
+
+  abbrev span : List Told
+  span = w.b.span ++ t ∷ []
+
+  abbrev book : Book
+  book = kept_all w.new p.book
+
+  recorded-so : HasRecorded o (done ++ s ∷ []) (went_on log done s w.b.span (seated_now o log done s p w.ds) p) (all_travelled w.ds w.b.travel) v.marks (breakdowns_of d) w.brought
+  recorded-so = second-is_recorded o done p w.b.travel w.b.marks v.marks w.b.broken (breakdowns_of d) w.b.brought w.brought w.began w.b.span w.lit s log w.moment w.ds decides (marks-all w.b.marks v.marks w.stay) acks takes
+
+  recorded : HasRecorded o (done ++ s ∷ []) (progress (passed_values s v) (Lit span) book) (all_travelled w.ds w.b.travel) v.marks (breakdowns_of d) w.brought
+  recorded =
+      let R : Progress → Type 0 = λ (q : Progress). HasRecorded o (done ++ s ∷ []) q (all_travelled w.ds w.b.travel) v.marks (breakdowns_of d) w.brought in
+      subst (λ (n : ℕ). R (record (progress (passed_values s v) (Lit span) book) { unfound = n })) (sym w.unfound)
+      (subst (λ (n : ℕ). R (record (progress (passed_values s v) (Lit span) book) { unfound = p.unfound; next = suc n })) (sym w.next)
+      (subst (λ (is : List HistoryMinute). R (went_on log done s w.b.span is p)) new-is recorded-so))
+
+  told-now : (went log (done ++ s ∷ [])).told ≡ told0 ++ t ∷ []
+  told-now = now-told (rule_of o) (start_at o) o.from (first_of o) done p f.order f.next f.unfound s log goes
+
+  slots-now : (went log (done ++ s ∷ [])).before.slots ≡ t.course.slots
+  slots-now = ap (λ (x : Went). x.before.slots) (now-is (rule_of o) (start_at o) o.from (first_of o) done p f.order f.next f.unfound s log goes)
+
+  verdicts : AreVerdicts o (done ++ s ∷ []) log d
+  verdicts = verdicts-on o done (done ++ s ∷ []) p.log log d d (t ∷ []) p.next w.verdicts (record { unit = λ x h. h; card = λ c x h. h }) (second-tells o done p f s log goes number)
+      (λ x e verdict among seen.
+      let same : t ≡ x = ⊎_elim (λ none. absurd (omega (arith, none.1))) (λ here. here) (Contains-push_cases [] t x among) in
+      subst (λ (y : Told). IsVerdict (recording_by o (done ++ s ∷ []) log) (d.unit.left_since o.found.unit.began) ((card_of d e.card).left_since (found_of o.found e.card).began) e.card y.second.number verdict) same
+      (let there : Contains c.found (e, verdict) = subst (λ (fs : List (Visit × Verdict)). Contains fs (e, verdict)) (ap (λ (y : Told). y.course.found) (sym same) ∙ found-is) seen in
+      let may = w.finds.may e verdict there in
+      let is : t.second.number ≡ s.number = ap (λ (y : Told). y.second.number) ends in
+      let count = often-by o done (done ++ s ∷ []) p.log log t e.card s.number told-now is in
+      subst (λ (n : ℕ). IsVerdict (recording_by o (done ++ s ∷ []) log) (d.unit.left_since o.found.unit.began) ((card_of d e.card).left_since (found_of o.found e.card).began) e.card n verdict) (sym is)
+      (verdict-by o (done ++ s ∷ []) log may.0 (d.unit.left_since o.found.unit.began) ((card_of d e.card).left_since (found_of o.found e.card).began) e.card s.number verdict
+      (let low = may.1 in let same_times = ap (λ (y : Course). times_of e.card y.entered) course-is in omega (arith, low, count, same_times)) may.2)))
+
+  spared : AreSpared o (done ++ s ∷ []) log d
+  spared card = ⊎_elim
+      (λ whole. inl whole)
+      (λ may. inr (
+        may.0,
+        let a = entered-by_end o done (done ++ s ∷ []) p.log log t card told-now in
+            let b = overlaps-by_end o done (done ++ s ∷ []) p.log log t card told-now in
+            let lt = may.1 in
+            let entered_ = ap (λ (y : Course). times_of card y.entered) course-is in
+            let found_ = ap (λ (fs : List (Visit × Verdict)). length (overlaps_by o card fs)) found-is in
+            omega (arith, a, b, lt, entered_, found_),
+      ))
+      (w.spared card)
+
+  -- the span as the rules of minutes have it
+  abbrev seen : Span
+  seen = fed (picking c.picks (settled_where c.settled (span_at (rule_of o) p.next w.b.span))) s.speed
+
+  seen-is : span_at (rule_of o) (suc v.next) span ≡ seen
+  seen-is =
+      ap (λ (n : ℕ). span_at (rule_of o) (suc n) span) w.next
+      ∙ rules_see (rule_of o) (start_at o) o.from (first_of o) done p f w.b.span w.lit s log goes
+      ∙ ap (λ (x : Told). fed (picking x.second.picks (settled_where x.course.settled (span_at (rule_of o) p.next w.b.span))) x.second.speed) ends
+
+  same-span : AreAlike w.sp seen
+  same-span = subst (λ (x : Span). AreAlike x seen) (sym w.decided.span_is) (alike w.decided.times c.settled c.picks (span_at (rule_of o) p.next w.b.span) s.speed w.decided.settles)
+
+  from-is : w.from ≡ ungiven_of (span_at (rule_of o) (suc v.next) span)
+  from-is = (let to = w.until in let e : w.from ≡ ungiven_of w.sp = omega (arith, to) in e) ∙ same-span.ungiven ∙ ap ungiven_of (sym seen-is)
+
+  gone : SlotsTell (start_at o) (told0 ++ T ∷ []) (p.book.sure ++ w.new) [] s.number w.from c.slots v.cabin.slots
+  gone = second-gone (start_at o) told0 (p.book.sure ++ w.new) w.from T v.cabin.slots w.tells
+
+  last-number : s.number ≡ suc v.next - 1
+  last-number = let is = w.moment.number in let next = w.next in omega (arith, is, next)
+
+  tells : SlotsTell (start_at o) (went log (done ++ s ∷ [])).told book.sure [] (suc v.next - 1) (ungiven_of (span_at (rule_of o) (suc v.next) span)) (went log (done ++ s ∷ [])).before.slots v.cabin.slots
+  tells =
+      let U : ℕ = ungiven_of (span_at (rule_of o) (suc v.next) span) in
+      subst (λ (ts : List Told). SlotsTell (start_at o) ts book.sure [] (suc v.next - 1) U (went log (done ++ s ∷ [])).before.slots v.cabin.slots) (sym told-now)
+      (subst (λ (sl : Slots). SlotsTell (start_at o) (told0 ++ t ∷ []) book.sure [] (suc v.next - 1) U sl v.cabin.slots) (sym slots-now)
+      (subst (λ (x : Told). SlotsTell (start_at o) (told0 ++ x ∷ []) book.sure [] (suc v.next - 1) U x.course.slots v.cabin.slots) (sym ends)
+      (subst (λ (is : List HistoryMinute). SlotsTell (start_at o) (told0 ++ T ∷ []) is [] (suc v.next - 1) U c.slots v.cabin.slots) (sym (sure-kept w.new None p.book))
+      (subst (λ (n : ℕ). SlotsTell (start_at o) (told0 ++ T ∷ []) (p.book.sure ++ w.new) [] n U c.slots v.cabin.slots) last-number
+      (subst (λ (n : ℕ). SlotsTell (start_at o) (told0 ++ T ∷ []) (p.book.sure ++ w.new) [] s.number n c.slots v.cabin.slots) from-is gone)))))
+
+  present : PresentStand o.found w.standing (went log (done ++ s ∷ [])).told (fresh false (went log (done ++ s ∷ [])).before.slots) (suc v.next - 1) (ungiven_of (span_at (rule_of o) (suc v.next) span)) v.cabin
+  present =
+      let U : ℕ = ungiven_of (span_at (rule_of o) (suc v.next) span) in
+      subst (λ (ts : List Told). PresentStand o.found w.standing ts (fresh false (went log (done ++ s ∷ [])).before.slots) (suc v.next - 1) U v.cabin) (sym told-now)
+      (subst (λ (sl : Slots). PresentStand o.found w.standing (told0 ++ t ∷ []) (fresh false sl) (suc v.next - 1) U v.cabin) (sym slots-now)
+      (subst (λ (x : Told). PresentStand o.found w.standing (told0 ++ x ∷ []) (fresh false x.course.slots) (suc v.next - 1) U v.cabin) (sym ends)
+      (subst (λ (n : ℕ). PresentStand o.found w.standing (told0 ++ T ∷ []) (fresh false c.slots) n U v.cabin) last-number
+      (subst (λ (n : ℕ). PresentStand o.found w.standing (told0 ++ T ∷ []) (fresh false c.slots) s.number n v.cabin) from-is
+      (next-begins o.found w.standing told0 T s.number s.number w.from v.cabin refl (omega arith) w.present)))))
+
+  pub second-over : Recorded o (done ++ s ∷ []) (Lit span) (passed_values s v) d
+  second-over = record {
+    book = book;
+    travel = all_travelled w.ds w.b.travel;
+    due = w.due;
+    standing = w.standing;
+    brought = w.brought;
+    recorded = recorded;
+    beside = record { verdicts = verdicts; spared = spared; travels = w.travels };
+    found = w.found;
+    early = w.early;
+    held = record {
+      powered = w.powered;
+      due = let late = w.late in let is = from-is in omega (arith, late, is);
+      minutes = subst (λ (x : Span). StandsFor v.minutes x) (sym seen-is) (same-span.stands v.minutes w.minutes);
+      tells = tells;
+      present = present;
+    };
+  }

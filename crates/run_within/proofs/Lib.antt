@@ -1,0 +1,6 @@
+pub mod Parts
+pub mod Cutting
+pub mod Spans
+pub mod Beginning
+pub mod Feeding
+pub mod Ending

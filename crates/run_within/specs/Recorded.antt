@@ -1,0 +1,85 @@
+-- What the recorder with cards carries BETWEEN TWO SECONDS (profile): by its values, its devices, and the seconds of the trace so far.
+use Rattle.std.specs.Prelude.{◌≡◌, ℕ, ◌-◌, ◌/◌, ◌≤◌, false, None, List, [], ◌∷◌}
+use Rattle.trace_model.specs.declared.Card.{Card}
+use Rattle.trace_model.specs.Trace.{TraceSecond}
+use Rattle.minute_model.specs.Span.{ungiven_of}
+use Rattle.minute_rules.specs.Kept.{Kept, StandsFor}
+use Rattle.log_model.specs.declared.lines.Mark.{Mark}
+use Rattle.log_model.specs.Log.{RunLog}
+use Rattle.log_model.specs.Slots.{Slots, is_accepted}
+use Rattle.log_model.specs.Course.{Told, fresh, went}
+use Rattle.history_model.specs.Book.{Book}
+use Rattle.joint_rule.specs.Rules.{Standing}
+use Rattle.unit_course.specs.Followed.{Supply, Lit, Due, Lost}
+use Rattle.unit_course.specs.Legs.{Travel}
+use Rattle.unit_course.specs.Turn.{span_at}
+use Rattle.safety_model.specs.Safe.{Devices, breakdowns_of}
+use Rattle.run_crew.specs.declared.cabin.Cabin.{Cabin}
+use Rattle.run_crew.specs.Cards.{session_of}
+use Rattle.run_rule.specs.Between.{Carried}
+use Rattle.run_course.specs.Followed.{Progress}
+use Rattle.run_course.specs.Presence.{SlotsTell}
+use Rattle.run_told.specs.Told.{AreFoundCards, IsPowered, IsPowerless, AreEarly}
+use Rattle.run_recorded.specs.Origin.{Origin, rule_of, start_at, HasRecorded}
+use Rattle.run_recorded.specs.Ends.{IsBeside}
+use Rattle.run_present.specs.Presence.{PresentStand}
+
+-- what a run has by value, as far as its record speaks of it: the lines and marks of its outcome, slots and sessions, the first break of
+-- which it is not known what was kept, the number of the next second, how many actions the last one had, and the minutes of the span
+pub record Values : Type 0 where
+  pub log : RunLog
+  pub marks : List Mark
+  pub cabin : Cabin
+  pub unfound : ℕ
+  pub next : ℕ
+  pub begun : ℕ
+  pub minutes : Kept
+
+-- how far the run has gone
+abbrev pub progress : Values → Supply → Book → Progress
+progress v supply book = record { log = v.log; unfound = v.unfound; next = v.next; begun = v.begun; supply = supply; book = book; waiting = [] }
+
+-- what is carried of unit and cards
+abbrev pub carried : Values → (due : ℕ) → Book → (Card → Standing) → (brought : Card → List ℕ) → Carried
+carried v due book standing brought = record { due = due; book = book; marks = v.marks; standing = standing; brought = brought }
+
+-- the slots as the log has them
+abbrev pub slots_of : Values → List TraceSecond → Slots
+slots_of v done = (went v.log done).before.slots
+
+-- WHILE THERE IS POWER, with these seconds of the span: unit and cards may be called and are as the book says, the minutes stand for the
+-- span, and who was present in the minutes that are still to be kept is told by the slots, and stands so.
+pub record IsOn (o : Origin) (done : List TraceSecond) (span : List Told) (v : Values) (w : Carried) (d : Devices) : Type 0 where
+  pub powered : IsPowered o.found w v.cabin.cards d
+  pub due : w.due ≤ ungiven_of (span_at (rule_of o) v.next span)
+  pub minutes : StandsFor v.minutes (span_at (rule_of o) v.next span)
+  pub tells : SlotsTell (start_at o) (went v.log done).told w.book.sure [] (v.next - 1) (ungiven_of (span_at (rule_of o) v.next span)) (slots_of v done) v.cabin.slots
+  pub present : PresentStand o.found w.standing (went v.log done).told (fresh false (slots_of v done)) (v.next - 1) (ungiven_of (span_at (rule_of o) v.next span)) v.cabin
+
+-- WITHOUT POWER: no card is accepted, and no minute of before is to be kept any more.
+pub record IsOff (o : Origin) (done : List TraceSecond) (v : Values) (w : Carried) (d : Devices) : Type 0 where
+  pub powerless : IsPowerless o.found w d
+  pub due : w.due ≤ v.next / 60
+  pub tells : SlotsTell (start_at o) (went v.log done).told w.book.sure [] (v.next - 1) (v.next / 60) (slots_of v done) v.cabin.slots
+  pub bare : (c : Card) → session_of v.cabin.cards c ≡ None
+  pub driver : is_accepted (slots_of v done).driver ≡ false
+  pub codriver : is_accepted (slots_of v done).codriver ≡ false
+
+-- a span that goes on has a second; without power there is none
+abbrev pub IsHeldBy : Origin → List TraceSecond → Supply → Values → Carried → Devices → Type 0
+IsHeldBy o done (Lit span) v w d = IsOn o done span v w d
+IsHeldBy o done Due v w d = IsOff o done v w d
+IsHeldBy o done Lost v w d = IsOff o done v w d
+
+-- THE RECORD behind these seconds
+pub record Recorded (o : Origin) (done : List TraceSecond) (supply : Supply) (v : Values) (d : Devices) : Type 0 where
+  pub book : Book
+  pub travel : Travel
+  pub due : ℕ
+  pub standing : Card → Standing
+  pub brought : Card → List ℕ
+  pub recorded : HasRecorded o done (progress v supply book) travel v.marks (breakdowns_of d) brought
+  pub beside : IsBeside o done (progress v supply book) travel d
+  pub found : AreFoundCards o.found v.cabin.cards
+  pub early : AreEarly (carried v due book standing brought)
+  pub held : IsHeldBy o done supply v (carried v due book standing brought) d

@@ -1,0 +1,230 @@
+-- What the recorder with cards carries WITHIN A SECOND that has power (profile): at its power-on, at each of its actions, and in its keeping.
+use Rattle.std.specs.Prelude.{◌≡◌, ◌⊎◌, ◌&&◌, ℕ, suc, ◌+◌, ◌-◌, ◌*◌, ◌/◌, ◌≤◌, ◌<◌, true, false, Option, Some, None, List, [], ◌∷◌, ◌++◌, All, Contains, length, map, filter, option_map, option_to_list}
+use Rattle.activity_codec.specs.declared.values.Slot.{Slot}
+use Rattle.trace_model.specs.declared.Card.{Card}
+use Rattle.trace_model.specs.Trace.{TraceSecond}
+use Rattle.trace_model.specs.declared.Action.{Action}
+use Rattle.run_model.specs.declared.Device.{Device}
+use Rattle.run_model.specs.declared.Device.TheVariants.{Unit as Recorder}
+use Rattle.minute_model.specs.declared.Minute.{Minute}
+use Rattle.minute_model.specs.Span.{Span, fed, decided_in, ungiven_of}
+use Rattle.minute_rules.specs.Kept.{Kept, StandsFor}
+use Rattle.log_model.specs.declared.lines.Mark.{Mark}
+use Rattle.log_model.specs.declared.lines.Verdict.{Verdict}
+use Rattle.log_model.specs.declared.lines.Verdict.TheVariants.{Accepted, NotValid, TimeOverlap}
+use Rattle.log_model.specs.Causes.{RoseBy}
+use Rattle.log_model.specs.Log.{RunLog, Phase, In, Keeping, is_accepting}
+use Rattle.log_model.specs.Slots.{same_card}
+use Rattle.log_model.specs.Course.{Told, Course, Visit, went}
+use Rattle.history_model.specs.Minutes.{HistoryMinute}
+use Rattle.history_model.specs.Presence.{card_start}
+use Rattle.history_model.specs.History.{seated}
+use Rattle.history_model.specs.Book.{Book}
+use Rattle.joint_rule.specs.Rules.{Standing}
+use Rattle.unit_course.specs.Followed.{Lit, Lost}
+use Rattle.unit_course.specs.Legs.{Travel, stranded_at, all_travelled}
+use Rattle.unit_course.specs.Lines.{cut_at}
+use Rattle.unit_course.specs.Turn.{span_at}
+use Rattle.unit_model.specs.Image.{odometer_at}
+use Rattle.unit_rule.specs.Odometer.{HasTravelled}
+use Rattle.joint_rule.specs.Views.{owed}
+use Rattle.card_image.specs.Own.{own_view, own_bad_file, IsOwnValid}
+use Rattle.safety_model.specs.Recording.{card_image, unit_seen}
+use Rattle.safety_model.specs.Cards.{entered, overlaps, is_overlap}
+use Rattle.safety_model.specs.Safe.{Devices, card_of, breakdowns_of, entered_by}
+use Rattle.run_rule.specs.Found.{found_of}
+use Rattle.run_rule.specs.Cards.{IsUntouched}
+use Rattle.run_rule.specs.Between.{Carried}
+use Rattle.run_course.specs.Followed.{Progress}
+use Rattle.run_course.specs.Moments.{and_break}
+use Rattle.run_course.specs.Seconds.{next_told, kept_all, broken_at}
+use Rattle.run_course.specs.Presence.{SlotsTell}
+use Rattle.run_brought.specs.Going.{IsTakenAt}
+use Rattle.run_moments.specs.Reached.{course_at}
+use Rattle.run_moments.specs.Lines.{times_of}
+use Rattle.run_moments.specs.Moment.{Moment}
+use Rattle.run_moments.specs.Telling.{IsMore, begun_by, IsLeft}
+use Rattle.run_moments.specs.Kept.{HasDecided, AreMarkedSoFar}
+use Rattle.run_told.specs.Told.{AreFoundCards, IsPowered, IsPowerless, AreEarly}
+use Rattle.run_recorded.specs.Origin.{Origin, rule_of, start_at, first_of, HasRecorded}
+use Rattle.run_recorded.specs.Ends.{recording_by, AreVerdicts, MayBeWritten}
+use Rattle.run_present.specs.Presence.{PresentStand}
+use Rattle.run_crew.specs.Cabin.{Stands, with_minute_ended, with_power_lost}
+use Rattle.run_within.specs.Recorded.{Values, carried, Recorded}
+
+-- as the second began, behind its power-on: how far the run had gone, the seconds of the span, what was travelled, the marks, how often each
+-- device had broken down, and what acceptances had brought
+pub record Beginning : Type 0 where
+  pub run : Progress
+  pub span : List Told
+  pub travel : Travel
+  pub marks : List Mark
+  pub broken : Device → ℕ
+  pub brought : Card → List ℕ
+
+-- the seconds before it, and its course at a moment
+abbrev pub told_before : Beginning → List TraceSecond → List Told
+told_before b done = (went b.run.log done).told
+
+abbrev pub course_in : Beginning → List TraceSecond → TraceSecond → Phase → RunLog → Course
+course_in b done s at log = course_at log (went b.run.log done).before s at
+
+-- What may be found of a card in a second in whose minute it has entered so often (the same as `IsVerdict` of safety_model, by that number).
+abbrev pub VerdictBy : Origin → (often : ℕ) → (unit card : List ℕ → Type 0) → Card → ℕ → Verdict → Type 0
+VerdictBy o often unit card c u (Accepted replayed) =
+    IsOwnValid (card_image o.recording c) × ((own_view (card_image o.recording c)).stored ≤ u)
+    × ((i x : List ℕ) × unit i × card x × ((own_view x).stored ≤ u) × (length (owed c (unit_seen o.recording i) (own_view x)) ≡ replayed))
+VerdictBy o often unit card c u (NotValid fid place) = own_bad_file (card_image o.recording c) ≡ Some (fid, place)
+VerdictBy o often unit card c u (TimeOverlap stored now) = IsOwnValid (card_image o.recording c) × (now ≡ u) × ((u < stored)
+    × ((stored ≡ (own_view (card_image o.recording c)).stored)
+    ⊎ (((own_view (card_image o.recording c)).stored ≤ u) × (1 < often) × (stored ≡ 60 * suc (u / 60)) × ((x : List ℕ) × card x × ((own_view x).stored ≡ stored)))))
+
+-- how often a card entered in the minute of a second, by what has come of that so far
+abbrev pub often : Origin → Beginning → List TraceSecond → Course → ℕ → Card → ℕ
+often o b done c u card = entered_by (recording_by o done b.run.log) card u + times_of card c.entered
+
+-- WHAT WAS FOUND of cards in this second so far may be found of them; each acceptance is taken at the unit's last-kept minute, and
+-- behind it no minute before this one is to be kept.
+pub record IsFoundSo (o : Origin) (b : Beginning) (done : List TraceSecond) (c : Course) (u from : ℕ) (new : List HistoryMinute) (brought : Card → List ℕ) (d : Devices) : Type 0 where
+  pub may : (e : Visit) (v : Verdict) → Contains c.found (e, v) → (n : ℕ) × (n ≤ often o b done c u e.card)
+      × VerdictBy o n (d.unit.left_since o.found.unit.began) ((card_of d e.card).left_since (found_of o.found e.card).began) e.card u v
+  pub taken : (e : Visit) (v : Verdict) → Contains c.found (e, v) → is_accepting v ≡ true → (k : ℕ) × Contains (brought e.card) k × IsTakenAt (first_of o) b.run.book (kept_all new b.run.book) new k
+  pub late : (e : Visit) (v : Verdict) → Contains c.found (e, v) → is_accepting v ≡ true → u / 60 ≤ from
+
+-- of what was found, what tells of a later time of a card
+abbrev pub overlaps_by : Origin → Card → List (Visit × Verdict) → List (Visit × Verdict)
+overlaps_by o card found = filter (λ f. same_card card f.0.card && is_overlap o.recording card f.1) found
+
+-- A card is as it was, or may be written: it was valid, and it entered more often than it was found to tell of a later time.
+abbrev pub IsSparedSo : Origin → Beginning → List TraceSecond → Course → Devices → Card → Type 0
+IsSparedSo o b done c d card = IsUntouched (found_of o.found card) (card_of d card)
+    ⊎ (IsOwnValid (card_image o.recording card)
+    × (overlaps (recording_by o done b.run.log) card + length (overlaps_by o card c.found) < entered (recording_by o done b.run.log) card + times_of card c.entered))
+
+-- THE RECORD AT A MOMENT of a second. These cards have entered at it and are not judged yet; one may be leaving its slot, whose session is
+-- not closed yet; the second is fed, or not; and of the minutes that it has decided these are still to be kept.
+pub record Within (o : Origin) (done : List TraceSecond) (s : TraceSecond) (at : Phase) (waits : List Visit) (speed : Option ℕ) (rest : List Minute) (v : Values) (d : Devices) : Type 0 where
+  -- as the second began
+  pub b : Beginning
+  pub lit : b.run.supply ≡ Lit b.span
+  pub began : HasRecorded o done b.run b.travel b.marks b.broken b.brought
+  pub unfound : v.unfound ≡ b.run.unfound
+  pub next : v.next ≡ b.run.next
+  -- what the log tells of it so far, and what it has decided
+  pub moment : Moment b.run (went b.run.log done).before s at v.log waits b.broken (breakdowns_of d)
+  pub sp : Span
+  pub minutes : StandsFor v.minutes sp
+  pub ds : List Minute
+  pub new : List HistoryMinute
+  pub decided : HasDecided (rule_of o) (start_at o) (told_before b done) b.run b.span (course_in b done s at v.log) speed sp ds rest new
+  -- the first minute that is still to be kept, behind those that are kept; with the others it is the first that is not decided
+  pub from : ℕ
+  pub kept_to : from ≡ ungiven_of (span_at (rule_of o) b.run.next b.span) + length ds
+  pub until : from + length rest ≡ ungiven_of sp
+  -- what is acknowledged
+  pub stay : (mark : Mark) → Contains b.marks mark → Contains v.marks mark
+  pub marked : AreMarkedSoFar v.marks (told_before b done) (course_in b done s at v.log) s.number new
+  -- unit and cards are as the book says that has what is kept
+  pub due : ℕ
+  pub standing : Card → Standing
+  pub brought : Card → List ℕ
+  pub powered : IsPowered o.found (carried v due (kept_all new b.run.book) standing brought) v.cabin.cards d
+  pub found : AreFoundCards o.found v.cabin.cards
+  pub early : AreEarly (carried v due (kept_all new b.run.book) standing brought)
+  pub late : due ≤ from
+  pub more : (c : Card) (k : ℕ) → Contains (b.brought c) k → Contains (brought c) k
+  -- who is present
+  pub tells : SlotsTell (start_at o) (told_before b done) (b.run.book.sure ++ new) (course_in b done s at v.log).left s.number from (course_in b done s at v.log).slots v.cabin.slots
+  pub present : PresentStand o.found standing (told_before b done) (course_in b done s at v.log) s.number from v.cabin
+  -- what was found of cards, which may be written, and the odometer
+  pub verdicts : AreVerdicts o done b.run.log d
+  pub finds : IsFoundSo o b done (course_in b done s at v.log) s.number from new brought d
+  pub spared : (c : Card) → IsSparedSo o b done (course_in b done s at v.log) d c
+  pub travels : HasTravelled (odometer_at o.recording.unit) (kept_all new b.run.book) (all_travelled ds b.travel) d.unit
+
+-- the minute whose keeping was broken off, with its cards
+abbrev pub lost_minute : Origin → Beginning → List TraceSecond → (new : List HistoryMinute) → Option Minute → Option HistoryMinute
+lost_minute o b done new lost = option_map {T = Minute} (seated (start_at o) (told_before b done) (b.run.book.sure ++ new)) lost
+
+-- THE RECORD WHERE A CALL ON THE UNIT HAS FAILED at a moment of a second, and the power is about to be cut: of what is decided the next minute
+-- may be kept or not.
+pub record CutWithin (o : Origin) (done : List TraceSecond) (s : TraceSecond) (at : Phase) (waits : List Visit) (speed : Option ℕ) (v : Values) (d : Devices) : Type 0 where
+  pub b : Beginning
+  pub lit : b.run.supply ≡ Lit b.span
+  pub began : HasRecorded o done b.run b.travel b.marks b.broken b.brought
+  pub unfound : v.unfound ≡ b.run.unfound
+  pub next : v.next ≡ b.run.next
+  pub counted : Device → ℕ
+  pub moment : Moment b.run (went b.run.log done).before s at v.log waits b.broken counted
+  pub rise : IsMore counted (breakdowns_of d)
+  pub broke : RoseBy 1 (b.broken Recorder) (breakdowns_of d Recorder)
+  pub sp : Span
+  pub ds : List Minute
+  pub lost : Option Minute
+  pub rest : List Minute
+  pub new : List HistoryMinute
+  pub decided : HasDecided (rule_of o) (start_at o) (told_before b done) b.run b.span (course_in b done s at v.log) speed sp ds (option_to_list lost ++ rest) new
+  pub fed : (at ≡ Keeping → ⊥) → speed ≡ None
+  pub kept : at ≡ Keeping → speed ≡ Some s.speed
+  pub from : ℕ
+  pub kept_to : from ≡ ungiven_of (span_at (rule_of o) b.run.next b.span) + length ds
+  pub stay : (mark : Mark) → Contains b.marks mark → Contains v.marks mark
+  pub due : ℕ
+  pub standing : Card → Standing
+  pub brought : Card → List ℕ
+  pub powerless : IsPowerless o.found (carried v due (broken_at (lost_minute o b done new lost) (kept_all new b.run.book)) standing brought) d
+  pub found : AreFoundCards o.found v.cabin.cards
+  pub early : AreEarly (carried v due (broken_at (lost_minute o b done new lost) (kept_all new b.run.book)) standing brought)
+  pub late : due ≤ s.number / 60
+  pub low : from ≤ s.number / 60
+  pub more : (c : Card) (k : ℕ) → Contains (b.brought c) k → Contains (brought c) k
+  pub tells : SlotsTell (start_at o) (told_before b done) (b.run.book.sure ++ new) (course_in b done s at v.log).left s.number from (course_in b done s at v.log).slots v.cabin.slots
+  pub verdicts : AreVerdicts o done b.run.log d
+  pub finds : IsFoundSo o b done (course_in b done s at v.log) s.number from new brought d
+  pub spared : (c : Card) → IsSparedSo o b done (course_in b done s at v.log) d c
+  pub travels : HasTravelled (odometer_at o.recording.unit) (broken_at (lost_minute o b done new lost) (kept_all new b.run.book)) (stranded_at lost (all_travelled ds b.travel)) d.unit
+
+-- what a run has by value behind the cut of a second, once that has gone
+abbrev pub cut_values : TraceSecond → Phase → Values → Values
+cut_values s at v = record v {
+  log = and_break v.log (cut_at s.number true (begun_by s at));
+  cabin = with_power_lost s.number v.cabin;
+  next = suc v.next;
+  begun = length s.actions;
+}
+
+-- POWER IS CUT: behind the second all is recorded.
+abbrev pub ACutIsRecorded : Devices → Type 0
+ACutIsRecorded d = (o : Origin) (done : List TraceSecond) (s : TraceSecond) (at : Phase) (waits : List Visit) (speed : Option ℕ) (v : Values) → CutWithin o done s at waits speed v d → (rest : List Action) → IsLeft s at rest →
+    Recorded o (done ++ s ∷ []) Lost (cut_values s at v) d
+
+-- what a run has by value behind a second
+abbrev pub passed_values : TraceSecond → Values → Values
+passed_values s v = record v { next = suc v.next; begun = length s.actions }
+
+-- THE SECOND ENDS: all that it decided is kept, and behind it all is recorded.
+abbrev pub TheSecondIsOver : Devices → Type 0
+TheSecondIsOver d = (o : Origin) (done : List TraceSecond) (s : TraceSecond) (v : Values) → (w : Within o done s Keeping [] (Some s.speed) [] v d) →
+    Recorded o (done ++ s ∷ []) (Lit (w.b.span ++ next_told v.log done s ∷ [])) (passed_values s v) d
+
+-- the first minute that a span has not decided
+abbrev pub undecided_from : Origin → List Told → Values → ℕ
+undecided_from o span v = ungiven_of (span_at (rule_of o) v.next span)
+
+-- A SECOND BEGINS behind one with power, in the same minute: nothing of it is told or decided yet.
+abbrev pub ASecondBegins : Devices → Type 0
+ASecondBegins d = (o : Origin) (done : List TraceSecond) (s : TraceSecond) (t : Told) (span : List Told) (v : Values) → Recorded o done (Lit (t ∷ span)) v d → s.number ≡ v.next → s.has_power ≡ true →
+    v.next / 60 ≡ (v.next - 1) / 60 → Within o done s (In 0) [] None [] v d
+
+-- OR A MINUTE IS OVER: who was present in it is known.
+abbrev pub AMinuteIsOver : Devices → Type 0
+AMinuteIsOver d = (o : Origin) (done : List TraceSecond) (s : TraceSecond) (t : Told) (span : List Told) (v : Values) → Recorded o done (Lit (t ∷ span)) v d → s.number ≡ v.next → s.has_power ≡ true →
+    ((card : Card) → (found_of o.found card).start ≡ card_start (start_at o) card) →
+    v.next / 60 ≡ (v.next - 1) / 60 + 1 → undecided_from o (t ∷ span) v ≤ (v.next - 1) / 60 → (v.next - 1) / 60 ≤ undecided_from o (t ∷ span) v + 3 →
+    Stands (undecided_from o (t ∷ span) v) None v.cabin → Within o done s (In 0) [] None [] (record v { cabin = with_minute_ended ((v.next - 1) / 60) v.cabin }) d
+
+-- THE SECOND IS FED behind all of its actions: these minutes are to be kept then.
+abbrev pub ASecondIsFed : Devices → Type 0
+ASecondIsFed d = (o : Origin) (done : List TraceSecond) (s : TraceSecond) (v : Values) → (w : Within o done s (In (length s.actions)) [] None [] v d) →
+    (minutes : Kept) → StandsFor minutes (fed w.sp s.speed) → (rest : List Minute) → decided_in (fed w.sp s.speed) ≡ decided_in w.sp ++ rest →
+    Within o done s Keeping [] (Some s.speed) rest (record v { minutes = minutes }) d

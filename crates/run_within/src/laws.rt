@@ -1,0 +1,29 @@
+ghost use Rattle.run_rule.specs.Between.{devices};
+ghost use Rattle.run_within.specs.Within.{ACutIsRecorded, TheSecondIsOver, ASecondBegins, AMinuteIsOver, ASecondIsFed};
+
+use tach_media::{Chip, Medium};
+
+/// A call on the unit has failed, and power is cut: behind the second all is recorded.
+pub fn a_cut_is_recorded<M: Medium, C: Chip, D: Chip>(unit: &M, card_a: &C, card_b: &D)
+    ensures { ACutIsRecorded (devices (M.state unit.now) (C.state card_a.now) (D.state card_b.now)) }
+{}
+
+/// A second ends with its keeping: behind it all is recorded.
+pub fn the_second_is_over<M: Medium, C: Chip, D: Chip>(unit: &M, card_a: &C, card_b: &D)
+    ensures { TheSecondIsOver (devices (M.state unit.now) (C.state card_a.now) (D.state card_b.now)) }
+{}
+
+/// A second begins in the same minute.
+pub fn a_second_begins<M: Medium, C: Chip, D: Chip>(unit: &M, card_a: &C, card_b: &D)
+    ensures { ASecondBegins (devices (M.state unit.now) (C.state card_a.now) (D.state card_b.now)) }
+{}
+
+/// A second begins with which a minute is over.
+pub fn a_minute_is_over<M: Medium, C: Chip, D: Chip>(unit: &M, card_a: &C, card_b: &D)
+    ensures { AMinuteIsOver (devices (M.state unit.now) (C.state card_a.now) (D.state card_b.now)) }
+{}
+
+/// A second is fed behind all of its actions.
+pub fn a_second_is_fed<M: Medium, C: Chip, D: Chip>(unit: &M, card_a: &C, card_b: &D)
+    ensures { ASecondIsFed (devices (M.state unit.now) (C.state card_a.now) (D.state card_b.now)) }
+{}

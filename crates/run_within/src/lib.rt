@@ -1,0 +1,6 @@
+//! What the recorder with cards carries from call to call (profile): definitions (specs/), and laws that its loop cites.
+#![tactic(auto)]
+
+mod laws;
+
+pub use laws::{a_cut_is_recorded, a_minute_is_over, a_second_begins, a_second_is_fed, the_second_is_over};
