@@ -1,5 +1,5 @@
 //! Seconds of one minute at one speed.
-ghost use Rattle.std.specs.Prelude.{◌≡◌, ◌≢◌, ℕ, ◌+◌, ◌-◌, ◌*◌, ◌/◌, ◌%◌, ◌<◌, ◌≤◌, ◌^◌, true, Option, IfSome, All, OnOk, length, is_some, is_err};
+ghost use Rattle.std.specs.Prelude.{◌≡◌, ◌≢◌, ℕ, ◌+◌, ◌-◌, ◌*◌, ◌/◌, ◌%◌, ◌<◌, ◌≤◌, ◌^◌, true, false, Option, IfSome, All, OnOk, length, is_some, is_err};
 ghost use Rattle.trace_model.specs.declared.Card.{Card};
 ghost use Rattle.tach_media.specs.Medium.{HasCause, HasBroken};
 ghost use Rattle.unit_model.specs.declared.layout.TheConstants.{HIGHEST_ODOMETER};
@@ -13,7 +13,11 @@ ghost use Rattle.run_power.specs.declared.run.Power.TheVariants.{Lit};
 ghost use Rattle.run_power.specs.Power.{is_lit, passed};
 ghost use Rattle.run_power.specs.Going.{end_of_seconds, IsWithin, IsGoing};
 ghost use Rattle.run_power.specs.Room.{HasRoom, HasRoomWithin};
-ghost use Rattle.run_turns.specs.Turning.{IsKeptInTurn, IsLitTurn, IsTurnOf};
+ghost use Rattle.run_turns.specs.Turning.{IsKeptInTurn, IsLitTurn, IsTurnOf, told_of};
+ghost use Rattle.run_turns.specs.Booked.{IsTurnReach, BooksTurn, IsBookedTurn};
+ghost use Rattle.run_keeping.specs.Minutes.{Reach};
+ghost use Rattle.run_power.specs.declared.run.Run.{Run};
+ghost use Rattle.run_rule.specs.Between.{devices};
 
 use crate::feeding::feed;
 use minute_rules::Minute;
@@ -39,6 +43,9 @@ pub fn turn<M: Medium, C: Chip, D: Chip>(
     requires small { run.old.next + n ≤ end_of_seconds }
     requires room { HasRoomWithin run.old outcome.old n 0 0 0 }
     ensures turned { IsTurnOf (is_lit run.old.power) n speed begun run.old run.new outcome.old outcome.new }
+    ensures booked { is_lit run.old.power ≡ true → (between : Run) × IsBookedTurn n speed begun run.old between outcome.old outcome.new (devices (M.state unit.old) (C.state card_a.old) (D.state card_b.old)) (devices (M.state unit.new) (C.state card_a.new) (D.state card_b.new))
+        × (run.new ≡ passed n begun between) }
+    ensures dark { is_lit run.old.power ≡ false → (unit.new ≡ unit.old) × (card_a.new ≡ card_a.old) × (card_b.new ≡ card_b.old) }
     ensures going { IsGoing run.new (M.state unit.new) (C.card card_a.new) (D.card card_b.new) (C.state card_a.new) (D.state card_b.new) }
     ensures next { run.new.next ≡ run.old.next + n }
     ensures unfound { run.new.unfound ≡ run.old.unfound }
@@ -73,6 +80,7 @@ fn lit_turn<M: Medium, C: Chip, D: Chip>(
     requires small { run.old.next + n ≤ end_of_seconds }
     requires room { HasRoomWithin run.old outcome.old n 0 0 0 }
     ensures turned { IsLitTurn n speed begun run.old run.new outcome.old outcome.new }
+    ensures booked { IsBookedTurn n speed begun run.old run.new outcome.old outcome.new (devices (M.state unit.old) (C.state card_a.old) (D.state card_b.old)) (devices (M.state unit.new) (C.state card_a.new) (D.state card_b.new)) }
     ensures going { IsGoing (passed n begun run.new) (M.state unit.new) (C.card card_a.new) (D.card card_b.new) (C.state card_a.new) (D.state card_b.new) }
     ensures next { run.new.next ≡ run.old.next }
     ensures unfound { run.new.unfound ≡ run.old.unfound }
@@ -132,6 +140,8 @@ fn keep_turn<M: Medium, C: Chip, D: Chip>(
     requires limit { run.old.watch.limit ≡ run.old.watch.over.limit }
     requires watches { Watches run.old.watch run.old.next }
     ensures kept { IsKeptInTurn decided.now n speed at (is_err result) run.old run.new outcome.old outcome.new }
+    ensures booked { (reach : Reach) × IsTurnReach decided.now at (is_err result) (told_of run.old outcome.old) (told_of run.new outcome.new) reach
+        × BooksTurn decided.now (is_err result) reach (told_of run.old outcome.old) (told_of run.new outcome.new) (devices (M.state unit.old) (C.state card_a.old) (D.state card_b.old)) (devices (M.state unit.new) (C.state card_a.new) (D.state card_b.new)) }
     ensures unit { IsUnit (M.state unit.new) }
     ensures ready { OnOk result (IsReady run.new.keeper (M.state unit.new) (C.card card_a.new) (D.card card_b.new) (C.state card_a.new) (D.state card_b.new)) }
     ensures rows { (card : Card) → HasItsRow run.old.keeper.cabin.cards (M.state unit.old) card → OnOk result (HasItsRow run.new.keeper.cabin.cards (M.state unit.new) card) }

@@ -88,6 +88,30 @@ keep_turn-kept-requires-clause-watches g c = (c.requires.going.lit (ap is_lit c.
 
 -- ---- it was broken off
 
+pub returns-then-is_err-clause-booked : goal.returns-then-is_err-clause-booked
+returns-then-is_err-clause-booked g c =
+    let run = c.args.run.now in
+    let e = c.keep_turn-kept.ensures in
+    let bad : is_err c.keep_turn-kept.result ≡ true = sym c.is_err.ensures.value ∙ c.if-is_err.true in
+    let b = rw c.as_slice.ensures.value at (rw bad at e.booked) in (
+      record {
+        failed = true;
+        fed = record run { minutes = c.feed-decided.new.minutes };
+        between = c.keep_turn-kept.new.run;
+        told = c.keep_turn-kept.new.outcome;
+        only = refl;
+        minutes = c.feed-decided.ensures.fed;
+        decided = c.feed-decided.result.items;
+        given = c.feed-decided.ensures.given;
+        kept = rw c.as_slice.ensures.value at (rw bad at e.kept);
+        run = c.cut.ensures.run;
+        outcome = ap (λ (b : Listed Break). record c.keep_turn-kept.new.outcome { breaks = b }) c.cut.ensures.breaks;
+      },
+      b.0,
+      b.1,
+      b.2,
+    )
+
 pub returns-then-is_err-clause-turned : goal.returns-then-is_err-clause-turned
 returns-then-is_err-clause-turned g c =
     let run = c.args.run.now in
@@ -180,6 +204,30 @@ returns-then-is_err-clause-room g c =
     (owing-sum run.minutes lit.span lit.stands ∙ ap (λ (m : ℕ). m / 60) lit.next) (turn-most run lit speed n c.requires.minute) count
 
 -- ---- it goes on
+
+pub returns-else-is_err-clause-booked : goal.returns-else-is_err-clause-booked
+returns-else-is_err-clause-booked g c =
+    let run = c.args.run.now in
+    let e = c.keep_turn-kept.ensures in
+    let well : is_err c.keep_turn-kept.result ≡ false = sym c.is_err.ensures.value ∙ c.if-is_err.false in
+    let b = rw c.as_slice.ensures.value at (rw well at e.booked) in (
+      record {
+        failed = false;
+        fed = record run { minutes = c.feed-decided.new.minutes };
+        between = c.keep_turn-kept.new.run;
+        told = c.keep_turn-kept.new.outcome;
+        only = refl;
+        minutes = c.feed-decided.ensures.fed;
+        decided = c.feed-decided.result.items;
+        given = c.feed-decided.ensures.given;
+        kept = rw c.as_slice.ensures.value at (rw well at e.kept);
+        run = refl;
+        outcome = refl;
+      },
+      b.0,
+      b.1,
+      b.2,
+    )
 
 pub returns-else-is_err-clause-turned : goal.returns-else-is_err-clause-turned
 returns-else-is_err-clause-turned g c =

@@ -42,3 +42,12 @@ returns-clause-going g c =
 pub returns-clause-room : goal.returns-clause-room
 returns-clause-room g c = λ left offs insertions actions h.
     subst (λ (r : Run). HasRoom r c.lit_turn.new.outcome left offs insertions actions) (sym c.pass-2.ensures) (c.lit_turn.ensures.room left offs insertions actions h)
+
+pub returns-then-not-is_lit-clause-booked : goal.returns-then-not-is_lit-clause-booked
+returns-then-not-is_lit-clause-booked g c = λ lit. let dark : is_lit c.args.run.now.power ≡ false = sym c.is_lit.ensures ∙ c.if-not-is_lit.true in absurd (cc)
+
+pub returns-clause-booked : goal.returns-clause-booked
+returns-clause-booked g c = λ lit. (c.lit_turn.new.run, c.lit_turn.ensures.booked, c.pass-2.ensures)
+
+pub returns-clause-dark : goal.returns-clause-dark
+returns-clause-dark g c = λ dark. let lit : is_lit c.args.run.now.power ≡ true = sym c.is_lit.ensures ∙ c.if-not-is_lit.false in absurd (cc)
