@@ -1,0 +1,2 @@
+pub mod Powering
+pub mod Reading
