@@ -2,20 +2,23 @@
 use Rattle.std.specs.Prelude.{◌≡◌, ◌⊎◌, ◌&&◌, ℕ, suc, ◌+◌, ◌-◌, ◌*◌, ◌/◌, ◌≤◌, ◌<◌, true, false, Option, Some, None, List, [], ◌∷◌, ◌++◌, All, Contains, length, map, filter, option_map, option_to_list}
 use Rattle.activity_codec.specs.declared.entries.Entry.{Entry}
 use Rattle.activity_codec.specs.declared.values.Slot.{Slot}
+use Rattle.activity_codec.specs.declared.values.Pick.{Pick}
 use Rattle.trace_model.specs.declared.Card.{Card}
 use Rattle.trace_model.specs.Trace.{TraceSecond}
 use Rattle.trace_model.specs.declared.Action.{Action}
+use Rattle.trace_model.specs.declared.Action.TheVariants.{Select}
 use Rattle.run_model.specs.declared.Device.{Device}
 use Rattle.run_model.specs.declared.Device.TheVariants.{Unit as Recorder}
 use Rattle.minute_model.specs.declared.Minute.{Minute}
-use Rattle.minute_model.specs.Span.{Span, fed, decided_in, ungiven_of}
+use Rattle.minute_model.specs.Span.{Span, fed, picked, decided_in, ungiven_of}
 use Rattle.minute_rules.specs.Kept.{Kept, StandsFor}
 use Rattle.log_model.specs.declared.lines.Mark.{Mark}
 use Rattle.log_model.specs.declared.lines.Verdict.{Verdict}
 use Rattle.log_model.specs.declared.lines.Verdict.TheVariants.{Accepted, NotValid, TimeOverlap}
 use Rattle.log_model.specs.Causes.{device_of, RoseBy}
 use Rattle.log_model.specs.Log.{RunLog, Phase, In, Keeping, is_accepting}
-use Rattle.log_model.specs.Slots.{same_card}
+use Rattle.log_model.specs.declared.lines.SlotFault.{SlotFault}
+use Rattle.log_model.specs.Slots.{same_card, refusal}
 use Rattle.log_model.specs.Course.{Told, Course, Visit, went}
 use Rattle.history_model.specs.Minutes.{HistoryMinute, on_card}
 use Rattle.history_model.specs.Completeness.{IsMarked}
@@ -38,7 +41,7 @@ use Rattle.run_rule.specs.Found.{found_of}
 use Rattle.run_rule.specs.Cards.{IsUntouched}
 use Rattle.run_rule.specs.Between.{Carried}
 use Rattle.run_course.specs.Followed.{Progress}
-use Rattle.run_course.specs.Moments.{and_break}
+use Rattle.run_course.specs.Moments.{and_break, and_refused}
 use Rattle.run_course.specs.Seconds.{next_told, kept_all, broken_at}
 use Rattle.run_course.specs.Presence.{SlotsTell}
 use Rattle.run_brought.specs.Going.{IsTakenAt}
@@ -263,3 +266,21 @@ pub record IsOneKept (o : Origin) (done : List TraceSecond) (s : TraceSecond) (m
 abbrev pub AMinuteIsKeptSo : (d e : Devices) → Type 0
 AMinuteIsKeptSo d e = (o : Origin) (done : List TraceSecond) (s : TraceSecond) (m : Minute) (rest : List Minute) (v : Values) → (w : Within o done s Keeping [] (Some s.speed) (m ∷ rest) v d) →
     (marks : List Mark) (cards : Cards) → IsOneKept o done s m rest v d e w marks cards → Within o done s Keeping [] (Some s.speed) rest (kept_values marks cards v) e
+
+-- AN ACTION IS REFUSED, and that is told;
+abbrev pub refused_values : ℕ → SlotFault → Values → Values
+refused_values u fault v = record v { log = and_refused v.log (record { second = u; fault = fault }) }
+
+abbrev pub ARefusalIsRecorded : Devices → Type 0
+ARefusalIsRecorded d = (o : Origin) (done : List TraceSecond) (s : TraceSecond) (v : Values) (front : List Action) (a : Action) (rest : List Action) → s.actions ≡ front ++ a ∷ rest →
+    (w : Within o done s (In (length front)) [] None [] v d) → (fault : SlotFault) → refusal (course_in w.b done s (In (length front)) v.log).slots s.speed a ≡ Some fault →
+    Within o done s (In (suc (length front))) [] None [] (refused_values s.number fault v) d
+
+-- or an activity IS SELECTED.
+abbrev pub heard_values : Kept → Values → Values
+heard_values minutes v = record v { minutes = minutes }
+
+abbrev pub ASelectionIsRecorded : Devices → Type 0
+ASelectionIsRecorded d = (o : Origin) (done : List TraceSecond) (s : TraceSecond) (v : Values) (front : List Action) (slot : Slot) (pick : Pick) (rest : List Action) → s.actions ≡ front ++ Select slot pick ∷ rest →
+    (w : Within o done s (In (length front)) [] None [] v d) → refusal (course_in w.b done s (In (length front)) v.log).slots s.speed (Select slot pick) ≡ None →
+    (minutes : Kept) → StandsFor minutes (picked w.sp slot pick) → Within o done s (In (suc (length front))) [] None [] (heard_values minutes v) d

@@ -1,5 +1,5 @@
 ghost use Rattle.run_rule.specs.Between.{devices};
-ghost use Rattle.run_within.specs.Within.{ACutIsRecorded, TheSecondIsOver, ASecondBegins, AMinuteIsOver, ASecondIsFed, AMinuteIsKeptSo};
+ghost use Rattle.run_within.specs.Within.{ACutIsRecorded, TheSecondIsOver, ASecondBegins, AMinuteIsOver, ASecondIsFed, AMinuteIsKeptSo, ARefusalIsRecorded, ASelectionIsRecorded};
 
 use tach_media::{Chip, Medium};
 
@@ -38,4 +38,14 @@ pub fn a_minute_is_kept_so<M: Medium, C: Chip, D: Chip, N: Medium, E: Chip, F: C
     card_b: &F,
 )
     ensures { AMinuteIsKeptSo (devices (M.state old_unit.now) (C.state old_a.now) (D.state old_b.now)) (devices (N.state unit.now) (E.state card_a.now) (F.state card_b.now)) }
+{}
+
+/// An action is refused, and that is told.
+pub fn a_refusal_is_recorded<M: Medium, C: Chip, D: Chip>(unit: &M, card_a: &C, card_b: &D)
+    ensures { ARefusalIsRecorded (devices (M.state unit.now) (C.state card_a.now) (D.state card_b.now)) }
+{}
+
+/// An activity is selected.
+pub fn a_selection_is_recorded<M: Medium, C: Chip, D: Chip>(unit: &M, card_a: &C, card_b: &D)
+    ensures { ASelectionIsRecorded (devices (M.state unit.now) (C.state card_a.now) (D.state card_b.now)) }
 {}

@@ -3,4 +3,5 @@
 
 mod laws;
 
-pub use laws::{a_cut_is_recorded, a_minute_is_kept_so, a_minute_is_over, a_second_begins, a_second_is_fed, the_second_is_over};
+pub use laws::{a_cut_is_recorded, a_minute_is_kept_so, a_minute_is_over, a_refusal_is_recorded,
+    a_second_begins, a_second_is_fed, a_selection_is_recorded, the_second_is_over};
