@@ -1,1 +1,3 @@
 pub mod Watched
+pub mod Turned
+pub mod Fed

@@ -1,10 +1,9 @@
 -- What a note with cards shows more, what a moment of it leaves, and which bytes tell of no event.
-use Rattle.std.proofs.Common.{◌≡◌, ◌≢◌, ◌⊎◌, inl, inr, ⊎_elim, ℕ, ◌+◌, ◌*◌, ◌^◌, ◌<◌, ◌≤◌, min, Bool, true, false, cond, List, [], ◌∷◌, length, Contains, refl, ap, sym, subst, ◌∙◌, arith, nat_eq}
+use Rattle.std.proofs.Common.{◌≡◌, ◌≢◌, inl, inr, ℕ, ◌+◌, ◌^◌, ◌<◌, ◌≤◌, min, Bool, true, false, cond, List, [], ◌∷◌, length, Contains, refl, ap, sym, subst, ◌∙◌, arith, nat_eq}
 use Rattle.std.specs.Prelude.{◌==◌}
 use Rattle.std.proofs.lemmas.Bool.{eqb-true, eqb-false, ne_eqb, eq-eqb}
 use Rattle.byte_fields.specs.Images.{SameOutside, number_at, big_number}
 use Rattle.byte_fields.proofs.Spelled.{number_before, number_after}
-use Rattle.gated_ring.specs.Ring.{size_of}
 use Rattle.trace_model.specs.declared.Card.{Card}
 use Rattle.tacho_types.specs.declared.card_number.FullCardNumber.{FullCardNumber}
 use Rattle.unit_model.specs.declared.layout.TheConstants.{FIRST_OVER, OVER_COUNT}
@@ -16,17 +15,16 @@ use Rattle.event_model.specs.Events.{Event}
 use Rattle.side_model.specs.Tables.{table_of, table_in, IsNoted, AreNoted}
 use Rattle.unit_notes.specs.declared.unit_event.UnitEvent.{UnitEvent}
 use Rattle.unit_notes.specs.Entries.{fault_bytes, over_bytes}
-use Rattle.unit_notes.specs.Fields.{IsFrontOf, IsEventOf, IsOverOf}
+use Rattle.unit_notes.specs.Fields.{IsEventOf, IsOverOf}
 use Rattle.unit_notes.specs.Noting.{IsEventNoted, IsNotingEvent, IsNotingOver, IsOverNoted, with_first, with_one_more}
 use Rattle.unit_notes.proofs.EntryFields.{event_front_of, over_front_of}
-use Rattle.unit_notes.proofs.Types.{table_inside}
 use Rattle.unit_notes.proofs.Placing.{is_noted}
 use Rattle.event_course.specs.Shown.{all_kinds, KeepsEvents}
 use Rattle.event_course.specs.Shown as bare
 use Rattle.event_course.proofs.Shows.{each-kind, first-none, count-none}
-use Rattle.event_course.proofs.Frames.{before-tables, first-low, count-low, table-apart, table-high, table-behind, part_of}
+use Rattle.event_course.proofs.Frames.{table-apart, table-high, table-behind, part_of}
 use Rattle.event_notes.proofs.Frames.{IsApart, AreApart, bares-apart, overs-apart, gaps-apart, others-same, numbers-same, tables-first, tables-both, enough, first-outside, more-outside, first-value, more-value}
-use Rattle.run_events.specs.Shown.{by_kind, none, ShowsMore, AreNumbers, SaysNothing, SaysNothingBut}
+use Rattle.run_events.specs.Shown.{by_kind, ShowsMore, AreNumbers, SaysNothing, SaysNothingBut}
 
 -- each type's places lie apart from those of the others
 invalids-apart : AreApart 0x01

@@ -1,7 +1,6 @@
 -- Interruptions of power, as the log tells more, and what is known of the cuts between spans.
-use Rattle.std.proofs.Common.{◌≡◌, ◌⊎◌, inl, inr, ⊎_elim, ℕ, zero, suc, ◌+◌, ◌*◌, ◌≤◌, Bool, true, false, cond, not, ◌&&◌, ◌||◌, Option, Some, None, List, [], ◌∷◌, ◌++◌, All, length, take, drop, map, refl, ap, sym, subst, ◌∙◌, arith, append-nil}
+use Rattle.std.proofs.Common.{◌≡◌, inl, inr, ℕ, ◌+◌, ◌*◌, Bool, true, false, cond, not, ◌&&◌, ◌||◌, Option, Some, None, List, [], ◌∷◌, ◌++◌, All, length, take, refl, ap, sym, subst, ◌∙◌, append-nil}
 use Rattle.std.specs.Prelude.{◌==◌, option_map, option_to_list}
-use Rattle.std.specs.List.{AllByRecursion, list_all}
 use Rattle.std.proofs.lemmas.List.Folds.{list_all-append}
 use Rattle.activity_codec.specs.declared.values.Slot.TheVariants.{Driver, CoDriver}
 use Rattle.trace_model.specs.Trace.{TraceSecond}
@@ -20,8 +19,8 @@ use Rattle.unit_course.specs.Turn.{begins_with}
 use Rattle.unit_course.specs.Followed.{Supply, Lit, Due, Lost, IsDark}
 use Rattle.unit_course.proofs.Lines.{kept-known, tells-append, tells-front, tells-found}
 use Rattle.event_course.specs.Noted.{are_sure, Leads, StayFailed}
-use Rattle.event_course.proofs.Failing.{sure-before, sure-parts, failed-append, both, and-both}
-use Rattle.run_events.specs.Gaps.{first_number, IsTold, IsUntold, IsFailedOn, IsKnownGap, AreKnownGaps, OfLast, IsKnownLast, HasGaps, TellsMore}
+use Rattle.event_course.proofs.Failing.{sure-before, sure-parts, failed-append, and-both}
+use Rattle.run_events.specs.Gaps.{first_number, IsTold, IsUntold, IsKnownGap, AreKnownGaps, OfLast, IsKnownLast, HasGaps, TellsMore}
 use Rattle.run_events.specs.Seconds.{seen_next}
 use Rattle.run_events.proofs.Growing.{AreSome, some-spans, seen-more, spans-more}
 use Rattle.run_events.proofs.Later.{seen-same}
@@ -99,7 +98,7 @@ module _ (log later : RunLog) (found : List Break) (rest : List Break) (breaks :
     kept = kept-later (last_number span) failed.told ∙ failed.kept;
   })
 
-  gaps-later : (spans : List (List Seen)) → AreKnownGaps log found spans → AreKnownGaps later found spans
+  pub gaps-later : (spans : List (List Seen)) → AreKnownGaps log found spans → AreKnownGaps later found spans
   gaps-later [] all = tt
   gaps-later (span ∷ []) all = tt
   gaps-later (span ∷ next ∷ spans) all = (gap-later span next all.0, gaps-later (next ∷ spans) all.1)
@@ -130,18 +129,18 @@ known-push log found (span ∷ []) next all is = (is, tt)
 known-push log found (span ∷ second ∷ spans) next all is = (all.0, known-push log found (second ∷ spans) next all.1 is)
 
 -- its last span then ends with it
-last-on : (P : List Seen → Type 0) (spans : List (List Seen)) (x : Seen) → ((span : List Seen) → P (span ++ x ∷ [])) → OfLast P (seen_on spans x)
+pub last-on : (P : List Seen → Type 0) (spans : List (List Seen)) (x : Seen) → ((span : List Seen) → P (span ++ x ∷ [])) → OfLast P (seen_on spans x)
 last-on P [] x each = each []
 last-on P (span ∷ []) x each = each span
 last-on P (span ∷ next ∷ []) x each = each next
 last-on P (span ∷ next ∷ third ∷ spans) x each = last-on P (next ∷ third ∷ spans) x each
 
-last-one : (P : List Seen → Type 0) (spans : List (List Seen)) (next : List Seen) → P next → OfLast P (spans ++ next ∷ [])
+pub last-one : (P : List Seen → Type 0) (spans : List (List Seen)) (next : List Seen) → P next → OfLast P (spans ++ next ∷ [])
 last-one P [] next is = is
 last-one P (span ∷ []) next is = is
 last-one P (span ∷ second ∷ spans) next is = last-one P (second ∷ spans) next is
 
-ends-untold : (log : RunLog) (found : List Break) (x : Seen) → IsUntold log found (x ∷ []) → (span : List Seen) → IsUntold log found (span ++ x ∷ [])
+pub ends-untold : (log : RunLog) (found : List Break) (x : Seen) → IsUntold log found (x ∷ []) → (span : List Seen) → IsUntold log found (span ++ x ∷ [])
 ends-untold log found x h span =
     let is : last_number (span ++ x ∷ []) ≡ number_of x = last-push span x in record {
       told = ap (λ (u : ℕ). tells_cut u log.breaks) is ∙ h.told;

@@ -1,22 +1,21 @@
 -- The events of a run as one second more comes.
-use Rattle.std.proofs.Common.{◌≡◌, ℕ, zero, suc, ◌+◌, Bool, true, false, cond, Option, Some, None, List, [], ◌∷◌, ◌++◌, length, map, take, fold, refl, ap, sym, subst, ◌∙◌, append_assoc, append-nil}
+use Rattle.std.proofs.Common.{◌≡◌, ℕ, Bool, true, false, cond, List, [], ◌∷◌, ◌++◌, fold, refl, ap, sym, ◌∙◌, append_assoc, append-nil}
 use Rattle.std.specs.Prelude.{◌==◌, flat_map}
 use Rattle.std.specs.List.{AllByRecursion, filter_map}
 use Rattle.std.proofs.lemmas.Grind.{flat_map-append}
 use Rattle.std.proofs.lemmas.List.Sums.{fold-append}
 use Rattle.std.proofs.lemmas.List.Elements.{filter_map-append}
-use Rattle.trace_model.specs.declared.Card.{Card}
 use Rattle.trace_model.specs.Trace.{TraceSecond}
-use Rattle.log_model.specs.Log.{RunLog, kept_after}
-use Rattle.log_model.specs.Course.{Visit, Told, Went, Before, second_told, before_next, went, went_on, not_begun}
+use Rattle.log_model.specs.Log.{RunLog}
+use Rattle.log_model.specs.Course.{Visit, Went, Before, second_told, before_next, went, went_on, not_begun}
 use Rattle.event_model.specs.declared.kinds.TheConstants.{DRIVING_WITHOUT_CARD, OVER_SPEEDING, POWER_INTERRUPTION, CARD_FAULT}
-use Rattle.event_model.specs.Runs.{run_with, last_run, ended_by, runs_behind, ended_runs}
+use Rattle.event_model.specs.Runs.{last_run, runs_behind, ended_runs}
 use Rattle.event_model.proofs.RunLemmas.{ended_runs-append}
-use Rattle.event_model.specs.Events.{Event, Seen, Watched, Tearing, watched_on, seen_by, seen_of, seen_on, seen_with, seen_spans, number_of, is_bare, bare_event, bare_events, over_event, over_events, gap_event, gaps_between, gap_events, fault_events, judged_events, events_of}
+use Rattle.event_model.specs.Events.{Event, Seen, Watched, Tearing, watched_on, seen_by, seen_of, seen_on, seen_with, seen_spans, is_bare, bare_event, bare_events, over_event, over_events, gap_event, gaps_between, gap_events, fault_events, judged_events, events_of}
 use Rattle.run_events.specs.Seconds.{last_of, span_before, bares_by, is_fast, overs_by, gap_before, gap_by, faults_by, found_by, second_events, seen_next}
 
 -- THE SECONDS as their events see them
-sees-all : (log : RunLog) (ss : List TraceSecond) (w : Watched) (v : Went) → w.before ≡ v.before → (fold (watched_on log) w ss).before ≡ (fold (went_on log) v ss).before
+pub sees-all : (log : RunLog) (ss : List TraceSecond) (w : Watched) (v : Went) → w.before ≡ v.before → (fold (watched_on log) w ss).before ≡ (fold (went_on log) v ss).before
 sees-all log [] w v is = is
 sees-all log (s ∷ ss) w v is = sees-all log ss (watched_on log w s) (went_on log v s) (ap (λ (b : Before). before_next b (second_told log b s)) is)
 
@@ -34,7 +33,7 @@ module _ (h : List Seen → List Event) (g : List Seen → Seen → List Event) 
   single : (x : Seen) → h (x ∷ []) ≡ g [] x
   single x = more [] x ∙ ap (λ (es : List Event). es ++ g [] x) empty
 
-  flat-on : (spans : List (List Seen)) (x : Seen) → flat_map h (seen_on spans x) ≡ flat_map h spans ++ g (last_of spans) x
+  pub flat-on : (spans : List (List Seen)) (x : Seen) → flat_map h (seen_on spans x) ≡ flat_map h spans ++ g (last_of spans) x
   flat-on [] x = append-nil (h (x ∷ [])) ∙ single x
   flat-on (span ∷ []) x = append-nil (h (span ++ x ∷ [])) ∙ more span x ∙ ap (λ (es : List Event). es ++ g span x) (sym (append-nil (h span)))
   flat-on (span ∷ next ∷ spans) x =
@@ -53,12 +52,12 @@ module _ (h : List Seen → List Event) (g : List Seen → Seen → List Event) 
       by false starts is = sym (append-nil (flat_map h spans))
 
 -- DRIVING WITHOUT A CARD, and over speedings
-bare-more : (span : List Seen) (x : Seen) → filter_map bare_event (ended_runs is_bare (span ++ x ∷ [])) ≡ filter_map bare_event (ended_runs is_bare span) ++ bares_by span (x ∷ [])
+pub bare-more : (span : List Seen) (x : Seen) → filter_map bare_event (ended_runs is_bare (span ++ x ∷ [])) ≡ filter_map bare_event (ended_runs is_bare span) ++ bares_by span (x ∷ [])
 bare-more span x =
     ap (filter_map bare_event) (ended_runs-append is_bare span (x ∷ []))
     ∙ filter_map-append bare_event (ended_runs is_bare span) (runs_behind is_bare (last_run is_bare span) (x ∷ []))
 
-over-more : (limit : ℕ) (span : List Seen) (x : Seen) → filter_map over_event (ended_runs (is_fast limit) (span ++ x ∷ [])) ≡ filter_map over_event (ended_runs (is_fast limit) span) ++ overs_by limit span (x ∷ [])
+pub over-more : (limit : ℕ) (span : List Seen) (x : Seen) → filter_map over_event (ended_runs (is_fast limit) (span ++ x ∷ [])) ≡ filter_map over_event (ended_runs (is_fast limit) span) ++ overs_by limit span (x ∷ [])
 over-more limit span x =
     ap (filter_map over_event) (ended_runs-append (is_fast limit) span (x ∷ []))
     ∙ filter_map-append over_event (ended_runs (is_fast limit) span) (runs_behind (is_fast limit) (last_run (is_fast limit) span) (x ∷ []))
@@ -83,7 +82,7 @@ some-more (y ∷ span) x = tt
 abbrev pub AreSome : List (List Seen) → Type 0
 AreSome spans = AllByRecursion IsSome spans
 
-some-on : (spans : List (List Seen)) (x : Seen) → AreSome spans → AreSome (seen_on spans x)
+pub some-on : (spans : List (List Seen)) (x : Seen) → AreSome spans → AreSome (seen_on spans x)
 some-on [] x all = (tt, tt)
 some-on (span ∷ []) x all = (some-more span x, tt)
 some-on (span ∷ next ∷ spans) x all = (all.0, some-on (next ∷ spans) x all.1)
@@ -108,7 +107,7 @@ pub some-spans : (xs : List Seen) → AreSome (seen_spans xs)
 some-spans xs = some-all xs [] tt
 
 -- a second that goes on a span leaves the interruptions
-gaps-on : (t : Tearing) (log : RunLog) (spans : List (List Seen)) (x : Seen) → AreSome spans → gaps_between t log (seen_on spans x) ≡ gaps_between t log spans
+pub gaps-on : (t : Tearing) (log : RunLog) (spans : List (List Seen)) (x : Seen) → AreSome spans → gaps_between t log (seen_on spans x) ≡ gaps_between t log spans
 gaps-on t log [] x all = refl
 gaps-on t log (span ∷ []) x all = refl
 gaps-on t log (span ∷ [] ∷ spans) x all = absurd all.1.0
@@ -116,7 +115,7 @@ gaps-on t log (span ∷ (y ∷ next) ∷ []) x all = refl
 gaps-on t log (span ∷ (y ∷ next) ∷ third ∷ spans) x all =
     ap (λ (es : List Event). gap_event t log span (y ∷ next) ++ es) (gaps-on t log ((y ∷ next) ∷ third ∷ spans) x all.1)
 
-gaps-with : (t : Tearing) (log : RunLog) (spans : List (List Seen)) (x : Seen) → AreSome spans → gaps_between t log (seen_with spans x) ≡ gaps_between t log spans ++ gap_by t log spans x
+pub gaps-with : (t : Tearing) (log : RunLog) (spans : List (List Seen)) (x : Seen) → AreSome spans → gaps_between t log (seen_with spans x) ≡ gaps_between t log spans ++ gap_by t log spans x
 gaps-with t log spans x all = by x.told.lit x.told.starts
   where
     by : (lit starts : Bool) → gaps_between t log (cond lit (cond starts (spans ++ (x ∷ []) ∷ []) (seen_on spans x)) spans)

@@ -1,5 +1,5 @@
 -- Lines of the log that come later change no event of the seconds before.
-use Rattle.std.proofs.Common.{◌≡◌, ◌⊎◌, inl, inr, ℕ, zero, suc, ◌+◌, ◌<◌, ◌≤◌, Bool, true, false, cond, not, ◌&&◌, Option, Some, None, List, [], ◌∷◌, ◌++◌, All, length, map, take, fold, refl, ap, sym, subst, ◌∙◌, is_some, nat_eq}
+use Rattle.std.proofs.Common.{◌≡◌, ℕ, zero, suc, ◌+◌, Bool, true, false, cond, not, Option, Some, None, List, [], ◌∷◌, ◌++◌, All, length, map, take, fold, refl, ap, sym, subst, ◌∙◌, is_some}
 use Rattle.std.specs.Prelude.{◌==◌, flat_map, slice_get}
 use Rattle.std.specs.List.{AllByRecursion, filter_map}
 use Rattle.std.proofs.lemmas.List.Elements.{All-head, All-tail}
@@ -14,7 +14,7 @@ use Rattle.log_model.specs.Same.{SameAt}
 use Rattle.log_model.specs.Course.{Course, Visit, Told, Before, Moved, slot_told, both_told, acted, all_acted, moved_by, unmoved, answered, fresh, cut_told, lit_course, has_power, second_told, before_next, not_begun}
 use Rattle.event_model.specs.declared.kinds.TheConstants.{CARD_FAULT, DRIVING_WITHOUT_CARD, OVER_SPEEDING, POWER_INTERRUPTION}
 use Rattle.event_model.specs.Runs.{ended_runs}
-use Rattle.event_model.specs.Events.{Event, Crew, Seen, seen_spans, is_bare, bare_event, over_event, Watched, Tearing, watched_on, course_by, moved_by_action, within_by, seen_by, seen_of, number_of, accepted_card, with_card, noted_with, beside_torn, fault_of, torn_in_turn, bare_events, over_events, gap_events, fault_events, judged_events, events_of}
+use Rattle.event_model.specs.Events.{Event, Seen, seen_spans, is_bare, bare_event, over_event, Watched, Tearing, watched_on, course_by, moved_by_action, within_by, seen_by, seen_of, number_of, accepted_card, with_card, noted_with, beside_torn, fault_of, torn_in_turn, bare_events, over_events, gap_events, fault_events, judged_events, events_of}
 use Rattle.run_events.specs.Seconds.{is_fast, faults_by, found_by}
 
 -- the number of a second

@@ -1,5 +1,5 @@
 -- From the events of some seconds to those of one more, by a log that tells more.
-use Rattle.std.proofs.Common.{◌≡◌, ◌⊎◌, inl, inr, ℕ, ◌+◌, Bool, true, false, List, [], ◌∷◌, ◌++◌, All, refl, ap, sym, subst, ◌∙◌, append-nil}
+use Rattle.std.proofs.Common.{◌≡◌, ℕ, Bool, true, false, List, [], ◌∷◌, ◌++◌, All, refl, sym, subst}
 use Rattle.std.specs.Prelude.{◌==◌}
 use Rattle.std.proofs.lemmas.Bool.{eqb-true}
 use Rattle.trace_model.specs.Trace.{TraceSecond}
@@ -8,11 +8,10 @@ use Rattle.log_model.specs.Same.{SameAt}
 use Rattle.log_model.specs.Course.{Visit}
 use Rattle.side_model.specs.Done.{has_failed_in}
 use Rattle.event_model.specs.declared.kinds.TheConstants.{POWER_INTERRUPTION}
-use Rattle.event_model.specs.Events.{Event, Seen, Tearing, number_of, last_number, seen_of, seen_spans, gap_events, events_of}
-use Rattle.event_course.specs.Noted.{are_sure, Leads, StayFailed}
+use Rattle.event_model.specs.Events.{Event, Tearing, number_of, seen_of, seen_spans, gap_events, events_of}
+use Rattle.event_course.specs.Noted.{Leads, StayFailed}
 use Rattle.event_course.proofs.Failing.{leads-stay, leads-more, leads-none, leads-then}
-use Rattle.run_events.specs.Shown.{by_kind, none, AllLead}
-use Rattle.run_events.specs.Seconds.{span_before, second_events, seen_next}
+use Rattle.run_events.specs.Seconds.{IsBehind, second_events, seen_next}
 use Rattle.run_events.proofs.Growing.{second-brings}
 use Rattle.run_events.proofs.Later.{events-same}
 use Rattle.run_events.proofs.Sure.{second-in, none-sure}
@@ -42,8 +41,7 @@ module _ (log later : RunLog) (done : List TraceSecond) (same : All (λ s. SameA
         (lines-lead kind limit sessions) (leads-more later later (events_of kind limit sessions t later done) brought (λ u h. h)))
 
     -- OR ONE in which a call failed
-    pub failed-leads : has_failed_in later (number_of (seen_next later done s)) ≡ true →
-        (span_before (seen_spans (seen_of later done)) (seen_next later done s) ≡ []) ⊎ (last_number (span_before (seen_spans (seen_of later done)) (seen_next later done s)) + 1 ≡ number_of (seen_next later done s)) →
+    pub failed-leads : has_failed_in later (number_of (seen_next later done s)) ≡ true → IsBehind (seen_spans (seen_of later done)) (seen_next later done s) →
         Leads log (events_of kind limit sessions t log done) [] later (events_of kind limit sessions t later (done ++ s ∷ []))
     failed-leads failed behind =
         subst (λ (es : List Event). Leads log (events_of kind limit sessions t log done) [] later es) (sym (second-brings kind limit sessions t later done s))

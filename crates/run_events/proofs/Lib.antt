@@ -5,3 +5,9 @@ pub mod Later
 pub mod Sure
 pub mod Leading
 pub mod Gaps
+pub mod Ordered
+pub mod Choosing
+pub mod Notes
+pub mod Running
+pub mod Quiet
+pub mod Offs

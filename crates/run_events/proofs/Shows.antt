@@ -1,6 +1,5 @@
 -- What every image shows of the events with cards, from before a step to behind it.
-use Rattle.std.proofs.Common.{◌≡◌, ◌⊎◌, inl, inr, ⊎_elim, ℕ, zero, suc, ◌+◌, ◌<◌, ◌≤◌, Bool, true, false, cond, Option, Some, None, IfSome, List, [], ◌∷◌, ◌++◌, length, Contains, refl, ap, sym, subst, ◌∙◌, arith, is_some, append-nil, append_assoc, nat_eq}
-use Rattle.std.specs.List.{AllByRecursion}
+use Rattle.std.proofs.Common.{◌≡◌, ◌⊎◌, inl, inr, ⊎_elim, ℕ, ◌≤◌, Bool, true, false, Option, Some, None, IfSome, List, ◌++◌, refl, ap, sym, subst, ◌∙◌, is_some, nat_eq}
 use Rattle.std.proofs.lemmas.Bool.{eqb-true, eqb-false}
 use Rattle.std.proofs.lemmas.List.Elements.{filter-append}
 use Rattle.trace_model.specs.declared.Card.{Card}
@@ -11,11 +10,19 @@ use Rattle.unit_model.specs.Image.{number_of}
 use Rattle.event_model.specs.declared.kinds.TheConstants.{OVER_SPEEDING}
 use Rattle.event_model.specs.Events.{Event}
 use Rattle.side_model.specs.Tables.{table_in, AreNoted}
-use Rattle.event_course.specs.Noted.{are_sure, Leads, StayFailed}
-use Rattle.event_course.specs.Shown.{all_kinds, first_on, count_on, HaveBegins}
+use Rattle.event_course.specs.Noted.{are_sure, StayFailed}
+use Rattle.event_course.specs.Shown.{first_on, count_on, HaveBegins}
 use Rattle.event_course.proofs.Shows.{noted-on, first-none, first-parts, count-parts, count-none, count-few, begins-on}
-use Rattle.event_course.proofs.Failing.{leads-stay, leads-more, leads-then}
+use Rattle.event_course.proofs.Failing.{leads-stay, leads-more}
 use Rattle.run_events.specs.Shown.{by_kind, none, ShowsEvents, HasNoted, ShowsMore, AllLead, SaysNothing, SaysNothingBut}
+
+-- a type is another one, or that one
+pub kind-or : (kind other : ℕ) → (other ≡ kind) ⊎ (other ≡ kind → ⊥)
+kind-or kind other = by (nat_eq other kind) refl
+  where
+    by : (b : Bool) → nat_eq other kind ≡ b → (other ≡ kind) ⊎ (other ≡ kind → ⊥)
+    by true is = inl (eqb-true other kind is)
+    by false is = inr (eqb-false other kind is)
 
 module _ (number : Card → List ℕ) where
   -- AN IMAGE behind a step
@@ -63,13 +70,6 @@ module _ (number : Card → List ℕ) where
     over_count = λ sure few. same.over_count ∙ count-none (number_of x OVER_COUNT) few;
     begins = tt;
   }
-
-  kind-or : (kind other : ℕ) → (other ≡ kind) ⊎ (other ≡ kind → ⊥)
-  kind-or kind other = by (nat_eq other kind) refl
-    where
-      by : (b : Bool) → nat_eq other kind ≡ b → (other ≡ kind) ⊎ (other ≡ kind → ⊥)
-      by true is = inl (eqb-true other kind is)
-      by false is = inr (eqb-false other kind is)
 
   pub nothing-but : (log : RunLog) (now : ℕ → List Event) (kind : ℕ) (x c : List ℕ) → SaysNothingBut kind x c → (are_sure log (now kind) ≡ true → ⊥) → ShowsMore number log now none x c
   nothing-but log now kind x c same unsure =

@@ -1,5 +1,5 @@
 -- Which second each event is noted in, and that none of a second in which a call failed is sure.
-use Rattle.std.proofs.Common.{◌≡◌, ◌⊎◌, inl, inr, ⊎_elim, ℕ, zero, suc, ◌+◌, ◌*◌, ◌<◌, ◌≤◌, Bool, true, false, cond, not, ◌&&◌, ◌||◌, nat_lt, nat_eq, Option, Some, None, List, [], ◌∷◌, ◌++◌, map, fold, refl, ap, sym, subst, ◌∙◌, arith}
+use Rattle.std.proofs.Common.{◌≡◌, ◌⊎◌, inl, inr, ℕ, ◌+◌, ◌*◌, Bool, true, false, cond, not, ◌&&◌, nat_lt, Option, Some, None, List, [], ◌∷◌, ◌++◌, map, fold, refl, ap, sym, subst, ◌∙◌}
 use Rattle.std.specs.Prelude.{◌==◌, flat_map, option_map, option_to_list}
 use Rattle.std.specs.List.{AllByRecursion, filter_map, cons_option}
 use Rattle.std.proofs.lemmas.Bool.{eqb-true}
@@ -13,11 +13,11 @@ use Rattle.side_model.specs.Events.{noting_second}
 use Rattle.event_model.specs.declared.kinds.TheConstants.{CARD_NOT_VALID, TIME_OVERLAP, DRIVING_WITHOUT_CARD, INSERTION_WHILE_DRIVING, SESSION_NOT_CLOSED, OVER_SPEEDING, POWER_INTERRUPTION, CARD_FAULT}
 use Rattle.event_model.specs.declared.entries.Over.{Over}
 use Rattle.event_model.specs.declared.entries.Span.{Span}
-use Rattle.event_model.specs.Runs.{run_with, last_run, ended_by, runs_behind}
-use Rattle.event_model.specs.Spans.{over_of, gap_of, SpeedSecond}
-use Rattle.event_model.specs.Events.{Event, Crew, Seen, Tearing, number_of, last_number, last_seen, is_bare, bare_event, speed_second, over_event, run_event, noted_with, gap_event, standing, found_events, crew_judged, fault_of, torn_in_turn}
+use Rattle.event_model.specs.Runs.{run_with, last_run, runs_behind}
+use Rattle.event_model.specs.Spans.{over_of}
+use Rattle.event_model.specs.Events.{Event, Seen, Tearing, number_of, last_number, last_seen, is_bare, bare_event, speed_second, over_event, run_event, noted_with, gap_event, standing, found_events, crew_judged, fault_of, torn_in_turn}
 use Rattle.event_course.specs.Noted.{are_sure}
-use Rattle.run_events.specs.Seconds.{last_of, span_before, bares_by, is_fast, overs_by, gap_before, gap_by, faults_by, found_by, second_events}
+use Rattle.run_events.specs.Seconds.{span_before, bares_by, is_fast, overs_by, gap_before, gap_by, faults_by, found_by, second_events, IsBehind}
 
 abbrev NotedIn : ℕ → Event → Type 0
 NotedIn u e = noting_second e ≡ u
@@ -158,21 +158,21 @@ found-in kind session t x v (Accepted replayed) = by (kind == INSERTION_WHILE_DR
     by false b false d is at = tt
 
 -- ALL THAT A SECOND BRINGS
-pub second-in : (kind limit : ℕ) (sessions : ℕ → Visit → ℕ) (t : Tearing) (log : RunLog) (spans : List (List Seen)) (x : Seen) →
-    (span_before spans x ≡ []) ⊎ (last_number (span_before spans x) + 1 ≡ number_of x) → AllByRecursion (λ (e : Event). noting_second e ≡ number_of x) (second_events kind limit sessions t log spans x)
+pub second-in : (kind limit : ℕ) (sessions : ℕ → Visit → ℕ) (t : Tearing) (log : RunLog) (spans : List (List Seen)) (x : Seen) → IsBehind spans x →
+    AllByRecursion (λ (e : Event). noting_second e ≡ number_of x) (second_events kind limit sessions t log spans x)
 second-in kind limit sessions t log spans x behind =
-    by (kind == DRIVING_WITHOUT_CARD) (kind == OVER_SPEEDING) (kind == POWER_INTERRUPTION) (kind == CARD_FAULT) x.told.lit
+    by (kind == DRIVING_WITHOUT_CARD) (kind == OVER_SPEEDING) (kind == POWER_INTERRUPTION) (kind == CARD_FAULT) x.told.lit refl
   where
-    by : (a b c d lit : Bool) → AllIn (number_of x)
+    by : (a b c d lit : Bool) → x.told.lit ≡ lit → AllIn (number_of x)
         (cond a (cond lit (bares_by (span_before spans x) (x ∷ [])) [])
         (cond b (cond lit (overs_by limit (span_before spans x) (x ∷ [])) []) (cond c (gap_by t log spans x) (cond d (faults_by t log x) (found_by kind sessions t x)))))
-    by true b c d true = bares-in (span_before spans x) x behind
-    by true b c d false = tt
-    by false true c d true = overs-in limit (span_before spans x) x behind
-    by false true c d false = tt
-    by false false true d lit = gaps-in t log spans x
-    by false false false true lit = in-map (number_of x) (fault_of t log x) (λ v. refl) (torn_in_turn t x x.told.course.torn)
-    by false false false false lit = in-flat (number_of x) (λ (f : Visit × Verdict). found_events kind (sessions (number_of x) f.0) t x f.0 f.1) (λ f. found-in kind (sessions (number_of x) f.0) t x f.0 f.1) x.told.course.found
+    by true b c d true is = bares-in (span_before spans x) x (behind is)
+    by true b c d false is = tt
+    by false true c d true is = overs-in limit (span_before spans x) x (behind is)
+    by false true c d false is = tt
+    by false false true d lit is = gaps-in t log spans x
+    by false false false true lit is = in-map (number_of x) (fault_of t log x) (λ v. refl) (torn_in_turn t x x.told.course.torn)
+    by false false false false lit is = in-flat (number_of x) (λ (f : Visit × Verdict). found_events kind (sessions (number_of x) f.0) t x f.0 f.1) (λ f. found-in kind (sessions (number_of x) f.0) t x f.0 f.1) x.told.course.found
 
 -- where a call failed in it, none is sure
 pub none-sure : (later : RunLog) (u : ℕ) (es : List Event) → has_failed_in later u ≡ true → AllByRecursion (λ (e : Event). noting_second e ≡ u) es → are_sure later es ≡ true → es ≡ []

@@ -1,17 +1,14 @@
 -- What is known of the cuts between the power spans of a run with cards (profile).
-use Rattle.std.specs.Prelude.{◌≡◌, ◌⊎◌, ℕ, ◌+◌, Bool, true, false, List, [], ◌∷◌, ◌++◌, All, take, length}
-use Rattle.std.specs.List.{AllByRecursion}
+use Rattle.std.specs.Prelude.{◌≡◌, ◌⊎◌, ℕ, true, false, List, [], ◌∷◌, All, take}
 use Rattle.trace_model.specs.Trace.{TraceSecond}
 use Rattle.log_model.specs.declared.lines.Break.{Break}
 use Rattle.log_model.specs.Log.{RunLog, kept_after}
 use Rattle.log_model.specs.Same.{SameAt}
-use Rattle.log_model.specs.Course.{Told}
-use Rattle.event_model.specs.Events.{Event, Seen, Tearing, number_of, last_number, seen_of, seen_spans, gap_events}
+use Rattle.event_model.specs.Events.{Seen, number_of, last_number, seen_of, seen_spans}
 use Rattle.side_model.specs.Done.{has_failed_in}
-use Rattle.unit_course.specs.Lines.{tells_cut, found_from}
+use Rattle.unit_course.specs.Lines.{tells_cut}
 use Rattle.unit_course.specs.Followed.{Supply, Lit, Due, Lost}
-use Rattle.event_course.specs.Noted.{Leads, StayFailed}
-use Rattle.run_events.specs.Seconds.{seen_next}
+use Rattle.event_course.specs.Noted.{StayFailed}
 
 -- the number of the first of these seconds, 0 without one
 abbrev pub first_number : List Seen → ℕ

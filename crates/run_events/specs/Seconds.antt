@@ -1,12 +1,11 @@
 -- Which events one more second of a run brings, by type (Annex IB, section III.12; the moments: profile).
-use Rattle.std.specs.Prelude.{◌≡◌, ℕ, ◌+◌, ◌==◌, Bool, true, false, List, [], ◌∷◌, ◌++◌, flat_map, map, if◌then◌else◌}
+use Rattle.std.specs.Prelude.{◌≡◌, ◌⊎◌, ℕ, ◌+◌, ◌==◌, Bool, true, false, List, [], ◌∷◌, flat_map, map, if◌then◌else◌}
 use Rattle.std.specs.List.{filter_map}
-use Rattle.trace_model.specs.declared.Card.{Card}
 use Rattle.trace_model.specs.Trace.{TraceSecond}
 use Rattle.log_model.specs.Log.{RunLog}
 use Rattle.log_model.specs.Course.{Visit, went}
 use Rattle.event_model.specs.declared.kinds.TheConstants.{DRIVING_WITHOUT_CARD, OVER_SPEEDING, POWER_INTERRUPTION, CARD_FAULT}
-use Rattle.event_model.specs.Runs.{last_run, ended_by, runs_behind}
+use Rattle.event_model.specs.Runs.{last_run, runs_behind}
 use Rattle.event_model.specs.Spans.{is_above}
 use Rattle.event_model.specs.Events.{Event, Seen, Tearing, number_of, last_number, seen_by, is_bare, bare_event, speed_second, over_event, gap_event, found_events, fault_of, torn_in_turn}
 
@@ -54,13 +53,30 @@ second_events kind limit sessions t log spans x =
     else (if kind == POWER_INTERRUPTION then gap_by t log spans x
     else (if kind == CARD_FAULT then faults_by t log x else found_by kind sessions t x)))
 
+-- a second with power comes right behind those of its own span
+abbrev pub IsBehind : List (List Seen) → Seen → Type 0
+IsBehind spans x = x.told.lit ≡ true → (span_before spans x ≡ []) ⊎ (last_number (span_before spans x) + 1 ≡ number_of x)
+
 -- one second more as its events see it
 abbrev pub seen_next : RunLog → List TraceSecond → TraceSecond → Seen
 seen_next log done s = seen_by log (went log done).before s
 
--- it goes on its span, and no card entered it or was torn out in it
-pub record IsQuiet (x : Seen) : Type 0 where
-  pub lit : x.told.lit ≡ true
-  pub goes_on : x.told.starts ≡ false
+-- no card was judged or torn out in it, and none entered
+pub record IsIdle (x : Seen) : Type 0 where
   pub found : x.told.course.found ≡ []
   pub torn : x.told.course.torn ≡ []
+  pub entered : x.told.course.entered ≡ []
+
+-- and it goes on its span, or is without power
+pub record IsQuiet (x : Seen) : Type 0 where
+  pub idle : IsIdle x
+  pub lit : x.told.lit ≡ true
+  pub goes_on : x.told.starts ≡ false
+
+pub record IsDarkSeen (x : Seen) : Type 0 where
+  pub idle : IsIdle x
+  pub lit : x.told.lit ≡ false
+
+-- what quiet seconds behind those of a span bring
+abbrev pub quiet_events : (kind limit : ℕ) → (span xs : List Seen) → List Event
+quiet_events kind limit span xs = if kind == DRIVING_WITHOUT_CARD then bares_by span xs else (if kind == OVER_SPEEDING then overs_by limit span xs else [])

@@ -102,7 +102,7 @@ apart-this (Some A) (Some B) B is two = absurd (cc)
 apart-this (Some B) (Some A) B is two = refl
 apart-this (Some B) (Some A) A is two = absurd (cc)
 
-apart-turned : (o p : Option Card) (c : Card) → p ≡ Some c → AreTwo o p → is_this o c ≡ false
+pub apart-turned : (o p : Option Card) (c : Card) → p ≡ Some c → AreTwo o p → is_this o c ≡ false
 apart-turned None p c is two = refl
 apart-turned (Some d) None c is two = absurd (cc)
 apart-turned (Some A) (Some A) c is two = absurd (cc)

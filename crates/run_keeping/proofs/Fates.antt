@@ -1,5 +1,5 @@
 -- What becomes of an entry: each of the three.
-use Rattle.std.proofs.Common.{◌≡◌, ℕ, Bool, true, false, [], ◌∷◌, Option, Some, IfSome, refl, ap, sym, subst}
+use Rattle.std.proofs.Common.{◌≡◌, ℕ, Bool, true, false, [], ◌∷◌, Option, Some, None, IfSome, refl, ap, sym, subst}
 use Rattle.std.proofs.lemmas.List.{append-nil}
 use Rattle.trace_model.specs.declared.Card.{Card}
 use Rattle.tach_media.specs.Medium.{State, HasCause}
@@ -14,7 +14,7 @@ use Rattle.run_crew.specs.Cabin.{crew_of, with_session_of, torn_out}
 use Rattle.run_outcome.specs.Lines.{Listed}
 use Rattle.run_keeping.specs.declared.keeper.Keeper.{Keeper}
 use Rattle.run_keeping.specs.declared.keeper.Moment.{Moment}
-use Rattle.run_keeping.specs.Keeping.{Has, Fell, IsBrought, IsFateOf, IsFaultNoted, GoesOnWith, with_lines, tear_of, fault_of}
+use Rattle.run_keeping.specs.Keeping.{Still, Has, Fell, IsBrought, IsFateOf, IsFaultNoted, GoesOnWith, with_lines, tear_of, fault_of}
 use Rattle.unit_notes.specs.Noting.{IsEventNoted}
 use Rattle.event_model.specs.declared.kinds.TheConstants.{CARD_FAULT}
 
@@ -50,4 +50,16 @@ module _ (which : Card) (kept : Kept) (at : Moment) (k v : Keeper) (marks : List
     told = told;
     only = λ bad. refl;
     noted = noted;
+  }
+
+  -- it has no session
+  pub still-brought : session_of k.cabin.cards which ≡ None → v ≡ k → IsBrought (Some which) kept at false k v marks marks breaks breaks Still U V X Y
+  still-brought gone same = record {
+    is = subst (λ (o : Option Accepted). IsFateOf o kept Still) (sym gone) tt;
+    on_card = tt;
+    keeper = same;
+    marked = no-lines marks;
+    told = no-lines breaks;
+    only = λ bad. absurd (cc);
+    noted = λ well. where_told U.image V.image (IsFaultNoted Still at.second (crew_of v.cabin)) (λ x y is here. tt);
   }

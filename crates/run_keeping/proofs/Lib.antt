@@ -5,3 +5,14 @@ pub mod Seats
 pub mod Counts
 pub mod Rounds
 pub mod Decided
+pub mod OnTheCard
+pub mod EntryPut
+pub mod MinuteOwed
+pub mod MinuteBegun
+pub mod MarksOn
+pub mod CardBrought
+pub mod CardBooked
+pub mod Brought
+pub mod MinuteBooked
+pub mod DecidedBooked
+pub mod MarksBooked

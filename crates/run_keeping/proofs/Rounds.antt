@@ -57,7 +57,7 @@ module _ (present : Option Card) (kept : Kept) (at : Moment) (failed : Bool) (k 
 abbrev pub told-of : Keeper → Listed Mark → Listed Break → Told
 told-of k ms bs = record { keeper = k; marks = ms; breaks = bs }
 
-told-same : (k v : Keeper) (ms ns : Listed Mark) (bs cs : Listed Break) → k ≡ v → ms ≡ ns → bs ≡ cs → told-of k ms bs ≡ told-of v ns cs
+pub told-same : (k v : Keeper) (ms ns : Listed Mark) (bs cs : Listed Break) → k ≡ v → ms ≡ ns → bs ≡ cs → told-of k ms bs ≡ told-of v ns cs
 told-same k v ms ns bs cs one two three = ap (λ (q : Keeper). told-of q ms bs) one ∙ ap (λ (q : Listed Mark). told-of v q bs) two ∙ ap (λ (q : Listed Break). told-of v ns q) three
 
 module _ (present : Present) (m : KeptMinute) (at : Moment) (k : Keeper) (marks : Listed Mark) (breaks : Listed Break) (j : Notes) (clock : ℕ) (kept : j.kept ≡ m.minute) (odometer : j.odometer ≡ m.odometer.0)

@@ -1,29 +1,21 @@
 -- What the keeping of a minute leaves of unit and cards, over devices that tell their images (profile).
-use Rattle.std.specs.Prelude.{◌≡◌, ◌≢◌, ◌⊎◌, ℕ, suc, max, ◌≤◌, ◌<◌, Bool, true, false, Option, Some, None, IfSome, List, [], Contains, if◌then◌else◌}
+use Rattle.std.specs.Prelude.{◌≡◌, ◌⊎◌, ℕ, suc, ◌≤◌, ◌<◌, Bool, true, false, Option, Some, None, List, [], if◌then◌else◌}
 use Rattle.trace_model.specs.declared.Card.{Card}
-use Rattle.tach_media.specs.Medium.{State, last_count}
-use Rattle.tacho_types.specs.CardNumber.{card_number_bytes}
-use Rattle.card_layout.specs.Application.{IsApplication}
-use Rattle.card_image.specs.Own.{own_view, own_sizes, IsOwnValid}
-use Rattle.card_session.specs.Sessions.{Session, IsSession}
-use Rattle.card_steps.specs.Since.{GoesSince}
-use Rattle.card_steps.specs.Each.{EachHolds}
+use Rattle.tach_media.specs.Medium.{last_count}
+use Rattle.log_model.specs.declared.lines.Mark.{Mark}
+use Rattle.card_image.specs.Own.{IsOwnValid}
 use Rattle.unit_journal.specs.declared.kept.KeptMinute.{KeptMinute}
 use Rattle.history_model.specs.Minutes.{HistoryMinute, on_card}
-use Rattle.history_model.specs.Book.{Book, kept, broken}
-use Rattle.joint_rule.specs.Rules.{Standing, Out, In, Torn, since, IsPresent}
-use Rattle.safety_model.specs.Safe.{Devices, card_of}
+use Rattle.history_model.specs.Book.{kept, broken}
+use Rattle.joint_rule.specs.Rules.{Standing, Out, In, Torn, IsPresent}
+use Rattle.safety_model.specs.Safe.{Devices}
 use Rattle.slot_machine.specs.declared.seats.Present.{Present}
-use Rattle.device_steps.specs.Minute.{IsNotIn}
-use Rattle.run_crew.specs.declared.cards.Accepted.{Accepted}
 use Rattle.run_crew.specs.declared.cards.Cards.{Cards}
-use Rattle.run_crew.specs.Cards.{known_of, session_of}
-use Rattle.run_rule.specs.Found.{CardFound, Found, found_of}
-use Rattle.run_rule.specs.Cards.{brought_by}
-use Rattle.run_rule.specs.Between.{Carried, IsLit, IsCarried}
-use Rattle.run_keeping.specs.declared.keeper.Moment.{Moment}
+use Rattle.run_rule.specs.Found.{Found, found_of}
+use Rattle.run_rule.specs.Between.{Carried}
+use Rattle.run_told.specs.Told.{AreFoundCards, IsPowered, IsPowerless, AreEarly}
 use Rattle.run_keeping.specs.Keeping.{Fate, Still, Has, Fell, is_this}
-use Rattle.run_keeping.specs.Minutes.{Round, Told, IsMinute, marks_after}
+use Rattle.run_keeping.specs.Minutes.{Round, Told, marks_after}
 
 -- ---- before
 
@@ -35,38 +27,13 @@ history_minute present m = record {
   codriver = record { act = m.codriver.act; card = present.codriver };
 }
 
--- What was found of the cards: two numbers, which are those that they have told; and of each valid card sizes, and the entries of its image.
-pub record AreFoundCards (f : Found) (cards : Cards) : Type 0 where
-  pub two : f.card_a.number ≢ f.card_b.number
-  pub named : (c : Card) → IsOwnValid (found_of f c).image → IfSome (known_of cards c).number (λ n. card_number_bytes n ≡ (found_of f c).number)
-  pub sizes : (c : Card) → IsOwnValid (found_of f c).image → IsApplication (own_sizes (found_of f c).image)
-  pub entries : (c : Card) → IsOwnValid (found_of f c).image → (found_of f c).start.entries ≡ (own_view (found_of f c).image).held.entries
-
--- THE STRING OF A CARD, by its images: each that a stop may leave holds it, and each since the start keeps it; an entry may come behind the
--- newest minute of the card as it stands.
-pub record IsHeld (f : CardFound) (c : Card) (b : Book) (z : Standing) (card : State) : Type 0 where
-  pub next : ℕ
-  pub each : EachHolds (own_sizes f.image) f.image (brought_by c f.start b) next f.began card
-  pub near : (x : List ℕ) → card.may_leave x → next ≤ suc (max f.start.word (since z (own_view x).newest))
-
--- A CARD IN ITS SLOT, with this session: it stands with the session's newest minute, its image is what the session knows, and its string goes
--- on with each later minute.
-pub record IsOn (f : CardFound) (c : Card) (b : Book) (z : Standing) (s : Session) (card : State) : Type 0 where
-  pub time : ℕ
-  pub stands : z ≡ In time s.minute
-  pub sizes : s.application ≡ own_sizes f.image
-  pub session : IfSome card.image (IsSession s)
-  pub goes : IfSome card.image (GoesSince s.application f.image (brought_by c f.start b) (suc s.minute))
-
--- a card goes with its session, and is in its slot, accepted, exactly where it has one
-abbrev pub GoesWith : CardFound → Card → Book → Standing → Option Accepted → State → Type 0
-GoesWith f c b z None card = IsNotIn z
-GoesWith f c b z (Some accepted) card = IsOn f c b z accepted.session card
-
--- so do all that were valid
-pub record AllGo (f : Found) (w : Carried) (cards : Cards) (d : Devices) : Type 0 where
-  pub held : (c : Card) → IsOwnValid (found_of f c).image → IsHeld (found_of f c) c w.book (w.standing c) (card_of d c)
-  pub goes : (c : Card) → IsOwnValid (found_of f c).image → GoesWith (found_of f c) c w.book (w.standing c) (session_of cards c) (card_of d c)
+-- UNIT AND CARDS ARE AS THE BOOK SAYS, between two calls while the unit has power: all that is carried stands, with the marks that are told,
+-- and the cards go with their sessions.
+pub record AreBooked (f : Found) (w : Carried) (cards : Cards) (marks : List Mark) (d : Devices) : Type 0 where
+  pub found : AreFoundCards f cards
+  pub powered : IsPowered f w cards d
+  pub told : w.marks ≡ marks
+  pub early : AreEarly w
 
 -- A minute may come: it is not earlier than it may, and says something on a card only where that is valid and present.
 pub record MayCome (f : Found) (w : Carried) (i : HistoryMinute) : Type 0 where
@@ -107,19 +74,14 @@ carried_broken i w = record w { due = suc i.minute; book = broken i w.book }
 -- THE BOOK BEHIND A MINUTE that was to be kept: it is kept, all that is carried stands, and the cards go with their sessions; or the unit
 -- failed, and the minute was not begun, or was, or it is kept and a card was torn out.
 abbrev pub IsBooked : Found → Carried → Present → HistoryMinute → (failed : Bool) → Option Round → Cards → Devices → Type 0
-IsBooked f w present i failed None cards d = IsCarried f w d ⊎ IsCarried f (carried_broken i w) d
-IsBooked f w present i false (Some round) cards d = IsLit f (carried_after present i round w) d × AllGo f (carried_after present i round w) cards d
-IsBooked f w present i true (Some round) cards d = IsCarried f (carried_after present i round w) d
+IsBooked f w present i failed None cards d = IsPowerless f w d ⊎ IsPowerless f (carried_broken i w) d
+IsBooked f w present i false (Some round) cards d = IsPowered f (carried_after present i round w) cards d
+IsBooked f w present i true (Some round) cards d = IsPowerless f (carried_after present i round w) d
 
--- WHAT IS ASKED: all that is carried stands, with the marks that are told; the cards go with their sessions; and the minute may come.
+-- WHAT IS ASKED: unit and cards are as the book says, and the minute may come.
 pub record MayBook (f : Found) (w : Carried) (present : Present) (m : KeptMinute) (t : Told) (d : Devices) : Type 0 where
-  pub lit : IsLit f w d
-  pub marks : w.marks ≡ t.marks.items
-  pub found : AreFoundCards f t.keeper.cabin.cards
-  pub cards : AllGo f w t.keeper.cabin.cards d
+  pub booked : AreBooked f w t.keeper.cabin.cards t.marks.items d
   pub comes : MayCome f w (history_minute present m)
-  -- what acceptances brought is of minutes that the unit had kept by then
-  pub early : (c : Card) (k : ℕ) → Contains (w.brought c) k → k < w.due
 
 -- no clock stands at its last value
 pub record HaveTime (d : Devices) : Type 0 where
@@ -127,7 +89,6 @@ pub record HaveTime (d : Devices) : Type 0 where
   pub card_a : d.card_a.clock < last_count
   pub card_b : d.card_b.clock < last_count
 
--- A MINUTE WAS TO BE KEPT, and is booked so.
-abbrev pub BooksMinute : Present → KeptMinute → Moment → (failed : Bool) → (t u : Told) → (d e : Devices) → Type 0
-BooksMinute present m at failed t u d e = (f : Found) (w : Carried) → MayBook f w present m t d → HaveTime e
-    → (round : Option Round) × IsMinute present m at failed t u d.card_a e.card_a d.card_b e.card_b round × IsBooked f w present (history_minute present m) failed round u.keeper.cabin.cards e
+-- A MINUTE WAS TO BE KEPT, and this came of it: so it is booked.
+abbrev pub BooksMinute : Present → KeptMinute → (failed : Bool) → Option Round → (t u : Told) → (d e : Devices) → Type 0
+BooksMinute present m failed round t u d e = (f : Found) (w : Carried) → MayBook f w present m t d → HaveTime e → IsBooked f w present (history_minute present m) failed round u.keeper.cabin.cards e

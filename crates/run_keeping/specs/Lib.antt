@@ -1,3 +1,5 @@
 pub mod Keeping
 pub mod Minutes
 pub mod Books
+pub mod Owing
+pub mod Decided

@@ -1,5 +1,5 @@
 -- How a minute is kept by the unit and the cards that were present, and some minutes, by value (profile).
-use Rattle.std.specs.Prelude.{◌≡◌, ◌⊎◌, ℕ, ◌+◌, ◌/◌, ◌<◌, ◌≤◌, Bool, true, false, Option, Some, None, List, [], ◌∷◌, ◌++◌, All, is_some, min}
+use Rattle.std.specs.Prelude.{◌≡◌, ◌⊎◌, ℕ, ◌+◌, ◌/◌, ◌<◌, ◌≤◌, Bool, true, false, Option, Some, None, List, [], ◌∷◌, ◌++◌, All, map, is_some, min}
 use Rattle.activity_codec.specs.declared.values.Slot.TheVariants.{Driver, CoDriver}
 use Rattle.tach_media.specs.Medium.{State}
 use Rattle.minute_model.specs.declared.Minute.{Minute}
@@ -148,3 +148,36 @@ pub record IsCutShort (decided : List Minute) (at : Moment) (t u : Told) : Type 
 abbrev pub AreKeptUpTo : List Minute → Moment → (failed : Bool) → (t u : Told) → Type 0
 AreKeptUpTo decided at false t u = AreKept at decided t u
 AreKeptUpTo decided at true t u = IsCutShort decided at t u
+
+-- a decided minute that is kept, and its round
+pub record Done : Type 0 where
+  pub minute : Minute
+  pub round : Round
+
+-- keeper, marks and breaks behind some, where this was the keeper before all
+abbrev pub told_by : Keeper → Moment → List Done → Told → Told
+told_by k at [] t = t
+told_by k at (x ∷ xs) t = told_by k at xs (told_after (present_at k.cabin x.minute.minute) x.minute.minute at x.round t)
+
+-- each has the round of a minute that the unit kept without failing
+abbrev pub AreRounds : Keeper → Moment → List Done → Told → Type 0
+AreRounds k at [] t = Unit {0}
+AreRounds k at (x ∷ xs) t = IsRound (present_at k.cabin x.minute.minute) (minute_of x.minute k) at false t.keeper x.round
+    × AreRounds k at xs (told_after (present_at k.cabin x.minute.minute) x.minute.minute at x.round t)
+
+-- HOW FAR IT CAME: these are kept; and, where the unit failed, in which minute behind them, and the round of that, if it is kept
+pub data Reach : Type 0 where
+  Whole : List Done → Reach
+  Short : List Done → Minute → Option Round → Reach
+
+-- the last one, in which the unit failed: nothing has changed, or it is kept
+abbrev pub IsLast : Keeper → Minute → Moment → (t u : Told) → Option Round → Type 0
+IsLast k m at t u None = u ≡ t
+IsLast k m at t u (Some round) = IsRound (present_at k.cabin m.minute) (minute_of m k) at true t.keeper round × (u ≡ told_after (present_at k.cabin m.minute) m.minute at round t)
+
+-- DECIDED MINUTES WERE TO BE KEPT, and it came so far: all are kept; or those before the first one in which the unit failed.
+abbrev pub IsReach : List Minute → Moment → (failed : Bool) → (t u : Told) → Reach → Type 0
+IsReach decided at false t u (Whole xs) = (decided ≡ map (λ x. x.minute) xs) × AreRounds t.keeper at xs t × (u ≡ told_by t.keeper at xs t)
+IsReach decided at false t u (Short xs m round) = ⊥
+IsReach decided at true t u (Whole xs) = ⊥
+IsReach decided at true t u (Short xs m round) = ((rest : List Minute) × (decided ≡ map (λ x. x.minute) xs ++ m ∷ rest)) × AreRounds t.keeper at xs t × IsLast t.keeper m at (told_by t.keeper at xs t) u round

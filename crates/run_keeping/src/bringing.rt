@@ -8,6 +8,8 @@ ghost use Rattle.card_session.specs.declared.words.TheConstants.{LATEST_MINUTE};
 ghost use Rattle.unit_notes.specs.Journal.{LeavesJournal};
 ghost use Rattle.run_crew.specs.Cards.{known_of, session_of};
 ghost use Rattle.run_crew.specs.Cabin.{Stands, IsBehind, crew_of};
+ghost use Rattle.run_keeping.specs.Owing.{BooksCard, BooksBrought};
+ghost use Rattle.run_rule.specs.Between.{devices};
 ghost use Rattle.run_keeping.specs.Keeping.{UnitReady, CardReady, HasItsRow, IsReady, AreEmptied, SessionsGoOn, Fate, IsBrought, IsNotingFault, tears_of, session_at, state_at, is_this};
 
 use crate::keeper::{Keeper, Moment};
@@ -52,13 +54,15 @@ impl Keeper {
         requires marks { length marks.old.items < marks.old.room }
         requires breaks { length breaks.old.items + tears_of (session_of self.old.cabin.cards which) ≤ breaks.old.room }
         ensures brought { (fate : Fate) × IsBrought (Some which) kept.now at (is_err result) self.old self.new marks.old marks.new breaks.old breaks.new fate (M.state unit.old) (M.state unit.new) (C.state card.old) (C.state card.new)
-            × LeavesOnly (M.state unit.old) (M.state unit.new) (IsNotingFault fate at.second (crew_of self.new.cabin)) }
+            × LeavesOnly (M.state unit.old) (M.state unit.new) (IsNotingFault fate at.second (crew_of self.new.cabin))
+            × BooksCard which kept.now fate self.old.cabin.cards self.new.cabin.cards (M.state unit.old) (C.state card.old) (C.state card.new) }
         ensures journal { LeavesOnly (M.state unit.old) (M.state unit.new) LeavesJournal }
         ensures cause { HasCause (M.state unit.old) (M.state unit.new) (is_err result) }
         ensures ready { OnOk result (UnitReady self.new (M.state unit.new)) }
         ensures rows { (card : Card) → HasItsRow self.old.cabin.cards (M.state unit.old) card → OnOk result (HasItsRow self.new.cabin.cards (M.state unit.new) card) }
         ensures card { CardReady (known_of self.new.cabin.cards which) (C.card card.new) (C.state card.new) }
         ensures size { (C.state card.new).size ≡ (C.state card.old).size }
+        ensures clock { (C.state card.old).clock ≤ (C.state card.new).clock }
         ensures broken { HasBroken (C.state card.old) (C.state card.new) (tears_of (session_of self.old.cabin.cards which) - tears_of (session_of self.new.cabin.cards which)) }
         ensures stands { (from : ℕ) (leaving : Option Card) → from ≤ kept.now.entry.minute + 1 → Stands from leaving self.old.cabin → Stands (kept.now.entry.minute + 1) leaving self.new.cabin }
     {
@@ -107,7 +111,8 @@ impl Keeper {
         requires marks { length marks.old.items < marks.old.room }
         requires breaks { length breaks.old.items + tears_of (session_at self.old.cabin.cards present) ≤ breaks.old.room }
         ensures brought { (fate : Fate) × IsBrought present kept.now at (is_err result) self.old self.new marks.old marks.new breaks.old breaks.new fate (M.state unit.old) (M.state unit.new) (state_at present (C.state card_a.old) (D.state card_b.old)) (state_at present (C.state card_a.new) (D.state card_b.new))
-            × LeavesOnly (M.state unit.old) (M.state unit.new) (IsNotingFault fate at.second (crew_of self.new.cabin)) }
+            × LeavesOnly (M.state unit.old) (M.state unit.new) (IsNotingFault fate at.second (crew_of self.new.cabin))
+            × BooksBrought present kept.now (is_err result) fate self.old.cabin.cards self.new.cabin.cards (devices (M.state unit.old) (C.state card_a.old) (D.state card_b.old)) (devices (M.state unit.new) (C.state card_a.new) (D.state card_b.new)) }
         ensures a_rests { is_this present A ≡ false → card_a.new ≡ card_a.old }
         ensures b_rests { is_this present B ≡ false → card_b.new ≡ card_b.old }
         ensures a_broken { HasBroken (C.state card_a.old) (C.state card_a.new) (tears_of self.old.cabin.cards.a.accepted - tears_of self.new.cabin.cards.a.accepted) }
@@ -121,6 +126,8 @@ impl Keeper {
         ensures card_b { CardReady self.new.cabin.cards.b (D.card card_b.new) (D.state card_b.new) }
         ensures size_a { (C.state card_a.new).size ≡ (C.state card_a.old).size }
         ensures size_b { (D.state card_b.new).size ≡ (D.state card_b.old).size }
+        ensures clock_a { (C.state card_a.old).clock ≤ (C.state card_a.new).clock }
+        ensures clock_b { (D.state card_b.old).clock ≤ (D.state card_b.new).clock }
         ensures rows { (card : Card) → HasItsRow self.old.cabin.cards (M.state unit.old) card → OnOk result (HasItsRow self.new.cabin.cards (M.state unit.new) card) }
         ensures stands { (from : ℕ) (leaving : Option Card) → from ≤ kept.now.entry.minute + 1 → Stands from leaving self.old.cabin → Stands (kept.now.entry.minute + 1) leaving self.new.cabin }
     {

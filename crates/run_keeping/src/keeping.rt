@@ -7,11 +7,15 @@ ghost use Rattle.unit_model.specs.declared.layout.TheConstants.{HIGHEST_ODOMETER
 ghost use Rattle.unit_model.specs.Image.{IsUnit};
 ghost use Rattle.owed_model.specs.Rows.{HasRow};
 ghost use Rattle.unit_journal.specs.Image.{Agrees};
-ghost use Rattle.run_crew.specs.Cabin.{Stands, MayBeKept};
+ghost use Rattle.run_crew.specs.Cabin.{Stands, MayBeKept, AreTwo};
 ghost use Rattle.trace_model.specs.declared.Card.{Card};
 ghost use Rattle.trace_model.specs.declared.Card.TheVariants.{A, B};
 ghost use Rattle.run_keeping.specs.Keeping.{UnitReady, CardReady, IsReady, HasItsRow, HaveRows, AreEmptied, SessionsGoOn, entry_in, kept_in, is_this, tears_of, most_tears, with_lines};
+ghost use Rattle.run_keeping.specs.Keeping.{TellsPresent};
 ghost use Rattle.run_keeping.specs.Minutes.{Round, IsMinute, unit_mark};
+ghost use Rattle.run_keeping.specs.Books.{BooksMinute};
+ghost use Rattle.run_keeping.specs.Owing.{BooksPut, BooksOwed};
+ghost use Rattle.run_rule.specs.Between.{devices};
 
 use crate::keeper::{Keeper, Moment};
 use activity_codec::{Entry, Slot};
@@ -61,6 +65,7 @@ impl Keeper {
         ensures same { self.new ≡ self.old }
         ensures ready { OnOk result (UnitReady self.new (M.state unit.new)) }
         ensures rows { (card : Card) → HasItsRow self.old.cabin.cards (M.state unit.old) card → OnOk result (HasItsRow self.new.cabin.cards (M.state unit.new) card) }
+        ensures booked { BooksPut present entry.now (is_err result) self.old.cabin.cards (devices (M.state unit.old) (C.state card_a.now) (D.state card_b.now)) (devices (M.state unit.new) (C.state card_a.now) (D.state card_b.now)) }
         ensures clock { (M.state unit.old).clock ≤ (M.state unit.new).clock }
         ensures tells { is_some (M.state unit.new).image ≡ is_some (M.state unit.old).image }
         ensures cause { HasCause (M.state unit.old) (M.state unit.new) (is_err result) }
@@ -108,6 +113,7 @@ impl Keeper {
         requires small { minute.now.minute ≤ LATEST_MINUTE }
         requires odometer { minute.now.odometer.0 ≤ HIGHEST_ODOMETER }
         requires room { length marks.old.items < marks.old.room }
+        requires apart { AreTwo present.driver present.codriver }
         ensures unit { IsUnit (M.state unit.new) }
         ensures keeper { self.new ≡ record self.old { journal = self.new.journal } }
         ensures notes { OnOk result ((self.new.journal.kept ≡ minute.now.minute) × (self.new.journal.odometer ≡ minute.now.odometer.0)) }
@@ -115,6 +121,7 @@ impl Keeper {
         ensures marked { OnOk result (marks.new ≡ with_lines (unit_mark minute.now.minute (M.state unit.new).clock ∷ []) marks.old) }
         ensures ready { OnOk result (UnitReady self.new (M.state unit.new)) }
         ensures rows { (card : Card) → HasItsRow self.old.cabin.cards (M.state unit.old) card → OnOk result (HasItsRow self.new.cabin.cards (M.state unit.new) card) }
+        ensures booked { TellsPresent minute.now present → BooksOwed present minute.now (is_err result) (record { keeper = self.old; marks = marks.old; breaks = record { items = []; room = 0 } }) (record { keeper = self.new; marks = marks.new; breaks = record { items = []; room = 0 } }) (devices (M.state unit.old) (C.state card_a.now) (D.state card_b.now)) (devices (M.state unit.new) (C.state card_a.now) (D.state card_b.now)) }
         ensures clock { (M.state unit.old).clock ≤ (M.state unit.new).clock }
         ensures tells { is_some (M.state unit.new).image ≡ is_some (M.state unit.old).image }
         ensures cause { HasCause (M.state unit.old) (M.state unit.new) (is_err result) }
@@ -163,7 +170,8 @@ impl Keeper {
         ensures same { (self.new.memory ≡ self.old.memory) × (self.new.odometer ≡ self.old.odometer) × (self.new.cabin.slots.past ≡ self.old.cabin.slots.past) }
         ensures last { OnOk result (self.new.journal.kept ≡ minute.now.minute) }
         ensures minute { self.new.cabin.slots.minute ≤ at.second / 60 }
-        ensures kept { (round : Option Round) × IsMinute present minute.now at (is_err result) (record { keeper = self.old; marks = marks.old; breaks = breaks.old }) (record { keeper = self.new; marks = marks.new; breaks = breaks.new }) (C.state card_a.old) (C.state card_a.new) (D.state card_b.old) (D.state card_b.new) round }
+        ensures kept { (round : Option Round) × IsMinute present minute.now at (is_err result) (record { keeper = self.old; marks = marks.old; breaks = breaks.old }) (record { keeper = self.new; marks = marks.new; breaks = breaks.new }) (C.state card_a.old) (C.state card_a.new) (D.state card_b.old) (D.state card_b.new) round
+            × (TellsPresent minute.now present → BooksMinute present minute.now (is_err result) round (record { keeper = self.old; marks = marks.old; breaks = breaks.old }) (record { keeper = self.new; marks = marks.new; breaks = breaks.new }) (devices (M.state unit.old) (C.state card_a.old) (D.state card_b.old)) (devices (M.state unit.new) (C.state card_a.new) (D.state card_b.new))) }
         ensures a_rests { is_this present.driver A ≡ false → is_this present.codriver A ≡ false → card_a.new ≡ card_a.old }
         ensures b_rests { is_this present.driver B ≡ false → is_this present.codriver B ≡ false → card_b.new ≡ card_b.old }
         ensures unit { IsUnit (M.state unit.new) }
@@ -177,6 +185,8 @@ impl Keeper {
         ensures card_b { CardReady self.new.cabin.cards.b (D.card card_b.new) (D.state card_b.new) }
         ensures size_a { (C.state card_a.new).size ≡ (C.state card_a.old).size }
         ensures size_b { (D.state card_b.new).size ≡ (D.state card_b.old).size }
+        ensures clock_a { (C.state card_a.old).clock ≤ (C.state card_a.new).clock }
+        ensures clock_b { (D.state card_b.old).clock ≤ (D.state card_b.new).clock }
         ensures marks { (marks.new.room ≡ marks.old.room) × (length marks.new.items ≤ length marks.old.items + 3) }
         ensures breaks { (breaks.new.room ≡ breaks.old.room) × (length breaks.new.items + most_tears self.new.cabin.cards ≤ length breaks.old.items + most_tears self.old.cabin.cards) }
         ensures a_broken { HasBroken (C.state card_a.old) (C.state card_a.new) (tears_of self.old.cabin.cards.a.accepted - tears_of self.new.cabin.cards.a.accepted) }

@@ -10,6 +10,3 @@ mod tearing;
 
 pub use keeper::{Keeper, Moment};
 pub use minutes::odometer_after;
-
-#[cfg(test)]
-mod tests;

@@ -7,7 +7,9 @@ ghost use Rattle.unit_model.specs.declared.layout.TheConstants.{HIGHEST_ODOMETER
 ghost use Rattle.unit_model.specs.Image.{IsUnit};
 ghost use Rattle.run_crew.specs.Cabin.{Stands};
 ghost use Rattle.run_keeping.specs.Keeping.{IsReady, CardReady, HasItsRow, HaveRows, AreEmptied, SessionsGoOn, tears_of, most_tears};
-ghost use Rattle.run_keeping.specs.Minutes.{odometer_by, kept_of, AreDue, kept_after, AreKeptUpTo};
+ghost use Rattle.run_keeping.specs.Minutes.{odometer_by, kept_of, AreDue, kept_after, AreKeptUpTo, Reach, IsReach};
+ghost use Rattle.run_keeping.specs.Decided.{BooksAll};
+ghost use Rattle.run_rule.specs.Between.{devices};
 
 use crate::keeper::{Keeper, Moment};
 use activity_codec::Activity;
@@ -80,6 +82,8 @@ impl Keeper {
         requires marks { length marks.old.items + 3 * length decided.now ≤ marks.old.room }
         requires breaks { length breaks.old.items + most_tears self.old.cabin.cards ≤ breaks.old.room }
         ensures kept { AreKeptUpTo decided.now at (is_err result) (record { keeper = self.old; marks = marks.old; breaks = breaks.old }) (record { keeper = self.new; marks = marks.new; breaks = breaks.new }) }
+        ensures booked { (reach : Reach) × IsReach decided.now at (is_err result) (record { keeper = self.old; marks = marks.old; breaks = breaks.old }) (record { keeper = self.new; marks = marks.new; breaks = breaks.new }) reach
+            × BooksAll decided.now (is_err result) reach (record { keeper = self.old; marks = marks.old; breaks = breaks.old }) (record { keeper = self.new; marks = marks.new; breaks = breaks.new }) (devices (M.state unit.old) (C.state card_a.old) (D.state card_b.old)) (devices (M.state unit.new) (C.state card_a.new) (D.state card_b.new)) }
         ensures unit { IsUnit (M.state unit.new) }
         ensures more { length breaks.old.items ≤ length breaks.new.items }
         ensures ready { OnOk result (IsReady self.new (M.state unit.new) (C.card card_a.new) (D.card card_b.new) (C.state card_a.new) (D.state card_b.new)) }
@@ -94,6 +98,8 @@ impl Keeper {
         ensures card_b { CardReady self.new.cabin.cards.b (D.card card_b.new) (D.state card_b.new) }
         ensures size_a { (C.state card_a.new).size ≡ (C.state card_a.old).size }
         ensures size_b { (D.state card_b.new).size ≡ (D.state card_b.old).size }
+        ensures clock_a { (C.state card_a.old).clock ≤ (C.state card_a.new).clock }
+        ensures clock_b { (D.state card_b.old).clock ≤ (D.state card_b.new).clock }
         ensures marks { (marks.new.room ≡ marks.old.room) × (length marks.new.items ≤ length marks.old.items + 3 * length decided.now) }
         ensures breaks { (breaks.new.room ≡ breaks.old.room) × (length breaks.new.items + most_tears self.new.cabin.cards ≤ length breaks.old.items + most_tears self.old.cabin.cards) }
         ensures a_broken { HasBroken (C.state card_a.old) (C.state card_a.new) (tears_of self.old.cabin.cards.a.accepted - tears_of self.new.cabin.cards.a.accepted) }

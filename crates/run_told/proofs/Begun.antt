@@ -1,5 +1,5 @@
 -- The row of a card is begun that was put in: it is accepted. And a card is torn out, or taken as one that is not accepted.
-use Rattle.std.proofs.Common.{◌≡◌, ◌≢◌, ◌⊎◌, inl, inr, ⊎_elim, ℕ, suc, max, ◌/◌, ◌<◌, ◌≤◌, Bool, true, false, Option, Some, None, IfSome, is_some, List, [], ◌∷◌, ◌++◌, All, Contains, refl, ap, subst, ◌∙◌, sym, arith}
+use Rattle.std.proofs.Common.{◌≡◌, ◌≢◌, ℕ, max, ◌/◌, ◌≤◌, Bool, true, false, Option, Some, None, is_some, List, [], ◌∷◌, Contains, refl, ap, subst, ◌∙◌, sym, arith}
 use Rattle.std.proofs.lemmas.List.{append-nil}
 use Rattle.activity_codec.specs.declared.entries.Entry.{Entry}
 use Rattle.trace_model.specs.declared.Card.{Card}
@@ -7,11 +7,10 @@ use Rattle.trace_model.specs.declared.Card.TheVariants.{A, B}
 use Rattle.tach_media.specs.Medium.{State, IsCoherent}
 use Rattle.log_model.specs.declared.lines.Mark.{Mark}
 use Rattle.card_image.specs.Own.{own_view, own_sizes, IsOwnValid}
-use Rattle.card_steps.specs.Since.{HoldsSince}
 use Rattle.card_steps.proofs.Since.{later_holds}
 use Rattle.history_model.specs.Book.{Book}
 use Rattle.joint_rule.specs.Views.{other}
-use Rattle.joint_rule.specs.Rules.{Standing, In, Out, Torn, since, CardDark, CardRule, IsEntered}
+use Rattle.joint_rule.specs.Rules.{Standing, In, Out, Torn, since, CardRule, IsEntered}
 use Rattle.joint_rule.specs.Marked.{of_card, HasBrought}
 use Rattle.joint_rule.proofs.Repairing.{repaired-in}
 use Rattle.unit_rule.specs.Rule.{Started}
@@ -25,11 +24,11 @@ use Rattle.run_crew.specs.Cards.{session_of}
 use Rattle.run_rule.specs.Found.{CardFound, Found, found_of, unit_seen, AnyKept}
 use Rattle.run_rule.specs.Cards.{brought_by}
 use Rattle.run_rule.specs.Between.{Carried}
-use Rattle.run_strung.specs.Strung.{IsHeld, EachIsStrung}
+use Rattle.run_strung.specs.Strung.{IsHeld}
 use Rattle.run_strung.proofs.Strung.{held-out}
-use Rattle.run_told.specs.Told.{AreFoundCards, IsOn, GoesOwing, IsPutIn, IsPowered, IsPowerless, for_card, arranged, with_standing, with_acceptance}
-use Rattle.run_told.proofs.Parts.{both_of, as-steps, of-steps, of-rests, left-one, CardLit, CardOff, off-of, UnitLit, AreParts, MarksLit, parts-of, powered-of, powerless-of, brought-on, at-card, at-other}
-use Rattle.run_told.proofs.OnCards.{time-of, bound_of}
+use Rattle.run_told.specs.Told.{AreFoundCards, IsPutIn, IsPowered, IsPowerless, for_card, arranged, with_standing, with_acceptance}
+use Rattle.run_told.proofs.Parts.{both_of, as-steps, of-steps, of-rests, left-one, CardLit, CardOff, AreParts, parts-of, powered-of, powerless-of, brought-on, at-card, at-other}
+use Rattle.run_told.proofs.OnCards.{bound_of}
 
 -- the steps' card is the run's
 pub entered-as : (f : Found) (two : f.card_a.number ≢ f.card_b.number) (c : Card) (session newest : ℕ) (X : State) → IsEntered (found_of f c).start (found_of f c).began session newest (of_card X) → IsEntered (opened (both_of f two) c).start (opened (both_of f two) c).began session newest (card_seen X)
@@ -92,7 +91,7 @@ module _ (f : Found) (w : Carried) (cards : Cards) (c : Card) (U V X Y : State) 
       goes = record {
         has = brought_by c (found_of f c).start w.book;
         all = append-nil (brought_by c (found_of f c).start w.book);
-        goes = record { time = now; stands = refl; sizes = put.sizes; session = put.session; goes = put.goes };
+        goes = record { time = now; stands = refl; sizes = put.sizes; session = put.session; ends = put.ends; goes = put.goes };
       };
     }
 

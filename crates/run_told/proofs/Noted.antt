@@ -1,5 +1,5 @@
 -- A note on the unit, of an insertion, a withdrawal, a place or an event, and a note on a card: what is carried stands behind it.
-use Rattle.std.proofs.Common.{◌≡◌, ◌≢◌, ◌⊎◌, inl, inr, ⊎_elim, ℕ, suc, max, ◌<◌, ◌≤◌, Bool, true, false, Option, Some, None, IfSome, is_some, List, [], ◌∷◌, ◌++◌, All, Contains, refl, ap, subst, ◌∙◌, sym, arith}
+use Rattle.std.proofs.Common.{◌≡◌, ◌≢◌, ◌⊎◌, inl, inr, ℕ, suc, max, ◌≤◌, true, Option, Some, None, IfSome, List, [], length, Contains, ap, subst, ◌∙◌, sym, arith}
 use Rattle.std.proofs.lemmas.List.{append-nil}
 use Rattle.activity_codec.specs.declared.entries.Entry.{Entry}
 use Rattle.trace_model.specs.declared.Card.{Card}
@@ -8,20 +8,21 @@ use Rattle.tach_media.specs.Medium.{State, IsCoherent, LeavesOnly}
 use Rattle.tach_media.proofs.Runs.{at_image, if_told}
 use Rattle.card_layout.specs.declared.files.Application.{Application}
 use Rattle.card_layout.specs.Application.{IsApplication}
+use Rattle.card_layout.specs.Files.{image_size_of}
 use Rattle.card_image.specs.Judging.{IsValid}
 use Rattle.card_image.specs.View.{CardView}
 use Rattle.card_image.specs.Own.{own_view, own_sizes, IsOwnValid}
-use Rattle.card_session.specs.Sessions.{Session, IsSession, IsValue}
+use Rattle.card_session.specs.Sessions.{IsSession, IsValue}
+use Rattle.card_session.specs.Cards.{MayEnd}
 use Rattle.card_steps.specs.Since.{GoesSince, HoldsSince}
 use Rattle.card_steps.proofs.Since.{beside_holds}
 use Rattle.unit_notes.specs.Journal.{LeavesJournal}
-use Rattle.history_model.specs.Book.{Book}
 use Rattle.joint_rule.specs.Views.{other}
 use Rattle.joint_rule.specs.Device.{LeavesViews}
-use Rattle.joint_rule.specs.Rules.{Standing, In, Out, Torn, since, CardDark, CardRule}
+use Rattle.joint_rule.specs.Rules.{Standing, In, Torn, since, CardDark, CardRule}
 use Rattle.joint_rule.specs.Marked.{of_card, HasBrought}
 use Rattle.safety_model.specs.Safe.{card_of}
-use Rattle.device_steps.specs.Rule.{Both, CardHolds}
+use Rattle.device_steps.specs.Rule.{CardHolds}
 use Rattle.device_steps.specs.CardNotes.{IsNote, IsSound}
 use Rattle.device_steps.proofs.Noted.{noted-holds, noted-card}
 use Rattle.device_steps.proofs.CardNoted.{noted-valid, noted-sizes, noted-own, noted-tears, noted-holds as card-noted}
@@ -32,10 +33,10 @@ use Rattle.run_rule.specs.Found.{Found, found_of, unit_seen, AnyKept}
 use Rattle.run_rule.specs.Cards.{brought_by, CardMarksHold}
 use Rattle.run_rule.specs.Between.{Carried, devices}
 use Rattle.run_strung.specs.Strung.{IsHeld}
-use Rattle.run_told.specs.Told.{AreFoundCards, IsOn, GoesWith, GoesOwing, owes_nothing, AllGo, IsLitWith, IsPowered, IsPowerless, for_card, arranged, with_standing}
+use Rattle.run_told.specs.Told.{AreFoundCards, IsOn, GoesOwing, owes_nothing, AllGo, IsLitWith, IsPowered, IsPowerless, arranged, with_standing}
 use Rattle.run_told.proofs.Parts.{both_of, as-steps, of-steps, CardLit, off-of, UnitLit, AreParts, MarksLit, parts-of, powered-of, powerless-of, owing-of, brought-on, at-card, at-other}
 use Rattle.run_told.proofs.OnCards.{own-number-still, own-valid, valid-own, valid-or, no-marks, time-of, Rises, rises-run, none-falls, marks-on, brought-card, bound_of, held-on, valid-on, told-on}
-use Rattle.run_told.proofs.NotedCard.{note-number, note-days, note-mark, note-session_time, note-goes, note-session}
+use Rattle.run_told.proofs.NotedCard.{note-ends, note-number, note-days, note-mark, note-session_time, note-goes, note-session}
 
 -- ---- ON THE UNIT, whatever is put or owed
 
@@ -183,13 +184,20 @@ module _ (f : Found) (w : Carried) (c : Card) (U X Y : State) (two : f.card_a.nu
   note-marks h = marks-on (found_of f c) c w.book w.marks X Y whole views h
 
   -- it is noted
-  module _ (works : X.works ≡ true) (well : Y.works ≡ true) where
-    session-told : (n : List ℕ) → Y.image ≡ Some n → IsSession a.session n × GoesSince a.session.application (found_of f c).image one.goes.has (suc (max (found_of f c).start.word a.session.minute)) n
+  module _ (works : X.works ≡ true) (well : Y.works ≡ true) (room : image_size_of (own_sizes (found_of f c).image) ≤ X.size) where
+    long : {x : List ℕ} → X.image ≡ Some x → image_size_of a.session.application ≤ length x
+    long {x} is = subst (λ (p : Application). image_size_of p ≤ length x) (sym on.sizes) (omega (arith, room, whole.sized x is))
+
+    long-after : {n : List ℕ} → Y.image ≡ Some n → image_size_of a.session.application ≤ length n
+    long-after {n} is = subst (λ (p : Application). image_size_of p ≤ length n) (sym on.sizes) (omega (arith, room, run.size, after.sized n is))
+
+    session-told : (n : List ℕ) → Y.image ≡ Some n → IsSession a.session n × MayEnd a.session.application n × GoesSince a.session.application (found_of f c).image one.goes.has (suc (max (found_of f c).start.word a.session.minute)) n
     session-told n is = by (told-on (IsNote (own_sizes (found_of f c).image)) X Y whole after works run n is)
       where
-        by : (x : List ℕ) × (X.image ≡ Some x) × ((n ≡ x) ⊎ IsNote (own_sizes (found_of f c).image) x n) → IsSession a.session n × GoesSince a.session.application (found_of f c).image one.goes.has (suc (max (found_of f c).start.word a.session.minute)) n
+        by : (x : List ℕ) × (X.image ≡ Some x) × ((n ≡ x) ⊎ IsNote (own_sizes (found_of f c).image) x n) → IsSession a.session n × MayEnd a.session.application n × GoesSince a.session.application (found_of f c).image one.goes.has (suc (max (found_of f c).start.word a.session.minute)) n
         by (x, was, inl same) = (
           subst (IsSession a.session) (sym same) (at_image (IsSession a.session) was on.session),
+          subst (MayEnd a.session.application) (sym same) (at_image (MayEnd a.session.application) was on.ends),
           subst (GoesSince a.session.application (found_of f c).image one.goes.has (suc (max (found_of f c).start.word a.session.minute))) (sym same)
               (at_image (GoesSince a.session.application (found_of f c).image one.goes.has (suc (max (found_of f c).start.word a.session.minute))) was on.goes),
         )
@@ -198,6 +206,7 @@ module _ (f : Found) (w : Carried) (c : Card) (U X Y : State) (two : f.card_a.nu
             let valid_s = subst (λ (p : Application). IsValid p x) (sym on.sizes) (sound-at x was).1 in
             let sound_s = subst IsApplication (sym on.sizes) sound in (
               note-session a.session value.days sound_s x valid_s n note_s (at_image (IsSession a.session) was on.session),
+              note-ends a.session.application sound_s x n (long was) (long-after is) valid_s note_s (at_image (MayEnd a.session.application) was on.ends),
               note-goes a.session.application sound_s x valid_s n note_s (found_of f c).image one.goes.has (suc (max (found_of f c).start.word a.session.minute))
                   (at_image (GoesSince a.session.application (found_of f c).image one.goes.has (suc (max (found_of f c).start.word a.session.minute))) was on.goes),
             )
@@ -219,7 +228,8 @@ module _ (f : Found) (w : Carried) (c : Card) (U X Y : State) (two : f.card_a.nu
               stands = on.stands;
               sizes = on.sizes;
               session = if_told Y.image (IsSession a.session) (λ n is. (session-told n is).0);
-              goes = if_told Y.image (GoesSince a.session.application (found_of f c).image one.goes.has (suc (max (found_of f c).start.word a.session.minute))) (λ n is. (session-told n is).1);
+              ends = if_told Y.image (MayEnd a.session.application) (λ n is. (session-told n is).1);
+              goes = if_told Y.image (GoesSince a.session.application (found_of f c).image one.goes.has (suc (max (found_of f c).start.word a.session.minute))) (λ n is. (session-told n is).2);
             };
           };
         }
@@ -259,11 +269,11 @@ module _ (f : Found) (w : Carried) (cards : Cards) (c : Card) (U X Y Z : State) 
       by (inl valid) = note-marks f w c U X Y found.two unit_whole whole after parts.unit (found.sizes c valid) a value (mine valid) run parts.marks_mine
       by (inr bad) = no-marks f c w.book w.marks X Y bad parts.marks_mine
 
-  pub noted-on : X.works ≡ true → Y.works ≡ true → IsPowered f w cards (arranged c U Y Z)
-  noted-on works well = powered-of f w cards c U Y Z found (record {
+  pub noted-on : X.works ≡ true → Y.works ≡ true → image_size_of (own_sizes (found_of f c).image) ≤ X.size → IsPowered f w cards (arranged c U Y Z)
+  noted-on works well room = powered-of f w cards c U Y Z found (record {
     unit = parts.unit;
     mine = λ valid. subst (λ (o : Option Accepted). CardLit f w.book (w.standing c) (w.brought c) o c U Y) (sym has)
-        (note-lit f w c U X Y found.two unit_whole whole after parts.unit (found.sizes c valid) a value (mine valid) run works well);
+        (note-lit f w c U X Y found.two unit_whole whole after parts.unit (found.sizes c valid) a value (mine valid) run works well room);
     others = parts.others;
     marks_mine = marks;
     marks_others = parts.marks_others;

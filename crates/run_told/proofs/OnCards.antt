@@ -1,25 +1,24 @@
 -- A call on a card, by what it leaves of its images: what it has acknowledged, what was brought, its string.
-use Rattle.std.proofs.Common.{◌≡◌, ◌⊎◌, inl, inr, ⊎_elim, ℕ, suc, max, ◌≤◌, true, Option, Some, None, is_some, List, [], ◌∷◌, ◌++◌, All, Contains, refl, ap, subst, ◌∙◌, sym, arith}
+use Rattle.std.proofs.Common.{◌≡◌, ◌⊎◌, inl, inr, ⊎_elim, ℕ, suc, max, ◌≤◌, true, Option, Some, None, is_some, List, All, refl, ap, subst, ◌∙◌, sym, arith}
 use Rattle.std.proofs.lemmas.List.Elements.{All-weaker, All-nil}
 use Rattle.trace_model.specs.declared.Card.{Card}
 use Rattle.tach_media.specs.Medium.{State, IsCoherent, LeavesOnly, Unchanged}
-use Rattle.tach_media.proofs.Runs.{weaken, told_too}
+use Rattle.tach_media.proofs.Runs.{weaken}
 use Rattle.log_model.specs.declared.lines.Mark.{Mark}
 use Rattle.log_model.specs.Causes.{device_of}
 use Rattle.card_layout.specs.declared.files.Application.{Application}
 use Rattle.card_layout.specs.declared.files.Fid.{Fid}
 use Rattle.card_layout.specs.Application.{IsApplication}
 use Rattle.card_image.specs.View.{CardView}
-use Rattle.card_image.specs.Judging.{first_bad_file, IsValid}
+use Rattle.card_image.specs.Judging.{IsValid}
 use Rattle.card_image.specs.Fields.{card_number}
 use Rattle.card_image.specs.Own.{own_view, own_sizes, own_number, own_bad_file, IsOwnValid}
 use Rattle.card_steps.specs.Since.{HoldsSince}
-use Rattle.card_steps.specs.Each.{KeepsSince}
 use Rattle.card_steps.proofs.Kept.{holds_kept}
 use Rattle.history_model.specs.Book.{Book}
 use Rattle.joint_rule.specs.Device.{LeavesViews}
 use Rattle.joint_rule.specs.Rules.{Standing, In, since, CardDark}
-use Rattle.joint_rule.specs.Marked.{of_card, HasBrought, HasMarked}
+use Rattle.joint_rule.specs.Marked.{of_card, HasBrought}
 use Rattle.joint_rule.proofs.Staying.{marks-stay}
 use Rattle.joint_rule.proofs.Viewed.{seen-run}
 use Rattle.safety_model.specs.Unit.{marks_of}

@@ -1,5 +1,5 @@
 -- All that is carried, of one card and of the other; and the string of a card by its images.
-use Rattle.std.proofs.Common.{◌≡◌, ◌≢◌, ℕ, suc, max, ◌<◌, ◌≤◌, Bool, true, false, Option, Some, None, is_some, List, [], ◌∷◌, ◌++◌, All, Contains, refl, ap, subst, ◌∙◌, sym, arith}
+use Rattle.std.proofs.Common.{◌≡◌, ◌≢◌, ℕ, suc, max, ◌≤◌, true, false, Option, Some, None, is_some, List, [], ◌++◌, All, Contains, refl, ap, subst, ◌∙◌, sym, arith}
 use Rattle.std.specs.Prelude.{option_to_list}
 use Rattle.std.proofs.lemmas.List.Elements.{All-nil}
 use Rattle.activity_codec.specs.declared.entries.Entry.{Entry}
@@ -8,15 +8,14 @@ use Rattle.trace_model.specs.declared.Card.TheVariants.{A, B}
 use Rattle.tach_media.specs.Medium.{State, IsCoherent}
 use Rattle.log_model.specs.declared.lines.Mark.{Mark}
 use Rattle.card_retention.specs.Retains.{Rise}
-use Rattle.card_image.specs.View.{CardView}
 use Rattle.card_image.specs.Own.{own_view, own_sizes, IsOwnValid}
 use Rattle.card_steps.specs.Since.{HoldsSince}
 use Rattle.card_steps.specs.Each.{KeepsSince}
 use Rattle.history_model.specs.Minutes.{HistoryMinute, card_history}
 use Rattle.history_model.specs.Presence.{CardStart}
-use Rattle.history_model.specs.Book.{Book, all}
+use Rattle.history_model.specs.Book.{Book}
 use Rattle.history_model.proofs.Books.{history-none}
-use Rattle.joint_rule.specs.Views.{UnitView, unit_view, other}
+use Rattle.joint_rule.specs.Views.{UnitView, other}
 use Rattle.joint_rule.specs.Rules.{Standing, since, CardDark, CardRule}
 use Rattle.joint_rule.specs.Marked.{of_card, HasBrought}
 use Rattle.safety_model.specs.Safe.{Devices, card_of}
@@ -27,7 +26,7 @@ use Rattle.run_crew.specs.declared.cards.Accepted.{Accepted}
 use Rattle.run_crew.specs.declared.cards.Cards.{Cards}
 use Rattle.run_crew.specs.Cards.{session_of}
 use Rattle.run_rule.specs.Found.{CardFound, Found, found_of, unit_seen, AnyKept}
-use Rattle.run_rule.specs.Cards.{brought_by, CardMarksHold, CardStands, CardWaits, IsStrung}
+use Rattle.run_rule.specs.Cards.{brought_by, CardMarksHold, IsStrung}
 use Rattle.run_rule.specs.Between.{Carried, IsLit, IsCarried, devices}
 use Rattle.run_strung.specs.Strung.{IsHeld, EachIsStrung}
 use Rattle.run_strung.proofs.Strung.{strung}

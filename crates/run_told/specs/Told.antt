@@ -1,19 +1,23 @@
 -- What is carried of unit and cards between two calls of a run (profile): beside the rules that join them, how each image of a card holds its
 -- string, and the sessions of the cards that are in their slots.
-use Rattle.std.specs.Prelude.{◌≡◌, ◌≢◌, ℕ, suc, max, ◌<◌, ◌≤◌, true, Option, Some, None, IfSome, List, [], ◌∷◌, ◌++◌, All, Contains, is_some, option_to_list}
+use Rattle.std.specs.Prelude.{◌≡◌, ◌≢◌, ℕ, suc, max, ◌<◌, ◌≤◌, true, Option, Some, None, IfSome, List, [], ◌∷◌, ◌++◌, All, Contains, length, map, is_some, option_to_list}
 use Rattle.activity_codec.specs.declared.entries.Entry.{Entry}
 use Rattle.trace_model.specs.declared.Card.{Card}
 use Rattle.trace_model.specs.declared.Card.TheVariants.{A, B}
 use Rattle.tach_media.specs.Medium.{State}
 use Rattle.tacho_types.specs.CardNumber.{card_number_bytes}
+use Rattle.log_model.specs.declared.lines.Mark.{Mark}
+use Rattle.log_model.specs.Causes.{device_of}
 use Rattle.card_layout.specs.Application.{IsApplication}
 use Rattle.card_retention.specs.Retains.{Rise}
 use Rattle.card_image.specs.Own.{own_view, own_sizes, IsOwnValid}
 use Rattle.card_session.specs.Sessions.{Session, IsSession}
+use Rattle.card_session.specs.Cards.{MayEnd}
 use Rattle.card_steps.specs.Since.{GoesSince}
 use Rattle.history_model.specs.Minutes.{card_history}
-use Rattle.history_model.specs.Book.{Book}
-use Rattle.joint_rule.specs.Rules.{Standing, In, since, CardRule, IsEntered}
+use Rattle.history_model.specs.Book.{Book, found}
+use Rattle.joint_rule.specs.Views.{unit_view, owed}
+use Rattle.joint_rule.specs.Rules.{Standing, In, Out, since, CardRule, IsEntered}
 use Rattle.joint_rule.specs.Marked.{of_card, HasBrought}
 use Rattle.safety_model.specs.Safe.{Devices, card_of}
 use Rattle.unit_rule.specs.Marks.{Holds}
@@ -56,12 +60,14 @@ AllWait f w d = (c : Card) → IsOwnValid (found_of f c).image → IsHeldDark (f
 -- ---- the sessions
 
 -- A CARD IN ITS SLOT, with this session, and with these entries since the start: it stands with the session's newest minute, its image is
--- what the session knows, and its string goes on with each minute later than that one and than the words at the start.
+-- what the session knows, and would be valid, were the session ended, and its string goes on with each minute later than that one and than
+-- the words at the start.
 pub record IsOn (f : CardFound) (has : List Entry) (z : Standing) (s : Session) (card : State) : Type 0 where
   pub time : ℕ
   pub stands : z ≡ In time s.minute
   pub sizes : s.application ≡ own_sizes f.image
   pub session : IfSome card.image (IsSession s)
+  pub ends : IfSome card.image (MayEnd s.application)
   pub goes : IfSome card.image (GoesSince s.application f.image has (suc (max f.start.word s.minute)))
 
 -- a card goes with its session, and is in its slot, accepted, exactly where it has one
@@ -84,11 +90,12 @@ pub record AllGo (f : Found) (w : Carried) (owes : Card → List Entry) (cards :
   pub held : (c : Card) → IsOwnValid (found_of f c).image → IsHeld (found_of f c) c w.book (w.standing c) (card_of d c)
   pub goes : (c : Card) → IsOwnValid (found_of f c).image → GoesOwing (found_of f c) c w.book (owes c) (w.standing c) (session_of cards c) (card_of d c)
 
--- A card that was put in and whose row is not begun yet: its image is what the session knows, and its string goes on.
+-- A card that was put in and whose row is not begun yet: so is its image, and so its string goes on.
 pub record IsPutIn (f : CardFound) (c : Card) (b : Book) (now : ℕ) (s : Session) (card : State) : Type 0 where
   pub entered : IsEntered f.start f.began now s.minute (of_card card)
   pub sizes : s.application ≡ own_sizes f.image
   pub session : IfSome card.image (IsSession s)
+  pub ends : IfSome card.image (MayEnd s.application)
   pub goes : IfSome card.image (GoesSince s.application f.image (brought_by c f.start b) (suc (max f.start.word s.minute)))
 
 -- ---- all of it
@@ -148,3 +155,30 @@ with_standing c z w = record w { standing = for_card c z w.standing }
 -- it is accepted in a second, with a newest minute, when the unit had kept this minute last
 abbrev pub with_acceptance : Card → (now newest kept : ℕ) → Carried → Carried
 with_acceptance c now newest kept w = record w { standing = for_card c (In now newest) w.standing; brought = for_card c (kept ∷ w.brought c) w.brought }
+
+-- the marks of entries that a card has, all at this clock
+abbrev pub card_marks : Card → (clock : ℕ) → List Entry → List Mark
+card_marks c clock es = map (λ e. record { device = device_of c; minute = e.minute; clock = clock }) es
+
+-- marks more
+abbrev pub with_marks : List Mark → Carried → Carried
+with_marks marks w = record w { marks = w.marks ++ marks }
+
+-- this minute is found to be the last-kept one
+abbrev pub carried_found : (k : ℕ) → Carried → Carried
+carried_found k w = record w { book = found k w.book }
+
+-- no card is accepted
+abbrev pub all_out : Carried → Carried
+all_out w = record w { standing = λ c. Out }
+
+-- WHAT THE FIND OF AN ACCEPTANCE IS TO TELL: by an image of unit and of card that a stop might have left then so many entries were owed, and
+-- the card was valid and told of no later time.
+pub record HasFoundSo (f : Found) (c : Card) (unit card : State) (now replayed : ℕ) : Type 0 where
+  pub unit_image : List ℕ
+  pub card_image : List ℕ
+  pub on : unit.may_leave unit_image
+  pub there : card.may_leave card_image
+  pub valid : IsOwnValid card_image
+  pub early : (own_view card_image).stored ≤ now
+  pub number : length (owed c (unit_view f.card_a.number f.card_b.number unit_image) (own_view card_image)) ≡ replayed

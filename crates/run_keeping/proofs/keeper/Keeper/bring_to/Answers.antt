@@ -6,14 +6,44 @@ use Rattle.run_model.specs.declared.Device.{Device}
 use Rattle.run_crew.specs.declared.cards.Accepted.{Accepted}
 use Rattle.run_crew.specs.declared.cards.Cards.{Cards}
 use Rattle.run_crew.specs.declared.cabin.Cabin.{Cabin}
-use Rattle.run_crew.specs.Cards.{with_session}
+use Rattle.run_crew.specs.Cards.{session_of, with_session}
 use Rattle.run_crew.specs.Cabin.{Stands, torn_out, left_from, slot_with, crew_of}
 use Rattle.run_crew.proofs.Moves.{kept-stands}
 use Rattle.run_keeping.specs.declared.keeper.Keeper.{Keeper}
-use Rattle.run_keeping.specs.Keeping.{Has, Fell, IsNotingFault, with_lines}
+use Rattle.run_crew.specs.declared.cards.Known.{Known}
+use Rattle.run_keeping.specs.Owing.{BooksCard}
+use Rattle.run_keeping.specs.Keeping.{Still, Has, Fell, IsNotingFault, with_lines}
 use Rattle.run_keeping.proofs.Sessions.{session-twice, stands-later, torn-stands}
-use Rattle.run_keeping.proofs.Fates.{has-brought, fell-brought}
+use Rattle.run_keeping.proofs.Fates.{has-brought, fell-brought, still-brought}
+use Rattle.run_keeping.proofs.CardBooked.{session-set, no-session, none-there, session-unset, booked-still, booked-fell, booked-has}
 use Rattle.run_keeping.proofs.keeper.Keeper.bring_to.Goals as goal
+
+-- ---- it has no session
+
+pub returns-in_default-clause-brought : goal.returns-in_default-clause-brought
+returns-in_default-clause-brought g c =
+    let k = c.args.self.now in
+    let U = g.M.Medium.state c.args.unit.now in
+    let X = g.C.Chip.state c.args.card.now in
+    let gone = no-session c.args.which k.cabin.cards (g.C.Chip.card c.args.card.now) X c.requires.card (λ app is. c.in_default.not-Ok app (ap (λ (q : Known). q.sizes) c.of.ensures ∙ is)) in (
+      Still,
+      still-brought c.args.which c.args.kept.now c.args.at k k c.args.marks.now c.args.breaks.now U U X X gone refl,
+      starts U (IsNotingFault Still c.args.at.second (crew_of k.cabin)),
+      booked-still c.args.which c.args.kept.now k.cabin.cards U X gone,
+    )
+
+pub returns-in_default-take-clause-brought : goal.returns-in_default-take-clause-brought
+returns-in_default-take-clause-brought g c =
+    let k = c.args.self.now in
+    let U = g.M.Medium.state c.args.unit.now in
+    let X = g.C.Chip.state c.args.card.now in
+    let gone : session_of k.cabin.cards c.args.which ≡ None = sym c.take.ensures.taken ∙ none-there c.take.result c.in_default-take.not-Some in
+    let same : c.take.new.self ≡ k.cabin.cards = c.take.ensures.left ∙ session-unset c.args.which k.cabin.cards gone in (
+      Still,
+      still-brought c.args.which c.args.kept.now c.args.at k (record k { cabin = record { slots = k.cabin.slots; cards = c.take.new.self } }) c.args.marks.now c.args.breaks.now U U X X gone (ap (λ (q : Cards). record k { cabin = record { slots = k.cabin.slots; cards = q } }) same),
+      starts U (IsNotingFault Still c.args.at.second (crew_of (record { slots = k.cabin.slots; cards = c.take.new.self }))),
+      subst (λ (q : Cards). BooksCard c.args.which c.args.kept.now Still k.cabin.cards q U X X) (sym same) (booked-still c.args.which c.args.kept.now k.cabin.cards U X gone),
+    )
 
 -- ---- the call failed
 
@@ -29,6 +59,9 @@ returns-then-is_err-clause-brought g c =
       fell-brought c.args.which c.args.kept.now c.args.at k c.tear.new.self c.args.marks.now c.args.breaks.now (g.M.Medium.state c.args.unit.now) (g.M.Medium.state c.tear.new.unit) (g.C.Chip.state c.args.card.now) (g.C.Chip.state c.keep_on_card.new.card)
           (is_err c.tear.result) c.in-Some.accepted c.tear.new.breaks (sym c.in-Some.ensures.taken) cause keeper c.tear.ensures.told (λ well. ok_gives c.tear.result c.tear.ensures.noted well),
       c.tear.ensures.moments,
+      booked-fell c.args.which c.args.kept.now k.cabin.cards (g.M.Medium.state c.args.unit.now) (g.C.Chip.state c.args.card.now) c.tear.new.self.cabin.cards (g.C.Chip.state c.keep_on_card.new.card) (g.C.Chip.card c.args.card.now) c.in-Some.accepted
+          (g.met.M.Medium.coherent c.args.unit.now) (g.met.C.Chip.coherent c.args.card.now) (g.met.C.Chip.coherent c.keep_on_card.new.card) (sym c.in-Some.ensures.taken) c.requires.card c.requires.behind c.keep_on_card.ensures.moments
+          (ap (λ (q : Keeper). session_of q.cabin.cards c.args.which) keeper ∙ session-set c.args.which None k.cabin.cards),
     )
 
 pub returns-then-is_err-clause-stands : goal.returns-then-is_err-clause-stands
@@ -58,6 +91,10 @@ returns-clause-brought g c =
           c.clock.ensures cause (ap (λ (q : Cards). record k { cabin = record { slots = k.cabin.slots; cards = q } }) cards)
           (c.add.ensures ∙ ap (λ (d : Device). with_lines (record { device = d; minute = c.args.kept.now.entry.minute; clock = c.clock.result } ∷ []) c.args.marks.now) c.device_of.ensures),
       starts (g.M.Medium.state c.args.unit.now) (IsNotingFault (Has after c.clock.result) c.args.at.second (crew_of (record { slots = k.cabin.slots; cards = c.set_session.new.self }))),
+      booked-has c.args.which c.args.kept.now k.cabin.cards (g.M.Medium.state c.args.unit.now) (g.C.Chip.state c.args.card.now) c.set_session.new.self (g.C.Chip.state c.keep_on_card.new.card) (g.C.Chip.card c.args.card.now) c.in-Some.accepted
+          (g.met.M.Medium.coherent c.args.unit.now) (g.met.C.Chip.coherent c.args.card.now) (g.met.C.Chip.coherent c.keep_on_card.new.card) (sym c.in-Some.ensures.taken) c.requires.card c.requires.behind c.keep_on_card.ensures.moments
+          after c.clock.result (ap (λ (q : Cards). session_of q c.args.which) cards ∙ session-set c.args.which (Some after) k.cabin.cards) cause.works c.keep_on_card.ensures.same.0 last.0
+          (ok_gives c.keep_on_card.result c.keep_on_card.ensures.kept well) (ok_gives c.keep_on_card.result c.keep_on_card.ensures.settled well) c.clock.ensures,
     )
 
 pub returns-clause-stands : goal.returns-clause-stands

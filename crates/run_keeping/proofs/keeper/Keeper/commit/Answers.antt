@@ -1,8 +1,81 @@
-use Rattle.run_keeping.specs.Keeping.{HasItsRow}
+use Rattle.std.proofs.Common.{rules, ◌≡◌, ◌∙◌, Bool, true, false, ap, subst, refl}
+use Rattle.std.specs.Prelude.{is_err}
+use Rattle.activity_codec.specs.declared.values.Slot.TheVariants.{Driver, CoDriver}
+use Rattle.card_session.specs.declared.session.Kept.{Kept}
+use Rattle.run_rule.specs.Between.{devices}
+use Rattle.run_keeping.specs.declared.keeper.Keeper.{Keeper}
+use Rattle.run_keeping.specs.Keeping.{HasItsRow, entry_in}
+use Rattle.run_keeping.specs.Owing.{BooksOwed}
 use Rattle.run_keeping.proofs.Sessions.{some-goes}
+use Rattle.run_keeping.proofs.MinuteBegun.{put-at, told_with, cut-first, cut-second, kept-or-cut}
 use Rattle.run_keeping.proofs.keeper.Keeper.commit.Goals as goal
 
 pub owe_to-requires-2-clause-row : goal.owe_to-requires-2-clause-row
 owe_to-requires-2-clause-row g c =
     some-goes c.args.present.codriver (HasItsRow c.args.self.now.cabin.cards (g.M.Medium.state c.args.unit.now)) (HasItsRow c.owe_to.new.self.cabin.cards (g.M.Medium.state c.owe_to.new.unit))
     (λ card h. c.in_ok-owe_to.ensures.rows card h) c.requires.rows.codriver
+
+-- ---- the unit failed as an entry was put
+
+pub returns-in_err-owe_to-clause-booked : goal.returns-in_err-owe_to-clause-booked
+returns-in_err-owe_to-clause-booked g c = λ says.
+    let failed : true ≡ is_err c.from_residual.result = search rules in
+    let U = g.M.Medium.state c.args.unit.now in
+    let U1 = g.M.Medium.state c.owe_to.new.unit in
+    let X = g.C.Chip.state c.args.card_a.now in
+    let Y = g.D.Chip.state c.args.card_b.now in
+    subst (λ (b : Bool). BooksOwed c.args.present c.args.minute.now b (told_with c.args.self.now c.args.marks.now) (told_with c.owe_to.new.self c.args.marks.now) (devices U X Y) (devices U1 X Y)) failed
+    (cut-first c.args.minute.now c.args.present says c.requires.apart (told_with c.args.self.now c.args.marks.now) (told_with c.owe_to.new.self c.args.marks.now) U U1 X Y
+    (put-at c.args.present.driver c.kept_in-driver.result.entry (entry_in c.args.minute.now Driver) true c.args.self.now.cabin.cards c.args.self.now.cabin.cards U U1 X Y (ap (λ (k : Kept). k.entry) c.kept_in-driver.ensures) refl c.in_err-owe_to.ensures.booked))
+
+pub returns-in_err-owe_to-2-clause-booked : goal.returns-in_err-owe_to-2-clause-booked
+returns-in_err-owe_to-2-clause-booked g c = λ says.
+    let failed : true ≡ is_err c.from_residual-in_err-owe_to-2.result = search rules in
+    let U = g.M.Medium.state c.args.unit.now in
+    let U1 = g.M.Medium.state c.owe_to.new.unit in
+    let U2 = g.M.Medium.state c.owe_to-2.new.unit in
+    let X = g.C.Chip.state c.args.card_a.now in
+    let Y = g.D.Chip.state c.args.card_b.now in
+    subst (λ (b : Bool). BooksOwed c.args.present c.args.minute.now b (told_with c.args.self.now c.args.marks.now) (told_with c.owe_to-2.new.self c.args.marks.now) (devices U X Y) (devices U2 X Y)) failed
+    (cut-second c.args.minute.now c.args.present says c.requires.apart (told_with c.args.self.now c.args.marks.now) (told_with c.owe_to-2.new.self c.args.marks.now) U U1 X Y
+    (put-at c.args.present.driver c.kept_in-driver.result.entry (entry_in c.args.minute.now Driver) false c.args.self.now.cabin.cards c.args.self.now.cabin.cards U U1 X Y (ap (λ (k : Kept). k.entry) c.kept_in-driver.ensures) refl c.in_ok-owe_to.ensures.booked) U2
+    (put-at c.args.present.codriver c.kept_in-codriver.result.entry (entry_in c.args.minute.now CoDriver) true c.owe_to.new.self.cabin.cards c.args.self.now.cabin.cards U1 U2 X Y (ap (λ (k : Kept). k.entry) c.kept_in-codriver.ensures)
+    (ap (λ (k : Keeper). k.cabin.cards) {y = c.args.self.now} c.in_ok-owe_to.ensures.same) c.in_err-owe_to-2.ensures.booked))
+
+-- ---- or as it kept the minute
+
+pub returns-in_err-commit-clause-booked : goal.returns-in_err-commit-clause-booked
+returns-in_err-commit-clause-booked g c = λ says.
+    let failed : true ≡ is_err c.from_residual-in_err-commit.result = search rules in
+    let U = g.M.Medium.state c.args.unit.now in
+    let U1 = g.M.Medium.state c.owe_to.new.unit in
+    let U2 = g.M.Medium.state c.owe_to-2.new.unit in
+    let V = g.M.Medium.state c.commit.new.unit in
+    let X = g.C.Chip.state c.args.card_a.now in
+    let Y = g.D.Chip.state c.args.card_b.now in
+    let e = c.in_err-commit.ensures in
+    subst (λ (b : Bool). BooksOwed c.args.present c.args.minute.now b (told_with c.args.self.now c.args.marks.now) (told_with (record c.owe_to-2.new.self { journal = c.commit.new.journal }) c.args.marks.now) (devices U X Y) (devices V X Y)) failed
+    (kept-or-cut c.args.minute.now c.args.present says c.requires.apart (told_with c.args.self.now c.args.marks.now) (told_with (record c.owe_to-2.new.self { journal = c.commit.new.journal }) c.args.marks.now) U U1 X Y
+    (put-at c.args.present.driver c.kept_in-driver.result.entry (entry_in c.args.minute.now Driver) false c.args.self.now.cabin.cards c.args.self.now.cabin.cards U U1 X Y (ap (λ (k : Kept). k.entry) c.kept_in-driver.ensures) refl c.in_ok-owe_to.ensures.booked) U2
+    (put-at c.args.present.codriver c.kept_in-codriver.result.entry (entry_in c.args.minute.now CoDriver) false c.owe_to.new.self.cabin.cards c.args.self.now.cabin.cards U1 U2 X Y (ap (λ (k : Kept). k.entry) c.kept_in-codriver.ensures)
+    (ap (λ (k : Keeper). k.cabin.cards) {y = c.args.self.now} c.in_ok-owe_to.ensures.same) c.in_ok-owe_to-2.ensures.booked) V true
+    (g.met.M.Medium.coherent c.owe_to-2.new.unit) (g.met.C.Chip.coherent c.args.card_a.now) (g.met.D.Chip.coherent c.args.card_b.now) e.tells e.cause e.holds e.first e.second e.views
+    (ap (λ (k : Keeper). k.cabin.cards) (c.in_ok-owe_to-2.ensures.same ∙ c.in_ok-owe_to.ensures.same)))
+
+-- ---- or it has it
+
+pub returns-clause-booked : goal.returns-clause-booked
+returns-clause-booked g c = λ says.
+    let U = g.M.Medium.state c.args.unit.now in
+    let U1 = g.M.Medium.state c.owe_to.new.unit in
+    let U2 = g.M.Medium.state c.owe_to-2.new.unit in
+    let V = g.M.Medium.state c.commit.new.unit in
+    let X = g.C.Chip.state c.args.card_a.now in
+    let Y = g.D.Chip.state c.args.card_b.now in
+    let e = c.in_ok-commit.ensures in
+    kept-or-cut c.args.minute.now c.args.present says c.requires.apart (told_with c.args.self.now c.args.marks.now) (told_with (record c.owe_to-2.new.self { journal = c.commit.new.journal }) c.add.new.self) U U1 X Y
+    (put-at c.args.present.driver c.kept_in-driver.result.entry (entry_in c.args.minute.now Driver) false c.args.self.now.cabin.cards c.args.self.now.cabin.cards U U1 X Y (ap (λ (k : Kept). k.entry) c.kept_in-driver.ensures) refl c.in_ok-owe_to.ensures.booked) U2
+    (put-at c.args.present.codriver c.kept_in-codriver.result.entry (entry_in c.args.minute.now CoDriver) false c.owe_to.new.self.cabin.cards c.args.self.now.cabin.cards U1 U2 X Y (ap (λ (k : Kept). k.entry) c.kept_in-codriver.ensures)
+    (ap (λ (k : Keeper). k.cabin.cards) {y = c.args.self.now} c.in_ok-owe_to.ensures.same) c.in_ok-owe_to-2.ensures.booked) V false
+    (g.met.M.Medium.coherent c.owe_to-2.new.unit) (g.met.C.Chip.coherent c.args.card_a.now) (g.met.D.Chip.coherent c.args.card_b.now) e.tells e.cause e.holds e.first e.second e.views
+    (ap (λ (k : Keeper). k.cabin.cards) (c.in_ok-owe_to-2.ensures.same ∙ c.in_ok-owe_to.ensures.same))

@@ -9,7 +9,10 @@ use Rattle.slot_machine.specs.declared.seats.Ended.{Ended}
 use Rattle.slot_machine.specs.Calls.{present_in}
 use Rattle.run_crew.specs.Cabin.{Stands, MayBeKept}
 use Rattle.run_keeping.specs.Keeping.{HaveRows, tears_of}
-use Rattle.run_keeping.specs.Minutes.{AreKept, AreKeptUpTo, or_nobody, kept_after, none}
+use Rattle.run_rule.specs.Between.{devices}
+use Rattle.run_keeping.specs.Minutes.{AreKept, AreKeptUpTo, Reach, IsReach, or_nobody, kept_of, kept_after, none}
+use Rattle.run_keeping.specs.Decided.{BooksAll}
+use Rattle.run_keeping.proofs.DecidedBooked.{none-booked, booked-on, cut-booked, all-booked, time-before}
 use Rattle.run_keeping.proofs.Sessions.{stands-later}
 use Rattle.run_keeping.proofs.Rounds.{told-of}
 use Rattle.run_keeping.proofs.Decided.{this, due-here, due-most, kept-here, all-here, kept-on, cut-on, present-here, rows-on}
@@ -89,6 +92,9 @@ loop-minute-init g c = record {
   size_a = refl;
   size_b = refl;
   kept = none (told-of c.args.self.now c.args.marks.now c.args.breaks.now);
+  booked = none-booked c.args.decided.now c.args.at (told-of c.args.self.now c.args.marks.now c.args.breaks.now) (devices (g.M.Medium.state c.args.unit.now) (g.C.Chip.state c.args.card_a.now) (g.D.Chip.state c.args.card_b.now));
+  clock_a = omega arith;
+  clock_b = omega arith;
   mark_room = refl;
   few = omega arith;
   tear_room = refl;
@@ -132,6 +138,14 @@ loop-minute-preserved g c =
       size_b = e.size_b ∙ v.size_b;
       kept = kept-on ds i low c.args.at (told-of c.args.self.now c.args.marks.now c.args.breaks.now) (told-of c.loop-minute.self c.loop-minute.marks c.loop-minute.breaks) (told-of c.keep_minute.new.self c.keep_minute.new.marks c.keep_minute.new.breaks)
           c.present-present.result c.kept_of-kept.result _ _ _ _ (ap or_nobody c.present-present.ensures.present) c.kept_of-kept.ensures v.kept e.kept.0 e.kept.1;
+      booked = booked-on ds i low c.args.at (told-of c.args.self.now c.args.marks.now c.args.breaks.now) (told-of c.loop-minute.self c.loop-minute.marks c.loop-minute.breaks) (told-of c.keep_minute.new.self c.keep_minute.new.marks c.keep_minute.new.breaks)
+          (devices (g.M.Medium.state c.args.unit.now) (g.C.Chip.state c.args.card_a.now) (g.D.Chip.state c.args.card_b.now)) (devices (g.M.Medium.state c.loop-minute.unit) (g.C.Chip.state c.loop-minute.card_a) (g.D.Chip.state c.loop-minute.card_b))
+          (devices (g.M.Medium.state c.keep_minute.new.unit) (g.C.Chip.state c.keep_minute.new.card_a) (g.D.Chip.state c.keep_minute.new.card_b)) c.args.self.now.journal.kept c.requires.due (due-here ds i low c.loop-minute.self.journal.kept v.due).1
+          c.present-present.result c.kept_of-kept.result (ap or_nobody c.present-present.ensures.present ∙ ap (λ (es : List Ended). or_nobody (present_in es m)) v.past) (c.kept_of-kept.ensures ∙ ap (λ (n : ℕ). kept_of n (this ds i low) c.present-present.result) v.odometer)
+          _ _ _ _ (time-before (devices (g.M.Medium.state c.loop-minute.unit) (g.C.Chip.state c.loop-minute.card_a) (g.D.Chip.state c.loop-minute.card_b)) (devices (g.M.Medium.state c.keep_minute.new.unit) (g.C.Chip.state c.keep_minute.new.card_a) (g.D.Chip.state c.keep_minute.new.card_b)) e.clock e.clock_a e.clock_b)
+          v.booked e.kept.0 e.kept.1 e.kept.2;
+      clock_a = let k = e.clock_a in let was = v.clock_a in omega (arith, k, was);
+      clock_b = let k = e.clock_b in let was = v.clock_b in omega (arith, k, was);
       mark_room = e.marks.0 ∙ v.mark_room;
       few = let one = e.marks.1 in let few = v.few in omega (arith, one, few);
       tear_room = e.breaks.0 ∙ v.tear_room;
@@ -165,6 +179,30 @@ returns-in_err-keep_minute-clause-kept g c =
     subst (λ (f : Bool). AreKeptUpTo c.args.decided.now c.args.at f (told-of c.args.self.now c.args.marks.now c.args.breaks.now) (told-of c.keep_minute.new.self c.keep_minute.new.marks c.keep_minute.new.breaks)) failed
     (cut-on c.args.decided.now c.loop-minute.minute-index c.loop-minute-test.true c.args.at (told-of c.args.self.now c.args.marks.now c.args.breaks.now) (told-of c.loop-minute.self c.loop-minute.marks c.loop-minute.breaks) (told-of c.keep_minute.new.self c.keep_minute.new.marks c.keep_minute.new.breaks)
     c.present-present.result c.kept_of-kept.result _ _ _ _ (ap or_nobody c.present-present.ensures.present) c.kept_of-kept.ensures v.kept e.kept.0 e.kept.1)
+
+pub returns-clause-booked : goal.returns-clause-booked
+returns-clause-booked g c =
+    all-booked c.args.decided.now c.loop-minute.minute-index (omega (arith, c.loop-minute-test.false)) c.args.at (told-of c.args.self.now c.args.marks.now c.args.breaks.now) (told-of c.loop-minute.self c.loop-minute.marks c.loop-minute.breaks)
+    (devices (g.M.Medium.state c.args.unit.now) (g.C.Chip.state c.args.card_a.now) (g.D.Chip.state c.args.card_b.now)) (devices (g.M.Medium.state c.loop-minute.unit) (g.C.Chip.state c.loop-minute.card_a) (g.D.Chip.state c.loop-minute.card_b)) c.loop-minute.invariant.booked
+
+pub returns-in_err-keep_minute-clause-booked : goal.returns-in_err-keep_minute-clause-booked
+returns-in_err-keep_minute-clause-booked g c =
+    let v = c.loop-minute.invariant in
+    let e = c.in_err-keep_minute.ensures in
+    let ds = c.args.decided.now in
+    let i = c.loop-minute.minute-index in
+    let low = c.loop-minute-test.true in
+    let m : ℕ = (this ds i low).minute in
+    let failed : true ≡ is_err c.from_residual.result = search rules in
+    let t = told-of c.args.self.now c.args.marks.now c.args.breaks.now in
+    let u = told-of c.keep_minute.new.self c.keep_minute.new.marks c.keep_minute.new.breaks in
+    let before = devices (g.M.Medium.state c.args.unit.now) (g.C.Chip.state c.args.card_a.now) (g.D.Chip.state c.args.card_b.now) in
+    let behind = devices (g.M.Medium.state c.keep_minute.new.unit) (g.C.Chip.state c.keep_minute.new.card_a) (g.D.Chip.state c.keep_minute.new.card_b) in
+    subst (λ (bad : Bool). (reach : Reach) × IsReach ds c.args.at bad t u reach × BooksAll ds bad reach t u before behind) failed
+    (cut-booked ds i low c.args.at t (told-of c.loop-minute.self c.loop-minute.marks c.loop-minute.breaks) u before (devices (g.M.Medium.state c.loop-minute.unit) (g.C.Chip.state c.loop-minute.card_a) (g.D.Chip.state c.loop-minute.card_b)) behind
+    c.args.self.now.journal.kept c.requires.due (due-here ds i low c.loop-minute.self.journal.kept v.due).1 c.present-present.result c.kept_of-kept.result
+    (ap or_nobody c.present-present.ensures.present ∙ ap (λ (es : List Ended). or_nobody (present_in es m)) v.past) (c.kept_of-kept.ensures ∙ ap (λ (n : ℕ). kept_of n (this ds i low) c.present-present.result) v.odometer)
+    _ _ _ _ (time-before (devices (g.M.Medium.state c.loop-minute.unit) (g.C.Chip.state c.loop-minute.card_a) (g.D.Chip.state c.loop-minute.card_b)) behind e.clock e.clock_a e.clock_b) v.booked e.kept.0 e.kept.1 e.kept.2)
 
 -- ---- all of them are kept
 

@@ -4,7 +4,9 @@ use Rattle.tach_media.specs.Medium.{HasCause, HasBroken}
 use Rattle.run_crew.specs.Cabin.{Stands}
 use Rattle.run_keeping.specs.Keeping.{IsReady, HasItsRow, AreEmptied, SessionsGoOn, tears_of, most_tears}
 use Rattle.run_keeping.specs.Minutes.{AreDue, AreKept, kept_after}
+use Rattle.run_rule.specs.Between.{devices}
 use Rattle.run_keeping.proofs.Rounds.{told-of}
+use Rattle.run_keeping.proofs.DecidedBooked.{Booked}
 use Rattle.run_keeping.proofs.keeper.Keeper.keep_all.Given as goal
 
 abbrev pub invariant-loop-minute : goal.invariant-loop-minute
@@ -23,6 +25,10 @@ invariant-loop-minute g l = record {
   size_a : (g.C.Chip.state l.card_a).size ≡ (g.C.Chip.state l.fn.card_a).size;
   size_b : (g.D.Chip.state l.card_b).size ≡ (g.D.Chip.state l.fn.card_b).size;
   kept : AreKept l.at (take l.minute-index l.decided) (told-of l.fn.self l.fn.marks l.fn.breaks) (told-of l.self l.marks l.breaks);
+  booked : Booked l.decided l.minute-index l.at (told-of l.fn.self l.fn.marks l.fn.breaks) (told-of l.self l.marks l.breaks) (devices (g.M.Medium.state l.fn.unit) (g.C.Chip.state l.fn.card_a) (g.D.Chip.state l.fn.card_b))
+      (devices (g.M.Medium.state l.unit) (g.C.Chip.state l.card_a) (g.D.Chip.state l.card_b));
+  clock_a : (g.C.Chip.state l.fn.card_a).clock ≤ (g.C.Chip.state l.card_a).clock;
+  clock_b : (g.D.Chip.state l.fn.card_b).clock ≤ (g.D.Chip.state l.card_b).clock;
   mark_room : l.marks.room ≡ l.fn.marks.room;
   few : length l.marks.items ≤ length l.fn.marks.items + 3 * l.minute-index;
   tear_room : l.breaks.room ≡ l.fn.breaks.room;

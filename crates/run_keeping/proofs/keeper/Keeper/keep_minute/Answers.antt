@@ -1,4 +1,4 @@
-use Rattle.std.proofs.Common.{rules, [], ◌∷◌, ◌≡◌, ◌∙◌, ℕ, ◌+◌, ◌/◌, ◌≤◌, Bool, Option, true, false, length, Some, ap, sym, subst, arith}
+use Rattle.std.proofs.Common.{rules, [], ◌∷◌, ◌≡◌, ◌∙◌, ℕ, ◌+◌, ◌/◌, ◌≤◌, Bool, Option, true, false, length, Some, None, refl, ap, sym, subst, arith}
 use Rattle.std.specs.Prelude.{is_err}
 use Rattle.activity_codec.specs.declared.values.Slot.TheVariants.{Driver, CoDriver}
 use Rattle.card_session.specs.declared.session.Kept.{Kept}
@@ -7,13 +7,39 @@ use Rattle.run_outcome.specs.Lines.{Listed}
 use Rattle.tach_media.proofs.Runs.{on_ok}
 use Rattle.run_crew.specs.Cabin.{Stands}
 use Rattle.run_keeping.specs.declared.keeper.Keeper.{Keeper}
-use Rattle.run_keeping.specs.Keeping.{Still, IsBrought, AreEmptied, SessionsGoOn, cabin_by, kept_in, state_at, most_tears}
+use Rattle.run_rule.specs.Between.{devices}
+use Rattle.unit_journal.specs.declared.notes.Notes.{Notes}
+use Rattle.run_keeping.specs.Keeping.{TellsPresent, Still, IsBrought, AreEmptied, SessionsGoOn, cabin_by, kept_in, state_at, most_tears}
 use Rattle.run_keeping.specs.Minutes.{Round, IsMinute, unit_mark}
+use Rattle.run_keeping.specs.Books.{BooksMinute}
+use Rattle.run_keeping.specs.Owing.{BooksBrought}
+use Rattle.run_keeping.proofs.MinuteBooked.{clock-rests, booked-cut, booked-whole}
 use Rattle.run_keeping.proofs.Counts.{tears-one, lines-length, first-stays, second-stays}
-use Rattle.run_keeping.proofs.Rounds.{told-of, brought-minute, brought-past, brought-tears, brought-more, brought-tear-room, brought-marks, brought-mark-room, cut-is, cut-told, whole-driver, whole-codriver, whole-is, whole-told}
+use Rattle.run_keeping.proofs.Rounds.{told-of, told-same, brought-minute, brought-past, brought-tears, brought-more, brought-tear-room, brought-marks, brought-mark-room, cut-is, cut-told, whole-driver, whole-codriver, whole-is, whole-told}
 use Rattle.run_keeping.proofs.Units.{unit-stays}
 use Rattle.run_keeping.proofs.Seats.{emptied-then, sessions-none, sessions-then}
 use Rattle.run_keeping.proofs.keeper.Keeper.keep_minute.Goals as goal
+
+-- ---- the unit failed before
+
+pub returns-in_err-commit-clause-kept : goal.returns-in_err-commit-clause-kept
+returns-in_err-commit-clause-kept g c =
+    let k = c.args.self.now in
+    let p = c.args.present in
+    let m = c.args.minute.now in
+    let U = g.M.Medium.state c.args.unit.now in
+    let V = g.M.Medium.state c.commit.new.unit in
+    let X = g.C.Chip.state c.args.card_a.now in
+    let Y = g.D.Chip.state c.args.card_b.now in
+    let failed : true ≡ is_err c.from_residual.result = search rules in
+    let same = c.in_err-commit.ensures.same in
+    let keeper : c.commit.new.self ≡ k = c.commit.ensures.keeper ∙ ap (λ (j : Notes). record k { journal = j }) same.0 in
+    subst (λ (f : Bool). (round : Option Round) × IsMinute p m c.args.at f (told-of k c.args.marks.now c.args.breaks.now) (told-of c.commit.new.self c.commit.new.marks c.args.breaks.now) X X Y Y round
+    × (TellsPresent m p → BooksMinute p m f round (told-of k c.args.marks.now c.args.breaks.now) (told-of c.commit.new.self c.commit.new.marks c.args.breaks.now) (devices U X Y) (devices V X Y))) failed (
+      None,
+      (refl, told-same c.commit.new.self k c.commit.new.marks c.args.marks.now c.args.breaks.now c.args.breaks.now keeper same.1 refl),
+      λ says. λ f w may time. c.in_err-commit.ensures.booked says f w (record { booked = may.booked; comes = may.comes }) time.unit,
+    )
 
 pub returns-in_err-bring-clause-kept : goal.returns-in_err-bring-clause-kept
 returns-in_err-bring-clause-kept g c =
@@ -30,8 +56,14 @@ returns-in_err-bring-clause-kept g c =
     let b : IsBrought p.driver (kept_in m Driver) c.args.at true c.commit.new.self c.bring.new.self c.commit.new.marks c.bring.new.marks c.args.breaks.now c.bring.new.breaks was.0 U V X Y =
     subst (λ (q : Kept). IsBrought p.driver q c.args.at true c.commit.new.self c.bring.new.self c.commit.new.marks c.bring.new.marks c.args.breaks.now c.bring.new.breaks was.0 U V X Y) c.kept_in-driver.ensures was.1 in
     let clock : ℕ = U.clock in
-    subst (λ (f : Bool). (round : Option Round) × IsMinute p m c.args.at f (told-of k c.args.marks.now c.args.breaks.now) (told-of c.bring.new.self c.bring.new.marks c.bring.new.breaks)
-    (g.C.Chip.state c.args.card_a.now) (g.C.Chip.state c.bring.new.card_a) (g.D.Chip.state c.args.card_b.now) (g.D.Chip.state c.bring.new.card_b) round) failed (
+    let A0 = g.C.Chip.state c.args.card_a.now in
+    let A1 = g.C.Chip.state c.bring.new.card_a in
+    let B0 = g.D.Chip.state c.args.card_b.now in
+    let B1 = g.D.Chip.state c.bring.new.card_b in
+    let one : BooksBrought p.driver (kept_in m Driver) true was.0 c.commit.new.self.cabin.cards c.bring.new.self.cabin.cards (devices U A0 B0) (devices V A1 B1) =
+    subst (λ (q : Kept). BooksBrought p.driver q true was.0 c.commit.new.self.cabin.cards c.bring.new.self.cabin.cards (devices U A0 B0) (devices V A1 B1)) c.kept_in-driver.ensures was.3 in
+    subst (λ (f : Bool). (round : Option Round) × IsMinute p m c.args.at f (told-of k c.args.marks.now c.args.breaks.now) (told-of c.bring.new.self c.bring.new.marks c.bring.new.breaks) A0 A1 B0 B1 round
+    × (TellsPresent m p → BooksMinute p m f round (told-of k c.args.marks.now c.args.breaks.now) (told-of c.bring.new.self c.bring.new.marks c.bring.new.breaks) (devices (g.M.Medium.state c.args.unit.now) A0 B0) (devices V A1 B1))) failed (
       Some (record { journal = c.commit.new.self.journal; clock = clock; driver = was.0; codriver = Still }),
       (
         cut-is p m c.args.at k c.args.marks.now c.args.breaks.now c.commit.new.self.journal clock notes.0 notes.1 c.commit.new.self c.commit.ensures.keeper c.commit.new.marks c.in_ok-commit.ensures.marked
@@ -40,6 +72,9 @@ returns-in_err-bring-clause-kept g c =
         cut-told p m c.args.at k c.args.marks.now c.args.breaks.now c.commit.new.self.journal clock notes.0 notes.1 c.commit.new.self c.commit.ensures.keeper c.commit.new.marks c.in_ok-commit.ensures.marked
             c.bring.new.self c.bring.new.marks c.bring.new.breaks was.0 U V X Y b,
       ),
+      λ says. booked-cut m p says c.requires.kept.apart k c.commit.new.self c.args.marks.now c.commit.new.marks c.args.breaks.now (ap (λ (q : Keeper). q.cabin.cards) c.commit.ensures.keeper) (g.M.Medium.state c.args.unit.now) U A0 B0
+          (c.in_ok-commit.ensures.booked says) true was.0 c.bring.new.self c.args.at.second b.keeper V A1 B1 one refl c.bring.ensures.journal.later (told-of c.bring.new.self c.bring.new.marks c.bring.new.breaks)
+          (record { journal = c.commit.new.self.journal; clock = clock; driver = was.0; codriver = Still }) refl refl refl,
     )
 
 pub returns-in_err-bring-clause-stands : goal.returns-in_err-bring-clause-stands
@@ -103,6 +138,17 @@ returns-clause-kept g c =
         whole-told p m c.args.at k c.args.marks.now c.args.breaks.now j clock notes.0 notes.1 c.commit.new.self c.commit.ensures.keeper c.commit.new.marks c.in_ok-commit.ensures.marked
             c.bring.new.self c.bring-2.new.self c.bring.new.marks c.bring-2.new.marks c.bring.new.breaks c.bring-2.new.breaks failed was.0 is.0 U V (state_at p.driver A0 B0) (state_at p.driver A1 B1) V W (state_at p.codriver A1 B1) (state_at p.codriver A2 B2) b d,
       ),
+      λ says.
+          let first : BooksBrought p.driver (kept_in m Driver) false was.0 c.commit.new.self.cabin.cards c.bring.new.self.cabin.cards (devices U A0 B0) (devices V A1 B1) =
+          subst (λ (q : Kept). BooksBrought p.driver q false was.0 c.commit.new.self.cabin.cards c.bring.new.self.cabin.cards (devices U A0 B0) (devices V A1 B1)) c.kept_in-driver.ensures was.3 in
+          let second : BooksBrought p.codriver (kept_in m CoDriver) failed is.0 c.bring.new.self.cabin.cards c.bring-2.new.self.cabin.cards (devices V A1 B1) (devices W A2 B2) =
+          subst (λ (q : Kept). BooksBrought p.codriver q failed is.0 c.bring.new.self.cabin.cards c.bring-2.new.self.cabin.cards (devices V A1 B1) (devices W A2 B2)) c.kept_in-codriver.ensures is.3 in
+          let here = c.bring.ensures.journal.later in
+          let there = c.bring-2.ensures.journal.later in
+          booked-whole m p says c.requires.kept.apart k c.commit.new.self c.args.marks.now c.commit.new.marks c.args.breaks.now (ap (λ (q : Keeper). q.cabin.cards) c.commit.ensures.keeper) (g.M.Medium.state c.args.unit.now) U A0 B0
+          (c.in_ok-commit.ensures.booked says) false was.0 c.bring.new.self c.args.at.second b.keeper V A1 B1 first refl failed is.0 c.bring-2.new.self d.keeper W A2 B2 second
+          (λ none. clock-rests g.C.Chip.state c.bring.new.card_a c.bring-2.new.card_a (c.bring-2.ensures.a_rests none)) (λ none. clock-rests g.D.Chip.state c.bring.new.card_b c.bring-2.new.card_b (c.bring-2.ensures.b_rests none))
+          (omega (arith, here, there)) c.bring-2.new.marks c.bring-2.new.breaks (record { journal = j; clock = clock; driver = was.0; codriver = is.0 }) refl refl refl,
     )
 
 pub returns-clause-stands : goal.returns-clause-stands

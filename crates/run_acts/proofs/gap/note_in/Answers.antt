@@ -1,0 +1,164 @@
+use Rattle.std.proofs.Common.{◌≡◌, ◌∙◌, ℕ, ◌+◌, ◌-◌, ◌/◌, ◌≤◌, Bool, true, false, Option, Some, None, is_some, length, refl, ap, sym, subst, arith}
+use Rattle.activity_codec.specs.declared.values.Slot.{Slot}
+use Rattle.trace_model.specs.declared.Card.{Card}
+use Rattle.trace_model.specs.declared.Card.TheVariants.{A, B}
+use Rattle.tach_media.proofs.Runs.{on_ok, ok_gives, cause_after}
+use Rattle.minute_model.specs.Span.{ungiven_of}
+use Rattle.slot_machine.specs.Calls.{seat_in, card_in}
+use Rattle.run_crew.specs.declared.cards.Known.{Known}
+use Rattle.run_crew.specs.Cards.{session_of}
+use Rattle.run_crew.specs.Cabin.{number_of_seat}
+use Rattle.log_model.specs.declared.lines.Break.{Break}
+use Rattle.run_outcome.specs.Lines.{Listed}
+use Rattle.run_keeping.specs.Keeping.{CardReady}
+use Rattle.run_keeping.proofs.Counts.{lines-length}
+use Rattle.run_power.specs.declared.run.Run.{Run}
+use Rattle.run_power.specs.Power.{with_cabin}
+use Rattle.run_power.specs.Going.{IsHeld, IsLit}
+use Rattle.run_power.specs.Room.{falls_of}
+use Rattle.run_power.proofs.Noted.{noted-ready, noted-row}
+use Rattle.run_keeping.specs.declared.keeper.Moment.{Moment}
+use Rattle.run_keeping.proofs.Fates.{no-lines}
+use Rattle.run_acts.specs.Acting.{noted_breaks, now_moment, IsNotedIn}
+use Rattle.run_acts.proofs.Cabins.{keeper-only, cabin-going, cabin-held, ready-same, at-same, noted_cabin, noted-is, noted-past, noted-minute, noted-sessions, noted-falls, noted-a, noted-b, numbered-session}
+use Rattle.run_acts.proofs.gap.note_in.Goals as goal
+
+-- ---- card a
+
+pub returns-in-A-clause-held : goal.returns-in-A-clause-held
+returns-in-A-clause-held g c =
+    let run = c.args.run.now in
+    let new : Run = c.note_on.new.run in
+    let e = c.note_on.ensures in
+    let n = e.noted in
+    let second : ℕ = c.args.run.now.next in
+    let cabin = noted_cabin n.0 A second run in
+    let is : new ≡ with_cabin cabin run = n.1.run ∙ noted-is n.0 A second run in
+    let known : new.keeper.cabin.cards.b ≡ run.keeper.cabin.cards.b = ap (λ (r : Run). r.keeper.cabin.cards.b) is ∙ noted-b n.0 second run in
+    let next : new.next ≡ run.next = ap (λ (r : Run). r.next) is in
+    let stand = c.requires.held.stand in
+    subst (λ (m : ℕ). IsHeld (m / 60) new (g.M.Medium.state c.note_on.new.unit) (g.C.Chip.card c.note_on.new.card) (g.D.Chip.card c.args.card_b.now) (g.C.Chip.state c.note_on.new.card) (g.D.Chip.state c.args.card_b.now)) (sym next)
+    (cabin-held (run.next / 60) run new cabin is c.requires.held e.unit (noted-minute A second run n.0 (run.next / 60) c.requires.held.minute (omega arith))
+    (record { port = e.card.port; size = let same = e.size in let size = c.requires.held.card_a.size in omega (arith, same, size) }) (at-same run.keeper.cabin.cards new.keeper.cabin.cards B known c.requires.held.card_b) (stand.0, stand.1, e.stands stand.0 stand.1 stand.2))
+
+pub returns-in-A-clause-going : goal.returns-in-A-clause-going
+returns-in-A-clause-going g c =
+    let run = c.args.run.now in
+    let new : Run = c.note_on.new.run in
+    let e = c.note_on.ensures in
+    let n = e.noted in
+    let second : ℕ = c.args.run.now.next in
+    let cabin = noted_cabin n.0 A second run in
+    let is : new ≡ with_cabin cabin run = n.1.run ∙ noted-is n.0 A second run in
+    let known : new.keeper.cabin.cards.b ≡ run.keeper.cabin.cards.b = ap (λ (r : Run). r.keeper.cabin.cards.b) is ∙ noted-b n.0 second run in
+    let next : new.next ≡ run.next = ap (λ (r : Run). r.next) is in
+    on_ok c.note_on.result (λ well.
+    subst (λ (m : ℕ). IsLit (m / 60) new (g.M.Medium.state c.note_on.new.unit) (g.C.Chip.card c.note_on.new.card) (g.D.Chip.card c.args.card_b.now) (g.C.Chip.state c.note_on.new.card) (g.D.Chip.state c.args.card_b.now)) (sym next)
+    (cabin-going (run.next / 60) run new cabin is None None c.requires.going (ok_gives c.note_on.result e.ready well) (e.card) (ready-same run.keeper.cabin.cards new.keeper.cabin.cards B known c.requires.going.ready.card_b)
+    (λ card h. ok_gives c.note_on.result (e.rows card h) well)
+    (noted-past A second run n.0) (e.stands (ungiven_of c.requires.going.span) None c.requires.going.cabin) (noted-sessions A second run n.0)))
+
+pub returns-in-A-clause-room : goal.returns-in-A-clause-room
+returns-in-A-clause-room g c =
+    let run = c.args.run.now in
+    let new : Run = c.note_on.new.run in
+    let e = c.note_on.ensures in
+    let n = e.noted in
+    let second : ℕ = c.args.run.now.next in
+    let cabin = noted_cabin n.0 A second run in
+    let is : new ≡ with_cabin cabin run = n.1.run ∙ noted-is n.0 A second run in
+    let known : new.keeper.cabin.cards.b ≡ run.keeper.cabin.cards.b = ap (λ (r : Run). r.keeper.cabin.cards.b) is ∙ noted-b n.0 second run in
+    let next : new.next ≡ run.next = ap (λ (r : Run). r.next) is in
+    let breaks = c.args.breaks.now in
+    let there : card_in (seat_in run.keeper.cabin.slots.seats c.args.slot) ≡ Some A = cc in
+    let told : number_of_seat run.keeper.cabin.cards (seat_in run.keeper.cabin.slots.seats c.args.slot) ≡ Some c.in-Some-number_in.field-0 = cc in
+    let some = numbered-session run.keeper.cabin.cards (seat_in run.keeper.cabin.slots.seats c.args.slot) A c.in-Some-number_in.field-0 there told in
+    let falls = noted-falls A second run n.0 c.args.slot (now_moment c.args.run.now) some in
+    let same : falls_of new.keeper.cabin ≡ falls_of cabin = ap (λ (r : Run). falls_of r.keeper.cabin) is in
+    let length_is : length c.note_on.new.breaks.items ≡ length breaks.items + length (noted_breaks n.0 c.args.slot (now_moment c.args.run.now)) = ap (λ (l : Listed Break). length l.items) n.1.told ∙ lines-length (noted_breaks n.0 c.args.slot (now_moment c.args.run.now)) breaks in
+    (ap (λ (l : Listed Break). l.room) n.1.told, omega (arith, falls, same, length_is))
+
+pub returns-in-A-clause-cause : goal.returns-in-A-clause-cause
+returns-in-A-clause-cause g c = c.note_on.ensures.cause
+
+-- ---- card b
+
+pub returns-in-B-clause-held : goal.returns-in-B-clause-held
+returns-in-B-clause-held g c =
+    let run = c.args.run.now in
+    let new : Run = c.note_on-in-B.new.run in
+    let e = c.note_on-in-B.ensures in
+    let n = e.noted in
+    let second : ℕ = c.args.run.now.next in
+    let cabin = noted_cabin n.0 B second run in
+    let is : new ≡ with_cabin cabin run = n.1.run ∙ noted-is n.0 B second run in
+    let known : new.keeper.cabin.cards.a ≡ run.keeper.cabin.cards.a = ap (λ (r : Run). r.keeper.cabin.cards.a) is ∙ noted-a n.0 second run in
+    let next : new.next ≡ run.next = ap (λ (r : Run). r.next) is in
+    let stand = c.requires.held.stand in
+    subst (λ (m : ℕ). IsHeld (m / 60) new (g.M.Medium.state c.note_on-in-B.new.unit) (g.C.Chip.card c.args.card_a.now) (g.D.Chip.card c.note_on-in-B.new.card) (g.C.Chip.state c.args.card_a.now) (g.D.Chip.state c.note_on-in-B.new.card)) (sym next)
+    (cabin-held (run.next / 60) run new cabin is c.requires.held e.unit (noted-minute B second run n.0 (run.next / 60) c.requires.held.minute (omega arith))
+    (at-same run.keeper.cabin.cards new.keeper.cabin.cards A known c.requires.held.card_a) (record { port = e.card.port; size = let same = e.size in let size = c.requires.held.card_b.size in omega (arith, same, size) }) (stand.0, stand.1, e.stands stand.0 stand.1 stand.2))
+
+pub returns-in-B-clause-going : goal.returns-in-B-clause-going
+returns-in-B-clause-going g c =
+    let run = c.args.run.now in
+    let new : Run = c.note_on-in-B.new.run in
+    let e = c.note_on-in-B.ensures in
+    let n = e.noted in
+    let second : ℕ = c.args.run.now.next in
+    let cabin = noted_cabin n.0 B second run in
+    let is : new ≡ with_cabin cabin run = n.1.run ∙ noted-is n.0 B second run in
+    let known : new.keeper.cabin.cards.a ≡ run.keeper.cabin.cards.a = ap (λ (r : Run). r.keeper.cabin.cards.a) is ∙ noted-a n.0 second run in
+    let next : new.next ≡ run.next = ap (λ (r : Run). r.next) is in
+    on_ok c.note_on-in-B.result (λ well.
+    subst (λ (m : ℕ). IsLit (m / 60) new (g.M.Medium.state c.note_on-in-B.new.unit) (g.C.Chip.card c.args.card_a.now) (g.D.Chip.card c.note_on-in-B.new.card) (g.C.Chip.state c.args.card_a.now) (g.D.Chip.state c.note_on-in-B.new.card)) (sym next)
+    (cabin-going (run.next / 60) run new cabin is None None c.requires.going (ok_gives c.note_on-in-B.result e.ready well) (ready-same run.keeper.cabin.cards new.keeper.cabin.cards A known c.requires.going.ready.card_a) (e.card)
+    (λ card h. ok_gives c.note_on-in-B.result (e.rows card h) well)
+    (noted-past B second run n.0) (e.stands (ungiven_of c.requires.going.span) None c.requires.going.cabin) (noted-sessions B second run n.0)))
+
+pub returns-in-B-clause-room : goal.returns-in-B-clause-room
+returns-in-B-clause-room g c =
+    let run = c.args.run.now in
+    let new : Run = c.note_on-in-B.new.run in
+    let e = c.note_on-in-B.ensures in
+    let n = e.noted in
+    let second : ℕ = c.args.run.now.next in
+    let cabin = noted_cabin n.0 B second run in
+    let is : new ≡ with_cabin cabin run = n.1.run ∙ noted-is n.0 B second run in
+    let known : new.keeper.cabin.cards.a ≡ run.keeper.cabin.cards.a = ap (λ (r : Run). r.keeper.cabin.cards.a) is ∙ noted-a n.0 second run in
+    let next : new.next ≡ run.next = ap (λ (r : Run). r.next) is in
+    let breaks = c.args.breaks.now in
+    let there : card_in (seat_in run.keeper.cabin.slots.seats c.args.slot) ≡ Some B = cc in
+    let told : number_of_seat run.keeper.cabin.cards (seat_in run.keeper.cabin.slots.seats c.args.slot) ≡ Some c.in-Some-number_in.field-0 = cc in
+    let some = numbered-session run.keeper.cabin.cards (seat_in run.keeper.cabin.slots.seats c.args.slot) B c.in-Some-number_in.field-0 there told in
+    let falls = noted-falls B second run n.0 c.args.slot (now_moment c.args.run.now) some in
+    let same : falls_of new.keeper.cabin ≡ falls_of cabin = ap (λ (r : Run). falls_of r.keeper.cabin) is in
+    let length_is : length c.note_on-in-B.new.breaks.items ≡ length breaks.items + length (noted_breaks n.0 c.args.slot (now_moment c.args.run.now)) = ap (λ (l : Listed Break). length l.items) n.1.told ∙ lines-length (noted_breaks n.0 c.args.slot (now_moment c.args.run.now)) breaks in
+    (ap (λ (l : Listed Break). l.room) n.1.told, omega (arith, falls, same, length_is))
+
+pub returns-in-B-clause-cause : goal.returns-in-B-clause-cause
+returns-in-B-clause-cause g c = c.note_on-in-B.ensures.cause
+
+pub returns-in-A-clause-only : goal.returns-in-A-clause-only
+returns-in-A-clause-only g c =
+    let n = c.note_on.ensures.noted in
+    let cabin = noted_cabin n.0 A c.args.run.now.next c.args.run.now in
+    keeper-only c.args.run.now c.note_on.new.run cabin (n.1.run ∙ noted-is n.0 A c.args.run.now.next c.args.run.now)
+
+pub returns-in-B-clause-only : goal.returns-in-B-clause-only
+returns-in-B-clause-only g c =
+    let n = c.note_on-in-B.ensures.noted in
+    let cabin = noted_cabin n.0 B c.args.run.now.next c.args.run.now in
+    keeper-only c.args.run.now c.note_on-in-B.new.run cabin (n.1.run ∙ noted-is n.0 B c.args.run.now.next c.args.run.now)
+
+pub returns-in-A-clause-more : goal.returns-in-A-clause-more
+returns-in-A-clause-more g c =
+    let n = c.note_on.ensures.noted in
+    let length_is : length c.note_on.new.breaks.items ≡ length c.args.breaks.now.items + length (noted_breaks n.0 c.args.slot (now_moment c.args.run.now)) = ap (λ (l : Listed Break). length l.items) n.1.told ∙ lines-length (noted_breaks n.0 c.args.slot (now_moment c.args.run.now)) c.args.breaks.now in
+    omega (arith, length_is)
+
+pub returns-in-B-clause-more : goal.returns-in-B-clause-more
+returns-in-B-clause-more g c =
+    let n = c.note_on-in-B.ensures.noted in
+    let length_is : length c.note_on-in-B.new.breaks.items ≡ length c.args.breaks.now.items + length (noted_breaks n.0 c.args.slot (now_moment c.args.run.now)) = ap (λ (l : Listed Break). length l.items) n.1.told ∙ lines-length (noted_breaks n.0 c.args.slot (now_moment c.args.run.now)) c.args.breaks.now in
+    omega (arith, length_is)

@@ -1,0 +1,172 @@
+use Rattle.std.proofs.Common.{◌≡◌, ◌∙◌, ℕ, ◌+◌, ◌-◌, ◌/◌, ◌≤◌, Bool, true, Option, Some, None, is_some, length, refl, ap, sym, subst, arith}
+use Rattle.trace_model.specs.declared.Card.TheVariants.{A, B}
+use Rattle.tach_media.proofs.Runs.{on_ok, ok_gives, cause_after}
+use Rattle.minute_model.specs.Span.{ungiven_of}
+use Rattle.slot_machine.specs.Calls.{seat_in, card_in}
+use Rattle.run_crew.specs.declared.cards.Known.{Known}
+use Rattle.run_crew.specs.Cards.{session_of}
+use Rattle.run_crew.specs.Cabin.{number_of_seat}
+use Rattle.log_model.specs.declared.lines.Break.{Break}
+use Rattle.run_outcome.specs.Lines.{Listed}
+use Rattle.run_keeping.specs.Keeping.{CardReady}
+use Rattle.run_keeping.proofs.Counts.{lines-length}
+use Rattle.run_power.specs.declared.run.Run.{Run}
+use Rattle.run_power.specs.Power.{with_cabin}
+use Rattle.run_power.specs.Going.{IsHeld, IsLit}
+use Rattle.run_power.specs.Room.{falls_of}
+use Rattle.run_power.proofs.Noted.{noted-ready, noted-row}
+use Rattle.run_acts.specs.Acting.{noted_breaks}
+use Rattle.run_acts.proofs.Cabins.{keeper-only, cabin-going, cabin-held, ready-same, at-same, noted_cabin, noted-is, noted-past, noted-minute, noted-sessions, noted-falls, noted-a, noted-b, numbered-session}
+use Rattle.run_acts.proofs.placing.note_place.Goals as goal
+
+pub note_place_in-requires-clause-ready : goal.note_place_in-requires-clause-ready
+note_place_in-requires-clause-ready g c =
+    noted-ready (g.met.M.Medium.coherent c.args.unit.now) (g.met.M.Medium.coherent c.note_place.new.unit) c.note_place.ensures.journal c.args.run.now.keeper c.requires.going.ready.unit_ready c.in_ok-note_place.ensures.cause.works
+
+pub note_place_in-requires-in-B-clause-ready : goal.note_place_in-requires-in-B-clause-ready
+note_place_in-requires-in-B-clause-ready g c =
+    noted-ready (g.met.M.Medium.coherent c.args.unit.now) (g.met.M.Medium.coherent c.note_place.new.unit) c.note_place.ensures.journal c.args.run.now.keeper c.requires.going.ready.unit_ready c.in_ok-note_place.ensures.cause.works
+
+-- ---- card a
+
+pub returns-in-A-clause-held : goal.returns-in-A-clause-held
+returns-in-A-clause-held g c =
+    let run = c.args.run.now in
+    let new : Run = c.note_place_in.new.run in
+    let e = c.note_place_in.ensures in
+    let n = e.noted in
+    let second : ℕ = c.args.at.second in
+    let cabin = noted_cabin n.0 A second run in
+    let is : new ≡ with_cabin cabin run = n.1.run ∙ noted-is n.0 A second run in
+    let known : new.keeper.cabin.cards.b ≡ run.keeper.cabin.cards.b = ap (λ (r : Run). r.keeper.cabin.cards.b) is ∙ noted-b n.0 second run in
+    let next : new.next ≡ run.next = ap (λ (r : Run). r.next) is in
+    let here = c.requires.at in
+    let stand = c.requires.held.stand in
+    subst (λ (m : ℕ). IsHeld (m / 60) new (g.M.Medium.state c.note_place_in.new.unit) (g.C.Chip.card c.note_place_in.new.card) (g.D.Chip.card c.args.card_b.now) (g.C.Chip.state c.note_place_in.new.card) (g.D.Chip.state c.args.card_b.now)) (sym next)
+    (cabin-held (run.next / 60) run new cabin is c.requires.held e.unit (noted-minute A second run n.0 (run.next / 60) c.requires.held.minute (omega (arith, here)))
+    (record { port = e.card.port; size = let same = e.size in let size = c.requires.held.card_a.size in omega (arith, same, size) }) (at-same run.keeper.cabin.cards new.keeper.cabin.cards B known c.requires.held.card_b) (stand.0, stand.1, e.stands stand.0 stand.1 stand.2))
+
+pub returns-in-A-clause-going : goal.returns-in-A-clause-going
+returns-in-A-clause-going g c =
+    let run = c.args.run.now in
+    let new : Run = c.note_place_in.new.run in
+    let e = c.note_place_in.ensures in
+    let n = e.noted in
+    let second : ℕ = c.args.at.second in
+    let cabin = noted_cabin n.0 A second run in
+    let is : new ≡ with_cabin cabin run = n.1.run ∙ noted-is n.0 A second run in
+    let known : new.keeper.cabin.cards.b ≡ run.keeper.cabin.cards.b = ap (λ (r : Run). r.keeper.cabin.cards.b) is ∙ noted-b n.0 second run in
+    let next : new.next ≡ run.next = ap (λ (r : Run). r.next) is in
+    on_ok c.note_place_in.result (λ well.
+    subst (λ (m : ℕ). IsLit (m / 60) new (g.M.Medium.state c.note_place_in.new.unit) (g.C.Chip.card c.note_place_in.new.card) (g.D.Chip.card c.args.card_b.now) (g.C.Chip.state c.note_place_in.new.card) (g.D.Chip.state c.args.card_b.now)) (sym next)
+    (cabin-going (run.next / 60) run new cabin is None None c.requires.going (ok_gives c.note_place_in.result e.ready well) (e.card) (ready-same run.keeper.cabin.cards new.keeper.cabin.cards B known c.requires.going.ready.card_b)
+    (λ card h. ok_gives c.note_place_in.result
+    (e.rows card (noted-row (g.met.M.Medium.coherent c.args.unit.now) (g.met.M.Medium.coherent c.note_place.new.unit) c.note_place.ensures.journal run.keeper c.requires.going.ready.unit_ready run.keeper.cabin.cards card h)) well)
+    (noted-past A second run n.0) (e.stands (ungiven_of c.requires.going.span) None c.requires.going.cabin) (noted-sessions A second run n.0)))
+
+pub returns-in-A-clause-room : goal.returns-in-A-clause-room
+returns-in-A-clause-room g c =
+    let run = c.args.run.now in
+    let new : Run = c.note_place_in.new.run in
+    let e = c.note_place_in.ensures in
+    let n = e.noted in
+    let second : ℕ = c.args.at.second in
+    let cabin = noted_cabin n.0 A second run in
+    let is : new ≡ with_cabin cabin run = n.1.run ∙ noted-is n.0 A second run in
+    let known : new.keeper.cabin.cards.b ≡ run.keeper.cabin.cards.b = ap (λ (r : Run). r.keeper.cabin.cards.b) is ∙ noted-b n.0 second run in
+    let next : new.next ≡ run.next = ap (λ (r : Run). r.next) is in
+    let breaks = c.args.breaks.now in
+    let there : card_in (seat_in run.keeper.cabin.slots.seats c.args.slot) ≡ Some A = cc in
+    let told : number_of_seat run.keeper.cabin.cards (seat_in run.keeper.cabin.slots.seats c.args.slot) ≡ Some c.in-Some-number_in.number = cc in
+    let some = numbered-session run.keeper.cabin.cards (seat_in run.keeper.cabin.slots.seats c.args.slot) A c.in-Some-number_in.number there told in
+    let falls = noted-falls A second run n.0 c.args.slot c.args.at some in
+    let same : falls_of new.keeper.cabin ≡ falls_of cabin = ap (λ (r : Run). falls_of r.keeper.cabin) is in
+    let length_is : length c.note_place_in.new.breaks.items ≡ length breaks.items + length (noted_breaks n.0 c.args.slot c.args.at) = ap (λ (l : Listed Break). length l.items) n.1.told ∙ lines-length (noted_breaks n.0 c.args.slot c.args.at) breaks in
+    (ap (λ (l : Listed Break). l.room) n.1.told, omega (arith, falls, same, length_is))
+
+pub returns-in-A-clause-cause : goal.returns-in-A-clause-cause
+returns-in-A-clause-cause g c = cause_after c.in_ok-note_place.ensures.cause c.note_place_in.ensures.cause
+
+-- ---- card b
+
+pub returns-in-B-clause-held : goal.returns-in-B-clause-held
+returns-in-B-clause-held g c =
+    let run = c.args.run.now in
+    let new : Run = c.note_place_in-in-B.new.run in
+    let e = c.note_place_in-in-B.ensures in
+    let n = e.noted in
+    let second : ℕ = c.args.at.second in
+    let cabin = noted_cabin n.0 B second run in
+    let is : new ≡ with_cabin cabin run = n.1.run ∙ noted-is n.0 B second run in
+    let known : new.keeper.cabin.cards.a ≡ run.keeper.cabin.cards.a = ap (λ (r : Run). r.keeper.cabin.cards.a) is ∙ noted-a n.0 second run in
+    let next : new.next ≡ run.next = ap (λ (r : Run). r.next) is in
+    let here = c.requires.at in
+    let stand = c.requires.held.stand in
+    subst (λ (m : ℕ). IsHeld (m / 60) new (g.M.Medium.state c.note_place_in-in-B.new.unit) (g.C.Chip.card c.args.card_a.now) (g.D.Chip.card c.note_place_in-in-B.new.card) (g.C.Chip.state c.args.card_a.now) (g.D.Chip.state c.note_place_in-in-B.new.card)) (sym next)
+    (cabin-held (run.next / 60) run new cabin is c.requires.held e.unit (noted-minute B second run n.0 (run.next / 60) c.requires.held.minute (omega (arith, here)))
+    (at-same run.keeper.cabin.cards new.keeper.cabin.cards A known c.requires.held.card_a) (record { port = e.card.port; size = let same = e.size in let size = c.requires.held.card_b.size in omega (arith, same, size) }) (stand.0, stand.1, e.stands stand.0 stand.1 stand.2))
+
+pub returns-in-B-clause-going : goal.returns-in-B-clause-going
+returns-in-B-clause-going g c =
+    let run = c.args.run.now in
+    let new : Run = c.note_place_in-in-B.new.run in
+    let e = c.note_place_in-in-B.ensures in
+    let n = e.noted in
+    let second : ℕ = c.args.at.second in
+    let cabin = noted_cabin n.0 B second run in
+    let is : new ≡ with_cabin cabin run = n.1.run ∙ noted-is n.0 B second run in
+    let known : new.keeper.cabin.cards.a ≡ run.keeper.cabin.cards.a = ap (λ (r : Run). r.keeper.cabin.cards.a) is ∙ noted-a n.0 second run in
+    let next : new.next ≡ run.next = ap (λ (r : Run). r.next) is in
+    on_ok c.note_place_in-in-B.result (λ well.
+    subst (λ (m : ℕ). IsLit (m / 60) new (g.M.Medium.state c.note_place_in-in-B.new.unit) (g.C.Chip.card c.args.card_a.now) (g.D.Chip.card c.note_place_in-in-B.new.card) (g.C.Chip.state c.args.card_a.now) (g.D.Chip.state c.note_place_in-in-B.new.card)) (sym next)
+    (cabin-going (run.next / 60) run new cabin is None None c.requires.going (ok_gives c.note_place_in-in-B.result e.ready well) (ready-same run.keeper.cabin.cards new.keeper.cabin.cards A known c.requires.going.ready.card_a) (e.card)
+    (λ card h. ok_gives c.note_place_in-in-B.result
+    (e.rows card (noted-row (g.met.M.Medium.coherent c.args.unit.now) (g.met.M.Medium.coherent c.note_place.new.unit) c.note_place.ensures.journal run.keeper c.requires.going.ready.unit_ready run.keeper.cabin.cards card h)) well)
+    (noted-past B second run n.0) (e.stands (ungiven_of c.requires.going.span) None c.requires.going.cabin) (noted-sessions B second run n.0)))
+
+pub returns-in-B-clause-room : goal.returns-in-B-clause-room
+returns-in-B-clause-room g c =
+    let run = c.args.run.now in
+    let new : Run = c.note_place_in-in-B.new.run in
+    let e = c.note_place_in-in-B.ensures in
+    let n = e.noted in
+    let second : ℕ = c.args.at.second in
+    let cabin = noted_cabin n.0 B second run in
+    let is : new ≡ with_cabin cabin run = n.1.run ∙ noted-is n.0 B second run in
+    let known : new.keeper.cabin.cards.a ≡ run.keeper.cabin.cards.a = ap (λ (r : Run). r.keeper.cabin.cards.a) is ∙ noted-a n.0 second run in
+    let next : new.next ≡ run.next = ap (λ (r : Run). r.next) is in
+    let breaks = c.args.breaks.now in
+    let there : card_in (seat_in run.keeper.cabin.slots.seats c.args.slot) ≡ Some B = cc in
+    let told : number_of_seat run.keeper.cabin.cards (seat_in run.keeper.cabin.slots.seats c.args.slot) ≡ Some c.in-Some-number_in.number = cc in
+    let some = numbered-session run.keeper.cabin.cards (seat_in run.keeper.cabin.slots.seats c.args.slot) B c.in-Some-number_in.number there told in
+    let falls = noted-falls B second run n.0 c.args.slot c.args.at some in
+    let same : falls_of new.keeper.cabin ≡ falls_of cabin = ap (λ (r : Run). falls_of r.keeper.cabin) is in
+    let length_is : length c.note_place_in-in-B.new.breaks.items ≡ length breaks.items + length (noted_breaks n.0 c.args.slot c.args.at) = ap (λ (l : Listed Break). length l.items) n.1.told ∙ lines-length (noted_breaks n.0 c.args.slot c.args.at) breaks in
+    (ap (λ (l : Listed Break). l.room) n.1.told, omega (arith, falls, same, length_is))
+
+pub returns-in-B-clause-cause : goal.returns-in-B-clause-cause
+returns-in-B-clause-cause g c = cause_after c.in_ok-note_place.ensures.cause c.note_place_in-in-B.ensures.cause
+
+pub returns-in-A-clause-only : goal.returns-in-A-clause-only
+returns-in-A-clause-only g c =
+    let n = c.note_place_in.ensures.noted in
+    let cabin = noted_cabin n.0 A c.args.at.second c.args.run.now in
+    keeper-only c.args.run.now c.note_place_in.new.run cabin (n.1.run ∙ noted-is n.0 A c.args.at.second c.args.run.now)
+
+pub returns-in-B-clause-only : goal.returns-in-B-clause-only
+returns-in-B-clause-only g c =
+    let n = c.note_place_in-in-B.ensures.noted in
+    let cabin = noted_cabin n.0 B c.args.at.second c.args.run.now in
+    keeper-only c.args.run.now c.note_place_in-in-B.new.run cabin (n.1.run ∙ noted-is n.0 B c.args.at.second c.args.run.now)
+
+pub returns-in-A-clause-more : goal.returns-in-A-clause-more
+returns-in-A-clause-more g c =
+    let n = c.note_place_in.ensures.noted in
+    let length_is : length c.note_place_in.new.breaks.items ≡ length c.args.breaks.now.items + length (noted_breaks n.0 c.args.slot c.args.at) = ap (λ (l : Listed Break). length l.items) n.1.told ∙ lines-length (noted_breaks n.0 c.args.slot c.args.at) c.args.breaks.now in
+    omega (arith, length_is)
+
+pub returns-in-B-clause-more : goal.returns-in-B-clause-more
+returns-in-B-clause-more g c =
+    let n = c.note_place_in-in-B.ensures.noted in
+    let length_is : length c.note_place_in-in-B.new.breaks.items ≡ length c.args.breaks.now.items + length (noted_breaks n.0 c.args.slot c.args.at) = ap (λ (l : Listed Break). length l.items) n.1.told ∙ lines-length (noted_breaks n.0 c.args.slot c.args.at) c.args.breaks.now in
+    omega (arith, length_is)

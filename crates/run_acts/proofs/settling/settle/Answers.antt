@@ -1,0 +1,140 @@
+use Rattle.std.proofs.Common.{rules, ◌≡◌, ◌∙◌, ℕ, ◌+◌, ◌-◌, ◌*◌, ◌/◌, ◌<◌, ◌≤◌, Bool, List, Option, All, length, refl, ap, sym, subst, arith}
+use Rattle.tach_media.proofs.Runs.{on_ok, ok_gives}
+use Rattle.minute_model.specs.declared.Minute.{Minute}
+use Rattle.minute_model.specs.Span.{ungiven_of, end_of, settled}
+use Rattle.run_keeping.specs.Keeping.{most_tears}
+use Rattle.run_keeping.specs.Minutes.{AreDue, AreKept, AreKeptUpTo, Told, kept_after}
+use Rattle.run_power.specs.declared.run.Run.{Run}
+use Rattle.run_power.specs.declared.run.Power.{Power}
+use Rattle.run_power.specs.Room.{waiting, bare_seats}
+use Rattle.run_power.proofs.Kept.{given-ended, given-rows, kept-going, seats-less, owing-is, owing-sum}
+use Rattle.run_acts.specs.Acting.{told_of}
+use Rattle.run_acts.proofs.Settled.{settled-ungiven, settled-later, settled-decides}
+use Rattle.run_acts.proofs.Bare.{all-bare}
+use Rattle.run_acts.proofs.settling.settle.Goals as goal
+
+pub keep_all-requires-clause-due : goal.keep_all-requires-clause-due
+keep_all-requires-clause-due g c =
+    let h = c.requires.going in
+    rw c.as_slice.ensures.value (settled-decides h.0 (c.args.run.now.next / 60) c.args.run.now h.1 c.settle-decided.result.items c.requires.small (c.settle-decided.ensures.given h.1.span h.1.stands)).due
+
+pub keep_all-requires-clause-ended : goal.keep_all-requires-clause-ended
+keep_all-requires-clause-ended g c =
+    let h = c.requires.going in
+    let d = settled-decides h.0 (c.args.run.now.next / 60) c.args.run.now h.1 c.settle-decided.result.items c.requires.small (c.settle-decided.ensures.given h.1.span h.1.stands) in
+    let is = settled-ungiven h.0 (c.args.run.now.next / 60) c.args.run.now h.1 in
+    rw c.as_slice.ensures.value (given-ended h.0 (c.args.run.now.next / 60) (ungiven_of (settled h.1.span)) c.args.run.now h.1 c.settle-decided.result.items d (omega (arith, is)))
+
+pub keep_all-requires-clause-rows : goal.keep_all-requires-clause-rows
+keep_all-requires-clause-rows g c =
+    let h = c.requires.going in
+    let d = settled-decides h.0 (c.args.run.now.next / 60) c.args.run.now h.1 c.settle-decided.result.items c.requires.small (c.settle-decided.ensures.given h.1.span h.1.stands) in
+    let is = settled-ungiven h.0 (c.args.run.now.next / 60) c.args.run.now h.1 in
+    rw c.as_slice.ensures.value (given-rows h.0 (c.args.run.now.next / 60) (ungiven_of (settled h.1.span)) c.args.run.now h.1 c.settle-decided.result.items d (omega (arith, is)))
+
+pub keep_all-requires-clause-stands : goal.keep_all-requires-clause-stands
+keep_all-requires-clause-stands g c =
+    let h = c.requires.going in
+    let d = settled-decides h.0 (c.args.run.now.next / 60) c.args.run.now h.1 c.settle-decided.result.items c.requires.small (c.settle-decided.ensures.given h.1.span h.1.stands) in
+    (ungiven_of h.1.span, h.0, rw c.as_slice.ensures.value d.from, h.1.cabin)
+
+pub keep_all-requires-clause-marks : goal.keep_all-requires-clause-marks
+keep_all-requires-clause-marks g c =
+    let h = c.requires.going in
+    let d = settled-decides h.0 (c.args.run.now.next / 60) c.args.run.now h.1 c.settle-decided.result.items c.requires.small (c.settle-decided.ensures.given h.1.span h.1.stands) in
+    let is = settled-ungiven h.0 (c.args.run.now.next / 60) c.args.run.now h.1 in
+    let count = d.count in
+    let sum = owing-sum c.args.run.now.minutes h.1.span h.1.stands in
+    let end = h.1.next in
+    let room = c.requires.marks in
+    rw c.as_slice.ensures.value (omega (arith, is, count, sum, end, room))
+
+pub returns-clause-settled : goal.returns-clause-settled
+returns-clause-settled g c = record {
+  only = refl;
+  minutes = c.settle-decided.ensures.settled;
+  decided = c.settle-decided.result.items;
+  given = c.settle-decided.ensures.given;
+  kept = rw c.as_slice.ensures.value at c.keep_all.ensures.kept;
+  outcome = refl;
+}
+
+pub returns-clause-booked : goal.returns-clause-booked
+returns-clause-booked g c =
+    let b = rw c.as_slice.ensures.value at c.keep_all.ensures.booked in
+    (c.settle-decided.result.items, b.0, c.settle-decided.ensures.given, b.1, b.2)
+
+pub returns-clause-none : goal.returns-clause-none
+returns-clause-none g c =
+    let h = c.requires.going in
+    let now = c.settle-decided.ensures.settled h.1.span h.1.stands in
+    let is = owing-is c.settle-decided.new.self (settled h.1.span) now in
+    let at = settled-ungiven h.0 (c.args.run.now.next / 60) c.args.run.now h.1 in
+    let end = h.1.next in
+    omega (arith, is, at, end)
+
+pub returns-clause-held : goal.returns-clause-held
+returns-clause-held g c =
+    let h = c.requires.going in
+    let e = c.keep_all.ensures in
+    let d = settled-decides h.0 (c.args.run.now.next / 60) c.args.run.now h.1 c.settle-decided.result.items c.requires.small (c.settle-decided.ensures.given h.1.span h.1.stands) in
+    let later = settled-later h.0 (c.args.run.now.next / 60) c.args.run.now h.1 in
+    let next : ℕ = ungiven_of (settled h.1.span) in
+    record {
+      is_unit = e.unit;
+      odometer = let same = e.same.1 in let most = c.requires.held.odometer in omega (arith, same, most);
+      minute = let le = e.minute in let at = c.requires.at in omega (arith, le, at);
+      card_a = record { port = e.card_a.port; size = let same = e.size_a in let size = c.requires.held.card_a.size in omega (arith, same, size) };
+      card_b = record { port = e.card_b.port; size = let same = e.size_b in let size = c.requires.held.card_b.size in omega (arith, same, size) };
+      stand = (next, h.0, e.stands (ungiven_of h.1.span) h.0 (rw c.as_slice.ensures.value d.from) h.1.cabin next later (rw c.as_slice.ensures.value d.last));
+    }
+
+pub returns-clause-going : goal.returns-clause-going
+returns-clause-going g c = λ leaving h.
+    on_ok c.keep_all.result (λ well.
+    let e = c.keep_all.ensures in
+    let old = c.args.run.now in
+    let items = c.settle-decided.result.items in
+    let new : Run = record old { minutes = c.settle-decided.new.self; keeper = c.keep_all.new.self } in
+    let d = settled-decides leaving (old.next / 60) old h items c.requires.small (c.settle-decided.ensures.given h.span h.stands) in
+    let at = settled-ungiven leaving (old.next / 60) old h in
+    kept-going leaving (old.next / 60) old new h (settled h.span) items d (c.settle-decided.ensures.settled h.span h.stands) h.next refl (settled-later leaving (old.next / 60) old h) (omega (arith, at))
+    (ok_gives c.keep_all.result e.ready well) (λ card row. ok_gives c.keep_all.result (e.rows card row) well) e.same.2
+    (ok_gives c.keep_all.result e.last well ∙ ap (kept_after old.keeper.journal.kept) c.as_slice.ensures.value)
+    (rw c.as_slice.ensures.value at e.stands) e.sessions refl h.watches h.limit)
+
+pub returns-clause-takes : goal.returns-clause-takes
+returns-clause-takes g c =
+    let h = c.requires.going in
+    let e = c.keep_all.ensures in
+    let old = c.args.run.now in
+    let d = settled-decides h.0 (old.next / 60) old h.1 c.settle-decided.result.items c.requires.small (c.settle-decided.ensures.given h.1.span h.1.stands) in
+    let at = settled-ungiven h.0 (old.next / 60) old h.1 in
+    let count = d.count in
+    let sum = owing-sum old.minutes h.1.span h.1.stands in
+    let end = h.1.next in
+    let now = c.settle-decided.ensures.settled h.1.span h.1.stands in
+    let is = owing-is c.settle-decided.new.self (settled h.1.span) now in
+    let was : waiting old.power old.minutes.owing ≡ old.minutes.owing = ap (λ (p : Power). waiting p old.minutes.owing) c.requires.lit in
+    let then : waiting old.power c.settle-decided.new.self.owing ≡ c.settle-decided.new.self.owing = ap (λ (p : Power). waiting p c.settle-decided.new.self.owing) c.requires.lit in
+    let few = e.marks.1 in
+    let same : length c.as_slice.result.now ≡ length c.settle-decided.result.items = ap length c.as_slice.ensures.value in
+    let seats = seats-less old.keeper.cabin.slots.seats c.keep_all.new.self.cabin.slots.seats e.seats in
+    let tears = e.breaks.1 in
+    record {
+      rooms = (e.marks.0, e.breaks.0, refl, refl);
+      marks = omega (arith, few, same, at, count, sum, end, is, was, then);
+      breaks = omega (arith, seats, tears);
+      finds = omega arith;
+      refused = omega arith;
+    }
+
+pub returns-clause-bare : goal.returns-clause-bare
+returns-clause-bare g c =
+    on_ok c.keep_all.result (λ well slot h.
+    let o = c.args.outcome.now in
+    let t = told_of c.args.run.now o in
+    let u : Told = record { keeper = c.keep_all.new.self; marks = c.keep_all.new.marks; breaks = c.keep_all.new.breaks } in
+    let kept : AreKept c.args.at c.as_slice.result.now t u = rw well at c.keep_all.ensures.kept in
+    let stays = all-bare c.args.at c.as_slice.result.now t u slot kept h in
+    (stays.seat, stays.bare))

@@ -1,0 +1,85 @@
+use Rattle.std.proofs.Common.{◌≡◌, ◌∙◌, ℕ, ◌+◌, ◌≤◌, Bool, true, false, Option, Some, None, Ok, refl, ap, sym, subst, arith}
+use Rattle.run_acts.proofs.Withdrawn.{closed-powered}
+use Rattle.std.specs.Prelude.{not, is_err, IfSome}
+use Rattle.card_layout.specs.declared.files.Application.{Application}
+use Rattle.card_commands.specs.Ports.{IsPort}
+use Rattle.activity_codec.specs.declared.values.Activity.{Activity}
+use Rattle.card_session.specs.Sessions.{IsSession}
+use Rattle.activity_codec.specs.Activity.{activity_of}
+use Rattle.card_session.specs.Cards.{IsCardClosing}
+use Rattle.tach_media.specs.Medium.{LeavesOnly, broken_by}
+use Rattle.tach_media.proofs.Runs.{on_ok}
+use Rattle.tach_media.proofs.Breakdowns.{none_broken, call_broken, fewer_broken}
+use Rattle.run_crew.specs.declared.cards.Accepted.{Accepted}
+use Rattle.run_crew.specs.declared.cards.Cards.{Cards}
+use Rattle.run_crew.specs.declared.cabin.Cabin.{Cabin}
+use Rattle.run_crew.specs.Cards.{known_of, session_of, with_session}
+use Rattle.run_crew.specs.Cabin.{torn_out}
+use Rattle.run_keeping.specs.declared.keeper.Keeper.{Keeper}
+use Rattle.run_keeping.specs.Keeping.{UnitReady, CardReady, HasItsRow}
+use Rattle.run_keeping.proofs.Sessions.{number-set}
+use Rattle.run_power.specs.declared.run.Run.{Run}
+use Rattle.run_power.proofs.Noted.{noted-ready, noted-row}
+use Rattle.run_acts.specs.Acting.{Fell, IsClosingOf}
+use Rattle.run_acts.proofs.Cabins.{session-known, twice-ready}
+use Rattle.run_acts.proofs.withdrawing.close.Goals as goal
+
+pub returns-in-Ok-leave-clause-ready : goal.returns-in-Ok-leave-clause-ready
+returns-in-Ok-leave-clause-ready g c =
+    on_ok c.note_withdrawal.result (λ well.
+    let k : Keeper = record c.args.run.now.keeper { cabin = c.close.new.self } in
+    let r = c.requires.ready in
+    noted-ready (g.met.M.Medium.coherent c.args.unit.now) (g.met.M.Medium.coherent c.note_withdrawal.new.unit) c.note_withdrawal.ensures.journal k (record { is_unit = r.is_unit; works = r.works; agrees = r.agrees })
+    (c.note_withdrawal.ensures.cause.works ∙ ap not well))
+
+pub returns-in-Ok-leave-clause-rows : goal.returns-in-Ok-leave-clause-rows
+returns-in-Ok-leave-clause-rows g c = λ card h.
+    on_ok c.note_withdrawal.result (λ well.
+    let cards = c.args.run.now.keeper.cabin.cards in
+    let told = ap (λ (b : Cabin). (known_of b.cards card).number) c.close.ensures.kept ∙ number-set c.args.which card None cards ∙ h.told in
+    noted-row (g.met.M.Medium.coherent c.args.unit.now) (g.met.M.Medium.coherent c.note_withdrawal.new.unit) c.note_withdrawal.ensures.journal c.args.run.now.keeper c.requires.ready c.close.new.self.cards card
+    (record { number = h.number; told = told; row = h.row }))
+
+pub returns-in-Err-clause-closed : goal.returns-in-Err-clause-closed
+returns-in-Err-clause-closed g c =
+    let run = c.args.run.now in
+    let which = c.args.which in
+    let X = g.C.Chip.state c.args.card.now in
+    let some : session_of run.keeper.cabin.cards which ≡ Some c.in-Some.accepted = sym c.in-Some.ensures.session in
+    let works : X.works ≡ true = subst (λ (o : Option Accepted). IfSome o (λ a. X.works ≡ true)) (sym (session-known run.keeper.cabin.cards which) ∙ some) c.requires.card.works in
+    let one : 1 ≤ 0 + broken_by X.works true = rw works (omega arith) in (
+      Fell,
+      record {
+        is = subst (λ (o : Option Accepted). IsClosingOf o Fell) (sym some) tt;
+        run = ap (λ (k : Keeper). record run { keeper = k }) (c.tear.ensures.keeper ∙ ap (λ (b : Cabin). record run.keeper { cabin = torn_out which c.args.at.second b }) c.close.ensures.kept);
+        told = c.tear.ensures.told;
+      },
+      fewer_broken one (call_broken true (none_broken X) c.in-Err.ensures.cause),
+    )
+
+pub returns-in-Err-clause-stands : goal.returns-in-Err-clause-stands
+returns-in-Err-clause-stands g c = λ from h. c.tear.ensures.stands from None (c.close.ensures.stands from h)
+
+pub returns-in-Err-clause-card : goal.returns-in-Err-clause-card
+returns-in-Err-clause-card g c =
+    let cards = c.args.run.now.keeper.cabin.cards in
+    let which = c.args.which in
+    let chip = g.C.Chip.card c.leave.new.card in
+    let X = g.C.Chip.state c.leave.new.card in
+    let told : (known_of cards which).sizes ≡ Ok c.in-Ok.app = cc in
+    let after : c.tear.new.self.cabin.cards ≡ with_session which None (with_session which None cards) =
+    ap (λ (k : Keeper). k.cabin.cards) c.tear.ensures.keeper ∙ ap (λ (b : Cabin). with_session which None b.cards) c.close.ensures.kept in
+    subst (λ (q : Cards). CardReady (known_of q which) chip X) (sym after)
+    (twice-ready which cards (λ app is. let same : c.in-Ok.app ≡ app = cc in subst (λ (a : Application). IsPort a None chip X) same c.leave.ensures.port))
+
+-- ---- what the call on the card leaves of it
+
+pub returns-in-Ok-leave-clause-left : goal.returns-in-Ok-leave-clause-left
+returns-in-Ok-leave-clause-left g c =
+    subst (λ (o : Option Accepted). IfSome o (λ s. (act : Activity) × LeavesOnly (g.C.Chip.state c.args.card.now) (g.C.Chip.state c.leave.new.card) (λ x n. IsSession s.session x → IsCardClosing s.session act x n))) c.in-Some.ensures.session
+    (activity_of c.selected-selected.result, c.leave.ensures.moments)
+
+pub returns-in-Err-clause-left : goal.returns-in-Err-clause-left
+returns-in-Err-clause-left g c =
+    subst (λ (o : Option Accepted). IfSome o (λ s. (act : Activity) × LeavesOnly (g.C.Chip.state c.args.card.now) (g.C.Chip.state c.leave.new.card) (λ x n. IsSession s.session x → IsCardClosing s.session act x n))) c.in-Some.ensures.session
+    (activity_of c.selected-selected.result, c.leave.ensures.moments)

@@ -1,0 +1,354 @@
+use Rattle.std.proofs.Common.{◌≡◌, ◌∙◌, inl, inr, ℕ, ◌+◌, ◌-◌, ◌*◌, ◌/◌, ◌≤◌, Bool, true, false, Option, Some, None, is_some, length, refl, ap, sym, subst, arith}
+use Rattle.std.specs.Prelude.{is_err}
+use Rattle.trace_model.specs.declared.Card.{Card}
+use Rattle.trace_model.specs.declared.Card.TheVariants.{A, B}
+use Rattle.tach_media.proofs.Runs.{on_ok, ok_gives, cause_after}
+use Rattle.minute_model.specs.Span.{ungiven_of}
+use Rattle.log_model.specs.declared.lines.Break.{Break}
+use Rattle.slot_machine.specs.Calls.{seat_in, card_in}
+use Rattle.run_crew.specs.declared.cabin.Cabin.{Cabin}
+use Rattle.run_crew.specs.Cards.{session_of}
+use Rattle.run_crew.specs.Cabin.{Stands, with_slot_left}
+use Rattle.run_outcome.specs.Lines.{Listed}
+use Rattle.run_outcome.specs.declared.outcome.Outcome.{Outcome}
+use Rattle.run_keeping.specs.Keeping.{tears_of}
+use Rattle.run_keeping.proofs.Counts.{lines-length}
+use Rattle.run_power.specs.declared.run.Run.{Run}
+use Rattle.run_power.specs.Power.{with_cabin}
+use Rattle.run_power.specs.Going.{IsHeld, IsGoingOn, IsLit}
+use Rattle.run_power.specs.Room.{waiting_of, falls_of}
+use Rattle.run_power.proofs.Torn.{tears-without}
+use Rattle.run_acts.specs.Acting.{IsSettled, IsWithdrawn, closed_cabin, closed_breaks, left_run}
+use Rattle.run_acts.proofs.Leaving.{left-going, left-held, left-falls, closed-past, closed-minute, closed-sessions, closed-falls, closed-a, closed-b}
+use Rattle.run_acts.proofs.Cabins.{cabin-only, cabin-going, cabin-held, ready-same, at-same}
+use Rattle.run_acts.proofs.withdrawing.withdraw.Goals as goal
+
+-- ---- it has left its slot
+
+pub settle-requires-clause-held : goal.settle-requires-clause-held
+settle-requires-clause-held g c =
+    let run = c.args.run.now in
+    let card = c.in-Some.card in
+    let second : ℕ = c.args.at.second in
+    let here = c.requires.at in
+    let there : card_in (seat_in run.keeper.cabin.slots.seats c.args.slot) ≡ Some card = cc in
+    let u = ungiven_of c.requires.going.span in
+    let stands = subst (λ (b : Cabin). Stands u (Some card) b) c.leave.ensures.kept (c.leave.ensures.stands u card there c.requires.going.cabin) in
+    subst (λ (b : Cabin). IsHeld (run.next / 60) (with_cabin b run) (g.M.Medium.state c.args.unit.now) (g.C.Chip.card c.args.card_a.now) (g.D.Chip.card c.args.card_b.now) (g.C.Chip.state c.args.card_a.now) (g.D.Chip.state c.args.card_b.now)) (sym c.leave.ensures.kept)
+    (left-held c.args.slot card second run (run.next / 60) c.requires.held (omega (arith, here)) u stands)
+
+pub settle-requires-clause-going : goal.settle-requires-clause-going
+settle-requires-clause-going g c =
+    let run = c.args.run.now in
+    let card = c.in-Some.card in
+    let second : ℕ = c.args.at.second in
+    let there : card_in (seat_in run.keeper.cabin.slots.seats c.args.slot) ≡ Some card = cc in (
+      Some card,
+      subst (λ (b : Cabin). IsGoingOn (Some card) (run.next / 60) (with_cabin b run) (g.M.Medium.state c.args.unit.now) (g.C.Chip.card c.args.card_a.now) (g.D.Chip.card c.args.card_b.now) (g.C.Chip.state c.args.card_a.now) (g.D.Chip.state c.args.card_b.now)) (sym c.leave.ensures.kept)
+          (left-going c.args.slot card second run (run.next / 60) c.requires.going (λ from h. subst (λ (b : Cabin). Stands from (Some card) b) c.leave.ensures.kept (c.leave.ensures.stands from card there h))),
+    )
+
+pub returns-in_err-settle-clause-takes : goal.returns-in_err-settle-clause-takes
+returns-in_err-settle-clause-takes g c =
+    let run = c.args.run.now in
+    let t = c.settle.ensures.takes in
+    let left : falls_of c.leave.new.self ≡ falls_of (with_slot_left c.args.slot c.args.at.second run.keeper.cabin) = ap falls_of c.leave.ensures.kept in
+    let less = left-falls c.args.slot c.args.at.second run.keeper.cabin in
+    let b = t.breaks in
+    record { rooms = t.rooms; marks = t.marks; breaks = omega (arith, b, left, less); finds = t.finds; refused = t.refused }
+
+-- ---- card a
+
+pub close-requires-clause-ready : goal.close-requires-clause-ready
+close-requires-clause-ready g c =
+    let run = c.args.run.now in
+    let second : ℕ = c.args.at.second in
+    let there : card_in (seat_in run.keeper.cabin.slots.seats c.args.slot) ≡ Some A = cc in
+    let left = subst (λ (b : Cabin). IsGoingOn (Some A) (run.next / 60) (with_cabin b run) (g.M.Medium.state c.args.unit.now) (g.C.Chip.card c.args.card_a.now) (g.D.Chip.card c.args.card_b.now) (g.C.Chip.state c.args.card_a.now) (g.D.Chip.state c.args.card_b.now)) (sym c.leave.ensures.kept)
+    (left-going c.args.slot A second run (run.next / 60) c.requires.going (λ from h. subst (λ (b : Cabin). Stands from (Some A) b) c.leave.ensures.kept (c.leave.ensures.stands from A there h))) in
+    let going = c.in_ok-settle.ensures.going (Some A) left in
+    going.ready.unit_ready
+
+pub close-requires-clause-card : goal.close-requires-clause-card
+close-requires-clause-card g c =
+    let run = c.args.run.now in
+    let second : ℕ = c.args.at.second in
+    let there : card_in (seat_in run.keeper.cabin.slots.seats c.args.slot) ≡ Some A = cc in
+    let left = subst (λ (b : Cabin). IsGoingOn (Some A) (run.next / 60) (with_cabin b run) (g.M.Medium.state c.args.unit.now) (g.C.Chip.card c.args.card_a.now) (g.D.Chip.card c.args.card_b.now) (g.C.Chip.state c.args.card_a.now) (g.D.Chip.state c.args.card_b.now)) (sym c.leave.ensures.kept)
+    (left-going c.args.slot A second run (run.next / 60) c.requires.going (λ from h. subst (λ (b : Cabin). Stands from (Some A) b) c.leave.ensures.kept (c.leave.ensures.stands from A there h))) in
+    let going = c.in_ok-settle.ensures.going (Some A) left in
+    going.ready.card_a
+
+pub close-requires-clause-entry : goal.close-requires-clause-entry
+close-requires-clause-entry g c =
+    let run = c.args.run.now in
+    let second : ℕ = c.args.at.second in
+    let there : card_in (seat_in run.keeper.cabin.slots.seats c.args.slot) ≡ Some A = cc in
+    let left = subst (λ (b : Cabin). IsGoingOn (Some A) (run.next / 60) (with_cabin b run) (g.M.Medium.state c.args.unit.now) (g.C.Chip.card c.args.card_a.now) (g.D.Chip.card c.args.card_b.now) (g.C.Chip.state c.args.card_a.now) (g.D.Chip.state c.args.card_b.now)) (sym c.leave.ensures.kept)
+    (left-going c.args.slot A second run (run.next / 60) c.requires.going (λ from h. subst (λ (b : Cabin). Stands from (Some A) b) c.leave.ensures.kept (c.leave.ensures.stands from A there h))) in
+    let going = c.in_ok-settle.ensures.going (Some A) left in
+    going.entries A
+
+pub close-requires-clause-room : goal.close-requires-clause-room
+close-requires-clause-room g c =
+    let run = c.args.run.now in
+    let t = c.settle.ensures.takes in
+    let left_is : falls_of c.leave.new.self ≡ falls_of (with_slot_left c.args.slot c.args.at.second run.keeper.cabin) = ap falls_of c.leave.ensures.kept in
+    let less = left-falls c.args.slot c.args.at.second run.keeper.cabin in
+    let b = t.breaks in
+    let room = c.requires.breaks in
+    let same = t.rooms.1 in
+    let tears = tears-without A c.settle.new.run.keeper.cabin.cards in
+    omega (arith, b, left_is, less, room, same, tears)
+
+pub returns-in-A-clause-withdrawn : goal.returns-in-A-clause-withdrawn
+returns-in-A-clause-withdrawn g c =
+    let run = c.args.run.now in
+    let there : card_in (seat_in run.keeper.cabin.slots.seats c.args.slot) ≡ Some A = cc in
+    let n = c.close.ensures.closed in
+    let settled_first : IsSettled c.args.at false (left_run c.args.slot c.args.at.second run) c.settle.new.run c.args.outcome.now c.settle.new.outcome =
+    subst (λ (b : Cabin). IsSettled c.args.at false (with_cabin b run) c.settle.new.run c.args.outcome.now c.settle.new.outcome) c.leave.ensures.kept c.in_ok-settle.ensures.settled in
+    subst (λ (o : Option Card). IsWithdrawn o c.args.slot c.args.at (is_err c.close.result) run c.close.new.run c.args.outcome.now (record c.settle.new.outcome { breaks = c.close.new.breaks })) (sym there)
+    (inr (record { between = c.settle.new.run; told = c.settle.new.outcome; settled_first = settled_first; closing = n.0; closed = n.1; outcome = refl }))
+
+pub returns-in-A-clause-held : goal.returns-in-A-clause-held
+returns-in-A-clause-held g c =
+    let run = c.args.run.now in
+    let second : ℕ = c.args.at.second in
+    let there : card_in (seat_in run.keeper.cabin.slots.seats c.args.slot) ≡ Some A = cc in
+    let left = subst (λ (b : Cabin). IsGoingOn (Some A) (run.next / 60) (with_cabin b run) (g.M.Medium.state c.args.unit.now) (g.C.Chip.card c.args.card_a.now) (g.D.Chip.card c.args.card_b.now) (g.C.Chip.state c.args.card_a.now) (g.D.Chip.state c.args.card_b.now)) (sym c.leave.ensures.kept)
+    (left-going c.args.slot A second run (run.next / 60) c.requires.going (λ from h. subst (λ (b : Cabin). Stands from (Some A) b) c.leave.ensures.kept (c.leave.ensures.stands from A there h))) in
+    let going = c.in_ok-settle.ensures.going (Some A) left in
+    let between : Run = c.settle.new.run in
+    let new : Run = c.close.new.run in
+    let e = c.close.ensures in
+    let n = e.closed in
+    let cabin = closed_cabin n.0 A second between.keeper.cabin in
+    let is : new ≡ with_cabin cabin between = n.1.run in
+    let known : new.keeper.cabin.cards.b ≡ between.keeper.cabin.cards.b = ap (λ (r : Run). r.keeper.cabin.cards.b) is ∙ closed-b n.0 second between.keeper.cabin in
+    let next : new.next ≡ between.next = ap (λ (r : Run). r.next) is in
+    let held = c.settle.ensures.held in
+    let here = c.requires.at in
+    let same : between.next ≡ run.next = ap (λ (r : Run). r.next) c.settle.ensures.settled.only in
+    let u = ungiven_of going.span in
+    subst (λ (m : ℕ). IsHeld (m / 60) new (g.M.Medium.state c.close.new.unit) (g.C.Chip.card c.close.new.card) (g.D.Chip.card c.settle.new.card_b) (g.C.Chip.state c.close.new.card) (g.D.Chip.state c.settle.new.card_b)) (sym next)
+    (cabin-held (between.next / 60) between new cabin is held e.unit (closed-minute A second between.keeper.cabin n.0 (between.next / 60) held.minute (omega (arith, here, same)))
+    (record { port = e.card.port; size = let same = e.size in let size = held.card_a.size in omega (arith, same, size) }) (at-same between.keeper.cabin.cards new.keeper.cabin.cards B known held.card_b) (u, None, e.stands u going.cabin))
+
+pub returns-in-A-clause-going : goal.returns-in-A-clause-going
+returns-in-A-clause-going g c =
+    let run = c.args.run.now in
+    let second : ℕ = c.args.at.second in
+    let there : card_in (seat_in run.keeper.cabin.slots.seats c.args.slot) ≡ Some A = cc in
+    let left = subst (λ (b : Cabin). IsGoingOn (Some A) (run.next / 60) (with_cabin b run) (g.M.Medium.state c.args.unit.now) (g.C.Chip.card c.args.card_a.now) (g.D.Chip.card c.args.card_b.now) (g.C.Chip.state c.args.card_a.now) (g.D.Chip.state c.args.card_b.now)) (sym c.leave.ensures.kept)
+    (left-going c.args.slot A second run (run.next / 60) c.requires.going (λ from h. subst (λ (b : Cabin). Stands from (Some A) b) c.leave.ensures.kept (c.leave.ensures.stands from A there h))) in
+    let going = c.in_ok-settle.ensures.going (Some A) left in
+    let between : Run = c.settle.new.run in
+    let new : Run = c.close.new.run in
+    let e = c.close.ensures in
+    let n = e.closed in
+    let cabin = closed_cabin n.0 A second between.keeper.cabin in
+    let is : new ≡ with_cabin cabin between = n.1.run in
+    let known : new.keeper.cabin.cards.b ≡ between.keeper.cabin.cards.b = ap (λ (r : Run). r.keeper.cabin.cards.b) is ∙ closed-b n.0 second between.keeper.cabin in
+    let next : new.next ≡ between.next = ap (λ (r : Run). r.next) is in
+    on_ok c.close.result (λ well.
+    subst (λ (m : ℕ). IsLit (m / 60) new (g.M.Medium.state c.close.new.unit) (g.C.Chip.card c.close.new.card) (g.D.Chip.card c.settle.new.card_b) (g.C.Chip.state c.close.new.card) (g.D.Chip.state c.settle.new.card_b)) (sym next)
+    (cabin-going (between.next / 60) between new cabin is (Some A) None going (ok_gives c.close.result e.ready well) (e.card) (ready-same between.keeper.cabin.cards new.keeper.cabin.cards B known going.ready.card_b) (λ card h. ok_gives c.close.result (e.rows card h) well)
+    (closed-past A second between.keeper.cabin n.0) (e.stands (ungiven_of going.span) going.cabin) (closed-sessions A second between.keeper.cabin n.0)))
+
+pub returns-in-A-clause-takes : goal.returns-in-A-clause-takes
+returns-in-A-clause-takes g c =
+    let run = c.args.run.now in
+    let second : ℕ = c.args.at.second in
+    let t = c.settle.ensures.takes in
+    let left_is : falls_of c.leave.new.self ≡ falls_of (with_slot_left c.args.slot c.args.at.second run.keeper.cabin) = ap falls_of c.leave.ensures.kept in
+    let less = left-falls c.args.slot c.args.at.second run.keeper.cabin in
+    let b = t.breaks in
+    let between : Run = c.settle.new.run in
+    let new : Run = c.close.new.run in
+    let e = c.close.ensures in
+    let n = e.closed in
+    let cabin = closed_cabin n.0 A second between.keeper.cabin in
+    let is : new ≡ with_cabin cabin between = n.1.run in
+    let known : new.keeper.cabin.cards.b ≡ between.keeper.cabin.cards.b = ap (λ (r : Run). r.keeper.cabin.cards.b) is ∙ closed-b n.0 second between.keeper.cabin in
+    let next : new.next ≡ between.next = ap (λ (r : Run). r.next) is in
+    let falls = closed-falls A second between.keeper.cabin n.0 c.args.slot c.args.at n.1.is in
+    let same : falls_of new.keeper.cabin ≡ falls_of cabin = ap (λ (r : Run). falls_of r.keeper.cabin) is in
+    let waits : waiting_of new ≡ waiting_of between = ap waiting_of is in
+    let told = c.settle.new.outcome.breaks in
+    let length_is : length c.close.new.breaks.items ≡ length told.items + length (closed_breaks n.0 c.args.slot c.args.at) = ap (λ (l : Listed Break). length l.items) n.1.told ∙ lines-length (closed_breaks n.0 c.args.slot c.args.at) told in
+    let m = t.marks in
+    record {
+      rooms = (t.rooms.0, ap (λ (l : Listed Break). l.room) n.1.told ∙ t.rooms.1, t.rooms.2, t.rooms.3);
+      marks = omega (arith, m, waits);
+      breaks = omega (arith, b, left_is, less, falls, same, length_is);
+      finds = t.finds;
+      refused = t.refused;
+    }
+
+pub returns-in-A-clause-cause : goal.returns-in-A-clause-cause
+returns-in-A-clause-cause g c = cause_after c.in_ok-settle.ensures.cause c.close.ensures.cause
+
+-- ---- card b
+
+pub close-requires-in-B-clause-ready : goal.close-requires-in-B-clause-ready
+close-requires-in-B-clause-ready g c =
+    let run = c.args.run.now in
+    let second : ℕ = c.args.at.second in
+    let there : card_in (seat_in run.keeper.cabin.slots.seats c.args.slot) ≡ Some B = cc in
+    let left = subst (λ (b : Cabin). IsGoingOn (Some B) (run.next / 60) (with_cabin b run) (g.M.Medium.state c.args.unit.now) (g.C.Chip.card c.args.card_a.now) (g.D.Chip.card c.args.card_b.now) (g.C.Chip.state c.args.card_a.now) (g.D.Chip.state c.args.card_b.now)) (sym c.leave.ensures.kept)
+    (left-going c.args.slot B second run (run.next / 60) c.requires.going (λ from h. subst (λ (b : Cabin). Stands from (Some B) b) c.leave.ensures.kept (c.leave.ensures.stands from B there h))) in
+    let going = c.in_ok-settle.ensures.going (Some B) left in
+    going.ready.unit_ready
+
+pub close-requires-in-B-clause-card : goal.close-requires-in-B-clause-card
+close-requires-in-B-clause-card g c =
+    let run = c.args.run.now in
+    let second : ℕ = c.args.at.second in
+    let there : card_in (seat_in run.keeper.cabin.slots.seats c.args.slot) ≡ Some B = cc in
+    let left = subst (λ (b : Cabin). IsGoingOn (Some B) (run.next / 60) (with_cabin b run) (g.M.Medium.state c.args.unit.now) (g.C.Chip.card c.args.card_a.now) (g.D.Chip.card c.args.card_b.now) (g.C.Chip.state c.args.card_a.now) (g.D.Chip.state c.args.card_b.now)) (sym c.leave.ensures.kept)
+    (left-going c.args.slot B second run (run.next / 60) c.requires.going (λ from h. subst (λ (b : Cabin). Stands from (Some B) b) c.leave.ensures.kept (c.leave.ensures.stands from B there h))) in
+    let going = c.in_ok-settle.ensures.going (Some B) left in
+    going.ready.card_b
+
+pub close-requires-in-B-clause-entry : goal.close-requires-in-B-clause-entry
+close-requires-in-B-clause-entry g c =
+    let run = c.args.run.now in
+    let second : ℕ = c.args.at.second in
+    let there : card_in (seat_in run.keeper.cabin.slots.seats c.args.slot) ≡ Some B = cc in
+    let left = subst (λ (b : Cabin). IsGoingOn (Some B) (run.next / 60) (with_cabin b run) (g.M.Medium.state c.args.unit.now) (g.C.Chip.card c.args.card_a.now) (g.D.Chip.card c.args.card_b.now) (g.C.Chip.state c.args.card_a.now) (g.D.Chip.state c.args.card_b.now)) (sym c.leave.ensures.kept)
+    (left-going c.args.slot B second run (run.next / 60) c.requires.going (λ from h. subst (λ (b : Cabin). Stands from (Some B) b) c.leave.ensures.kept (c.leave.ensures.stands from B there h))) in
+    let going = c.in_ok-settle.ensures.going (Some B) left in
+    going.entries B
+
+pub close-requires-in-B-clause-room : goal.close-requires-in-B-clause-room
+close-requires-in-B-clause-room g c =
+    let run = c.args.run.now in
+    let t = c.settle.ensures.takes in
+    let left_is : falls_of c.leave.new.self ≡ falls_of (with_slot_left c.args.slot c.args.at.second run.keeper.cabin) = ap falls_of c.leave.ensures.kept in
+    let less = left-falls c.args.slot c.args.at.second run.keeper.cabin in
+    let b = t.breaks in
+    let room = c.requires.breaks in
+    let same = t.rooms.1 in
+    let tears = tears-without B c.settle.new.run.keeper.cabin.cards in
+    omega (arith, b, left_is, less, room, same, tears)
+
+pub returns-in-B-clause-withdrawn : goal.returns-in-B-clause-withdrawn
+returns-in-B-clause-withdrawn g c =
+    let run = c.args.run.now in
+    let there : card_in (seat_in run.keeper.cabin.slots.seats c.args.slot) ≡ Some B = cc in
+    let n = c.close-in-B.ensures.closed in
+    let settled_first : IsSettled c.args.at false (left_run c.args.slot c.args.at.second run) c.settle.new.run c.args.outcome.now c.settle.new.outcome =
+    subst (λ (b : Cabin). IsSettled c.args.at false (with_cabin b run) c.settle.new.run c.args.outcome.now c.settle.new.outcome) c.leave.ensures.kept c.in_ok-settle.ensures.settled in
+    subst (λ (o : Option Card). IsWithdrawn o c.args.slot c.args.at (is_err c.close-in-B.result) run c.close-in-B.new.run c.args.outcome.now (record c.settle.new.outcome { breaks = c.close-in-B.new.breaks })) (sym there)
+    (inr (record { between = c.settle.new.run; told = c.settle.new.outcome; settled_first = settled_first; closing = n.0; closed = n.1; outcome = refl }))
+
+pub returns-in-B-clause-held : goal.returns-in-B-clause-held
+returns-in-B-clause-held g c =
+    let run = c.args.run.now in
+    let second : ℕ = c.args.at.second in
+    let there : card_in (seat_in run.keeper.cabin.slots.seats c.args.slot) ≡ Some B = cc in
+    let left = subst (λ (b : Cabin). IsGoingOn (Some B) (run.next / 60) (with_cabin b run) (g.M.Medium.state c.args.unit.now) (g.C.Chip.card c.args.card_a.now) (g.D.Chip.card c.args.card_b.now) (g.C.Chip.state c.args.card_a.now) (g.D.Chip.state c.args.card_b.now)) (sym c.leave.ensures.kept)
+    (left-going c.args.slot B second run (run.next / 60) c.requires.going (λ from h. subst (λ (b : Cabin). Stands from (Some B) b) c.leave.ensures.kept (c.leave.ensures.stands from B there h))) in
+    let going = c.in_ok-settle.ensures.going (Some B) left in
+    let between : Run = c.settle.new.run in
+    let new : Run = c.close-in-B.new.run in
+    let e = c.close-in-B.ensures in
+    let n = e.closed in
+    let cabin = closed_cabin n.0 B second between.keeper.cabin in
+    let is : new ≡ with_cabin cabin between = n.1.run in
+    let known : new.keeper.cabin.cards.a ≡ between.keeper.cabin.cards.a = ap (λ (r : Run). r.keeper.cabin.cards.a) is ∙ closed-a n.0 second between.keeper.cabin in
+    let next : new.next ≡ between.next = ap (λ (r : Run). r.next) is in
+    let held = c.settle.ensures.held in
+    let here = c.requires.at in
+    let same : between.next ≡ run.next = ap (λ (r : Run). r.next) c.settle.ensures.settled.only in
+    let u = ungiven_of going.span in
+    subst (λ (m : ℕ). IsHeld (m / 60) new (g.M.Medium.state c.close-in-B.new.unit) (g.C.Chip.card c.settle.new.card_a) (g.D.Chip.card c.close-in-B.new.card) (g.C.Chip.state c.settle.new.card_a) (g.D.Chip.state c.close-in-B.new.card)) (sym next)
+    (cabin-held (between.next / 60) between new cabin is held e.unit (closed-minute B second between.keeper.cabin n.0 (between.next / 60) held.minute (omega (arith, here, same)))
+    (at-same between.keeper.cabin.cards new.keeper.cabin.cards A known held.card_a) (record { port = e.card.port; size = let same = e.size in let size = held.card_b.size in omega (arith, same, size) }) (u, None, e.stands u going.cabin))
+
+pub returns-in-B-clause-going : goal.returns-in-B-clause-going
+returns-in-B-clause-going g c =
+    let run = c.args.run.now in
+    let second : ℕ = c.args.at.second in
+    let there : card_in (seat_in run.keeper.cabin.slots.seats c.args.slot) ≡ Some B = cc in
+    let left = subst (λ (b : Cabin). IsGoingOn (Some B) (run.next / 60) (with_cabin b run) (g.M.Medium.state c.args.unit.now) (g.C.Chip.card c.args.card_a.now) (g.D.Chip.card c.args.card_b.now) (g.C.Chip.state c.args.card_a.now) (g.D.Chip.state c.args.card_b.now)) (sym c.leave.ensures.kept)
+    (left-going c.args.slot B second run (run.next / 60) c.requires.going (λ from h. subst (λ (b : Cabin). Stands from (Some B) b) c.leave.ensures.kept (c.leave.ensures.stands from B there h))) in
+    let going = c.in_ok-settle.ensures.going (Some B) left in
+    let between : Run = c.settle.new.run in
+    let new : Run = c.close-in-B.new.run in
+    let e = c.close-in-B.ensures in
+    let n = e.closed in
+    let cabin = closed_cabin n.0 B second between.keeper.cabin in
+    let is : new ≡ with_cabin cabin between = n.1.run in
+    let known : new.keeper.cabin.cards.a ≡ between.keeper.cabin.cards.a = ap (λ (r : Run). r.keeper.cabin.cards.a) is ∙ closed-a n.0 second between.keeper.cabin in
+    let next : new.next ≡ between.next = ap (λ (r : Run). r.next) is in
+    on_ok c.close-in-B.result (λ well.
+    subst (λ (m : ℕ). IsLit (m / 60) new (g.M.Medium.state c.close-in-B.new.unit) (g.C.Chip.card c.settle.new.card_a) (g.D.Chip.card c.close-in-B.new.card) (g.C.Chip.state c.settle.new.card_a) (g.D.Chip.state c.close-in-B.new.card)) (sym next)
+    (cabin-going (between.next / 60) between new cabin is (Some B) None going (ok_gives c.close-in-B.result e.ready well) (ready-same between.keeper.cabin.cards new.keeper.cabin.cards A known going.ready.card_a) (e.card) (λ card h. ok_gives c.close-in-B.result (e.rows card h) well)
+    (closed-past B second between.keeper.cabin n.0) (e.stands (ungiven_of going.span) going.cabin) (closed-sessions B second between.keeper.cabin n.0)))
+
+pub returns-in-B-clause-takes : goal.returns-in-B-clause-takes
+returns-in-B-clause-takes g c =
+    let run = c.args.run.now in
+    let second : ℕ = c.args.at.second in
+    let t = c.settle.ensures.takes in
+    let left_is : falls_of c.leave.new.self ≡ falls_of (with_slot_left c.args.slot c.args.at.second run.keeper.cabin) = ap falls_of c.leave.ensures.kept in
+    let less = left-falls c.args.slot c.args.at.second run.keeper.cabin in
+    let b = t.breaks in
+    let between : Run = c.settle.new.run in
+    let new : Run = c.close-in-B.new.run in
+    let e = c.close-in-B.ensures in
+    let n = e.closed in
+    let cabin = closed_cabin n.0 B second between.keeper.cabin in
+    let is : new ≡ with_cabin cabin between = n.1.run in
+    let known : new.keeper.cabin.cards.a ≡ between.keeper.cabin.cards.a = ap (λ (r : Run). r.keeper.cabin.cards.a) is ∙ closed-a n.0 second between.keeper.cabin in
+    let next : new.next ≡ between.next = ap (λ (r : Run). r.next) is in
+    let falls = closed-falls B second between.keeper.cabin n.0 c.args.slot c.args.at n.1.is in
+    let same : falls_of new.keeper.cabin ≡ falls_of cabin = ap (λ (r : Run). falls_of r.keeper.cabin) is in
+    let waits : waiting_of new ≡ waiting_of between = ap waiting_of is in
+    let told = c.settle.new.outcome.breaks in
+    let length_is : length c.close-in-B.new.breaks.items ≡ length told.items + length (closed_breaks n.0 c.args.slot c.args.at) = ap (λ (l : Listed Break). length l.items) n.1.told ∙ lines-length (closed_breaks n.0 c.args.slot c.args.at) told in
+    let m = t.marks in
+    record {
+      rooms = (t.rooms.0, ap (λ (l : Listed Break). l.room) n.1.told ∙ t.rooms.1, t.rooms.2, t.rooms.3);
+      marks = omega (arith, m, waits);
+      breaks = omega (arith, b, left_is, less, falls, same, length_is);
+      finds = t.finds;
+      refused = t.refused;
+    }
+
+pub returns-in-B-clause-cause : goal.returns-in-B-clause-cause
+returns-in-B-clause-cause g c = cause_after c.in_ok-settle.ensures.cause c.close-in-B.ensures.cause
+
+pub returns-in-A-clause-only : goal.returns-in-A-clause-only
+returns-in-A-clause-only g c =
+    let n = c.close.ensures.closed in
+    cabin-only c.args.run.now c.settle.new.run c.close.new.run (closed_cabin n.0 A c.args.at.second c.settle.new.run.keeper.cabin) c.settle.ensures.settled.only n.1.run
+
+pub returns-in-A-clause-rest : goal.returns-in-A-clause-rest
+returns-in-A-clause-rest g c = ap (λ (o : Outcome). record o { breaks = c.close.new.breaks }) c.settle.ensures.settled.outcome
+
+pub returns-in-B-clause-only : goal.returns-in-B-clause-only
+returns-in-B-clause-only g c =
+    let n = c.close-in-B.ensures.closed in
+    cabin-only c.args.run.now c.settle.new.run c.close-in-B.new.run (closed_cabin n.0 B c.args.at.second c.settle.new.run.keeper.cabin) c.settle.ensures.settled.only n.1.run
+
+pub returns-in-B-clause-rest : goal.returns-in-B-clause-rest
+returns-in-B-clause-rest g c = ap (λ (o : Outcome). record o { breaks = c.close-in-B.new.breaks }) c.settle.ensures.settled.outcome
+
+pub returns-in-A-clause-more : goal.returns-in-A-clause-more
+returns-in-A-clause-more g c =
+    let n = c.close.ensures.closed in
+    let more = c.settle.ensures.more in
+    let told = c.settle.new.outcome.breaks in
+    let length_is : length c.close.new.breaks.items ≡ length told.items + length (closed_breaks n.0 c.args.slot c.args.at) = ap (λ (l : Listed Break). length l.items) n.1.told ∙ lines-length (closed_breaks n.0 c.args.slot c.args.at) told in
+    omega (arith, more, length_is)
+
+pub returns-in-B-clause-more : goal.returns-in-B-clause-more
+returns-in-B-clause-more g c =
+    let n = c.close-in-B.ensures.closed in
+    let more = c.settle.ensures.more in
+    let told = c.settle.new.outcome.breaks in
+    let length_is : length c.close-in-B.new.breaks.items ≡ length told.items + length (closed_breaks n.0 c.args.slot c.args.at) = ap (λ (l : Listed Break). length l.items) n.1.told ∙ lines-length (closed_breaks n.0 c.args.slot c.args.at) told in
+    omega (arith, more, length_is)

@@ -1,0 +1,137 @@
+//! The interruption of power that ends now is noted.
+ghost use Rattle.std.specs.Prelude.{◌≡◌, ◌≢◌, ℕ, ◌+◌, ◌/◌, ◌<◌, ◌≤◌, Bool, true, Option, Some, None, Ok, IfSome, OnOk, length, is_err, is_some};
+ghost use Rattle.trace_model.specs.declared.Card.{Card};
+ghost use Rattle.tach_media.specs.Medium.{LeavesOnly, HasCause, HasBroken};
+ghost use Rattle.event_model.specs.declared.kinds.TheConstants.{POWER_INTERRUPTION};
+ghost use Rattle.unit_model.specs.Image.{IsUnit};
+ghost use Rattle.slot_machine.specs.Calls.{seat_in, card_in};
+ghost use Rattle.run_crew.specs.Cards.{known_of, session_of};
+ghost use Rattle.run_crew.specs.Cabin.{Stands};
+ghost use Rattle.run_keeping.specs.Keeping.{UnitReady, CardReady, HasItsRow};
+ghost use Rattle.run_power.specs.declared.run.Power.TheVariants.{Lit};
+ghost use Rattle.run_power.specs.Going.{first_second, end_of_seconds, IsHeld, IsLit};
+ghost use Rattle.run_power.specs.Room.{falls_of};
+ghost use Rattle.run_acts.specs.Acting.{IsNotedOn, IsNotedIn, falls_by, now_moment};
+
+use activity_codec::Slot;
+use card_calls::note_event_on;
+use event_rules::power_gap;
+use log_model::Break;
+use run_notes::{card_gap, on_card};
+use run_outcome::Lines;
+use run_power::Run;
+use tach_media::{Chip, Failed, Medium};
+use trace_model::Card;
+use unit_notes::{UnitEvent, UnitNotes};
+
+/// The interruption of power that ends with the next second, where this was the last-kept minute, is noted on the unit, and then on the
+/// accepted cards. A card whose call fails is torn out.
+///
+/// # Errors
+///
+/// `Failed` where the unit failed.
+pub fn note_gap<M: Medium, C: Chip, D: Chip>(
+    run: &mut Run,
+    kept: u32,
+    unit: &mut M,
+    card_a: &mut C,
+    card_b: &mut D,
+    breaks: &mut Lines<Break>,
+) -> Result<(), Failed>
+    requires lit { run.old.power ≡ Lit }
+    requires low { first_second ≤ run.old.next }
+    requires small { run.old.next ≤ end_of_seconds }
+    requires held { IsHeld (run.old.next / 60) run.old (M.state unit.old) (C.card card_a.old) (D.card card_b.old) (C.state card_a.old) (D.state card_b.old) }
+    requires going { IsLit (run.old.next / 60) run.old (M.state unit.old) (C.card card_a.old) (D.card card_b.old) (C.state card_a.old) (D.state card_b.old) }
+    requires kept { kept < run.old.next / 60 }
+    requires breaks { length breaks.old.items + falls_of run.old.keeper.cabin ≤ breaks.old.room }
+    ensures only { run.new ≡ record run.old { keeper = run.new.keeper } }
+    ensures held { IsHeld (run.new.next / 60) run.new (M.state unit.new) (C.card card_a.new) (D.card card_b.new) (C.state card_a.new) (D.state card_b.new) }
+    ensures going { OnOk result (IsLit (run.new.next / 60) run.new (M.state unit.new) (C.card card_a.new) (D.card card_b.new) (C.state card_a.new) (D.state card_b.new)) }
+    ensures room { (breaks.new.room ≡ breaks.old.room) × (length breaks.new.items + falls_of run.new.keeper.cabin ≤ length breaks.old.items + falls_of run.old.keeper.cabin) }
+    ensures more { length breaks.old.items ≤ length breaks.new.items }
+    ensures cause { HasCause (M.state unit.old) (M.state unit.new) (is_err result) }
+{
+    let Some(span) = power_gap(kept, run.next) else {
+        return Ok(());
+    };
+    let event = card_gap(span, run.keeper.cabin.crew());
+    run.keeper.memory.note_event(unit, &event)?;
+    note_in(run, Slot::Driver, &event, unit, card_a, card_b, breaks)?;
+    note_in(run, Slot::CoDriver, &event, unit, card_a, card_b, breaks)
+}
+
+// An interruption is noted on the card of a slot, where it is accepted.
+fn note_in<M: Medium, C: Chip, D: Chip>(
+    run: &mut Run,
+    slot: Slot,
+    event: &UnitEvent,
+    unit: &mut M,
+    card_a: &mut C,
+    card_b: &mut D,
+    breaks: &mut Lines<Break>,
+) -> Result<(), Failed>
+    requires lit { run.old.power ≡ Lit }
+    requires low { first_second ≤ run.old.next }
+    requires held { IsHeld (run.old.next / 60) run.old (M.state unit.old) (C.card card_a.old) (D.card card_b.old) (C.state card_a.old) (D.state card_b.old) }
+    requires going { IsLit (run.old.next / 60) run.old (M.state unit.old) (C.card card_a.old) (D.card card_b.old) (C.state card_a.old) (D.state card_b.old) }
+    requires kind { event.now.kind ≡ POWER_INTERRUPTION }
+    requires begin { event.now.begin.0 ≢ 0 }
+    requires breaks { length breaks.old.items + falls_of run.old.keeper.cabin ≤ breaks.old.room }
+    ensures noted { (fell : Bool) × IsNotedIn (card_in (seat_in run.old.keeper.cabin.slots.seats slot)) slot (now_moment run.old) run.old run.new breaks.old breaks.new fell }
+    ensures only { run.new ≡ record run.old { keeper = run.new.keeper } }
+    ensures held { IsHeld (run.new.next / 60) run.new (M.state unit.new) (C.card card_a.new) (D.card card_b.new) (C.state card_a.new) (D.state card_b.new) }
+    ensures going { OnOk result (IsLit (run.new.next / 60) run.new (M.state unit.new) (C.card card_a.new) (D.card card_b.new) (C.state card_a.new) (D.state card_b.new)) }
+    ensures room { (breaks.new.room ≡ breaks.old.room) × (length breaks.new.items + falls_of run.new.keeper.cabin ≤ length breaks.old.items + falls_of run.old.keeper.cabin) }
+    ensures more { length breaks.old.items ≤ length breaks.new.items }
+    ensures cause { HasCause (M.state unit.old) (M.state unit.new) (is_err result) }
+{
+    let Some(card) = run.keeper.cabin.slots.card(slot) else {
+        return Ok(());
+    };
+    let Some(_) = run.keeper.cabin.number_in(slot) else {
+        return Ok(());
+    };
+    match card {
+        Card::A => note_on(run, Card::A, slot, event, unit, card_a, breaks),
+        Card::B => note_on(run, Card::B, slot, event, unit, card_b, breaks),
+    }
+}
+
+// An interruption is noted on an accepted card, which is torn out where that fails.
+fn note_on<M: Medium, C: Chip>(
+    run: &mut Run,
+    which: Card,
+    slot: Slot,
+    event: &UnitEvent,
+    unit: &mut M,
+    card: &mut C,
+    breaks: &mut Lines<Break>,
+) -> Result<(), Failed>
+    requires ready { UnitReady run.old.keeper (M.state unit.old) }
+    requires card { CardReady (known_of run.old.keeper.cabin.cards which) (C.card card.old) (C.state card.old) }
+    requires session { is_some (session_of run.old.keeper.cabin.cards which) ≡ true }
+    requires minute { run.old.keeper.cabin.slots.minute ≤ run.old.next / 60 }
+    requires second { run.old.next ≢ 0 }
+    requires kind { event.now.kind ≡ POWER_INTERRUPTION }
+    requires begin { event.now.begin.0 ≢ 0 }
+    requires room { length breaks.old.items < breaks.old.room }
+    ensures noted { (fell : Bool) × IsNotedOn which slot (now_moment run.old) run.old run.new breaks.old breaks.new fell × HasBroken (C.state card.old) (C.state card.new) (falls_by fell) }
+    ensures unit { IsUnit (M.state unit.new) }
+    ensures ready { OnOk result (UnitReady run.new.keeper (M.state unit.new)) }
+    ensures rows { (c : Card) → HasItsRow run.old.keeper.cabin.cards (M.state unit.old) c → OnOk result (HasItsRow run.new.keeper.cabin.cards (M.state unit.new) c) }
+    ensures stands { (from : ℕ) (leaving : Option Card) → Stands from leaving run.old.keeper.cabin → Stands from leaving run.new.keeper.cabin }
+    ensures card { CardReady (known_of run.new.keeper.cabin.cards which) (C.card card.new) (C.state card.new) }
+    ensures size { (C.state card.new).size ≡ (C.state card.old).size }
+    ensures cause { HasCause (M.state unit.old) (M.state unit.new) (is_err result) }
+{
+    let Ok(app) = run.keeper.cabin.cards.of(which).sizes else {
+        return Ok(());
+    };
+    let at = run.moment(0);
+    let noted = on_card(event, &run.keeper.memory.identity().registration);
+    match note_event_on(card, app, &noted) {
+        Ok(()) => Ok(()),
+        Err(_) => run.keeper.tear(which, slot, at, unit, breaks),
+    }
+}

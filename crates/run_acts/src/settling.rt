@@ -1,0 +1,70 @@
+//! The minutes before that of an action are decided and kept.
+ghost use Rattle.std.specs.Prelude.{◌≡◌, ℕ, ◌+◌, ◌-◌, ◌*◌, ◌/◌, ◌≤◌, ◌++◌, List, Option, OnOk, length, is_err};
+ghost use Rattle.trace_model.specs.declared.Card.{Card};
+ghost use Rattle.tach_media.specs.Medium.{HasCause, HasBroken};
+ghost use Rattle.run_keeping.specs.Keeping.{tears_of, most_tears};
+ghost use Rattle.run_power.specs.declared.run.Power.TheVariants.{Lit};
+ghost use Rattle.run_power.specs.Going.{first_second, end_of_seconds, IsHeld, IsGoingOn};
+ghost use Rattle.run_power.specs.Room.{Takes};
+ghost use Rattle.activity_codec.specs.declared.values.Slot.{Slot};
+ghost use Rattle.slot_machine.specs.Calls.{seat_in};
+ghost use Rattle.minute_model.specs.declared.Minute.{Minute};
+ghost use Rattle.minute_model.specs.Span.{Span, settled, decided_in};
+ghost use Rattle.minute_rules.specs.Kept.{StandsFor};
+ghost use Rattle.run_rule.specs.Between.{devices};
+ghost use Rattle.run_keeping.specs.Minutes.{Reach, IsReach};
+ghost use Rattle.run_keeping.specs.Decided.{BooksAll};
+ghost use Rattle.run_acts.specs.Acting.{IsSettled, IsBareIn, told_of};
+
+use run_keeping::Moment;
+use run_outcome::Outcome;
+use run_power::Run;
+use tach_media::{Chip, Failed, Medium};
+
+/// The minutes before that of the next second are decided and kept.
+///
+/// # Errors
+///
+/// `Failed` where the unit failed.
+pub fn settle<M: Medium, C: Chip, D: Chip>(
+    run: &mut Run,
+    at: Moment,
+    unit: &mut M,
+    card_a: &mut C,
+    card_b: &mut D,
+    outcome: &mut Outcome,
+) -> Result<(), Failed>
+    requires lit { run.old.power ≡ Lit }
+    requires low { first_second ≤ run.old.next }
+    requires small { run.old.next ≤ end_of_seconds }
+    requires held { IsHeld (run.old.next / 60) run.old (M.state unit.old) (C.card card_a.old) (D.card card_b.old) (C.state card_a.old) (D.state card_b.old) }
+    requires going { (leaving : Option Card) × IsGoingOn leaving (run.old.next / 60) run.old (M.state unit.old) (C.card card_a.old) (D.card card_b.old) (C.state card_a.old) (D.state card_b.old) }
+    requires at { at.second ≡ run.old.next }
+    requires marks { length outcome.old.marks.items + 3 * run.old.minutes.owing ≤ outcome.old.marks.room }
+    requires breaks { length outcome.old.breaks.items + most_tears run.old.keeper.cabin.cards ≤ outcome.old.breaks.room }
+    ensures settled { IsSettled at (is_err result) run.old run.new outcome.old outcome.new }
+    ensures booked { (decided : List Minute) × (reach : Reach) × ((span : Span) → StandsFor run.old.minutes span → decided_in (settled span) ≡ decided_in span ++ decided)
+        × IsReach decided at (is_err result) (told_of run.old outcome.old) (told_of run.new outcome.new) reach
+        × BooksAll decided (is_err result) reach (told_of run.old outcome.old) (told_of run.new outcome.new) (devices (M.state unit.old) (C.state card_a.old) (D.state card_b.old)) (devices (M.state unit.new) (C.state card_a.new) (D.state card_b.new)) }
+    ensures none { run.new.minutes.owing ≡ 0 }
+    ensures held { IsHeld (run.new.next / 60) run.new (M.state unit.new) (C.card card_a.new) (D.card card_b.new) (C.state card_a.new) (D.state card_b.new) }
+    ensures going { (leaving : Option Card) → IsGoingOn leaving (run.old.next / 60) run.old (M.state unit.old) (C.card card_a.old) (D.card card_b.old) (C.state card_a.old) (D.state card_b.old)
+        → OnOk result (IsGoingOn leaving (run.new.next / 60) run.new (M.state unit.new) (C.card card_a.new) (D.card card_b.new) (C.state card_a.new) (D.state card_b.new)) }
+    ensures bare { OnOk result ((slot : Slot) → IsBareIn run.old.keeper.cabin slot → (seat_in run.new.keeper.cabin.slots.seats slot ≡ seat_in run.old.keeper.cabin.slots.seats slot) × IsBareIn run.new.keeper.cabin slot) }
+    ensures takes { Takes 0 0 0 run.old run.new outcome.old outcome.new }
+    ensures more { length outcome.old.breaks.items ≤ length outcome.new.breaks.items }
+    ensures cause { HasCause (M.state unit.old) (M.state unit.new) (is_err result) }
+    ensures a_broken { HasBroken (C.state card_a.old) (C.state card_a.new) (tears_of run.old.keeper.cabin.cards.a.accepted - tears_of run.new.keeper.cabin.cards.a.accepted) }
+    ensures b_broken { HasBroken (D.state card_b.old) (D.state card_b.new) (tears_of run.old.keeper.cabin.cards.b.accepted - tears_of run.new.keeper.cabin.cards.b.accepted) }
+{
+    let decided = run.minutes.settle();
+    run.keeper.keep_all(
+        decided.as_slice(),
+        at,
+        unit,
+        card_a,
+        card_b,
+        &mut outcome.marks,
+        &mut outcome.breaks,
+    )
+}

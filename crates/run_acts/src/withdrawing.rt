@@ -1,0 +1,166 @@
+//! A card leaves its slot by hand: it is withdrawn, or pulled out.
+ghost use Rattle.std.specs.Prelude.{◌≡◌, ◌≢◌, ℕ, ◌+◌, ◌*◌, ◌/◌, ◌<◌, ◌≤◌, List, Option, Some, None, IfSome, OnOk, length, is_err};
+ghost use Rattle.trace_model.specs.declared.Card.{Card};
+ghost use Rattle.activity_codec.specs.declared.values.Activity.{Activity};
+ghost use Rattle.tach_media.specs.Medium.{LeavesOnly, HasCause, HasBroken};
+ghost use Rattle.card_session.specs.Sessions.{IsSession};
+ghost use Rattle.card_session.specs.Cards.{IsCardClosing};
+ghost use Rattle.message_model.specs.Records.{insertion_ring};
+ghost use Rattle.unit_model.specs.declared.layout.TheConstants.{HIGHEST_ODOMETER};
+ghost use Rattle.unit_model.specs.Image.{IsUnit};
+ghost use Rattle.unit_notes.specs.Journal.{LeavesJournal};
+ghost use Rattle.slot_machine.specs.Calls.{seat_in, card_in};
+ghost use Rattle.run_crew.specs.Cards.{known_of, session_of};
+ghost use Rattle.run_crew.specs.Cabin.{Stands};
+ghost use Rattle.run_keeping.specs.Keeping.{UnitReady, CardReady, HasItsRow, tears_of, with_lines};
+ghost use Rattle.run_power.specs.declared.run.Power.TheVariants.{Lit};
+ghost use Rattle.run_power.specs.Going.{first_second, end_of_seconds, IsHeld, IsLit};
+ghost use Rattle.run_power.specs.Room.{falls_of, Takes};
+ghost use Rattle.run_acts.specs.Acting.{Closing, IsClosed, closed_falls, IsWithdrawn, pulled_run, pulled_breaks};
+
+use crate::settling::settle;
+use activity_codec::Slot;
+use device_steps::leave;
+use log_model::Break;
+use run_keeping::Moment;
+use run_outcome::{Lines, Outcome};
+use run_power::Run;
+use tach_media::{Chip, Failed, Medium};
+use tacho_types::TimeReal;
+use trace_model::Card;
+use unit_notes::UnitNotes;
+
+/// So many insertions are kept in the unit: behind as many more, the entry of one has made room for another.
+const INSERTIONS: u64 = 2048;
+
+/// The card of a slot is withdrawn: what that settles is kept first, and then its session is closed.
+///
+/// # Errors
+///
+/// `Failed` where the unit failed.
+pub fn withdraw<M: Medium, C: Chip, D: Chip>(
+    run: &mut Run,
+    slot: Slot,
+    at: Moment,
+    unit: &mut M,
+    card_a: &mut C,
+    card_b: &mut D,
+    outcome: &mut Outcome,
+) -> Result<(), Failed>
+    requires lit { run.old.power ≡ Lit }
+    requires low { first_second ≤ run.old.next }
+    requires small { run.old.next ≤ end_of_seconds }
+    requires held { IsHeld (run.old.next / 60) run.old (M.state unit.old) (C.card card_a.old) (D.card card_b.old) (C.state card_a.old) (D.state card_b.old) }
+    requires going { IsLit (run.old.next / 60) run.old (M.state unit.old) (C.card card_a.old) (D.card card_b.old) (C.state card_a.old) (D.state card_b.old) }
+    requires at { at.second ≡ run.old.next }
+    requires marks { length outcome.old.marks.items + 3 * run.old.minutes.owing ≤ outcome.old.marks.room }
+    requires breaks { length outcome.old.breaks.items + falls_of run.old.keeper.cabin ≤ outcome.old.breaks.room }
+    ensures withdrawn { IsWithdrawn (card_in (seat_in run.old.keeper.cabin.slots.seats slot)) slot at (is_err result) run.old run.new outcome.old outcome.new }
+    ensures only { run.new ≡ record run.old { minutes = run.new.minutes; keeper = run.new.keeper } }
+    ensures rest { outcome.new ≡ record outcome.old { marks = outcome.new.marks; breaks = outcome.new.breaks } }
+    ensures held { IsHeld (run.new.next / 60) run.new (M.state unit.new) (C.card card_a.new) (D.card card_b.new) (C.state card_a.new) (D.state card_b.new) }
+    ensures going { OnOk result (IsLit (run.new.next / 60) run.new (M.state unit.new) (C.card card_a.new) (D.card card_b.new) (C.state card_a.new) (D.state card_b.new)) }
+    ensures takes { Takes 0 0 0 run.old run.new outcome.old outcome.new }
+    ensures more { length outcome.old.breaks.items ≤ length outcome.new.breaks.items }
+    ensures cause { HasCause (M.state unit.old) (M.state unit.new) (is_err result) }
+{
+    let Some(card) = run.keeper.cabin.slots.card(slot) else {
+        return Ok(());
+    };
+    run.keeper.cabin.leave(slot, at.second);
+    settle(run, at, unit, card_a, card_b, outcome)?;
+    match card {
+        Card::A => close(run, Card::A, slot, at, unit, card_a, &mut outcome.breaks),
+        Card::B => close(run, Card::B, slot, at, unit, card_b, &mut outcome.breaks),
+    }
+}
+
+// The session of a card that was taken out of a slot is closed, if it has one: it is handed out without a write where it was not
+// accepted, and where it was torn out by then.
+fn close<M: Medium, C: Chip>(
+    run: &mut Run,
+    which: Card,
+    slot: Slot,
+    at: Moment,
+    unit: &mut M,
+    card: &mut C,
+    breaks: &mut Lines<Break>,
+) -> Result<(), Failed>
+    requires ready { UnitReady run.old.keeper (M.state unit.old) }
+    requires card { CardReady (known_of run.old.keeper.cabin.cards which) (C.card card.old) (C.state card.old) }
+    requires entry { IfSome (session_of run.old.keeper.cabin.cards which) (λ s. (s.entry < insertion_ring.count) × (s.noted ≤ run.old.noted)) }
+    requires odometer { run.old.keeper.odometer ≤ HIGHEST_ODOMETER }
+    requires minute { run.old.keeper.cabin.slots.minute ≤ at.second / 60 }
+    requires second { at.second ≢ 0 }
+    requires room { length breaks.old.items + tears_of (session_of run.old.keeper.cabin.cards which) ≤ breaks.old.room }
+    ensures closed { (closing : Closing) × IsClosed which slot at run.old run.new breaks.old breaks.new closing × HasBroken (C.state card.old) (C.state card.new) (closed_falls closing) }
+    ensures journal { LeavesOnly (M.state unit.old) (M.state unit.new) LeavesJournal }
+    ensures left { IfSome (session_of run.old.keeper.cabin.cards which) (λ s. (act : Activity) × LeavesOnly (C.state card.old) (C.state card.new) (λ x c. IsSession s.session x → IsCardClosing s.session act x c)) }
+    ensures bare { session_of run.old.keeper.cabin.cards which ≡ None → card.new ≡ card.old }
+    ensures unit { IsUnit (M.state unit.new) }
+    ensures ready { OnOk result (UnitReady run.new.keeper (M.state unit.new)) }
+    ensures rows { (c : Card) → HasItsRow run.old.keeper.cabin.cards (M.state unit.old) c → OnOk result (HasItsRow run.new.keeper.cabin.cards (M.state unit.new) c) }
+    ensures stands { (from : ℕ) → Stands from (Some which) run.old.keeper.cabin → Stands from None run.new.keeper.cabin }
+    ensures card { CardReady (known_of run.new.keeper.cabin.cards which) (C.card card.new) (C.state card.new) }
+    ensures size { (C.state card.new).size ≡ (C.state card.old).size }
+    ensures cause { HasCause (M.state unit.old) (M.state unit.new) (is_err result) }
+{
+    let selected = run.minutes.selected(slot);
+    let sizes = run.keeper.cabin.cards.of(which).sizes;
+    let Some(accepted) = run.keeper.cabin.close(which) else {
+        return Ok(());
+    };
+    let Ok(app) = sizes else {
+        return Ok(());
+    };
+    match leave(unit, card, app, accepted.session, which, selected) {
+        Ok(()) => note_withdrawal(run, accepted.entry, accepted.noted, at, unit),
+        Err(_) => run.keeper.tear(which, slot, at, unit, breaks),
+    }
+}
+
+// A withdrawal is noted in the entry of its insertion, unless that has made room for another.
+fn note_withdrawal<M: Medium>(
+    run: &Run,
+    entry: u32,
+    noted: u64,
+    at: Moment,
+    unit: &mut M,
+) -> Result<(), Failed>
+    requires ready { UnitReady run.now.keeper (M.state unit.old) }
+    requires entry { entry < insertion_ring.count }
+    requires noted { noted ≤ run.now.noted }
+    requires odometer { run.now.keeper.odometer ≤ HIGHEST_ODOMETER }
+    ensures journal { LeavesOnly (M.state unit.old) (M.state unit.new) LeavesJournal }
+    ensures cause { HasCause (M.state unit.old) (M.state unit.new) (is_err result) }
+{
+    if run.noted - noted >= INSERTIONS {
+        return Ok(());
+    }
+    let odometer = run.odometer_now();
+    run.keeper
+        .memory
+        .note_withdrawal(unit, entry, TimeReal(at.second), odometer)
+}
+
+/// The card of a slot is pulled out, without any write.
+pub fn pull(run: &mut Run, slot: Slot, at: Moment, breaks: &mut Lines<Break>)
+    requires minute { run.old.keeper.cabin.slots.minute ≤ at.second / 60 }
+    requires room { length breaks.old.items + falls_of run.old.keeper.cabin ≤ breaks.old.room }
+    requires stands { (from : ℕ) × (leaving : Option Card) × Stands from leaving run.old.keeper.cabin }
+    ensures run { run.new ≡ pulled_run (card_in (seat_in run.old.keeper.cabin.slots.seats slot)) at.second run.old }
+    ensures breaks { breaks.new ≡ with_lines (pulled_breaks (card_in (seat_in run.old.keeper.cabin.slots.seats slot)) slot at) breaks.old }
+    ensures stands { (from : ℕ) (leaving : Option Card) → Stands from leaving run.old.keeper.cabin → Stands from leaving run.new.keeper.cabin }
+{
+    let Some(card) = run.keeper.cabin.slots.card(slot) else {
+        return;
+    };
+    run.keeper.cabin.tear(card, at.second);
+    breaks.add(Break::Tear {
+        second: at.second,
+        slot,
+        failed: false,
+        begun: at.begun,
+        late: false,
+    });
+}

@@ -1,0 +1,105 @@
+use Rattle.std.proofs.Common.{◌≡◌, ◌∙◌, ◌≤◌, ℕ, Bool, true, false, rules, Option, None, Ok, refl, ap, sym, subst, [], ◌∷◌}
+use Rattle.std.specs.Prelude.{is_err, Result, Err}
+use Rattle.card_layout.specs.declared.files.Application.{Application}
+use Rattle.card_layout.specs.Application.{place_of_field}
+use Rattle.run_crew.specs.declared.cabin.Cabin.{Cabin}
+use Rattle.run_crew.specs.Cards.{known_of}
+use Rattle.run_crew.specs.Cabin.{with_sizes_of, torn_out}
+use Rattle.run_keeping.specs.Keeping.{CardReady}
+use Rattle.run_entering.specs.Entering.{Unread, Unsized, Judged, Unfit, APPLICATION_FILE, outcome_by}
+use Rattle.run_entering.specs.Noted.{HasNoted, IsOnUnit, IsComing, fault_of, notes_by}
+use Rattle.run_entering.specs.Entered.{IsMeasured, IsJudgedSo, HasEntered}
+use Rattle.joint_rule.specs.Rules.{Out}
+use Rattle.run_told.specs.Told.{with_standing}
+use Rattle.run_told.proofs.Putting.{out-now}
+use Rattle.run_entering.specs.declared.waking.TheConstants.{UNTOLD}
+use Rattle.run_entering.specs.Told.{BooksJudged, BooksEntered}
+use Rattle.run_entering.proofs.Carried.{noted-carried}
+use Rattle.run_entering.proofs.Booked.{torn-carried, still-bare, woken-may}
+use Rattle.run_entering.proofs.Notes.{fault-noted}
+use Rattle.run_entering.proofs.Judged.{entered-judged, entered-unsized, entered-unread}
+use Rattle.run_entering.proofs.Seats.{unsized-ready}
+use Rattle.run_entering.proofs.entering.accept.Goals as goal
+
+-- ---- it failed before it told its sizes
+
+pub returns-in_default-clause-entered : goal.returns-in_default-clause-entered
+returns-in_default-clause-entered g c =
+    let k = c.args.keeper.now in
+    let e = c.args.entering in
+    let U = g.M.Medium.state c.args.unit.now in
+    let W = g.M.Medium.state c.tear.new.unit in
+    let Z = g.D.Chip.state c.args.others.now in
+    let X = g.C.Chip.state c.args.card.now in
+    let M = g.C.Chip.state c.wake.new.card in
+    let keeper = c.tear.ensures.keeper ∙ ap (λ (b : Cabin). record k { cabin = torn_out e.which e.at.second b }) c.measure.ensures.kept in
+    let notes = subst (λ (b : Cabin). HasNoted IsOnUnit IsComing (fault_of e b ∷ []) (is_err c.tear.result) U W) c.measure.ensures.kept
+    (fault-noted e (record k { cabin = c.measure.new.self }) c.tear.new.self c.tear.result c.tear.ensures.keeper c.tear.ensures.noted c.tear.ensures.moments) in (
+      Unread,
+      entered-unread e k c.args.noted.now c.args.outcome.now U X M (g.met.C.Chip.coherent c.wake.new.card) c.wake.ensures.leaves (g.met.C.Chip.coherent c.args.card.now) c.in_default.ensures.cause
+          (is_err c.tear.result) c.tear.new.self c.tear.new.breaks W keeper c.tear.ensures.told notes,
+      λ f w m low. let may = woken-may e k (Err UNTOLD) U X M Z (g.met.M.Medium.coherent c.args.unit.now) (g.met.C.Chip.coherent c.args.card.now) c.wake.ensures.leaves c.wake.ensures.clock c.requires.bare f w m in torn-carried f (with_standing e.which Out w) e (record k { cabin = with_sizes_of e.which (Err UNTOLD) k.cabin }) c.tear.new.self U W M Z (is_err c.tear.result) (still-bare e k (Err UNTOLD) U X M Z (g.met.M.Medium.coherent c.args.unit.now) (g.met.C.Chip.coherent c.args.card.now) c.wake.ensures.leaves c.wake.ensures.clock c.requires.bare) may.found (g.met.M.Medium.coherent c.args.unit.now) may.powered keeper c.tear.ensures.journal c.tear.ensures.cause,
+    )
+
+pub returns-in_default-clause-stands : goal.returns-in_default-clause-stands
+returns-in_default-clause-stands g c = λ from le s. c.tear.ensures.stands from None (c.measure.ensures.stands from None s)
+
+-- ---- it goes by its sizes
+
+pub returns-in-Ok-sizes-clause-entered : goal.returns-in-Ok-sizes-clause-entered
+returns-in-Ok-sizes-clause-entered g c =
+    let k = c.args.keeper.now in
+    let e = c.args.entering in
+    let app = c.in-Ok-sizes.app in
+    let U = g.M.Medium.state c.args.unit.now in
+    let W = g.M.Medium.state c.accept_by.new.unit in
+    let Z = g.D.Chip.state c.args.others.now in
+    let X = g.C.Chip.state c.args.card.now in
+    let M = g.C.Chip.state c.wake.new.card in
+    let Y = g.C.Chip.state c.accept_by.new.card in
+    let failed = is_err c.accept_by.result in
+    let ended = c.accept_by.ensures.ended in
+    let kept = c.measure-2.ensures.kept ∙ ap (λ (s : Result Application ℕ). with_sizes_of e.which s k.cabin) c.in-Ok-sizes.is in
+    let j = subst (λ (b : Cabin). IsJudgedSo app e failed (record k { cabin = b }) c.accept_by.new.keeper c.args.noted.now c.accept_by.new.noted c.args.outcome.now c.accept_by.new.outcome U W M Y ended.0) kept ended.1 in (
+      Judged app ended.0,
+      entered-judged e k c.args.noted.now c.args.outcome.now U X M (g.met.C.Chip.coherent c.wake.new.card) c.wake.ensures.leaves c.wake.ensures.clock c.in-Ok.ensures.cause app failed c.accept_by.new.keeper
+          c.accept_by.new.noted c.accept_by.new.outcome W Y ended.0 j,
+      λ f w m low. (subst (λ (b : Cabin). BooksJudged ended.0 e failed (record k { cabin = b }) c.accept_by.new.keeper U W M Y Z) kept ended.2) f (with_standing e.which Out w) (woken-may e k (Ok app) U X M Z (g.met.M.Medium.coherent c.args.unit.now) (g.met.C.Chip.coherent c.args.card.now) c.wake.ensures.leaves c.wake.ensures.clock c.requires.bare f w m) (out-now e.which w) low,
+    )
+
+pub returns-in-Ok-sizes-clause-stands : goal.returns-in-Ok-sizes-clause-stands
+returns-in-Ok-sizes-clause-stands g c = λ from le s.
+    c.accept_by.ensures.stands from (subst (λ (b : Cabin). b.slots.minute ≤ from) (sym c.measure-2.ensures.kept) le) (c.measure-2.ensures.stands from None s)
+
+-- ---- a field of them is bad
+
+pub returns-in-Err-clause-entered : goal.returns-in-Err-clause-entered
+returns-in-Err-clause-entered g c =
+    let k = c.args.keeper.now in
+    let e = c.args.entering in
+    let o = c.args.outcome.now in
+    let field = c.in-Err.field in
+    let U = g.M.Medium.state c.args.unit.now in
+    let W = g.M.Medium.state c.refuse.new.unit in
+    let Z = g.D.Chip.state c.args.others.now in
+    let X = g.C.Chip.state c.args.card.now in
+    let M = g.C.Chip.state c.wake.new.card in
+    let failed = is_err c.refuse.result in
+    let kept = c.measure-2.ensures.kept ∙ ap (λ (s : Result Application ℕ). with_sizes_of e.which s k.cabin) c.in-Err.is in
+    let bad = subst (λ (s : Result Application ℕ). IsMeasured s (g.C.Chip.card c.wake.new.card) M) c.in-Err.is c.in-Ok.ensures.measured in
+    let told = subst (λ (t : ℕ). c.refuse.new.outcome ≡ outcome_by (Unfit APPLICATION_FILE t) e o) c.place_of_field-place.ensures c.refuse.ensures.told in
+    let notes = subst (λ (b : Cabin). HasNoted IsOnUnit IsComing (notes_by (Unfit APPLICATION_FILE (place_of_field field)) e c.args.noted.now b) failed U W) kept c.refuse.ensures.notes in
+    let r = subst (λ (b : Cabin). HasEntered e failed k (record k { cabin = b }) c.args.noted.now c.args.noted.now o c.refuse.new.outcome U W X M (Unsized field) × BooksEntered (Unsized field) e failed k (record k { cabin = b }) U W X M Z) (sym kept) (
+      entered-unsized e k c.args.noted.now o U X M (g.met.C.Chip.coherent c.wake.new.card) c.wake.ensures.leaves c.in-Ok.ensures.cause field failed c.refuse.new.outcome W bad told notes,
+      λ f w m low. let may = woken-may e k (Err field) U X M Z (g.met.M.Medium.coherent c.args.unit.now) (g.met.C.Chip.coherent c.args.card.now) c.wake.ensures.leaves c.wake.ensures.clock c.requires.bare f w m in noted-carried e.which f (with_standing e.which Out w) (with_sizes_of e.which (Err field) k.cabin).cards U W M Z failed may.found (g.met.M.Medium.coherent c.args.unit.now) may.powered c.refuse.ensures.journal c.refuse.ensures.cause,
+    ) in
+    (Unsized field, r.0, r.1)
+
+pub returns-in-Err-clause-stands : goal.returns-in-Err-clause-stands
+returns-in-Err-clause-stands g c = λ from le s. c.measure-2.ensures.stands from None s
+
+pub returns-in-Err-clause-card : goal.returns-in-Err-clause-card
+returns-in-Err-clause-card g c =
+    let kept = c.measure-2.ensures.kept ∙ ap (λ (s : Result Application ℕ). with_sizes_of c.args.entering.which s c.args.keeper.now.cabin) c.in-Err.is in
+    subst (λ (b : Cabin). CardReady (known_of b.cards c.args.entering.which) (g.C.Chip.card c.wake.new.card) (g.C.Chip.state c.wake.new.card)) (sym kept)
+    (unsized-ready c.args.entering.which c.args.keeper.now.cabin c.in-Err.field (g.C.Chip.card c.wake.new.card) (g.C.Chip.state c.wake.new.card) c.requires.bare)

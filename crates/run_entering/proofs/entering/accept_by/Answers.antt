@@ -1,0 +1,119 @@
+use Rattle.std.proofs.Common.{◌≡◌, ◌<◌, ◌≤◌, ◌/◌, ◌^◌, ℕ, Bool, true, false, rules, arith, length, Option, None, Ok, refl, sym, subst}
+use Rattle.std.specs.Prelude.{is_err, Result, Err}
+use Rattle.unit_memory.specs.declared.format.Identity.{Identity}
+use Rattle.device_steps.specs.declared.entering.Entered.{Entered}
+use Rattle.device_steps.specs.declared.entering.NotEntered.{NotEntered}
+use Rattle.device_steps.specs.declared.entering.NotEntered.TheVariants.{UnitFailed, CardFailed, NotValid, TimeOverlap}
+use Rattle.device_steps.specs.Entering.{IsEntering}
+use Rattle.run_entering.specs.Entering.{Fell, Unasked, Unfit, Ahead, taken_as}
+use Rattle.card_layout.proofs.Sizes.{largest_image}
+use Rattle.run_entering.proofs.Booked.{taken-carried, judged-powerless, fell-carried, refused-carried}
+use Rattle.run_entering.proofs.Notes.{fault-noted}
+use Rattle.run_entering.proofs.Judged.{judged-taken, judged-unasked, judged-fell, judged-unfit, judged-ahead, unfit-told, ahead-told, ahead-noted}
+use Rattle.run_entering.proofs.entering.accept_by.Goals as goal
+
+pub returns-in-Ok-clause-ended : goal.returns-in-Ok-clause-ended
+returns-in-Ok-clause-ended g c =
+    let k = c.args.keeper.now in
+    let e = c.args.entering in
+    let U = g.M.Medium.state c.args.unit.now in
+    let V = g.M.Medium.state c.enter.new.unit in
+    let X = g.C.Chip.state c.args.card.now in
+    let M = g.C.Chip.state c.enter.new.card in
+    let Z = g.D.Chip.state c.args.others.now in
+    let long = subst (λ (i : Identity). length i.registration.0 ≡ 15) c.identity.ensures c.enter.ensures.long in
+    let enters : IsEntering c.args.app k.memory.registration e.odometer.0 e.at.second U V X M (Ok c.in-Ok.entered) =
+    subst (λ (i : Identity). IsEntering c.args.app i.registration e.odometer.0 e.at.second U V X M (Ok c.in-Ok.entered)) c.identity.ensures c.in-Ok.ensures.enters in
+    let t = c.take_in.ensures.ended in (
+      taken_as t.0 c.in-Ok.entered M.clock t.1,
+      judged-taken c.args.app e k c.args.noted.now c.args.outcome.now U V X M c.in-Ok.entered enters c.enter.ensures.leaves.later (is_err c.take_in.result) c.take_in.new.keeper c.take_in.new.noted c.take_in.new.outcome
+          (g.M.Medium.state c.take_in.new.unit) (g.C.Chip.state c.take_in.new.card) t.0 t.1 t.2 t.3,
+      λ f w m out low. taken-carried c.args.app e k U V X M Z (g.met.M.Medium.coherent c.args.unit.now) (g.met.M.Medium.coherent c.enter.new.unit) (g.met.C.Chip.coherent c.args.card.now) (g.met.C.Chip.coherent c.enter.new.card) c.requires.bare c.requires.sized (omega (arith, largest_image c.args.app c.requires.port.good, c.requires.port.size)) k.memory.registration long e.odometer.0 (omega (arith, c.requires.last)) (Ok c.in-Ok.entered) enters f w m out c.in-Ok.entered refl t.0 t.1 (is_err c.take_in.result) c.take_in.new.keeper (g.M.Medium.state c.take_in.new.unit) (g.C.Chip.state c.take_in.new.card) (enters.unit.cause refl).works (let later = t.3.later in omega (arith, later, low)) t.4,
+    )
+
+pub returns-in-Err-UnitFailed-clause-ended : goal.returns-in-Err-UnitFailed-clause-ended
+returns-in-Err-UnitFailed-clause-ended g c =
+    let k = c.args.keeper.now in
+    let e = c.args.entering in
+    let U = g.M.Medium.state c.args.unit.now in
+    let V = g.M.Medium.state c.enter.new.unit in
+    let X = g.C.Chip.state c.args.card.now in
+    let M = g.C.Chip.state c.enter.new.card in
+    let Z = g.D.Chip.state c.args.others.now in
+    let long = subst (λ (i : Identity). length i.registration.0 ≡ 15) c.identity.ensures c.enter.ensures.long in
+    let is : c.in-Err-UnitFailed.field-0 ≡ UnitFailed = cc (c.in-Err-UnitFailed.field-0-is) in
+    let enters : IsEntering c.args.app k.memory.registration e.odometer.0 e.at.second U V X M (Err UnitFailed) =
+    subst (λ (i : Identity). IsEntering c.args.app i.registration e.odometer.0 e.at.second U V X M (Err UnitFailed)) c.identity.ensures
+    (subst (λ (f : NotEntered). IsEntering c.args.app c.identity.result.registration e.odometer.0 e.at.second U V X M (Err f)) is c.in-Err-UnitFailed.ensures.enters) in (
+      Unasked,
+      judged-unasked c.args.app e k c.args.noted.now c.args.outcome.now U V X M enters,
+      λ f w m out low. judged-powerless c.args.app e k U V X M Z (g.met.M.Medium.coherent c.args.unit.now) (g.met.M.Medium.coherent c.enter.new.unit) (g.met.C.Chip.coherent c.args.card.now) (g.met.C.Chip.coherent c.enter.new.card) c.requires.bare c.requires.sized (omega (arith, largest_image c.args.app c.requires.port.good, c.requires.port.size)) k.memory.registration long e.odometer.0 (omega (arith, c.requires.last)) (Err UnitFailed) enters f w m out,
+    )
+
+pub returns-in-Err-CardFailed-clause-ended : goal.returns-in-Err-CardFailed-clause-ended
+returns-in-Err-CardFailed-clause-ended g c =
+    let k = c.args.keeper.now in
+    let e = c.args.entering in
+    let U = g.M.Medium.state c.args.unit.now in
+    let V = g.M.Medium.state c.enter.new.unit in
+    let X = g.C.Chip.state c.args.card.now in
+    let M = g.C.Chip.state c.enter.new.card in
+    let Z = g.D.Chip.state c.args.others.now in
+    let long = subst (λ (i : Identity). length i.registration.0 ≡ 15) c.identity.ensures c.enter.ensures.long in
+    let is : c.in-Err-CardFailed.field-0 ≡ CardFailed = cc (c.in-Err-CardFailed.field-0-is) in
+    let enters : IsEntering c.args.app k.memory.registration e.odometer.0 e.at.second U V X M (Err CardFailed) =
+    subst (λ (i : Identity). IsEntering c.args.app i.registration e.odometer.0 e.at.second U V X M (Err CardFailed)) c.identity.ensures
+    (subst (λ (f : NotEntered). IsEntering c.args.app c.identity.result.registration e.odometer.0 e.at.second U V X M (Err f)) is c.in-Err-CardFailed.ensures.enters) in (
+      Fell,
+      judged-fell c.args.app e k c.args.noted.now c.args.outcome.now U V X M (is_err c.tear.result) c.tear.new.self c.tear.new.breaks (g.M.Medium.state c.tear.new.unit) c.requires.works enters c.tear.ensures.keeper c.tear.ensures.told
+          (fault-noted e k c.tear.new.self c.tear.result c.tear.ensures.keeper c.tear.ensures.noted c.tear.ensures.moments),
+      λ f w m out low. fell-carried c.args.app e k U V X M Z (g.met.M.Medium.coherent c.args.unit.now) (g.met.M.Medium.coherent c.enter.new.unit) (g.met.C.Chip.coherent c.args.card.now) (g.met.C.Chip.coherent c.enter.new.card) c.requires.bare c.requires.sized (omega (arith, largest_image c.args.app c.requires.port.good, c.requires.port.size)) k.memory.registration long e.odometer.0 (omega (arith, c.requires.last)) (Err CardFailed) enters f w m out (is_err c.tear.result) c.tear.new.self (g.M.Medium.state c.tear.new.unit) (enters.unit.rests refl c.requires.ready.works).works c.tear.ensures.keeper c.tear.ensures.journal c.tear.ensures.cause,
+    )
+
+pub returns-in-Err-CardFailed-clause-stands : goal.returns-in-Err-CardFailed-clause-stands
+returns-in-Err-CardFailed-clause-stands g c = λ from le s. c.tear.ensures.stands from None s
+
+pub returns-in-Err-NotValid-clause-ended : goal.returns-in-Err-NotValid-clause-ended
+returns-in-Err-NotValid-clause-ended g c =
+    let k = c.args.keeper.now in
+    let e = c.args.entering in
+    let U = g.M.Medium.state c.args.unit.now in
+    let V = g.M.Medium.state c.enter.new.unit in
+    let X = g.C.Chip.state c.args.card.now in
+    let M = g.C.Chip.state c.enter.new.card in
+    let Z = g.D.Chip.state c.args.others.now in
+    let long = subst (λ (i : Identity). length i.registration.0 ≡ 15) c.identity.ensures c.enter.ensures.long in
+    let fid = c.in-Err-NotValid.fid in
+    let place = c.in-Err-NotValid.place in
+    let is : c.in-Err-NotValid.field-0 ≡ NotValid fid place = cc (c.in-Err-NotValid.field-0-is) in
+    let enters : IsEntering c.args.app k.memory.registration e.odometer.0 e.at.second U V X M (Err (NotValid fid place)) =
+    subst (λ (i : Identity). IsEntering c.args.app i.registration e.odometer.0 e.at.second U V X M (Err (NotValid fid place))) c.identity.ensures
+    (subst (λ (f : NotEntered). IsEntering c.args.app c.identity.result.registration e.odometer.0 e.at.second U V X M (Err f)) is c.in-Err-NotValid.ensures.enters) in
+    let told = unfit-told e c.args.outcome.now c.refuse.new.outcome _ fid _ place c.refuse.ensures.told (cc (c.in-Err-NotValid.fid-is)) (cc (c.in-Err-NotValid.place-is)) in (
+      Unfit fid place,
+      judged-unfit c.args.app e k c.args.noted.now c.args.outcome.now U V X M (is_err c.refuse.result) fid place c.refuse.new.outcome (g.M.Medium.state c.refuse.new.unit) enters told c.refuse.ensures.notes,
+      λ f w m out low. refused-carried c.args.app e k U V X M Z (g.met.M.Medium.coherent c.args.unit.now) (g.met.M.Medium.coherent c.enter.new.unit) (g.met.C.Chip.coherent c.args.card.now) (g.met.C.Chip.coherent c.enter.new.card) c.requires.bare c.requires.sized (omega (arith, largest_image c.args.app c.requires.port.good, c.requires.port.size)) k.memory.registration long e.odometer.0 (omega (arith, c.requires.last)) (Err (NotValid fid place)) enters f w m out (is_err c.refuse.result) (g.M.Medium.state c.refuse.new.unit) (enters.unit.rests refl c.requires.ready.works).works c.refuse.ensures.journal c.refuse.ensures.cause,
+    )
+
+pub returns-in-Err-TimeOverlap-clause-ended : goal.returns-in-Err-TimeOverlap-clause-ended
+returns-in-Err-TimeOverlap-clause-ended g c =
+    let k = c.args.keeper.now in
+    let e = c.args.entering in
+    let U = g.M.Medium.state c.args.unit.now in
+    let V = g.M.Medium.state c.enter.new.unit in
+    let X = g.C.Chip.state c.args.card.now in
+    let M = g.C.Chip.state c.enter.new.card in
+    let Z = g.D.Chip.state c.args.others.now in
+    let long = subst (λ (i : Identity). length i.registration.0 ≡ 15) c.identity.ensures c.enter.ensures.long in
+    let stored = c.in-Err-TimeOverlap.stored in
+    let now = c.in-Err-TimeOverlap.field-0-1 in
+    let is : c.in-Err-TimeOverlap.field-0 ≡ TimeOverlap stored now = cc (c.in-Err-TimeOverlap.field-0-is) in
+    let enters : IsEntering c.args.app k.memory.registration e.odometer.0 e.at.second U V X M (Err (TimeOverlap stored now)) =
+    subst (λ (i : Identity). IsEntering c.args.app i.registration e.odometer.0 e.at.second U V X M (Err (TimeOverlap stored now))) c.identity.ensures
+    (subst (λ (f : NotEntered). IsEntering c.args.app c.identity.result.registration e.odometer.0 e.at.second U V X M (Err f)) is c.in-Err-TimeOverlap.ensures.enters) in
+    let told = ahead-told e c.args.outcome.now c.defer.new.outcome _ stored c.defer.ensures.told (cc (c.in-Err-TimeOverlap.stored-is)) in
+    let notes = ahead-noted e k.cabin _ stored c.defer.ensures.notes (cc (c.in-Err-TimeOverlap.stored-is)) in (
+      Ahead stored,
+      judged-ahead c.args.app e k c.args.noted.now c.args.outcome.now U V X M (is_err c.defer.result) stored now c.defer.new.outcome (g.M.Medium.state c.defer.new.unit) enters told notes,
+      λ f w m out low. refused-carried c.args.app e k U V X M Z (g.met.M.Medium.coherent c.args.unit.now) (g.met.M.Medium.coherent c.enter.new.unit) (g.met.C.Chip.coherent c.args.card.now) (g.met.C.Chip.coherent c.enter.new.card) c.requires.bare c.requires.sized (omega (arith, largest_image c.args.app c.requires.port.good, c.requires.port.size)) k.memory.registration long e.odometer.0 (omega (arith, c.requires.last)) (Err (TimeOverlap stored now)) enters f w m out (is_err c.defer.result) (g.M.Medium.state c.defer.new.unit) (enters.unit.rests refl c.requires.ready.works).works c.defer.ensures.journal c.defer.ensures.cause,
+    )

@@ -1,0 +1,4 @@
+pub mod Entering
+pub mod Noted
+pub mod Entered
+pub mod Told

@@ -1,0 +1,125 @@
+-- What an acceptance leaves of what is carried, over devices that tell their images (profile).
+use Rattle.std.specs.Prelude.{◌≡◌, ◌⊎◌, ℕ, ◌/◌, ◌<◌, ◌≤◌, Bool, true, false, Option, Some, is_some, if◌then◌else◌}
+use Rattle.tach_media.specs.Medium.{State, last_count}
+use Rattle.tacho_types.specs.CardNumber.{card_number_bytes}
+use Rattle.card_image.specs.Own.{IsOwnValid}
+use Rattle.card_session.specs.Sessions.{Session, IsValue}
+use Rattle.card_layout.specs.declared.files.Application.{Application}
+use Rattle.joint_rule.specs.Rules.{Out, In, Torn}
+use Rattle.run_crew.specs.declared.cards.Accepted.{Accepted}
+use Rattle.run_crew.specs.Cards.{session_of}
+use Rattle.safety_model.specs.Safe.{Devices}
+use Rattle.card_judge.specs.declared.looking.CardLook.{CardLook}
+use Rattle.run_crew.specs.declared.cards.Cards.{Cards}
+use Rattle.run_rule.specs.Found.{Found, found_of}
+use Rattle.run_rule.specs.Cards.{IsUntouched}
+use Rattle.run_rule.specs.Between.{Carried}
+use Rattle.run_told.specs.Told.{AreFoundCards, IsPutIn, IsPowered, IsPowerless, arranged, with_standing, with_acceptance, card_marks, with_marks}
+use Rattle.run_keeping.specs.declared.keeper.Keeper.{Keeper}
+use Rattle.device_steps.specs.declared.entering.Entered.{Entered}
+use Rattle.run_entering.specs.declared.lines.Entering.{Entering}
+use Rattle.run_entering.specs.Entering.{Ending, Unfit, Ahead, Fell, Unasked, Unnoted, Seated, Lost, Way, ending_of}
+
+-- all that is carried, while the unit works; or behind its failure
+abbrev pub IsCarriedOn : (failed : Bool) → Found → Carried → Cards → Devices → Type 0
+IsCarriedOn false f w cards d = IsPowered f w cards d
+IsCarriedOn true f w cards d = IsPowerless f w d
+
+-- WHAT IS ASKED of a card that is seated: it was valid as it was found at the start, is not accepted yet, and was put in as this session
+-- knows it; and all that is carried stands.
+pub record MaySeat (f : Found) (w : Carried) (k : Keeper) (e : Entering) (look : CardLook) (session : Session) (unit card others : State) : Type 0 where
+  pub found : AreFoundCards f k.cabin.cards
+  pub powered : IsPowered f w k.cabin.cards (arranged e.which unit card others)
+  pub valid : IsOwnValid (found_of f e.which).image
+  pub out : w.standing e.which ≡ Out
+  pub put : IsPutIn (found_of f e.which) e.which w.book e.at.second session card
+  pub late : w.due ≤ e.at.second / 60
+  pub named : card_number_bytes look.number ≡ (found_of f e.which).number
+
+-- the card is accepted, when the unit had kept this minute last
+abbrev pub carried_seated : Session → Entering → (kept : ℕ) → Carried → Carried
+carried_seated session e kept w = with_acceptance e.which e.at.second session.minute kept w
+
+-- and was torn out in the same second
+abbrev pub carried_lost : Session → Entering → (kept : ℕ) → Carried → Carried
+carried_lost session e kept w = with_standing e.which (Torn e.at.second session.minute (e.at.second / 60)) (carried_seated session e kept w)
+
+-- what is carried behind the notes that come with an accepted card, which was torn out meanwhile, or was not
+abbrev pub fallen_carried : (fell : Bool) → Entering → (newest : ℕ) → Carried → Carried
+fallen_carried false e newest w = w
+fallen_carried true e newest w = with_standing e.which (Torn e.at.second newest (e.at.second / 60)) w
+
+-- WHAT IS ASKED of a card that is noted on: it is accepted in this second, with this session, by these sizes
+pub record MayNote (f : Found) (w : Carried) (cards : Cards) (e : Entering) (app : Application) (a : Accepted) (d : Devices) : Type 0 where
+  pub found : AreFoundCards f cards
+  pub powered : IsPowered f w cards d
+  pub valid : IsOwnValid (found_of f e.which).image
+  pub has : session_of cards e.which ≡ Some a
+  pub value : IsValue a.session
+  pub sizes : a.session.application ≡ app
+  pub stands : w.standing e.which ≡ In e.at.second a.session.minute
+
+-- these notes leave what is carried
+abbrev pub BooksNotes : Application → Entering → (failed : Bool) → (k v : Keeper) → (fell : Bool) → (before after : Devices) → Type 0
+BooksNotes app e failed k v fell before after =
+    (f : Found) (w : Carried) (a : Accepted) → MayNote f w k.cabin.cards e app a before → IsCarriedOn failed f (fallen_carried fell e a.session.minute w) v.cabin.cards after
+
+-- where the unit failed as the row was begun, it is not accepted yet
+abbrev pub carried_row : (failed : Bool) → Session → Entering → (kept : ℕ) → Carried → Carried
+carried_row failed session e kept w = if failed then w else carried_seated session e kept w
+
+-- THE CARD IS SEATED: what is carried behind it
+abbrev pub BooksSeat : CardLook → Session → Entering → (failed : Bool) → (k v : Keeper) → (unit unit_after card others : State) → Type 0
+BooksSeat look session e failed k v unit unit_after card others =
+    (f : Found) (w : Carried) → MaySeat f w k e look session unit card others
+    → IsCarriedOn failed f (carried_row failed session e k.journal.kept w) v.cabin.cards (arranged e.which unit_after card others)
+
+-- what is carried behind an ending, by what was carried as it was judged
+abbrev pub IsTakenOn : Ending → (failed : Bool) → Entering → (kept : ℕ) → Found → Carried → Cards → Devices → Type 0
+IsTakenOn (Unfit fid place) failed e kept f w cards d = IsCarriedOn failed f w cards d
+IsTakenOn (Ahead stored) failed e kept f w cards d = IsCarriedOn failed f w cards d
+IsTakenOn Fell failed e kept f w cards d = IsCarriedOn failed f w cards d
+IsTakenOn Unasked failed e kept f w cards d = IsPowerless f w d
+IsTakenOn (Unnoted entered clock) failed e kept f w cards d = IsPowerless f w d
+IsTakenOn (Seated entered clock entry) false e kept f w cards d = IsPowered f (carried_seated entered.session e kept w) cards d
+IsTakenOn (Seated entered clock entry) true e kept f w cards d = IsPowerless f w d ⊎ IsPowerless f (carried_seated entered.session e kept w) d
+IsTakenOn (Lost entered clock entry) failed e kept f w cards d = IsCarriedOn failed f (carried_lost entered.session e kept w) cards d
+
+-- a card that is found to be accepted
+abbrev pub BooksTaken : Entered → Ending → Entering → (failed : Bool) → (k v : Keeper) → (unit unit_after card card_after others : State) → Type 0
+BooksTaken entered ending e failed k v unit unit_after card card_after others =
+    (f : Found) (w : Carried) → MaySeat f w k e entered.look entered.session unit card others
+    → IsTakenOn ending failed e k.journal.kept f w v.cabin.cards (arranged e.which unit_after card_after others)
+
+-- ---- a card that is judged
+
+-- what was carried, and the marks of the entries that were owed, of a card that is found to be accepted
+abbrev pub carried_judged : Ending → Entering → Carried → Carried
+carried_judged (Unfit fid place) e w = w
+carried_judged (Ahead stored) e w = w
+carried_judged Fell e w = w
+carried_judged Unasked e w = w
+carried_judged (Unnoted entered clock) e w = with_marks (card_marks e.which clock entered.owed.items) w
+carried_judged (Seated entered clock entry) e w = with_marks (card_marks e.which clock entered.owed.items) w
+carried_judged (Lost entered clock entry) e w = with_marks (card_marks e.which clock entered.owed.items) w
+
+-- WHAT IS ASKED of a card that enters: all that is carried stands, and it was valid at the start, or no call has written it
+pub record MayEnter (f : Found) (w : Carried) (cards : Cards) (e : Entering) (unit card others : State) : Type 0 where
+  pub found : AreFoundCards f cards
+  pub powered : IsPowered f w cards (arranged e.which unit card others)
+  pub late : w.due ≤ e.at.second / 60
+  pub tells : is_some card.image ≡ true
+  pub began : (found_of f e.which).began ≤ card.clock
+  pub spared : IsUntouched (found_of f e.which) card ⊎ IsOwnValid (found_of f e.which).image
+
+-- A CARD WAS JUDGED, which stands as one that is not accepted: what is carried behind it. No clock is at its last value.
+abbrev pub BooksJudged : Ending → Entering → (failed : Bool) → (k v : Keeper) → (unit unit_after card card_after others : State) → Type 0
+BooksJudged ending e failed k v unit unit_after card card_after others =
+    (f : Found) (w : Carried) → MayEnter f w k.cabin.cards e unit card others → w.standing e.which ≡ Out → card_after.clock < last_count
+    → IsTakenOn ending failed e k.journal.kept f (carried_judged ending e w) v.cabin.cards (arranged e.which unit_after card_after others)
+
+-- A CARD ENTERED, however it stood before
+abbrev pub BooksEntered : Way → Entering → (failed : Bool) → (k v : Keeper) → (unit unit_after card card_after others : State) → Type 0
+BooksEntered way e failed k v unit unit_after card card_after others =
+    (f : Found) (w : Carried) → MayEnter f w k.cabin.cards e unit card others → card_after.clock < last_count
+    → IsTakenOn (ending_of way) failed e k.journal.kept f (carried_judged (ending_of way) e (with_standing e.which Out w)) v.cabin.cards (arranged e.which unit_after card_after others)

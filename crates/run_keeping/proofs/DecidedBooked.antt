@@ -1,0 +1,204 @@
+-- Decided minutes are kept, one after another, and booked.
+use Rattle.std.proofs.Common.{◌≡◌, ◌⊎◌, ◌∙◌, inl, inr, ⊎_elim, ℕ, suc, zero, ◌+◌, ◌<◌, ◌≤◌, Bool, true, false, List, [], ◌∷◌, ◌++◌, length, take, drop, All, Contains, Option, Some, None, refl, ap, sym, subst, arith}
+use Rattle.std.specs.Prelude.{map, get_or, is_some}
+use Rattle.std.proofs.lemmas.List.{map-append, take_all}
+use Rattle.std.proofs.lemmas.List.Elements.{All-nil, All-cons, All-head, All-tail, All-take, All-weaker}
+use Rattle.trace_model.specs.declared.Card.{Card}
+use Rattle.tach_media.specs.Medium.{State}
+use Rattle.minute_model.specs.declared.Minute.{Minute}
+use Rattle.log_model.specs.declared.lines.Mark.{Mark}
+use Rattle.card_image.specs.Own.{IsOwnValid}
+use Rattle.unit_journal.specs.declared.kept.KeptMinute.{KeptMinute}
+use Rattle.history_model.specs.Minutes.{HistoryMinute, on_card}
+use Rattle.history_model.specs.Presence.{CardStart}
+use Rattle.joint_rule.specs.Rules.{Standing, Out, In, Torn, IsPresent}
+use Rattle.safety_model.specs.Safe.{Devices}
+use Rattle.slot_machine.specs.declared.seats.Present.{Present}
+use Rattle.run_crew.specs.declared.cabin.Cabin.{Cabin}
+use Rattle.run_rule.specs.Found.{Found, found_of}
+use Rattle.run_rule.specs.Between.{Carried}
+use Rattle.run_told.specs.Told.{AreFoundCards, AreEarly, IsPowered}
+use Rattle.run_keeping.specs.declared.keeper.Keeper.{Keeper}
+use Rattle.run_keeping.specs.declared.keeper.Moment.{Moment}
+use Rattle.run_keeping.specs.Keeping.{Fate, Still, Has, Fell, TellsPresent, cabin_by}
+use Rattle.run_keeping.specs.Minutes.{Round, Told, Done, Reach, Whole, Short, IsRound, IsMinute, IsReach, IsLast, AreRounds, AreDue, told_after, told_by, cabin_after, marks_after, kept_of, minute_of, present_at}
+use Rattle.run_keeping.specs.Books.{AreBooked, HaveTime, MayBook, MayCome, BooksMinute, carried_after, fate_of, standing_by}
+use Rattle.run_keeping.specs.Decided.{MayBookAll, BooksAll, carried_by, decided_minute}
+use Rattle.run_keeping.proofs.Brought.{cards-by, found-session}
+use Rattle.run_keeping.proofs.Decided.{no_minute, this, front, whole, all-here}
+
+-- ---- one more behind some
+
+told-snoc : (k : Keeper) (at : Moment) (xs : List Done) (x : Done) (t : Told) → told_by k at (xs ++ x ∷ []) t ≡ told_after (present_at k.cabin x.minute.minute) x.minute.minute at x.round (told_by k at xs t)
+told-snoc k at [] x t = refl
+told-snoc k at (y ∷ ys) x t = told-snoc k at ys x (told_after (present_at k.cabin y.minute.minute) y.minute.minute at y.round t)
+
+carried-snoc : (k : Keeper) (xs : List Done) (x : Done) (w : Carried) → carried_by k (xs ++ x ∷ []) w ≡ carried_after (present_at k.cabin x.minute.minute) (decided_minute k x.minute) x.round (carried_by k xs w)
+carried-snoc k [] x w = refl
+carried-snoc k (y ∷ ys) x w = carried-snoc k ys x (carried_after (present_at k.cabin y.minute.minute) (decided_minute k y.minute) y.round w)
+
+rounds-snoc : (k : Keeper) (at : Moment) (xs : List Done) (x : Done) (t : Told) → AreRounds k at xs t → IsRound (present_at k.cabin x.minute.minute) (minute_of x.minute k) at false (told_by k at xs t).keeper x.round → AreRounds k at (xs ++ x ∷ []) t
+rounds-snoc k at [] x t all is = (is, tt)
+rounds-snoc k at (y ∷ ys) x t all is = (all.0, rounds-snoc k at ys x (told_after (present_at k.cabin y.minute.minute) y.minute.minute at y.round t) all.1 is)
+
+-- ---- lists
+
+unmap : {X Y : Type 0} (P : Y → Type 0) (f : X → Y) (xs : List X) → All P (map f xs) → All (λ x. P (f x)) xs
+unmap {X} P f [] all = All-nil (λ (x : X). P (f x))
+unmap {X} P f (x ∷ xs) all = All-cons (λ (x : X). P (f x)) x xs (All-head P (f x) (map f xs) all) (unmap P f xs (All-tail P (f x) (map f xs) all))
+
+-- minutes that rise: each is later than those before
+due-later : (kept : ℕ) (ds : List Minute) (i : ℕ) → i < length ds → AreDue kept ds → kept < (get_or ds i no_minute).minute
+due-later kept [] i low due = absurd (omega (arith, low))
+due-later kept (d ∷ ds) zero low due = due.0
+due-later kept (d ∷ ds) (suc i) low due = let here = due.0 in let rest = due-later d.minute ds i (omega (arith, low)) due.3 in omega (arith, here, rest)
+
+due-before : (kept : ℕ) (ds : List Minute) (i : ℕ) → i < length ds → AreDue kept ds → All (λ d. d.minute < (get_or ds i no_minute).minute) (take i ds)
+due-before kept [] i low due = absurd (omega (arith, low))
+due-before kept (d ∷ ds) zero low due = All-nil (λ (e : Minute). e.minute < (get_or (d ∷ ds) zero no_minute).minute)
+due-before kept (d ∷ ds) (suc i) low due =
+    All-cons (λ (e : Minute). e.minute < (get_or ds i no_minute).minute) d (take i ds) (due-later d.minute ds i (omega (arith, low)) due.3) (due-before d.minute ds i (omega (arith, low)) due.3)
+
+-- ---- what a minute asks, behind others
+
+-- a card is present in a later minute, not so late
+present-step : (start : CardStart) (fate : Fate) (x m : ℕ) (z : Standing) → x < m → m < x + 4 → IsPresent start z m → IsPresent start (standing_by fate x z) m
+present-step start Still x m z lt few h = h
+present-step start (Has a n) x m Out lt few h = h
+present-step start (Has a n) x m (In time newest) lt few h = (h.0, lt, h.2)
+present-step start (Has a n) x m (Torn time newest floor) lt few h = h
+present-step start Fell x m Out lt few h = h
+present-step start Fell x m (In time newest) lt few h = (h.0, lt, h.2, omega (arith, lt), few)
+present-step start Fell x m (Torn time newest floor) lt few h = h
+
+stands-after : (k : Keeper) (c : Card) (start : CardStart) (m : ℕ) (xs : List Done) (w : Carried) → All (λ x. x.minute.minute < m) xs → All (λ x. m < x.minute.minute + 4) xs → IsPresent start (w.standing c) m → IsPresent start ((carried_by k xs w).standing c) m
+stands-after k c start m [] w before few h = h
+stands-after k c start m (x ∷ xs) w before few h =
+    stands-after k c start m xs (carried_after (present_at k.cabin x.minute.minute) (decided_minute k x.minute) x.round w) (All-tail (λ (y : Done). y.minute.minute < m) x xs before) (All-tail (λ (y : Done). m < y.minute.minute + 4) x xs few)
+    (present-step start (fate_of (present_at k.cabin x.minute.minute) x.round c) x.minute.minute m (w.standing c) (All-head (λ (y : Done). y.minute.minute < m) x xs before) (All-head (λ (y : Done). m < y.minute.minute + 4) x xs few) h)
+
+due-after : (k : Keeper) (m : ℕ) (xs : List Done) (w : Carried) → w.due ≤ m → All (λ x. x.minute.minute < m) xs → (carried_by k xs w).due ≤ m
+due-after k m [] w late before = late
+due-after k m (x ∷ xs) w late before =
+    let here = All-head (λ (y : Done). y.minute.minute < m) x xs before in
+    due-after k m xs (carried_after (present_at k.cabin x.minute.minute) (decided_minute k x.minute) x.round w) (omega (arith, here)) (All-tail (λ (y : Done). y.minute.minute < m) x xs before)
+
+-- ---- what a round leaves
+
+found-by : (f : Found) (fate : Fate) (present : Option Card) (second : ℕ) (cabin : Cabin) → AreFoundCards f cabin.cards → AreFoundCards f (cabin_by fate present second cabin).cards
+found-by f Still None second cabin h = h
+found-by f (Has a n) None second cabin h = h
+found-by f Fell None second cabin h = h
+found-by f fate (Some c) second cabin h = subst (AreFoundCards f) (sym (cards-by fate c second cabin)) (found-session f c _ cabin.cards h)
+
+found-after : (f : Found) (present : Present) (second : ℕ) (round : Round) (cabin : Cabin) → AreFoundCards f cabin.cards → AreFoundCards f (cabin_after present second round cabin).cards
+found-after f present second round cabin h = found-by f round.codriver present.codriver second (cabin_by round.driver present.driver second cabin) (found-by f round.driver present.driver second cabin h)
+
+-- where no clock has fallen since
+pub time-before : (d e : Devices) → d.unit.clock ≤ e.unit.clock → d.card_a.clock ≤ e.card_a.clock → d.card_b.clock ≤ e.card_b.clock → HaveTime e → HaveTime d
+time-before d e unit a b time = record { unit = omega (arith, unit, time.unit); card_a = omega (arith, a, time.card_a); card_b = omega (arith, b, time.card_b) }
+
+-- ---- SO FAR
+
+-- The first so many are kept and booked: by these rounds unit and cards are as the book says.
+pub record Booked (ds : List Minute) (i : ℕ) (at : Moment) (t u : Told) (d e : Devices) : Type 0 where
+  pub done : List Done
+  pub are : take i ds ≡ map (λ (x : Done). x.minute) done
+  pub rounds : AreRounds t.keeper at done t
+  pub told : u ≡ told_by t.keeper at done t
+  pub books : (f : Found) (w : Carried) → MayBookAll f w ds t d → HaveTime e → AreBooked f (carried_by t.keeper done w) u.keeper.cabin.cards u.marks.items e
+
+pub none-booked : (ds : List Minute) (at : Moment) (t : Told) (d : Devices) → Booked ds 0 at t t d d
+none-booked ds at t d = record { done = []; are = refl; rounds = tt; told = refl; books = λ f w may time. may.booked }
+
+-- all of them
+pub all-booked : (ds : List Minute) (i : ℕ) → length ds ≤ i → (at : Moment) (t u : Told) (d e : Devices) → Booked ds i at t u d e → (reach : Reach) × IsReach ds at false t u reach × BooksAll ds false reach t u d e
+all-booked ds i over at t u d e so = (Whole so.done, (sym (take_all i ds over) ∙ so.are, so.rounds, so.told), so.books)
+
+module _ (ds : List Minute) (i : ℕ) (low : i < length ds) (at : Moment) (t u v : Told) (d e g : Devices) (kept : ℕ) (due : AreDue kept ds) (day : 1440 ≤ (this ds i low).minute) (p : Present) (km : KeptMinute) (cards : p ≡ present_at t.keeper.cabin (this ds i low).minute)
+    (is : km ≡ kept_of t.keeper.odometer (this ds i low) p) (A B C D : State) (earlier : HaveTime g → HaveTime e) (so : Booked ds i at t u d e) where
+  abbrev k : Keeper
+  k = t.keeper
+
+  abbrev m : Minute
+  m = this ds i low
+
+  abbrev here : Present
+  here = present_at k.cabin m.minute
+
+  -- each of those before is earlier
+  before : All (λ (x : Done). x.minute.minute < m.minute) so.done
+  before = unmap (λ (q : Minute). q.minute < m.minute) (λ (x : Done). x.minute) so.done (subst (All (λ (q : Minute). q.minute < m.minute)) so.are (due-before kept ds i low due))
+
+  comes : (f : Found) (w : Carried) → MayBookAll f w ds t d → MayCome f (carried_by k so.done w) (decided_minute k m)
+  comes f w may =
+      let first = may.comes.first in
+      let late = all-here ds i low (λ (q : Minute). w.due ≤ q.minute) (unmap (λ (j : HistoryMinute). w.due ≤ j.minute) (decided_minute k) ds may.comes.late) in
+      let few = all-here ds i low (λ (q : Minute). q.minute < first + 4) (unmap (λ (j : HistoryMinute). j.minute < first + 4) (decided_minute k) ds may.comes.few) in
+      let from = unmap (λ (q : Minute). first ≤ q.minute) (λ (x : Done). x.minute) so.done (subst (All (λ (q : Minute). first ≤ q.minute)) so.are (All-take (λ (q : Minute). first ≤ q.minute) i ds (unmap (λ (j : HistoryMinute). first ≤ j.minute) (decided_minute k) ds may.comes.from))) in
+      record {
+        day = day;
+        late = due-after k m.minute so.done w late before;
+        fits = λ c. ⊎_elim
+            (λ none. inl none)
+            (λ both. inr (both.0, stands-after k c (found_of f c).start m.minute so.done w before (All-weaker (λ (x : Done). first ≤ x.minute.minute) (λ x. m.minute < x.minute.minute + 4) (λ x le. omega (arith, le, few)) so.done from) both.1))
+            (all-here ds i low (λ (q : Minute). (on_card c (decided_minute k q) ≡ []) ⊎ (IsOwnValid (found_of f c).image × IsPresent (found_of f c).start (w.standing c) q.minute))
+            (unmap (λ (j : HistoryMinute). (on_card c j ≡ []) ⊎ (IsOwnValid (found_of f c).image × IsPresent (found_of f c).start (w.standing c) j.minute)) (decided_minute k) ds (may.comes.fits c)));
+      }
+
+  may-here : (f : Found) (w : Carried) → MayBookAll f w ds t d → HaveTime g → MayBook f (carried_by k so.done w) here (minute_of m k) u e
+  may-here f w may time = record { booked = so.books f w may (earlier time); comes = comes f w may }
+
+  -- what the minute says of who was present
+  tells : TellsPresent (minute_of m k) here
+  tells = record { driver = refl; codriver = refl }
+
+  minute-here : (failed : Bool) (round : Option Round) → IsMinute p km at failed u v A B C D round → IsMinute here (minute_of m k) at failed u v A B C D round
+  minute-here failed round h =
+      subst (λ (q : Present). IsMinute q (kept_of k.odometer m q) at failed u v A B C D round) cards (subst (λ (n : KeptMinute). IsMinute p n at failed u v A B C D round) is h)
+
+  books-here : (failed : Bool) (round : Option Round) → (TellsPresent km p → BooksMinute p km failed round u v e g) → BooksMinute here (minute_of m k) failed round u v e g
+  books-here failed round h =
+      subst (λ (q : Present). TellsPresent (kept_of k.odometer m q) q → BooksMinute q (kept_of k.odometer m q) failed round u v e g) cards
+      (subst (λ (n : KeptMinute). TellsPresent n p → BooksMinute p n failed round u v e g) is h) tells
+
+  -- ONE MORE
+  module _ (r : Round) (minute : IsMinute here (minute_of m k) at false u v A B C D (Some r)) (books : BooksMinute here (minute_of m k) false (Some r) u v e g) where
+    abbrev x : Done
+    x = record { minute = m; round = r }
+
+    next : (f : Found) (w : Carried) → MayBookAll f w ds t d → HaveTime g → AreBooked f (carried_after here (decided_minute k m) r (carried_by k so.done w)) v.keeper.cabin.cards v.marks.items g
+    next f w may time =
+        let was = so.books f w may (earlier time) in
+        let late = (comes f w may).late in
+        record {
+          found = subst (λ (q : Told). AreFoundCards f q.keeper.cabin.cards) (sym minute.2) (found-after f here at.second r u.keeper.cabin was.found);
+          powered = books f (carried_by k so.done w) (may-here f w may time) time;
+          told = ap (λ (ms : List Mark). (marks_after here m.minute r (record { items = ms; room = 0 })).items) was.told ∙ sym (ap (λ (q : Told). q.marks.items) minute.2);
+          early = λ c n at. let lt = was.early c n at in omega (arith, lt, late);
+        }
+
+    more-booked : Booked ds (i + 1) at t v d g
+    more-booked = record {
+      done = so.done ++ x ∷ [];
+      are = front ds i low ∙ ap (λ (zs : List Minute). zs ++ m ∷ []) so.are ∙ sym (map-append (λ (y : Done). y.minute) so.done (x ∷ []));
+      rounds = rounds-snoc k at so.done x t so.rounds (subst (λ (q : Told). IsRound here (minute_of m k) at false q.keeper r) so.told minute.0);
+      told = minute.2 ∙ ap (told_after here m.minute at r) so.told ∙ sym (told-snoc k at so.done x t);
+      books = λ f w may time. subst (λ (q : Carried). AreBooked f q v.keeper.cabin.cards v.marks.items g) (sym (carried-snoc k so.done x w)) (next f w may time);
+    }
+
+  pub booked-on : (round : Option Round) → IsMinute p km at false u v A B C D round → (TellsPresent km p → BooksMinute p km false round u v e g) → Booked ds (i + 1) at t v d g
+  booked-on None h books = let never = h.0 in absurd (cc)
+  booked-on (Some r) h books = more-booked r (minute-here false (Some r) h) (books-here false (Some r) books)
+
+  -- OR THE UNIT FAILED in it
+  last-here : (round : Option Round) → IsMinute here (minute_of m k) at true u v A B C D round → IsLast k m at (told_by k at so.done t) v round
+  last-here None h = h.1 ∙ so.told
+  last-here (Some r) h = (subst (λ (q : Told). IsRound here (minute_of m k) at true q.keeper r) so.told h.0, h.2 ∙ ap (told_after here m.minute at r) so.told)
+
+  pub cut-booked : (round : Option Round) → IsMinute p km at true u v A B C D round → (TellsPresent km p → BooksMinute p km true round u v e g) → (reach : Reach) × IsReach ds at true t v reach × BooksAll ds true reach t v d g
+  cut-booked round h books = (
+    Short so.done m round,
+    ((drop (i + 1) ds, whole ds i low ∙ ap (λ (zs : List Minute). zs ++ m ∷ drop (i + 1) ds) so.are), so.rounds, last-here round (minute-here true round h)),
+    λ f w may time. books-here true round books f (carried_by k so.done w) (may-here f w may time) time,
+  )

@@ -1,0 +1,52 @@
+use Rattle.std.proofs.Common.{rules, ◌≡◌, ◌∙◌, Bool, Option, Some, ap, sym, subst}
+use Rattle.std.specs.Prelude.{is_err}
+use Rattle.trace_model.specs.declared.Card.{Card}
+use Rattle.trace_model.specs.declared.Card.TheVariants.{A, B}
+use Rattle.tach_media.specs.Medium.{State, LeavesOnly}
+use Rattle.run_crew.specs.Cabin.{crew_of}
+use Rattle.run_rule.specs.Between.{devices}
+use Rattle.run_keeping.specs.declared.keeper.Keeper.{Keeper}
+use Rattle.run_keeping.specs.Keeping.{Fate, IsBrought, IsNotingFault, state_at}
+use Rattle.run_keeping.specs.Owing.{BooksBrought}
+use Rattle.run_keeping.proofs.Brought.{brought-booked}
+use Rattle.run_keeping.proofs.keeper.Keeper.bring.Goals as goal
+
+pub returns-in-Some-A-clause-brought : goal.returns-in-Some-A-clause-brought
+returns-in-Some-A-clause-brought g c =
+    let was = c.bring_to.ensures.brought in
+    let k = c.args.self.now in
+    let v = c.bring_to.new.self in
+    let U = g.M.Medium.state c.args.unit.now in
+    let V = g.M.Medium.state c.bring_to.new.unit in
+    let X = g.C.Chip.state c.args.card_a.now in
+    let Y = g.C.Chip.state c.bring_to.new.card in
+    let Z = g.D.Chip.state c.args.card_b.now in
+    let failed : Bool = is_err c.bring_to.result in
+    let is : c.args.present ≡ Some A = search rules in
+    subst (λ (o : Option Card). (fate : Fate) × IsBrought o c.args.kept.now c.args.at failed k v c.args.marks.now c.bring_to.new.marks c.args.breaks.now c.bring_to.new.breaks fate U V (state_at o X Z) (state_at o Y Z)
+    × LeavesOnly U V (IsNotingFault fate c.args.at.second (crew_of v.cabin)) × BooksBrought o c.args.kept.now failed fate k.cabin.cards v.cabin.cards (devices U X Z) (devices V Y Z)) (sym is) (
+      was.0,
+      was.1,
+      was.2,
+      brought-booked A c.args.kept.now was.0 k.cabin v.cabin c.args.at.second U V X Y Z (g.met.M.Medium.coherent c.args.unit.now) (ap (λ (q : Keeper). q.cabin) was.1.keeper) c.bring_to.ensures.journal failed c.bring_to.ensures.cause.works was.3,
+    )
+
+pub returns-in-Some-B-clause-brought : goal.returns-in-Some-B-clause-brought
+returns-in-Some-B-clause-brought g c =
+    let was = c.bring_to-in-Some-B.ensures.brought in
+    let k = c.args.self.now in
+    let v = c.bring_to-in-Some-B.new.self in
+    let U = g.M.Medium.state c.args.unit.now in
+    let V = g.M.Medium.state c.bring_to-in-Some-B.new.unit in
+    let X = g.D.Chip.state c.args.card_b.now in
+    let Y = g.D.Chip.state c.bring_to-in-Some-B.new.card in
+    let Z = g.C.Chip.state c.args.card_a.now in
+    let failed : Bool = is_err c.bring_to-in-Some-B.result in
+    let is : c.args.present ≡ Some B = search rules in
+    subst (λ (o : Option Card). (fate : Fate) × IsBrought o c.args.kept.now c.args.at failed k v c.args.marks.now c.bring_to-in-Some-B.new.marks c.args.breaks.now c.bring_to-in-Some-B.new.breaks fate U V (state_at o Z X) (state_at o Z Y)
+    × LeavesOnly U V (IsNotingFault fate c.args.at.second (crew_of v.cabin)) × BooksBrought o c.args.kept.now failed fate k.cabin.cards v.cabin.cards (devices U Z X) (devices V Z Y)) (sym is) (
+      was.0,
+      was.1,
+      was.2,
+      brought-booked B c.args.kept.now was.0 k.cabin v.cabin c.args.at.second U V X Y Z (g.met.M.Medium.coherent c.args.unit.now) (ap (λ (q : Keeper). q.cabin) was.1.keeper) c.bring_to-in-Some-B.ensures.journal failed c.bring_to-in-Some-B.ensures.cause.works was.3,
+    )

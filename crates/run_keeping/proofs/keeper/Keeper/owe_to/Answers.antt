@@ -1,0 +1,19 @@
+use Rattle.std.proofs.Common.{◌≡◌, ◌∙◌, ap, sym}
+use Rattle.tacho_types.specs.CardNumber.{card_number_bytes}
+use Rattle.tacho_types.specs.declared.card_number.FullCardNumber.{FullCardNumber}
+use Rattle.run_notes.specs.Entries.{number_or_no_card}
+use Rattle.run_crew.specs.declared.cards.Known.{Known}
+use Rattle.run_keeping.proofs.EntryPut.{books-put-a, books-put-b}
+use Rattle.run_keeping.proofs.keeper.Keeper.owe_to.Goals as goal
+
+pub returns-in-A-clause-booked : goal.returns-in-A-clause-booked
+returns-in-A-clause-booked g c =
+    books-put-a c.args.present c.args.self.now.cabin.cards c.args.entry.now (card_number_bytes c.number_or_zeros-number.result) _ (g.M.Medium.state c.args.unit.now) (g.M.Medium.state c.owe.new.unit) (g.C.Chip.state c.args.card_a.now) (g.D.Chip.state c.args.card_b.now)
+    (g.met.M.Medium.coherent c.args.unit.now) c.requires.row c.owe.ensures.tells c.owe.ensures.cause c.owe.ensures.holds c.in-Some.card c.in-Some.is c.in-A.is
+    (ap (λ (n : FullCardNumber). card_number_bytes n) (c.number_or_zeros-number.ensures ∙ ap (λ (known : Known). number_or_no_card known.number) c.of.ensures)) c.owe.ensures.mine c.owe.ensures.other
+
+pub returns-in-B-clause-booked : goal.returns-in-B-clause-booked
+returns-in-B-clause-booked g c =
+    books-put-b c.args.present c.args.self.now.cabin.cards c.args.entry.now (card_number_bytes c.number_or_zeros-number.result) _ (g.M.Medium.state c.args.unit.now) (g.M.Medium.state c.owe-in-B.new.unit) (g.C.Chip.state c.args.card_a.now) (g.D.Chip.state c.args.card_b.now)
+    (g.met.M.Medium.coherent c.args.unit.now) c.requires.row c.owe-in-B.ensures.tells c.owe-in-B.ensures.cause c.owe-in-B.ensures.holds c.in-Some.card c.in-Some.is c.in-B.is
+    (ap (λ (n : FullCardNumber). card_number_bytes n) (c.number_or_zeros-number.ensures ∙ ap (λ (known : Known). number_or_no_card known.number) c.of.ensures)) c.owe-in-B.ensures.mine c.owe-in-B.ensures.other

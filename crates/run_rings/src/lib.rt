@@ -1,0 +1,6 @@
+//! What the rings of insertions and places of a unit carry of a run, from note to note. Laws alone.
+#![tactic(auto)]
+
+mod laws;
+
+pub use laws::{a_withdrawal_is_told_by_the_last_insertion, an_index_stays, what_a_ring_carries};
