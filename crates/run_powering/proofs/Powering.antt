@@ -1,5 +1,5 @@
 -- Power is back: the unit was read. It was mended, and the second begins; or that failed.
-use Rattle.std.proofs.Common.{◌≡◌, ◌⊎◌, inl, inr, ⊎_elim, ℕ, zero, suc, ◌+◌, ◌-◌, ◌/◌, ◌<◌, ◌≤◌, max, Bool, true, false, Option, Some, None, is_some, List, [], ◌∷◌, ◌++◌, Contains, length, refl, ap, sym, subst, ◌∙◌, arith}
+use Rattle.std.proofs.Common.{◌≡◌, inl, inr, ⊎_elim, ℕ, ◌+◌, ◌-◌, ◌/◌, ◌<◌, max, true, false, None, List, [], ◌++◌, Contains, length, refl, ap, sym, subst, ◌∙◌, arith}
 use Rattle.activity_codec.specs.declared.values.Slot.{Slot}
 use Rattle.activity_codec.specs.declared.values.Slot.TheVariants.{Driver, CoDriver}
 use Rattle.trace_model.specs.declared.Card.{Card}
@@ -7,26 +7,22 @@ use Rattle.trace_model.specs.Trace.{TraceSecond}
 use Rattle.run_model.specs.declared.Device.{Device}
 use Rattle.minute_model.specs.declared.Rule.{Rule}
 use Rattle.minute_model.specs.Minute.{minutes_ahead}
-use Rattle.minute_model.specs.Span.{begin, ungiven_of}
-use Rattle.minute_rules.specs.Kept.{Kept}
+use Rattle.minute_model.specs.Span.{ungiven_of}
 use Rattle.log_model.specs.declared.lines.Verdict.{Verdict}
-use Rattle.log_model.specs.Log.{RunLog, In, Keeping, Phase}
-use Rattle.log_model.specs.Slots.{Slots, Sitting, in_slot, is_accepted}
-use Rattle.log_model.specs.Course.{Told, Went, Course, Visit, fresh, went}
-use Rattle.history_model.specs.Book.{Book, found}
+use Rattle.log_model.specs.Log.{In, Keeping}
+use Rattle.log_model.specs.Slots.{Slots, in_slot, is_accepted}
+use Rattle.log_model.specs.Course.{Went, Course, Visit, fresh, went}
+use Rattle.history_model.specs.Book.{found}
 use Rattle.joint_rule.specs.Rules.{Standing, Out}
 use Rattle.unit_course.specs.Followed.{Supply, Lit, Due, Lost, MayPower}
 use Rattle.unit_course.specs.Legs.{resumed}
 use Rattle.unit_course.specs.Travelled.{MayShow}
 use Rattle.unit_course.specs.Turn.{span_at}
-use Rattle.card_image.specs.Own.{IsOwnValid}
 use Rattle.safety_model.specs.Cards.{entered, overlaps}
-use Rattle.safety_model.specs.Safe.{Devices, card_of, breakdowns_of}
+use Rattle.safety_model.specs.Safe.{Devices, breakdowns_of}
 use Rattle.run_rule.specs.Between.{Carried}
-use Rattle.run_rule.specs.Found.{found_of}
-use Rattle.run_course.specs.Followed.{Progress, Followed}
+use Rattle.run_course.specs.Followed.{Progress}
 use Rattle.run_course.specs.Presence.{SlotsTell}
-use Rattle.run_course.specs.Seconds.{kept_all}
 use Rattle.run_course.proofs.Logs.{went-found}
 use Rattle.run_course.proofs.Presence.{time-passes, found-kept}
 use Rattle.run_moments.specs.Lines.{times_of}
@@ -36,15 +32,14 @@ use Rattle.run_moments.proofs.Moment.{moment-begins}
 use Rattle.run_moments.proofs.Kept.{nothing-decided, nothing-marked}
 use Rattle.run_recorded.specs.Origin.{Origin, rule_of, start_at, first_of, HasRecorded}
 use Rattle.run_recorded.specs.Seconds.{found_again}
-use Rattle.run_recorded.specs.Ends.{recording_by, AreVerdicts, AreSpared}
-use Rattle.run_recorded.specs.Beside.{TellsMore}
+use Rattle.run_recorded.specs.Ends.{recording_by, AreVerdicts}
 use Rattle.run_recorded.proofs.Seconds.{found-recorded, more-recorded}
 use Rattle.run_recorded.proofs.Beside.{found-tells, idle-verdicts, idle-spared}
-use Rattle.run_present.specs.Presence.{PresentStand, IsSeated, sits}
+use Rattle.run_present.specs.Presence.{PresentStand, sits}
 use Rattle.run_present.proofs.Presence.{none-to_keep}
-use Rattle.run_within.specs.Recorded.{Values, progress, carried, slots_of, IsOff, IsHeldBy, Recorded}
-use Rattle.run_within.specs.Within.{Beginning, told_before, course_in, overlaps_by, IsFoundSo, IsSparedSo, Within, CutWithin}
-use Rattle.run_powering.specs.Powering.{read_values, begun_values, GoOn, IsBack, PowerIsBack, IsOnlyRead, AMendingFails}
+use Rattle.run_within.specs.Recorded.{Values, progress, carried, IsOff, IsHeldBy, Recorded}
+use Rattle.run_within.specs.Within.{Beginning, course_in, overlaps_by, IsFoundSo, IsSparedSo, Within, CutWithin}
+use Rattle.run_powering.specs.Powering.{read_values, begun_values, GoOn, PowerIsBack, AMendingFails}
 
 -- WITHOUT POWER, where power may come
 pub off-of : (o : Origin) (done : List TraceSecond) (supply : Supply) (v : Values) (w : Carried) (d : Devices) → MayPower supply v.next → IsHeldBy o done supply v w d → IsOff o done v w d

@@ -1,10 +1,8 @@
 -- Power comes, and the unit was not read: a cut ends the second.
-use Rattle.std.proofs.Common.{◌≡◌, ◌⊎◌, inl, inr, ⊎_elim, ℕ, zero, suc, ◌+◌, ◌-◌, ◌%◌, ◌/◌, ◌<◌, ◌≤◌, Bool, true, false, ◌&&◌, Option, Some, None, List, [], ◌∷◌, ◌++◌, Contains, length, filter, refl, ap, sym, subst, ◌∙◌, arith, append-nil}
+use Rattle.std.proofs.Common.{◌≡◌, inl, ⊎_elim, ℕ, suc, ◌-◌, ◌/◌, ◌≤◌, true, false, ◌&&◌, Option, Some, None, List, [], ◌∷◌, ◌++◌, Contains, length, filter, refl, ap, sym, subst, ◌∙◌, arith, append-nil}
 use Rattle.std.proofs.lemmas.List.Elements.{Contains-push_cases}
-use Rattle.trace_model.specs.declared.Card.{Card}
 use Rattle.trace_model.specs.declared.Card.TheVariants.{A, B}
 use Rattle.trace_model.specs.Trace.{TraceSecond}
-use Rattle.log_model.specs.declared.lines.Break.{Break}
 use Rattle.log_model.specs.declared.lines.Verdict.{Verdict}
 use Rattle.log_model.specs.Log.{RunLog, In}
 use Rattle.log_model.specs.Slots.{Slots, Sitting, same_card, is_accepted}
@@ -12,7 +10,7 @@ use Rattle.log_model.specs.Course.{Told, Went, Course, Visit, fresh, powerless, 
 use Rattle.unit_course.specs.Lines.{cut_at}
 use Rattle.unit_course.specs.Followed.{Supply, Lit, Due, Lost, MayPower, MayFail}
 use Rattle.safety_model.specs.Cards.{is_overlap}
-use Rattle.safety_model.specs.Safe.{Devices, card_of, breakdowns_of}
+use Rattle.safety_model.specs.Safe.{Devices, breakdowns_of}
 use Rattle.run_crew.specs.Cabin.{with_power_lost}
 use Rattle.run_crew.specs.Cards.{with_session}
 use Rattle.run_crew.proofs.Sessions.{all_gone}
@@ -26,8 +24,7 @@ use Rattle.run_course.proofs.Steps.{now-is, now-told}
 use Rattle.run_moments.specs.Telling.{told_with}
 use Rattle.run_moments.proofs.Failing.{power-on_cut}
 use Rattle.run_told.proofs.Known.{found-session}
-use Rattle.run_recorded.specs.Origin.{Origin, rule_of, start_at, first_of, HasRecorded}
-use Rattle.run_recorded.specs.Seconds.{failed_on}
+use Rattle.run_recorded.specs.Origin.{Origin, rule_of, start_at, first_of}
 use Rattle.run_recorded.specs.Ends.{AreVerdicts, AreSpared}
 use Rattle.run_recorded.specs.Beside.{TellsMore, entered_in, AreFewer}
 use Rattle.run_recorded.proofs.Seconds.{failed-recorded}
