@@ -1,0 +1,3 @@
+pub mod Sitting
+pub mod Judging
+pub mod Tearing
