@@ -1,2 +1,3 @@
 pub mod Powering
 pub mod Reading
+pub mod Calls
