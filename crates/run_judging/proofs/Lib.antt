@@ -1,3 +1,4 @@
 pub mod Sitting
 pub mod Judging
 pub mod Tearing
+pub mod Known
