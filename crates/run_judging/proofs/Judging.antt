@@ -163,38 +163,42 @@ module _ (o : Origin) (done : List TraceSecond) (s : TraceSecond) (at : Phase) (
 
 pub judged-so : (d e : Devices) → ACardIsJudged d e
 judged-so d e o done s at waits fewer v w card f marks cabin brought standing j st = record {
-  b = w.b;
-  lit = w.lit;
-  began = w.began;
-  unfound = w.unfound;
-  next = w.next;
-  moment = moment o done s at waits fewer v d e w card f marks cabin brought j;
-  sp = w.sp;
-  minutes = w.minutes;
-  ds = w.ds;
-  new = w.new;
-  decided = decided o done s at waits fewer v d e w card f marks cabin brought j;
-  from = w.from;
-  kept_to = w.kept_to;
-  until = w.until;
-  stay = λ mark at_. j.stay mark (w.stay mark at_);
-  marked = marked o done s at waits fewer v d e w card f marks cabin brought j;
-  due = w.due;
-  standing = standing;
-  brought = brought;
-  powered = st.powered;
-  found = j.found;
-  early = j.early;
-  late = w.late;
-  more = λ x k at_. j.more x k (w.more x k at_);
-  tells = tells o done s at waits fewer v d e w card f marks cabin brought j;
-  present = subst (λ (n : ℕ). PresentStand o.found standing (told_before w.b done) (course_in w.b done s at (and_find v.log f)) s.number n cabin) (sym j.next.is_now)
-      (none-to_keep o.found standing (told_before w.b done) (course_in w.b done s at (and_find v.log f)) s.number cabin (tells o done s at waits fewer v d e w card f marks cabin brought j).newest
-      (tells o done s at waits fewer v d e w card f marks cabin brought j).minute (seated o done s at waits fewer v d e w card f marks cabin brought j standing st.others st.stands));
-  verdicts = verdicts-later o done w.b d e j.left w.verdicts;
-  finds = finds o done s at waits fewer v d e w card f marks cabin brought j;
-  spared = λ x. j.spared x (w.spared x);
-  travels = j.travels;
+  began = refl;
+  from = refl;
+  within = record {
+    b = w.b;
+    lit = w.lit;
+    began = w.began;
+    unfound = w.unfound;
+    next = w.next;
+    moment = moment o done s at waits fewer v d e w card f marks cabin brought j;
+    sp = w.sp;
+    minutes = w.minutes;
+    ds = w.ds;
+    new = w.new;
+    decided = decided o done s at waits fewer v d e w card f marks cabin brought j;
+    from = w.from;
+    kept_to = w.kept_to;
+    until = w.until;
+    stay = λ mark at_. j.stay mark (w.stay mark at_);
+    marked = marked o done s at waits fewer v d e w card f marks cabin brought j;
+    due = w.due;
+    standing = standing;
+    brought = brought;
+    powered = st.powered;
+    found = j.found;
+    early = j.early;
+    late = w.late;
+    more = λ x k at_. j.more x k (w.more x k at_);
+    tells = tells o done s at waits fewer v d e w card f marks cabin brought j;
+    present = subst (λ (n : ℕ). PresentStand o.found standing (told_before w.b done) (course_in w.b done s at (and_find v.log f)) s.number n cabin) (sym j.next.is_now)
+        (none-to_keep o.found standing (told_before w.b done) (course_in w.b done s at (and_find v.log f)) s.number cabin (tells o done s at waits fewer v d e w card f marks cabin brought j).newest
+        (tells o done s at waits fewer v d e w card f marks cabin brought j).minute (seated o done s at waits fewer v d e w card f marks cabin brought j standing st.others st.stands));
+    verdicts = verdicts-later o done w.b d e j.left w.verdicts;
+    finds = finds o done s at waits fewer v d e w card f marks cabin brought j;
+    spared = λ x. j.spared x (w.spared x);
+    travels = j.travels;
+  };
 }
 
 pub judging-fails : (d e : Devices) → AJudgingFails d e

@@ -135,38 +135,42 @@ module _ (o : Origin) (done : List TraceSecond) (s : TraceSecond) (at : Phase) (
 
 pub torn-next : (d e : Devices) → AWaitingCardIsTorn d e
 torn-next d e o done s at waits fewer v w slot card b cabin standing j st = record {
-  b = w.b;
-  lit = w.lit;
-  began = w.began;
-  unfound = w.unfound;
-  next = w.next;
-  moment = moment o done s at waits fewer v d e w slot card b cabin j;
-  sp = w.sp;
-  minutes = w.minutes;
-  ds = w.ds;
-  new = w.new;
-  decided = decided o done s at waits fewer v d e w slot card b cabin j;
-  from = w.from;
-  kept_to = w.kept_to;
-  until = w.until;
-  stay = w.stay;
-  marked = marked o done s at waits fewer v d e w slot card b cabin j;
-  due = w.due;
-  standing = standing;
-  brought = w.brought;
-  powered = st.powered;
-  found = j.found;
-  early = w.early;
-  late = w.late;
-  more = w.more;
-  tells = tells o done s at waits fewer v d e w slot card b cabin j;
-  present = subst (λ (n : ℕ). PresentStand o.found standing (told_before w.b done) (course_in w.b done s at (and_break v.log b)) s.number n cabin) (sym j.next.is_now)
-      (none-to_keep o.found standing (told_before w.b done) (course_in w.b done s at (and_break v.log b)) s.number cabin (tells o done s at waits fewer v d e w slot card b cabin j).newest
-      (tells o done s at waits fewer v d e w slot card b cabin j).minute (seated o done s at waits fewer v d e w slot card b cabin j standing st.others));
-  verdicts = verdicts-later o done w.b d e j.left w.verdicts;
-  finds = finds o done s at waits fewer v d e w slot card b cabin j;
-  spared = λ x. j.spared x (w.spared x);
-  travels = j.travels;
+  began = refl;
+  from = refl;
+  within = record {
+    b = w.b;
+    lit = w.lit;
+    began = w.began;
+    unfound = w.unfound;
+    next = w.next;
+    moment = moment o done s at waits fewer v d e w slot card b cabin j;
+    sp = w.sp;
+    minutes = w.minutes;
+    ds = w.ds;
+    new = w.new;
+    decided = decided o done s at waits fewer v d e w slot card b cabin j;
+    from = w.from;
+    kept_to = w.kept_to;
+    until = w.until;
+    stay = w.stay;
+    marked = marked o done s at waits fewer v d e w slot card b cabin j;
+    due = w.due;
+    standing = standing;
+    brought = w.brought;
+    powered = st.powered;
+    found = j.found;
+    early = w.early;
+    late = w.late;
+    more = w.more;
+    tells = tells o done s at waits fewer v d e w slot card b cabin j;
+    present = subst (λ (n : ℕ). PresentStand o.found standing (told_before w.b done) (course_in w.b done s at (and_break v.log b)) s.number n cabin) (sym j.next.is_now)
+        (none-to_keep o.found standing (told_before w.b done) (course_in w.b done s at (and_break v.log b)) s.number cabin (tells o done s at waits fewer v d e w slot card b cabin j).newest
+        (tells o done s at waits fewer v d e w slot card b cabin j).minute (seated o done s at waits fewer v d e w slot card b cabin j standing st.others));
+    verdicts = verdicts-later o done w.b d e j.left w.verdicts;
+    finds = finds o done s at waits fewer v d e w slot card b cabin j;
+    spared = λ x. j.spared x (w.spared x);
+    travels = j.travels;
+  };
 }
 
 pub tearing-fails : (d e : Devices) → ATearingFails d e

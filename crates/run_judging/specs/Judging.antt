@@ -44,6 +44,12 @@ pub record IsNext (o : Origin) (done : List TraceSecond) (s : TraceSecond) (at :
   pub behind : AllByRecursion (λ (x : Visit). x.phase ≡ at) fewer
   pub is_now : w.from ≡ s.number / 60
 
+-- THE SECOND GOES ON at that moment: it began as before, and no minute was kept.
+pub record Behind (o : Origin) (done : List TraceSecond) (s : TraceSecond) (at : Phase) (waits fewer : List Visit) (v later : Values) (d e : Devices) (w : Within o done s at waits None [] v d) : Type 0 where
+  pub within : Within o done s at fewer None [] later e
+  pub began : within.b ≡ w.b
+  pub from : within.from ≡ w.from
+
 -- what a run has by value behind a find, with these marks, slots and sessions
 abbrev pub judged_values : Find → List Mark → Cabin → Values → Values
 judged_values f marks cabin v = record v { log = and_find v.log f; marks = marks; cabin = cabin }
@@ -91,7 +97,7 @@ pub record StandJudged (o : Origin) (done : List TraceSecond) (s : TraceSecond) 
 abbrev pub ACardIsJudged : (d e : Devices) → Type 0
 ACardIsJudged d e = (o : Origin) (done : List TraceSecond) (s : TraceSecond) (at : Phase) (waits fewer : List Visit) (v : Values) → (w : Within o done s at waits None [] v d) →
     (card : Card) (f : Find) (marks : List Mark) (cabin : Cabin) (brought : Card → List ℕ) (standing : Card → Standing) → IsJudged o done s at waits fewer v d e w card f marks cabin brought →
-    StandJudged o done s at waits v d e w card f marks cabin brought standing → Within o done s at fewer None [] (judged_values f marks cabin v) e
+    StandJudged o done s at waits v d e w card f marks cabin brought standing → Behind o done s at waits fewer v (judged_values f marks cabin v) d e w
 
 -- OR THE UNIT FAILED behind the find: power is about to be cut. `cabin` is then the one in which the card is accepted, if it was found so.
 pub record FailedJudging (o : Origin) (done : List TraceSecond) (s : TraceSecond) (at : Phase) (waits : List Visit) (v : Values) (d e : Devices) (w : Within o done s at waits None [] v d) (f : Find) (marks : List Mark) (cabin : Cabin) (brought : Card → List ℕ) : Type 0 where
@@ -127,7 +133,7 @@ pub record StandTorn (o : Origin) (done : List TraceSecond) (s : TraceSecond) (a
 abbrev pub AWaitingCardIsTorn : (d e : Devices) → Type 0
 AWaitingCardIsTorn d e = (o : Origin) (done : List TraceSecond) (s : TraceSecond) (at : Phase) (waits fewer : List Visit) (v : Values) → (w : Within o done s at waits None [] v d) →
     (slot : Slot) (card : Card) (b : Break) (cabin : Cabin) (standing : Card → Standing) → IsTornNext o done s at waits fewer v d e w slot card b cabin →
-    StandTorn o done s at waits v d e w card b cabin standing → Within o done s at fewer None [] (torn_values b cabin v) e
+    StandTorn o done s at waits v d e w card b cabin standing → Behind o done s at waits fewer v (torn_values b cabin v) d e w
 
 -- or the unit failed behind that
 pub record FailedTearing (o : Origin) (done : List TraceSecond) (s : TraceSecond) (at : Phase) (waits : List Visit) (v : Values) (d e : Devices) (w : Within o done s at waits None [] v d) (b : Break) (cabin : Cabin) : Type 0 where

@@ -1,3 +1,4 @@
 pub mod Powering
 pub mod Reading
 pub mod Calls
+pub mod Waking

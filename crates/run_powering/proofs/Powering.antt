@@ -29,6 +29,7 @@ use Rattle.run_moments.specs.Lines.{times_of}
 use Rattle.run_moments.specs.Moment.{Moment}
 use Rattle.run_moments.specs.Kept.{HasDecided}
 use Rattle.run_moments.proofs.Moment.{moment-begins}
+use Rattle.run_moments.proofs.Reached.{nothing-told}
 use Rattle.run_moments.proofs.Kept.{nothing-decided, nothing-marked}
 use Rattle.run_recorded.specs.Origin.{Origin, rule_of, start_at, first_of, HasRecorded}
 use Rattle.run_recorded.specs.Seconds.{found_again}
@@ -39,6 +40,7 @@ use Rattle.run_present.specs.Presence.{PresentStand, sits}
 use Rattle.run_present.proofs.Presence.{none-to_keep}
 use Rattle.run_within.specs.Recorded.{Values, progress, carried, IsOff, IsHeldBy, Recorded}
 use Rattle.run_within.specs.Within.{Beginning, course_in, overlaps_by, IsFoundSo, IsSparedSo, Within, CutWithin}
+use Rattle.run_powering.specs.Waking.{IsWaking, both_slots, PowerWakes}
 use Rattle.run_powering.specs.Powering.{read_values, begun_values, GoOn, PowerIsBack, AMendingFails}
 
 -- WITHOUT POWER, where power may come
@@ -144,41 +146,49 @@ module _ (o : Origin) (done : List TraceSecond) (s : TraceSecond) (supply : Supp
   verdicts : AreVerdicts o done run.log e
   verdicts = idle-verdicts o done done v.log run.log d e [] v.next r.beside.verdicts goes.left (found-tells o done p r.recorded.followed k) tt
 
-pub power-back : (d e : Devices) → PowerIsBack d e
-power-back d e o done s supply v r may number given k minutes back =
-    subst (λ (w : Went). Within o done s (In 0) (fresh true w.before.slots).entered None [] (begun_values k minutes v) e) (same o done s supply v d e r may number given k back.leg back.shows back.goes)
+pub power-wakes : (d e : Devices) → PowerWakes d e
+power-wakes d e o done s supply v r may number given k minutes back =
+    subst (λ (w : Went). IsWaking o done s (begun_values k minutes v) e (fresh true w.before.slots).entered both_slots) (same o done s supply v d e r may number given k back.leg back.shows back.goes)
     (record {
-      b = before o done s supply v d e r may number given k back.leg back.shows back.goes (breakdowns_of e);
-      lit = refl;
-      began = recorded-later o done s supply v d e r may number given k back.leg back.shows back.goes;
-      unfound = refl;
-      next = refl;
-      moment = begins o done s supply v d e r may number given k back.leg back.shows back.goes (breakdowns_of e);
-      sp = span_at (rule_of o) v.next [];
-      minutes = back.stands;
-      ds = [];
-      new = [];
-      decided = decided o done s supply v d e r may number given k back.leg back.shows back.goes (breakdowns_of e);
-      from = ungiven_of (span_at (rule_of o) v.next []);
-      kept_to = omega arith;
-      until = omega arith;
-      stay = λ mark h. h;
-      marked = nothing-marked v.marks (went (found_again k (progress v supply r.book)).log done).told (c o done s supply v d e r may number given k back.leg back.shows back.goes (breakdowns_of e)) s.number;
-      due = r.due;
-      standing = λ card. Out;
-      brought = r.brought;
-      powered = back.powered;
-      found = r.found;
-      early = r.early;
-      late = let low = (off o done s supply v d e r may number given k back.leg back.shows back.goes).due in let here = begins-here (rule_of o) v.next in omega (arith, low, here);
-      more = λ card n h. h;
-      tells = tells o done s supply v d e r may number given k back.leg back.shows back.goes (breakdowns_of e);
-      present = present o done s supply v d e r may number given k back.leg back.shows back.goes (breakdowns_of e) (λ card. Out);
-      verdicts = verdicts o done s supply v d e r may number given k back.leg back.shows back.goes;
-      finds = finds o done s supply v d e r may number given k back.leg back.shows back.goes (breakdowns_of e);
-      spared = spared o done s supply v d e r may number given k back.leg back.shows back.goes (breakdowns_of e);
-      travels = back.travels;
+      starts = (recorded o done s supply v d e r may number given k back.leg back.shows back.goes).followed.power.running;
+      is_now = from-is o done s supply v d e r may number given k back.leg back.shows back.goes;
+      none = λ slot there. (nothing-told (rule_of o) (start_at o) o.from (first_of o) done (found_again k (progress v supply r.book)) (recorded o done s supply v d e r may number given k back.leg back.shows back.goes).followed s.number (omega (arith, number))).found (In 0) slot;
+      within = record {
+        b = before o done s supply v d e r may number given k back.leg back.shows back.goes (breakdowns_of e);
+        lit = refl;
+        began = recorded-later o done s supply v d e r may number given k back.leg back.shows back.goes;
+        unfound = refl;
+        next = refl;
+        moment = begins o done s supply v d e r may number given k back.leg back.shows back.goes (breakdowns_of e);
+        sp = span_at (rule_of o) v.next [];
+        minutes = back.stands;
+        ds = [];
+        new = [];
+        decided = decided o done s supply v d e r may number given k back.leg back.shows back.goes (breakdowns_of e);
+        from = ungiven_of (span_at (rule_of o) v.next []);
+        kept_to = omega arith;
+        until = omega arith;
+        stay = λ mark h. h;
+        marked = nothing-marked v.marks (went (found_again k (progress v supply r.book)).log done).told (c o done s supply v d e r may number given k back.leg back.shows back.goes (breakdowns_of e)) s.number;
+        due = r.due;
+        standing = λ card. Out;
+        brought = r.brought;
+        powered = back.powered;
+        found = r.found;
+        early = r.early;
+        late = let low = (off o done s supply v d e r may number given k back.leg back.shows back.goes).due in let here = begins-here (rule_of o) v.next in omega (arith, low, here);
+        more = λ card n h. h;
+        tells = tells o done s supply v d e r may number given k back.leg back.shows back.goes (breakdowns_of e);
+        present = present o done s supply v d e r may number given k back.leg back.shows back.goes (breakdowns_of e) (λ card. Out);
+        verdicts = verdicts o done s supply v d e r may number given k back.leg back.shows back.goes;
+        finds = finds o done s supply v d e r may number given k back.leg back.shows back.goes (breakdowns_of e);
+        spared = spared o done s supply v d e r may number given k back.leg back.shows back.goes (breakdowns_of e);
+        travels = back.travels;
+      };
     })
+
+pub power-back : (d e : Devices) → PowerIsBack d e
+power-back d e o done s supply v r may number given k minutes back = (power-wakes d e o done s supply v r may number given k minutes back).within
 
 pub mending-fails : (d e : Devices) → AMendingFails d e
 mending-fails d e o done s supply v r may number given k read =

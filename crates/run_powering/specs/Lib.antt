@@ -1,1 +1,2 @@
 pub mod Powering
+pub mod Waking

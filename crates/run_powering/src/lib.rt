@@ -3,4 +3,4 @@
 
 mod laws;
 
-pub use laws::{a_mending_fails, a_reading_fails, power_is_back};
+pub use laws::{a_mending_fails, a_reading_fails, power_is_back, power_wakes};
