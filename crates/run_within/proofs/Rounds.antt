@@ -145,9 +145,12 @@ module _ (o : Origin) (done : List TraceSecond) (s : TraceSecond) (m : Minute) (
     };
     finds = record {
       may = λ x verdict at.
-          let was = w.finds.may x verdict at in
-          (was.0, was.1, verdict-left o was.0 (d.unit.left_since o.found.unit.began) ((card_of d x.card).left_since (found_of o.found x.card).began) (e.unit.left_since o.found.unit.began) ((card_of e x.card).left_since (found_of o.found x.card).began)
-          k.left.unit (k.left.card x.card) x.card s.number verdict was.2);
+          let was = w.finds.may x verdict at in (
+            was.0,
+            was.1,
+            verdict-left o was.0 (d.unit.left_since o.found.unit.began) ((card_of d x.card).left_since (found_of o.found x.card).began) (e.unit.left_since o.found.unit.began) ((card_of e x.card).left_since (found_of o.found x.card).began)
+                k.left.unit (k.left.card x.card) x.card s.number verdict was.2,
+          );
       taken = λ x verdict at accepts. absurd (early-on x verdict at accepts);
       late = λ x verdict at accepts. absurd (early-on x verdict at accepts);
     };
