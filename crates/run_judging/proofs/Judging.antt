@@ -1,18 +1,16 @@
 -- A card that waits is judged: that is told, and it is accepted or not.
-use Rattle.std.proofs.Common.{◌≡◌, ◌⊎◌, inl, inr, ⊎_elim, ℕ, zero, suc, ◌+◌, ◌/◌, ◌<◌, ◌≤◌, Bool, true, false, cond, Option, Some, None, List, [], ◌∷◌, ◌++◌, Contains, length, map, refl, ap, sym, subst, ◌∙◌, arith}
+use Rattle.std.proofs.Common.{◌≡◌, ◌⊎◌, ⊎_elim, ℕ, ◌≤◌, Bool, true, false, cond, Option, Some, None, List, [], ◌∷◌, ◌++◌, Contains, map, refl, ap, sym, subst, ◌∙◌, arith}
 use Rattle.std.specs.Prelude.{option_map}
 use Rattle.std.proofs.lemmas.List.Elements.{Contains-push_cases}
 use Rattle.activity_codec.specs.declared.values.Slot.{Slot}
 use Rattle.trace_model.specs.declared.Card.{Card}
 use Rattle.trace_model.specs.Trace.{TraceSecond}
-use Rattle.minute_model.specs.Span.{ungiven_of}
 use Rattle.log_model.specs.declared.lines.Find.{Find}
 use Rattle.log_model.specs.declared.lines.Mark.{Mark}
 use Rattle.log_model.specs.declared.lines.Verdict.{Verdict}
-use Rattle.log_model.specs.Log.{RunLog, Phase, Keeping, is_accepting}
+use Rattle.log_model.specs.Log.{Phase, is_accepting}
 use Rattle.log_model.specs.Slots.{Slots, Sitting, in_slot}
-use Rattle.log_model.specs.Course.{Told, Course, Visit, visits, card_in, with_slot, went}
-use Rattle.history_model.specs.Minutes.{HistoryMinute}
+use Rattle.log_model.specs.Course.{Told, Course, Visit, card_in, with_slot, went}
 use Rattle.joint_rule.specs.Rules.{Standing}
 use Rattle.safety_model.specs.Safe.{Devices, card_of, breakdowns_of}
 use Rattle.slot_machine.specs.Kept.{Kept}
@@ -21,21 +19,19 @@ use Rattle.run_rule.specs.Found.{found_of}
 use Rattle.run_course.specs.Moments.{and_find}
 use Rattle.run_course.specs.Followed.{Progress}
 use Rattle.run_course.specs.Presence.{SlotsTell}
-use Rattle.run_course.specs.Seconds.{kept_all}
 use Rattle.run_course.specs.Within.{IsFoundOf}
 use Rattle.run_course.proofs.Within.{acceptance-tells}
-use Rattle.run_brought.specs.Going.{IsTakenAt}
 use Rattle.run_moments.specs.Moment.{Moment}
 use Rattle.run_moments.specs.Kept.{HasDecided, AreMarkedSoFar}
 use Rattle.run_moments.proofs.Telling.{breakdowns-only, card-judged}
 use Rattle.run_moments.proofs.Kept.{nothing-else, marks-stay}
 use Rattle.run_present.specs.Presence.{PresentStand, IsSeated, sits}
 use Rattle.run_present.proofs.Presence.{none-to_keep}
-use Rattle.run_recorded.specs.Origin.{Origin, rule_of, start_at, first_of}
+use Rattle.run_recorded.specs.Origin.{Origin, rule_of, start_at}
 use Rattle.run_within.specs.Recorded.{Values}
-use Rattle.run_within.specs.Within.{told_before, course_in, VerdictBy, often, IsFoundSo, Within, CutWithin}
+use Rattle.run_within.specs.Within.{told_before, course_in, VerdictBy, often, IsFoundSo, Within}
 use Rattle.run_within.proofs.Rounds.{verdict-left}
-use Rattle.run_judging.specs.Judging.{judged_values, IsAcceptedSo, IsSeatedBy, IsJudged, StandJudged, ACardIsJudged, FailedJudging, AJudgingFails}
+use Rattle.run_judging.specs.Judging.{IsAcceptedSo, IsSeatedBy, IsJudged, ACardIsJudged, AJudgingFails}
 use Rattle.run_judging.proofs.Sitting.{another, sits-with, seated-still, verdicts-later}
 
 -- one find is another

@@ -1,5 +1,5 @@
 -- A card that waits is torn out before it is judged.
-use Rattle.std.proofs.Common.{◌≡◌, ◌⊎◌, inl, inr, ⊎_elim, ℕ, zero, suc, ◌+◌, ◌/◌, ◌<◌, ◌≤◌, Bool, true, false, ◌&&◌, ◌||◌, nat_eq, Option, Some, None, List, [], ◌∷◌, ◌++◌, Contains, length, map, refl, ap, sym, subst, ◌∙◌, arith}
+use Rattle.std.proofs.Common.{◌≡◌, ⊎_elim, ℕ, ◌≤◌, Bool, true, false, ◌&&◌, ◌||◌, nat_eq, Option, None, List, [], ◌∷◌, ◌++◌, Contains, map, refl, ap, sym, subst, ◌∙◌, arith}
 use Rattle.activity_codec.specs.declared.values.Slot.{Slot}
 use Rattle.activity_codec.specs.declared.values.Slot.TheVariants.{Driver, CoDriver}
 use Rattle.activity_codec.specs.Activity.{same_slot}
@@ -7,12 +7,12 @@ use Rattle.trace_model.specs.declared.Card.{Card}
 use Rattle.trace_model.specs.Trace.{TraceSecond}
 use Rattle.log_model.specs.declared.lines.Break.{Break}
 use Rattle.log_model.specs.declared.lines.Verdict.{Verdict}
-use Rattle.log_model.specs.Log.{RunLog, Phase, In, Keeping, same_phase, phase_of, tears_here, is_torn_in, is_accepting}
+use Rattle.log_model.specs.Log.{RunLog, Phase, In, Keeping, same_phase, phase_of, tears_here, is_torn_in}
 use Rattle.log_model.specs.Slots.{Slots, Sitting, in_slot}
-use Rattle.log_model.specs.Course.{Told, Course, Visit, visits, card_in, with_slot, went}
+use Rattle.log_model.specs.Course.{Told, Course, Visit, visits, card_in, went}
 use Rattle.joint_rule.specs.Rules.{Standing}
 use Rattle.safety_model.specs.Safe.{Devices, card_of, breakdowns_of}
-use Rattle.slot_machine.specs.Kept.{Kept, taken}
+use Rattle.slot_machine.specs.Kept.{Kept}
 use Rattle.run_crew.specs.declared.cabin.Cabin.{Cabin}
 use Rattle.run_rule.specs.Found.{found_of}
 use Rattle.run_course.specs.Moments.{and_break}
@@ -33,9 +33,9 @@ use Rattle.run_present.specs.Presence.{PresentStand, IsSeated, sits}
 use Rattle.run_present.proofs.Presence.{none-to_keep}
 use Rattle.run_recorded.specs.Origin.{Origin, rule_of, start_at}
 use Rattle.run_within.specs.Recorded.{Values}
-use Rattle.run_within.specs.Within.{told_before, course_in, often, IsFoundSo, Within, CutWithin}
+use Rattle.run_within.specs.Within.{told_before, course_in, often, IsFoundSo, Within}
 use Rattle.run_within.proofs.Rounds.{verdict-left}
-use Rattle.run_judging.specs.Judging.{torn_values, IsTornNext, StandTorn, AWaitingCardIsTorn, FailedTearing, ATearingFails}
+use Rattle.run_judging.specs.Judging.{IsTornNext, AWaitingCardIsTorn, ATearingFails}
 use Rattle.run_judging.proofs.Sitting.{another, sits-with, seated-still, verdicts-later}
 
 -- a tear that is told is one that the log tells of
