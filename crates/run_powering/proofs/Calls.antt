@@ -1,11 +1,10 @@
 -- What the calls of a power-on say of the devices is what the record needs: the unit was read, or not; and mended, or not.
-use Rattle.std.proofs.Common.{◌≡◌, ◌⊎◌, inl, inr, ⊎_elim, ℕ, ◌+◌, ◌-◌, ◌^◌, ◌<◌, ◌≤◌, min, nat_le, Bool, true, false, not, Option, Some, None, is_some, List, [], ◌∷◌, All, Contains, refl, ap, sym, subst, ◌∙◌, arith}
+use Rattle.std.proofs.Common.{◌≡◌, inl, inr, ⊎_elim, ℕ, ◌+◌, ◌<◌, ◌≤◌, nat_le, Bool, true, false, not, Some, is_some, List, [], All, refl, ap, subst, ◌∙◌, arith}
 use Rattle.std.proofs.lemmas.Bool.Decides.{nat_tests}
 use Rattle.trace_model.specs.declared.Card.{Card}
 use Rattle.trace_model.specs.declared.Card.TheVariants.{A, B}
 use Rattle.trace_model.specs.Trace.{TraceSecond}
 use Rattle.tach_media.specs.Medium.{State, IsCoherent, LeavesOnly, Unchanged, Rose, HasCause, last_count, revivable}
-use Rattle.run_model.specs.declared.Device.{Device}
 use Rattle.run_model.specs.declared.Device.TheVariants.{Unit as Recorder, CardA, CardB}
 use Rattle.minute_rules.specs.Kept.{Kept, StandsFor}
 use Rattle.log_model.specs.declared.lines.Mark.{Mark}
@@ -18,7 +17,7 @@ use Rattle.unit_model.specs.Image.{last_kept, odometer_at}
 use Rattle.unit_journal.specs.declared.notes.Notes.{Notes}
 use Rattle.unit_journal.specs.Mends.{IsMending}
 use Rattle.unit_course.specs.Followed.{Supply, MayPower}
-use Rattle.unit_course.specs.Legs.{Travel, resumed}
+use Rattle.unit_course.specs.Legs.{resumed}
 use Rattle.unit_course.specs.Travelled.{MayShow}
 use Rattle.unit_course.specs.Turn.{span_at}
 use Rattle.unit_rule.specs.Rule.{Started}
@@ -28,18 +27,16 @@ use Rattle.unit_rule.proofs.Moves.{shown-last}
 use Rattle.unit_rule.proofs.Travelling.{travelled-read, travelled-found}
 use Rattle.device_steps.specs.Rule.{Both, CardRests, IsTakenUp}
 use Rattle.safety_model.specs.Safe.{Devices, card_of, breakdowns_of}
-use Rattle.run_crew.specs.Cards.{session_of}
 use Rattle.run_rule.specs.Between.{Carried, devices}
 use Rattle.run_rule.specs.Cards.{IsUntouched}
-use Rattle.run_rule.specs.Found.{Found, found_of}
+use Rattle.run_rule.specs.Found.{found_of}
 use Rattle.run_moments.specs.Telling.{IsMore}
-use Rattle.run_told.specs.Told.{carried_found, all_out, IsPowered, IsPowerless}
+use Rattle.run_told.specs.Told.{carried_found, IsPowerless}
 use Rattle.run_told.proofs.Power.{found-powerless, unread-powerless, mended-powered, mended-powerless}
 use Rattle.run_told.proofs.Travelled.{travelled-mended}
 use Rattle.run_recorded.specs.Origin.{Origin, rule_of, first_of}
-use Rattle.run_recorded.specs.Beside.{HaveLeftMore}
 use Rattle.run_within.specs.Recorded.{Values, carried, IsOff, Recorded}
-use Rattle.run_powering.specs.Powering.{begun_values, read_values, GoOn, IsBack, IsOnlyRead, IsNotRead}
+use Rattle.run_powering.specs.Powering.{GoOn, IsBack, IsOnlyRead, IsNotRead}
 use Rattle.run_powering.proofs.Powering.{off-of}
 
 -- a device that broke down did so once more

@@ -39,7 +39,7 @@ use Rattle.run_recorded.proofs.Beside.{found-tells, idle-verdicts, idle-spared}
 use Rattle.run_present.specs.Presence.{PresentStand, sits}
 use Rattle.run_present.proofs.Presence.{none-to_keep}
 use Rattle.run_within.specs.Recorded.{Values, progress, carried, IsOff, IsHeldBy, Recorded}
-use Rattle.run_within.specs.Within.{Beginning, course_in, overlaps_by, IsFoundSo, IsSparedSo, Within, CutWithin}
+use Rattle.run_within.specs.Within.{Beginning, course_in, overlaps_by, IsFoundSo, IsSparedSo, CutWithin}
 use Rattle.run_powering.specs.Waking.{IsWaking, both_slots, PowerWakes}
 use Rattle.run_powering.specs.Powering.{read_values, begun_values, GoOn, PowerIsBack, AMendingFails}
 

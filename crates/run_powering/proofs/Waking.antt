@@ -1,7 +1,7 @@
 -- The cards that wait at a power-on, one after the other.
-use Rattle.std.proofs.Common.{◌≡◌, ◌⊎◌, inl, inr, ⊎_elim, ℕ, ◌+◌, ◌/◌, ◌≤◌, Bool, true, false, cond, not, ◌&&◌, nat_eq, Option, Some, None, List, [], ◌∷◌, ◌++◌, Contains, refl, ap, sym, subst, ◌∙◌, arith, append-nil}
+use Rattle.std.proofs.Common.{◌≡◌, inl, inr, ⊎_elim, ℕ, Bool, true, false, cond, not, ◌&&◌, nat_eq, Some, None, List, [], ◌∷◌, ◌++◌, Contains, refl, ap, sym, subst, ◌∙◌, arith, append-nil}
 use Rattle.std.specs.List.{AllByRecursion}
-use Rattle.std.proofs.lemmas.List.Elements.{Contains-push, Contains-push_cases, Contains-append_cases, Contains-append_right}
+use Rattle.std.proofs.lemmas.List.Elements.{Contains-push, Contains-push_cases, Contains-append_cases}
 use Rattle.activity_codec.specs.declared.values.Slot.{Slot}
 use Rattle.activity_codec.specs.declared.values.Slot.TheVariants.{Driver, CoDriver}
 use Rattle.activity_codec.specs.Activity.{same_slot}
@@ -10,15 +10,13 @@ use Rattle.trace_model.specs.Trace.{TraceSecond}
 use Rattle.log_model.specs.declared.lines.Break.{Break}
 use Rattle.log_model.specs.declared.lines.Find.{Find}
 use Rattle.log_model.specs.declared.lines.Mark.{Mark}
-use Rattle.log_model.specs.declared.lines.Verdict.{Verdict}
 use Rattle.log_model.specs.Log.{RunLog, Phase, In, same_phase, found_in}
 use Rattle.log_model.specs.Course.{Visit, went}
 use Rattle.safety_model.specs.Safe.{Devices}
 use Rattle.slot_machine.specs.Calls.{seat_in}
 use Rattle.run_crew.specs.declared.cabin.Cabin.{Cabin}
-use Rattle.run_course.specs.Moments.{and_break, and_find}
+use Rattle.run_course.specs.Moments.{and_find}
 use Rattle.run_course.proofs.Lookups.{break-more, find-more}
-use Rattle.run_moments.specs.Lines.{times_of}
 use Rattle.run_moments.specs.Telling.{WaitBut}
 use Rattle.run_moments.proofs.Lines.{times-append}
 use Rattle.run_recorded.specs.Origin.{Origin, start_at}
