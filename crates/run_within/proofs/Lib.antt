@@ -4,4 +4,6 @@ pub mod Spans
 pub mod Beginning
 pub mod Feeding
 pub mod Rounds
+pub mod Acting
+pub mod Steps
 pub mod Ending
