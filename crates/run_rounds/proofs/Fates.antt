@@ -38,6 +38,7 @@ use Rattle.run_course.specs.Within.{IsTornFrom}
 use Rattle.run_course.proofs.Within.{tear-tells}
 use Rattle.run_moments.specs.Reached.{IsTearAt}
 use Rattle.run_moments.specs.Lines.{IsTornAt}
+use Rattle.run_moments.specs.Moment.{Moment}
 use Rattle.run_moments.specs.Telling.{IsMore, BrokeDown}
 use Rattle.run_moments.specs.Kept.{StaysOut}
 use Rattle.run_moments.proofs.Lines.{who-sits}
@@ -71,7 +72,7 @@ turned A B is = refl
 turned B A is = refl
 
 -- the breakdowns, where a card has broken down as often as it will have
-fallen : Card → (now last : Device → ℕ) → Device → ℕ
+abbrev fallen : Card → (now last : Device → ℕ) → Device → ℕ
 fallen A now last Recorder = now Recorder
 fallen A now last CardA = last CardA
 fallen A now last CardB = now CardB
@@ -332,6 +333,8 @@ module _ (o : Origin) (done : List TraceSecond) (s : TraceSecond) (b : Beginning
       more = fallen-more card h.now last h.rise;
       broke = subst (λ (n : ℕ). RoseBy 1 n (fallen card h.now last (device_of card))) (sym (h.rests card had)) (subst (λ (n : ℕ). RoseBy 1 (first (device_of card)) n) (sym (fallen-own card h.now last)) rose);
     }
+
+    told-now : Moment b.run (went b.run.log done).before s Keeping later [] b.broken (fallen card h.now last) × IsTornAt s.number slot (visit ∷ []) c d_
     told-now = card-torn b.run (went b.run.log done).before s Keeping log [] b.broken h.now (fallen card h.now last) h.moment slot (tear_of slot (keeping_of s)) tear-at
         (who-sits log (went b.run.log done).before s Keeping slot (record { card = card; accepted = Some sitting.0 }) sitting.1) card
         (ap (λ (q : Option Sitting). map {B = Visit} (λ (k : Card). record { phase = Keeping; slot = slot; card = k }) (card_in q)) sitting.1) broke
