@@ -133,10 +133,8 @@ mark-there fate present card a n minute marks has is =
     (subst (λ (o : Option Card). Contains (marks ++ marks_by (Has a n) o minute) (record { device = device_of card; minute = minute; clock = n })) (sym is)
     (Contains-push marks (record { device = device_of card; minute = minute; clock = n })))
 
-module _ (o : Origin) (done : List TraceSecond) (s : TraceSecond) (b : Beginning) (low : ℕ) (first last : Device → ℕ) (k : Keeper) (m : Minute) (round : Round) (failed : Bool) (t : Told) (log : RunLog) (z : Card → Standing) (new : List HistoryMinute)
-    (h : Slate o done s b low m.minute (b.run.book.sure ++ new) log z t.keeper.cabin first last) (same_past : t.keeper.cabin.slots.past ≡ k.cabin.slots.past) (le : low ≤ m.minute) (over : m.minute < s.number / 60) (few : s.number / 60 ≤ m.minute + 4)
-    (is : IsRound (present_at k.cabin m.minute) (minute_of m k) (keeping_of s) failed t.keeper round) (two : AreTwo (present_at k.cabin m.minute).driver (present_at k.cabin m.minute).codriver)
-    (driver_broken : HasBrokenDown round.driver (present_at k.cabin m.minute).driver first last) (codriver_broken : HasBrokenDown round.codriver (present_at k.cabin m.minute).codriver first last) where
+module _ (o : Origin) (done : List TraceSecond) (s : TraceSecond) (b : Beginning) (low : ℕ) (first last : Device → ℕ) (k : Keeper) (m : Minute) (t : Told) (log : RunLog) (z : Card → Standing) (new : List HistoryMinute)
+    (h : Slate o done s b low m.minute (b.run.book.sure ++ new) log z t.keeper.cabin first last) (same_past : t.keeper.cabin.slots.past ≡ k.cabin.slots.past) (over : m.minute < s.number / 60) where
   abbrev past : List HistoryMinute
   past = b.run.book.sure ++ new
 
@@ -185,139 +183,142 @@ module _ (o : Origin) (done : List TraceSecond) (s : TraceSecond) (b : Beginning
   stands : (card : Card) → IsIn p card → StandsIn o.found z cabin.cards told0 c s.number m.minute card
   stands card in_ = h.present.ended m.minute p card (omega arith) there in_
 
-  -- the driver's card, and the co-driver's
-  first-fate : Behind o done s b low m.minute (suc m.minute) (past ++ i ∷ []) first last Driver log z cabin unit-slate refl le few round.driver p.driver
-  first-fate = fate-behind o done s b low m.minute (suc m.minute) (past ++ i ∷ []) first last Driver log z cabin unit-slate refl le few round.driver p.driver (kept_in (minute_of m k) Driver) (inr is.driver) refl p there refl
-      (λ card e. (stands card (inl e)).valid) driver_broken
+  module _ (round : Round) (failed : Bool) (le : low ≤ m.minute) (few : s.number / 60 ≤ m.minute + 4)
+      (is : IsRound (present_at k.cabin m.minute) (minute_of m k) (keeping_of s) failed t.keeper round) (two : AreTwo (present_at k.cabin m.minute).driver (present_at k.cabin m.minute).codriver)
+      (driver_broken : HasBrokenDown round.driver (present_at k.cabin m.minute).driver first last) (codriver_broken : HasBrokenDown round.codriver (present_at k.cabin m.minute).codriver first last) where
+    -- the driver's card, and the co-driver's
+    first-fate : Behind o done s b low m.minute (suc m.minute) (past ++ i ∷ []) first last Driver log z cabin unit-slate refl le few round.driver p.driver
+    first-fate = fate-behind o done s b low m.minute (suc m.minute) (past ++ i ∷ []) first last Driver log z cabin unit-slate refl le few round.driver p.driver (kept_in (minute_of m k) Driver) (inr is.driver) refl p there refl
+        (λ card e. (stands card (inl e)).valid) driver_broken
 
-  abbrev log1 : RunLog
-  log1 = and_breaks log (breaks_by round.driver Driver (keeping_of s))
+    abbrev log1 : RunLog
+    log1 = and_breaks log (breaks_by round.driver Driver (keeping_of s))
 
-  abbrev z1 : Card → Standing
-  z1 = standing_card round.driver p.driver m.minute z
+    abbrev z1 : Card → Standing
+    z1 = standing_card round.driver p.driver m.minute z
 
-  abbrev cabin1 : Cabin
-  cabin1 = cabin_by round.driver p.driver s.number cabin
+    abbrev cabin1 : Cabin
+    cabin1 = cabin_by round.driver p.driver s.number cabin
 
-  second-is : (round.codriver ≡ Still) ⊎ IsFateOf (session_at cabin1.cards p.codriver) (kept_in (minute_of m k) CoDriver) round.codriver
-  second-is = ⊎_elim (λ off. inl off.not_asked) (λ f. inr f) is.codriver
+    second-is : (round.codriver ≡ Still) ⊎ IsFateOf (session_at cabin1.cards p.codriver) (kept_in (minute_of m k) CoDriver) round.codriver
+    second-is = ⊎_elim (λ off. inl off.not_asked) (λ f. inr f) is.codriver
 
-  there1 : present_in cabin1.slots.past m.minute ≡ Some p
-  there1 = ap (λ (es : List Ended). present_in es m.minute) (past-by round.driver p.driver s.number cabin) ∙ there
+    there1 : present_in cabin1.slots.past m.minute ≡ Some p
+    there1 = ap (λ (es : List Ended). present_in es m.minute) (past-by round.driver p.driver s.number cabin) ∙ there
 
-  second-fate : Behind o done s b low m.minute (suc m.minute) (past ++ i ∷ []) first last CoDriver log1 z1 cabin1 first-fate.slate refl le few round.codriver p.codriver
-  second-fate = fate-behind o done s b low m.minute (suc m.minute) (past ++ i ∷ []) first last CoDriver log1 z1 cabin1 first-fate.slate refl le few round.codriver p.codriver (kept_in (minute_of m k) CoDriver) second-is refl p there1 refl
-      (λ card e. (stands card (inr e)).valid) codriver_broken
+    second-fate : Behind o done s b low m.minute (suc m.minute) (past ++ i ∷ []) first last CoDriver log1 z1 cabin1 first-fate.slate refl le few round.codriver p.codriver
+    second-fate = fate-behind o done s b low m.minute (suc m.minute) (past ++ i ∷ []) first last CoDriver log1 z1 cabin1 first-fate.slate refl le few round.codriver p.codriver (kept_in (minute_of m k) CoDriver) second-is refl p there1 refl
+        (λ card e. (stands card (inr e)).valid) codriver_broken
 
-  abbrev log2 : RunLog
-  log2 = and_breaks log1 (breaks_by round.codriver CoDriver (keeping_of s))
+    abbrev log2 : RunLog
+    log2 = and_breaks log1 (breaks_by round.codriver CoDriver (keeping_of s))
 
-  abbrev c2 : Course
-  c2 = course_in b done s Keeping log2
+    abbrev c2 : Course
+    c2 = course_in b done s Keeping log2
 
-  abbrev z2 : Card → Standing
-  z2 = λ card. standing_by (fate_of p round card) m.minute (z card)
+    abbrev z2 : Card → Standing
+    z2 = λ card. standing_by (fate_of p round card) m.minute (z card)
 
-  standings-are : standing_card round.codriver p.codriver m.minute z1 ≡ z2
-  standings-are = ext (standing_card round.codriver p.codriver m.minute z1) z2 (λ card. stands-by (is_this p.driver card) (is_this p.codriver card) round.driver round.codriver m.minute (z card) (apart-both p.driver p.codriver two card))
+    standings-are : standing_card round.codriver p.codriver m.minute z1 ≡ z2
+    standings-are = ext (standing_card round.codriver p.codriver m.minute z1) z2 (λ card. stands-by (is_this p.driver card) (is_this p.codriver card) round.driver round.codriver m.minute (z card) (apart-both p.driver p.codriver two card))
 
-  pub round-slate : Slate o done s b low (suc m.minute) (past ++ i ∷ []) log2 z2 (cabin_after p s.number round cabin) first last
-  round-slate = subst (λ (y : Card → Standing). Slate o done s b low (suc m.minute) (past ++ i ∷ []) log2 y (cabin_after p s.number round cabin) first last) standings-are second-fate.slate
+    pub round-slate : Slate o done s b low (suc m.minute) (past ++ i ∷ []) log2 z2 (cabin_after p s.number round cabin) first last
+    round-slate = subst (λ (y : Card → Standing). Slate o done s b low (suc m.minute) (past ++ i ∷ []) log2 y (cabin_after p s.number round cabin) first last) standings-are second-fate.slate
 
-  pub round-same : OnlyTears c c2
-  round-same = tears-on c (course_in b done s Keeping log1) c2 first-fate.same second-fate.same
+    pub round-same : OnlyTears c c2
+    round-same = tears-on c (course_in b done s Keeping log1) c2 first-fate.same second-fate.same
 
-  pub round-past : (cabin_after p s.number round cabin).slots.past ≡ k.cabin.slots.past
-  round-past = past-by round.codriver p.codriver s.number cabin1 ∙ past-by round.driver p.driver s.number cabin ∙ same_past
+    pub round-past : (cabin_after p s.number round cabin).slots.past ≡ k.cabin.slots.past
+    round-past = past-by round.codriver p.codriver s.number cabin1 ∙ past-by round.driver p.driver s.number cabin ∙ same_past
 
-  -- ---- what is acknowledged
-  abbrev marks1 : List Mark
-  marks1 = (t.marks.items ++ unit_mark m.minute round.clock ∷ []) ++ marks_by round.driver p.driver m.minute
+    -- ---- what is acknowledged
+    abbrev marks1 : List Mark
+    marks1 = (t.marks.items ++ unit_mark m.minute round.clock ∷ []) ++ marks_by round.driver p.driver m.minute
 
-  abbrev marks2 : List Mark
-  marks2 = marks1 ++ marks_by round.codriver p.codriver m.minute
+    abbrev marks2 : List Mark
+    marks2 = marks1 ++ marks_by round.codriver p.codriver m.minute
 
-  unit-there : Contains marks2 (unit_mark m.minute round.clock)
-  unit-there = Contains-append_left marks1 (marks_by round.codriver p.codriver m.minute) (unit_mark m.minute round.clock)
-      (Contains-append_left (t.marks.items ++ unit_mark m.minute round.clock ∷ []) (marks_by round.driver p.driver m.minute) (unit_mark m.minute round.clock) (Contains-push t.marks.items (unit_mark m.minute round.clock)))
+    unit-there : Contains marks2 (unit_mark m.minute round.clock)
+    unit-there = Contains-append_left marks1 (marks_by round.codriver p.codriver m.minute) (unit_mark m.minute round.clock)
+        (Contains-append_left (t.marks.items ++ unit_mark m.minute round.clock ∷ []) (marks_by round.driver p.driver m.minute) (unit_mark m.minute round.clock) (Contains-push t.marks.items (unit_mark m.minute round.clock)))
 
-  pub marks-on : (mark : Mark) → Contains t.marks.items mark → Contains marks2 mark
-  marks-on mark at = Contains-append_left marks1 (marks_by round.codriver p.codriver m.minute) mark
-      (Contains-append_left (t.marks.items ++ unit_mark m.minute round.clock ∷ []) (marks_by round.driver p.driver m.minute) mark (Contains-append_left t.marks.items (unit_mark m.minute round.clock ∷ []) mark at))
+    pub marks-on : (mark : Mark) → Contains t.marks.items mark → Contains marks2 mark
+    marks-on mark at = Contains-append_left marks1 (marks_by round.codriver p.codriver m.minute) mark
+        (Contains-append_left (t.marks.items ++ unit_mark m.minute round.clock ∷ []) (marks_by round.driver p.driver m.minute) mark (Contains-append_left t.marks.items (unit_mark m.minute round.clock ∷ []) mark at))
 
-  abbrev Answered : Card → Type 0
-  Answered card = IsMarked marks2 (device_of card) m.minute ⊎ BrokenSince told0 c2 card (60 * (m.minute + 1)) s.number
+    abbrev Answered : Card → Type 0
+    Answered card = IsMarked marks2 (device_of card) m.minute ⊎ BrokenSince told0 c2 card (60 * (m.minute + 1)) s.number
 
-  late-enough : 60 * (m.minute + 1) ≤ s.number
-  late-enough = omega (arith, over)
+    late-enough : 60 * (m.minute + 1) ≤ s.number
+    late-enough = omega (arith, over)
 
-  -- a card without a session was torn out or pulled out since
-  sessionless : (card : Card) → IsIn p card → session_of cabin.cards card ≡ None → Answered card
-  sessionless card in_ none = ⊎_elim
-      (λ some. no-both (is_some (session_of cabin.cards card)) some (ap (λ (q : Option Accepted). is_some q) none))
-      (λ broken. inr (broken-on told0 c c2 card (60 * (m.minute + 1)) s.number round-same.out broken))
-      (stands card in_).session
+    -- a card without a session was torn out or pulled out since
+    sessionless : (card : Card) → IsIn p card → session_of cabin.cards card ≡ None → Answered card
+    sessionless card in_ none = ⊎_elim
+        (λ some. no-both (is_some (session_of cabin.cards card)) some (ap (λ (q : Option Accepted). is_some q) none))
+        (λ broken. inr (broken-on told0 c c2 card (60 * (m.minute + 1)) s.number round-same.out broken))
+        (stands card in_).session
 
-  fell-here : (card : Card) → (v : Visit) × (v.card ≡ card) × Contains c2.torn v → Answered card
-  fell-here card v = inr (inr (late-enough, (v.0, v.1, inl v.2)))
+    fell-here : (card : Card) → (v : Visit) × (v.card ≡ card) × Contains c2.torn v → Answered card
+    fell-here card v = inr (inr (late-enough, (v.0, v.1, inl v.2)))
 
-  driver-answered : (card : Card) → p.driver ≡ Some card → Answered card
-  driver-answered card at = by round.driver refl
-    where
-      still-none : (q : Option Accepted) → IsFateOf q (kept_in (minute_of m k) Driver) Still → q ≡ None
-      still-none None f = refl
-      still-none (Some a) f = absurd f
+    driver-answered : (card : Card) → p.driver ≡ Some card → Answered card
+    driver-answered card at = by round.driver refl
+      where
+        still-none : (q : Option Accepted) → IsFateOf q (kept_in (minute_of m k) Driver) Still → q ≡ None
+        still-none None f = refl
+        still-none (Some a) f = absurd f
 
-      asked : IsFateOf (session_of cabin.cards card) (kept_in (minute_of m k) Driver) round.driver
-      asked = subst (λ (q : Option Card). IsFateOf (session_at cabin.cards q) (kept_in (minute_of m k) Driver) round.driver) at is.driver
+        asked : IsFateOf (session_of cabin.cards card) (kept_in (minute_of m k) Driver) round.driver
+        asked = subst (λ (q : Option Card). IsFateOf (session_at cabin.cards q) (kept_in (minute_of m k) Driver) round.driver) at is.driver
 
-      by : (fate : Fate) → round.driver ≡ fate → Answered card
-      by Still f = sessionless card (inl at) (still-none (session_of cabin.cards card) (subst (IsFateOf (session_of cabin.cards card) (kept_in (minute_of m k) Driver)) f asked))
-      by (Has a n) f = inl (
-        record { device = device_of card; minute = m.minute; clock = n },
-        Contains-append_left marks1 (marks_by round.codriver p.codriver m.minute) (record { device = device_of card; minute = m.minute; clock = n })
-            (mark-there round.driver p.driver card a n m.minute (t.marks.items ++ unit_mark m.minute round.clock ∷ []) f at),
-        refl,
-        refl,
-      )
-      by Fell f = let v = first-fate.torn card f at in fell-here card (v.0, v.1, second-fate.same.out.torn v.0 v.2)
+        by : (fate : Fate) → round.driver ≡ fate → Answered card
+        by Still f = sessionless card (inl at) (still-none (session_of cabin.cards card) (subst (IsFateOf (session_of cabin.cards card) (kept_in (minute_of m k) Driver)) f asked))
+        by (Has a n) f = inl (
+          record { device = device_of card; minute = m.minute; clock = n },
+          Contains-append_left marks1 (marks_by round.codriver p.codriver m.minute) (record { device = device_of card; minute = m.minute; clock = n })
+              (mark-there round.driver p.driver card a n m.minute (t.marks.items ++ unit_mark m.minute round.clock ∷ []) f at),
+          refl,
+          refl,
+        )
+        by Fell f = let v = first-fate.torn card f at in fell-here card (v.0, v.1, second-fate.same.out.torn v.0 v.2)
 
-  codriver-answered : IsFateOf (session_at cabin1.cards p.codriver) (kept_in (minute_of m k) CoDriver) round.codriver → (card : Card) → p.codriver ≡ Some card → is_this p.driver card ≡ false → Answered card
-  codriver-answered is_ card at ne = by round.codriver refl
-    where
-      still-none : (q : Option Accepted) → IsFateOf q (kept_in (minute_of m k) CoDriver) Still → q ≡ None
-      still-none None f = refl
-      still-none (Some a) f = absurd f
+    codriver-answered : IsFateOf (session_at cabin1.cards p.codriver) (kept_in (minute_of m k) CoDriver) round.codriver → (card : Card) → p.codriver ≡ Some card → is_this p.driver card ≡ false → Answered card
+    codriver-answered is_ card at ne = by round.codriver refl
+      where
+        still-none : (q : Option Accepted) → IsFateOf q (kept_in (minute_of m k) CoDriver) Still → q ≡ None
+        still-none None f = refl
+        still-none (Some a) f = absurd f
 
-      asked : IsFateOf (session_of cabin.cards card) (kept_in (minute_of m k) CoDriver) round.codriver
-      asked = subst (λ (q : Option Accepted). IsFateOf q (kept_in (minute_of m k) CoDriver) round.codriver) (other-session round.driver p.driver s.number cabin card ne)
-          (subst (λ (q : Option Card). IsFateOf (session_at cabin1.cards q) (kept_in (minute_of m k) CoDriver) round.codriver) at is_)
+        asked : IsFateOf (session_of cabin.cards card) (kept_in (minute_of m k) CoDriver) round.codriver
+        asked = subst (λ (q : Option Accepted). IsFateOf q (kept_in (minute_of m k) CoDriver) round.codriver) (other-session round.driver p.driver s.number cabin card ne)
+            (subst (λ (q : Option Card). IsFateOf (session_at cabin1.cards q) (kept_in (minute_of m k) CoDriver) round.codriver) at is_)
 
-      by : (fate : Fate) → round.codriver ≡ fate → Answered card
-      by Still f = sessionless card (inr at) (still-none (session_of cabin.cards card) (subst (IsFateOf (session_of cabin.cards card) (kept_in (minute_of m k) CoDriver)) f asked))
-      by (Has a n) f = inl (record { device = device_of card; minute = m.minute; clock = n }, mark-there round.codriver p.codriver card a n m.minute marks1 f at, refl, refl)
-      by Fell f = fell-here card (second-fate.torn card f at)
+        by : (fate : Fate) → round.codriver ≡ fate → Answered card
+        by Still f = sessionless card (inr at) (still-none (session_of cabin.cards card) (subst (IsFateOf (session_of cabin.cards card) (kept_in (minute_of m k) CoDriver)) f asked))
+        by (Has a n) f = inl (record { device = device_of card; minute = m.minute; clock = n }, mark-there round.codriver p.codriver card a n m.minute marks1 f at, refl, refl)
+        by Fell f = fell-here card (second-fate.torn card f at)
 
-  answered : IsFateOf (session_at cabin1.cards p.codriver) (kept_in (minute_of m k) CoDriver) round.codriver → (card : Card) (e : Entry) → Contains (on_card card i) e → Answered card
-  answered is_ card e at = ⊎_elim
-      (λ first_. driver-answered card (this-one p.driver card first_))
-      (λ not_first. ⊎_elim
-      (λ second_. codriver-answered is_ card (this-one p.codriver card second_) not_first)
-      (λ not_second.
-      let driver_ : i.driver.card ≡ p.driver = ap (λ (q : Present). q.driver) (sym present-is) in
-      let codriver_ : i.codriver.card ≡ p.codriver = ap (λ (q : Present). q.codriver) (sym present-is) in
-      absurd (⊎_elim
-      (λ a. nowhere (entry_in card Driver i i.driver) e (nothing-on card Driver i i.driver (ap (λ (q : Option Card). is_this q card) driver_ ∙ not_first)) a)
-      (λ a. nowhere (entry_in card CoDriver i i.codriver) e (nothing-on card CoDriver i i.codriver (ap (λ (q : Option Card). is_this q card) codriver_ ∙ not_second)) a)
-      (Contains-append_cases (entry_in card Driver i i.driver) (entry_in card CoDriver i i.codriver) e at)))
-      (this-or_not p.codriver card))
-      (this-or_not p.driver card)
-    where
-      none-in : (e : Entry) → Contains [] e → ⊥
-      none-in e none = omega (arith, none.1)
+    answered : IsFateOf (session_at cabin1.cards p.codriver) (kept_in (minute_of m k) CoDriver) round.codriver → (card : Card) (e : Entry) → Contains (on_card card i) e → Answered card
+    answered is_ card e at = ⊎_elim
+        (λ first_. driver-answered card (this-one p.driver card first_))
+        (λ not_first. ⊎_elim
+        (λ second_. codriver-answered is_ card (this-one p.codriver card second_) not_first)
+        (λ not_second.
+        let driver_ : i.driver.card ≡ p.driver = ap (λ (q : Present). q.driver) (sym present-is) in
+        let codriver_ : i.codriver.card ≡ p.codriver = ap (λ (q : Present). q.codriver) (sym present-is) in
+        absurd (⊎_elim
+        (λ a. nowhere (entry_in card Driver i i.driver) e (nothing-on card Driver i i.driver (ap (λ (q : Option Card). is_this q card) driver_ ∙ not_first)) a)
+        (λ a. nowhere (entry_in card CoDriver i i.codriver) e (nothing-on card CoDriver i i.codriver (ap (λ (q : Option Card). is_this q card) codriver_ ∙ not_second)) a)
+        (Contains-append_cases (entry_in card Driver i i.driver) (entry_in card CoDriver i i.codriver) e at)))
+        (this-or_not p.codriver card))
+        (this-or_not p.driver card)
+      where
+        none-in : (e : Entry) → Contains [] e → ⊥
+        none-in e none = omega (arith, none.1)
 
-      nowhere : (es : List Entry) (e : Entry) → es ≡ [] → Contains es e → ⊥
-      nowhere es e is at = none-in e (subst (λ (xs : List Entry). Contains xs e) is at)
+        nowhere : (es : List Entry) (e : Entry) → es ≡ [] → Contains es e → ⊥
+        nowhere es e is at = none-in e (subst (λ (xs : List Entry). Contains xs e) is at)
 
-  pub round-marked : IsFateOf (session_at cabin1.cards p.codriver) (kept_in (minute_of m k) CoDriver) round.codriver → AreMarkedSoFar t.marks.items told0 c s.number new → AreMarkedSoFar marks2 told0 c2 s.number (new ++ i ∷ [])
-  round-marked is_ old = one-marked marks2 told0 c2 s.number new i (marks-stay t.marks.items marks2 told0 c c2 s.number new old marks-on round-same.out) (unit_mark m.minute round.clock, unit-there, refl, refl) (answered is_)
+    pub round-marked : IsFateOf (session_at cabin1.cards p.codriver) (kept_in (minute_of m k) CoDriver) round.codriver → AreMarkedSoFar t.marks.items told0 c s.number new → AreMarkedSoFar marks2 told0 c2 s.number (new ++ i ∷ [])
+    round-marked is_ old = one-marked marks2 told0 c2 s.number new i (marks-stay t.marks.items marks2 told0 c c2 s.number new old marks-on round-same.out) (unit_mark m.minute round.clock, unit-there, refl, refl) (answered is_)
