@@ -38,13 +38,20 @@ use Rattle.run_keeping.specs.Minutes.{Told, or_nobody, present_at}
 use Rattle.run_keeping.specs.Decided.{MayBookAll, MayAllCome, decided_minute}
 use Rattle.run_within.specs.Recorded.{Values}
 use Rattle.run_within.specs.Within.{told_before, course_in}
-use Rattle.run_within.proofs.Cutting.{counted-part}
 use Rattle.run_rounds.specs.Rounds.{told_values, SoFar}
 use Rattle.run_rounds.specs.Laws.{InKeeping, carried_at, KeepsSo, TheMinutesMayBeBooked}
 
 all-behind : {X : Type 0} (P : X → Type 0) (xs ys : List X) → All P (xs ++ ys) → All P ys
 all-behind P [] ys h = h
 all-behind P (x ∷ xs) ys h = all-behind P xs ys (All-tail P x (xs ++ ys) h)
+
+-- minutes that follow one another, behind some of them
+counted-part : (xs ys : List Minute) (a : ℕ) → map (λ (m : Minute). m.minute) (xs ++ ys) ≡ count_from a (length (xs ++ ys)) → map (λ (m : Minute). m.minute) ys ≡ count_from (a + length xs) (length ys)
+counted-part [] ys a is = is ∙ ap (λ (n : ℕ). count_from n (length ys)) (omega arith)
+counted-part (x ∷ xs) ys a is =
+    let rest : map (λ (m : Minute). m.minute) (xs ++ ys) ≡ count_from (a + 1) (length (xs ++ ys)) = cc in
+    let e : a + 1 + length xs ≡ a + suc (length xs) = omega arith in
+    counted-part xs ys (a + 1) rest ∙ ap (λ (n : ℕ). count_from n (length ys)) e
 
 -- minutes that follow one another are not earlier than the first
 low-all : (xs : List Minute) (from : ℕ) → map (λ (m : Minute). m.minute) xs ≡ count_from from (length xs) → All (λ (m : Minute). from ≤ m.minute) xs

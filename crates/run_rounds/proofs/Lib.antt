@@ -5,3 +5,4 @@ pub mod Reached
 pub mod Begun
 pub mod Whole
 pub mod Cut
+pub mod Broken

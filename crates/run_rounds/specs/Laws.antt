@@ -1,18 +1,20 @@
 -- What the keeping of decided minutes makes of the record within a second, with cards that are torn out, and where the unit fails (profile).
-use Rattle.std.specs.Prelude.{◌≡◌, ◌⊎◌, ℕ, ◌+◌, ◌/◌, ◌≤◌, Option, Some, None, List, [], ◌∷◌, ◌++◌, map}
+use Rattle.std.specs.Prelude.{◌≡◌, ◌⊎◌, ℕ, ◌+◌, ◌/◌, ◌≤◌, Option, Some, None, List, [], ◌∷◌, ◌++◌, map, true, is_some}
 use Rattle.trace_model.specs.declared.Card.{Card}
 use Rattle.trace_model.specs.Trace.{TraceSecond}
 use Rattle.run_model.specs.declared.Device.{Device}
 use Rattle.run_model.specs.declared.Device.TheVariants.{Unit as Recorder}
 use Rattle.minute_model.specs.declared.Minute.{Minute}
 use Rattle.log_model.specs.Log.{Phase, Keeping}
-use Rattle.log_model.specs.Causes.{RoseBy}
+use Rattle.log_model.specs.Causes.{device_of, RoseBy}
 use Rattle.log_model.specs.Course.{Visit}
 use Rattle.history_model.specs.Book.{kept, broken}
 use Rattle.unit_course.specs.Legs.{Travel, travelled, stranded, all_travelled}
 use Rattle.unit_model.specs.Image.{odometer_at}
 use Rattle.unit_rule.specs.Odometer.{HasTravelled}
 use Rattle.safety_model.specs.Safe.{Devices, breakdowns_of}
+use Rattle.run_crew.specs.declared.cards.Cards.{Cards}
+use Rattle.run_crew.specs.Cards.{session_of}
 use Rattle.run_crew.specs.Cabin.{AreTwo}
 use Rattle.run_rule.specs.Between.{Carried}
 use Rattle.run_course.specs.Seconds.{kept_all}
@@ -68,6 +70,10 @@ abbrev pub HasBrokenLast : Keeper → Minute → Option Round → (first last : 
 HasBrokenLast k m None first last = Unit {0}
 HasBrokenLast k m (Some round) first last =
     HasBrokenDown round.driver (present_at k.cabin m.minute).driver first last × HasBrokenDown round.codriver (present_at k.cabin m.minute).codriver first last
+
+-- each card that has lost its session broke down
+abbrev pub AreGone : (old new : Cards) → (first last : Device → ℕ) → Type 0
+AreGone old new first last = (card : Card) → is_some (session_of old card) ≡ true → session_of new card ≡ None → RoseBy 1 (first (device_of card)) (last (device_of card))
 
 -- how the unit failed in a minute: it was not begun, or was; or it is kept, and a card was torn out
 abbrev pub IsCutSo : Origin → Keeper → Minute → Option Round → Carried → Travel → Devices → Type 0
