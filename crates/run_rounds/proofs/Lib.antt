@@ -6,3 +6,4 @@ pub mod Begun
 pub mod Whole
 pub mod Cut
 pub mod Broken
+pub mod Kept

@@ -1,7 +1,8 @@
 -- What the keeping of decided minutes makes of the record within a second, with cards that are torn out, and where the unit fails (profile).
-use Rattle.std.specs.Prelude.{◌≡◌, ◌⊎◌, ℕ, ◌+◌, ◌/◌, ◌≤◌, Option, Some, None, List, [], ◌∷◌, ◌++◌, map, true, is_some}
+use Rattle.std.specs.Prelude.{◌≡◌, ◌⊎◌, ℕ, ◌+◌, ◌-◌, ◌/◌, ◌≤◌, Bool, false, Option, Some, None, List, [], ◌∷◌, ◌++◌, map, true, is_some}
 use Rattle.trace_model.specs.declared.Card.{Card}
 use Rattle.trace_model.specs.Trace.{TraceSecond}
+use Rattle.tach_media.specs.Medium.{HasBroken}
 use Rattle.run_model.specs.declared.Device.{Device}
 use Rattle.run_model.specs.declared.Device.TheVariants.{Unit as Recorder}
 use Rattle.minute_model.specs.declared.Minute.{Minute}
@@ -16,6 +17,7 @@ use Rattle.safety_model.specs.Safe.{Devices, breakdowns_of}
 use Rattle.run_crew.specs.declared.cards.Cards.{Cards}
 use Rattle.run_crew.specs.Cards.{session_of}
 use Rattle.run_crew.specs.Cabin.{AreTwo}
+use Rattle.run_rule.specs.Found.{Found}
 use Rattle.run_rule.specs.Between.{Carried}
 use Rattle.run_course.specs.Seconds.{kept_all}
 use Rattle.run_moments.specs.Telling.{IsMore}
@@ -23,7 +25,8 @@ use Rattle.run_told.specs.Told.{IsPowerless}
 use Rattle.run_recorded.specs.Origin.{Origin}
 use Rattle.run_recorded.specs.Beside.{HaveLeftMore}
 use Rattle.run_keeping.specs.declared.keeper.Keeper.{Keeper}
-use Rattle.run_keeping.specs.Minutes.{Round, Told, Done, AreRounds, IsLast, told_by, present_at}
+use Rattle.run_keeping.specs.Minutes.{Round, Told, Done, Reach, Whole, Short, AreRounds, IsLast, IsReach, told_by, present_at}
+use Rattle.run_keeping.specs.Keeping.{tears_of}
 use Rattle.run_keeping.specs.Books.{AreBooked, carried_after, carried_broken}
 use Rattle.run_keeping.specs.Decided.{MayBookAll, carried_by, decided_minute}
 use Rattle.run_within.specs.Recorded.{Values, carried}
@@ -76,16 +79,40 @@ abbrev pub AreGone : (old new : Cards) → (first last : Device → ℕ) → Typ
 AreGone old new first last = (card : Card) → is_some (session_of old card) ≡ true → session_of new card ≡ None → RoseBy 1 (first (device_of card)) (last (device_of card))
 
 -- how the unit failed in a minute: it was not begun, or was; or it is kept, and a card was torn out
-abbrev pub IsCutSo : Origin → Keeper → Minute → Option Round → Carried → Travel → Devices → Type 0
-IsCutSo o k m None w g e = (IsPowerless o.found w e × HasTravelled (odometer_at o.recording.unit) w.book g e.unit)
-    ⊎ (IsPowerless o.found (carried_broken (decided_minute k m) w) e × HasTravelled (odometer_at o.recording.unit) (broken (decided_minute k m) w.book) (stranded m.travelled g) e.unit)
-IsCutSo o k m (Some round) w g e = IsPowerless o.found (carried_after (present_at k.cabin m.minute) (decided_minute k m) round w) e
-    × HasTravelled (odometer_at o.recording.unit) (kept (decided_minute k m) w.book) (travelled m.travelled g) e.unit
+abbrev pub IsCutSo : Found → (start : ℕ) → Keeper → Minute → Option Round → Carried → Travel → Devices → Type 0
+IsCutSo f start k m None w g e = (IsPowerless f w e × HasTravelled start w.book g e.unit)
+    ⊎ (IsPowerless f (carried_broken (decided_minute k m) w) e × HasTravelled start (broken (decided_minute k m) w.book) (stranded m.travelled g) e.unit)
+IsCutSo f start k m (Some round) w g e = IsPowerless f (carried_after (present_at k.cabin m.minute) (decided_minute k m) round w) e × HasTravelled start (kept (decided_minute k m) w.book) (travelled m.travelled g) e.unit
 
 -- OR THE UNIT FAILS in one, behind these: the power is about to be cut.
 abbrev pub TheKeepingFails : (d e : Devices) → Type 0
 TheKeepingFails d e = (o : Origin) (done : List TraceSecond) (s : TraceSecond) (all : List Minute) (t u : Told) (v : Values) → (w : InKeeping o done s all t v d) → KeepsSo o done s all t v d e w →
     (xs : List Done) (m : Minute) (rest : List Minute) (round : Option Round) → all ≡ map (λ (x : Done). x.minute) xs ++ m ∷ rest → AreRounds t.keeper (keeping_of s) xs t → HaveBroken t.keeper xs (breakdowns_of d) (breakdowns_of e) →
     IsLast t.keeper m (keeping_of s) (told_by t.keeper (keeping_of s) xs t) u round → HasBrokenLast t.keeper m round (breakdowns_of d) (breakdowns_of e) → RoseBy 1 (breakdowns_of d Recorder) (breakdowns_of e Recorder) →
-    IsCutSo o t.keeper m round (carried_by t.keeper xs (carried_at o done s all t v d w)) (travelled_at o done s all t v d w xs) e →
+    IsCutSo o.found (odometer_at o.recording.unit) t.keeper m round (carried_by t.keeper xs (carried_at o done s all t v d w)) (travelled_at o done s all t v d w xs) e →
     CutWithin o done s Keeping [] (Some s.speed) (told_values u v) e
+
+-- ---- by how far it came
+
+-- WHAT IS LEFT of unit and cards by how far a keeping came, and what was travelled up to there
+abbrev pub EndsAll : Found → (start : ℕ) → Carried → Keeper → (failed : Bool) → Reach → Travel → (u : Told) → Devices → Type 0
+EndsAll f start w k false (Whole xs) g u e = AreBooked f (carried_by k xs w) u.keeper.cabin.cards u.marks.items e × HasTravelled start (carried_by k xs w).book (all_travelled (map (λ (x : Done). x.minute) xs) g) e.unit
+EndsAll f start w k false (Short xs m round) g u e = ⊥
+EndsAll f start w k true (Whole xs) g u e = ⊥
+EndsAll f start w k true (Short xs m round) g u e = IsCutSo f start k m round (carried_by k xs w) (all_travelled (map (λ (x : Done). x.minute) xs) g) e
+
+-- each card broke down as often as it was torn out
+pub record HaveBrokenOff (t u : Told) (d e : Devices) : Type 0 where
+  pub a : HasBroken d.card_a e.card_a (tears_of t.keeper.cabin.cards.a.accepted - tears_of u.keeper.cabin.cards.a.accepted)
+  pub b : HasBroken d.card_b e.card_b (tears_of t.keeper.cabin.cards.b.accepted - tears_of u.keeper.cabin.cards.b.accepted)
+
+-- the record behind a keeping: nothing is still to be kept, or the power is about to be cut
+abbrev pub IsKeptTo : (failed : Bool) → Origin → List TraceSecond → TraceSecond → Told → Values → Devices → Type 0
+IsKeptTo false o done s u v e = InKeeping o done s [] u v e
+IsKeptTo true o done s u v e = CutWithin o done s Keeping [] (Some s.speed) (told_values u v) e
+
+-- A KEEPING IS RECORDED, as far as it came.
+abbrev pub TheKeepingIsRecorded : (d e : Devices) → Type 0
+TheKeepingIsRecorded d e = (o : Origin) (done : List TraceSecond) (s : TraceSecond) (all : List Minute) (t u : Told) (v : Values) → (w : InKeeping o done s all t v d) → KeepsSo o done s all t v d e w →
+    (failed : Bool) (reach : Reach) → IsReach all (keeping_of s) failed t u reach → HaveBrokenOff t u d e → (failed ≡ true → RoseBy 1 (breakdowns_of d Recorder) (breakdowns_of e Recorder)) →
+    EndsAll o.found (odometer_at o.recording.unit) (carried_at o done s all t v d w) t.keeper failed reach (all_travelled w.ds w.b.travel) u e → IsKeptTo failed o done s u v e

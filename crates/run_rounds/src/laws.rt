@@ -1,5 +1,5 @@
 ghost use Rattle.run_rule.specs.Between.{devices};
-ghost use Rattle.run_rounds.specs.Laws.{TheMinutesMayBeBooked, TheMinutesAreKept, TheKeepingFails};
+ghost use Rattle.run_rounds.specs.Laws.{TheMinutesMayBeBooked, TheMinutesAreKept, TheKeepingFails, TheKeepingIsRecorded};
 
 use tach_media::{Chip, Medium};
 
@@ -30,4 +30,16 @@ pub fn the_keeping_fails<M: Medium, C: Chip, D: Chip, N: Medium, E: Chip, F: Chi
     card_b: &F,
 )
     ensures { TheKeepingFails (devices (M.state old_unit.now) (C.state old_a.now) (D.state old_b.now)) (devices (N.state unit.now) (E.state card_a.now) (F.state card_b.now)) }
+{}
+
+/// A keeping is recorded, as far as it came.
+pub fn the_keeping_is_recorded<M: Medium, C: Chip, D: Chip, N: Medium, E: Chip, F: Chip>(
+    old_unit: &M,
+    old_a: &C,
+    old_b: &D,
+    unit: &N,
+    card_a: &E,
+    card_b: &F,
+)
+    ensures { TheKeepingIsRecorded (devices (M.state old_unit.now) (C.state old_a.now) (D.state old_b.now)) (devices (N.state unit.now) (E.state card_a.now) (F.state card_b.now)) }
 {}

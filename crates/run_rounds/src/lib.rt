@@ -3,4 +3,6 @@
 
 mod laws;
 
-pub use laws::{the_keeping_fails, the_minutes_are_kept, the_minutes_may_be_booked};
+pub use laws::{
+    the_keeping_fails, the_keeping_is_recorded, the_minutes_are_kept, the_minutes_may_be_booked,
+};
