@@ -170,7 +170,7 @@ sits-since : (k : Slate_) (minute : ℕ) (present : Present) (slot : Slot) (card
 sits-since k minute present Driver card h is = subst (SitsSince k Driver minute) is h.driver
 sits-since k minute present CoDriver card h is = subst (SitsSince k CoDriver minute) is h.codriver
 
-low-too : (low m : ℕ) (o : Option ℕ) → low ≤ m → IfSome o (λ left. left ≤ low) → IfSome o (λ left. left ≤ m)
+pub low-too : (low m : ℕ) (o : Option ℕ) → low ≤ m → IfSome o (λ left. left ≤ low) → IfSome o (λ left. left ≤ m)
 low-too low m None le h = tt
 low-too low m (Some left) le h = omega (arith, le, h)
 

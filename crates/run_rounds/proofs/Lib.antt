@@ -7,3 +7,4 @@ pub mod Whole
 pub mod Cut
 pub mod Broken
 pub mod Kept
+pub mod Back

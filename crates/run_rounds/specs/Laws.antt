@@ -8,17 +8,22 @@ use Rattle.run_model.specs.declared.Device.TheVariants.{Unit as Recorder}
 use Rattle.minute_model.specs.declared.Minute.{Minute}
 use Rattle.log_model.specs.Log.{Phase, Keeping}
 use Rattle.log_model.specs.Causes.{device_of, RoseBy}
-use Rattle.log_model.specs.Course.{Visit}
+use Rattle.log_model.specs.Slots.{Slots}
+use Rattle.log_model.specs.Course.{Told as Second, Visit}
+use Rattle.history_model.specs.Minutes.{HistoryMinute}
+use Rattle.history_model.specs.Presence.{Start}
 use Rattle.history_model.specs.Book.{kept, broken}
 use Rattle.unit_course.specs.Legs.{Travel, travelled, stranded, all_travelled}
 use Rattle.unit_model.specs.Image.{odometer_at}
 use Rattle.unit_rule.specs.Odometer.{HasTravelled}
 use Rattle.safety_model.specs.Safe.{Devices, breakdowns_of}
+use Rattle.run_crew.specs.declared.cabin.Cabin.{Cabin}
 use Rattle.run_crew.specs.declared.cards.Cards.{Cards}
 use Rattle.run_crew.specs.Cards.{session_of}
 use Rattle.run_crew.specs.Cabin.{AreTwo}
 use Rattle.run_rule.specs.Found.{Found}
 use Rattle.run_rule.specs.Between.{Carried}
+use Rattle.run_course.specs.Presence.{SlotsTell}
 use Rattle.run_course.specs.Seconds.{kept_all}
 use Rattle.run_moments.specs.Telling.{IsMore}
 use Rattle.run_told.specs.Told.{IsPowerless}
@@ -116,3 +121,19 @@ abbrev pub TheKeepingIsRecorded : (d e : Devices) → Type 0
 TheKeepingIsRecorded d e = (o : Origin) (done : List TraceSecond) (s : TraceSecond) (all : List Minute) (t u : Told) (v : Values) → (w : InKeeping o done s all t v d) → KeepsSo o done s all t v d e w →
     (failed : Bool) (reach : Reach) → IsReach all (keeping_of s) failed t u reach → HaveBrokenOff t u d e → (failed ≡ true → RoseBy 1 (breakdowns_of d Recorder) (breakdowns_of e Recorder)) →
     EndsAll o.found (odometer_at o.recording.unit) (carried_at o done s all t v d w) t.keeper failed reach (all_travelled w.ds w.b.travel) u e → IsKeptTo failed o done s u v e
+
+-- ---- who is back
+
+-- THE CARDS ARE BACK where all minutes before this one are kept, as behind a settling;
+abbrev pub TheyAreBackByNow : Type 0
+TheyAreBackByNow = (start : Start) (seconds : List Second) (past : List HistoryMinute) (left : List Card) (number from : ℕ) (slots : Slots) (cabin : Cabin) → SlotsTell start seconds past left number from slots cabin.slots → AreBack (number / 60) cabin
+
+-- and later on;
+abbrev pub TheyAreBackLater : Type 0
+TheyAreBackLater = (low next : ℕ) (cabin : Cabin) → low ≤ next → AreBack low cabin → AreBack next cabin
+
+-- and behind a keeping.
+abbrev pub TheyStayBack : (d e : Devices) → Type 0
+TheyStayBack d e = (o : Origin) (done : List TraceSecond) (s : TraceSecond) (all : List Minute) (t : Told) (v : Values) → (w : InKeeping o done s all t v d) → KeepsSo o done s all t v d e w →
+    (xs : List Done) (rest : List Minute) → all ≡ map (λ (x : Done). x.minute) xs ++ rest → AreRounds t.keeper (keeping_of s) xs t → HaveBroken t.keeper xs (breakdowns_of d) (breakdowns_of e) →
+    AreBack w.from (told_by t.keeper (keeping_of s) xs t).keeper.cabin
