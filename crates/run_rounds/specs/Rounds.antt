@@ -1,0 +1,107 @@
+-- What the rounds of a keeping make of the record within a second (profile): of its values, told or not, and of unit and cards.
+use Rattle.std.specs.Prelude.{◌≡◌, All, map, ◌⊎◌, ℕ, suc, ◌+◌, ◌*◌, ◌/◌, ◌<◌, ◌≤◌, Bool, true, false, Option, Some, None, IfSome, List, [], ◌∷◌, ◌++◌, Contains, length, is_some, if◌then◌else◌}
+use Rattle.activity_codec.specs.declared.values.Slot.{Slot}
+use Rattle.trace_model.specs.declared.Card.{Card}
+use Rattle.trace_model.specs.declared.Card.TheVariants.{A, B}
+use Rattle.trace_model.specs.Trace.{TraceSecond}
+use Rattle.run_model.specs.declared.Device.{Device}
+use Rattle.minute_model.specs.declared.Minute.{Minute}
+use Rattle.minute_model.specs.Span.{Span, count_from, ungiven_of}
+use Rattle.log_model.specs.declared.lines.Break.{Break}
+use Rattle.log_model.specs.declared.lines.Mark.{Mark}
+use Rattle.log_model.specs.Log.{RunLog, Keeping}
+use Rattle.log_model.specs.Causes.{device_of, RoseBy}
+use Rattle.log_model.specs.Course.{Course, Visit, went}
+use Rattle.history_model.specs.Minutes.{HistoryMinute}
+use Rattle.joint_rule.specs.Rules.{Standing}
+use Rattle.unit_course.specs.Turn.{span_at}
+use Rattle.slot_machine.specs.declared.seats.Present.{Present}
+use Rattle.slot_machine.specs.Kept.{left_of}
+use Rattle.run_crew.specs.declared.cabin.Cabin.{Cabin}
+use Rattle.run_crew.specs.Cards.{session_of}
+use Rattle.run_rule.specs.Between.{Carried}
+use Rattle.run_course.specs.Presence.{SlotsTell}
+use Rattle.run_course.specs.Seconds.{kept_all}
+use Rattle.run_moments.specs.Moment.{Moment}
+use Rattle.run_moments.specs.Telling.{IsMore}
+use Rattle.run_moments.specs.Kept.{StaysOut, HasDecided}
+use Rattle.run_present.specs.Presence.{PresentStand, SessionsStand}
+use Rattle.run_recorded.specs.Origin.{Origin, rule_of, start_at}
+use Rattle.run_told.specs.Told.{AreFoundCards, AreEarly}
+use Rattle.run_keeping.specs.declared.keeper.Moment.{Moment as KeepingAt}
+use Rattle.run_keeping.specs.Keeping.{Fate, Fell, is_this}
+use Rattle.run_keeping.specs.declared.keeper.Keeper.{Keeper}
+use Rattle.run_keeping.specs.Minutes.{Told, Round, Done, present_at}
+use Rattle.run_keeping.specs.Books.{standing_by}
+use Rattle.run_within.specs.Recorded.{Values}
+use Rattle.run_within.specs.Within.{Beginning, told_before, course_in}
+
+-- what a run has by value, where keeper, marks and breaks are these
+abbrev pub told_values : Told → Values → Values
+told_values t v = record v { log = record v.log { breaks = t.breaks.items }; marks = t.marks.items; cabin = t.keeper.cabin }
+
+-- the keeping of a second: its tears are told as late ones, with all actions begun
+abbrev pub keeping_of : TraceSecond → KeepingAt
+keeping_of s = record { second = s.number; begun = length s.actions; late = true }
+
+-- a card with a session left a slot last no later than in this minute
+abbrev pub AreBack : (low : ℕ) → Cabin → Type 0
+AreBack low cabin = (card : Card) → is_some (session_of cabin.cards card) ≡ true → IfSome (left_of cabin.slots.left card) (λ left. left ≤ low)
+
+-- how the cards stand behind what became of the entry of the one that was present
+abbrev pub standing_card : Fate → Option Card → (minute : ℕ) → (Card → Standing) → Card → Standing
+standing_card fate present minute standing c = if is_this present c then standing_by fate minute (standing c) else standing c
+
+-- a log with these breaks more
+abbrev pub and_breaks : RunLog → List Break → RunLog
+and_breaks log more = record log { breaks = log.breaks ++ more }
+
+-- SLOTS AND LOG in the keeping of a second, where the minutes before `from` are kept and the breakdowns will have risen from `first` to
+-- `last`: the log tells of each card that was torn out, and so the slots have those that sit, and tell who was present and stands so.
+pub record Slate (o : Origin) (done : List TraceSecond) (s : TraceSecond) (b : Beginning) (low from : ℕ) (past : List HistoryMinute) (log : RunLog) (standing : Card → Standing) (cabin : Cabin) (first last : Device → ℕ) : Type 0 where
+  pub now : Device → ℕ
+  pub moment : Moment b.run (went b.run.log done).before s Keeping log [] b.broken now
+  pub rise : IsMore now last
+  pub rests : (card : Card) → is_some (session_of cabin.cards card) ≡ true → now (device_of card) ≡ first (device_of card)
+  pub tells : SlotsTell (start_at o) (told_before b done) past (course_in b done s Keeping log).left s.number from (course_in b done s Keeping log).slots cabin.slots
+  pub present : PresentStand o.found standing (told_before b done) (course_in b done s Keeping log) s.number from cabin
+  pub sessions : SessionsStand o.found standing cabin.cards
+  pub back : AreBack low cabin
+
+-- of a second's course nothing has changed but its slots, leavings and tears
+pub record OnlyTears (old new : Course) : Type 0 where
+  pub picks : new.picks ≡ old.picks
+  pub settled : new.settled ≡ old.settled
+  pub found : new.found ≡ old.found
+  pub entered : new.entered ≡ old.entered
+  pub out : StaysOut old new
+
+-- a card that was torn out broke down
+abbrev pub HasBrokenDown : Fate → Option Card → (first last : Device → ℕ) → Type 0
+HasBrokenDown fate present first last = fate ≡ Fell → IfSome present (λ card. RoseBy 1 (first (device_of card)) (last (device_of card)))
+
+-- so did each that was torn out in some rounds
+abbrev pub HaveBroken : Keeper → List Done → (first last : Device → ℕ) → Type 0
+HaveBroken k [] first last = Unit {0}
+HaveBroken k (x ∷ xs) first last =
+    HasBrokenDown x.round.driver (present_at k.cabin x.minute.minute).driver first last × HasBrokenDown x.round.codriver (present_at k.cabin x.minute.minute).codriver first last × HaveBroken k xs first last
+
+-- HOW FAR A KEEPING HAS GONE, by value, where this was the keeper before it, these its marks and this the course: these minutes are kept,
+-- and these, each over as the second begins, are still to be kept; and so much is carried of unit and cards.
+pub record SoFar (o : Origin) (done : List TraceSecond) (s : TraceSecond) (b : Beginning) (low : ℕ) (first last : Device → ℕ) (k : Keeper) (sp : Span) (v : Values) (marks : List Mark) (old : Course) (brought : Card → List ℕ)
+    (t : Told) (w : Carried) (ds rest : List Minute) (new : List HistoryMinute) (from : ℕ) : Type 0 where
+  pub slate : Slate o done s b low from (b.run.book.sure ++ new) (told_values t v).log w.standing t.keeper.cabin first last
+  pub past : t.keeper.cabin.slots.past ≡ k.cabin.slots.past
+  pub decided : HasDecided (rule_of o) (start_at o) (told_before b done) b.run b.span (course_in b done s Keeping (told_values t v).log) (Some s.speed) sp ds rest new
+  pub numbers : map (λ (m : Minute). m.minute) rest ≡ count_from from (length rest)
+  pub over : All (λ (m : Minute). m.minute < s.number / 60) rest
+  pub high : low ≤ from
+  pub to : from ≡ ungiven_of (span_at (rule_of o) b.run.next b.span) + length ds
+  pub until : from + length rest ≡ ungiven_of sp
+  pub stay : (mark : Mark) → Contains marks mark → Contains t.marks.items mark
+  pub same : OnlyTears old (course_in b done s Keeping (told_values t v).log)
+  pub due : w.due ≤ from
+  pub book : w.book ≡ kept_all new b.run.book
+  pub brought_is : w.brought ≡ brought
+  pub early : AreEarly w
+  pub found : AreFoundCards o.found t.keeper.cabin.cards
