@@ -1,5 +1,5 @@
 //! A card leaves its slot by hand: it is withdrawn, or pulled out.
-ghost use Rattle.std.specs.Prelude.{◌≡◌, ◌≢◌, ℕ, ◌+◌, ◌*◌, ◌/◌, ◌<◌, ◌≤◌, List, Option, Some, None, IfSome, OnOk, length, is_err};
+ghost use Rattle.std.specs.Prelude.{◌≡◌, ◌≢◌, ℕ, ◌+◌, ◌*◌, ◌/◌, ◌<◌, ◌≤◌, ◌++◌, not, List, Option, Some, None, IfSome, OnOk, length, is_some, is_err};
 ghost use Rattle.trace_model.specs.declared.Card.{Card};
 ghost use Rattle.activity_codec.specs.declared.values.Activity.{Activity};
 ghost use Rattle.tach_media.specs.Medium.{LeavesOnly, HasCause, HasBroken};
@@ -16,7 +16,13 @@ ghost use Rattle.run_keeping.specs.Keeping.{UnitReady, CardReady, HasItsRow, tea
 ghost use Rattle.run_power.specs.declared.run.Power.TheVariants.{Lit};
 ghost use Rattle.run_power.specs.Going.{first_second, end_of_seconds, IsHeld, IsLit};
 ghost use Rattle.run_power.specs.Room.{falls_of, Takes};
-ghost use Rattle.run_acts.specs.Acting.{Closing, IsClosed, closed_falls, IsWithdrawn, pulled_run, pulled_breaks};
+ghost use Rattle.minute_model.specs.declared.Minute.{Minute};
+ghost use Rattle.minute_model.specs.Span.{Span, settled, decided_in};
+ghost use Rattle.minute_rules.specs.Kept.{StandsFor};
+ghost use Rattle.run_rule.specs.Between.{devices};
+ghost use Rattle.run_keeping.specs.Minutes.{Told, Reach, IsReach};
+ghost use Rattle.run_acts.specs.Acting.{Closing, IsClosed, closed_falls, IsWithdrawn, left_run, pulled_run, pulled_breaks, told_of};
+ghost use Rattle.run_acts.specs.Behind.{BooksWithdrawn};
 
 use crate::settling::settle;
 use activity_codec::Slot;
@@ -58,6 +64,10 @@ pub fn withdraw<M: Medium, C: Chip, D: Chip>(
     ensures withdrawn { IsWithdrawn (card_in (seat_in run.old.keeper.cabin.slots.seats slot)) slot at (is_err result) run.old run.new outcome.old outcome.new }
     ensures only { run.new ≡ record run.old { minutes = run.new.minutes; keeper = run.new.keeper } }
     ensures rest { outcome.new ≡ record outcome.old { marks = outcome.new.marks; breaks = outcome.new.breaks } }
+    ensures booked { (card : Card) → card_in (seat_in run.old.keeper.cabin.slots.seats slot) ≡ Some card → (decided : List Minute) × (reach : Reach) × (closing : Option Closing) × (between : Told)
+        × ((span : Span) → StandsFor run.old.minutes span → decided_in (settled span) ≡ decided_in span ++ decided)
+        × IsReach decided at (not (is_some closing)) (told_of (left_run slot at.second run.old) outcome.old) between reach
+        × BooksWithdrawn card decided (is_err result) reach closing (told_of (left_run slot at.second run.old) outcome.old) (told_of run.new outcome.new) (devices (M.state unit.old) (C.state card_a.old) (D.state card_b.old)) (devices (M.state unit.new) (C.state card_a.new) (D.state card_b.new)) }
     ensures held { IsHeld (run.new.next / 60) run.new (M.state unit.new) (C.card card_a.new) (D.card card_b.new) (C.state card_a.new) (D.state card_b.new) }
     ensures going { OnOk result (IsLit (run.new.next / 60) run.new (M.state unit.new) (C.card card_a.new) (D.card card_b.new) (C.state card_a.new) (D.state card_b.new)) }
     ensures takes { Takes 0 0 0 run.old run.new outcome.old outcome.new }

@@ -4,7 +4,7 @@ use Rattle.activity_codec.specs.declared.values.Slot.{Slot}
 use Rattle.activity_codec.specs.declared.values.Pick.{Pick}
 use Rattle.trace_model.specs.declared.Card.{Card}
 use Rattle.trace_model.specs.declared.Action.{Action}
-use Rattle.trace_model.specs.declared.Action.TheVariants.{Select}
+use Rattle.trace_model.specs.declared.Action.TheVariants.{Select, Place}
 use Rattle.trace_model.specs.Trace.{TraceSecond}
 use Rattle.minute_model.specs.Span.{Span, picked, ungiven_of}
 use Rattle.minute_rules.specs.Kept.{Kept, StandsFor}
@@ -23,7 +23,7 @@ use Rattle.run_moments.proofs.Kept.{selection-heard, nothing-else}
 use Rattle.run_recorded.specs.Origin.{Origin, rule_of, start_at}
 use Rattle.run_present.specs.Presence.{PresentStand}
 use Rattle.run_within.specs.Recorded.{Values}
-use Rattle.run_within.specs.Within.{told_before, course_in, IsFoundSo, IsSparedSo, Within, refused_values, heard_values, ARefusalIsRecorded, ASelectionIsRecorded}
+use Rattle.run_within.specs.Within.{told_before, course_in, IsFoundSo, IsSparedSo, Within, refused_values, heard_values, ARefusalIsRecorded, ASelectionIsRecorded, APlaceIsRecorded}
 
 module _ (o : Origin) (done : List TraceSecond) (s : TraceSecond) (at : Phase) (v : Values) (d : Devices) (w : Within o done s at [] None [] v d) where
   abbrev p : Progress
@@ -94,3 +94,10 @@ selection-recorded d o done s v front slot pick rest are w is minutes stands =
     let done_ = action-done p (went p.log done).before s v.log w.b.broken (breakdowns_of d) front (Select slot pick) rest are w.moment refl is in
     acted o done s (In (length front)) v d w v.log (In (suc (length front))) (c.picks ++ (slot, pick) ∷ []) c.refused minutes (picked w.sp slot pick) done_.0 done_.1 stands refl
     (selection-heard (rule_of o) (start_at o) (told_before w.b done) p w.b.span c (record c { picks = c.picks ++ (slot, pick) ∷ [] }) w.sp w.ds [] w.new w.decided slot pick refl refl)
+
+pub place-recorded : (d : Devices) → APlaceIsRecorded d
+place-recorded d o done s v front slot ending country region rest are w is =
+    let p : Progress = w.b.run in
+    let c : Course = course_in w.b done s (In (length front)) v.log in
+    let done_ = action-done p (went p.log done).before s v.log w.b.broken (breakdowns_of d) front (Place slot ending country region) rest are w.moment refl is in
+    acted o done s (In (length front)) v d w v.log (In (suc (length front))) c.picks c.refused v.minutes w.sp done_.0 done_.1 w.minutes refl w.decided

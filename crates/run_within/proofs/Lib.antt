@@ -5,4 +5,5 @@ pub mod Beginning
 pub mod Feeding
 pub mod Rounds
 pub mod Acting
+pub mod Steps
 pub mod Ending

@@ -41,7 +41,7 @@ use Rattle.run_within.specs.Recorded.{Values, carried}
 use Rattle.run_within.specs.Within.{told_before, course_in, VerdictBy, often, IsFoundSo, IsSparedSo, Within, minute_next, kept_values, IsOneKept, AMinuteIsKeptSo}
 
 -- what was found may be found as more was left
-verdict-left : (o : Origin) (n : ℕ) (unit card more_unit more_card : List ℕ → Type 0) → ((x : List ℕ) → unit x → more_unit x) → ((x : List ℕ) → card x → more_card x) → (c : Card) (u : ℕ) (v : Verdict) →
+pub verdict-left : (o : Origin) (n : ℕ) (unit card more_unit more_card : List ℕ → Type 0) → ((x : List ℕ) → unit x → more_unit x) → ((x : List ℕ) → card x → more_card x) → (c : Card) (u : ℕ) (v : Verdict) →
     VerdictBy o n unit card c u v → VerdictBy o n more_unit more_card c u v
 verdict-left o n unit card more_unit more_card on_unit on_card c u (Accepted replayed) h =
     (h.0, h.1, (h.2.0, h.2.1, on_unit h.2.0 h.2.2, on_card h.2.1 h.2.3, h.2.4, h.2.5))
@@ -49,7 +49,7 @@ verdict-left o n unit card more_unit more_card on_unit on_card c u (NotValid fid
 verdict-left o n unit card more_unit more_card on_unit on_card c u (TimeOverlap stored now) h =
     (h.0, h.1, (h.2.0, ⊎_elim (λ first. inl first) (λ again. inr (again.0, again.1, again.2, (again.3.0, on_card again.3.0 again.3.1, again.3.2))) h.2.1))
 
-seen-left : (o : Origin) (done : List TraceSecond) (log : RunLog) (unit card more_unit more_card : List ℕ → Type 0) → ((x : List ℕ) → unit x → more_unit x) → ((x : List ℕ) → card x → more_card x) → (c : Card) (u : ℕ) (v : Verdict) →
+pub seen-left : (o : Origin) (done : List TraceSecond) (log : RunLog) (unit card more_unit more_card : List ℕ → Type 0) → ((x : List ℕ) → unit x → more_unit x) → ((x : List ℕ) → card x → more_card x) → (c : Card) (u : ℕ) (v : Verdict) →
     IsVerdict (recording_by o done log) unit card c u v → IsVerdict (recording_by o done log) more_unit more_card c u v
 seen-left o done log unit card more_unit more_card on_unit on_card c u (Accepted replayed) h =
     (h.0, h.1, (h.2.0, h.2.1, on_unit h.2.0 h.2.2, on_card h.2.1 h.2.3, h.2.4, h.2.5))
@@ -58,9 +58,19 @@ seen-left o done log unit card more_unit more_card on_unit on_card c u (TimeOver
     (h.0, h.1, (h.2.0, ⊎_elim (λ first. inl first) (λ again. inr (again.0, again.1, again.2, (again.3.0, on_card again.3.0 again.3.1, again.3.2))) h.2.1))
 
 -- one minute more in the book
-kept-more : (new : List HistoryMinute) (i : HistoryMinute) (b : Book) → kept_all (new ++ i ∷ []) b ≡ kept i (kept_all new b)
+pub kept-more : (new : List HistoryMinute) (i : HistoryMinute) (b : Book) → kept_all (new ++ i ∷ []) b ≡ kept i (kept_all new b)
 kept-more [] i b = refl
 kept-more (j ∷ new) i b = kept-more new i (kept j b)
+
+-- who is present in the minutes behind it is told
+pub minute-told : (o : Origin) (done : List TraceSecond) (s : TraceSecond) (m : Minute) (rest : List Minute) (v : Values) (d : Devices) (w : Within o done s Keeping [] (Some s.speed) (m ∷ rest) v d) → m.minute ≡ w.from →
+    SlotsTell (start_at o) (told_before w.b done) (w.b.run.book.sure ++ (w.new ++ minute_next o done s m rest v d w ∷ [])) (course_in w.b done s Keeping v.log).left s.number (suc w.from) (course_in w.b done s Keeping v.log).slots v.cabin.slots
+minute-told o done s m rest v d w is =
+    let c : Course = course_in w.b done s Keeping v.log in
+    let i : HistoryMinute = minute_next o done s m rest v d w in
+    subst (λ (is : List HistoryMinute). SlotsTell (start_at o) (told_before w.b done) is c.left s.number (suc w.from) c.slots v.cabin.slots) (append_assoc w.b.run.book.sure w.new (i ∷ []))
+    (minutes-kept (start_at o) (told_before w.b done) (w.b.run.book.sure ++ w.new) c.left s.number w.from (suc w.from) c.slots v.cabin.slots w.tells (i ∷ [])
+    (All-push (λ (j : HistoryMinute). w.from ≤ j.minute) [] i (omega arith) (omega (arith, is))) (omega arith))
 
 module _ (o : Origin) (done : List TraceSecond) (s : TraceSecond) (m : Minute) (rest : List Minute) (v : Values) (d e : Devices) (w : Within o done s Keeping [] (Some s.speed) (m ∷ rest) v d) (marks : List Mark) (cards : Cards)
     (k : IsOneKept o done s m rest v d e w marks cards) where
@@ -135,9 +145,12 @@ module _ (o : Origin) (done : List TraceSecond) (s : TraceSecond) (m : Minute) (
     };
     finds = record {
       may = λ x verdict at.
-          let was = w.finds.may x verdict at in
-          (was.0, was.1, verdict-left o was.0 (d.unit.left_since o.found.unit.began) ((card_of d x.card).left_since (found_of o.found x.card).began) (e.unit.left_since o.found.unit.began) ((card_of e x.card).left_since (found_of o.found x.card).began)
-          k.left.unit (k.left.card x.card) x.card s.number verdict was.2);
+          let was = w.finds.may x verdict at in (
+            was.0,
+            was.1,
+            verdict-left o was.0 (d.unit.left_since o.found.unit.began) ((card_of d x.card).left_since (found_of o.found x.card).began) (e.unit.left_since o.found.unit.began) ((card_of e x.card).left_since (found_of o.found x.card).began)
+                k.left.unit (k.left.card x.card) x.card s.number verdict was.2,
+          );
       taken = λ x verdict at accepts. absurd (early-on x verdict at accepts);
       late = λ x verdict at accepts. absurd (early-on x verdict at accepts);
     };

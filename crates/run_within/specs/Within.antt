@@ -1,12 +1,12 @@
 -- What the recorder with cards carries WITHIN A SECOND that has power (profile): at its power-on, at each of its actions, and in its keeping.
-use Rattle.std.specs.Prelude.{◌≡◌, ◌⊎◌, ◌&&◌, ℕ, suc, ◌+◌, ◌-◌, ◌*◌, ◌/◌, ◌≤◌, ◌<◌, true, false, Option, Some, None, List, [], ◌∷◌, ◌++◌, All, Contains, length, map, filter, option_map, option_to_list}
+use Rattle.std.specs.Prelude.{◌≡◌, ◌⊎◌, ◌&&◌, Bool, ℕ, suc, ◌+◌, ◌-◌, ◌*◌, ◌/◌, ◌≤◌, ◌<◌, true, false, Option, Some, None, List, [], ◌∷◌, ◌++◌, All, Contains, length, map, filter, option_map, option_to_list}
 use Rattle.activity_codec.specs.declared.entries.Entry.{Entry}
 use Rattle.activity_codec.specs.declared.values.Slot.{Slot}
 use Rattle.activity_codec.specs.declared.values.Pick.{Pick}
 use Rattle.trace_model.specs.declared.Card.{Card}
 use Rattle.trace_model.specs.Trace.{TraceSecond}
 use Rattle.trace_model.specs.declared.Action.{Action}
-use Rattle.trace_model.specs.declared.Action.TheVariants.{Select}
+use Rattle.trace_model.specs.declared.Action.TheVariants.{Select, Place}
 use Rattle.run_model.specs.declared.Device.{Device}
 use Rattle.run_model.specs.declared.Device.TheVariants.{Unit as Recorder}
 use Rattle.minute_model.specs.declared.Minute.{Minute}
@@ -284,3 +284,64 @@ abbrev pub ASelectionIsRecorded : Devices → Type 0
 ASelectionIsRecorded d = (o : Origin) (done : List TraceSecond) (s : TraceSecond) (v : Values) (front : List Action) (slot : Slot) (pick : Pick) (rest : List Action) → s.actions ≡ front ++ Select slot pick ∷ rest →
     (w : Within o done s (In (length front)) [] None [] v d) → refusal (course_in w.b done s (In (length front)) v.log).slots s.speed (Select slot pick) ≡ None →
     (minutes : Kept) → StandsFor minutes (picked w.sp slot pick) → Within o done s (In (suc (length front))) [] None [] (heard_values minutes v) d
+
+-- what a call leaves of the devices, unit and cards by the book apart: none broke down less often, what might have been left might be left
+-- still, and a card that was as it was is so, or may be written
+pub record GoesOnSo (o : Origin) (done : List TraceSecond) (b : Beginning) (c : Course) (d e : Devices) : Type 0 where
+  pub breakdowns : IsMore (breakdowns_of d) (breakdowns_of e)
+  pub left : HaveLeftMore o d e
+  pub spared : (card : Card) → IsSparedSo o b done c d card → IsSparedSo o b done c e card
+
+-- A CALL of which nothing is told, as one that notes an event or a place: unit and cards are as the book says behind it too.
+pub record IsCalled (o : Origin) (done : List TraceSecond) (s : TraceSecond) (at : Phase) (waits : List Visit) (speed : Option ℕ) (rest : List Minute) (v : Values) (d e : Devices) (w : Within o done s at waits speed rest v d) : Type 0 where
+  pub goes : GoesOnSo o done w.b (course_in w.b done s at v.log) d e
+  pub powered : IsPowered o.found (carried v w.due (kept_all w.new w.b.run.book) w.standing w.brought) v.cabin.cards e
+  pub travels : HasTravelled (odometer_at o.recording.unit) (kept_all w.new w.b.run.book) (all_travelled w.ds w.b.travel) e.unit
+
+abbrev pub ACallIsRecorded : (d e : Devices) → Type 0
+ACallIsRecorded d e = (o : Origin) (done : List TraceSecond) (s : TraceSecond) (at : Phase) (waits : List Visit) (speed : Option ℕ) (rest : List Minute) (v : Values) → (w : Within o done s at waits speed rest v d) →
+    IsCalled o done s at waits speed rest v d e w → Within o done s at waits speed rest v e
+
+-- A CALL IN WHICH THE UNIT FAILED: the next of the minutes that were to be kept may be kept or not, if it was begun.
+pub record HasFailed (o : Origin) (done : List TraceSecond) (s : TraceSecond) (at : Phase) (waits : List Visit) (speed : Option ℕ) (rest : List Minute) (v : Values) (d e : Devices) (w : Within o done s at waits speed rest v d) : Type 0 where
+  pub goes : GoesOnSo o done w.b (course_in w.b done s at v.log) d e
+  pub broke : RoseBy 1 (w.b.broken Recorder) (breakdowns_of e Recorder)
+  pub unfed : (at ≡ Keeping → ⊥) → speed ≡ None
+  pub feeds : at ≡ Keeping → speed ≡ Some s.speed
+  pub lost : Option Minute
+  pub others : List Minute
+  pub parts : rest ≡ option_to_list lost ++ others
+  pub due : ℕ
+  pub due_later : w.due ≤ due
+  pub due_late : due ≤ s.number / 60
+  pub low : w.from ≤ s.number / 60
+  pub standing : Card → Standing
+  pub powerless : IsPowerless o.found (carried v due (broken_at (lost_minute o w.b done w.new lost) (kept_all w.new w.b.run.book)) standing w.brought) e
+  pub travels : HasTravelled (odometer_at o.recording.unit) (broken_at (lost_minute o w.b done w.new lost) (kept_all w.new w.b.run.book)) (stranded_at lost (all_travelled w.ds w.b.travel)) e.unit
+
+abbrev pub AFailureIsRecorded : (d e : Devices) → Type 0
+AFailureIsRecorded d e = (o : Origin) (done : List TraceSecond) (s : TraceSecond) (at : Phase) (waits : List Visit) (speed : Option ℕ) (rest : List Minute) (v : Values) → (w : Within o done s at waits speed rest v d) →
+    HasFailed o done s at waits speed rest v d e w → CutWithin o done s at waits speed v e
+
+-- OR IT FAILED BEHIND A MINUTE that was kept, as where a card was torn out by then.
+pub record HasFailedBehind (o : Origin) (done : List TraceSecond) (s : TraceSecond) (m : Minute) (rest : List Minute) (v : Values) (d e : Devices) (w : Within o done s Keeping [] (Some s.speed) (m ∷ rest) v d) (marks : List Mark) (cards : Cards) : Type 0 where
+  pub goes : GoesOnSo o done w.b (course_in w.b done s Keeping v.log) d e
+  pub broke : RoseBy 1 (w.b.broken Recorder) (breakdowns_of e Recorder)
+  pub minute : m.minute ≡ w.from
+  pub over : w.from < s.number / 60
+  pub stay : (mark : Mark) → Contains v.marks mark → Contains marks mark
+  pub found : AreFoundCards o.found cards
+  pub standing : Card → Standing
+  pub powerless : IsPowerless o.found (carried (kept_values marks cards v) (suc w.from) (kept (minute_next o done s m rest v d w) (kept_all w.new w.b.run.book)) standing w.brought) e
+  pub travels : HasTravelled (odometer_at o.recording.unit) (kept (minute_next o done s m rest v d w) (kept_all w.new w.b.run.book)) (travelled m.travelled (all_travelled w.ds w.b.travel)) e.unit
+
+abbrev pub AFailureBehindIsRecorded : (d e : Devices) → Type 0
+AFailureBehindIsRecorded d e = (o : Origin) (done : List TraceSecond) (s : TraceSecond) (m : Minute) (rest : List Minute) (v : Values) → (w : Within o done s Keeping [] (Some s.speed) (m ∷ rest) v d) →
+    (marks : List Mark) (cards : Cards) → HasFailedBehind o done s m rest v d e w marks cards → CutWithin o done s Keeping [] (Some s.speed) (kept_values marks cards v) e
+
+-- A PLACE is told of: its note is a call of its own.
+abbrev pub APlaceIsRecorded : Devices → Type 0
+APlaceIsRecorded d = (o : Origin) (done : List TraceSecond) (s : TraceSecond) (v : Values) (front : List Action) (slot : Slot) (ending : Bool) (country region : ℕ) (rest : List Action) →
+    s.actions ≡ front ++ Place slot ending country region ∷ rest →
+    (w : Within o done s (In (length front)) [] None [] v d) → refusal (course_in w.b done s (In (length front)) v.log).slots s.speed (Place slot ending country region) ≡ None →
+    Within o done s (In (suc (length front))) [] None [] v d

@@ -3,5 +3,8 @@
 
 mod laws;
 
-pub use laws::{a_cut_is_recorded, a_minute_is_kept_so, a_minute_is_over, a_refusal_is_recorded,
-    a_second_begins, a_second_is_fed, a_selection_is_recorded, the_second_is_over};
+pub use laws::{
+    a_call_is_recorded, a_cut_is_recorded, a_failure_behind_is_recorded, a_failure_is_recorded,
+    a_minute_is_kept_so, a_minute_is_over, a_place_is_recorded, a_refusal_is_recorded,
+    a_second_begins, a_second_is_fed, a_selection_is_recorded, the_second_is_over,
+};

@@ -1,5 +1,5 @@
 use Rattle.std.proofs.Common.{◌≡◌, ◌∙◌, ℕ, ◌+◌, ◌≤◌, Bool, true, false, Option, Some, None, Ok, refl, ap, sym, subst, arith}
-use Rattle.run_acts.proofs.Withdrawn.{closed-powered}
+use Rattle.run_acts.proofs.Withdrawn.{closed-any}
 use Rattle.std.specs.Prelude.{not, is_err, IfSome}
 use Rattle.card_layout.specs.declared.files.Application.{Application}
 use Rattle.card_commands.specs.Ports.{IsPort}

@@ -1,9 +1,14 @@
-use Rattle.std.proofs.Common.{◌≡◌, ◌∙◌, inl, inr, ℕ, ◌+◌, ◌-◌, ◌*◌, ◌/◌, ◌≤◌, Bool, true, false, Option, Some, None, is_some, length, refl, ap, sym, subst, arith}
+use Rattle.std.proofs.Common.{rules, ◌≡◌, ◌∙◌, inl, inr, ℕ, ◌+◌, ◌-◌, ◌*◌, ◌/◌, ◌≤◌, Bool, true, false, not, Option, Some, None, is_some, List, ◌++◌, length, refl, ap, sym, subst, arith}
 use Rattle.std.specs.Prelude.{is_err}
 use Rattle.trace_model.specs.declared.Card.{Card}
 use Rattle.trace_model.specs.declared.Card.TheVariants.{A, B}
 use Rattle.tach_media.proofs.Runs.{on_ok, ok_gives, cause_after}
-use Rattle.minute_model.specs.Span.{ungiven_of}
+use Rattle.activity_codec.specs.declared.values.Slot.{Slot}
+use Rattle.minute_model.specs.declared.Minute.{Minute}
+use Rattle.minute_model.specs.Span.{Span, settled, decided_in, ungiven_of}
+use Rattle.minute_rules.specs.Kept.{StandsFor}
+use Rattle.safety_model.specs.Safe.{Devices}
+use Rattle.run_rule.specs.Between.{devices}
 use Rattle.log_model.specs.declared.lines.Break.{Break}
 use Rattle.slot_machine.specs.Calls.{seat_in, card_in}
 use Rattle.run_crew.specs.declared.cabin.Cabin.{Cabin}
@@ -11,14 +16,18 @@ use Rattle.run_crew.specs.Cards.{session_of}
 use Rattle.run_crew.specs.Cabin.{Stands, with_slot_left}
 use Rattle.run_outcome.specs.Lines.{Listed}
 use Rattle.run_outcome.specs.declared.outcome.Outcome.{Outcome}
+use Rattle.run_keeping.specs.declared.keeper.Moment.{Moment}
 use Rattle.run_keeping.specs.Keeping.{tears_of}
+use Rattle.run_keeping.specs.Minutes.{Told, Reach, IsReach}
 use Rattle.run_keeping.proofs.Counts.{lines-length}
 use Rattle.run_power.specs.declared.run.Run.{Run}
 use Rattle.run_power.specs.Power.{with_cabin}
 use Rattle.run_power.specs.Going.{IsHeld, IsGoingOn, IsLit}
 use Rattle.run_power.specs.Room.{waiting_of, falls_of}
 use Rattle.run_power.proofs.Torn.{tears-without}
-use Rattle.run_acts.specs.Acting.{IsSettled, IsWithdrawn, closed_cabin, closed_breaks, left_run}
+use Rattle.run_acts.specs.Behind.{BooksWithdrawn}
+use Rattle.run_acts.proofs.Withdrawn.{withdrawn-cut, withdrawn-closed}
+use Rattle.run_acts.specs.Acting.{Closing, told_of, IsSettled, IsWithdrawn, closed_cabin, closed_breaks, left_run}
 use Rattle.run_acts.proofs.Leaving.{left-going, left-held, left-falls, closed-past, closed-minute, closed-sessions, closed-falls, closed-a, closed-b}
 use Rattle.run_acts.proofs.Cabins.{cabin-only, cabin-going, cabin-held, ready-same, at-same}
 use Rattle.run_acts.proofs.withdrawing.withdraw.Goals as goal
@@ -352,3 +361,81 @@ returns-in-B-clause-more g c =
     let told = c.settle.new.outcome.breaks in
     let length_is : length c.close-in-B.new.breaks.items ≡ length told.items + length (closed_breaks n.0 c.args.slot c.args.at) = ap (λ (l : Listed Break). length l.items) n.1.told ∙ lines-length (closed_breaks n.0 c.args.slot c.args.at) told in
     omega (arith, more, length_is)
+
+-- ---- of devices that tell their images
+
+abbrev Booked : (slot : Slot) (at : Moment) (card : Card) (failed : Bool) (run new : Run) (before after : Outcome) (d e : Devices) (left : Cabin) → Type 0
+Booked slot at card failed run new before after d e left = (decided : List Minute) × (reach : Reach) × (closing : Option Closing) × (between : Told)
+    × ((span : Span) → StandsFor run.minutes span → decided_in (settled span) ≡ decided_in span ++ decided)
+    × IsReach decided at (not (is_some closing)) (told_of (with_cabin left run) before) between reach
+    × BooksWithdrawn card decided failed reach closing (told_of (with_cabin left run) before) (told_of new after) d e
+
+pub returns-in_err-settle-clause-booked : goal.returns-in_err-settle-clause-booked
+returns-in_err-settle-clause-booked g c = λ card there.
+    let run = c.args.run.now in
+    let D = devices (g.M.Medium.state c.args.unit.now) (g.C.Chip.state c.args.card_a.now) (g.D.Chip.state c.args.card_b.now) in
+    let E = devices (g.M.Medium.state c.settle.new.unit) (g.C.Chip.state c.settle.new.card_a) (g.D.Chip.state c.settle.new.card_b) in
+    let failed : true ≡ is_err c.from_residual.result = search rules in
+    let b = c.in_err-settle.ensures.booked in
+    subst (λ (q : Bool). Booked c.args.slot c.args.at card q run c.settle.new.run c.args.outcome.now c.settle.new.outcome D E (with_slot_left c.args.slot c.args.at.second run.keeper.cabin)) failed
+    (subst (λ (left : Cabin). Booked c.args.slot c.args.at card true run c.settle.new.run c.args.outcome.now c.settle.new.outcome D E left) c.leave.ensures.kept (
+      b.0,
+      b.1,
+      None,
+      told_of c.settle.new.run c.settle.new.outcome,
+      b.2,
+      b.3,
+      withdrawn-cut card b.0 c.args.at (told_of (with_cabin c.leave.new.self run) c.args.outcome.now) (told_of c.settle.new.run c.settle.new.outcome) D E b.1 b.3 b.4,
+    ))
+
+pub returns-in-A-clause-booked : goal.returns-in-A-clause-booked
+returns-in-A-clause-booked g c = λ card there.
+    let run = c.args.run.now in
+    let seat : card_in (seat_in run.keeper.cabin.slots.seats c.args.slot) ≡ Some A = cc in
+    let is : A ≡ card = cc in
+    let U1 = g.M.Medium.state c.settle.new.unit in
+    let V = g.M.Medium.state c.close.new.unit in
+    let D = devices (g.M.Medium.state c.args.unit.now) (g.C.Chip.state c.args.card_a.now) (g.D.Chip.state c.args.card_b.now) in
+    let E = devices V (g.C.Chip.state c.close.new.card) (g.D.Chip.state c.settle.new.card_b) in
+    let n = c.close.ensures.closed in
+    let b = c.in_ok-settle.ensures.booked in
+    let t = told_of (with_cabin c.leave.new.self run) c.args.outcome.now in
+    let v = told_of c.settle.new.run c.settle.new.outcome in
+    let after : Outcome = record c.settle.new.outcome { breaks = c.close.new.breaks } in
+    subst (λ (k : Card). Booked c.args.slot c.args.at k (is_err c.close.result) run c.close.new.run c.args.outcome.now after D E (with_slot_left c.args.slot c.args.at.second run.keeper.cabin)) is
+    (subst (λ (left : Cabin). Booked c.args.slot c.args.at A (is_err c.close.result) run c.close.new.run c.args.outcome.now after D E left) c.leave.ensures.kept (
+      b.0,
+      b.1,
+      Some n.0,
+      v,
+      b.2,
+      b.3,
+      withdrawn-closed g.C.Chip.state A c.args.at.second U1 V (g.D.Chip.state c.settle.new.card_b) c.settle.new.card_a c.close.new.card (g.met.M.Medium.coherent c.settle.new.unit) (g.met.C.Chip.coherent c.settle.new.card_a) c.settle.ensures.held.card_a.size
+          c.close.ensures.journal (is_err c.close.result) c.close.ensures.cause.works n.0 b.0 c.args.at t v (told_of c.close.new.run after) D c.close.ensures.left c.close.ensures.bare n.1.is (ap (λ (r : Run). r.keeper.cabin.cards) n.1.run) refl b.1 b.3 b.4,
+    ))
+
+pub returns-in-B-clause-booked : goal.returns-in-B-clause-booked
+returns-in-B-clause-booked g c = λ card there.
+    let run = c.args.run.now in
+    let seat : card_in (seat_in run.keeper.cabin.slots.seats c.args.slot) ≡ Some B = cc in
+    let is : B ≡ card = cc in
+    let U1 = g.M.Medium.state c.settle.new.unit in
+    let V = g.M.Medium.state c.close-in-B.new.unit in
+    let D = devices (g.M.Medium.state c.args.unit.now) (g.C.Chip.state c.args.card_a.now) (g.D.Chip.state c.args.card_b.now) in
+    let E = devices V (g.C.Chip.state c.settle.new.card_a) (g.D.Chip.state c.close-in-B.new.card) in
+    let n = c.close-in-B.ensures.closed in
+    let b = c.in_ok-settle.ensures.booked in
+    let t = told_of (with_cabin c.leave.new.self run) c.args.outcome.now in
+    let v = told_of c.settle.new.run c.settle.new.outcome in
+    let after : Outcome = record c.settle.new.outcome { breaks = c.close-in-B.new.breaks } in
+    subst (λ (k : Card). Booked c.args.slot c.args.at k (is_err c.close-in-B.result) run c.close-in-B.new.run c.args.outcome.now after D E (with_slot_left c.args.slot c.args.at.second run.keeper.cabin)) is
+    (subst (λ (left : Cabin). Booked c.args.slot c.args.at B (is_err c.close-in-B.result) run c.close-in-B.new.run c.args.outcome.now after D E left) c.leave.ensures.kept (
+      b.0,
+      b.1,
+      Some n.0,
+      v,
+      b.2,
+      b.3,
+      withdrawn-closed g.D.Chip.state B c.args.at.second U1 V (g.C.Chip.state c.settle.new.card_a) c.settle.new.card_b c.close-in-B.new.card (g.met.M.Medium.coherent c.settle.new.unit) (g.met.D.Chip.coherent c.settle.new.card_b) c.settle.ensures.held.card_b.size
+          c.close-in-B.ensures.journal (is_err c.close-in-B.result) c.close-in-B.ensures.cause.works n.0 b.0 c.args.at t v (told_of c.close-in-B.new.run after) D c.close-in-B.ensures.left c.close-in-B.ensures.bare n.1.is (ap (λ (r : Run). r.keeper.cabin.cards) n.1.run) refl b.1 b.3 b.4,
+    ))
