@@ -1,3 +1,3 @@
-pub mod Allowed
-pub mod Rooms
-pub mod Picked
+pub mod Items
+pub mod Dark
+pub mod Start

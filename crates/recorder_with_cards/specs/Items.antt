@@ -1,5 +1,5 @@
 -- The items of a trace as they come, and how a run goes on by them (profile).
-use Rattle.std.specs.Prelude.{◌≡◌, ◌⊎◌, ℕ, ◌+◌, ◌-◌, ◌≤◌, Bool, true, false, Result, IfErr, OnOk, List, length, take, drop, count_by}
+use Rattle.std.specs.Prelude.{◌≡◌, ◌⊎◌, ℕ, ◌+◌, ◌≤◌, Bool, true, false, Result, IfErr, OnOk, length}
 use Rattle.tach_media.specs.Medium.{State}
 use Rattle.chip_model.specs.declared.command.CardState.{CardState}
 use Rattle.trace_model.specs.declared.Item.{Item}
@@ -8,18 +8,9 @@ use Rattle.unit_model.specs.Image.{IsUnit}
 use Rattle.run_opening.specs.declared.fault.RunFault.{RunFault}
 use Rattle.run_rule.specs.Between.{devices}
 use Rattle.run_opening.specs.Opening.{IsRefused}
-use Rattle.run_outcome.specs.Room.{is_insertion}
 use Rattle.run_outcome.specs.declared.outcome.Outcome.{Outcome}
 use Rattle.run_power.specs.declared.run.Run.{Run}
 use Rattle.run_power.specs.Going.{IsGoing, IsFoundLater}
-
--- the items from one index to another
-abbrev pub between : (from to : ℕ) → List Item → List Item
-between from to items = take (to - from) (drop from items)
-
--- how many of them put a card into a slot
-abbrev pub insertions_in : (from to : ℕ) → List Item → ℕ
-insertions_in from to items = count_by is_insertion (between from to items)
 
 -- the first item that waits for its second behind an item, where it was this one before: an action waits itself
 abbrev pub first_waiting : Item → (first index : ℕ) → ℕ

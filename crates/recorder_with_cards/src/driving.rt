@@ -2,13 +2,14 @@
 ghost use Rattle.std.specs.Prelude.{◌≡◌, ℕ, ◌+◌, ◌-◌, ◌%◌, ◌<◌, ◌≤◌, OnOk, length};
 ghost use Rattle.run_power.specs.Going.{end_of_seconds, IsGoing};
 ghost use Rattle.run_power.specs.Room.{HasRoom};
-ghost use Rattle.recorder_with_cards.specs.Items.{insertions_in, HasGone};
+ghost use Rattle.run_actions.specs.Items.{insertions_in};
+ghost use Rattle.recorder_with_cards.specs.Items.{HasGone};
 
-use crate::acts::{act_all, number_of};
+use run_actions::{act_all, number_of};
+use run_awake::begin_second;
 use run_opening::RunFault;
 use run_outcome::Outcome;
 use run_power::Run;
-use run_resume::begin_second;
 use run_turns::{turn, turn_length};
 use tach_media::{Chip, Medium};
 use trace_text::Items;

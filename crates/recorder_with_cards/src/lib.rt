@@ -3,11 +3,8 @@
 //! cards, and which actions were refused.
 #![tactic(auto)]
 
-mod acts;
 mod driving;
 mod run;
-#[cfg(test)]
-mod tests;
 
 pub use log_model::{Break, Find, Mark, Refused, SlotFault, Verdict};
 pub use run::run_trace;

@@ -8,7 +8,8 @@ ghost use Rattle.unit_model.specs.Image.{IsUnit};
 ghost use Rattle.run_outcome.specs.Room.{off_count, IsReserved};
 ghost use Rattle.run_power.specs.Going.{end_of_seconds, IsGoing};
 ghost use Rattle.run_power.specs.Room.{HasRoom};
-ghost use Rattle.recorder_with_cards.specs.Items.{insertions_in, first_waiting, has_seconds, HasGone, IsRefusedBy};
+ghost use Rattle.run_actions.specs.Items.{insertions_in};
+ghost use Rattle.recorder_with_cards.specs.Items.{first_waiting, has_seconds, HasGone, IsRefusedBy};
 
 use crate::driving::drive;
 use run_opening::{RunFault, judge};

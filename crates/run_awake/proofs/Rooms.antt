@@ -46,7 +46,7 @@ room-away run o left offs insertions actions away h =
     record { breaks = omega (arith, f, b); finds = omega (arith, f, fi); marks = omega (arith, f, m); refused = h.refused }
 
 -- it was due, and is back
-is-due : (p : Power) (next : ℕ) → is_lit p ≡ false → has_power p next ≡ true → cuts_from p next ≡ next / 60
+pub is-due : (p : Power) (next : ℕ) → is_lit p ≡ false → has_power p next ≡ true → cuts_from p next ≡ next / 60
 is-due Lit next dark has = absurd (cc)
 is-due Due next dark has = refl
 is-due Lost next dark has = let at : next % 60 ≡ 0 = eqb-true (next % 60) 0 has in omega (arith, at)

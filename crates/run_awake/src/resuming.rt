@@ -7,7 +7,7 @@ ghost use Rattle.run_power.specs.declared.run.Power.TheVariants.{Lit};
 ghost use Rattle.run_power.specs.Power.{is_lit, has_power};
 ghost use Rattle.run_power.specs.Going.{end_of_seconds, IsHeld, IsLit, IsAt, IsGoing, IsWithin, IsFoundLater};
 ghost use Rattle.run_power.specs.Room.{HasRoom, HasRoomWithin, falls_of, bare_seats};
-ghost use Rattle.run_awake.specs.Waking.{IsAwake, TakesAwake};
+ghost use Rattle.run_awake.specs.Waking.{IsAwake, TakesUp, TakesAwake};
 
 use activity_codec::Slot;
 use device_steps::mend;
@@ -148,7 +148,7 @@ fn resume<M: Medium, C: Chip, D: Chip>(
     ensures none { OnOk result (run.new.minutes.owing ≡ 0) }
     ensures held { IsHeld (run.new.next / 60) run.new (M.state unit.new) (C.card card_a.new) (D.card card_b.new) (C.state card_a.new) (D.state card_b.new) }
     ensures going { OnOk result (IsLit (run.new.next / 60) run.new (M.state unit.new) (C.card card_a.new) (D.card card_b.new) (C.state card_a.new) (D.state card_b.new)) }
-    ensures takes { TakesAwake run.old run.new outcome.old outcome.new }
+    ensures takes { TakesUp run.old run.new outcome.old outcome.new }
     ensures more { length outcome.old.breaks.items ≤ length outcome.new.breaks.items }
     ensures refused { outcome.new.refused ≡ outcome.old.refused }
     ensures cause { HasCause (M.state unit.old) (M.state unit.new) (is_err result) }
@@ -159,7 +159,16 @@ fn resume<M: Medium, C: Chip, D: Chip>(
     run.begin_span(journal);
     let at = run.moment(0);
     accept_anew(run, Slot::Driver, at, speed, unit, card_a, card_b, outcome)?;
-    accept_anew(run, Slot::CoDriver, at, speed, unit, card_a, card_b, outcome)?;
+    accept_anew(
+        run,
+        Slot::CoDriver,
+        at,
+        speed,
+        unit,
+        card_a,
+        card_b,
+        outcome,
+    )?;
     if is_first {
         return Ok(());
     }

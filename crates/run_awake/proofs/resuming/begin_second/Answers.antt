@@ -7,7 +7,7 @@ use Rattle.run_power.specs.Power.{is_lit, has_power, minute_over}
 use Rattle.run_power.specs.Going.{IsWithin}
 use Rattle.run_power.specs.Room.{HasRoomWithin}
 use Rattle.run_power.proofs.Standing.{lit-is, begun-at, still-dark}
-use Rattle.run_awake.proofs.Rooms.{room-over, room-away, room-awake, is-due}
+use Rattle.run_awake.proofs.Rooms.{room-over, room-away, room-awake}
 use Rattle.run_awake.proofs.resuming.begin_second.Goals as goal
 
 away-dark : (p : Power) (next : ℕ) → has_power p next ≡ false → is_lit p ≡ false
@@ -42,3 +42,12 @@ returns-then-is_lit-clause-room g c = λ left offs insertions actions h.
     let lit : is_lit run.power ≡ true = sym c.is_lit.ensures ∙ c.if-is_lit.true in
     subst (λ (r : Run). HasRoomWithin r c.args.outcome.now (1 + left) offs insertions actions) (sym c.end_minute.ensures.run)
     (room-over (run.next % 60 == 0) run c.args.outcome.now (1 + left) offs insertions actions (lit-is run.power lit) h)
+
+-- ---- power is back
+
+pub returns-clause-room : goal.returns-clause-room
+returns-clause-room g c = λ left offs insertions actions h.
+    let run = c.args.run.now in
+    let dark : is_lit run.power ≡ false = sym c.is_lit.ensures ∙ c.if-is_lit.false in
+    let has : has_power run.power run.next ≡ true = sym c.has_power.ensures ∙ c.if-not-has_power.false in
+    room-awake run c.power_on.new.run c.args.outcome.now c.power_on.new.outcome c.power_on.ensures.next dark has c.in_ok-power_on.ensures.awake c.power_on.ensures.takes c.power_on.ensures.refused (1 + left) offs insertions actions h

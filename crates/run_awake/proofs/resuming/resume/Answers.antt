@@ -18,7 +18,8 @@ use Rattle.run_resume.specs.Accepting.{IsBare}
 use Rattle.run_awake.proofs.Begun.{begun-none, dark-bare}
 use Rattle.run_outcome.specs.declared.outcome.Outcome.{Outcome}
 use Rattle.run_power.specs.Room.{Takes}
-use Rattle.run_awake.proofs.Taken.{takes-then, takes-breaks, awake-takes, takes-nothing}
+use Rattle.run_awake.proofs.Taken.{takes-then, takes-breaks, awake-takes, takes-nothing, anew-more}
+use Rattle.slot_machine.specs.Calls.{seat_in, card_in}
 use Rattle.run_awake.proofs.resuming.resume.Goals as goal
 
 pub accept_anew-requires-clause-held : goal.accept_anew-requires-clause-held
@@ -175,3 +176,42 @@ returns-clause-takes g c =
     let gap = takes-breaks c.accept_anew-2.new.run c.note_gap.new.run c.accept_anew-2.new.outcome c.note_gap.new.breaks c.note_gap.ensures.only c.note_gap.ensures.room.0 c.note_gap.ensures.room.1 in
     let all = takes-then (f + h) 0 mid c.accept_anew-2.new.run c.note_gap.new.run c.args.outcome.now c.accept_anew-2.new.outcome (record c.accept_anew-2.new.outcome { breaks = c.note_gap.new.breaks }) both gap in
     awake-takes (f + h + 0) run mid c.note_gap.new.run c.args.outcome.now (record c.accept_anew-2.new.outcome { breaks = c.note_gap.new.breaks }) falls b.power none (omega (arith, d, e)) all
+
+-- ---- breaks, and what failed
+
+pub returns-in_err-accept_anew-2-clause-more : goal.returns-in_err-accept_anew-2-clause-more
+returns-in_err-accept_anew-2-clause-more g c =
+    let mid : Run = c.begin_span.new.self in
+    let next : Run = c.accept_anew.new.run in
+    let one = anew-more (card_in (seat_in mid.keeper.cabin.slots.seats Driver)) Driver c.moment-at.result c.args.speed mid next c.args.outcome.now c.accept_anew.new.outcome c.accept_anew.ensures.accepted in
+    let two = anew-more (card_in (seat_in next.keeper.cabin.slots.seats CoDriver)) CoDriver c.moment-at.result c.args.speed next c.accept_anew-2.new.run c.accept_anew.new.outcome c.accept_anew-2.new.outcome c.accept_anew-2.ensures.accepted in
+    omega (arith, one, two)
+
+pub returns-clause-more : goal.returns-clause-more
+returns-clause-more g c =
+    let mid : Run = c.begin_span.new.self in
+    let next : Run = c.accept_anew.new.run in
+    let one = anew-more (card_in (seat_in mid.keeper.cabin.slots.seats Driver)) Driver c.moment-at.result c.args.speed mid next c.args.outcome.now c.accept_anew.new.outcome c.accept_anew.ensures.accepted in
+    let two = anew-more (card_in (seat_in next.keeper.cabin.slots.seats CoDriver)) CoDriver c.moment-at.result c.args.speed next c.accept_anew-2.new.run c.accept_anew.new.outcome c.accept_anew-2.new.outcome c.accept_anew-2.ensures.accepted in
+    let three = c.note_gap.ensures.more in
+    omega (arith, one, two, three)
+
+pub returns-in_err-accept_anew-2-clause-cause : goal.returns-in_err-accept_anew-2-clause-cause
+returns-in_err-accept_anew-2-clause-cause g c =
+    let failed : true ≡ is_err c.from_residual-in_err-accept_anew-2.result = search rules in
+    subst (λ (f : Bool). HasCause (g.M.Medium.state c.args.unit.now) (g.M.Medium.state c.accept_anew-2.new.unit) f) failed (cause_after c.in_ok-mend.ensures.cause (cause_after c.in_ok-accept_anew.ensures.cause c.in_err-accept_anew-2.ensures.cause))
+
+pub returns-then-is_first-clause-cause : goal.returns-then-is_first-clause-cause
+returns-then-is_first-clause-cause g c = cause_after c.in_ok-mend.ensures.cause (cause_after c.in_ok-accept_anew.ensures.cause c.in_ok-accept_anew-2.ensures.cause)
+
+pub returns-clause-cause : goal.returns-clause-cause
+returns-clause-cause g c = cause_after c.in_ok-mend.ensures.cause (cause_after c.in_ok-accept_anew.ensures.cause (cause_after c.in_ok-accept_anew-2.ensures.cause c.note_gap.ensures.cause))
+
+pub returns-clause-power : goal.returns-clause-power
+returns-clause-power g c = on_ok c.note_gap.result (λ well.
+    ap (λ (r : Run). r.power) c.note_gap.ensures.only ∙ ap (λ (r : Run). r.power) c.accept_anew-2.ensures.only ∙ ap (λ (r : Run). r.power) c.accept_anew.ensures.only ∙ c.begin_span.ensures.begun.power)
+
+pub returns-clause-none : goal.returns-clause-none
+returns-clause-none g c = on_ok c.note_gap.result (λ well.
+    ap (λ (r : Run). r.minutes.owing) c.note_gap.ensures.only ∙ ap (λ (r : Run). r.minutes.owing) c.accept_anew-2.ensures.only ∙ ap (λ (r : Run). r.minutes.owing) c.accept_anew.ensures.only
+    ∙ begun-none c.begin_span.new.self.minutes c.args.run.now.next c.begin_span.ensures.begun.minutes)

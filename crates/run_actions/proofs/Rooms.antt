@@ -6,8 +6,26 @@ use Rattle.run_power.specs.declared.run.Run.{Run}
 use Rattle.run_power.specs.declared.run.Power.{Power}
 use Rattle.run_power.specs.declared.run.Power.TheVariants.{Lit, Due, Lost}
 use Rattle.run_power.specs.Power.{is_lit}
-use Rattle.run_power.specs.Room.{waiting, waiting_of, falls_of, bare_seats, finds_due, cuts_within, HasRoomWithin, Takes}
+use Rattle.run_power.specs.Room.{waiting, waiting_of, falls_of, bare_seats, finds_due, cuts_within, HasRoomFrom, HasRoomWithin, Takes}
+use Rattle.tach_media.specs.Medium.{State}
+use Rattle.chip_model.specs.declared.command.CardState.{CardState}
+use Rattle.run_power.specs.Going.{IsLit}
+use Rattle.run_power.proofs.Kept.{owing-sum}
 use Rattle.run_power.proofs.Torn.{bare-two}
+
+-- no more minutes wait than there are
+pub few-wait : {U A0 B0 : State} {chip_a chip_b : CardState} (to : ℕ) (run : Run) → IsLit to run U chip_a chip_b A0 B0 → run.minutes.owing ≤ run.next / 60
+few-wait to run g = let sum = owing-sum run.minutes g.span g.stands in let end = ap (λ (n : ℕ). n / 60) g.next in omega (arith, sum, end)
+
+-- room for more is room for less
+pub room-less : (from : Power → ℕ → ℕ) (run : Run) (o : Outcome) (left less offs fewer insertions least actions few : ℕ) → less ≤ left → fewer ≤ offs → least ≤ insertions → few ≤ actions
+    → HasRoomFrom from run o left offs insertions actions → HasRoomFrom from run o less fewer least few
+room-less from run o left less offs fewer insertions least actions few a b c d h =
+    let p = h.breaks in
+    let q = h.finds in
+    let r = h.marks in
+    let s = h.refused in
+    record { breaks = omega (arith, a, b, c, p); finds = omega (arith, a, b, c, q); marks = omega (arith, a, b, c, r); refused = omega (arith, d, s) }
 
 -- an action with power that puts in so many cards has room, and a cut behind it
 pub record ActRooms (run : Run) (o : Outcome) (k : ℕ) : Type 0 where

@@ -9,8 +9,8 @@ ghost use Rattle.run_power.specs.declared.run.Power.TheVariants.{Lit};
 ghost use Rattle.run_power.specs.Power.{is_lit};
 ghost use Rattle.run_power.specs.Going.{largest_number, first_second, end_of_seconds, IsHeld, IsLit, IsWithin};
 ghost use Rattle.run_power.specs.Room.{HasRoomWithin, Takes};
-ghost use Rattle.recorder_with_cards.specs.Acting.{put_count, refusal_lines, refused_by, IsSelected, IsFine, StaysIn};
-ghost use Rattle.recorder_with_cards.specs.Items.{insertions_in};
+ghost use Rattle.run_actions.specs.Acting.{put_count, refusal_lines, refused_by, IsSelected, IsFine, StaysIn};
+ghost use Rattle.run_actions.specs.Items.{insertions_in};
 ghost use Rattle.run_outcome.specs.Room.{insertion_count};
 
 use log_model::SlotFault;
@@ -22,14 +22,14 @@ use tach_media::{Chip, Failed, Medium};
 use trace_text::{Action, Item, Items};
 
 /// How many actions a second had, as its lines of the outcome tell it.
-pub(crate) fn number_of(actions: usize) -> u32
+pub fn number_of(actions: usize) -> u32
     ensures { result ≡ min actions largest_number }
 {
     actions.min(u32::MAX as usize) as u32
 }
 
 /// The actions of one second in their order, which are the items from one index to another.
-pub(crate) fn act_all<M: Medium, C: Chip, D: Chip>(
+pub fn act_all<M: Medium, C: Chip, D: Chip>(
     run: &mut Run,
     items: &Items,
     from: usize,

@@ -3,7 +3,12 @@ use Rattle.std.proofs.Common.{◌≡◌, ◌∙◌, ℕ, Bool, true, false, cond
 use Rattle.activity_codec.specs.declared.values.Slot.{Slot}
 use Rattle.activity_codec.specs.declared.values.Slot.TheVariants.{Driver, CoDriver}
 use Rattle.trace_model.specs.declared.Card.{Card}
-use Rattle.trace_model.specs.declared.Action.TheVariants.{Insert}
+use Rattle.trace_model.specs.declared.Action.{Action}
+use Rattle.trace_model.specs.declared.Action.TheVariants.{Select, Insert, Withdraw, Tear, Place}
+use Rattle.trace_model.specs.declared.Item.TheVariants.{Act}
+use Rattle.run_outcome.specs.Room.{insertion_count}
+use Rattle.run_power.specs.declared.run.Run.{Run}
+use Rattle.run_actions.specs.Acting.{put_count, refused_by, IsSelected, IsFine}
 use Rattle.log_model.specs.declared.lines.SlotFault.{SlotFault}
 use Rattle.log_model.specs.declared.lines.SlotFault.TheVariants.{Occupied, Elsewhere}
 use Rattle.log_model.specs.Slots.{refusal, other_slot, holds, in_slot}
@@ -34,3 +39,25 @@ insert-empty seats CoDriver card speed is = nothing-there seats.codriver CoDrive
 pub insert-elsewhere : (seats : Seats) (slot : Slot) (card : Card) (speed : ℕ) → refusal (logged seats) speed (Insert slot card) ≡ None → is_card (seat_in seats (other_slot slot)) card ≡ false
 insert-elsewhere seats Driver card speed is = not-there seats.codriver card (behind seats.driver Driver (cond (holds (sitting_of seats.codriver) card) (Some (Elsewhere card)) None) is)
 insert-elsewhere seats CoDriver card speed is = not-there seats.driver card (behind seats.codriver CoDriver (cond (holds (sitting_of seats.driver) card) (Some (Elsewhere card)) None) is)
+
+-- what nothing refuses with power is not refused
+pub lit-refused : (has lit : Bool) (seats : Seats) (speed : ℕ) (action : Action) → has ≡ true → lit ≡ true → refusal (logged seats) speed action ≡ None → refused_by has lit seats speed action ≡ None
+lit-refused true true seats speed action h l is = is
+lit-refused true false seats speed action h l is = absurd (cc)
+lit-refused false lit seats speed action h l is = absurd (cc)
+
+-- a selection does not fail
+pub fine-selected : (action : Action) (failed : Bool) (old new : Run) → failed ≡ true → IsFine action failed → IsSelected action old new
+fine-selected (Select slot pick) failed old new so fine = absurd (cc)
+fine-selected (Insert slot card) failed old new so fine = tt
+fine-selected (Withdraw slot) failed old new so fine = tt
+fine-selected (Tear slot) failed old new so fine = tt
+fine-selected (Place slot ending country region) failed old new so fine = tt
+
+-- an insertion counts as one
+pub count-is : (action : Action) → insertion_count (Act action) ≡ put_count action
+count-is (Select slot pick) = refl
+count-is (Insert slot card) = refl
+count-is (Withdraw slot) = refl
+count-is (Tear slot) = refl
+count-is (Place slot ending country region) = refl
