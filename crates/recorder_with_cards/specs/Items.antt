@@ -7,7 +7,7 @@ use Rattle.trace_model.specs.declared.Item.TheVariants.{Run as Driven, Off, Act}
 use Rattle.unit_model.specs.Image.{IsUnit}
 use Rattle.run_opening.specs.declared.fault.RunFault.{RunFault}
 use Rattle.run_rule.specs.Between.{devices}
-use Rattle.run_opening.specs.Opening.{IsRefused}
+use Rattle.run_opening.specs.Opening.{IsRefused, IsAsItWas}
 use Rattle.run_outcome.specs.declared.outcome.Outcome.{Outcome}
 use Rattle.run_power.specs.declared.run.Run.{Run}
 use Rattle.run_power.specs.Going.{IsGoing, IsFoundLater}
@@ -32,7 +32,8 @@ pub record HasGone (result : Result (Unit {0}) RunFault) (seconds : ℕ) (old ne
   pub unfound : OnOk result (new.unfound ≤ length after.breaks.items)
   pub is_unit : IsUnit unit
 
--- A RUN IS REFUSED: by the opening, for one of its causes, with no line told; or later by a unit that was read anew at a power-on.
+-- A RUN IS REFUSED: by the opening, for one of its causes, with each device as it was and no line told; or later by a unit that was read anew at
+-- a power-on.
 abbrev pub IsRefusedBy : (start : ℕ) → (before after : Outcome) → (unit unit_after a a_after b b_after : State) → RunFault → Type 0
 IsRefusedBy start before after unit unit_after a a_after b b_after fault =
-    (IsRefused start (devices unit a b) (devices unit_after a_after b_after) fault × (after ≡ before)) ⊎ IsFoundLater fault
+    (IsRefused start (devices unit a b) (devices unit_after a_after b_after) fault × IsAsItWas unit unit_after × IsAsItWas a a_after × IsAsItWas b b_after × (after ≡ before)) ⊎ IsFoundLater fault

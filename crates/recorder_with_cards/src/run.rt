@@ -23,8 +23,9 @@ use trace_text::{Item, Items, Trace};
 /// # Errors
 ///
 /// In the opening, before any write: `MediumFault` only where that device failed, `BadUnit` with the place of the first field that
-/// fails, `ClockBack` exactly where the minute of the first second is not later than the last-kept minute, and `SameCard` exactly
-/// where both cards are valid and have this number. Devices that tell their images give none of them later.
+/// fails, `ClockBack` where the minute of the first second is not later than the last-kept minute, and `SameCard` where both cards are
+/// valid and have this number. Later only `BadUnit` and `ClockBack`, of a unit that is read anew at a power-on: no failed call is an
+/// error.
 pub fn run_trace<U: Medium, C: Chip>(
     trace: &Trace,
     unit: &mut U,

@@ -4,3 +4,4 @@ pub mod Picked
 pub mod Pulled
 pub mod More
 pub mod Counted
+pub mod Acted

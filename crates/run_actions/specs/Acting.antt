@@ -1,15 +1,26 @@
 -- What an action of a second does, by value (profile).
-use Rattle.std.specs.Prelude.{◌≡◌, ℕ, Bool, true, false, Option, Some, None, List, [], ◌∷◌}
+use Rattle.std.specs.Prelude.{◌≡◌, ℕ, ◌+◌, Bool, true, false, Option, Some, None, List, [], ◌∷◌, min}
 use Rattle.trace_model.specs.declared.Action.{Action}
 use Rattle.trace_model.specs.declared.Action.TheVariants.{Select, Insert, Withdraw, Tear, Place}
+use Rattle.trace_model.specs.declared.Item.{Item}
+use Rattle.trace_model.specs.declared.Item.TheVariants.{Run as Driven, Off, Act}
 use Rattle.minute_model.specs.Span.{Span, picked}
 use Rattle.minute_rules.specs.Kept.{StandsFor}
+use Rattle.log_model.specs.declared.lines.Break.{Break}
 use Rattle.log_model.specs.declared.lines.Refused.{Refused}
 use Rattle.log_model.specs.declared.lines.SlotFault.{SlotFault}
 use Rattle.log_model.specs.declared.lines.SlotFault.TheVariants.{NoPower}
 use Rattle.log_model.specs.Slots.{refusal}
-use Rattle.slot_machine.specs.Calls.{Seats, logged}
+use Rattle.slot_machine.specs.Calls.{Seats, logged, seat_in, card_in}
+use Rattle.run_outcome.specs.Lines.{Listed, cut_at}
+use Rattle.run_outcome.specs.declared.outcome.Outcome.{Outcome}
+use Rattle.run_keeping.specs.declared.keeper.Moment.{Moment}
+use Rattle.run_keeping.specs.Keeping.{with_lines}
 use Rattle.run_power.specs.declared.run.Run.{Run}
+use Rattle.run_power.specs.Power.{is_lit, cut_run}
+use Rattle.run_power.specs.Going.{largest_number}
+use Rattle.run_acts.specs.Acting.{IsWithdrawn, IsPlaced, pulled_run, pulled_breaks}
+use Rattle.run_resume.specs.Accepting.{IsInserted}
 
 -- a card is put into a slot
 abbrev pub put_count : Action → ℕ
@@ -52,3 +63,57 @@ pub record StaysIn (old new : Run) : Type 0 where
   pub next : new.next ≡ old.next
   pub begun : new.begun ≡ old.begun
   pub unfound : new.unfound ≡ old.unfound
+
+-- the begin of the next second, once so many of its actions have begun
+abbrev pub moment_of : (begun : ℕ) → Run → Moment
+moment_of begun run = record { second = run.next; begun = begun; late = false }
+
+-- AN ACTION IS CARRIED OUT at a moment: a selection changes the minutes alone; a card is put in, withdrawn or pulled out; a place is noted
+abbrev pub IsDone : Action → Moment → (speed : ℕ) → (failed : Bool) → (old new : Run) → (before after : Outcome) → Type 0
+IsDone (Select slot pick) at speed failed old new before after = (failed ≡ false) × IsSelected (Select slot pick) old new × (after ≡ before)
+IsDone (Insert slot card) at speed failed old new before after = IsInserted slot card at speed failed old new before after
+IsDone (Withdraw slot) at speed failed old new before after = IsWithdrawn (card_in (seat_in old.keeper.cabin.slots.seats slot)) slot at failed old new before after
+IsDone (Tear slot) at speed failed old new before after = let card = card_in (seat_in old.keeper.cabin.slots.seats slot) in
+    (failed ≡ false) × (new ≡ pulled_run card at.second old) × (after ≡ record before { breaks = with_lines (pulled_breaks card slot at) before.breaks })
+IsDone (Place slot ending country region) at speed failed old new before after =
+    (fell : Bool) × IsPlaced (card_in (seat_in old.keeper.cabin.slots.seats slot)) slot at old new before.breaks after.breaks fell × (after ≡ record before { breaks = after.breaks })
+
+-- the run and the outcome behind an action: where the unit failed in it, power was lost in its second
+abbrev pub cut_where : (failed : Bool) → Run → Run
+cut_where false run = run
+cut_where true run = cut_run run.next run
+
+abbrev pub cut_breaks : (failed : Bool) → (second begun : ℕ) → Outcome → Outcome
+cut_breaks false second begun o = o
+cut_breaks true second begun o = record o { breaks = with_lines (cut_at second true begun ∷ []) o.breaks }
+
+pub record IsCarriedOut (action : Action) (begun speed : ℕ) (old new : Run) (before after : Outcome) : Type 0 where
+  pub failed : Bool
+  pub between : Run
+  pub told : Outcome
+  pub done : IsDone action (moment_of begun old) speed failed old between before told
+  pub run : new ≡ cut_where failed between
+  pub outcome : after ≡ cut_breaks failed between.next begun told
+
+-- one that is refused is told so, and changes nothing else
+abbrev pub IsActedBy : Option SlotFault → Action → (begun speed : ℕ) → (old new : Run) → (before after : Outcome) → Type 0
+IsActedBy None action begun speed old new before after = IsCarriedOut action begun speed old new before after
+IsActedBy (Some fault) action begun speed old new before after = (new ≡ old) × (after ≡ record before { refused = with_lines (record { second = old.next; fault = fault } ∷ []) before.refused })
+
+-- AN ACTION of a second: refused without power; passed over where power was lost in the second; else refused by slots and speed, or carried out
+abbrev pub IsActed : (has_power lit : Bool) → Action → (begun speed : ℕ) → (old new : Run) → (before after : Outcome) → Type 0
+IsActed false lit action begun speed old new before after = IsActedBy (Some NoPower) action begun speed old new before after
+IsActed true false action begun speed old new before after = (new ≡ old) × (after ≡ before)
+IsActed true true action begun speed old new before after = IsActedBy (refusal (logged old.keeper.cabin.slots.seats) speed action) action begun speed old new before after
+
+-- an item of a second
+abbrev pub IsItemActed : Item → (has_power lit : Bool) → (begun speed : ℕ) → (old new : Run) → (before after : Outcome) → Type 0
+IsItemActed (Driven seconds driven) has_power lit begun speed old new before after = (new ≡ old) × (after ≡ before)
+IsItemActed (Off seconds) has_power lit begun speed old new before after = (new ≡ old) × (after ≡ before)
+IsItemActed (Act action) has_power lit begun speed old new before after = IsActed has_power lit action begun speed old new before after
+
+-- THE ACTIONS of a second, one after another, behind so many before them
+abbrev pub AreActed : (has_power : Bool) → (speed number : ℕ) → List Item → (old new : Run) → (before after : Outcome) → Type 0
+AreActed has_power speed number [] old new before after = (new ≡ old) × (after ≡ before)
+AreActed has_power speed number (item ∷ items) old new before after = (mid : Run) × (told : Outcome)
+    × IsItemActed item has_power (is_lit old.power) (min (number + 1) largest_number) speed old mid before told × AreActed has_power speed (number + 1) items mid new told after

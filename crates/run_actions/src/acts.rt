@@ -9,8 +9,8 @@ ghost use Rattle.run_power.specs.declared.run.Power.TheVariants.{Lit};
 ghost use Rattle.run_power.specs.Power.{is_lit};
 ghost use Rattle.run_power.specs.Going.{largest_number, first_second, end_of_seconds, IsHeld, IsLit, IsWithin};
 ghost use Rattle.run_power.specs.Room.{HasRoomWithin, Takes};
-ghost use Rattle.run_actions.specs.Acting.{put_count, refusal_lines, refused_by, IsSelected, IsFine, StaysIn};
-ghost use Rattle.run_actions.specs.Items.{insertions_in};
+ghost use Rattle.run_actions.specs.Acting.{put_count, refusal_lines, refused_by, IsSelected, IsFine, StaysIn, moment_of, IsDone, IsActedBy, IsActed, IsItemActed, AreActed};
+ghost use Rattle.run_actions.specs.Items.{between, insertions_in};
 ghost use Rattle.run_outcome.specs.Room.{insertion_count};
 
 use log_model::SlotFault;
@@ -46,6 +46,7 @@ pub fn act_all<M: Medium, C: Chip, D: Chip>(
     requires going { IsWithin run.old (M.state unit.old) (C.card card_a.old) (D.card card_b.old) (C.state card_a.old) (D.state card_b.old) }
     requires dark { has_power ≡ false → is_lit run.old.power ≡ false }
     requires room { HasRoomWithin run.old outcome.old 1 0 (insertions_in from to items.now) (to - from) }
+    ensures acted { AreActed has_power speed 0 (between from to items.now) run.old run.new outcome.old outcome.new }
     ensures going { IsWithin run.new (M.state unit.new) (C.card card_a.new) (D.card card_b.new) (C.state card_a.new) (D.state card_b.new) }
     ensures next { run.new.next ≡ run.old.next }
     ensures unfound { run.new.unfound ≡ run.old.unfound }
@@ -82,6 +83,7 @@ fn act_item<M: Medium, C: Chip, D: Chip>(
     requires going { IsWithin run.old (M.state unit.old) (C.card card_a.old) (D.card card_b.old) (C.state card_a.old) (D.state card_b.old) }
     requires dark { has_power ≡ false → is_lit run.old.power ≡ false }
     requires room { HasRoomWithin run.old outcome.old 1 0 (insertion_count item.now) 1 }
+    ensures acted { IsItemActed item.now has_power (is_lit run.old.power) begun speed run.old run.new outcome.old outcome.new }
     ensures going { IsWithin run.new (M.state unit.new) (C.card card_a.new) (D.card card_b.new) (C.state card_a.new) (D.state card_b.new) }
     ensures dark { has_power ≡ false → is_lit run.new.power ≡ false }
     ensures next { run.new.next ≡ run.old.next }
@@ -112,6 +114,7 @@ fn act<M: Medium, C: Chip, D: Chip>(
     requires going { IsWithin run.old (M.state unit.old) (C.card card_a.old) (D.card card_b.old) (C.state card_a.old) (D.state card_b.old) }
     requires dark { has_power ≡ false → is_lit run.old.power ≡ false }
     requires room { HasRoomWithin run.old outcome.old 1 0 (put_count action) 1 }
+    ensures acted { IsActed has_power (is_lit run.old.power) action begun speed run.old run.new outcome.old outcome.new }
     ensures refused { outcome.new.refused ≡ with_lines (refusal_lines (refused_by has_power (is_lit run.old.power) run.old.keeper.cabin.slots.seats speed action) run.old.next) outcome.old.refused }
     ensures none { (refused_by has_power (is_lit run.old.power) run.old.keeper.cabin.slots.seats speed action ≡ None → ⊥) → run.new ≡ run.old }
     ensures lost { has_power ≡ true → is_lit run.old.power ≡ false → (run.new ≡ run.old) × (outcome.new ≡ outcome.old) }
@@ -147,6 +150,7 @@ fn act_lit<M: Medium, C: Chip, D: Chip>(
     requires lit { run.old.power ≡ Lit }
     requires going { IsWithin run.old (M.state unit.old) (C.card card_a.old) (D.card card_b.old) (C.state card_a.old) (D.state card_b.old) }
     requires room { HasRoomWithin run.old outcome.old 1 0 (put_count action) 1 }
+    ensures acted { IsActedBy (refusal (logged run.old.keeper.cabin.slots.seats) speed action) action begun speed run.old run.new outcome.old outcome.new }
     ensures refused { outcome.new.refused ≡ with_lines (refusal_lines (refusal (logged run.old.keeper.cabin.slots.seats) speed action) run.old.next) outcome.old.refused }
     ensures none { (refusal (logged run.old.keeper.cabin.slots.seats) speed action ≡ None → ⊥) → run.new ≡ run.old }
     ensures selected { IsSelected action run.old run.new }
@@ -193,6 +197,7 @@ fn carry_out<M: Medium, C: Chip, D: Chip>(
     requires going { IsWithin run.old (M.state unit.old) (C.card card_a.old) (D.card card_b.old) (C.state card_a.old) (D.state card_b.old) }
     requires allowed { refusal (logged run.old.keeper.cabin.slots.seats) speed action ≡ None }
     requires room { HasRoomWithin run.old outcome.old 1 0 (put_count action) 0 }
+    ensures done { IsDone action (moment_of begun run.old) speed (is_err result) run.old run.new outcome.old outcome.new }
     ensures selected { IsSelected action run.old run.new }
     ensures fine { IsFine action (is_err result) }
     ensures stays { StaysIn run.old run.new }

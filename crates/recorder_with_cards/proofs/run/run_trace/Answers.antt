@@ -28,7 +28,7 @@ returns-in_err-opened-clause-refused g c =
     let h : IfErr c.from_residual.result
     (IsRefused c.args.trace.now.start (devices (g.U.Medium.state c.args.unit.now) (g.C.Chip.state c.args.card_a.now) (g.C.Chip.state c.args.card_b.now)) (devices (g.U.Medium.state c.judge.new.unit) (g.C.Chip.state c.judge.new.card_a) (g.C.Chip.state c.judge.new.card_b)))
     = first_of (search rules, grind (arith, common_steps)) in
-    if-err c.from_residual.result (λ fault is. inl (is, refl)) h
+    if-err c.from_residual.result (λ fault is. inl (is, c.judge.ensures.unit, c.judge.ensures.card_a, c.judge.ensures.card_b, refl)) h
 
 pub loop-i-init : goal.loop-i-init
 loop-i-init g c =

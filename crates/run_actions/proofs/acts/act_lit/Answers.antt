@@ -1,7 +1,13 @@
-use Rattle.std.proofs.Common.{◌≡◌, ◌∙◌, ℕ, ◌+◌, ◌/◌, ◌<◌, ◌≤◌, ◌∷◌, [], true, false, length, refl, ap, sym, subst, arith}
+use Rattle.std.proofs.Common.{rules, ◌≡◌, ◌∙◌, ℕ, ◌+◌, ◌/◌, ◌<◌, ◌≤◌, ◌∷◌, [], Bool, true, false, Option, None, length, refl, ap, sym, subst, arith}
+use Rattle.std.proofs.lemmas.Grind.{common_steps}
 use Rattle.std.specs.Prelude.{is_err}
 use Rattle.tach_media.proofs.Runs.{ok_gives}
 use Rattle.log_model.specs.declared.lines.Break.{Break}
+use Rattle.log_model.specs.declared.lines.Refused.{Refused}
+use Rattle.log_model.specs.declared.lines.SlotFault.{SlotFault}
+use Rattle.log_model.specs.Slots.{refusal}
+use Rattle.slot_machine.specs.Calls.{logged}
+use Rattle.run_outcome.specs.declared.outcome.Outcome.{Outcome}
 use Rattle.run_outcome.specs.Lines.{Listed, cut_at}
 use Rattle.run_keeping.proofs.Counts.{lines-length}
 use Rattle.run_power.specs.declared.run.Run.{Run}
@@ -11,7 +17,7 @@ use Rattle.run_power.specs.Going.{IsAt}
 use Rattle.run_power.specs.Room.{falls_of}
 use Rattle.run_power.proofs.Standing.{cut-at}
 use Rattle.run_power.proofs.Torn.{cut-falls}
-use Rattle.run_actions.specs.Acting.{put_count}
+use Rattle.run_actions.specs.Acting.{put_count, moment_of, IsDone, IsActedBy}
 use Rattle.run_actions.proofs.Allowed.{fine-selected}
 use Rattle.run_actions.proofs.Rooms.{few-wait, room-cut}
 use Rattle.run_actions.proofs.acts.act_lit.Goals as goal
@@ -58,3 +64,45 @@ returns-else-is_err-clause-going g c =
       dark = λ no. absurd (let bad : true ≡ false = sym lit ∙ no in cc);
       lit = λ yes. ok_gives c.carry_out.result c.carry_out.ensures.going (let well : is_err c.carry_out.result ≡ false = sym c.is_err.ensures.value ∙ c.if-is_err.false in well);
     }
+
+-- ---- what it did
+
+pub returns-in-Err-clause-acted : goal.returns-in-Err-clause-acted
+returns-in-Err-clause-acted g c =
+    let run = c.args.run.now in
+    let o = c.args.outcome.now in
+    subst (λ (r : Option SlotFault). IsActedBy r c.args.action c.args.begun c.args.speed run run o (record o { refused = c.refuse.new.refused })) c.in-Err.ensures (refl, ap (λ (l : Listed Refused). record o { refused = l }) c.refuse.ensures)
+
+pub returns-then-is_err-clause-acted : goal.returns-then-is_err-clause-acted
+returns-then-is_err-clause-acted g c =
+    let run = c.args.run.now in
+    let o = c.args.outcome.now in
+    let none : refusal (logged run.keeper.cabin.slots.seats) c.args.speed c.args.action ≡ None = first_of (search rules, grind (arith, common_steps)) in
+    let failed : is_err c.carry_out.result ≡ true = sym c.is_err.ensures.value ∙ c.if-is_err.true in
+    let told : Outcome = c.carry_out.new.outcome in
+    subst (λ (r : Option SlotFault). IsActedBy r c.args.action c.args.begun c.args.speed run c.cut.new.self o (record told { breaks = c.cut.new.breaks })) (sym none)
+    (record {
+      failed = true;
+      between = c.carry_out.new.run;
+      told = told;
+      done = subst (λ (b : Bool). IsDone c.args.action (moment_of c.args.begun run) c.args.speed b run c.carry_out.new.run o told) failed c.carry_out.ensures.done;
+      run = c.cut.ensures.run;
+      outcome = ap (λ (l : Listed Break). record told { breaks = l }) c.cut.ensures.breaks;
+    })
+
+pub returns-else-is_err-clause-acted : goal.returns-else-is_err-clause-acted
+returns-else-is_err-clause-acted g c =
+    let run = c.args.run.now in
+    let o = c.args.outcome.now in
+    let none : refusal (logged run.keeper.cabin.slots.seats) c.args.speed c.args.action ≡ None = first_of (search rules, grind (arith, common_steps)) in
+    let well : is_err c.carry_out.result ≡ false = sym c.is_err.ensures.value ∙ c.if-is_err.false in
+    let told : Outcome = c.carry_out.new.outcome in
+    subst (λ (r : Option SlotFault). IsActedBy r c.args.action c.args.begun c.args.speed run c.carry_out.new.run o told) (sym none)
+    (record {
+      failed = false;
+      between = c.carry_out.new.run;
+      told = told;
+      done = subst (λ (b : Bool). IsDone c.args.action (moment_of c.args.begun run) c.args.speed b run c.carry_out.new.run o told) well c.carry_out.ensures.done;
+      run = refl;
+      outcome = refl;
+    })

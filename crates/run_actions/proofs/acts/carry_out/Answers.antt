@@ -1,19 +1,21 @@
-use Rattle.std.proofs.Common.{◌≡◌, ◌∙◌, ℕ, ◌/◌, ◌≤◌, Option, Some, None, refl, ap, sym, subst, arith}
+use Rattle.std.proofs.Common.{◌≡◌, ◌∙◌, ℕ, ◌/◌, ◌≤◌, false, Option, Some, None, refl, ap, sym, subst, arith}
 use Rattle.std.specs.Prelude.{is_err}
 use Rattle.trace_model.specs.declared.Card.{Card}
 use Rattle.trace_model.specs.declared.Action.{Action}
+use Rattle.trace_model.specs.declared.Action.TheVariants.{Insert, Withdraw, Tear, Place}
 use Rattle.log_model.specs.Slots.{refusal}
 use Rattle.log_model.specs.declared.lines.Break.{Break}
 use Rattle.slot_machine.specs.Calls.{logged, seat_in, card_in}
 use Rattle.run_crew.specs.Cabin.{Stands}
 use Rattle.run_outcome.specs.Lines.{Listed}
+use Rattle.run_outcome.specs.declared.outcome.Outcome.{Outcome}
 use Rattle.run_keeping.specs.declared.keeper.Moment.{Moment}
 use Rattle.run_power.specs.declared.run.Run.{Run}
 use Rattle.run_power.specs.Power.{is_lit}
 use Rattle.run_power.specs.Going.{IsHeld, IsLit}
 use Rattle.run_power.specs.Room.{Takes}
 use Rattle.run_acts.specs.Acting.{pulled_run}
-use Rattle.run_actions.specs.Acting.{put_count, StaysIn}
+use Rattle.run_actions.specs.Acting.{put_count, StaysIn, moment_of, IsDone}
 use Rattle.run_actions.proofs.Allowed.{insert-elsewhere}
 use Rattle.run_actions.proofs.Picked.{picked-going}
 use Rattle.run_actions.proofs.Pulled.{pulled-stays, pulled-held, pulled-going, pulled-takes}
@@ -69,3 +71,42 @@ returns-in-Tear-clause-takes g c =
     (subst (λ (r : Run). Takes 0 0 0 run r o (record o { breaks = c.pull.new.breaks })) (sym c.pull.ensures.run)
     (subst (λ (l : Listed Break). Takes 0 0 0 run (pulled_run card c.moment-at.result.second run) o (record o { breaks = l })) (sym c.pull.ensures.breaks)
     (pulled-takes card run c.in-Tear.slot c.moment-at.result o stand.0 stand.1 refl stand.2)))
+
+-- ---- what it did
+
+pub returns-in-Select-clause-done : goal.returns-in-Select-clause-done
+returns-in-Select-clause-done g c =
+    let run = c.args.run.now in
+    let o = c.args.outcome.now in
+    subst (λ (a : Action). IsDone a (moment_of c.args.begun run) c.args.speed false run (record run { minutes = c.select.new.self }) o o) (sym c.in-Select.is) (refl, (refl, c.select.ensures.picked), refl)
+
+pub returns-in-Insert-clause-done : goal.returns-in-Insert-clause-done
+returns-in-Insert-clause-done g c =
+    let run = c.args.run.now in
+    let o = c.args.outcome.now in
+    subst (λ (a : Action). IsDone a (moment_of c.args.begun run) c.args.speed (is_err c.insert.result) run c.insert.new.run o c.insert.new.outcome) (sym c.in-Insert.is)
+    (subst (λ (m : Moment). IsDone (Insert c.in-Insert.slot c.in-Insert.card) m c.args.speed (is_err c.insert.result) run c.insert.new.run o c.insert.new.outcome) c.moment-at.ensures c.insert.ensures.inserted)
+
+pub returns-in-Withdraw-clause-done : goal.returns-in-Withdraw-clause-done
+returns-in-Withdraw-clause-done g c =
+    let run = c.args.run.now in
+    let o = c.args.outcome.now in
+    subst (λ (a : Action). IsDone a (moment_of c.args.begun run) c.args.speed (is_err c.withdraw.result) run c.withdraw.new.run o c.withdraw.new.outcome) (sym c.in-Withdraw.is)
+    (subst (λ (m : Moment). IsDone (Withdraw c.in-Withdraw.slot) m c.args.speed (is_err c.withdraw.result) run c.withdraw.new.run o c.withdraw.new.outcome) c.moment-at.ensures c.withdraw.ensures.withdrawn)
+
+pub returns-in-Tear-clause-done : goal.returns-in-Tear-clause-done
+returns-in-Tear-clause-done g c =
+    let run = c.args.run.now in
+    let o = c.args.outcome.now in
+    subst (λ (a : Action). IsDone a (moment_of c.args.begun run) c.args.speed false run c.pull.new.run o (record o { breaks = c.pull.new.breaks })) (sym c.in-Tear.is)
+    (subst (λ (m : Moment). IsDone (Tear c.in-Tear.slot) m c.args.speed false run c.pull.new.run o (record o { breaks = c.pull.new.breaks })) c.moment-at.ensures
+    (refl, c.pull.ensures.run, ap (λ (l : Listed Break). record o { breaks = l }) c.pull.ensures.breaks))
+
+pub returns-in-Place-clause-done : goal.returns-in-Place-clause-done
+returns-in-Place-clause-done g c =
+    let run = c.args.run.now in
+    let o = c.args.outcome.now in
+    let after : Outcome = record o { breaks = c.note_place.new.breaks } in
+    let placed = c.note_place.ensures.placed in
+    subst (λ (a : Action). IsDone a (moment_of c.args.begun run) c.args.speed (is_err c.note_place.result) run c.note_place.new.run o after) (sym c.in-Place.is)
+    (subst (λ (m : Moment). IsDone (Place c.in-Place.slot c.in-Place.ending c.in-Place.country c.in-Place.region) m c.args.speed (is_err c.note_place.result) run c.note_place.new.run o after) c.moment-at.ensures (placed.0, placed.1, refl))
