@@ -1,0 +1,4 @@
+pub mod Rooms
+pub mod Begun
+pub mod Taken
+pub mod NoSession
