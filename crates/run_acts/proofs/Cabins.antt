@@ -20,12 +20,12 @@ use Rattle.run_crew.specs.Cabin.{Stands, number_of_seat}
 use Rattle.run_keeping.specs.declared.keeper.Moment.{Moment}
 use Rattle.run_keeping.specs.Keeping.{UnitReady, CardReady, HasItsRow, SessionsGoOn, tears_of}
 use Rattle.run_keeping.proofs.Seats.{sessions-none}
-use Rattle.run_power.specs.declared.run.Run.{Run}
-use Rattle.run_power.specs.Power.{with_cabin}
-use Rattle.run_power.specs.Going.{CardAt, StandSomehow, IsHeld, IsGoingOn, IsLit}
-use Rattle.run_power.specs.Room.{falls_of}
-use Rattle.run_power.proofs.Kept.{moved-going}
-use Rattle.run_power.proofs.Torn.{torn-past, torn-minute, torn-falls, torn-sessions}
+use Rattle.run_acts.specs.declared.run.Run.{Run}
+use Rattle.run_acts.specs.Power.{with_cabin}
+use Rattle.run_acts.specs.Going.{CardAt, StandSomehow, IsHeld, IsGoingOn, IsLit}
+use Rattle.run_acts.specs.Room.{falls_of}
+use Rattle.run_acts.proofs.Kept.{moved-going}
+use Rattle.run_acts.proofs.Torn.{torn-past, torn-minute, torn-falls, torn-sessions}
 use Rattle.run_acts.specs.Acting.{noted_run, noted_breaks}
 
 -- ---- in general

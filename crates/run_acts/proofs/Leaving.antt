@@ -16,12 +16,12 @@ use Rattle.run_keeping.specs.declared.keeper.Keeper.{Keeper}
 use Rattle.run_keeping.specs.declared.keeper.Moment.{Moment}
 use Rattle.run_keeping.specs.Keeping.{UnitReady, CardReady, HasItsRow, SessionsGoOn, tears_of}
 use Rattle.run_keeping.proofs.Seats.{sessions-none, sessions-then}
-use Rattle.run_power.specs.declared.run.Run.{Run}
-use Rattle.run_power.specs.Power.{with_cabin}
-use Rattle.run_power.specs.Going.{CardAt, IsHeld, IsGoingOn, IsLit}
-use Rattle.run_power.specs.Room.{falls_of}
-use Rattle.run_power.proofs.Kept.{moved-going}
-use Rattle.run_power.proofs.Torn.{torn-past, torn-minute, torn-falls, torn-sessions, sessions-without, tears-without}
+use Rattle.run_acts.specs.declared.run.Run.{Run}
+use Rattle.run_acts.specs.Power.{with_cabin}
+use Rattle.run_acts.specs.Going.{CardAt, IsHeld, IsGoingOn, IsLit}
+use Rattle.run_acts.specs.Room.{falls_of}
+use Rattle.run_acts.proofs.Kept.{moved-going}
+use Rattle.run_acts.proofs.Torn.{torn-past, torn-minute, torn-falls, torn-sessions, sessions-without, tears-without}
 use Rattle.run_acts.specs.Acting.{Closing, Bare, Closed, Fell, IsClosingOf, closed_cabin, closed_breaks, left_run}
 
 -- ---- it has left its slot

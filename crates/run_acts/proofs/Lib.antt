@@ -3,3 +3,12 @@ pub mod Leaving
 pub mod Cabins
 pub mod Withdrawn
 pub mod Bare
+pub mod Past
+pub mod Standing
+pub mod Due
+pub mod Kept
+pub mod Noted
+pub mod Torn
+pub mod Turned
+pub mod Room
+pub mod TurnBooked

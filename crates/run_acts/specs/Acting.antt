@@ -17,8 +17,8 @@ use Rattle.run_outcome.specs.declared.outcome.Outcome.{Outcome}
 use Rattle.run_keeping.specs.declared.keeper.Moment.{Moment}
 use Rattle.run_keeping.specs.Keeping.{tear_of, with_lines}
 use Rattle.run_keeping.specs.Minutes.{Told, AreKeptUpTo}
-use Rattle.run_power.specs.declared.run.Run.{Run}
-use Rattle.run_power.specs.Power.{with_cabin}
+use Rattle.run_acts.specs.declared.run.Run.{Run}
+use Rattle.run_acts.specs.Power.{with_cabin}
 
 -- keeper, marks and breaks of a run
 abbrev pub told_of : Run → Outcome → Told

@@ -3,9 +3,9 @@ ghost use Rattle.std.specs.Prelude.{◌≡◌, ℕ, ◌+◌, ◌-◌, ◌*◌, �
 ghost use Rattle.trace_model.specs.declared.Card.{Card};
 ghost use Rattle.tach_media.specs.Medium.{HasCause, HasBroken};
 ghost use Rattle.run_keeping.specs.Keeping.{tears_of, most_tears};
-ghost use Rattle.run_power.specs.declared.run.Power.TheVariants.{Lit};
-ghost use Rattle.run_power.specs.Going.{first_second, end_of_seconds, IsHeld, IsGoingOn};
-ghost use Rattle.run_power.specs.Room.{Takes};
+ghost use Rattle.run_acts.specs.declared.run.Power.TheVariants.{Lit};
+ghost use Rattle.run_acts.specs.Going.{first_second, end_of_seconds, IsHeld, IsGoingOn};
+ghost use Rattle.run_acts.specs.Room.{Takes};
 ghost use Rattle.activity_codec.specs.declared.values.Slot.{Slot};
 ghost use Rattle.slot_machine.specs.Calls.{seat_in};
 ghost use Rattle.minute_model.specs.declared.Minute.{Minute};
@@ -16,9 +16,9 @@ ghost use Rattle.run_keeping.specs.Minutes.{Reach, IsReach};
 ghost use Rattle.run_keeping.specs.Decided.{BooksAll};
 ghost use Rattle.run_acts.specs.Acting.{IsSettled, IsBareIn, told_of};
 
+use crate::run::Run;
 use run_keeping::Moment;
 use run_outcome::Outcome;
-use run_power::Run;
 use tach_media::{Chip, Failed, Medium};
 
 /// The minutes before that of the next second are decided and kept.

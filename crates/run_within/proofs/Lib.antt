@@ -7,3 +7,11 @@ pub mod Rounds
 pub mod Acting
 pub mod Steps
 pub mod Ending
+pub mod Sitting
+pub mod Judging
+pub mod Tearing
+pub mod Known
+pub mod Powering
+pub mod Reading
+pub mod Calls
+pub mod Waking

@@ -1,2 +1,5 @@
 pub mod Recorded
 pub mod Within
+pub mod Judging
+pub mod Powering
+pub mod Waking

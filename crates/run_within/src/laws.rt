@@ -1,5 +1,8 @@
 ghost use Rattle.run_rule.specs.Between.{devices};
 ghost use Rattle.run_within.specs.Within.{ACutIsRecorded, TheSecondIsOver, ASecondBegins, AMinuteIsOver, ASecondIsFed, AMinuteIsKeptSo, ARefusalIsRecorded, ASelectionIsRecorded, APlaceIsRecorded, ACallIsRecorded, AFailureIsRecorded, AFailureBehindIsRecorded};
+ghost use Rattle.run_within.specs.Judging.{ACardIsJudged, AJudgingFails, AWaitingCardIsTorn, ATearingFails};
+ghost use Rattle.run_within.specs.Powering.{PowerIsBack, AMendingFails, AReadingFails};
+ghost use Rattle.run_within.specs.Waking.{PowerWakes};
 
 use tach_media::{Chip, Medium};
 
@@ -89,4 +92,100 @@ pub fn a_failure_behind_is_recorded<M: Medium, C: Chip, D: Chip, N: Medium, E: C
 /// A place is told of.
 pub fn a_place_is_recorded<M: Medium, C: Chip, D: Chip>(unit: &M, card_a: &C, card_b: &D)
     ensures { APlaceIsRecorded (devices (M.state unit.now) (C.state card_a.now) (D.state card_b.now)) }
+{}
+
+/// A card that waits is judged, and accepted or not.
+pub fn a_card_is_judged<M: Medium, C: Chip, D: Chip, N: Medium, E: Chip, F: Chip>(
+    old_unit: &M,
+    old_a: &C,
+    old_b: &D,
+    unit: &N,
+    card_a: &E,
+    card_b: &F,
+)
+    ensures { ACardIsJudged (devices (M.state old_unit.now) (C.state old_a.now) (D.state old_b.now)) (devices (N.state unit.now) (E.state card_a.now) (F.state card_b.now)) }
+{}
+
+/// The unit failed behind that: power is about to be cut.
+pub fn a_judging_fails<M: Medium, C: Chip, D: Chip, N: Medium, E: Chip, F: Chip>(
+    old_unit: &M,
+    old_a: &C,
+    old_b: &D,
+    unit: &N,
+    card_a: &E,
+    card_b: &F,
+)
+    ensures { AJudgingFails (devices (M.state old_unit.now) (C.state old_a.now) (D.state old_b.now)) (devices (N.state unit.now) (E.state card_a.now) (F.state card_b.now)) }
+{}
+
+/// A card that waits is torn out before it is judged.
+pub fn a_waiting_card_is_torn<M: Medium, C: Chip, D: Chip, N: Medium, E: Chip, F: Chip>(
+    old_unit: &M,
+    old_a: &C,
+    old_b: &D,
+    unit: &N,
+    card_a: &E,
+    card_b: &F,
+)
+    ensures { AWaitingCardIsTorn (devices (M.state old_unit.now) (C.state old_a.now) (D.state old_b.now)) (devices (N.state unit.now) (E.state card_a.now) (F.state card_b.now)) }
+{}
+
+/// The unit failed behind that: power is about to be cut.
+pub fn a_tearing_fails<M: Medium, C: Chip, D: Chip, N: Medium, E: Chip, F: Chip>(
+    old_unit: &M,
+    old_a: &C,
+    old_b: &D,
+    unit: &N,
+    card_a: &E,
+    card_b: &F,
+)
+    ensures { ATearingFails (devices (M.state old_unit.now) (C.state old_a.now) (D.state old_b.now)) (devices (N.state unit.now) (E.state card_a.now) (F.state card_b.now)) }
+{}
+
+/// The unit was read and mended: the second begins with power.
+pub fn power_is_back<M: Medium, C: Chip, D: Chip, N: Medium, E: Chip, F: Chip>(
+    old_unit: &M,
+    old_a: &C,
+    old_b: &D,
+    unit: &N,
+    card_a: &E,
+    card_b: &F,
+)
+    ensures { PowerIsBack (devices (M.state old_unit.now) (C.state old_a.now) (D.state old_b.now)) (devices (N.state unit.now) (E.state card_a.now) (F.state card_b.now)) }
+{}
+
+/// The unit was read, and its mending failed: power is about to be cut.
+pub fn a_mending_fails<M: Medium, C: Chip, D: Chip, N: Medium, E: Chip, F: Chip>(
+    old_unit: &M,
+    old_a: &C,
+    old_b: &D,
+    unit: &N,
+    card_a: &E,
+    card_b: &F,
+)
+    ensures { AMendingFails (devices (M.state old_unit.now) (C.state old_a.now) (D.state old_b.now)) (devices (N.state unit.now) (E.state card_a.now) (F.state card_b.now)) }
+{}
+
+/// The unit was not read, since a call failed: behind the second all is recorded.
+pub fn a_reading_fails<M: Medium, C: Chip, D: Chip, N: Medium, E: Chip, F: Chip>(
+    old_unit: &M,
+    old_a: &C,
+    old_b: &D,
+    unit: &N,
+    card_a: &E,
+    card_b: &F,
+)
+    ensures { AReadingFails (devices (M.state old_unit.now) (C.state old_a.now) (D.state old_b.now)) (devices (N.state unit.now) (E.state card_a.now) (F.state card_b.now)) }
+{}
+
+/// At the power-on that the second begins with, each card in a slot may be judged.
+pub fn power_wakes<M: Medium, C: Chip, D: Chip, N: Medium, E: Chip, F: Chip>(
+    old_unit: &M,
+    old_a: &C,
+    old_b: &D,
+    unit: &N,
+    card_a: &E,
+    card_b: &F,
+)
+    ensures { PowerWakes (devices (M.state old_unit.now) (C.state old_a.now) (D.state old_b.now)) (devices (N.state unit.now) (E.state card_a.now) (F.state card_b.now)) }
 {}

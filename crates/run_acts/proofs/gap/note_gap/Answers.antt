@@ -6,8 +6,8 @@ use Rattle.event_model.specs.declared.entries.Span.{Span}
 use Rattle.event_model.specs.Spans.{gap_of}
 use Rattle.unit_notes.specs.declared.unit_event.UnitEvent.{UnitEvent}
 use Rattle.run_keeping.proofs.Seats.{sessions-none}
-use Rattle.run_power.proofs.Kept.{moved-going}
-use Rattle.run_power.proofs.Noted.{noted-ready, noted-row}
+use Rattle.run_acts.proofs.Kept.{moved-going}
+use Rattle.run_acts.proofs.Noted.{noted-ready, noted-row}
 use Rattle.run_acts.proofs.gap.note_gap.Goals as goal
 
 pub note_in-requires-clause-going : goal.note_in-requires-clause-going

@@ -10,11 +10,11 @@ use Rattle.log_model.specs.declared.lines.Break.{Break}
 use Rattle.run_outcome.specs.Lines.{Listed}
 use Rattle.run_keeping.specs.Keeping.{CardReady}
 use Rattle.run_keeping.proofs.Counts.{lines-length}
-use Rattle.run_power.specs.declared.run.Run.{Run}
-use Rattle.run_power.specs.Power.{with_cabin}
-use Rattle.run_power.specs.Going.{IsHeld, IsLit}
-use Rattle.run_power.specs.Room.{falls_of}
-use Rattle.run_power.proofs.Noted.{noted-ready, noted-row}
+use Rattle.run_acts.specs.declared.run.Run.{Run}
+use Rattle.run_acts.specs.Power.{with_cabin}
+use Rattle.run_acts.specs.Going.{IsHeld, IsLit}
+use Rattle.run_acts.specs.Room.{falls_of}
+use Rattle.run_acts.proofs.Noted.{noted-ready, noted-row}
 use Rattle.run_acts.specs.Acting.{noted_breaks}
 use Rattle.run_acts.proofs.Cabins.{keeper-only, cabin-going, cabin-held, ready-same, at-same, noted_cabin, noted-is, noted-past, noted-minute, noted-sessions, noted-falls, noted-a, noted-b, numbered-session}
 use Rattle.run_acts.proofs.placing.note_place.Goals as goal

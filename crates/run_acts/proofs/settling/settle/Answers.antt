@@ -4,10 +4,10 @@ use Rattle.minute_model.specs.declared.Minute.{Minute}
 use Rattle.minute_model.specs.Span.{ungiven_of, end_of, settled}
 use Rattle.run_keeping.specs.Keeping.{most_tears}
 use Rattle.run_keeping.specs.Minutes.{AreDue, AreKept, AreKeptUpTo, Told, kept_after}
-use Rattle.run_power.specs.declared.run.Run.{Run}
-use Rattle.run_power.specs.declared.run.Power.{Power}
-use Rattle.run_power.specs.Room.{waiting, bare_seats}
-use Rattle.run_power.proofs.Kept.{given-ended, given-rows, kept-going, seats-less, owing-is, owing-sum}
+use Rattle.run_acts.specs.declared.run.Run.{Run}
+use Rattle.run_acts.specs.declared.run.Power.{Power}
+use Rattle.run_acts.specs.Room.{waiting, bare_seats}
+use Rattle.run_acts.proofs.Kept.{given-ended, given-rows, kept-going, seats-less, owing-is, owing-sum}
 use Rattle.run_acts.specs.Acting.{told_of}
 use Rattle.run_acts.proofs.Settled.{settled-ungiven, settled-later, settled-decides}
 use Rattle.run_acts.proofs.Bare.{all-bare}

@@ -18,8 +18,8 @@ use Rattle.run_crew.specs.Cabin.{torn_out}
 use Rattle.run_keeping.specs.declared.keeper.Keeper.{Keeper}
 use Rattle.run_keeping.specs.Keeping.{UnitReady, CardReady, HasItsRow}
 use Rattle.run_keeping.proofs.Sessions.{number-set}
-use Rattle.run_power.specs.declared.run.Run.{Run}
-use Rattle.run_power.proofs.Noted.{noted-ready, noted-row}
+use Rattle.run_acts.specs.declared.run.Run.{Run}
+use Rattle.run_acts.proofs.Noted.{noted-ready, noted-row}
 use Rattle.run_acts.specs.Acting.{Fell, IsClosingOf}
 use Rattle.run_acts.proofs.Cabins.{session-known, twice-ready}
 use Rattle.run_acts.proofs.withdrawing.close.Goals as goal

@@ -20,11 +20,11 @@ use Rattle.run_keeping.specs.declared.keeper.Moment.{Moment}
 use Rattle.run_keeping.specs.Keeping.{tears_of}
 use Rattle.run_keeping.specs.Minutes.{Told, Reach, IsReach}
 use Rattle.run_keeping.proofs.Counts.{lines-length}
-use Rattle.run_power.specs.declared.run.Run.{Run}
-use Rattle.run_power.specs.Power.{with_cabin}
-use Rattle.run_power.specs.Going.{IsHeld, IsGoingOn, IsLit}
-use Rattle.run_power.specs.Room.{waiting_of, falls_of}
-use Rattle.run_power.proofs.Torn.{tears-without}
+use Rattle.run_acts.specs.declared.run.Run.{Run}
+use Rattle.run_acts.specs.Power.{with_cabin}
+use Rattle.run_acts.specs.Going.{IsHeld, IsGoingOn, IsLit}
+use Rattle.run_acts.specs.Room.{waiting_of, falls_of}
+use Rattle.run_acts.proofs.Torn.{tears-without}
 use Rattle.run_acts.specs.Behind.{BooksWithdrawn}
 use Rattle.run_acts.proofs.Withdrawn.{withdrawn-cut, withdrawn-closed}
 use Rattle.run_acts.specs.Acting.{Closing, told_of, IsSettled, IsWithdrawn, closed_cabin, closed_breaks, left_run}

@@ -1,0 +1,17 @@
+pub mod Items
+pub mod Dark
+pub mod Start
+pub mod Comes
+pub mod Goes
+pub mod Puts
+pub mod AwakeRooms
+pub mod Begun
+pub mod Taken
+pub mod NoSession
+pub mod Allowed
+pub mod Rooms
+pub mod Picked
+pub mod Pulled
+pub mod More
+pub mod Counted
+pub mod Acted

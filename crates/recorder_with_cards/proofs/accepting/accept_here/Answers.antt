@@ -1,0 +1,112 @@
+use Rattle.std.proofs.Common.{rules, ◌≡◌, ◌∙◌, ⊎_elim, ℕ, ◌+◌, ◌*◌, ◌/◌, ◌<◌, ◌≤◌, Option, Some, None, IfSome, is_some, true, List, length, refl, ap, sym, subst, arith, length-append}
+use Rattle.tach_media.proofs.Runs.{on_ok, ok_gives}
+use Rattle.trace_model.specs.declared.Card.{Card}
+use Rattle.joint_rule.specs.Views.{other}
+use Rattle.minute_model.specs.Span.{ungiven_of}
+use Rattle.slot_machine.specs.Calls.{present_in}
+use Rattle.slot_machine.specs.declared.seats.Ended.{Ended}
+use Rattle.run_crew.specs.declared.cards.Known.{Known}
+use Rattle.run_crew.specs.declared.cards.Accepted.{Accepted}
+use Rattle.run_crew.specs.Cards.{known_of, session_of}
+use Rattle.run_keeping.specs.declared.keeper.Keeper.{Keeper}
+use Rattle.run_keeping.specs.Keeping.{CardReady, HasItsRow, HaveRows}
+use Rattle.run_keeping.proofs.Units.{unit-stays}
+use Rattle.run_outcome.specs.declared.outcome.Outcome.{Outcome}
+use Rattle.run_entering.specs.Entering.{ending_of, breaks_by, finds_by}
+use Rattle.run_acts.specs.Going.{CardAt}
+use Rattle.run_acts.proofs.Kept.{owing-sum}
+use Rattle.recorder_with_cards.specs.Accepting.{HasEntry}
+use Rattle.recorder_with_cards.proofs.Comes.{comes-of}
+use Rattle.recorder_with_cards.proofs.Goes.{card-or-other, others-session, both-at, other-at, mine-at, both-ready, other-ready, some-gives, entry-more, rows-went, ended-went, few-finds}
+use Rattle.recorder_with_cards.proofs.accepting.accept_here.Goals as goal
+
+pub returns-clause-beside : goal.returns-clause-beside
+returns-clause-beside g c =
+    let w = c.accept-answer.ensures.entered in let h = c.requires.going in
+    (comes-of c.args.entering c.args.run.now.keeper c.accept-answer.new.keeper c.args.run.now.noted c.accept-answer.new.noted c.args.outcome.now c.accept-answer.new.outcome _ _ _ _ _ (ungiven_of h.span) h.cabin c.requires.seat (omega arith) w.0 w.1.is w.1.left).seat
+
+pub returns-clause-held : goal.returns-clause-held
+returns-clause-held g c =
+    let w = c.accept-answer.ensures.entered in let h = c.requires.going in let held = c.requires.held in
+    let e = c.args.entering in
+    let old = c.args.run.now.keeper.cabin.cards in let new = c.accept-answer.new.keeper.cabin.cards in
+    let k = comes-of e c.args.run.now.keeper c.accept-answer.new.keeper c.args.run.now.noted c.accept-answer.new.noted c.args.outcome.now c.accept-answer.new.outcome _ _ _ _ _ (ungiven_of h.span) h.cabin c.requires.seat (omega arith) w.0 w.1.is w.1.left in
+    let sum = owing-sum c.args.run.now.minutes h.span h.stands in
+    let end = h.next in let none = c.requires.none in let minute = held.minute in let at = c.requires.at in
+    let mine = mine-at old (g.C.Chip.card c.args.card.now) (g.D.Chip.card c.args.others.now) (g.C.Chip.state c.args.card.now) (g.D.Chip.state c.args.others.now) e.which held.card_a held.card_b in
+    let others = other-at old (g.C.Chip.card c.args.card.now) (g.D.Chip.card c.args.others.now) (g.C.Chip.state c.args.card.now) (g.D.Chip.state c.args.others.now) e.which held.card_a held.card_b in
+    let now : CardAt (known_of new e.which) (g.C.Chip.card c.accept-answer.new.card) (g.C.Chip.state c.accept-answer.new.card) =
+    record { port = c.accept-answer.ensures.card.port; size = let was = mine.size in let same = c.accept-answer.ensures.size in omega (arith, was, same) } in
+    let still : CardAt (known_of new (other e.which)) (g.D.Chip.card c.args.others.now) (g.D.Chip.state c.args.others.now) =
+    subst (λ (q : Known). CardAt q (g.D.Chip.card c.args.others.now) (g.D.Chip.state c.args.others.now)) (sym k.others) others in
+    let both = both-at new (g.C.Chip.card c.accept-answer.new.card) (g.D.Chip.card c.args.others.now) (g.C.Chip.state c.accept-answer.new.card) (g.D.Chip.state c.args.others.now) e.which now still in
+    record {
+      is_unit = unit-stays w.1.notes.moments held.is_unit;
+      odometer = let same = ap (λ (q : Keeper). q.odometer) w.1.left.keeper in let most = held.odometer in omega (arith, same, most);
+      minute = k.minute (c.args.run.now.next / 60) minute (let is = ap (λ (n : ℕ). n / 60) at in omega (arith, is));
+      card_a = both.0;
+      card_b = both.1;
+      stand = (ungiven_of h.span, None, c.accept-answer.ensures.stands (ungiven_of h.span) (omega (arith, sum, end, none, minute)) h.cabin);
+    }
+
+pub returns-clause-going : goal.returns-clause-going
+returns-clause-going g c = on_ok c.accept-answer.result (λ well.
+    let w = c.accept-answer.ensures.entered in let h = c.requires.going in let held = c.requires.held in
+    let e = c.args.entering in
+    let U = g.M.Medium.state c.args.unit.now in let V = g.M.Medium.state c.accept-answer.new.unit in
+    let old = c.args.run.now.keeper.cabin.cards in let new = c.accept-answer.new.keeper.cabin.cards in
+    let k = comes-of e c.args.run.now.keeper c.accept-answer.new.keeper c.args.run.now.noted c.accept-answer.new.noted c.args.outcome.now c.accept-answer.new.outcome _ _ _ _ _ (ungiven_of h.span) h.cabin c.requires.seat (omega arith) w.0 w.1.is w.1.left in
+    let sum = owing-sum c.args.run.now.minutes h.span h.stands in
+    let end = h.next in let none = c.requires.none in let minute = held.minute in
+    let same = others-session e.which old new k.others in
+    let rows : (card : Card) → HasItsRow old U card → HasItsRow new V card = λ card had. ok_gives c.accept-answer.result (c.accept-answer.ensures.rows card had) well in
+    let others = other-ready old (g.C.Chip.card c.args.card.now) (g.D.Chip.card c.args.others.now) (g.C.Chip.state c.args.card.now) (g.D.Chip.state c.args.others.now) e.which h.ready.card_a h.ready.card_b in
+    let still : CardReady (known_of new (other e.which)) (g.D.Chip.card c.args.others.now) (g.D.Chip.state c.args.others.now) =
+    subst (λ (q : Known). CardReady q (g.D.Chip.card c.args.others.now) (g.D.Chip.state c.args.others.now)) (sym k.others) others in
+    let both = both-ready new (g.C.Chip.card c.accept-answer.new.card) (g.D.Chip.card c.args.others.now) (g.C.Chip.state c.accept-answer.new.card) (g.D.Chip.state c.args.others.now) e.which c.accept-answer.ensures.card still in
+    record {
+      ready = record { unit_ready = ok_gives c.accept-answer.result c.accept-answer.ensures.ready well; card_a = both.0; card_b = both.1 };
+      span = h.span;
+      stands = h.stands;
+      next = h.next;
+      low = h.low;
+      due = h.due;
+      later = let is = ap (λ (q : Keeper). q.journal.kept) w.1.left.keeper in let less = h.later in omega (arith, is, less);
+      cabin = c.accept-answer.ensures.stands (ungiven_of h.span) (omega (arith, sum, end, none, minute)) h.cabin;
+      ended = ended-went (ungiven_of h.span) (c.args.run.now.next / 60) c.args.run.now.keeper.cabin.slots c.accept-answer.new.keeper.cabin.slots k.past h.ended;
+      rows = λ card some.
+          ⊎_elim
+          (λ is. subst (λ (d : Card). HasItsRow new V d) (sym is)
+          (ok_gives c.accept-answer.result (some-gives (session_of new e.which) c.accept-answer.ensures.row (subst (λ (d : Card). is_some (session_of new d) ≡ true) is some)) well))
+          (λ is. rows card (h.rows card
+          (subst (λ (d : Card). is_some (session_of old d) ≡ true) (sym is) (ap (λ (o : Option Accepted). is_some o) (sym same) ∙ subst (λ (d : Card). is_some (session_of new d) ≡ true) is some)))) (card-or-other e.which card);
+      present = λ m le. subst (λ (l : List Ended). IfSome (present_in l m) (HaveRows new V)) (sym k.past) (rows-went old new U V rows (present_in c.args.run.now.keeper.cabin.slots.past m) (h.present m le));
+      entries = λ card.
+          ⊎_elim (λ is. subst (λ (d : Card). IfSome (session_of new d) (HasEntry c.accept-answer.new.noted)) (sym is) k.entry)
+          (λ is. subst (λ (d : Card). IfSome (session_of new d) (HasEntry c.accept-answer.new.noted)) (sym is)
+          (subst (λ (o : Option Accepted). IfSome o (HasEntry c.accept-answer.new.noted)) (sym same) (entry-more c.args.run.now.noted c.accept-answer.new.noted (session_of old (other e.which)) k.count (h.entries (other e.which))))) (card-or-other e.which card);
+      watches = h.watches;
+      limit = h.limit;
+    })
+
+pub returns-clause-takes : goal.returns-clause-takes
+returns-clause-takes g c =
+    let w = c.accept-answer.ensures.entered in let h = c.requires.going in
+    let e = c.args.entering in let o = c.args.outcome.now in
+    let k = comes-of e c.args.run.now.keeper c.accept-answer.new.keeper c.args.run.now.noted c.accept-answer.new.noted o c.accept-answer.new.outcome _ _ _ _ _ (ungiven_of h.span) h.cabin c.requires.seat (omega arith) w.0 w.1.is w.1.left in
+    let is = w.1.left.outcome in
+    let few = c.accept-answer.ensures.marks.1 in
+    let falls = k.falls in
+    let breaks = ap (λ (p : Outcome). length p.breaks.items) is ∙ length-append o.breaks.items (breaks_by (ending_of w.0) e) in
+    let finds = ap (λ (p : Outcome). length p.finds.items) is ∙ length-append o.finds.items (finds_by (ending_of w.0) e) in
+    let one = few-finds (ending_of w.0) e in
+    record {
+      rooms = (c.accept-answer.ensures.marks.0, ap (λ (p : Outcome). p.breaks.room) is, ap (λ (p : Outcome). p.finds.room) is, ap (λ (p : Outcome). p.refused.room) is);
+      marks = omega (arith, few);
+      breaks = omega (arith, falls, breaks);
+      finds = omega (arith, finds, one);
+      refused = let same = ap (λ (p : Outcome). length p.refused.items) is in omega (arith, same);
+    }
+
+pub returns-clause-refused : goal.returns-clause-refused
+returns-clause-refused g c = ap (λ (p : Outcome). p.refused) c.accept-answer.ensures.entered.1.left.outcome

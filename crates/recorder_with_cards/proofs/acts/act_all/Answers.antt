@@ -1,0 +1,76 @@
+use Rattle.std.proofs.Common.{◌≡◌, ◌∙◌, ℕ, ◌+◌, ◌-◌, ◌<◌, ◌≤◌, false, List, length, drop, refl, ap, sym, subst, arith, length-drop}
+use Rattle.std.proofs.lemmas.List.{length-take}
+use Rattle.trace_model.specs.declared.Item.{Item}
+use Rattle.run_outcome.specs.Room.{insertion_count}
+use Rattle.run_acts.specs.Room.{cuts_within, HasRoomWithin}
+use Rattle.run_acts.specs.Power.{is_lit}
+use Rattle.recorder_with_cards.specs.Acting.{IsItemActed, AreActed}
+use Rattle.recorder_with_cards.specs.Items.{between, insertions_in}
+use Rattle.recorder_with_cards.proofs.Acted.{between-none, between-more, acted-more}
+use Rattle.recorder_with_cards.proofs.Rooms.{room-less}
+use Rattle.recorder_with_cards.proofs.Counted.{none-in, first-in}
+use Rattle.recorder_with_cards.proofs.acts.act_all.Goals as goal
+
+pub act_item-requires-clause-room : goal.act_item-requires-clause-room
+act_item-requires-clause-room g c =
+    let run = c.args.run.now in
+    let o = c.args.outcome.now in
+    let items = c.args.items.now in
+    let less : c.loop-i.i < c.args.to = c.loop-i-test.true in
+    let all = insertions_in c.args.from c.args.to items in
+    let here = first-in items c.loop-i.i c.args.to c.get.result.now c.get.ensures less in
+    room-less cuts_within c.loop-i.run c.loop-i.outcome 1 1 0 0 (insertions_in c.loop-i.i c.args.to items + 0) (insertion_count c.get.result.now) (c.args.to - c.loop-i.i + 0) 1 (omega arith) (omega arith) (omega (arith, here)) (omega (arith, less))
+    (c.loop-i.invariant.room 0 0 0 0 (room-less cuts_within run o 1 1 0 0 all (all + 0) (c.args.to - c.args.from) (c.args.to - c.args.from + 0) (omega arith) (omega arith) (omega arith) (omega arith) c.requires.room))
+
+pub loop-i-init : goal.loop-i-init
+loop-i-init g c = record {
+  going = c.requires.going;
+  acted = subst (λ (xs : List Item). AreActed c.args.has_power c.args.speed 0 xs c.args.run.now c.args.run.now c.args.outcome.now c.args.outcome.now) (sym (between-none c.args.from c.args.items.now)) (refl, refl);
+  dark = c.requires.dark;
+  next = refl;
+  unfound = refl;
+  room = λ left offs insertions actions h. h;
+  breaks = omega arith;
+}
+
+pub loop-i-preserved : goal.loop-i-preserved
+loop-i-preserved g c =
+    let v = c.loop-i.invariant in
+    let e = c.act_item.ensures in
+    let items = c.args.items.now in
+    let less : c.loop-i.i < c.args.to = c.loop-i-test.true in
+    let here = first-in items c.loop-i.i c.args.to c.get.result.now c.get.ensures less in
+    record {
+      going = e.going;
+      acted = subst (λ (xs : List Item). AreActed c.args.has_power c.args.speed 0 xs c.args.run.now c.act_item.new.run c.args.outcome.now c.act_item.new.outcome) (sym (between-more items c.args.from c.loop-i.i c.get.result.now c.loop-i.auto.i c.get.ensures))
+          (acted-more c.args.has_power c.args.speed 0 (c.loop-i.i - c.args.from + 1) (between c.args.from c.loop-i.i items) c.get.result.now c.args.run.now c.loop-i.run c.act_item.new.run c.args.outcome.now c.loop-i.outcome c.act_item.new.outcome v.acted
+          (let long = length-take (c.loop-i.i - c.args.from) (drop c.args.from items) in let rest = length-drop c.args.from items in let last = c.requires.last in let low = c.loop-i.auto.i in omega (arith, long, rest, last, low, less))
+          (subst (λ (n : ℕ). IsItemActed c.get.result.now c.args.has_power (is_lit c.loop-i.run.power) n c.args.speed c.loop-i.run c.act_item.new.run c.loop-i.outcome c.act_item.new.outcome) c.number_of.ensures e.acted));
+      dark = e.dark;
+      next = e.next ∙ v.next;
+      unfound = e.unfound ∙ v.unfound;
+      room = λ left offs insertions actions h.
+          let rest = insertions_in (c.loop-i.i + 1) c.args.to items in
+          let one = insertion_count c.get.result.now in
+          let now = insertions_in c.loop-i.i c.args.to items in
+          e.room left offs (rest + insertions) (c.args.to - (c.loop-i.i + 1) + actions)
+          (room-less cuts_within c.loop-i.run c.loop-i.outcome (1 + left) (1 + left) offs offs (now + insertions) (one + (rest + insertions)) (c.args.to - c.loop-i.i + actions) (1 + (c.args.to - (c.loop-i.i + 1) + actions))
+          (omega arith) (omega arith) (omega (arith, here)) (omega (arith, less)) (v.room left offs insertions actions h));
+      breaks = let more = e.breaks in let was = v.breaks in omega (arith, more, was);
+    }
+
+pub returns-clause-room : goal.returns-clause-room
+returns-clause-room g c = λ left offs insertions actions h.
+    let items = c.args.items.now in
+    let end : c.args.to ≤ c.loop-i.i = c.loop-i-test.false in
+    let some : c.loop-i.i ≤ c.args.to = c.loop-i.auto.i-end c.requires.first in
+    let same : c.loop-i.i ≡ c.args.to = omega (arith, end, some) in
+    let none = ap (λ (i : ℕ). insertions_in i c.args.to items) same ∙ none-in items c.args.to in
+    room-less cuts_within c.loop-i.run c.loop-i.outcome (1 + left) (1 + left) offs offs (insertions_in c.loop-i.i c.args.to items + insertions) insertions (c.args.to - c.loop-i.i + actions) actions
+    (omega arith) (omega arith) (omega arith) (omega arith) (c.loop-i.invariant.room left offs insertions actions h)
+
+pub returns-clause-acted : goal.returns-clause-acted
+returns-clause-acted g c =
+    let end : c.args.to ≤ c.loop-i.i = c.loop-i-test.false in
+    let some : c.loop-i.i ≤ c.args.to = c.loop-i.auto.i-end c.requires.first in
+    subst (λ (n : ℕ). AreActed c.args.has_power c.args.speed 0 (between c.args.from n c.args.items.now) c.args.run.now c.loop-i.run c.args.outcome.now c.loop-i.outcome) (let same : c.loop-i.i ≡ c.args.to = omega (arith, end, some) in same) c.loop-i.invariant.acted

@@ -1,0 +1,19 @@
+use Rattle.std.proofs.Common.{◌≡◌, ℕ, ◌+◌, ◌-◌, ◌≤◌, false, length}
+use Rattle.run_acts.specs.Power.{is_lit}
+use Rattle.run_acts.specs.Going.{IsWithin}
+use Rattle.run_acts.specs.Room.{HasRoomWithin}
+use Rattle.recorder_with_cards.specs.Acting.{AreActed}
+use Rattle.recorder_with_cards.specs.Items.{between, insertions_in}
+use Rattle.recorder_with_cards.proofs.acts.act_all.Given as goal
+
+abbrev pub invariant-loop-i : goal.invariant-loop-i
+invariant-loop-i g l = record {
+  going : IsWithin l.run (g.M.Medium.state l.unit) (g.C.Chip.card l.card_a) (g.D.Chip.card l.card_b) (g.C.Chip.state l.card_a) (g.D.Chip.state l.card_b);
+  acted : AreActed l.has_power l.speed 0 (between l.from l.i l.items) l.fn.run l.run l.fn.outcome l.outcome;
+  dark : l.has_power ≡ false → is_lit l.run.power ≡ false;
+  next : l.run.next ≡ l.fn.run.next;
+  unfound : l.run.unfound ≡ l.fn.run.unfound;
+  room : (left offs insertions actions : ℕ) → HasRoomWithin l.fn.run l.fn.outcome (1 + left) offs (insertions_in l.from l.to l.items + insertions) (l.to - l.from + actions)
+      → HasRoomWithin l.run l.outcome (1 + left) offs (insertions_in l.i l.to l.items + insertions) (l.to - l.i + actions);
+  breaks : length l.fn.outcome.breaks.items ≤ length l.outcome.breaks.items;
+}

@@ -1,0 +1,112 @@
+use Rattle.std.proofs.Common.{◌≡◌, ◌∙◌, ℕ, ◌/◌, ◌≤◌, false, Option, Some, None, refl, ap, sym, subst, arith}
+use Rattle.std.specs.Prelude.{is_err}
+use Rattle.trace_model.specs.declared.Card.{Card}
+use Rattle.trace_model.specs.declared.Action.{Action}
+use Rattle.trace_model.specs.declared.Action.TheVariants.{Insert, Withdraw, Tear, Place}
+use Rattle.log_model.specs.Slots.{refusal}
+use Rattle.log_model.specs.declared.lines.Break.{Break}
+use Rattle.slot_machine.specs.Calls.{logged, seat_in, card_in}
+use Rattle.run_crew.specs.Cabin.{Stands}
+use Rattle.run_outcome.specs.Lines.{Listed}
+use Rattle.run_outcome.specs.declared.outcome.Outcome.{Outcome}
+use Rattle.run_keeping.specs.declared.keeper.Moment.{Moment}
+use Rattle.run_acts.specs.declared.run.Run.{Run}
+use Rattle.run_acts.specs.Power.{is_lit}
+use Rattle.run_acts.specs.Going.{IsHeld, IsLit}
+use Rattle.run_acts.specs.Room.{Takes}
+use Rattle.run_acts.specs.Acting.{pulled_run}
+use Rattle.recorder_with_cards.specs.Acting.{put_count, StaysIn, moment_of, IsDone}
+use Rattle.recorder_with_cards.proofs.Allowed.{insert-elsewhere}
+use Rattle.recorder_with_cards.proofs.Picked.{picked-going}
+use Rattle.recorder_with_cards.proofs.Pulled.{pulled-stays, pulled-held, pulled-going, pulled-takes}
+use Rattle.recorder_with_cards.proofs.More.{inserted-more}
+use Rattle.recorder_with_cards.proofs.acts.carry_out.Goals as goal
+
+pub insert-requires-clause-elsewhere : goal.insert-requires-clause-elsewhere
+insert-requires-clause-elsewhere g c =
+    let seats = c.args.run.now.keeper.cabin.slots.seats in
+    insert-elsewhere seats c.in-Insert.slot c.in-Insert.card c.args.speed (subst (λ (a : Action). refusal (logged seats) c.args.speed a ≡ None) c.in-Insert.is c.requires.allowed)
+
+pub note_place-requires-clause-going : goal.note_place-requires-clause-going
+note_place-requires-clause-going g c = c.requires.going.lit (ap is_lit c.requires.lit)
+
+pub returns-in-Select-clause-going : goal.returns-in-Select-clause-going
+returns-in-Select-clause-going g c =
+    let lit = c.requires.going.lit (ap is_lit c.requires.lit) in
+    picked-going (c.args.run.now.next / 60) c.args.run.now c.select.new.self c.in-Select.slot c.in-Select.pick lit (c.select.ensures.picked lit.span lit.stands)
+
+pub returns-in-Insert-clause-breaks : goal.returns-in-Insert-clause-breaks
+returns-in-Insert-clause-breaks g c = inserted-more c.in-Insert.slot c.in-Insert.card c.moment-at.result c.args.speed (is_err c.insert.result) c.args.run.now c.insert.new.run c.args.outcome.now c.insert.new.outcome c.insert.ensures.inserted
+
+-- ---- a card is pulled out
+
+pub returns-in-Tear-clause-stays : goal.returns-in-Tear-clause-stays
+returns-in-Tear-clause-stays g c =
+    let run = c.args.run.now in
+    subst (StaysIn run) (sym c.pull.ensures.run) (pulled-stays (card_in (seat_in run.keeper.cabin.slots.seats c.in-Tear.slot)) c.moment-at.result.second run)
+
+pub returns-in-Tear-clause-held : goal.returns-in-Tear-clause-held
+returns-in-Tear-clause-held g c =
+    let run = c.args.run.now in
+    let o = card_in (seat_in run.keeper.cabin.slots.seats c.in-Tear.slot) in
+    let at = ap (λ (m : Moment). m.second / 60) c.moment-at.ensures in
+    subst (λ (r : Run). IsHeld (r.next / 60) r (g.M.Medium.state c.args.unit.now) (g.C.Chip.card c.args.card_a.now) (g.D.Chip.card c.args.card_b.now) (g.C.Chip.state c.args.card_a.now) (g.D.Chip.state c.args.card_b.now)) (sym c.pull.ensures.run)
+    (pulled-held run c.moment-at.result.second (omega (arith, at)) o (λ from leaving s. subst (λ (r : Run). Stands from leaving r.keeper.cabin) c.pull.ensures.run (c.pull.ensures.stands from leaving s)) c.requires.going.held)
+
+pub returns-in-Tear-clause-going : goal.returns-in-Tear-clause-going
+returns-in-Tear-clause-going g c =
+    let run = c.args.run.now in
+    let o = card_in (seat_in run.keeper.cabin.slots.seats c.in-Tear.slot) in
+    let at = ap (λ (m : Moment). m.second / 60) c.moment-at.ensures in
+    subst (λ (r : Run). IsLit (r.next / 60) r (g.M.Medium.state c.args.unit.now) (g.C.Chip.card c.args.card_a.now) (g.D.Chip.card c.args.card_b.now) (g.C.Chip.state c.args.card_a.now) (g.D.Chip.state c.args.card_b.now)) (sym c.pull.ensures.run)
+    (pulled-going run c.moment-at.result.second (omega (arith, at)) o (λ from leaving s. subst (λ (r : Run). Stands from leaving r.keeper.cabin) c.pull.ensures.run (c.pull.ensures.stands from leaving s)) (c.requires.going.lit (ap is_lit c.requires.lit)))
+
+pub returns-in-Tear-clause-takes : goal.returns-in-Tear-clause-takes
+returns-in-Tear-clause-takes g c =
+    let run = c.args.run.now in
+    let o = c.args.outcome.now in
+    let card = card_in (seat_in run.keeper.cabin.slots.seats c.in-Tear.slot) in
+    let stand = c.requires.going.held.stand in
+    subst (λ (k : ℕ). Takes k k 0 run c.pull.new.run o (record o { breaks = c.pull.new.breaks })) (sym (ap put_count c.in-Tear.is))
+    (subst (λ (r : Run). Takes 0 0 0 run r o (record o { breaks = c.pull.new.breaks })) (sym c.pull.ensures.run)
+    (subst (λ (l : Listed Break). Takes 0 0 0 run (pulled_run card c.moment-at.result.second run) o (record o { breaks = l })) (sym c.pull.ensures.breaks)
+    (pulled-takes card run c.in-Tear.slot c.moment-at.result o stand.0 stand.1 refl stand.2)))
+
+-- ---- what it did
+
+pub returns-in-Select-clause-done : goal.returns-in-Select-clause-done
+returns-in-Select-clause-done g c =
+    let run = c.args.run.now in
+    let o = c.args.outcome.now in
+    subst (λ (a : Action). IsDone a (moment_of c.args.begun run) c.args.speed false run (record run { minutes = c.select.new.self }) o o) (sym c.in-Select.is) (refl, (refl, c.select.ensures.picked), refl)
+
+pub returns-in-Insert-clause-done : goal.returns-in-Insert-clause-done
+returns-in-Insert-clause-done g c =
+    let run = c.args.run.now in
+    let o = c.args.outcome.now in
+    subst (λ (a : Action). IsDone a (moment_of c.args.begun run) c.args.speed (is_err c.insert.result) run c.insert.new.run o c.insert.new.outcome) (sym c.in-Insert.is)
+    (subst (λ (m : Moment). IsDone (Insert c.in-Insert.slot c.in-Insert.card) m c.args.speed (is_err c.insert.result) run c.insert.new.run o c.insert.new.outcome) c.moment-at.ensures c.insert.ensures.inserted)
+
+pub returns-in-Withdraw-clause-done : goal.returns-in-Withdraw-clause-done
+returns-in-Withdraw-clause-done g c =
+    let run = c.args.run.now in
+    let o = c.args.outcome.now in
+    subst (λ (a : Action). IsDone a (moment_of c.args.begun run) c.args.speed (is_err c.withdraw.result) run c.withdraw.new.run o c.withdraw.new.outcome) (sym c.in-Withdraw.is)
+    (subst (λ (m : Moment). IsDone (Withdraw c.in-Withdraw.slot) m c.args.speed (is_err c.withdraw.result) run c.withdraw.new.run o c.withdraw.new.outcome) c.moment-at.ensures c.withdraw.ensures.withdrawn)
+
+pub returns-in-Tear-clause-done : goal.returns-in-Tear-clause-done
+returns-in-Tear-clause-done g c =
+    let run = c.args.run.now in
+    let o = c.args.outcome.now in
+    subst (λ (a : Action). IsDone a (moment_of c.args.begun run) c.args.speed false run c.pull.new.run o (record o { breaks = c.pull.new.breaks })) (sym c.in-Tear.is)
+    (subst (λ (m : Moment). IsDone (Tear c.in-Tear.slot) m c.args.speed false run c.pull.new.run o (record o { breaks = c.pull.new.breaks })) c.moment-at.ensures
+    (refl, c.pull.ensures.run, ap (λ (l : Listed Break). record o { breaks = l }) c.pull.ensures.breaks))
+
+pub returns-in-Place-clause-done : goal.returns-in-Place-clause-done
+returns-in-Place-clause-done g c =
+    let run = c.args.run.now in
+    let o = c.args.outcome.now in
+    let after : Outcome = record o { breaks = c.note_place.new.breaks } in
+    let placed = c.note_place.ensures.placed in
+    subst (λ (a : Action). IsDone a (moment_of c.args.begun run) c.args.speed (is_err c.note_place.result) run c.note_place.new.run o after) (sym c.in-Place.is)
+    (subst (λ (m : Moment). IsDone (Place c.in-Place.slot c.in-Place.ending c.in-Place.country c.in-Place.region) m c.args.speed (is_err c.note_place.result) run c.note_place.new.run o after) c.moment-at.ensures (placed.0, placed.1, refl))

@@ -1,0 +1,75 @@
+use Rattle.std.proofs.Common.{rules, ◌≡◌, ◌∙◌, inl, inr, ℕ, ◌+◌, ◌*◌, ◌/◌, ◌≤◌, false, None, refl, ap, sym, subst, arith}
+use Rattle.tach_media.proofs.Runs.{cause_after}
+use Rattle.minute_model.specs.Span.{ungiven_of}
+use Rattle.run_crew.specs.declared.cabin.Cabin.{Cabin}
+use Rattle.run_crew.specs.Cabin.{Stands}
+use Rattle.run_acts.specs.Power.{with_cabin}
+use Rattle.run_acts.specs.Going.{IsHeld, IsLit}
+use Rattle.run_acts.specs.Room.{Takes}
+use Rattle.slot_machine.specs.Calls.{seat_in}
+use Rattle.run_acts.specs.Acting.{IsSettled, IsBareIn}
+use Rattle.recorder_with_cards.proofs.Puts.{put-held, put-going, put-takes, put-then, put-bare, put-falls, seat-put}
+use Rattle.recorder_with_cards.proofs.inserting.insert.Goals as goal
+
+pub settle-requires-clause-held : goal.settle-requires-clause-held
+settle-requires-clause-held g c =
+    let run = c.args.run.now in let h = c.requires.going in
+    let stands = subst (λ (b : Cabin). Stands (ungiven_of h.span) None b) c.put_in.ensures.kept (c.put_in.ensures.stands (ungiven_of h.span) h.cabin) in
+    subst (λ (b : Cabin). IsHeld (run.next / 60) (with_cabin b run) (g.M.Medium.state c.args.unit.now) (g.C.Chip.card c.args.card_a.now) (g.D.Chip.card c.args.card_b.now) (g.C.Chip.state c.args.card_a.now) (g.D.Chip.state c.args.card_b.now))
+    (sym c.put_in.ensures.kept) (put-held c.args.slot c.args.card (run.next / 60) run (ungiven_of h.span) stands c.requires.held)
+
+pub settle-requires-clause-going : goal.settle-requires-clause-going
+settle-requires-clause-going g c =
+    let run = c.args.run.now in (
+      None,
+      subst (λ (b : Cabin). IsLit (run.next / 60) (with_cabin b run) (g.M.Medium.state c.args.unit.now) (g.C.Chip.card c.args.card_a.now) (g.D.Chip.card c.args.card_b.now) (g.C.Chip.state c.args.card_a.now) (g.D.Chip.state c.args.card_b.now))
+          (sym c.put_in.ensures.kept) (put-going c.args.slot c.args.card (run.next / 60) run (λ from s. subst (λ (b : Cabin). Stands from None b) c.put_in.ensures.kept (c.put_in.ensures.stands from s)) c.requires.going),
+    )
+
+pub returns-in_err-settle-clause-takes : goal.returns-in_err-settle-clause-takes
+returns-in_err-settle-clause-takes g c =
+    let run = c.args.run.now in
+    put-takes c.args.slot c.args.card run c.requires.empty c.settle.new.run c.args.outcome.now c.settle.new.outcome
+    (subst (λ (b : Cabin). Takes 0 0 0 (with_cabin b run) c.settle.new.run c.args.outcome.now c.settle.new.outcome) c.put_in.ensures.kept c.settle.ensures.takes)
+
+pub returns-clause-takes : goal.returns-clause-takes
+returns-clause-takes g c =
+    let run = c.args.run.now in
+    put-then c.args.slot c.args.card run c.requires.empty c.settle.new.run c.accept_in.new.run c.args.outcome.now c.settle.new.outcome c.accept_in.new.outcome
+    (subst (λ (b : Cabin). Takes 0 0 0 (with_cabin b run) c.settle.new.run c.args.outcome.now c.settle.new.outcome) c.put_in.ensures.kept c.settle.ensures.takes) c.accept_in.ensures.takes
+
+pub returns-clause-cause : goal.returns-clause-cause
+returns-clause-cause g c = cause_after c.in_ok-settle.ensures.cause c.accept_in.ensures.cause
+
+pub accept_in-requires-clause-going : goal.accept_in-requires-clause-going
+accept_in-requires-clause-going g c =
+    let run = c.args.run.now in
+    c.in_ok-settle.ensures.going None
+    (subst (λ (b : Cabin). IsLit (run.next / 60) (with_cabin b run) (g.M.Medium.state c.args.unit.now) (g.C.Chip.card c.args.card_a.now) (g.D.Chip.card c.args.card_b.now) (g.C.Chip.state c.args.card_a.now) (g.D.Chip.state c.args.card_b.now))
+    (sym c.put_in.ensures.kept) (put-going c.args.slot c.args.card (run.next / 60) run (λ from s. subst (λ (b : Cabin). Stands from None b) c.put_in.ensures.kept (c.put_in.ensures.stands from s)) c.requires.going))
+
+pub returns-clause-inserted : goal.returns-clause-inserted
+returns-clause-inserted g c =
+    let run = c.args.run.now in let a = c.accept_in.ensures.accepted in
+    inr (record {
+      between = c.settle.new.run;
+      told = c.settle.new.outcome;
+      settled_first = subst (λ (b : Cabin). IsSettled c.args.at false (with_cabin b run) c.settle.new.run c.args.outcome.now c.settle.new.outcome) c.put_in.ensures.kept c.in_ok-settle.ensures.settled;
+      entering = a.0;
+      now = a.1;
+      accepted = a.2;
+    })
+
+pub accept_in-requires-clause-seat : goal.accept_in-requires-clause-seat
+accept_in-requires-clause-seat g c =
+    let h = c.requires.going in let cabin = c.args.run.now.keeper.cabin in
+    let stands = subst (λ (b : Cabin). Stands (ungiven_of h.span) None b) c.put_in.ensures.kept (c.put_in.ensures.stands (ungiven_of h.span) h.cabin) in
+    let bare = subst (λ (b : Cabin). IsBareIn b c.args.slot) (sym c.put_in.ensures.kept) (put-bare c.args.slot c.args.card cabin (ungiven_of h.span) stands) in
+    (c.in_ok-settle.ensures.bare c.args.slot bare).0 ∙ ap (λ (b : Cabin). seat_in b.slots.seats c.args.slot) c.put_in.ensures.kept ∙ seat-put c.args.slot c.args.card cabin
+
+pub accept_in-requires-clause-breaks : goal.accept_in-requires-clause-breaks
+accept_in-requires-clause-breaks g c =
+    let t = (subst (λ (b : Cabin). Takes 0 0 0 (with_cabin b c.args.run.now) c.settle.new.run c.args.outcome.now c.settle.new.outcome) c.put_in.ensures.kept c.settle.ensures.takes).breaks in
+    let room = c.settle.ensures.takes.rooms.1 in let f = put-falls c.args.slot c.args.card c.args.run.now.keeper.cabin c.requires.empty in
+    let had = c.requires.breaks in
+    omega (arith, t, room, f, had)

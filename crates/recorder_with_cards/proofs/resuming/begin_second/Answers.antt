@@ -1,0 +1,53 @@
+use Rattle.std.proofs.Common.{◌≡◌, ◌∙◌, ℕ, ◌+◌, ◌/◌, ◌%◌, ◌==◌, Bool, true, false, refl, ap, sym, subst}
+use Rattle.run_crew.specs.Cabin.{KnowsEnded}
+use Rattle.run_acts.specs.declared.run.Run.{Run}
+use Rattle.run_acts.specs.declared.run.Power.{Power}
+use Rattle.run_acts.specs.declared.run.Power.TheVariants.{Lit, Due, Lost}
+use Rattle.run_acts.specs.Power.{is_lit, has_power, minute_over}
+use Rattle.run_acts.specs.Going.{IsWithin}
+use Rattle.run_acts.specs.Room.{HasRoomWithin}
+use Rattle.run_acts.proofs.Standing.{lit-is, begun-at, still-dark}
+use Rattle.recorder_with_cards.proofs.AwakeRooms.{room-over, room-away, room-awake}
+use Rattle.recorder_with_cards.proofs.resuming.begin_second.Goals as goal
+
+away-dark : (p : Power) (next : ℕ) → has_power p next ≡ false → is_lit p ≡ false
+away-dark Lit next away = away
+away-dark Due next away = refl
+away-dark Lost next away = refl
+
+-- ---- it stays away
+
+pub returns-then-not-has_power-clause-going : goal.returns-then-not-has_power-clause-going
+returns-then-not-has_power-clause-going g c =
+    let away : has_power c.args.run.now.power c.args.run.now.next ≡ false = sym c.has_power.ensures ∙ c.if-not-has_power.true in
+    still-dark c.args.run.now (away-dark c.args.run.now.power c.args.run.now.next away) c.requires.going
+
+pub returns-then-not-has_power-clause-room : goal.returns-then-not-has_power-clause-room
+returns-then-not-has_power-clause-room g c = λ left offs insertions actions h.
+    let away : has_power c.args.run.now.power c.args.run.now.next ≡ false = sym c.has_power.ensures ∙ c.if-not-has_power.true in
+    room-away c.args.run.now c.args.outcome.now (1 + left) offs insertions actions away h
+
+-- ---- it goes on
+
+pub returns-then-is_lit-clause-going : goal.returns-then-is_lit-clause-going
+returns-then-is_lit-clause-going g c =
+    let run = c.args.run.now in
+    let lit : is_lit run.power ≡ true = sym c.is_lit.ensures ∙ c.if-is_lit.true in
+    subst (λ (r : Run). IsWithin r (g.M.Medium.state c.args.unit.now) (g.C.Chip.card c.args.card_a.now) (g.D.Chip.card c.args.card_b.now) (g.C.Chip.state c.args.card_a.now) (g.D.Chip.state c.args.card_b.now)) (sym c.end_minute.ensures.run)
+    (begun-at run lit (λ from few h. subst (λ (r : Run). KnowsEnded from (run.next / 60) r.keeper.cabin.slots) c.end_minute.ensures.run (c.end_minute.ensures.ended from few h)) c.requires.going)
+
+pub returns-then-is_lit-clause-room : goal.returns-then-is_lit-clause-room
+returns-then-is_lit-clause-room g c = λ left offs insertions actions h.
+    let run = c.args.run.now in
+    let lit : is_lit run.power ≡ true = sym c.is_lit.ensures ∙ c.if-is_lit.true in
+    subst (λ (r : Run). HasRoomWithin r c.args.outcome.now (1 + left) offs insertions actions) (sym c.end_minute.ensures.run)
+    (room-over (run.next % 60 == 0) run c.args.outcome.now (1 + left) offs insertions actions (lit-is run.power lit) h)
+
+-- ---- power is back
+
+pub returns-clause-room : goal.returns-clause-room
+returns-clause-room g c = λ left offs insertions actions h.
+    let run = c.args.run.now in
+    let dark : is_lit run.power ≡ false = sym c.is_lit.ensures ∙ c.if-is_lit.false in
+    let has : has_power run.power run.next ≡ true = sym c.has_power.ensures ∙ c.if-not-has_power.false in
+    room-awake run c.power_on.new.run c.args.outcome.now c.power_on.new.outcome c.power_on.ensures.next dark has c.in_ok-power_on.ensures.awake c.power_on.ensures.takes c.power_on.ensures.refused (1 + left) offs insertions actions h

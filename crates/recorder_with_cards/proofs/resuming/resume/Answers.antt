@@ -1,0 +1,217 @@
+use Rattle.std.proofs.Common.{rules, ◌≡◌, ◌∙◌, inl, inr, ℕ, ◌+◌, ◌-◌, ◌*◌, ◌/◌, ◌<◌, ◌≤◌, Bool, true, false, None, length, refl, ap, sym, subst, arith}
+use Rattle.std.specs.Prelude.{is_err}
+use Rattle.tach_media.specs.Medium.{HasCause}
+use Rattle.tach_media.proofs.Runs.{on_ok, ok_gives, cause_after}
+use Rattle.activity_codec.specs.declared.values.Slot.TheVariants.{Driver, CoDriver}
+use Rattle.std.specs.Prelude.{IfSome}
+use Rattle.unit_journal.specs.Image.{Agrees}
+use Rattle.unit_journal.specs.declared.notes.Notes.{Notes}
+use Rattle.run_crew.specs.declared.cabin.Cabin.{Cabin}
+use Rattle.run_crew.specs.Cards.{session_of}
+use Rattle.run_keeping.specs.declared.keeper.Keeper.{Keeper}
+use Rattle.run_keeping.specs.Keeping.{UnitReady}
+use Rattle.run_acts.specs.declared.run.Run.{Run}
+use Rattle.run_acts.specs.Going.{IsHeld, IsLit}
+use Rattle.run_acts.specs.Room.{falls_of, bare_seats, bare_count}
+use Rattle.run_acts.proofs.Standing.{span-lit, span-held}
+use Rattle.recorder_with_cards.specs.Accepting.{IsBare}
+use Rattle.recorder_with_cards.proofs.Begun.{begun-none, dark-bare}
+use Rattle.run_outcome.specs.declared.outcome.Outcome.{Outcome}
+use Rattle.run_acts.specs.Room.{Takes}
+use Rattle.recorder_with_cards.proofs.Taken.{takes-then, takes-breaks, awake-takes, takes-nothing, anew-more}
+use Rattle.slot_machine.specs.Calls.{seat_in, card_in}
+use Rattle.recorder_with_cards.proofs.resuming.resume.Goals as goal
+
+pub accept_anew-requires-clause-held : goal.accept_anew-requires-clause-held
+accept_anew-requires-clause-held g c =
+    let run = c.args.run.now in
+    let new : Run = c.begin_span.new.self in
+    let b = c.begin_span.ensures.begun in
+    let journal : Notes = c.mend.new.journal in
+    let kept : journal.kept ≡ c.args.journal.kept = ap (λ (j : Notes). j.kept) c.in_ok-mend.ensures.notes in
+    let unit : UnitReady new.keeper (g.M.Medium.state c.mend.new.unit) = record {
+      is_unit = c.mend.ensures.unit;
+      works = c.in_ok-mend.ensures.cause.works;
+      agrees = subst (λ (k : Keeper). IfSome (g.M.Medium.state c.mend.new.unit).image (Agrees k.journal)) (sym b.keeper) c.in_ok-mend.ensures.agrees;
+    } in
+    let next : new.next ≡ run.next = b.next in
+    let later = c.requires.later in
+    subst (λ (m : ℕ). IsHeld (m / 60) new (g.M.Medium.state c.mend.new.unit) (g.C.Chip.card c.args.card_a.now) (g.D.Chip.card c.args.card_b.now) (g.C.Chip.state c.args.card_a.now) (g.D.Chip.state c.args.card_b.now)) (sym next) (span-held run new journal c.requires.going b unit c.begin_span.ensures.odometer)
+
+pub accept_anew-requires-clause-going : goal.accept_anew-requires-clause-going
+accept_anew-requires-clause-going g c =
+    let run = c.args.run.now in
+    let new : Run = c.begin_span.new.self in
+    let b = c.begin_span.ensures.begun in
+    let journal : Notes = c.mend.new.journal in
+    let kept : journal.kept ≡ c.args.journal.kept = ap (λ (j : Notes). j.kept) c.in_ok-mend.ensures.notes in
+    let unit : UnitReady new.keeper (g.M.Medium.state c.mend.new.unit) = record {
+      is_unit = c.mend.ensures.unit;
+      works = c.in_ok-mend.ensures.cause.works;
+      agrees = subst (λ (k : Keeper). IfSome (g.M.Medium.state c.mend.new.unit).image (Agrees k.journal)) (sym b.keeper) c.in_ok-mend.ensures.agrees;
+    } in
+    let next : new.next ≡ run.next = b.next in
+    let later = c.requires.later in
+    let lit = span-lit run new journal c.requires.dark c.requires.going b (omega (arith, kept, later)) unit in
+    subst (λ (m : ℕ). IsLit (m / 60) new (g.M.Medium.state c.mend.new.unit) (g.C.Chip.card c.args.card_a.now) (g.D.Chip.card c.args.card_b.now) (g.C.Chip.state c.args.card_a.now) (g.D.Chip.state c.args.card_b.now)) (sym next) lit
+
+pub accept_anew-requires-clause-none : goal.accept_anew-requires-clause-none
+accept_anew-requires-clause-none g c = begun-none c.begin_span.new.self.minutes c.args.run.now.next c.begin_span.ensures.begun.minutes
+
+pub accept_anew-requires-clause-bare : goal.accept_anew-requires-clause-bare
+accept_anew-requires-clause-bare g c =
+    let dark = c.requires.going.dark c.requires.dark in
+    let cabin = ap (λ (k : Keeper). k.cabin) c.begin_span.ensures.begun.keeper in
+    subst (λ (b : Cabin). IsBare b.slots.seats.driver) (sym cabin) (dark-bare 0 c.args.run.now.keeper.cabin.cards c.args.run.now.keeper.cabin.slots.seats.driver dark.bare (dark.stands 0).driver)
+
+pub accept_anew-requires-clause-breaks : goal.accept_anew-requires-clause-breaks
+accept_anew-requires-clause-breaks g c =
+    let same = ap (λ (k : Keeper). falls_of k.cabin) c.begin_span.ensures.begun.keeper in
+    let room = c.requires.breaks in
+    omega (arith, same, room)
+
+pub accept_anew-requires-clause-finds : goal.accept_anew-requires-clause-finds
+accept_anew-requires-clause-finds g c =
+    let same = ap (λ (k : Keeper). bare_count k.cabin.slots.seats.driver) c.begin_span.ensures.begun.keeper in
+    let room = c.requires.finds in
+    omega (arith, same, room)
+
+-- ---- the co-driver's slot
+
+pub accept_anew-requires-2-clause-none : goal.accept_anew-requires-2-clause-none
+accept_anew-requires-2-clause-none g c =
+    ap (λ (r : Run). r.minutes.owing) c.accept_anew.ensures.only ∙ begun-none c.begin_span.new.self.minutes c.args.run.now.next c.begin_span.ensures.begun.minutes
+
+pub accept_anew-requires-2-clause-bare : goal.accept_anew-requires-2-clause-bare
+accept_anew-requires-2-clause-bare g c =
+    let dark = c.requires.going.dark c.requires.dark in
+    let cabin = ap (λ (k : Keeper). k.cabin.slots.seats.codriver) c.begin_span.ensures.begun.keeper in
+    subst IsBare (sym (c.accept_anew.ensures.beside ∙ cabin)) (dark-bare 0 c.args.run.now.keeper.cabin.cards c.args.run.now.keeper.cabin.slots.seats.codriver dark.bare (dark.stands 0).codriver)
+
+pub accept_anew-requires-2-clause-breaks : goal.accept_anew-requires-2-clause-breaks
+accept_anew-requires-2-clause-breaks g c =
+    let same = ap (λ (k : Keeper). falls_of k.cabin) c.begin_span.ensures.begun.keeper in
+    let t = c.accept_anew.ensures.takes.breaks in
+    let r = c.accept_anew.ensures.takes.rooms.1 in
+    let room = c.requires.breaks in
+    omega (arith, same, room, t, r)
+
+pub accept_anew-requires-2-clause-finds : goal.accept_anew-requires-2-clause-finds
+accept_anew-requires-2-clause-finds g c =
+    let d = ap (λ (k : Keeper). bare_count k.cabin.slots.seats.driver) c.begin_span.ensures.begun.keeper in
+    let e = ap bare_count (c.accept_anew.ensures.beside ∙ ap (λ (k : Keeper). k.cabin.slots.seats.codriver) c.begin_span.ensures.begun.keeper) in
+    let t = c.accept_anew.ensures.takes.finds in
+    let r = c.accept_anew.ensures.takes.rooms.2 in
+    let room = c.requires.finds in
+    omega (arith, d, e, t, r, room)
+
+-- ---- the unit failed as it was mended
+
+pub returns-in_err-mend-clause-held : goal.returns-in_err-mend-clause-held
+returns-in_err-mend-clause-held g c =
+    let h = c.requires.going.held in
+    record { is_unit = c.mend.ensures.unit; odometer = h.odometer; minute = h.minute; card_a = h.card_a; card_b = h.card_b; stand = h.stand }
+
+pub returns-in_err-mend-clause-takes : goal.returns-in_err-mend-clause-takes
+returns-in_err-mend-clause-takes g c = takes-nothing c.args.run.now c.args.outcome.now
+
+-- ---- or in the driver's slot
+
+pub returns-in_err-accept_anew-clause-takes : goal.returns-in_err-accept_anew-clause-takes
+returns-in_err-accept_anew-clause-takes g c =
+    let run = c.args.run.now in
+    let mid : Run = c.begin_span.new.self in
+    let b = c.begin_span.ensures.begun in
+    let falls = ap (λ (k : Keeper). falls_of k.cabin) b.keeper in
+    let none = begun-none mid.minutes run.next b.minutes in
+    let d = ap (λ (k : Keeper). bare_count k.cabin.slots.seats.driver) b.keeper in
+    awake-takes (bare_count mid.keeper.cabin.slots.seats.driver) run mid c.accept_anew.new.run c.args.outcome.now c.accept_anew.new.outcome falls b.power none (omega (arith, d)) c.accept_anew.ensures.takes
+
+-- ---- or in the co-driver's
+
+pub returns-in_err-accept_anew-2-clause-takes : goal.returns-in_err-accept_anew-2-clause-takes
+returns-in_err-accept_anew-2-clause-takes g c =
+    let run = c.args.run.now in
+    let mid : Run = c.begin_span.new.self in
+    let b = c.begin_span.ensures.begun in
+    let falls = ap (λ (k : Keeper). falls_of k.cabin) b.keeper in
+    let none = begun-none mid.minutes run.next b.minutes in
+    let d = ap (λ (k : Keeper). bare_count k.cabin.slots.seats.driver) b.keeper in
+    let e = ap bare_count (c.accept_anew.ensures.beside ∙ ap (λ (k : Keeper). k.cabin.slots.seats.codriver) b.keeper) in
+    let f : ℕ = bare_count mid.keeper.cabin.slots.seats.driver in
+    let h : ℕ = bare_count c.accept_anew.new.run.keeper.cabin.slots.seats.codriver in
+    let both = takes-then f h mid c.accept_anew.new.run c.accept_anew-2.new.run c.args.outcome.now c.accept_anew.new.outcome c.accept_anew-2.new.outcome c.accept_anew.ensures.takes c.accept_anew-2.ensures.takes in
+    awake-takes (f + h) run mid c.accept_anew-2.new.run c.args.outcome.now c.accept_anew-2.new.outcome falls b.power none (omega (arith, d, e)) both
+
+-- ---- no power-on came before
+
+pub returns-then-is_first-clause-takes : goal.returns-then-is_first-clause-takes
+returns-then-is_first-clause-takes g c =
+    let run = c.args.run.now in
+    let mid : Run = c.begin_span.new.self in
+    let b = c.begin_span.ensures.begun in
+    let falls = ap (λ (k : Keeper). falls_of k.cabin) b.keeper in
+    let none = begun-none mid.minutes run.next b.minutes in
+    let d = ap (λ (k : Keeper). bare_count k.cabin.slots.seats.driver) b.keeper in
+    let e = ap bare_count (c.accept_anew.ensures.beside ∙ ap (λ (k : Keeper). k.cabin.slots.seats.codriver) b.keeper) in
+    let f : ℕ = bare_count mid.keeper.cabin.slots.seats.driver in
+    let h : ℕ = bare_count c.accept_anew.new.run.keeper.cabin.slots.seats.codriver in
+    let both = takes-then f h mid c.accept_anew.new.run c.accept_anew-2.new.run c.args.outcome.now c.accept_anew.new.outcome c.accept_anew-2.new.outcome c.accept_anew.ensures.takes c.accept_anew-2.ensures.takes in
+    awake-takes (f + h) run mid c.accept_anew-2.new.run c.args.outcome.now c.accept_anew-2.new.outcome falls b.power none (omega (arith, d, e)) both
+
+-- ---- the interruption is noted
+
+pub returns-clause-takes : goal.returns-clause-takes
+returns-clause-takes g c =
+    let run = c.args.run.now in
+    let mid : Run = c.begin_span.new.self in
+    let b = c.begin_span.ensures.begun in
+    let falls = ap (λ (k : Keeper). falls_of k.cabin) b.keeper in
+    let none = begun-none mid.minutes run.next b.minutes in
+    let d = ap (λ (k : Keeper). bare_count k.cabin.slots.seats.driver) b.keeper in
+    let e = ap bare_count (c.accept_anew.ensures.beside ∙ ap (λ (k : Keeper). k.cabin.slots.seats.codriver) b.keeper) in
+    let f : ℕ = bare_count mid.keeper.cabin.slots.seats.driver in
+    let h : ℕ = bare_count c.accept_anew.new.run.keeper.cabin.slots.seats.codriver in
+    let both = takes-then f h mid c.accept_anew.new.run c.accept_anew-2.new.run c.args.outcome.now c.accept_anew.new.outcome c.accept_anew-2.new.outcome c.accept_anew.ensures.takes c.accept_anew-2.ensures.takes in
+    let gap = takes-breaks c.accept_anew-2.new.run c.note_gap.new.run c.accept_anew-2.new.outcome c.note_gap.new.breaks c.note_gap.ensures.only c.note_gap.ensures.room.0 c.note_gap.ensures.room.1 in
+    let all = takes-then (f + h) 0 mid c.accept_anew-2.new.run c.note_gap.new.run c.args.outcome.now c.accept_anew-2.new.outcome (record c.accept_anew-2.new.outcome { breaks = c.note_gap.new.breaks }) both gap in
+    awake-takes (f + h + 0) run mid c.note_gap.new.run c.args.outcome.now (record c.accept_anew-2.new.outcome { breaks = c.note_gap.new.breaks }) falls b.power none (omega (arith, d, e)) all
+
+-- ---- breaks, and what failed
+
+pub returns-in_err-accept_anew-2-clause-more : goal.returns-in_err-accept_anew-2-clause-more
+returns-in_err-accept_anew-2-clause-more g c =
+    let mid : Run = c.begin_span.new.self in
+    let next : Run = c.accept_anew.new.run in
+    let one = anew-more (card_in (seat_in mid.keeper.cabin.slots.seats Driver)) Driver c.moment-at.result c.args.speed mid next c.args.outcome.now c.accept_anew.new.outcome c.accept_anew.ensures.accepted in
+    let two = anew-more (card_in (seat_in next.keeper.cabin.slots.seats CoDriver)) CoDriver c.moment-at.result c.args.speed next c.accept_anew-2.new.run c.accept_anew.new.outcome c.accept_anew-2.new.outcome c.accept_anew-2.ensures.accepted in
+    omega (arith, one, two)
+
+pub returns-clause-more : goal.returns-clause-more
+returns-clause-more g c =
+    let mid : Run = c.begin_span.new.self in
+    let next : Run = c.accept_anew.new.run in
+    let one = anew-more (card_in (seat_in mid.keeper.cabin.slots.seats Driver)) Driver c.moment-at.result c.args.speed mid next c.args.outcome.now c.accept_anew.new.outcome c.accept_anew.ensures.accepted in
+    let two = anew-more (card_in (seat_in next.keeper.cabin.slots.seats CoDriver)) CoDriver c.moment-at.result c.args.speed next c.accept_anew-2.new.run c.accept_anew.new.outcome c.accept_anew-2.new.outcome c.accept_anew-2.ensures.accepted in
+    let three = c.note_gap.ensures.more in
+    omega (arith, one, two, three)
+
+pub returns-in_err-accept_anew-2-clause-cause : goal.returns-in_err-accept_anew-2-clause-cause
+returns-in_err-accept_anew-2-clause-cause g c =
+    let failed : true ≡ is_err c.from_residual-in_err-accept_anew-2.result = search rules in
+    subst (λ (f : Bool). HasCause (g.M.Medium.state c.args.unit.now) (g.M.Medium.state c.accept_anew-2.new.unit) f) failed (cause_after c.in_ok-mend.ensures.cause (cause_after c.in_ok-accept_anew.ensures.cause c.in_err-accept_anew-2.ensures.cause))
+
+pub returns-then-is_first-clause-cause : goal.returns-then-is_first-clause-cause
+returns-then-is_first-clause-cause g c = cause_after c.in_ok-mend.ensures.cause (cause_after c.in_ok-accept_anew.ensures.cause c.in_ok-accept_anew-2.ensures.cause)
+
+pub returns-clause-cause : goal.returns-clause-cause
+returns-clause-cause g c = cause_after c.in_ok-mend.ensures.cause (cause_after c.in_ok-accept_anew.ensures.cause (cause_after c.in_ok-accept_anew-2.ensures.cause c.note_gap.ensures.cause))
+
+pub returns-clause-power : goal.returns-clause-power
+returns-clause-power g c = on_ok c.note_gap.result (λ well.
+    ap (λ (r : Run). r.power) c.note_gap.ensures.only ∙ ap (λ (r : Run). r.power) c.accept_anew-2.ensures.only ∙ ap (λ (r : Run). r.power) c.accept_anew.ensures.only ∙ c.begin_span.ensures.begun.power)
+
+pub returns-clause-none : goal.returns-clause-none
+returns-clause-none g c = on_ok c.note_gap.result (λ well.
+    ap (λ (r : Run). r.minutes.owing) c.note_gap.ensures.only ∙ ap (λ (r : Run). r.minutes.owing) c.accept_anew-2.ensures.only ∙ ap (λ (r : Run). r.minutes.owing) c.accept_anew.ensures.only
+    ∙ begun-none c.begin_span.new.self.minutes c.args.run.now.next c.begin_span.ensures.begun.minutes)

@@ -1,0 +1,111 @@
+use Rattle.std.proofs.Common.{◌≡◌, ◌∙◌, ℕ, ◌+◌, ◌-◌, ◌<◌, ◌≤◌, Bool, true, false, length, refl, ap, sym, subst, arith}
+use Rattle.tach_media.proofs.Runs.{on_ok, ok_gives}
+use Rattle.trace_model.specs.declared.Item.{Item}
+use Rattle.trace_model.specs.Trace.{item_seconds}
+use Rattle.trace_text.specs.Line.{InRange}
+use Rattle.log_model.specs.declared.lines.Break.{Break}
+use Rattle.run_outcome.specs.Lines.{Listed}
+use Rattle.run_outcome.specs.Room.{off_count}
+use Rattle.run_keeping.proofs.Counts.{lines-length}
+use Rattle.run_acts.specs.declared.run.Run.{Run}
+use Rattle.run_acts.specs.Power.{is_lit, off_cut, off_run}
+use Rattle.run_acts.specs.Going.{IsGoing}
+use Rattle.run_acts.specs.Room.{cuts_from, HasRoom}
+use Rattle.run_acts.proofs.Standing.{off-at}
+use Rattle.recorder_with_cards.specs.Items.{insertions_in}
+use Rattle.recorder_with_cards.proofs.Rooms.{room-less}
+use Rattle.recorder_with_cards.specs.Gone.{has_seconds, HasGone}
+use Rattle.recorder_with_cards.proofs.Dark.{cut-room, off-room, unfound-same}
+use Rattle.recorder_with_cards.proofs.run.go_on.Goals as goal
+
+-- ---- an action waits
+
+pub returns-in-Act-clause-gone : goal.returns-in-Act-clause-gone
+returns-in-Act-clause-gone g c = record {
+  late = tt;
+  going = c.requires.going;
+  next = let none = ap item_seconds c.in-Act.is in omega (arith, none);
+  unfound = c.requires.unfound;
+  is_unit = c.requires.going.held.is_unit;
+}
+
+pub returns-in-Act-clause-idle : goal.returns-in-Act-clause-idle
+returns-in-Act-clause-idle g c = λ none. (refl, refl)
+
+pub returns-in-Act-clause-room : goal.returns-in-Act-clause-room
+returns-in-Act-clause-room g c = λ left offs insertions actions h some. absurd (let no : false ≡ true = sym (ap has_seconds c.in-Act.is) ∙ some in cc)
+
+-- ---- seconds without power
+
+pub off-requires-clause-small : goal.off-requires-clause-small
+off-requires-clause-small g c = let is = ap item_seconds c.in-Off.is in let small = c.requires.small in omega (arith, is, small)
+
+pub off-requires-clause-room : goal.off-requires-clause-room
+off-requires-clause-room g c = λ lit.
+    let k : ℕ = insertions_in c.args.from c.args.to c.args.items.now in
+    let a : ℕ = c.args.to - c.args.from in
+    cut-room c.args.run.now c.args.outcome.now c.in-Off.seconds 0 k a
+    (subst (λ (i : Item). HasRoom c.args.run.now c.args.outcome.now (item_seconds i) (off_count i) k a) c.in-Off.is c.requires.room) lit
+
+pub returns-in-Off-clause-gone : goal.returns-in-Off-clause-gone
+returns-in-Off-clause-gone g c =
+    let run = c.args.run.now in
+    let is = ap item_seconds c.in-Off.is in
+    let small = c.requires.small in
+    record {
+      late = tt;
+      going = subst (λ (r : Run). IsGoing r (g.M.Medium.state c.args.unit.now) (g.C.Chip.card c.args.card_a.now) (g.D.Chip.card c.args.card_b.now) (g.C.Chip.state c.args.card_a.now) (g.D.Chip.state c.args.card_b.now)) (sym c.off.ensures.run)
+          (off-at run c.in-Off.seconds (omega (arith, small, is)) c.requires.going);
+      next = ap (λ (r : Run). r.next) c.off.ensures.run ∙ ap (λ (n : ℕ). run.next + n) (sym is);
+      unfound =
+          let same = ap (λ (r : Run). r.unfound) c.off.ensures.run ∙ unfound-same c.in-Off.seconds run in
+          let more = ap (λ (l : Listed Break). length l.items) c.off.ensures.breaks ∙ lines-length (off_cut (is_lit run.power) (run.next - 1) run.begun) c.args.outcome.now.breaks in
+          let was = c.requires.unfound in
+          omega (arith, same, more, was);
+      is_unit = c.requires.going.held.is_unit;
+    }
+
+pub returns-in-Off-clause-idle : goal.returns-in-Off-clause-idle
+returns-in-Off-clause-idle g c = λ none. absurd (let no : true ≡ false = sym (ap has_seconds c.in-Off.is) ∙ none in cc)
+
+pub returns-in-Off-clause-room : goal.returns-in-Off-clause-room
+returns-in-Off-clause-room g c = λ left offs insertions actions h some.
+    let run = c.args.run.now in
+    let o = c.args.outcome.now in
+    let k : ℕ = insertions_in c.args.from c.args.to c.args.items.now in
+    let a : ℕ = c.args.to - c.args.from in
+    let stand = c.requires.going.held.stand in
+    let here = subst (λ (i : Item). HasRoom run o (item_seconds i + left) (off_count i + offs) (k + insertions) (a + actions)) c.in-Off.is h in
+    subst (λ (r : Run). HasRoom r (record o { breaks = c.off.new.breaks }) left offs insertions actions) (sym c.off.ensures.run)
+    (off-room run o c.in-Off.seconds stand.0 stand.1 stand.2 c.off.new.breaks c.off.ensures.breaks left offs insertions actions
+    (room-less cuts_from run o (c.in-Off.seconds + left) (c.in-Off.seconds + left) (1 + offs) (1 + offs) (k + insertions) insertions (a + actions) actions (omega arith) (omega arith) (omega arith) (omega arith) here))
+
+-- ---- seconds at one speed
+
+pub drive-requires-clause-some : goal.drive-requires-clause-some
+drive-requires-clause-some g c = (subst InRange c.in-Run.is c.requires.item).0
+
+pub drive-requires-clause-small : goal.drive-requires-clause-small
+drive-requires-clause-small g c = let is = ap item_seconds c.in-Run.is in let small = c.requires.small in omega (arith, is, small)
+
+pub drive-requires-clause-room : goal.drive-requires-clause-room
+drive-requires-clause-room g c =
+    subst (λ (i : Item). HasRoom c.args.run.now c.args.outcome.now (item_seconds i) (off_count i) (insertions_in c.args.from c.args.to c.args.items.now) (c.args.to - c.args.from)) c.in-Run.is c.requires.room
+
+pub returns-in-Run-clause-gone : goal.returns-in-Run-clause-gone
+returns-in-Run-clause-gone g c =
+    subst (λ (n : ℕ). HasGone c.drive.result n c.args.run.now c.drive.new.run c.drive.new.outcome (g.M.Medium.state c.drive.new.unit) (g.C.Chip.card c.drive.new.card_a) (g.D.Chip.card c.drive.new.card_b) (g.C.Chip.state c.drive.new.card_a) (g.D.Chip.state c.drive.new.card_b))
+    (sym (ap item_seconds c.in-Run.is)) c.drive.ensures.gone
+
+pub returns-in-Run-clause-idle : goal.returns-in-Run-clause-idle
+returns-in-Run-clause-idle g c = on_ok c.drive.result (λ well none. absurd (let no : true ≡ false = sym (ap has_seconds c.in-Run.is) ∙ none in cc))
+
+pub returns-in-Run-clause-room : goal.returns-in-Run-clause-room
+returns-in-Run-clause-room g c = λ left offs insertions actions h.
+    let run = c.args.run.now in
+    let o = c.args.outcome.now in
+    let k : ℕ = insertions_in c.args.from c.args.to c.args.items.now in
+    let a : ℕ = c.args.to - c.args.from in
+    let here = subst (λ (i : Item). HasRoom run o (item_seconds i + left) (off_count i + offs) (k + insertions) (a + actions)) c.in-Run.is h in
+    on_ok c.drive.result (λ well some. ok_gives c.drive.result (c.drive.ensures.room left offs insertions actions
+    (room-less cuts_from run o (c.in-Run.seconds + left) (c.in-Run.seconds + left) (0 + offs) offs (k + insertions) (k + insertions) (a + actions) (a + actions) (omega arith) (omega arith) (omega arith) (omega arith) here)) well)

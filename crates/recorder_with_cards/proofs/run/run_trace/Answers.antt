@@ -1,0 +1,126 @@
+use Rattle.std.proofs.Common.{rules, ◌≡◌, ◌∙◌, inl, inr, ℕ, ◌+◌, ◌-◌, ◌/◌, ◌<◌, ◌≤◌, Bool, true, false, None, length, drop, refl, ap, sym, subst, arith}
+use Rattle.std.specs.Prelude.{IfErr}
+use Rattle.std.proofs.lemmas.Grind.{common_steps}
+use Rattle.trace_model.specs.declared.Card.{Card}
+use Rattle.trace_model.specs.Trace.{item_seconds, total_seconds}
+use Rattle.run_crew.specs.declared.cabin.Cabin.{Cabin}
+use Rattle.run_crew.specs.Cards.{session_of}
+use Rattle.run_opening.specs.declared.fault.RunFault.{RunFault}
+use Rattle.run_opening.specs.Opening.{IsRefused}
+use Rattle.run_rule.specs.Between.{devices}
+use Rattle.run_keeping.specs.declared.keeper.Keeper.{Keeper}
+use Rattle.run_outcome.specs.Room.{offs, off_count, insertions}
+use Rattle.run_outcome.proofs.Items.{seconds-here, offs-here}
+use Rattle.run_acts.specs.declared.run.Power.{Power}
+use Rattle.run_acts.specs.Power.{is_lit}
+use Rattle.run_acts.specs.Going.{CardAt, IsFoundLater}
+use Rattle.run_acts.specs.Room.{cuts_from, HasRoom}
+use Rattle.recorder_with_cards.specs.Items.{insertions_in}
+use Rattle.recorder_with_cards.proofs.Rooms.{room-less}
+use Rattle.recorder_with_cards.proofs.Items.{each-at, insertions-left, waiting-most, room-behind}
+use Rattle.recorder_with_cards.proofs.Start.{if-err, none-yet, no-falls, no-seats, room-start}
+use Rattle.recorder_with_cards.proofs.run.run_trace.Goals as goal
+
+-- ---- the opening
+
+pub returns-in_err-opened-clause-refused : goal.returns-in_err-opened-clause-refused
+returns-in_err-opened-clause-refused g c =
+    let h : IfErr c.from_residual.result
+    (IsRefused c.args.trace.now.start (devices (g.U.Medium.state c.args.unit.now) (g.C.Chip.state c.args.card_a.now) (g.C.Chip.state c.args.card_b.now)) (devices (g.U.Medium.state c.judge.new.unit) (g.C.Chip.state c.judge.new.card_a) (g.C.Chip.state c.judge.new.card_b)))
+    = first_of (search rules, grind (arith, common_steps)) in
+    if-err c.from_residual.result (λ fault is. inl (is, c.judge.ensures.unit, c.judge.ensures.card_a, c.judge.ensures.card_b, refl)) h
+
+pub loop-i-init : goal.loop-i-init
+loop-i-init g c =
+    let q = c.requires in
+    let e = c.in_ok-opened.ensures in
+    let run = c.new-run.result in
+    let keeper = c.new-run.ensures.keeper in
+    let next = c.new-run.ensures.next in
+    let dark : is_lit run.power ≡ false = ap is_lit c.new-run.ensures.power in
+    let a : run.keeper.cabin.cards.a.accepted ≡ None = ap (λ (k : Keeper). k.cabin.cards.a.accepted) keeper ∙ e.found_a.none in
+    let b : run.keeper.cabin.cards.b.accepted ≡ None = ap (λ (k : Keeper). k.cabin.cards.b.accepted) keeper ∙ e.found_b.none in
+    let slots = ap (λ (k : Keeper). k.cabin.slots) keeper in
+    record {
+      first = omega arith;
+      going = record {
+        low = let low = q.well.first.0 in omega (arith, low, next);
+        small = let last = q.well.within.1 in omega (arith, last, next);
+        held = record {
+          is_unit = c.judge.ensures.is_unit q.unit;
+          odometer = c.new-run.ensures.odometer;
+          minute = let none = ap (λ (k : Keeper). k.cabin.slots.minute) keeper in omega (arith, none);
+          card_a = subst (λ (k : Keeper). CardAt k.cabin.cards.a (g.C.Chip.card c.judge.new.card_a) (g.C.Chip.state c.judge.new.card_a)) (sym keeper)
+              (record { port = e.found_a.port; size = let same = c.judge.ensures.card_a.leaves.size in let size = q.card_a in omega (arith, same, size) });
+          card_b = subst (λ (k : Keeper). CardAt k.cabin.cards.b (g.C.Chip.card c.judge.new.card_b) (g.C.Chip.state c.judge.new.card_b)) (sym keeper)
+              (record { port = e.found_b.port; size = let same = c.judge.ensures.card_b.leaves.size in let size = q.card_b in omega (arith, same, size) });
+          stand = (0, None, c.new-run.ensures.stands 0);
+        };
+        dark = λ no. record { stands = c.new-run.ensures.stands; bare = none-yet run.keeper.cabin.cards a b };
+        lit = λ yes. absurd (let bad : false ≡ true = sym dark ∙ yes in cc);
+      };
+      next = ap (λ (n : ℕ). n + total_seconds c.args.trace.now.items) next;
+      room = subst (λ (n : ℕ). HasRoom run c.args.outcome.now (total_seconds c.args.trace.now.items) (offs c.args.trace.now.items) (insertions c.args.trace.now.items) n) (let whole : length c.args.trace.now.items ≡ length c.args.trace.now.items - 0 = omega arith in whole)
+          (room-start run c.args.outcome.now c.args.trace.now.items c.new-run.ensures.power (no-falls run.keeper.cabin slots a b) (no-seats run.keeper.cabin slots) q.reserved);
+      unfound = let none = c.new-run.ensures.unfound in omega (arith, none);
+    }
+
+-- ---- an item
+
+pub go_on-requires-clause-item : goal.go_on-requires-clause-item
+go_on-requires-clause-item g c = each-at c.args.trace.now.items c.loop-i.i c.get-item.result.now c.get-item.ensures c.requires.well.each
+
+pub go_on-requires-clause-small : goal.go_on-requires-clause-small
+go_on-requires-clause-small g c =
+    let s = seconds-here c.args.trace.now.items c.loop-i.i c.get-item.result.now c.get-item.ensures in
+    let next = c.loop-i.invariant.next in
+    let last = c.requires.well.within.1 in
+    omega (arith, s, next, last)
+
+pub go_on-requires-clause-room : goal.go_on-requires-clause-room
+go_on-requires-clause-room g c =
+    let v = c.loop-i.invariant in
+    let items = c.args.trace.now.items in
+    let i : ℕ = c.loop-i.i in
+    let s = seconds-here items i c.get-item.result.now c.get-item.ensures in
+    let o = offs-here items i c.get-item.result.now c.get-item.ensures in
+    let k = insertions-left items c.loop-i.first i v.first in
+    room-less cuts_from c.loop-i.run c.loop-i.outcome (total_seconds (drop i items)) (item_seconds c.get-item.result.now) (offs (drop i items)) (off_count c.get-item.result.now) (insertions (drop c.loop-i.first items)) (insertions_in c.loop-i.first i items)
+    (length items - c.loop-i.first) (i - c.loop-i.first) (omega (arith, s)) (omega (arith, o)) (omega (arith, k)) (omega (arith, c.loop-i-test.true, c.len-i-end.ensures)) v.room
+
+pub loop-i-preserved : goal.loop-i-preserved
+loop-i-preserved g c =
+    let v = c.loop-i.invariant in
+    let e = c.in_ok-go_on.ensures.gone in
+    let f = c.in_ok-go_on.ensures in
+    let items = c.args.trace.now.items in
+    let i : ℕ = c.loop-i.i in
+    let item = c.get-item.result.now in
+    let s = seconds-here items i item c.get-item.ensures in
+    let o = offs-here items i item c.get-item.ensures in
+    let waits = c.first_waiting-first.ensures in
+    let low : i < length items = omega (arith, c.loop-i-test.true, c.len-i-end.ensures) in
+    record {
+      first = let most = waiting-most item c.loop-i.first i v.first in omega (arith, most, waits);
+      going = e.going;
+      next = let was = v.next in let next = e.next in omega (arith, was, next, s);
+      room = subst (λ (n : ℕ). HasRoom c.go_on.new.run c.go_on.new.outcome (total_seconds (drop (i + 1) items)) (offs (drop (i + 1) items)) (insertions (drop n items)) (length items - n)) (sym waits)
+          (room-behind items item c.loop-i.run c.go_on.new.run c.loop-i.outcome c.go_on.new.outcome (total_seconds (drop (i + 1) items)) (offs (drop (i + 1) items)) c.loop-i.first i c.get-item.ensures v.first low
+          (subst (λ (n : ℕ). HasRoom c.loop-i.run c.loop-i.outcome n (off_count item + offs (drop (i + 1) items)) (insertions (drop c.loop-i.first items)) (length items - c.loop-i.first)) s
+          (subst (λ (n : ℕ). HasRoom c.loop-i.run c.loop-i.outcome (total_seconds (drop i items)) n (insertions (drop c.loop-i.first items)) (length items - c.loop-i.first)) o v.room))
+          f.idle f.room);
+      unfound = e.unfound;
+    }
+
+-- ---- a unit that is read anew
+
+pub returns-in_err-go_on-clause-refused : goal.returns-in_err-go_on-clause-refused
+returns-in_err-go_on-clause-refused g c =
+    let late : IfErr c.from_residual-in_err-go_on.result IsFoundLater = first_of (search rules, grind (arith, common_steps)) in
+    if-err c.from_residual-in_err-go_on.result (λ fault is. inr is) late
+
+pub returns-in_err-go_on-clause-unit : goal.returns-in_err-go_on-clause-unit
+returns-in_err-go_on-clause-unit g c = c.in_err-go_on.ensures.gone.is_unit
+
+pub returns-clause-unit : goal.returns-clause-unit
+returns-clause-unit g c = c.loop-i.invariant.going.held.is_unit

@@ -1,0 +1,235 @@
+//! The actions of a second.
+ghost use Rattle.std.specs.Prelude.{◌≡◌, ◌≢◌, ℕ, ◌+◌, ◌-◌, ◌*◌, ◌/◌, ◌<◌, ◌≤◌, true, false, Some, None, OnOk, length, min, is_err};
+ghost use Rattle.std.specs.Result.{result_err};
+ghost use Rattle.tach_media.specs.Medium.{HasCause};
+ghost use Rattle.log_model.specs.Slots.{refusal};
+ghost use Rattle.slot_machine.specs.Calls.{logged};
+ghost use Rattle.run_keeping.specs.Keeping.{with_lines};
+ghost use Rattle.run_acts.specs.declared.run.Power.TheVariants.{Lit};
+ghost use Rattle.run_acts.specs.Power.{is_lit};
+ghost use Rattle.run_acts.specs.Going.{largest_number, first_second, end_of_seconds, IsHeld, IsLit, IsWithin};
+ghost use Rattle.run_acts.specs.Room.{HasRoomWithin, Takes};
+ghost use Rattle.recorder_with_cards.specs.Acting.{put_count, refusal_lines, refused_by, IsSelected, IsFine, StaysIn, moment_of, IsDone, IsActedBy, IsActed, IsItemActed, AreActed};
+ghost use Rattle.recorder_with_cards.specs.Items.{between, insertions_in};
+ghost use Rattle.run_outcome.specs.Room.{insertion_count};
+
+use crate::inserting::insert;
+use log_model::SlotFault;
+use run_acts::{Run, note_place, place, pull, withdraw};
+use run_outcome::Outcome;
+use tach_media::{Chip, Failed, Medium};
+use trace_text::{Action, Item, Items};
+
+/// How many actions a second had, as its lines of the outcome tell it.
+pub(crate) fn number_of(actions: usize) -> u32
+    ensures { result ≡ min actions largest_number }
+{
+    actions.min(u32::MAX as usize) as u32
+}
+
+/// The actions of one second in their order, which are the items from one index to another.
+pub(crate) fn act_all<M: Medium, C: Chip, D: Chip>(
+    run: &mut Run,
+    items: &Items,
+    from: usize,
+    to: usize,
+    has_power: bool,
+    speed: u8,
+    unit: &mut M,
+    card_a: &mut C,
+    card_b: &mut D,
+    outcome: &mut Outcome,
+)
+    requires first { from ≤ to }
+    requires last { to ≤ length items.now }
+    requires going { IsWithin run.old (M.state unit.old) (C.card card_a.old) (D.card card_b.old) (C.state card_a.old) (D.state card_b.old) }
+    requires dark { has_power ≡ false → is_lit run.old.power ≡ false }
+    requires room { HasRoomWithin run.old outcome.old 1 0 (insertions_in from to items.now) (to - from) }
+    ensures acted { AreActed has_power speed 0 (between from to items.now) run.old run.new outcome.old outcome.new }
+    ensures going { IsWithin run.new (M.state unit.new) (C.card card_a.new) (D.card card_b.new) (C.state card_a.new) (D.state card_b.new) }
+    ensures next { run.new.next ≡ run.old.next }
+    ensures unfound { run.new.unfound ≡ run.old.unfound }
+    ensures room { (left offs insertions actions : ℕ) → HasRoomWithin run.old outcome.old (1 + left) offs (insertions_in from to items.now + insertions) (to - from + actions) → HasRoomWithin run.new outcome.new (1 + left) offs insertions actions }
+    ensures breaks { length outcome.old.breaks.items ≤ length outcome.new.breaks.items }
+{
+    for i in from..to {
+        act_item(
+            run,
+            items.get(i),
+            number_of(i - from + 1),
+            has_power,
+            speed,
+            unit,
+            card_a,
+            card_b,
+            outcome,
+        );
+    }
+}
+
+// An action among the items.
+fn act_item<M: Medium, C: Chip, D: Chip>(
+    run: &mut Run,
+    item: &Item,
+    begun: u32,
+    has_power: bool,
+    speed: u8,
+    unit: &mut M,
+    card_a: &mut C,
+    card_b: &mut D,
+    outcome: &mut Outcome,
+)
+    requires going { IsWithin run.old (M.state unit.old) (C.card card_a.old) (D.card card_b.old) (C.state card_a.old) (D.state card_b.old) }
+    requires dark { has_power ≡ false → is_lit run.old.power ≡ false }
+    requires room { HasRoomWithin run.old outcome.old 1 0 (insertion_count item.now) 1 }
+    ensures acted { IsItemActed item.now has_power (is_lit run.old.power) begun speed run.old run.new outcome.old outcome.new }
+    ensures going { IsWithin run.new (M.state unit.new) (C.card card_a.new) (D.card card_b.new) (C.state card_a.new) (D.state card_b.new) }
+    ensures dark { has_power ≡ false → is_lit run.new.power ≡ false }
+    ensures next { run.new.next ≡ run.old.next }
+    ensures unfound { run.new.unfound ≡ run.old.unfound }
+    ensures room { (left offs insertions actions : ℕ) → HasRoomWithin run.old outcome.old (1 + left) offs (insertion_count item.now + insertions) (1 + actions) → HasRoomWithin run.new outcome.new (1 + left) offs insertions actions }
+    ensures breaks { length outcome.old.breaks.items ≤ length outcome.new.breaks.items }
+{
+    match item {
+        Item::Act(action) => act(
+            run, *action, begun, has_power, speed, unit, card_a, card_b, outcome,
+        ),
+        Item::Run { .. } | Item::Off { .. } => {}
+    }
+}
+
+// One action: in a second without power it is refused, and one that comes after a cut in its second is not carried out.
+fn act<M: Medium, C: Chip, D: Chip>(
+    run: &mut Run,
+    action: Action,
+    begun: u32,
+    has_power: bool,
+    speed: u8,
+    unit: &mut M,
+    card_a: &mut C,
+    card_b: &mut D,
+    outcome: &mut Outcome,
+)
+    requires going { IsWithin run.old (M.state unit.old) (C.card card_a.old) (D.card card_b.old) (C.state card_a.old) (D.state card_b.old) }
+    requires dark { has_power ≡ false → is_lit run.old.power ≡ false }
+    requires room { HasRoomWithin run.old outcome.old 1 0 (put_count action) 1 }
+    ensures acted { IsActed has_power (is_lit run.old.power) action begun speed run.old run.new outcome.old outcome.new }
+    ensures refused { outcome.new.refused ≡ with_lines (refusal_lines (refused_by has_power (is_lit run.old.power) run.old.keeper.cabin.slots.seats speed action) run.old.next) outcome.old.refused }
+    ensures none { (refused_by has_power (is_lit run.old.power) run.old.keeper.cabin.slots.seats speed action ≡ None → ⊥) → run.new ≡ run.old }
+    ensures lost { has_power ≡ true → is_lit run.old.power ≡ false → (run.new ≡ run.old) × (outcome.new ≡ outcome.old) }
+    ensures selected { is_lit run.old.power ≡ true → IsSelected action run.old run.new }
+    ensures going { IsWithin run.new (M.state unit.new) (C.card card_a.new) (D.card card_b.new) (C.state card_a.new) (D.state card_b.new) }
+    ensures dark { is_lit run.old.power ≡ false → is_lit run.new.power ≡ false }
+    ensures next { run.new.next ≡ run.old.next }
+    ensures unfound { run.new.unfound ≡ run.old.unfound }
+    ensures room { (left offs insertions actions : ℕ) → HasRoomWithin run.old outcome.old (1 + left) offs (put_count action + insertions) (1 + actions) → HasRoomWithin run.new outcome.new (1 + left) offs insertions actions }
+    ensures breaks { length outcome.old.breaks.items ≤ length outcome.new.breaks.items }
+{
+    if !has_power {
+        run.refuse(SlotFault::NoPower, &mut outcome.refused);
+        return;
+    }
+    if !run.is_lit() {
+        return;
+    }
+    act_lit(run, action, begun, speed, unit, card_a, card_b, outcome);
+}
+
+// One action with power.
+fn act_lit<M: Medium, C: Chip, D: Chip>(
+    run: &mut Run,
+    action: Action,
+    begun: u32,
+    speed: u8,
+    unit: &mut M,
+    card_a: &mut C,
+    card_b: &mut D,
+    outcome: &mut Outcome,
+)
+    requires lit { run.old.power ≡ Lit }
+    requires going { IsWithin run.old (M.state unit.old) (C.card card_a.old) (D.card card_b.old) (C.state card_a.old) (D.state card_b.old) }
+    requires room { HasRoomWithin run.old outcome.old 1 0 (put_count action) 1 }
+    ensures acted { IsActedBy (refusal (logged run.old.keeper.cabin.slots.seats) speed action) action begun speed run.old run.new outcome.old outcome.new }
+    ensures refused { outcome.new.refused ≡ with_lines (refusal_lines (refusal (logged run.old.keeper.cabin.slots.seats) speed action) run.old.next) outcome.old.refused }
+    ensures none { (refusal (logged run.old.keeper.cabin.slots.seats) speed action ≡ None → ⊥) → run.new ≡ run.old }
+    ensures selected { IsSelected action run.old run.new }
+    ensures going { IsWithin run.new (M.state unit.new) (C.card card_a.new) (D.card card_b.new) (C.state card_a.new) (D.state card_b.new) }
+    ensures next { run.new.next ≡ run.old.next }
+    ensures unfound { run.new.unfound ≡ run.old.unfound }
+    ensures room { (left offs insertions actions : ℕ) → HasRoomWithin run.old outcome.old (1 + left) offs (put_count action + insertions) (1 + actions) → HasRoomWithin run.new outcome.new (1 + left) offs insertions actions }
+    ensures breaks { length outcome.old.breaks.items ≤ length outcome.new.breaks.items }
+{
+    if let Err(fault) = may(run, action, speed) {
+        run.refuse(fault, &mut outcome.refused);
+        return;
+    }
+    if carry_out(run, action, begun, speed, unit, card_a, card_b, outcome).is_err() {
+        run.cut(run.next, true, begun, &mut outcome.breaks);
+    }
+}
+
+// Whether the slots and the speed let an action be carried out.
+fn may(run: &Run, action: Action, speed: u8) -> Result<(), SlotFault>
+    ensures { result_err result ≡ refusal (logged run.now.keeper.cabin.slots.seats) speed action }
+{
+    match action {
+        Action::Select { .. } => Ok(()),
+        Action::Insert { slot, card } => run.keeper.cabin.slots.may_insert(slot, card),
+        Action::Withdraw { slot } => run.keeper.cabin.slots.may_withdraw(slot, speed),
+        Action::Tear { slot } => run.keeper.cabin.slots.may_tear(slot),
+        Action::Place { slot, .. } => run.keeper.cabin.slots.may_note(slot),
+    }
+}
+
+// An action that is not refused.
+fn carry_out<M: Medium, C: Chip, D: Chip>(
+    run: &mut Run,
+    action: Action,
+    begun: u32,
+    speed: u8,
+    unit: &mut M,
+    card_a: &mut C,
+    card_b: &mut D,
+    outcome: &mut Outcome,
+) -> Result<(), Failed>
+    requires lit { run.old.power ≡ Lit }
+    requires going { IsWithin run.old (M.state unit.old) (C.card card_a.old) (D.card card_b.old) (C.state card_a.old) (D.state card_b.old) }
+    requires allowed { refusal (logged run.old.keeper.cabin.slots.seats) speed action ≡ None }
+    requires room { HasRoomWithin run.old outcome.old 1 0 (put_count action) 0 }
+    ensures done { IsDone action (moment_of begun run.old) speed (is_err result) run.old run.new outcome.old outcome.new }
+    ensures selected { IsSelected action run.old run.new }
+    ensures fine { IsFine action (is_err result) }
+    ensures stays { StaysIn run.old run.new }
+    ensures held { IsHeld (run.new.next / 60) run.new (M.state unit.new) (C.card card_a.new) (D.card card_b.new) (C.state card_a.new) (D.state card_b.new) }
+    ensures going { OnOk result (IsLit (run.new.next / 60) run.new (M.state unit.new) (C.card card_a.new) (D.card card_b.new) (C.state card_a.new) (D.state card_b.new)) }
+    ensures takes { Takes (put_count action) (put_count action) 0 run.old run.new outcome.old outcome.new }
+    ensures refused { outcome.new.refused ≡ outcome.old.refused }
+    ensures breaks { length outcome.old.breaks.items ≤ length outcome.new.breaks.items }
+    ensures cause { HasCause (M.state unit.old) (M.state unit.new) (is_err result) }
+{
+    let at = run.moment(begun);
+    match action {
+        Action::Select { slot, pick } => {
+            run.minutes.select(slot, pick);
+            Ok(())
+        }
+        Action::Insert { slot, card } => {
+            insert(run, slot, card, at, speed, unit, card_a, card_b, outcome)
+        }
+        Action::Withdraw { slot } => withdraw(run, slot, at, unit, card_a, card_b, outcome),
+        Action::Tear { slot } => {
+            pull(run, slot, at, &mut outcome.breaks);
+            Ok(())
+        }
+        Action::Place {
+            slot,
+            ending,
+            country,
+            region,
+        } => {
+            let entry = place(run, ending, country, region);
+            let breaks = &mut outcome.breaks;
+            note_place(run, slot, &entry, at, unit, card_a, card_b, breaks)
+        }
+    }
+}

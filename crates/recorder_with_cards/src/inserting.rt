@@ -1,0 +1,57 @@
+//! A card is put into a slot.
+ghost use Rattle.std.specs.Prelude.{◌≡◌, ◌+◌, ◌*◌, ◌/◌, ◌<◌, ◌≤◌, None, OnOk, false, length, is_err};
+ghost use Rattle.tach_media.specs.Medium.{HasCause};
+ghost use Rattle.log_model.specs.Slots.{other_slot};
+ghost use Rattle.slot_machine.specs.Calls.{seat_in, is_card};
+ghost use Rattle.run_acts.specs.declared.run.Power.TheVariants.{Lit};
+ghost use Rattle.run_acts.specs.Going.{first_second, end_of_seconds, IsHeld, IsLit};
+ghost use Rattle.run_acts.specs.Room.{falls_of, Takes};
+ghost use Rattle.recorder_with_cards.specs.Accepting.{IsInserted};
+
+use crate::accepting::accept_in;
+use activity_codec::Slot;
+use run_acts::{Run, settle};
+use run_keeping::Moment;
+use run_outcome::Outcome;
+use tach_media::{Chip, Failed, Medium};
+use trace_model::Card;
+
+/// A card is put into a slot: what that settles is kept first, and then it is accepted or turned away.
+///
+/// # Errors
+///
+/// `Failed` where the unit failed.
+pub(crate) fn insert<M: Medium, C: Chip, D: Chip>(
+    run: &mut Run,
+    slot: Slot,
+    card: Card,
+    at: Moment,
+    speed: u8,
+    unit: &mut M,
+    card_a: &mut C,
+    card_b: &mut D,
+    outcome: &mut Outcome,
+) -> Result<(), Failed>
+    requires lit { run.old.power ≡ Lit }
+    requires low { first_second ≤ run.old.next }
+    requires small { run.old.next ≤ end_of_seconds }
+    requires held { IsHeld (run.old.next / 60) run.old (M.state unit.old) (C.card card_a.old) (D.card card_b.old) (C.state card_a.old) (D.state card_b.old) }
+    requires going { IsLit (run.old.next / 60) run.old (M.state unit.old) (C.card card_a.old) (D.card card_b.old) (C.state card_a.old) (D.state card_b.old) }
+    requires at { at.second ≡ run.old.next }
+    requires empty { seat_in run.old.keeper.cabin.slots.seats slot ≡ None }
+    requires elsewhere { is_card (seat_in run.old.keeper.cabin.slots.seats (other_slot slot)) card ≡ false }
+    requires marks { length outcome.old.marks.items + 3 * run.old.minutes.owing ≤ outcome.old.marks.room }
+    requires breaks { length outcome.old.breaks.items + falls_of run.old.keeper.cabin + 1 ≤ outcome.old.breaks.room }
+    requires finds { length outcome.old.finds.items < outcome.old.finds.room }
+    ensures inserted { IsInserted slot card at speed (is_err result) run.old run.new outcome.old outcome.new }
+    ensures held { IsHeld (run.new.next / 60) run.new (M.state unit.new) (C.card card_a.new) (D.card card_b.new) (C.state card_a.new) (D.state card_b.new) }
+    ensures going { OnOk result (IsLit (run.new.next / 60) run.new (M.state unit.new) (C.card card_a.new) (D.card card_b.new) (C.state card_a.new) (D.state card_b.new)) }
+    ensures only { run.new ≡ record run.old { minutes = run.new.minutes; keeper = run.new.keeper; noted = run.new.noted } }
+    ensures refused { outcome.new.refused ≡ outcome.old.refused }
+    ensures takes { Takes 1 1 0 run.old run.new outcome.old outcome.new }
+    ensures cause { HasCause (M.state unit.old) (M.state unit.new) (is_err result) }
+{
+    run.keeper.cabin.put_in(slot, card);
+    settle(run, at, unit, card_a, card_b, outcome)?;
+    accept_in(run, slot, card, at, speed, unit, card_a, card_b, outcome)
+}

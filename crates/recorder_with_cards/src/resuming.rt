@@ -1,0 +1,175 @@
+//! Power is back.
+ghost use Rattle.std.specs.Prelude.{◌≡◌, ◌⊎◌, ℕ, ◌+◌, ◌-◌, ◌*◌, ◌/◌, ◌<◌, ◌≤◌, true, false, IfOk, IfErr, OnOk, length, is_err};
+ghost use Rattle.tach_media.specs.Medium.{HasCause};
+ghost use Rattle.unit_model.specs.Image.{IsUnit};
+ghost use Rattle.run_opening.specs.Units.{IsLoaded};
+ghost use Rattle.run_acts.specs.declared.run.Power.TheVariants.{Lit};
+ghost use Rattle.run_acts.specs.Power.{is_lit, has_power};
+ghost use Rattle.run_acts.specs.Going.{end_of_seconds, IsHeld, IsLit, IsAt, IsGoing, IsWithin, IsFoundLater};
+ghost use Rattle.run_acts.specs.Room.{HasRoom, HasRoomWithin, falls_of, bare_seats};
+ghost use Rattle.recorder_with_cards.specs.Waking.{IsAwake, TakesUp, TakesAwake};
+
+use crate::accepting::accept_anew;
+use activity_codec::Slot;
+use device_steps::mend;
+use run_acts::{Run, note_gap};
+use run_opening::{RunFault, judge_clock, load};
+use run_outcome::Outcome;
+use tach_media::{Chip, Failed, Medium};
+use unit_journal::{Journal, UnitFault};
+
+/// A second begins to which the trace gives power: where it is due, power is back. Whether the second has power, at its beginning at
+/// least.
+///
+/// # Errors
+///
+/// `BadUnit` or `ClockBack`, of a unit that is read anew at a power-on.
+pub(crate) fn begin_second<M: Medium, C: Chip, D: Chip>(
+    run: &mut Run,
+    speed: u8,
+    unit: &mut M,
+    card_a: &mut C,
+    card_b: &mut D,
+    outcome: &mut Outcome,
+) -> Result<bool, RunFault>
+    requires going { IsGoing run.old (M.state unit.old) (C.card card_a.old) (D.card card_b.old) (C.state card_a.old) (D.state card_b.old) }
+    requires room { HasRoom run.old outcome.old 1 0 0 0 }
+    requires unfound { run.old.unfound ≤ length outcome.old.breaks.items }
+    ensures late { IfErr result IsFoundLater }
+    ensures power { IfOk result (λ powered. powered ≡ has_power run.old.power run.old.next) }
+    ensures dark { IfOk result (λ powered. powered ≡ false → (run.new ≡ run.old) × (outcome.new ≡ outcome.old)) }
+    ensures going { OnOk result (IsWithin run.new (M.state unit.new) (C.card card_a.new) (D.card card_b.new) (C.state card_a.new) (D.state card_b.new)) }
+    ensures next { OnOk result (run.new.next ≡ run.old.next) }
+    ensures room { (left offs insertions actions : ℕ) → HasRoom run.old outcome.old (1 + left) offs insertions actions → OnOk result (HasRoomWithin run.new outcome.new (1 + left) offs insertions actions) }
+    ensures unfound { OnOk result (run.new.unfound ≤ length outcome.new.breaks.items) }
+    ensures unit { IsUnit (M.state unit.new) }
+    ensures refused { outcome.new.refused ≡ outcome.old.refused }
+{
+    if !run.has_power() {
+        return Ok(false);
+    }
+    if run.is_lit() {
+        run.end_minute();
+        return Ok(true);
+    }
+    power_on(run, speed, unit, card_a, card_b, outcome)?;
+    Ok(true)
+}
+
+// Power is back: the unit is revived and judged.
+fn power_on<M: Medium, C: Chip, D: Chip>(
+    run: &mut Run,
+    speed: u8,
+    unit: &mut M,
+    card_a: &mut C,
+    card_b: &mut D,
+    outcome: &mut Outcome,
+) -> Result<(), RunFault>
+    requires dark { is_lit run.old.power ≡ false }
+    requires going { IsWithin run.old (M.state unit.old) (C.card card_a.old) (D.card card_b.old) (C.state card_a.old) (D.state card_b.old) }
+    requires breaks { length outcome.old.breaks.items + falls_of run.old.keeper.cabin < outcome.old.breaks.room }
+    requires finds { length outcome.old.finds.items + bare_seats run.old.keeper.cabin.slots.seats ≤ outcome.old.finds.room }
+    requires unfound { run.old.unfound ≤ length outcome.old.breaks.items }
+    ensures late { IfErr result IsFoundLater }
+    ensures going { OnOk result (IsWithin run.new (M.state unit.new) (C.card card_a.new) (D.card card_b.new) (C.state card_a.new) (D.state card_b.new)) }
+    ensures next { run.new.next ≡ run.old.next }
+    ensures awake { OnOk result (IsAwake run.new) }
+    ensures takes { TakesAwake run.old run.new outcome.old outcome.new }
+    ensures unfound { OnOk result (run.new.unfound ≤ length outcome.new.breaks.items) }
+    ensures unit { IsUnit (M.state unit.new) }
+    ensures refused { outcome.new.refused ≡ outcome.old.refused }
+{
+    match load(unit) {
+        Ok(journal) => found(run, journal, speed, unit, card_a, card_b, outcome),
+        Err(UnitFault::BadUnit(place)) => Err(RunFault::BadUnit(place)),
+        Err(UnitFault::Failed) => {
+            run.cut(run.next, true, 0, &mut outcome.breaks);
+            Ok(())
+        }
+    }
+}
+
+// The unit has this journal: the cuts since the last one tell what it says, and a new span begins.
+fn found<M: Medium, C: Chip, D: Chip>(
+    run: &mut Run,
+    journal: Journal,
+    speed: u8,
+    unit: &mut M,
+    card_a: &mut C,
+    card_b: &mut D,
+    outcome: &mut Outcome,
+) -> Result<(), RunFault>
+    requires dark { is_lit run.old.power ≡ false }
+    requires going { IsWithin run.old (M.state unit.old) (C.card card_a.old) (D.card card_b.old) (C.state card_a.old) (D.state card_b.old) }
+    requires loaded { IsLoaded (M.state unit.old) journal }
+    requires breaks { length outcome.old.breaks.items + falls_of run.old.keeper.cabin < outcome.old.breaks.room }
+    requires finds { length outcome.old.finds.items + bare_seats run.old.keeper.cabin.slots.seats ≤ outcome.old.finds.room }
+    requires unfound { run.old.unfound ≤ length outcome.old.breaks.items }
+    ensures late { IfErr result IsFoundLater }
+    ensures going { OnOk result (IsWithin run.new (M.state unit.new) (C.card card_a.new) (D.card card_b.new) (C.state card_a.new) (D.state card_b.new)) }
+    ensures next { run.new.next ≡ run.old.next }
+    ensures awake { OnOk result (IsAwake run.new) }
+    ensures takes { TakesAwake run.old run.new outcome.old outcome.new }
+    ensures unfound { OnOk result (run.new.unfound ≤ length outcome.new.breaks.items) }
+    ensures unit { IsUnit (M.state unit.new) }
+    ensures refused { outcome.new.refused ≡ outcome.old.refused }
+{
+    let kept = journal.last_kept();
+    run.learn(kept, &mut outcome.breaks);
+    judge_clock(kept, run.next)?;
+    if resume(run, journal, speed, unit, card_a, card_b, outcome).is_err() {
+        run.cut(run.next, true, 0, &mut outcome.breaks);
+        return Ok(());
+    }
+    Ok(())
+}
+
+// The unit is mended, a span begins, the cards in the slots are judged anew, and the interruption that ends now is noted, if a power-on
+// came before this one.
+fn resume<M: Medium, C: Chip, D: Chip>(
+    run: &mut Run,
+    mut journal: Journal,
+    speed: u8,
+    unit: &mut M,
+    card_a: &mut C,
+    card_b: &mut D,
+    outcome: &mut Outcome,
+) -> Result<(), Failed>
+    requires dark { is_lit run.old.power ≡ false }
+    requires going { IsWithin run.old (M.state unit.old) (C.card card_a.old) (D.card card_b.old) (C.state card_a.old) (D.state card_b.old) }
+    requires loaded { IsLoaded (M.state unit.old) journal }
+    requires later { journal.kept < run.old.next / 60 }
+    requires breaks { length outcome.old.breaks.items + falls_of run.old.keeper.cabin < outcome.old.breaks.room }
+    requires finds { length outcome.old.finds.items + bare_seats run.old.keeper.cabin.slots.seats ≤ outcome.old.finds.room }
+    ensures next { run.new.next ≡ run.old.next }
+    ensures unfound { run.new.unfound ≡ run.old.unfound }
+    ensures power { OnOk result (run.new.power ≡ Lit) }
+    ensures none { OnOk result (run.new.minutes.owing ≡ 0) }
+    ensures held { IsHeld (run.new.next / 60) run.new (M.state unit.new) (C.card card_a.new) (D.card card_b.new) (C.state card_a.new) (D.state card_b.new) }
+    ensures going { OnOk result (IsLit (run.new.next / 60) run.new (M.state unit.new) (C.card card_a.new) (D.card card_b.new) (C.state card_a.new) (D.state card_b.new)) }
+    ensures takes { TakesUp run.old run.new outcome.old outcome.new }
+    ensures more { length outcome.old.breaks.items ≤ length outcome.new.breaks.items }
+    ensures refused { outcome.new.refused ≡ outcome.old.refused }
+    ensures cause { HasCause (M.state unit.old) (M.state unit.new) (is_err result) }
+{
+    let kept = journal.last_kept();
+    let is_first = outcome.breaks.is_empty();
+    mend(unit, &mut journal, card_a, card_b)?;
+    run.begin_span(journal);
+    let at = run.moment(0);
+    accept_anew(run, Slot::Driver, at, speed, unit, card_a, card_b, outcome)?;
+    accept_anew(
+        run,
+        Slot::CoDriver,
+        at,
+        speed,
+        unit,
+        card_a,
+        card_b,
+        outcome,
+    )?;
+    if is_first {
+        return Ok(());
+    }
+    note_gap(run, kept, unit, card_a, card_b, &mut outcome.breaks)
+}

@@ -1,0 +1,109 @@
+//! A run: the seconds of a trace, one after another.
+ghost use Rattle.std.specs.Prelude.{◌≡◌, ℕ, ◌+◌, ◌-◌, ◌<◌, ◌≤◌, ◌^◌, OnOk, IfErr, length, true, false};
+ghost use Rattle.trace_model.specs.Trace.{item_seconds};
+ghost use Rattle.trace_text.specs.Trace.{IsWellFormed};
+ghost use Rattle.trace_text.specs.Line.{InRange};
+ghost use Rattle.card_layout.specs.declared.files.TheConstants.{LARGEST_IMAGE};
+ghost use Rattle.unit_model.specs.Image.{IsUnit};
+ghost use Rattle.run_outcome.specs.Room.{off_count, IsReserved};
+ghost use Rattle.run_acts.specs.Going.{end_of_seconds, IsGoing};
+ghost use Rattle.run_acts.specs.Room.{HasRoom};
+ghost use Rattle.recorder_with_cards.specs.Items.{insertions_in};
+ghost use Rattle.recorder_with_cards.specs.Gone.{first_waiting, has_seconds, HasGone, IsRefusedBy};
+
+use crate::driving::drive;
+use run_acts::Run;
+use run_opening::{RunFault, judge};
+use run_outcome::Outcome;
+use tach_media::{Chip, Medium};
+use trace_text::{Item, Items, Trace};
+
+/// Records a trace on the unit and the cards.
+///
+/// # Errors
+///
+/// In the opening, before any write: `MediumFault` only where that device failed, `BadUnit` with the place of the first field that
+/// fails, `ClockBack` where the minute of the first second is not later than the last-kept minute, and `SameCard` where both cards are
+/// valid and have this number. Later only `BadUnit` and `ClockBack`, of a unit that is read anew at a power-on: no failed call is an
+/// error.
+pub fn run_trace<U: Medium, C: Chip>(
+    trace: &Trace,
+    unit: &mut U,
+    card_a: &mut C,
+    card_b: &mut C,
+    outcome: &mut Outcome,
+) -> Result<(), RunFault>
+    requires well { IsWellFormed trace.now.start trace.now.items }
+    requires reserved { IsReserved trace.now.items outcome.old }
+    requires unit { IsUnit (U.state unit.old) }
+    requires card_a { LARGEST_IMAGE ≤ (C.state card_a.old).size }
+    requires card_b { LARGEST_IMAGE ≤ (C.state card_b.old).size }
+    ensures refused { IfErr result (IsRefusedBy trace.now.start outcome.old outcome.new (U.state unit.old) (U.state unit.new) (C.state card_a.old) (C.state card_a.new) (C.state card_b.old) (C.state card_b.new)) }
+    ensures unit { IsUnit (U.state unit.new) }
+{
+    let opened = judge(unit, card_a, card_b, trace.start)?;
+    let mut run = Run::new(trace.start, opened);
+    let mut first = 0;
+    for i in 0..trace.items.len() {
+        let item = *trace.items.get(i);
+        go_on(
+            &mut run,
+            &trace.items,
+            first,
+            i,
+            item,
+            unit,
+            card_a,
+            card_b,
+            outcome,
+        )?;
+        first = first_waiting(item, first, i);
+    }
+    Ok(())
+}
+
+// The first item that waits for its second behind an item, where it was this one before: an action waits itself.
+fn first_waiting(item: Item, first: usize, index: usize) -> usize
+    requires { index < 2 ^ 64 - 1 }
+    ensures { result ≡ first_waiting item first index }
+{
+    match item {
+        Item::Run { .. } | Item::Off { .. } => index + 1,
+        Item::Act(_) => first,
+    }
+}
+
+// An item, where the actions among the items from one index to another wait for their second.
+fn go_on<M: Medium, C: Chip, D: Chip>(
+    run: &mut Run,
+    items: &Items,
+    from: usize,
+    to: usize,
+    item: Item,
+    unit: &mut M,
+    card_a: &mut C,
+    card_b: &mut D,
+    outcome: &mut Outcome,
+) -> Result<(), RunFault>
+    requires first { from ≤ to }
+    requires last { to ≤ length items.now }
+    requires item { InRange item }
+    requires small { run.old.next + item_seconds item ≤ end_of_seconds }
+    requires room { HasRoom run.old outcome.old (item_seconds item) (off_count item) (insertions_in from to items.now) (to - from) }
+    requires going { IsGoing run.old (M.state unit.old) (C.card card_a.old) (D.card card_b.old) (C.state card_a.old) (D.state card_b.old) }
+    requires unfound { run.old.unfound ≤ length outcome.old.breaks.items }
+    ensures gone { HasGone result (item_seconds item) run.old run.new outcome.new (M.state unit.new) (C.card card_a.new) (D.card card_b.new) (C.state card_a.new) (D.state card_b.new) }
+    ensures idle { OnOk result (has_seconds item ≡ false → (run.new ≡ run.old) × (outcome.new ≡ outcome.old)) }
+    ensures room { (left offs insertions actions : ℕ) → HasRoom run.old outcome.old (item_seconds item + left) (off_count item + offs) (insertions_in from to items.now + insertions) (to - from + actions) → OnOk result (has_seconds item ≡ true → HasRoom run.new outcome.new left offs insertions actions) }
+{
+    match item {
+        Item::Act(_) => Ok(()),
+        Item::Off { seconds } => {
+            run.off(seconds, &mut outcome.breaks);
+            Ok(())
+        }
+        Item::Run { seconds, speed } => drive(
+            run, items, from, to, seconds, speed, unit, card_a, card_b, outcome,
+        ),
+    }
+}

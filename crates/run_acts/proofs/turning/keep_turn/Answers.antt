@@ -1,0 +1,79 @@
+use Rattle.std.proofs.Common.{rules, ◌≡◌, ◌∙◌, inl, inr, ℕ, Bool, true, refl, ap, sym, subst}
+use Rattle.std.specs.Prelude.{is_err, not}
+use Rattle.tach_media.proofs.Runs.{on_ok, cause_after}
+use Rattle.run_crew.specs.declared.cards.Crew.{Crew}
+use Rattle.run_notes.specs.Noting.{IsFed}
+use Rattle.run_acts.specs.declared.run.Run.{Run}
+use Rattle.run_acts.proofs.Noted.{noted-ready, noted-row}
+use Rattle.run_rule.specs.Between.{devices}
+use Rattle.run_keeping.specs.Minutes.{Reach}
+use Rattle.run_acts.specs.Turning.{IsKeptInTurn, told_of}
+use Rattle.run_acts.specs.Booked.{IsTurnReach, BooksTurn}
+use Rattle.run_acts.proofs.TurnBooked.{turn-cut, turn-noted}
+use Rattle.run_acts.proofs.turning.keep_turn.Goals as goal
+
+pub returns-clause-kept : goal.returns-clause-kept
+returns-clause-kept g c =
+    let w = c.turn.ensures.watched in
+    record {
+      only = refl;
+      outcome = refl;
+      how = inr (
+        c.in_ok-keep_all.ensures.kept,
+        (w.ended, subst (λ (crew : Crew). IsFed c.args.run.now.watch c.turn.new.self c.args.run.now.next c.args.n c.args.speed crew w.ended) c.crew-crew.ensures w.fed),
+      );
+    }
+
+pub returns-clause-ready : goal.returns-clause-ready
+returns-clause-ready g c =
+    on_ok c.turn.result (λ well.
+    let e = c.in_ok-keep_all.ensures.ready in
+    record {
+      unit_ready = noted-ready (g.met.M.Medium.coherent c.keep_all.new.unit) (g.met.M.Medium.coherent c.turn.new.unit) c.turn.ensures.journal c.keep_all.new.self e.unit_ready (c.turn.ensures.cause.works ∙ ap not well);
+      card_a = e.card_a;
+      card_b = e.card_b;
+    })
+
+pub returns-clause-rows : goal.returns-clause-rows
+returns-clause-rows g c = λ card h.
+    on_ok c.turn.result (λ well.
+    let e = c.in_ok-keep_all.ensures in
+    noted-row (g.met.M.Medium.coherent c.keep_all.new.unit) (g.met.M.Medium.coherent c.turn.new.unit) c.turn.ensures.journal c.keep_all.new.self e.ready.unit_ready c.keep_all.new.self.cabin.cards card (e.rows card h))
+
+pub returns-clause-last : goal.returns-clause-last
+returns-clause-last g c = on_ok c.turn.result (λ well. c.in_ok-keep_all.ensures.last)
+
+pub returns-clause-watches : goal.returns-clause-watches
+returns-clause-watches g c = on_ok c.turn.result (λ well. c.turn.ensures.watches)
+
+pub returns-clause-limit : goal.returns-clause-limit
+returns-clause-limit g c = on_ok c.turn.result (λ well. c.turn.ensures.limit)
+
+pub returns-clause-cause : goal.returns-clause-cause
+returns-clause-cause g c = cause_after c.in_ok-keep_all.ensures.cause c.turn.ensures.cause
+
+pub returns-in_err-keep_all-clause-kept : goal.returns-in_err-keep_all-clause-kept
+returns-in_err-keep_all-clause-kept g c =
+    let failed : true ≡ is_err c.from_residual.result = search rules in
+    subst (λ (f : Bool). IsKeptInTurn c.args.decided.now c.args.n c.args.speed c.args.at f c.args.run.now
+    (record c.args.run.now { keeper = c.keep_all.new.self }) c.args.outcome.now (record c.args.outcome.now { marks = c.keep_all.new.marks; breaks = c.keep_all.new.breaks })) failed
+    (record { only = refl; outcome = refl; how = inl (refl, c.in_err-keep_all.ensures.kept, refl) })
+
+-- ---- unit and cards
+
+pub returns-clause-booked : goal.returns-clause-booked
+returns-clause-booked g c =
+    let was = c.in_ok-keep_all.ensures.booked in
+    turn-noted c.args.decided.now c.args.at (told_of c.args.run.now c.args.outcome.now) (told_of (record c.args.run.now { keeper = c.keep_all.new.self }) (record c.args.outcome.now { marks = c.keep_all.new.marks; breaks = c.keep_all.new.breaks }))
+    (devices (g.M.Medium.state c.args.unit.now) (g.C.Chip.state c.args.card_a.now) (g.D.Chip.state c.args.card_b.now)) (g.M.Medium.state c.keep_all.new.unit) (g.M.Medium.state c.turn.new.unit) (g.C.Chip.state c.keep_all.new.card_a) (g.D.Chip.state c.keep_all.new.card_b)
+    (g.met.M.Medium.coherent c.keep_all.new.unit) c.turn.ensures.journal was.0 was.1 was.2 (is_err c.turn.result) c.turn.ensures.cause.works
+
+pub returns-in_err-keep_all-clause-booked : goal.returns-in_err-keep_all-clause-booked
+returns-in_err-keep_all-clause-booked g c =
+    let was = c.in_err-keep_all.ensures.booked in
+    let failed : true ≡ is_err c.from_residual.result = search rules in
+    let t = told_of c.args.run.now c.args.outcome.now in
+    let u = told_of (record c.args.run.now { keeper = c.keep_all.new.self }) (record c.args.outcome.now { marks = c.keep_all.new.marks; breaks = c.keep_all.new.breaks }) in
+    let d = devices (g.M.Medium.state c.args.unit.now) (g.C.Chip.state c.args.card_a.now) (g.D.Chip.state c.args.card_b.now) in
+    let e = devices (g.M.Medium.state c.keep_all.new.unit) (g.C.Chip.state c.keep_all.new.card_a) (g.D.Chip.state c.keep_all.new.card_b) in
+    subst (λ (f : Bool). (reach : Reach) × IsTurnReach c.args.decided.now c.args.at f t u reach × BooksTurn c.args.decided.now f reach t u d e) failed (turn-cut c.args.decided.now c.args.at t u d e was.0 was.1 was.2)

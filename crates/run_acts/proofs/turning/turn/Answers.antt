@@ -1,0 +1,53 @@
+use Rattle.std.proofs.Common.{◌≡◌, ◌∙◌, ℕ, ◌+◌, ◌-◌, ◌/◌, ◌≤◌, Bool, true, false, refl, ap, sym, subst, arith}
+use Rattle.run_outcome.specs.declared.outcome.Outcome.{Outcome}
+use Rattle.run_acts.specs.declared.run.Run.{Run}
+use Rattle.run_acts.specs.Power.{is_lit, passed}
+use Rattle.run_acts.specs.Going.{IsGoing}
+use Rattle.run_acts.specs.Room.{HasRoom}
+use Rattle.run_acts.proofs.Standing.{lit-is, passed-at}
+use Rattle.run_acts.specs.Turning.{IsTurnOf}
+use Rattle.run_acts.proofs.Room.{room-dark}
+use Rattle.run_acts.proofs.turning.turn.Goals as goal
+
+-- ---- without power
+
+pub returns-then-not-is_lit-clause-turned : goal.returns-then-not-is_lit-clause-turned
+returns-then-not-is_lit-clause-turned g c =
+    let dark : is_lit c.args.run.now.power ≡ false = sym c.is_lit.ensures ∙ c.if-not-is_lit.true in
+    subst (λ (b : Bool). IsTurnOf b c.args.n c.args.speed c.args.begun c.args.run.now c.pass.new.self c.args.outcome.now c.args.outcome.now) (sym dark) (c.pass.ensures, refl)
+
+pub returns-then-not-is_lit-clause-going : goal.returns-then-not-is_lit-clause-going
+returns-then-not-is_lit-clause-going g c =
+    let dark : is_lit c.args.run.now.power ≡ false = sym c.is_lit.ensures ∙ c.if-not-is_lit.true in
+    subst (λ (r : Run). IsGoing r (g.M.Medium.state c.args.unit.now) (g.C.Chip.card c.args.card_a.now) (g.D.Chip.card c.args.card_b.now) (g.C.Chip.state c.args.card_a.now) (g.D.Chip.state c.args.card_b.now)) (sym c.pass.ensures)
+    (passed-at c.args.run.now c.args.n c.args.begun dark c.requires.small c.requires.some c.requires.going)
+
+pub returns-then-not-is_lit-clause-room : goal.returns-then-not-is_lit-clause-room
+returns-then-not-is_lit-clause-room g c = λ left offs insertions actions h.
+    let dark : is_lit c.args.run.now.power ≡ false = sym c.is_lit.ensures ∙ c.if-not-is_lit.true in
+    subst (λ (r : Run). HasRoom r c.args.outcome.now left offs insertions actions) (sym c.pass.ensures)
+    (room-dark c.args.run.now (passed c.args.n c.args.begun c.args.run.now) c.args.outcome.now c.args.outcome.now c.args.n 0 refl c.requires.some c.requires.minute dark refl refl left offs insertions actions h)
+
+-- ---- with power
+
+pub returns-clause-turned : goal.returns-clause-turned
+returns-clause-turned g c =
+    let lit : is_lit c.args.run.now.power ≡ true = sym c.is_lit.ensures ∙ c.if-not-is_lit.false in
+    subst (λ (b : Bool). IsTurnOf b c.args.n c.args.speed c.args.begun c.args.run.now c.pass-2.new.self c.args.outcome.now c.lit_turn.new.outcome) (sym lit) (c.lit_turn.new.run, c.lit_turn.ensures.turned, c.pass-2.ensures)
+
+pub returns-clause-going : goal.returns-clause-going
+returns-clause-going g c =
+    subst (λ (r : Run). IsGoing r (g.M.Medium.state c.lit_turn.new.unit) (g.C.Chip.card c.lit_turn.new.card_a) (g.D.Chip.card c.lit_turn.new.card_b) (g.C.Chip.state c.lit_turn.new.card_a) (g.D.Chip.state c.lit_turn.new.card_b)) (sym c.pass-2.ensures) c.lit_turn.ensures.going
+
+pub returns-clause-room : goal.returns-clause-room
+returns-clause-room g c = λ left offs insertions actions h.
+    subst (λ (r : Run). HasRoom r c.lit_turn.new.outcome left offs insertions actions) (sym c.pass-2.ensures) (c.lit_turn.ensures.room left offs insertions actions h)
+
+pub returns-then-not-is_lit-clause-booked : goal.returns-then-not-is_lit-clause-booked
+returns-then-not-is_lit-clause-booked g c = λ lit. let dark : is_lit c.args.run.now.power ≡ false = sym c.is_lit.ensures ∙ c.if-not-is_lit.true in absurd (cc)
+
+pub returns-clause-booked : goal.returns-clause-booked
+returns-clause-booked g c = λ lit. (c.lit_turn.new.run, c.lit_turn.ensures.booked, c.pass-2.ensures)
+
+pub returns-clause-dark : goal.returns-clause-dark
+returns-clause-dark g c = λ dark. let lit : is_lit c.args.run.now.power ≡ true = sym c.is_lit.ensures ∙ c.if-not-is_lit.false in absurd (cc)

@@ -1,0 +1,48 @@
+//! Seconds of one minute.
+ghost use Rattle.std.specs.Prelude.{◌≡◌, ◌+◌, ◌%◌, ◌<◌, ◌≤◌, ◌++◌};
+ghost use Rattle.minute_model.specs.Span.{Span, decided_in, fed_many};
+ghost use Rattle.minute_rules.specs.Kept.{StandsFor};
+ghost use Rattle.run_acts.specs.Going.{largest_number};
+
+use activity_codec::Steps;
+use minute_rules::{Decided, Minutes};
+use std::marker::Brand;
+use std::sync::ledger::{Blank, Ledger};
+
+/// How many seconds a turn takes: the first of a minute alone, and then up to the minute's end.
+pub fn turn_length(next: u32, left: u32) -> u32
+    requires { 0 < left }
+    ensures some { 0 < result }
+    ensures most { result ≤ left }
+    ensures minute { next % 60 + result ≤ 60 }
+{
+    if next % 60 == 0 {
+        return 1;
+    }
+    left.min(60 - next % 60)
+}
+
+/// So many seconds of one minute, in steps that nobody counts.
+pub(crate) fn feed(minutes: &mut Minutes, n: u32, speed: u8) -> Decided
+    requires fits { minutes.old.next + n ≤ largest_number }
+    requires minute { minutes.old.next % 60 + n ≤ 60 }
+    ensures fed { (span : Span) → StandsFor minutes.old span → StandsFor minutes.new (fed_many span speed n) }
+    ensures given { (span : Span) → StandsFor minutes.old span → decided_in (fed_many span speed n) ≡ decided_in span ++ result.items }
+    ensures next { minutes.new.next ≡ minutes.old.next + n }
+{
+    feed_by::<Brand>(minutes, n, speed, Blank::new(1))
+}
+
+fn feed_by<L: Ledger>(minutes: &mut Minutes, n: u32, speed: u8, blank: Blank) -> Decided
+    requires name { blank.name ≡ L.name }
+    requires parts { blank.parts ≡ L.parts }
+    requires one { blank.parts ≡ 1 }
+    requires fits { minutes.old.next + n ≤ largest_number }
+    requires minute { minutes.old.next % 60 + n ≤ 60 }
+    ensures fed { (span : Span) → StandsFor minutes.old span → StandsFor minutes.new (fed_many span speed n) }
+    ensures given { (span : Span) → StandsFor minutes.old span → decided_in (fed_many span speed n) ≡ decided_in span ++ result.items }
+    ensures next { minutes.new.next ≡ minutes.old.next + n }
+{
+    let mut steps = Steps::<L>::new(blank);
+    minutes.feed_run(n, speed, &mut steps)
+}

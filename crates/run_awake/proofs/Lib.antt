@@ -1,4 +1,0 @@
-pub mod Rooms
-pub mod Begun
-pub mod Taken
-pub mod NoSession

@@ -1,4 +1,0 @@
-pub mod Sitting
-pub mod Judging
-pub mod Tearing
-pub mod Known

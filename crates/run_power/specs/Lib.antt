@@ -1,3 +1,0 @@
-pub mod Power
-pub mod Going
-pub mod Room

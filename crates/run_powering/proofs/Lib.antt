@@ -1,4 +1,0 @@
-pub mod Powering
-pub mod Reading
-pub mod Calls
-pub mod Waking

@@ -1,3 +1,0 @@
-pub mod Comes
-pub mod Goes
-pub mod Puts

@@ -1,4 +1,0 @@
-use Rattle.run_turns.proofs.feeding.feed.Given as goal
-
-abbrev pub ghosts-feed_by : goal.ghosts-feed_by
-ghosts-feed_by a = record { name = a.blank.name; parts = a.blank.parts }
