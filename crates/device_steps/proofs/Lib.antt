@@ -16,3 +16,4 @@ pub mod Told
 pub mod TornOut
 pub mod SizesRead
 pub mod StringReady
+pub mod Travel

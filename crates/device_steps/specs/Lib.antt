@@ -3,3 +3,4 @@ pub mod OnCard
 pub mod Minute
 pub mod Entering
 pub mod CardNotes
+pub mod Travel

@@ -17,6 +17,9 @@ ghost use Rattle.joint_rule.specs.Filling.{seen_by_unit, KeepsMinute, GivesUpDay
 ghost use Rattle.joint_rule.specs.Rules.{Standing, Fits};
 ghost use Rattle.unit_rule.specs.Rule.{Started};
 ghost use Rattle.unit_rule.specs.Marks.{Holds};
+ghost use Rattle.unit_course.specs.Legs.{Travel};
+ghost use Rattle.unit_rule.specs.Odometer.{HasTravelled, odometer_by, odometer_after};
+ghost use Rattle.device_steps.specs.Travel.{HasGone};
 ghost use Rattle.device_steps.specs.Rule.{Both, opened, CardHolds, IsCommitted, IsHeldUp};
 
 use tach_media::{Chip, Failed, Medium};
@@ -51,6 +54,9 @@ pub fn commit<M: Medium, C: Chip, D: Chip>(
     ensures second { (r : Both) (c : Card) (s : Started) (due : ℕ) (b : Book) (marks : List Mark) (i : HistoryMinute) (z : Standing) → kept_minute kept.now ≡ seen_by_unit i → Holds s due b marks (M.state unit.old) → b.maybe ≡ None → due ≤ i.minute
         → CardHolds r c b z (on_card c i) [] (M.state unit.old) (D.state second.now) → Fits c (opened r c).start z i → IsCommitted r c b i z (is_err result) (M.state unit.new) (D.state second.now) }
     ensures views { (a b : List ℕ) (i : HistoryMinute) → kept_minute kept.now ≡ seen_by_unit i → LeavesViews (of_unit a b (M.state unit.old)) (of_unit a b (M.state unit.new)) (IsKeeping KeepsMinute GivesUpDay i) }
+    ensures travelled { (start : ℕ) (g : Travel) (leg : ℕ) (s : Started) (due : ℕ) (b : Book) (marks : List Mark) (i : HistoryMinute) → kept_minute kept.now ≡ seen_by_unit i → Holds s due b marks (M.state unit.old) → b.maybe ≡ None → due ≤ i.minute
+        → HasTravelled start b g (M.state unit.old) → kept.now.odometer.0 ≡ odometer_by (odometer_after start g.before) leg → HasGone start b g i leg (is_err result) (M.state unit.new) }
+    ensures keeps { (t : ℕ) (x : List ℕ) → t ≤ (M.state unit.old).clock → (M.state unit.old).left_since t x → (M.state unit.new).left_since t x }
     ensures rows { (n : List ℕ) → IfSome (M.state unit.old).image (HasRow n) → OnOk result (IfSome (M.state unit.new).image (HasRow n)) }
     ensures clock { (M.state unit.old).clock ≤ (M.state unit.new).clock }
     ensures tells { is_some (M.state unit.new).image ≡ is_some (M.state unit.old).image }

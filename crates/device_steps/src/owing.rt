@@ -13,6 +13,8 @@ ghost use Rattle.unit_rule.specs.Rule.{Started};
 ghost use Rattle.unit_rule.specs.Marks.{Holds};
 ghost use Rattle.joint_rule.specs.Device.{LeavesViews};
 ghost use Rattle.joint_rule.specs.Steps.{IsPutting};
+ghost use Rattle.unit_course.specs.Legs.{Travel};
+ghost use Rattle.unit_rule.specs.Odometer.{HasTravelled};
 ghost use Rattle.device_steps.specs.Rule.{unit_seen, Both, opened, number_of, CardHolds, IsKeptUp};
 
 use activity_codec::Entry;
@@ -51,6 +53,8 @@ pub fn owe<M: Medium, C: Chip, D: Chip>(
     ensures other { (r : Both) (s : Started) (due : ℕ) (b : Book) (marks : List Mark) (y z : Standing) (m d : List Entry) → card_number_bytes number.now ≡ number_of r which → Holds s due b marks (M.state unit.old)
         → due ≤ entry.now.minute → 1440 ≤ entry.now.minute → CardHolds r which b y [] [] (M.state unit.old) (C.state mine.now) → CardHolds r (other which) b z m d (M.state unit.old) (D.state others.now)
         → IsKeptUp r (other which) b z m d (is_err result) (M.state unit.new) (D.state others.now) }
+    ensures travelled { (start : ℕ) (b : Book) (g : Travel) → HasTravelled start b g (M.state unit.old) → HasTravelled start b g (M.state unit.new) }
+    ensures keeps { (t : ℕ) (x : List ℕ) → t ≤ (M.state unit.old).clock → (M.state unit.old).left_since t x → (M.state unit.new).left_since t x }
     ensures rows { (n : List ℕ) → IfSome (M.state unit.old).image (HasRow n) → OnOk result (IfSome (M.state unit.new).image (HasRow n)) }
     ensures clock { (M.state unit.old).clock ≤ (M.state unit.new).clock }
     ensures tells { is_some (M.state unit.new).image ≡ is_some (M.state unit.old).image }

@@ -1,6 +1,7 @@
 use Rattle.std.proofs.Common.{◌≡◌, Bool, true, false}
 use Rattle.tach_media.proofs.Runs.{ok_gives}
 use Rattle.device_steps.proofs.EntryOwed.{owed-holds, puts, owed-mine, owed-other, put, worked, row-still}
+use Rattle.device_steps.proofs.Travel.{put-travelled}
 use Rattle.device_steps.proofs.owing.owe.Goals as goal
 
 pub returns-clause-holds : goal.returns-clause-holds
@@ -22,3 +23,9 @@ returns-clause-rows g c = row-still c.put_owed.result _ _ _ c.args.entry.now c.p
 pub returns-clause-views : goal.returns-clause-views
 returns-clause-views g c = λ r s due b marks z named h late some rule.
     puts r c.args.which _ named c.args.entry.now some (g.met.M.Medium.coherent c.args.unit.now) _ c.requires.agrees s due b marks h late c.put_owed.ensures.moments (g.C.Chip.state c.args.mine.now) z rule
+
+pub returns-clause-travelled : goal.returns-clause-travelled
+returns-clause-travelled g c = λ start b t h. put-travelled start b t h (g.met.M.Medium.coherent c.args.unit.now) _ c.args.entry.now c.put_owed.ensures.moments
+
+pub returns-clause-keeps : goal.returns-clause-keeps
+returns-clause-keeps g c = c.put_owed.ensures.moments.keeps
