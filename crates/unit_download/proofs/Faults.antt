@@ -1,6 +1,6 @@
 -- A fault that was passed on.
-use Rattle.std.proofs.Common.{◌≡◌, ◌∙◌, ℕ, List, Option, Some, None, IfSome, Result, Ok, Err, false, sym, subst}
-use Rattle.std.specs.Prelude.{IsErrAnd, OnErr}
+use Rattle.std.proofs.Common.{◌≡◌, ◌∙◌, ℕ, true, List, [], ◌∷◌, refl, inr, Option, Some, None, IfSome, Result, Ok, Err, false, sym, subst}
+use Rattle.std.specs.Prelude.{IsErrAnd, OnErr, IfErr}
 use Rattle.tach_media.specs.Medium.{State}
 pub use Rattle.tach_media.proofs.Runs.{err_is}
 use Rattle.unit_journal.specs.Reading.{ReadsIfAny}
@@ -8,11 +8,16 @@ use Rattle.link_model.specs.Frames.{Right}
 use Rattle.link_model.specs.Answers.{LinkState, Reply, answered}
 use Rattle.link_model.specs.declared.request.Request.{Request}
 use Rattle.message_model.specs.Sending.{content_sent}
+use Rattle.answer_table.specs.Asking.{asks_unit}
+use Rattle.transfer_session.specs.declared.asking.AnswerFault.{AnswerFault}
+use Rattle.transfer_session.specs.declared.asking.AnswerFault.TheVariants as session
 use Rattle.downloader.specs.Loading.{Loading}
+use Rattle.unit_download.specs.declared.wire.Passed.{Passed}
+use Rattle.unit_download.specs.Tapes.{HasMore}
 use Rattle.unit_download.specs.declared.fault.DownloadFault.{DownloadFault}
 use Rattle.unit_download.specs.declared.fault.DownloadFault.TheVariants.{Failed, BadUnit, Changed, WriteFault, Memory}
-use Rattle.unit_download.specs.Wires.{Replies}
-use Rattle.unit_download.specs.Ending.{has_failed, IsUntaken}
+use Rattle.unit_download.specs.Wires.{of_loader, Replies}
+use Rattle.unit_download.specs.Ending.{fault_of, has_failed, IsUnanswered, IsUntaken}
 
 -- what it says of the unit
 pub passed_reads : {T : Type 0} {old new : State} (r : Result T DownloadFault) (e : DownloadFault) → IsErrAnd r (λ v. v ≡ e) → ReadsIfAny old new (has_failed {T = Unit {0}} (Err e)) → ReadsIfAny old new (has_failed r)
@@ -57,3 +62,21 @@ pub reply_told : (image : Option (List ℕ)) (state : LinkState) (sent : List �
     → (messages : Request → Option (List ℕ)) × (reply ≡ answered messages state (Right sent)) → Replies image state sent reply
 reply_told (Some x) state sent reply told possible = told
 reply_told None state sent reply told possible = possible
+
+-- the unit failed, or is bad, at a frame that passed, whose answer hangs on it
+pub fault_stops : (r : Result (List ℕ) DownloadFault) (e : AnswerFault) (image : Option (List ℕ)) (state : LinkState) (sent : List ℕ) (old new : Option (List Passed)) → IsErrAnd r (λ v. v ≡ fault_of e) → HasMore old new (of_loader sent ∷ [])
+    → asks_unit state (Right sent) ≡ true → IfErr r (λ fault. (behind : List Passed) × HasMore old new behind × IsUnanswered image fault state sent behind)
+fault_stops (Ok frame) e image state sent old new is more asks = absurd is
+fault_stops (Err v) e image state sent old new is more asks =
+    subst (λ (f : DownloadFault). (behind : List Passed) × HasMore old new behind × IsUnanswered image f state sent behind) (sym is) (of_loader sent ∷ [], more, by e)
+  where
+    by : (e : AnswerFault) → IsUnanswered image (fault_of e) state sent (of_loader sent ∷ [])
+    by session.Failed = (refl, asks)
+    by (session.BadUnit place) = (refl, asks)
+
+-- there was no memory for the answer
+pub memory_stops : (r : Result (List ℕ) DownloadFault) (image : Option (List ℕ)) (state : LinkState) (sent : List ℕ) (old new : Option (List Passed)) → IsErrAnd r (λ v. v ≡ Memory) → HasMore old new (of_loader sent ∷ [])
+    → IfErr r (λ fault. (behind : List Passed) × HasMore old new behind × IsUnanswered image fault state sent behind)
+memory_stops (Ok frame) image state sent old new is more = absurd is
+memory_stops (Err v) image state sent old new is more =
+    subst (λ (f : DownloadFault). (behind : List Passed) × HasMore old new behind × IsUnanswered image f state sent behind) (sym is) (of_loader sent ∷ [], more, inr refl)

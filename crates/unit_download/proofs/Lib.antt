@@ -1,3 +1,4 @@
+pub mod Passing
 pub mod Linked
 pub mod Refused
 pub mod Opening

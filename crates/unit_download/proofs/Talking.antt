@@ -25,6 +25,7 @@ use Rattle.unit_download.specs.declared.wire.Passed.{Passed}
 use Rattle.unit_download.specs.declared.fault.DownloadFault.{DownloadFault}
 use Rattle.unit_download.specs.declared.fault.DownloadFault.TheVariants.{Changed, Memory}
 use Rattle.unit_download.specs.Wires.{of_loader, of_unit, talk_of, Replies, Exchanged, Runs}
+use Rattle.unit_download.specs.Tapes.{HasFrames}
 use Rattle.unit_download.specs.Ending.{IsUnanswered, IsUntaken, StopsAt, IsDownload}
 use Rattle.unit_download.proofs.Linked.{runs_on}
 use Rattle.unit_download.proofs.Opening.{Opens, Begins, nothing_out, begins_next, asks_there, judged_next}
@@ -42,6 +43,12 @@ pub record IsTalking (loader : Load) (session : SessionView) (wire : List Passed
   pub reads : ReadsIfAny old new false
   pub room : LONGEST ≤ loader.room
   pub sized : Sized old.image
+
+-- The same where the frames go to a tape: these have passed, which it has where it tells them.
+pub record IsUnderway (tape : Option (List Passed)) (loader : Load) (session : SessionView) (old new : State) (held sunk : Option (List ℕ)) : Type 0 where
+  pub wire : List Passed
+  pub has : HasFrames tape wire
+  pub talking : IsTalking loader session wire old new held sunk
 
 pub fresh_knows : (state : LinkState) (x : List ℕ) → Knows (fresh state) x
 fresh_knows state x = record { decodes = λ is. absurd (cc); notes = tt; outlines = tt }
@@ -226,3 +233,7 @@ nothing_began {T} r image held wire is none =
 
 pub nothing_front : (image held : Option (List ℕ)) → IfSome image (λ x. IsBytes x → AppendsFront held held (unit_file x))
 nothing_front image held = told_all image _ (λ x told. λ bytes. (0, Appends-nil held))
+
+-- A tape that tells its frames has those of the download.
+pub told_download : {T : Type 0} (r : Result T DownloadFault) (image : Option (List ℕ)) (wire passed : List Passed) (held sunk : Option (List ℕ)) → HasFrames (Some wire) passed → IsDownload r image passed held sunk → IsDownload r image wire held sunk
+told_download r image wire passed held sunk has is = subst (λ (l : List Passed). IsDownload r image l held sunk) (sym has) is

@@ -1,2 +1,3 @@
+pub mod Tapes
 pub mod Wires
 pub mod Ending

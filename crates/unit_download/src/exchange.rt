@@ -1,6 +1,6 @@
 //! One exchange of a download: the loader's frame, and the unit's answer, which the loader takes.
 ghost use Rattle.unit_model.specs.declared.layout.TheConstants.{IMAGE_SIZE};
-ghost use Rattle.std.specs.Prelude.{◌≡◌, ◌≤◌, ◌<◌, ◌^◌, ◌||◌, true, false, [], ◌∷◌, ◌++◌, ℕ, List, Some, IfOk, OnOk, IfErr, IfSome, IsErrOf, length};
+ghost use Rattle.std.specs.Prelude.{◌≡◌, ◌≤◌, ◌<◌, ◌^◌, ◌||◌, true, false, [], ◌∷◌, ℕ, List, Some, IfOk, OnOk, IfErr, IfSome, IsErrOf};
 ghost use Rattle.std.specs.Io.KnownBytes.{Appends};
 ghost use Rattle.tach_media.specs.Medium.{Rose};
 ghost use Rattle.link_model.specs.Frames.{Right};
@@ -13,10 +13,11 @@ ghost use Rattle.downloader.specs.Loading.{Takes};
 ghost use Rattle.unit_download.specs.declared.wire.Passed.{Passed};
 ghost use Rattle.unit_download.specs.declared.fault.DownloadFault.{DownloadFault};
 ghost use Rattle.unit_download.specs.Wires.{of_loader, of_unit, Replies};
+ghost use Rattle.unit_download.specs.Tapes.{HasMore};
 ghost use Rattle.unit_download.specs.Ending.{IfBad, has_failed, IsUnanswered, IsUntaken};
 
 use crate::fault::DownloadFault;
-use crate::wire::Wire;
+use crate::tape::Tape;
 use downloader::{Downloader, LoadFault};
 use link_frames::{End, Frame, Seen};
 use tach_media::{Medium, Sink};
@@ -27,20 +28,21 @@ use transfer_session::Session;
 /// # Errors
 ///
 /// `Failed` and `BadUnit` where the unit failed or is bad, `Changed` where it gives no answer, and `Memory`.
-pub fn answer_to<U: Medium>(
+pub fn answer_to<U: Medium, T: Tape>(
     session: &mut Session,
     sent: Frame,
     unit: &mut U,
-    wire: &mut Wire,
+    wire: &mut T,
 ) -> Result<Frame, DownloadFault>
     requires unit { (U.state unit.old).size ≡ IMAGE_SIZE }
     requires knows { IfSome (U.state unit.old).image (Knows session.old) }
     ensures answered { IfOk result (λ frame. Replies (U.state unit.old).image session.old.state sent (record { answer = Some frame; state = session.new.state })) }
-    ensures passed { IfOk result (λ frame. wire.new ≡ wire.old ++ of_loader sent ∷ of_unit frame ∷ []) }
+    ensures passed { IfOk result (λ frame. HasMore (T.frames wire.old) (T.frames wire.new) (of_loader sent ∷ of_unit frame ∷ [])) }
     ensures knows { OnOk result (IfSome (U.state unit.old).image (Knows session.new)) }
     ensures judged { OnOk result (is_judged session.new ≡ (is_judged session.old || asks_unit session.old.state (Right sent))) }
-    ensures few { OnOk result (length wire.old < 2 ^ 64) }
-    ensures stops { IfErr result (λ fault. (behind : List Passed) × (wire.new ≡ wire.old ++ behind) × IsUnanswered (U.state unit.old).image fault session.old.state sent behind) }
+    ensures more { OnOk result (T.count wire.old < T.count wire.new) }
+    ensures few { OnOk result (T.count wire.old < 2 ^ 64) }
+    ensures stops { IfErr result (λ fault. (behind : List Passed) × HasMore (T.frames wire.old) (T.frames wire.new) behind × IsUnanswered (U.state unit.old).image fault session.old.state sent behind) }
     // A unit that was asked, and gives no answer, decodes.
     ensures found { IsErrOf result DownloadFault.Changed → asks_unit session.old.state (Right sent) ≡ true → IfSome (U.state unit.old).image Decodes }
     ensures bad { IfErr result (λ fault. IfBad fault (λ p. (is_judged session.old ≡ false) × IfSome (U.state unit.old).image (λ x. first_bad_place x ≡ Some p))) }

@@ -5,10 +5,12 @@
 mod exchange;
 mod fault;
 mod loading;
+mod tape;
 mod wire;
 
 pub use fault::DownloadFault;
-pub use loading::download;
+pub use loading::{download, exchange_all};
+pub use tape::{Tape, Unlisted};
 pub use wire::{Passed, Wire};
 
 #[cfg(test)]

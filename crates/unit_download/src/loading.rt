@@ -1,6 +1,6 @@
 ghost use Rattle.byte_fields.specs.Fields.{IsBytes};
 ghost use Rattle.unit_model.specs.Image.{IsUnit};
-ghost use Rattle.std.specs.Prelude.{◌≡◌, ◌≤◌, [], OnOk, IfErr, OnErr, IfSome, IsErrOf, Some};
+ghost use Rattle.std.specs.Prelude.{◌≡◌, ◌≤◌, [], List, OnOk, IfErr, OnErr, IfSome, IsErrOf, Some};
 ghost use Rattle.std.specs.Io.KnownBytes.{Appends, Keeps};
 ghost use Rattle.tach_media.specs.Medium.{Rose};
 ghost use Rattle.tach_media.specs.Streams.{AppendsFront};
@@ -8,10 +8,15 @@ ghost use Rattle.message_model.specs.Sending.{unit_file};
 ghost use Rattle.unit_model.specs.Decoding.{Decodes, first_bad_place};
 ghost use Rattle.unit_journal.specs.Reading.{ReadsIfAny};
 ghost use Rattle.unit_download.specs.declared.fault.DownloadFault.{DownloadFault};
+ghost use Rattle.unit_messages.specs.declared.joining.TheConstants.{LONGEST};
+ghost use Rattle.downloader.specs.Loading.{begun};
+ghost use Rattle.unit_download.specs.declared.wire.Passed.{Passed};
+ghost use Rattle.unit_download.specs.Tapes.{HasFrames};
 ghost use Rattle.unit_download.specs.Ending.{IfBad, has_failed, IsDownload};
 
 use crate::exchange::{answer_to, take};
 use crate::fault::DownloadFault;
+use crate::tape::Tape;
 use crate::wire::Wire;
 use downloader::Downloader;
 use std::alloc::Global;
@@ -51,11 +56,45 @@ pub fn download<K: Sink, U: Medium>(
     ensures unit { ReadsIfAny (U.state unit.old) (U.state unit.new) (has_failed result) }
 {
     let mut loader = Downloader::new(alloc);
-    let mut session = Session::new();
     loader.reserve()?;
+    exchange_all(&mut loader, sink, unit, wire)
+}
+
+/// Runs a loader that has room for the longest message, and has heard nothing yet, against a unit until the download is finished. The
+/// finished messages go to the sink, and the frames that pass to a tape.
+///
+/// # Errors
+///
+/// Those of [`download`]; `Memory` where the tape has none, or at a piece of a message that is longer than the longest of a unit.
+pub fn exchange_all<K: Sink, U: Medium, T: Tape>(
+    loader: &mut Downloader,
+    sink: &mut K,
+    unit: &mut U,
+    wire: &mut T,
+) -> Result<(), DownloadFault>
+    requires unit { IsUnit (U.state unit.old) }
+    requires begun { loader.old.loading ≡ begun }
+    requires room { LONGEST ≤ loader.old.room }
+    requires fresh { HasFrames (T.frames wire.old) [] }
+    // The wire is a run of the tables of both sides, up to where the download ended; and what they put out has gone to the sink.
+    ensures downloaded { (passed : List Passed) × HasFrames (T.frames wire.new) passed × IsDownload result (U.state unit.old).image passed (K.held sink.old) (K.held sink.new) }
+    // At the end the image decodes, and of one of bytes the sink has the file.
+    ensures file { OnOk result (IfSome (U.state unit.old).image (λ x. Decodes x × (IsBytes x → Appends (K.held sink.old) (K.held sink.new) (unit_file x)))) }
+    // Else a front of it.
+    ensures front { OnErr result (IfSome (U.state unit.old).image (λ x. IsBytes x → AppendsFront (K.held sink.old) (K.held sink.new) (unit_file x))) }
+    // No unit that tells its image, of bytes, gives no answer, or one that the loader refuses.
+    ensures changed { IsErrOf result DownloadFault.Changed → IfSome (U.state unit.old).image (λ x. IsBytes x → ⊥) }
+    ensures bad { IfErr result (λ fault. IfBad fault (λ p. IfSome (U.state unit.old).image (λ x. first_bad_place x ≡ Some p))) }
+    ensures nothing { IfErr result (λ fault. IfBad fault (λ p. Keeps (K.held sink.old) (K.held sink.new))) }
+    ensures cause { IsErrOf result DownloadFault.WriteFault → Rose (K.faults sink.old) (K.faults sink.new) }
+    ensures counts { K.faults sink.old ≤ K.faults sink.new }
+    // The unit is only read, if it is called at all.
+    ensures unit { ReadsIfAny (U.state unit.old) (U.state unit.new) (has_failed result) }
+{
+    let mut session = Session::new();
     while let Some(sent) = loader.next() {
         let frame = answer_to(&mut session, sent, unit, wire)?;
-        take(&mut loader, &frame, sink)?;
+        take(loader, &frame, sink)?;
     }
     Ok(())
 }

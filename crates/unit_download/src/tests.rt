@@ -2,7 +2,8 @@ ghost use Rattle.std.specs.Prelude.{IfOk};
 ghost use Rattle.tach_media.specs.MemMedium.{memory_state};
 ghost use Rattle.unit_model.specs.Image.{IsUnit};
 
-use crate::{DownloadFault, Passed, Wire, download};
+use crate::{DownloadFault, Passed, Unlisted, Wire, download, exchange_all};
+use downloader::Downloader;
 use std::alloc::{AllocError, Global};
 use std::test::*;
 use tach_media::{AbsentMedium, Medium, MemMedium, MemSink, Memory};
@@ -141,5 +142,19 @@ fn a_full_sink_is_told(rt: HostRuntime) -> Result<(), Fail> {
     let ended = downloaded(alloc, &mut unit, 700)?;
     assert_eq!(rt; ended.answer, Err(DownloadFault::WriteFault));
     assert_eq!(rt; ended.held.len(), 700);
+    Ok(())
+}
+
+// The file is the same where no frame is listed.
+#[test]
+fn frames_may_go_unlisted(rt: HostRuntime) -> Result<(), Fail> {
+    let alloc = rt.alloc();
+    let mut unit = unit_with(alloc, image(alloc, &FRONT, &[])?)?;
+    let mut sink = MemSink::new(Vec::with_capacity(alloc, 2000)?, Vec::new(alloc));
+    let mut loader = Downloader::new(alloc);
+    loader.reserve()?;
+    let answer = exchange_all(&mut loader, &mut sink, &mut unit, &mut Unlisted::new());
+    assert_eq!(rt; answer, Ok(()));
+    assert_eq!(rt; sink.held().len(), 623 + 143 + 267);
     Ok(())
 }

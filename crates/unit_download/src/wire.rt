@@ -1,6 +1,7 @@
 //! What passes on the link in a download.
-ghost use Rattle.std.specs.Prelude.{◌≡◌, ◌<◌, ◌^◌, [], ◌∷◌, ◌++◌, OnOk, OnErr, length};
+ghost use Rattle.std.specs.Prelude.{◌≡◌, [], length};
 
+use crate::tape::Tape;
 use link_frames::{End, Frame};
 use std::alloc::Global;
 use std::marker::Model;
@@ -51,18 +52,16 @@ impl Wire {
     {
         self.list.len()
     }
+}
 
-    /// Adds a frame of this sender.
-    ///
-    /// # Errors
-    ///
-    /// `Memory`; the wire is as it was.
-    pub fn push(&mut self, from: End, frame: Frame) -> Result<(), Memory>
-        ensures ok { OnOk result (self.new ≡ self.old ++ record { from = from; frame = frame } ∷ []) }
-        ensures err { OnErr result (self.new ≡ self.old) }
-        // A list has fewer members than a number of 64 bits counts.
-        ensures few { OnOk result (length self.old < 2 ^ 64) }
-    {
+impl Tape for Wire {
+    ghost use Rattle.std.specs.Prelude.{Some, length};
+
+    ghost frames = { λ w. Some w };
+
+    ghost count = { λ w. length w };
+
+    fn push(&mut self, from: End, frame: Frame) -> Result<(), Memory> {
         if self.list.push(Passed { from, frame }).is_err() {
             return Err(Memory);
         }
