@@ -3,32 +3,16 @@ ghost use Rattle.std.specs.Prelude.{◌≡◌, ◌≤◌, Some, None, Ok, IfOk, 
 ghost use Rattle.card_layout.specs.Application.{application_in};
 ghost use Rattle.tach_media.specs.Medium.{LeavesOnly, Unchanged, Reads, HasCause, revivable};
 ghost use Rattle.card_commands.specs.Ports.{IsPort, IsJudged, application_file};
-ghost use Rattle.card_image.specs.Judging.{first_bad_file};
-ghost use Rattle.card_judge.specs.Faults.{IfNotValid, IfTimeOverlap, has_failed};
-ghost use Rattle.card_judge.specs.Judged.{TellsSizes, IsLook};
 ghost use Rattle.run_opening.specs.Cards.{IsFoundOn, AreTwo, IsOneNumber, IsMediumFault};
 
 use crate::fault::RunFault;
-use card_commands::{Port, PortFault, read_sizes};
-use card_judge::{CardLook, InsertFault, look};
+use card_calls::look_by;
+use card_commands::{PortFault, read_sizes};
+use card_judge::InsertFault;
 use card_layout::{Application, LARGEST_IMAGE};
 use run_crew::Known;
 use run_model::Device;
 use tach_media::{Chip, Failed};
-
-// A card that goes by these sizes is read and judged.
-fn look_by<C: Chip>(card: &mut C, app: Application) -> Result<CardLook, InsertFault>
-    requires port { IsPort app None (C.card card.old) (C.state card.old) }
-    requires told { IfSome (C.state card.old).image (TellsSizes app) }
-    ensures look { IfOk result (λ l. IfSome (C.state card.old).image (λ x. IsLook app x l)) }
-    ensures bad { IfErr result (λ fault. IfNotValid fault (λ fid place. IfSome (C.state card.old).image (λ x. first_bad_file app x ≡ Some (fid, place)))) }
-    ensures in_time { IfErr result (λ fault. IfTimeOverlap fault (λ stored now. ⊥)) }
-    ensures reads { Reads (C.state card.old) (C.state card.new) (has_failed result) }
-    ensures port { IsPort app None (C.card card.new) (C.state card.new) }
-{
-    let mut port = Port::resume(&mut *card, app);
-    look(&mut port, &app)
-}
 
 // A card that is not valid, of which this is known.
 fn without_number(sizes: Result<Application, u8>) -> Known
