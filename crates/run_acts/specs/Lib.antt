@@ -5,3 +5,4 @@ pub mod Going
 pub mod Room
 pub mod Turning
 pub mod Booked
+pub mod Recording

@@ -1,0 +1,71 @@
+-- What is recorded of a run with cards, as its calls say it (profile): between two seconds, and within one.
+use Rattle.std.specs.Prelude.{◌≡◌, Bool, true, false, None, List, [], ◌∷◌, ◌++◌, ℕ}
+use Rattle.trace_model.specs.Trace.{TraceSecond}
+use Rattle.minute_model.specs.declared.Minute.{Minute}
+use Rattle.log_model.specs.Log.{RunLog, Phase, In}
+use Rattle.log_model.specs.Course.{Visit}
+use Rattle.unit_course.specs.Followed.{Supply}
+use Rattle.unit_course.specs.Followed.{Lit as IsLit, Due as IsDue, Lost as IsLost}
+use Rattle.unit_model.specs.Image.{odometer_at}
+use Rattle.unit_rule.specs.Odometer.{odometer_after}
+use Rattle.safety_model.specs.Safe.{Devices}
+use Rattle.run_outcome.specs.declared.outcome.Outcome.{Outcome}
+use Rattle.run_recorded.specs.Origin.{Origin}
+use Rattle.run_within.specs.Recorded.{Values, Recorded}
+use Rattle.run_within.specs.Within.{Within, CutWithin, passed_values}
+use Rattle.run_acts.specs.declared.run.Run.{Run}
+use Rattle.run_acts.specs.declared.run.Power.{Power}
+use Rattle.run_acts.specs.declared.run.Power.TheVariants.{Lit, Due, Lost}
+use Rattle.run_acts.specs.Power.{is_lit}
+
+-- the log of an outcome
+abbrev pub log_of : Outcome → RunLog
+log_of out = record { breaks = out.breaks.items; refused = out.refused.items; finds = out.finds.items }
+
+-- what a run has by value, as far as its record speaks of it
+abbrev pub values_of : Run → Outcome → Values
+values_of run out = record { log = log_of out; marks = out.marks.items; cabin = run.keeper.cabin; unfound = run.unfound; next = run.next; begun = run.begun; minutes = run.minutes }
+
+-- the power of a run between two seconds is that of the seconds so far: a span that goes on has a second
+abbrev pub Supplies : Power → Supply → Type 0
+Supplies Lit (IsLit (t ∷ span)) = Unit {0}
+Supplies Lit (IsLit []) = ⊥
+Supplies Lit IsDue = ⊥
+Supplies Lit IsLost = ⊥
+Supplies Due (IsLit span) = ⊥
+Supplies Due IsDue = Unit {0}
+Supplies Due IsLost = ⊥
+Supplies Lost (IsLit span) = ⊥
+Supplies Lost IsDue = ⊥
+Supplies Lost IsLost = Unit {0}
+
+-- BETWEEN TWO SECONDS, behind these: all is recorded, and the odometer that minutes are counted from is that at the last power-on.
+pub record RunRecorded (o : Origin) (done : List TraceSecond) (run : Run) (out : Outcome) (d : Devices) : Type 0 where
+  pub supply : Supply
+  pub powers : Supplies run.power supply
+  pub recorded : Recorded o done supply (values_of run out) d
+  pub odometer : run.power ≡ Lit → run.keeper.odometer ≡ odometer_after (odometer_at o.recording.unit) recorded.travel.before
+
+-- WITHIN A SECOND, while there is power
+pub record RunWithin (o : Origin) (done : List TraceSecond) (s : TraceSecond) (at : Phase) (waits : List Visit) (rest : List Minute) (run : Run) (out : Outcome) (d : Devices) : Type 0 where
+  pub lit : run.power ≡ Lit
+  pub within : Within o done s at waits None rest (values_of run out) d
+  pub odometer : run.keeper.odometer ≡ odometer_after (odometer_at o.recording.unit) within.b.travel.before
+
+-- WHERE POWER WAS CUT in a second: it is recorded as that second will be, once it has gone.
+pub record RunCut (o : Origin) (done : List TraceSecond) (s : TraceSecond) (run : Run) (out : Outcome) (d : Devices) : Type 0 where
+  pub lost : run.power ≡ Lost
+  pub recorded : Recorded o (done ++ s ∷ []) IsLost (passed_values s (values_of run out)) d
+
+-- IN A SECOND to which the trace gives power, behind so many of its actions: it goes on, or power was cut in it
+abbrev pub InSecondBy : (lit : Bool) → Origin → List TraceSecond → TraceSecond → (n : ℕ) → Run → Outcome → Devices → Type 0
+InSecondBy true o done s n run out d = RunWithin o done s (In n) [] [] run out d
+InSecondBy false o done s n run out d = RunCut o done s run out d
+
+abbrev pub InSecond : Origin → List TraceSecond → TraceSecond → (n : ℕ) → Run → Outcome → Devices → Type 0
+InSecond o done s n run out d = InSecondBy (is_lit run.power) o done s n run out d
+
+-- behind a call: the second goes on at a moment where these wait; or the unit failed in it, and power is about to be cut
+abbrev pub GoesOnOrCut : (failed : Bool) → Origin → List TraceSecond → TraceSecond → Phase → List Visit → Run → Outcome → Devices → Type 0
+GoesOnOrCut false o done s at waits run out d = RunWithin o done s at waits [] run out d
+GoesOnOrCut true o done s at waits run out d = CutWithin o done s at waits None (values_of run out) d
