@@ -10,11 +10,9 @@ use Rattle.minute_model.specs.declared.Minute.{Minute}
 use Rattle.unit_journal.specs.declared.kept.KeptMinute.{KeptMinute}
 use Rattle.slot_machine.specs.declared.seats.Present.{Present}
 use Rattle.run_crew.specs.declared.cards.Cards.{Cards}
-use Rattle.run_crew.specs.declared.cabin.Cabin.{Cabin}
 use Rattle.run_keeping.specs.declared.keeper.Moment.{Moment}
-use Rattle.run_keeping.specs.Keeping.{HasItsRow, HaveRows, is_this}
+use Rattle.run_keeping.specs.Keeping.{HasItsRow, HaveRows}
 use Rattle.run_keeping.specs.Minutes.{Round, Told, IsRound, IsMinute, IsCutShort, AreKept, more, told_after, kept_of, minute_of, present_at, AreDue, kept_after}
-use Rattle.run_keeping.specs.Decided.{AreWithout}
 use Rattle.run_keeping.proofs.Sessions.{some-goes}
 
 -- ---- the minute that is kept after so many
@@ -43,11 +41,6 @@ module _ (ds : List Minute) (i : ℕ) (low : i < length ds) where
 
   pub all-here : (P : Minute → Type 0) → All P ds → P this
   all-here P h = All-get_or P ds i no_minute low h
-
-  -- a card that was in none of them was not in it
-  pub absent-here : (card : Card) (cabin : Cabin) (p : Present) → p ≡ present_at cabin this.minute → AreWithout card cabin ds → (is_this p.driver card ≡ false) × (is_this p.codriver card ≡ false)
-  absent-here card cabin p is without = subst (λ (q : Present). (is_this q.driver card ≡ false) × (is_this q.codriver card ≡ false)) (sym is)
-      (all-here (λ (m : Minute). (is_this (present_at cabin m.minute).driver card ≡ false) × (is_this (present_at cabin m.minute).codriver card ≡ false)) without)
 
   -- it was to be kept, and these cards were present in it
   module _ (at : Moment) (t u v : Told) (p : Present) (k : KeptMinute) (A B C D : State) (cards : p ≡ present_at u.keeper.cabin this.minute) (is : k ≡ kept_of u.keeper.odometer this p) (so : AreKept at (take i ds) t u) where

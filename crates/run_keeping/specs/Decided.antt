@@ -8,11 +8,9 @@ use Rattle.joint_rule.specs.Rules.{IsPresent}
 use Rattle.safety_model.specs.Safe.{Devices}
 use Rattle.unit_course.specs.Legs.{Travel, all_travelled}
 use Rattle.unit_rule.specs.Odometer.{HasTravelled, odometer_after}
-use Rattle.run_crew.specs.declared.cabin.Cabin.{Cabin}
 use Rattle.run_rule.specs.Found.{Found, found_of}
 use Rattle.run_rule.specs.Between.{Carried}
 use Rattle.run_keeping.specs.declared.keeper.Keeper.{Keeper}
-use Rattle.run_keeping.specs.Keeping.{is_this}
 use Rattle.run_keeping.specs.Minutes.{Round, Done, Reach, Whole, Short, Told, present_at, minute_of}
 use Rattle.run_keeping.specs.Books.{AreBooked, HaveTime, IsCutIn, carried_after, history_minute}
 
@@ -55,7 +53,3 @@ EndsAll f start w k true (Short xs m round) g u e = IsCutSo f start k m round (c
 abbrev pub BooksAll : List Minute → (failed : Bool) → Reach → (t u : Told) → (d e : Devices) → Type 0
 BooksAll decided failed reach t u d e = (f : Found) (w : Carried) (start : ℕ) (g : Travel) → MayBookAll f w decided t d → HasTravelled start w.book g d.unit → t.keeper.odometer ≡ odometer_after start g.before → HaveTime e
     → EndsAll f start w t.keeper failed reach g u e
-
--- this card was present in none of these minutes
-abbrev pub AreWithout : Card → Cabin → List Minute → Type 0
-AreWithout card cabin decided = All (λ m. (is_this (present_at cabin m.minute).driver card ≡ false) × (is_this (present_at cabin m.minute).codriver card ≡ false)) decided

@@ -193,6 +193,8 @@ impl Keeper {
         ensures unit_keeps { HasLeftMore (M.state unit.old) (M.state unit.new) }
         ensures a_keeps { HasLeftMore (C.state card_a.old) (C.state card_a.new) }
         ensures b_keeps { HasLeftMore (D.state card_b.old) (D.state card_b.new) }
+        ensures a_bare { self.old.cabin.cards.a.accepted ≡ None → card_a.new ≡ card_a.old }
+        ensures b_bare { self.old.cabin.cards.b.accepted ≡ None → card_b.new ≡ card_b.old }
         ensures marks { (marks.new.room ≡ marks.old.room) × (length marks.new.items ≤ length marks.old.items + 3) }
         ensures breaks { (breaks.new.room ≡ breaks.old.room) × (length breaks.new.items + most_tears self.new.cabin.cards ≤ length breaks.old.items + most_tears self.old.cabin.cards) }
         ensures a_broken { HasBroken (C.state card_a.old) (C.state card_a.new) (tears_of self.old.cabin.cards.a.accepted - tears_of self.new.cabin.cards.a.accepted) }

@@ -3,7 +3,6 @@ use Rattle.std.specs.Prelude.{is_err}
 use Rattle.std.proofs.lemmas.List.{take_all, drop_all}
 use Rattle.tach_media.proofs.Runs.{cause_after, no_reads}
 use Rattle.tach_media.proofs.Breakdowns.{none_broken, both_broken, fewer_broken}
-use Rattle.trace_model.specs.declared.Card.TheVariants.{A, B}
 use Rattle.minute_model.specs.declared.Minute.{Minute}
 use Rattle.unit_journal.specs.declared.kept.KeptMinute.{KeptMinute}
 use Rattle.slot_machine.specs.declared.seats.Ended.{Ended}
@@ -16,9 +15,9 @@ use Rattle.run_keeping.specs.Decided.{BooksAll}
 use Rattle.run_keeping.proofs.DecidedBooked.{none-booked, booked-on, cut-booked, all-booked, time-before}
 use Rattle.run_keeping.proofs.Sessions.{stands-later}
 use Rattle.run_keeping.proofs.Rounds.{told-of}
-use Rattle.run_keeping.proofs.Decided.{this, absent-here, due-here, due-most, kept-here, all-here, kept-on, cut-on, present-here, rows-on}
+use Rattle.run_keeping.proofs.Decided.{this, due-here, due-most, kept-here, all-here, kept-on, cut-on, present-here, rows-on}
 use Rattle.run_keeping.proofs.Units.{left-then}
-use Rattle.run_keeping.proofs.Seats.{emptied-none, emptied-then, sessions-none, sessions-then}
+use Rattle.run_keeping.proofs.Seats.{emptied-none, emptied-then, stays-none, sessions-none, sessions-then}
 use Rattle.run_keeping.proofs.keeper.Keeper.keep_all.Goals as goal
 
 pub present-present-requires : goal.present-present-requires
@@ -110,8 +109,8 @@ loop-minute-init g c = record {
   unit_keeps = λ t x le left. left;
   a_keeps = λ t x le left. left;
   b_keeps = λ t x le left. left;
-  a_rests = λ without. refl;
-  b_rests = λ without. refl;
+  a_bare = λ none. refl;
+  b_bare = λ none. refl;
 }
 
 pub loop-minute-preserved : goal.loop-minute-preserved
@@ -174,12 +173,8 @@ loop-minute-preserved g c =
       unit_keeps = left-then (g.M.Medium.state c.args.unit.now) (g.M.Medium.state c.loop-minute.unit) (g.M.Medium.state c.keep_minute.new.unit) v.unit_keeps v.clock e.unit_keeps;
       a_keeps = left-then (g.C.Chip.state c.args.card_a.now) (g.C.Chip.state c.loop-minute.card_a) (g.C.Chip.state c.keep_minute.new.card_a) v.a_keeps v.clock_a e.a_keeps;
       b_keeps = left-then (g.D.Chip.state c.args.card_b.now) (g.D.Chip.state c.loop-minute.card_b) (g.D.Chip.state c.keep_minute.new.card_b) v.b_keeps v.clock_b e.b_keeps;
-      a_rests = λ without.
-          let here = absent-here ds i low A c.args.self.now.cabin c.present-present.result (ap or_nobody c.present-present.ensures.present ∙ ap (λ (es : List Ended). or_nobody (present_in es m)) v.past) without in
-          e.a_rests here.0 here.1 ∙ v.a_rests without;
-      b_rests = λ without.
-          let here = absent-here ds i low B c.args.self.now.cabin c.present-present.result (ap or_nobody c.present-present.ensures.present ∙ ap (λ (es : List Ended). or_nobody (present_in es m)) v.past) without in
-          e.b_rests here.0 here.1 ∙ v.b_rests without;
+      a_bare = λ none. e.a_bare (stays-none c.args.self.now.cabin.cards.a.accepted c.loop-minute.self.cabin.cards.a.accepted v.sessions.a none) ∙ v.a_bare none;
+      b_bare = λ none. e.b_bare (stays-none c.args.self.now.cabin.cards.b.accepted c.loop-minute.self.cabin.cards.b.accepted v.sessions.b none) ∙ v.b_bare none;
     }
 
 pub returns-clause-kept : goal.returns-clause-kept
@@ -327,7 +322,7 @@ returns-in_err-keep_minute-clause-b_broken g c =
     omega arith in
     fewer_broken few (both_broken c.loop-minute.invariant.b_broken c.in_err-keep_minute.ensures.b_broken)
 
--- ---- what might be left might be left still, and a card that was in none of them is as it was
+-- ---- what might be left might be left still, and a card without a session is as it was
 
 pub returns-in_err-keep_minute-clause-unit_keeps : goal.returns-in_err-keep_minute-clause-unit_keeps
 returns-in_err-keep_minute-clause-unit_keeps g c =
@@ -341,22 +336,12 @@ pub returns-in_err-keep_minute-clause-b_keeps : goal.returns-in_err-keep_minute-
 returns-in_err-keep_minute-clause-b_keeps g c =
     left-then (g.D.Chip.state c.args.card_b.now) (g.D.Chip.state c.loop-minute.card_b) (g.D.Chip.state c.keep_minute.new.card_b) c.loop-minute.invariant.b_keeps c.loop-minute.invariant.clock_b c.in_err-keep_minute.ensures.b_keeps
 
-pub returns-in_err-keep_minute-clause-a_rests : goal.returns-in_err-keep_minute-clause-a_rests
-returns-in_err-keep_minute-clause-a_rests g c = λ without.
+pub returns-in_err-keep_minute-clause-a_bare : goal.returns-in_err-keep_minute-clause-a_bare
+returns-in_err-keep_minute-clause-a_bare g c = λ none.
     let v = c.loop-minute.invariant in
-    let ds = c.args.decided.now in
-    let i = c.loop-minute.minute-index in
-    let low = c.loop-minute-test.true in
-    let m : ℕ = (this ds i low).minute in
-    let here = absent-here ds i low A c.args.self.now.cabin c.present-present.result (ap or_nobody c.present-present.ensures.present ∙ ap (λ (es : List Ended). or_nobody (present_in es m)) v.past) without in
-    c.in_err-keep_minute.ensures.a_rests here.0 here.1 ∙ v.a_rests without
+    c.in_err-keep_minute.ensures.a_bare (stays-none c.args.self.now.cabin.cards.a.accepted c.loop-minute.self.cabin.cards.a.accepted v.sessions.a none) ∙ v.a_bare none
 
-pub returns-in_err-keep_minute-clause-b_rests : goal.returns-in_err-keep_minute-clause-b_rests
-returns-in_err-keep_minute-clause-b_rests g c = λ without.
+pub returns-in_err-keep_minute-clause-b_bare : goal.returns-in_err-keep_minute-clause-b_bare
+returns-in_err-keep_minute-clause-b_bare g c = λ none.
     let v = c.loop-minute.invariant in
-    let ds = c.args.decided.now in
-    let i = c.loop-minute.minute-index in
-    let low = c.loop-minute-test.true in
-    let m : ℕ = (this ds i low).minute in
-    let here = absent-here ds i low B c.args.self.now.cabin c.present-present.result (ap or_nobody c.present-present.ensures.present ∙ ap (λ (es : List Ended). or_nobody (present_in es m)) v.past) without in
-    c.in_err-keep_minute.ensures.b_rests here.0 here.1 ∙ v.b_rests without
+    c.in_err-keep_minute.ensures.b_bare (stays-none c.args.self.now.cabin.cards.b.accepted c.loop-minute.self.cabin.cards.b.accepted v.sessions.b none) ∙ v.b_bare none

@@ -1,11 +1,9 @@
-use Rattle.std.proofs.Common.{◌≡◌, ℕ, ◌+◌, ◌-◌, ◌*◌, ◌/◌, ◌<◌, ◌≤◌, false, Option, is_some, All, length, take, drop}
+use Rattle.std.proofs.Common.{◌≡◌, ℕ, ◌+◌, ◌-◌, ◌*◌, ◌/◌, ◌<◌, ◌≤◌, false, Option, None, is_some, All, length, take, drop}
 use Rattle.trace_model.specs.declared.Card.{Card}
-use Rattle.trace_model.specs.declared.Card.TheVariants.{A, B}
 use Rattle.tach_media.specs.Medium.{HasCause, HasBroken}
 use Rattle.run_crew.specs.Cabin.{Stands}
 use Rattle.run_keeping.specs.Keeping.{IsReady, HasItsRow, HasLeftMore, AreEmptied, SessionsGoOn, tears_of, most_tears}
 use Rattle.run_keeping.specs.Minutes.{AreDue, AreKept, kept_after}
-use Rattle.run_keeping.specs.Decided.{AreWithout}
 use Rattle.run_rule.specs.Between.{devices}
 use Rattle.run_keeping.proofs.Rounds.{told-of}
 use Rattle.run_keeping.proofs.DecidedBooked.{Booked}
@@ -44,6 +42,6 @@ invariant-loop-minute g l = record {
   unit_keeps : HasLeftMore (g.M.Medium.state l.fn.unit) (g.M.Medium.state l.unit);
   a_keeps : HasLeftMore (g.C.Chip.state l.fn.card_a) (g.C.Chip.state l.card_a);
   b_keeps : HasLeftMore (g.D.Chip.state l.fn.card_b) (g.D.Chip.state l.card_b);
-  a_rests : AreWithout A l.fn.self.cabin l.decided → l.card_a ≡ l.fn.card_a;
-  b_rests : AreWithout B l.fn.self.cabin l.decided → l.card_b ≡ l.fn.card_b;
+  a_bare : l.fn.self.cabin.cards.a.accepted ≡ None → l.card_a ≡ l.fn.card_a;
+  b_bare : l.fn.self.cabin.cards.b.accepted ≡ None → l.card_b ≡ l.fn.card_b;
 }

@@ -17,7 +17,7 @@ use Rattle.run_keeping.proofs.MinuteBooked.{clock-rests, booked-cut, booked-whol
 use Rattle.run_keeping.proofs.Counts.{tears-one, lines-length, first-stays, second-stays}
 use Rattle.run_keeping.proofs.Rounds.{told-of, told-same, brought-minute, brought-past, brought-tears, brought-more, brought-tear-room, brought-marks, brought-mark-room, cut-is, cut-told, whole-driver, whole-codriver, whole-is, whole-told}
 use Rattle.run_keeping.proofs.Units.{unit-stays, left-then}
-use Rattle.run_keeping.proofs.Seats.{emptied-then, sessions-none, sessions-then}
+use Rattle.run_keeping.proofs.Seats.{emptied-then, stays-none, sessions-none, sessions-then}
 use Rattle.run_keeping.proofs.keeper.Keeper.keep_minute.Goals as goal
 
 -- ---- the unit failed before
@@ -280,3 +280,21 @@ returns-clause-a_keeps g c =
 pub returns-clause-b_keeps : goal.returns-clause-b_keeps
 returns-clause-b_keeps g c =
     left-then (g.D.Chip.state c.args.card_b.now) (g.D.Chip.state c.bring.new.card_b) (g.D.Chip.state c.bring-2.new.card_b) c.bring.ensures.b_keeps c.bring.ensures.clock_b c.bring-2.ensures.b_keeps
+
+-- ---- a card without a session is as it was
+
+pub returns-in_err-bring-clause-a_bare : goal.returns-in_err-bring-clause-a_bare
+returns-in_err-bring-clause-a_bare g c = λ none. c.bring.ensures.a_bare (ap (λ (q : Keeper). q.cabin.cards.a.accepted) c.commit.ensures.keeper ∙ none)
+
+pub returns-in_err-bring-clause-b_bare : goal.returns-in_err-bring-clause-b_bare
+returns-in_err-bring-clause-b_bare g c = λ none. c.bring.ensures.b_bare (ap (λ (q : Keeper). q.cabin.cards.b.accepted) c.commit.ensures.keeper ∙ none)
+
+pub returns-clause-a_bare : goal.returns-clause-a_bare
+returns-clause-a_bare g c = λ none.
+    let before = ap (λ (q : Keeper). q.cabin.cards.a.accepted) c.commit.ensures.keeper ∙ none in
+    c.bring-2.ensures.a_bare (stays-none c.commit.new.self.cabin.cards.a.accepted c.bring.new.self.cabin.cards.a.accepted c.bring.ensures.sessions.a before) ∙ c.bring.ensures.a_bare before
+
+pub returns-clause-b_bare : goal.returns-clause-b_bare
+returns-clause-b_bare g c = λ none.
+    let before = ap (λ (q : Keeper). q.cabin.cards.b.accepted) c.commit.ensures.keeper ∙ none in
+    c.bring-2.ensures.b_bare (stays-none c.commit.new.self.cabin.cards.b.accepted c.bring.new.self.cabin.cards.b.accepted c.bring.ensures.sessions.b before) ∙ c.bring.ensures.b_bare before
