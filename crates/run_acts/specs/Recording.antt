@@ -1,11 +1,14 @@
 -- What is recorded of a run with cards, as its calls say it (profile): between two seconds, and within one.
-use Rattle.std.specs.Prelude.{◌≡◌, ◌+◌, ◌-◌, ◌<◌, Bool, true, false, None, List, [], ◌∷◌, ◌++◌, ℕ, length}
+use Rattle.std.specs.Prelude.{◌≡◌, ◌+◌, ◌-◌, ◌<◌, Bool, true, false, None, List, [], ◌∷◌, ◌++◌, ℕ, suc, length}
+use Rattle.trace_model.specs.declared.Action.{Action}
 use Rattle.trace_model.specs.declared.Card.{Card}
 use Rattle.trace_model.specs.Trace.{TraceSecond, driven}
 use Rattle.minute_model.specs.declared.Minute.{Minute}
 use Rattle.minute_model.specs.declared.Rule.TheVariants.{Original}
 use Rattle.log_model.specs.Log.{RunLog, Phase, In}
 use Rattle.log_model.specs.Course.{Visit}
+use Rattle.log_model.specs.Slots.{refusal}
+use Rattle.slot_machine.specs.Calls.{logged}
 use Rattle.unit_course.specs.Followed.{Supply}
 use Rattle.unit_course.specs.Followed.{Lit as IsLit, Due as IsDue, Lost as IsLost}
 use Rattle.unit_model.specs.Decoding.{Decodes}
@@ -95,6 +98,12 @@ pub record IsNow (s : TraceSecond) (speed : ℕ) (run : Run) : Type 0 where
   pub number : s.number ≡ run.next
   pub given : s.has_power ≡ true
   pub speed_is : s.speed ≡ speed
+
+-- AN ACTION of a second is carried out, which slots and speed do not refuse: it is the next one, and behind it so many have begun.
+abbrev pub RecordsAction : Action → (begun speed : ℕ) → (failed : Bool) → (old new : Run) → (before after : Outcome) → (d e : Devices) → Type 0
+RecordsAction action begun speed failed old new before after d e = (o : Origin) (done : List TraceSecond) (s : TraceSecond) → IsNow s speed old →
+    (front rest : List Action) → s.actions ≡ front ++ action ∷ rest → begun ≡ suc (length front) → refusal (logged old.keeper.cabin.slots.seats) speed action ≡ None →
+    RunWithin o done s (In (length front)) [] [] old before d → HaveTime e → GoesOnOrCut failed o done s (In begun) [] new after e
 
 -- N SECONDS of one minute: the first has had all of its actions, so many; the others, where there are any, have none, and nor has it then.
 -- Behind them all is recorded.
