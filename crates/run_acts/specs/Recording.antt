@@ -19,6 +19,8 @@ use Rattle.card_image.specs.Own.{own_number, IsOwnValid}
 use Rattle.safety_model.specs.Recording.{card_image, brought}
 use Rattle.safety_model.specs.Safe.{Devices}
 use Rattle.run_rule.specs.Found.{found_of}
+use Rattle.run_crew.specs.declared.cabin.Cabin.{Cabin}
+use Rattle.run_crew.specs.Cabin.{with_power_lost}
 use Rattle.run_outcome.specs.declared.outcome.Outcome.{Outcome}
 use Rattle.run_recorded.specs.Origin.{Origin}
 use Rattle.run_keeping.specs.Books.{HaveTime}
@@ -88,10 +90,18 @@ InSecondBy false o done s n run out d = RunCut o done s run out d
 abbrev pub InSecond : Origin → List TraceSecond → TraceSecond → (n : ℕ) → Run → Outcome → Devices → Type 0
 InSecond o done s n run out d = InSecondBy (is_lit run.power) o done s n run out d
 
--- behind a call: the second goes on at a moment where these wait; or the unit failed in it, and power is about to be cut, whoever waits then
+-- THE UNIT HAS FAILED at a moment of a second, and power is about to be cut, whoever waits then; slots and sessions may be others than those that
+-- are recorded, if a cut leaves the same of both (a card was accepted, and the note of that failed).
+pub record RunFails (o : Origin) (done : List TraceSecond) (s : TraceSecond) (at : Phase) (run : Run) (out : Outcome) (d : Devices) : Type 0 where
+  pub waits : List Visit
+  pub cabin : Cabin
+  pub same : with_power_lost s.number cabin ≡ with_power_lost s.number run.keeper.cabin
+  pub within : CutWithin o done s at waits None (record (values_of run out) { cabin = cabin }) d
+
+-- behind a call: the second goes on at a moment where these wait; or the unit has failed in it
 abbrev pub GoesOnOrCut : (failed : Bool) → Origin → List TraceSecond → TraceSecond → Phase → List Visit → Run → Outcome → Devices → Type 0
 GoesOnOrCut false o done s at waits run out d = RunWithin o done s at waits [] run out d
-GoesOnOrCut true o done s at waits run out d = (left : List Visit) × CutWithin o done s at left None (values_of run out) d
+GoesOnOrCut true o done s at waits run out d = RunFails o done s at run out d
 
 -- A SECOND of the trace is the next one of a run: it is given power, at this speed
 pub record IsNow (s : TraceSecond) (speed : ℕ) (run : Run) : Type 0 where
