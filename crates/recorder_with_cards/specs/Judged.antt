@@ -1,37 +1,20 @@
 -- What is recorded of a run as a card is accepted or turned away, over devices that tell their images (profile).
-use Rattle.std.specs.Prelude.{◌≡◌, ◌⊎◌, ℕ, suc, ◌/◌, Bool, true, false, Option, Some, None, List, [], ◌∷◌, ◌++◌, length}
+use Rattle.std.specs.Prelude.{◌≡◌, ◌⊎◌, ℕ, Bool, true, false, Option, Some, None, List, []}
 use Rattle.activity_codec.specs.declared.values.Slot.{Slot}
 use Rattle.activity_codec.specs.declared.values.Slot.TheVariants.{Driver, CoDriver}
 use Rattle.trace_model.specs.declared.Card.{Card}
-use Rattle.trace_model.specs.declared.Action.{Action}
-use Rattle.trace_model.specs.declared.Action.TheVariants.{Insert}
 use Rattle.trace_model.specs.Trace.{TraceSecond}
-use Rattle.minute_model.specs.declared.Rule.TheVariants.{Original}
 use Rattle.log_model.specs.Log.{In, found_in}
-use Rattle.log_model.specs.Slots.{refusal}
 use Rattle.log_model.specs.Course.{Visit, went}
-use Rattle.history_model.specs.Presence.{card_start}
-use Rattle.card_image.specs.Own.{own_number, IsOwnValid}
-use Rattle.safety_model.specs.Recording.{card_image}
 use Rattle.safety_model.specs.Safe.{Devices}
-use Rattle.run_rule.specs.Found.{found_of}
 use Rattle.run_moments.specs.Reached.{moved_at}
 use Rattle.run_keeping.specs.declared.keeper.Moment.{Moment}
 use Rattle.run_keeping.specs.Books.{HaveTime}
 use Rattle.run_outcome.specs.declared.outcome.Outcome.{Outcome}
-use Rattle.run_recorded.specs.Origin.{Origin, rule_of, start_at, first_of}
-use Rattle.run_within.specs.Within.{course_in, CutWithin}
+use Rattle.run_recorded.specs.Origin.{Origin}
 use Rattle.run_within.specs.Judging.{IsNext}
 use Rattle.run_acts.specs.declared.run.Run.{Run}
-use Rattle.run_acts.specs.Recording.{log_of, values_of, RunWithin}
-
--- WHAT A RUN BEGAN WITH is as its opening found it, and minutes are decided by the original rule.
-pub record HasOpened (o : Origin) : Type 0 where
-  pub rule : rule_of o ≡ Original
-  pub first : o.found.unit.first ≡ first_of o
-  pub image : (c : Card) → (found_of o.found c).image ≡ card_image o.recording c
-  pub start : (c : Card) → (found_of o.found c).start ≡ card_start (start_at o) c
-  pub number : (c : Card) → IsOwnValid (card_image o.recording c) → (found_of o.found c).number ≡ own_number (card_image o.recording c)
+use Rattle.run_acts.specs.Recording.{log_of, values_of, RunWithin, GoesOnOrCut}
 
 -- the moment of a second behind so many of its actions
 abbrev pub moment_in : TraceSecond → (n : ℕ) → Moment
@@ -51,31 +34,17 @@ pub record RunBehind (o : Origin) (done : List TraceSecond) (s : TraceSecond) (n
   pub began : goes.within.b ≡ w.within.b
   pub from : goes.within.from ≡ w.within.from
 
--- THE UNIT FAILED at a moment of a second, whichever cards wait: power is about to be cut
-abbrev pub RunFailed : Origin → List TraceSecond → TraceSecond → (n : ℕ) → Run → Outcome → Devices → Type 0
-RunFailed o done s n run out d = (left : List Visit) × CutWithin o done s (In n) left None (values_of run out) d
-
+-- or the unit failed
 abbrev pub JudgedTo : (failed : Bool) → (o : Origin) (done : List TraceSecond) (s : TraceSecond) (n : ℕ) (waits fewer : List Visit) (old new : Run) (before after : Outcome) (d e : Devices) → RunWithin o done s (In n) waits [] old before d → Type 0
 JudgedTo false o done s n waits fewer old new before after d e w = RunBehind o done s n waits fewer old new before after d e w
-JudgedTo true o done s n waits fewer old new before after d e w = RunFailed o done s n new after e
+JudgedTo true o done s n waits fewer old new before after d e w = GoesOnOrCut true o done s (In n) fewer new after e
 
 -- A CARD WAS JUDGED that was the next: so it is recorded.
 abbrev pub JudgesSo : Slot → Card → Moment → (failed : Bool) → (old new : Run) → (before after : Outcome) → (d e : Devices) → Type 0
-JudgesSo slot card at failed old new before after d e = (o : Origin) → HasOpened o → (done : List TraceSecond) (s : TraceSecond) (n : ℕ) (waits fewer : List Visit) → at ≡ moment_in s n →
+JudgesSo slot card at failed old new before after d e = (o : Origin) (done : List TraceSecond) (s : TraceSecond) (n : ℕ) (waits fewer : List Visit) → at ≡ moment_in s n →
     (next : RunNext o done s n waits fewer old before d slot card) → HaveTime e → JudgedTo failed o done s n waits fewer old new before after d e next.goes
 
 -- the card of a slot, if there is one
 abbrev pub JudgesAnew : Option Card → Slot → Moment → (failed : Bool) → (old new : Run) → (before after : Outcome) → (d e : Devices) → Type 0
 JudgesAnew None slot at failed old new before after d e = failed ≡ false
 JudgesAnew (Some card) slot at failed old new before after d e = JudgesSo slot card at failed old new before after d e
-
--- behind an action
-abbrev pub ActedTo : (failed : Bool) → Origin → List TraceSecond → TraceSecond → (n : ℕ) → Run → Outcome → Devices → Type 0
-ActedTo false o done s n run out d = RunWithin o done s (In n) [] [] run out d
-ActedTo true o done s n run out d = RunFailed o done s n run out d
-
--- A CARD WAS PUT INTO A SLOT by an action that is not refused: so it is recorded behind that action.
-abbrev pub InsertsSo : Slot → Card → Moment → (speed : ℕ) → (failed : Bool) → (old new : Run) → (before after : Outcome) → (d e : Devices) → Type 0
-InsertsSo slot card at speed failed old new before after d e = (o : Origin) → HasOpened o → (done : List TraceSecond) (s : TraceSecond) (front rest : List Action) → s.actions ≡ front ++ Insert slot card ∷ rest →
-    at ≡ moment_in s (suc (length front)) → (w : RunWithin o done s (In (length front)) [] [] old before d) → refusal (course_in w.within.b done s (In (length front)) (log_of before)).slots s.speed (Insert slot card) ≡ None →
-    HaveTime e → ActedTo failed o done s (suc (length front)) new after e

@@ -1,6 +1,7 @@
--- What is recorded of a run as a second begins, over devices that tell their images (profile): it goes on, or power is back, or was lost at once.
-use Rattle.std.specs.Prelude.{◌≡◌, ℕ, Bool, true, false, Result, Ok, Err, List, []}
+-- What is recorded of a run as power comes, over devices that tell their images (profile): the unit was read, and is mended.
+use Rattle.std.specs.Prelude.{◌≡◌, ℕ, Bool, true, Result, Ok, Err, List, []}
 use Rattle.trace_model.specs.Trace.{TraceSecond}
+use Rattle.log_model.specs.Log.{In}
 use Rattle.unit_course.specs.Followed.{Supply, MayPower}
 use Rattle.safety_model.specs.Safe.{Devices}
 use Rattle.run_keeping.specs.Books.{HaveTime}
@@ -11,30 +12,19 @@ use Rattle.run_within.specs.Recorded.{Values, Recorded}
 use Rattle.run_within.specs.Powering.{read_values}
 use Rattle.run_acts.specs.declared.run.Run.{Run}
 use Rattle.run_acts.specs.Power.{has_power}
-use Rattle.run_acts.specs.Recording.{values_of, RunRecorded, InSecond}
-use Rattle.recorder_with_cards.specs.Judged.{HasOpened, ActedTo}
+use Rattle.run_acts.specs.Recording.{IsOrigin, values_of, RunRecorded, InSecond, GoesOnOrCut, IsNow}
 
 -- THE UNIT WAS MENDED, in which this last-kept minute was found, and each card judged: the second goes on before its actions; or the unit failed.
 abbrev pub ResumesSo : (kept : ℕ) → (failed : Bool) → (old new : Run) → (before after : Outcome) → (d e : Devices) → Type 0
-ResumesSo kept failed old new before after d e = (o : Origin) → HasOpened o → (done : List TraceSecond) (s : TraceSecond) (supply : Supply) (v : Values) → Recorded o done supply v d → MayPower supply v.next →
-    s.number ≡ v.next → s.has_power ≡ true → values_of old before ≡ read_values kept v → HaveTime e → ActedTo failed o done s 0 new after e
+ResumesSo kept failed old new before after d e = (o : Origin) → IsOrigin o → (done : List TraceSecond) (s : TraceSecond) (supply : Supply) (v : Values) → Recorded o done supply v d → MayPower supply v.next →
+    s.number ≡ v.next → s.has_power ≡ true → values_of old before ≡ read_values kept v → HaveTime e → GoesOnOrCut failed o done s (In 0) [] new after e
 
 -- power is back, or was lost at once: no unit that tells its image is refused
-abbrev pub WokenTo : {T : Type 0} → Result T RunFault → Origin → List TraceSecond → TraceSecond → Run → Outcome → Devices → Type 0
-WokenTo (Ok done_with) o done s run out d = InSecond o done s 0 run out d
+abbrev pub WokenTo : Result (Unit {0}) RunFault → Origin → List TraceSecond → TraceSecond → Run → Outcome → Devices → Type 0
+WokenTo (Ok done_) o done s run out d = InSecond o done s 0 run out d
 WokenTo (Err fault) o done s run out d = ⊥
 
 -- POWER COMES with a second where it may: so it is recorded.
-abbrev pub WakesSo : {T : Type 0} → Result T RunFault → (old new : Run) → (before after : Outcome) → (d e : Devices) → Type 0
-WakesSo result old new before after d e = (o : Origin) → HasOpened o → (done : List TraceSecond) (s : TraceSecond) → RunRecorded o done old before d → has_power old.power old.next ≡ true →
-    s.number ≡ old.next → s.has_power ≡ true → HaveTime e → WokenTo result o done s new after e
-
--- the second has power, or has none, as what was recorded stands
-abbrev pub BegunTo : Result Bool RunFault → Origin → List TraceSecond → TraceSecond → Run → Outcome → Devices → Type 0
-BegunTo (Ok true) o done s run out d = InSecond o done s 0 run out d
-BegunTo (Ok false) o done s run out d = RunRecorded o done run out d
-BegunTo (Err fault) o done s run out d = ⊥
-
--- A SECOND BEGINS to which the trace gives power: so it is recorded.
-abbrev pub BeginsSo : Result Bool RunFault → (old new : Run) → (before after : Outcome) → (d e : Devices) → Type 0
-BeginsSo result old new before after d e = (o : Origin) → HasOpened o → (done : List TraceSecond) (s : TraceSecond) → RunRecorded o done old before d → s.number ≡ old.next → s.has_power ≡ true → HaveTime e → BegunTo result o done s new after e
+abbrev pub WakesSo : Result (Unit {0}) RunFault → (speed : ℕ) → (old new : Run) → (before after : Outcome) → (d e : Devices) → Type 0
+WakesSo result speed old new before after d e = (o : Origin) (done : List TraceSecond) (s : TraceSecond) → IsNow s speed old → RunRecorded o done old before d → has_power old.power old.next ≡ true →
+    HaveTime e → WokenTo result o done s new after e
