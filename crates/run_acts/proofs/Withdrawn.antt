@@ -163,7 +163,7 @@ unit-from B P U X Z p = p
 -- the unit failed in one of them
 pub withdrawn-cut : (card : Card) (decided : List Minute) (at : Moment) (t u : Told) (d e : Devices) (reach : Reach) → IsReach decided at true t u reach → BooksAll decided true reach t u d e → BooksWithdrawn card decided true reach None t u d e
 withdrawn-cut card decided at t u d e (Whole xs) is books = absurd is
-withdrawn-cut card decided at t u d e (Short xs m round) is books = books
+withdrawn-cut card decided at t u d e (Short xs m round) is books = λ f w start g may gone stored time. (books f w start g may gone stored time).0
 
 abbrev IsEnd : (failed : Bool) → Found → Carried → Told → Devices → Type 0
 IsEnd false f w u e = AreBooked f w u.keeper.cabin.cards u.marks.items e
@@ -179,7 +179,7 @@ module _ {C : Type 0} (state : C → State) (c : Card) (second : ℕ) (U V Z : S
   pub withdrawn-closed : (reach : Reach) → IsReach decided at false t v reach → BooksAll decided false reach t v d (arranged c U (state x) Z) → BooksWithdrawn c decided failed reach (Some closing) t u d (arranged c V (state y) Z)
   withdrawn-closed (Short xs m round) is books = absurd is
   withdrawn-closed (Whole xs) is books = λ f w start g may gone stored time.
-      let behind = books f w start g may gone stored (time-before c U V (state x) (state y) Z unit.later (later (session_of v.keeper.cabin.cards c) refl) time) in
+      let behind = (books f w start g may gone stored (time-before c U V (state x) (state y) Z unit.later (later (session_of v.keeper.cabin.cards c) refl) time)).0 in
       let b = behind.0 in
       let far : Travel = all_travelled (map (λ (x : Done). x.minute) xs) g in
       let before = unit-from c (HasTravelled start (carried_by t.keeper xs w).book far) U (state x) Z behind.1 in

@@ -24,9 +24,10 @@ use Rattle.run_keeping.specs.declared.keeper.Keeper.{Keeper}
 use Rattle.run_keeping.specs.declared.keeper.Moment.{Moment}
 use Rattle.run_keeping.specs.Keeping.{Fate, Still, Has, Fell, TellsPresent, cabin_by}
 use Rattle.run_keeping.specs.Minutes.{Round, Told, Done, Reach, Whole, Short, IsRound, IsMinute, IsReach, IsLast, AreRounds, AreDue, told_after, told_by, cabin_after, marks_after, kept_of, minute_of, present_at}
-use Rattle.run_keeping.specs.Books.{AreBooked, HaveTime, MayBook, MayCome, BooksMinute, carried_after, fate_of, standing_by}
+use Rattle.run_keeping.specs.Books.{AreBooked, AreTimedOn, HaveTime, MayBook, MayCome, BooksMinute, carried_after, fate_of, standing_by}
 use Rattle.run_keeping.specs.Decided.{MayBookAll, BooksAll, carried_by, decided_minute}
 use Rattle.run_keeping.proofs.Brought.{cards-by, found-session}
+use Rattle.run_keeping.proofs.MinuteBooked.{timed-then}
 use Rattle.run_keeping.proofs.Decided.{no_minute, this, front, whole, all-here}
 
 -- ---- one more behind some
@@ -118,10 +119,10 @@ pub record Booked (ds : List Minute) (i : ℕ) (at : Moment) (t u : Told) (d e :
   pub rounds : AreRounds t.keeper at done t
   pub told : u ≡ told_by t.keeper at done t
   pub books : (f : Found) (w : Carried) (start : ℕ) (g : Travel) → MayBookAll f w ds t d → HasTravelled start w.book g d.unit → t.keeper.odometer ≡ odometer_after start g.before → HaveTime e
-      → AreBooked f (carried_by t.keeper done w) u.keeper.cabin.cards u.marks.items e × HasTravelled start (carried_by t.keeper done w).book (all_travelled (map (λ (x : Done). x.minute) done) g) e.unit
+      → (AreBooked f (carried_by t.keeper done w) u.keeper.cabin.cards u.marks.items e × HasTravelled start (carried_by t.keeper done w).book (all_travelled (map (λ (x : Done). x.minute) done) g) e.unit) × AreTimedOn f d e
 
 pub none-booked : (ds : List Minute) (at : Moment) (t : Told) (d : Devices) → Booked ds 0 at t t d d
-none-booked ds at t d = record { done = []; are = refl; rounds = tt; told = refl; books = λ f w start g may gone stored time. (may.booked, gone) }
+none-booked ds at t d = record { done = []; are = refl; rounds = tt; told = refl; books = λ f w start g may gone stored time. ((may.booked, gone), λ c valid timed. timed) }
 
 -- all of them
 pub all-booked : (ds : List Minute) (i : ℕ) → length ds ≤ i → (at : Moment) (t u : Told) (d e : Devices) → Booked ds i at t u d e → (reach : Reach) × IsReach ds at false t u reach × BooksAll ds false reach t u d e
@@ -163,11 +164,11 @@ module _ (ds : List Minute) (i : ℕ) (low : i < length ds) (at : Moment) (t u v
     abbrev so_far : Travel
     so_far = all_travelled (map (λ (x : Done). x.minute) so.done) travel
 
-    was : AreBooked f (carried_by k so.done w) u.keeper.cabin.cards u.marks.items e × HasTravelled start (carried_by k so.done w).book so_far e.unit
+    was : (AreBooked f (carried_by k so.done w) u.keeper.cabin.cards u.marks.items e × HasTravelled start (carried_by k so.done w).book so_far e.unit) × AreTimedOn f d e
     was = so.books f w start travel may gone stored (earlier time)
 
     may-here : MayBook f (carried_by k so.done w) here (minute_of m k) u e
-    may-here = record { booked = was.0; comes = comes f w may }
+    may-here = record { booked = was.0.0; comes = comes f w may }
 
     -- what the minute says of the odometer
     odometer-here : odometer_by k.odometer m.travelled ≡ odometer_by (odometer_after start so_far.before) m.travelled
@@ -195,19 +196,21 @@ module _ (ds : List Minute) (i : ℕ) (low : i < length ds) (at : Moment) (t u v
     carried_next w = carried_after here (decided_minute k m) r (carried_by k so.done w)
 
     next : (f : Found) (w : Carried) (start : ℕ) (travel : Travel) → MayBookAll f w ds t d → HasTravelled start w.book travel d.unit → t.keeper.odometer ≡ odometer_after start travel.before → HaveTime g
-        → AreBooked f (carried_next w) v.keeper.cabin.cards v.marks.items g × HasTravelled start (carried_next w).book (travelled m.travelled (all_travelled (map (λ (x : Done). x.minute) so.done) travel)) g.unit
+        → (AreBooked f (carried_next w) v.keeper.cabin.cards v.marks.items g × HasTravelled start (carried_next w).book (travelled m.travelled (all_travelled (map (λ (x : Done). x.minute) so.done) travel)) g.unit) × AreTimedOn f d g
     next f w start travel may gone stored time =
-        let before = was f w start travel may gone stored time in
+        let ahead = was f w start travel may gone stored time in
+        let before = ahead.0 in
         let late = (comes f w may).late in
-        let behind = books f (carried_by k so.done w) start (all_travelled (map (λ (x : Done). x.minute) so.done) travel) m.travelled (may-here f w start travel may gone stored time) before.1 (odometer-here f w start travel may gone stored time) time in (
-          record {
-            found = subst (λ (q : Told). AreFoundCards f q.keeper.cabin.cards) (sym minute.2) (found-after f here at.second r u.keeper.cabin before.0.found);
-            powered = behind.0;
-            told = ap (λ (ms : List Mark). (marks_after here m.minute r (record { items = ms; room = 0 })).items) before.0.told ∙ sym (ap (λ (q : Told). q.marks.items) minute.2);
-            early = λ c n at. let lt = before.0.early c n at in omega (arith, lt, late);
-          },
-          behind.1,
-        )
+        let all = books f (carried_by k so.done w) start (all_travelled (map (λ (x : Done). x.minute) so.done) travel) m.travelled (may-here f w start travel may gone stored time) before.1 (odometer-here f w start travel may gone stored time) time in
+        let behind = all.0 in
+        let booked : AreBooked f (carried_next w) v.keeper.cabin.cards v.marks.items g =
+        record {
+          found = subst (λ (q : Told). AreFoundCards f q.keeper.cabin.cards) (sym minute.2) (found-after f here at.second r u.keeper.cabin before.0.found);
+          powered = behind.0;
+          told = ap (λ (ms : List Mark). (marks_after here m.minute r (record { items = ms; room = 0 })).items) before.0.told ∙ sym (ap (λ (q : Told). q.marks.items) minute.2);
+          early = λ c n at. let lt = before.0.early c n at in omega (arith, lt, late);
+        } in
+        ((booked, behind.1), timed-then f d e g ahead.1 all.1)
 
     more-booked : Booked ds (i + 1) at t v d g
     more-booked = record {
@@ -216,12 +219,13 @@ module _ (ds : List Minute) (i : ℕ) (low : i < length ds) (at : Moment) (t u v
       rounds = rounds-snoc k at so.done x t so.rounds (subst (λ (q : Told). IsRound here (minute_of m k) at false q.keeper r) so.told minute.0);
       told = minute.2 ∙ ap (told_after here m.minute at r) so.told ∙ sym (told-snoc k at so.done x t);
       books = λ f w start travel may gone stored time.
-          let behind = next f w start travel may gone stored time in
-          let carried = sym (carried-snoc k so.done x w) in (
-            subst (λ (q : Carried). AreBooked f q v.keeper.cabin.cards v.marks.items g) carried behind.0,
-            subst (λ (legs : Travel). HasTravelled start (carried_by k (so.done ++ x ∷ []) w).book legs g.unit) (sym (travel-snoc so.done x travel))
-                (subst (λ (q : Carried). HasTravelled start q.book (travelled m.travelled (all_travelled (map (λ (y : Done). y.minute) so.done) travel)) g.unit) carried behind.1),
-          );
+          let all = next f w start travel may gone stored time in
+          let behind = all.0 in
+          let carried = sym (carried-snoc k so.done x w) in
+          let booked : AreBooked f (carried_by k (so.done ++ x ∷ []) w) v.keeper.cabin.cards v.marks.items g = subst (λ (q : Carried). AreBooked f q v.keeper.cabin.cards v.marks.items g) carried behind.0 in
+          let far : HasTravelled start (carried_by k (so.done ++ x ∷ []) w).book (all_travelled (map (λ (y : Done). y.minute) (so.done ++ x ∷ [])) travel) g.unit = subst (λ (legs : Travel). HasTravelled start (carried_by k (so.done ++ x ∷ []) w).book legs g.unit) (sym (travel-snoc so.done x travel))
+          (subst (λ (q : Carried). HasTravelled start q.book (travelled m.travelled (all_travelled (map (λ (y : Done). y.minute) so.done) travel)) g.unit) carried behind.1) in
+          ((booked, far), all.1);
     }
 
   pub booked-on : (round : Option Round) → IsMinute p km at false u v A B C D round → (TellsPresent km p → BooksMinute p km false round u v e g) → Booked ds (i + 1) at t v d g
@@ -237,6 +241,8 @@ module _ (ds : List Minute) (i : ℕ) (low : i < length ds) (at : Moment) (t u v
   cut-booked round h books = (
     Short so.done m round,
     ((drop (i + 1) ds, whole ds i low ∙ ap (λ (zs : List Minute). zs ++ m ∷ drop (i + 1) ds) so.are), so.rounds, last-here round (minute-here true round h)),
-    λ f w start travel may gone stored time. books-here true round books f (carried_by k so.done w) start (all_travelled (map (λ (x : Done). x.minute) so.done) travel) m.travelled
-        (may-here f w start travel may gone stored time) (was f w start travel may gone stored time).1 (odometer-here f w start travel may gone stored time) time,
+    λ f w start travel may gone stored time.
+        let all = books-here true round books f (carried_by k so.done w) start (all_travelled (map (λ (x : Done). x.minute) so.done) travel) m.travelled
+        (may-here f w start travel may gone stored time) (was f w start travel may gone stored time).0.1 (odometer-here f w start travel may gone stored time) time in
+        (all.0, timed-then f d e g (was f w start travel may gone stored time).1 all.1),
   )

@@ -34,7 +34,7 @@ use Rattle.run_told.proofs.Travelled.{travelled-noted}
 use Rattle.run_keeping.specs.declared.keeper.Keeper.{Keeper}
 use Rattle.run_keeping.specs.Keeping.{Fate, Still, TellsPresent, entry_in, kept_in, cabin_by, is_this}
 use Rattle.run_keeping.specs.Minutes.{Round, Told, unit_mark}
-use Rattle.run_keeping.specs.Books.{history_minute, standing_by, carried_after, MayCome, MayBook, HaveTime, IsBooked, BooksMinute}
+use Rattle.run_keeping.specs.Books.{history_minute, standing_by, carried_after, MayCome, MayBook, HaveTime, IsBooked, AreTimedOn, BooksMinute}
 use Rattle.run_keeping.specs.Owing.{owes_minute, but_to, carried_kept, carried_brought, HasTime, MayBring, IsBroughtOrCut, BooksBrought, BooksOwed}
 use Rattle.run_keeping.proofs.Counts.{apart-turned}
 use Rattle.run_keeping.proofs.Rounds.{told-of}
@@ -79,6 +79,14 @@ carried-still None m w = ap (λ (ms : List Mark). record w { marks = ms }) (appe
 carried-still (Some k) m w =
     ap (λ (s : Card → Standing). record w { marks = w.marks ++ []; standing = s }) (ext (carried_brought Still (Some k) m w).standing w.standing (λ c. same-both (is_this (Some k) c) (w.standing c)))
     ∙ ap (λ (ms : List Mark). record w { marks = ms }) (append-nil w.marks)
+
+-- the cards alone tell of their last use
+pub timed-at : (f : Found) (U V X Y : State) (e : Devices) → AreTimedOn f (devices V X Y) e → AreTimedOn f (devices U X Y) e
+timed-at f U V X Y e timed A = timed A
+timed-at f U V X Y e timed B = timed B
+
+pub timed-then : (f : Found) (d e g : Devices) → AreTimedOn f d e → AreTimedOn f e g → AreTimedOn f d g
+timed-then f d e g first next c valid = λ timed. next c valid (first c valid timed)
 
 -- the clock of a card that was not asked
 pub clock-rests : {C : Type 0} (state : C → State) (a b : C) → b ≡ a → (state b).clock ≡ (state a).clock
@@ -178,7 +186,7 @@ module _ (m : KeptMinute) (present : Present) (says : TellsPresent m present) (t
     has : IsLitOwing f (w1 w) (owes_minute i) (devices V X Y) × AllGo f (w1 w) (owes_minute i) k1.cabin.cards (devices V X Y) × HasTravelled start (kept i w.book) (travelled leg g) V
     has = owed f w start g leg (record { booked = may.booked; comes = may.comes }) gone odometer time
 
-    first : HasTime present.driver (devices V1 X1 Y1) → IsBroughtOrCut failed1 f (w2 w) (but_to present.driver (owes_minute i)) k2.cabin.cards (devices V1 X1 Y1)
+    first : HasTime present.driver (devices V1 X1 Y1) → IsBroughtOrCut failed1 f (w2 w) (but_to present.driver (owes_minute i)) k2.cabin.cards (devices V1 X1 Y1) × AreTimedOn f (devices V X Y) (devices V1 X1 Y1)
     first card = one f (w1 w) (owes_minute i) found1
         (may-bring f w i present.driver (kept_in m Driver) (w1 w) (owes_minute i) refl may.comes owes-driver (λ c is. says-some m present says two c (inl (this-driver c is))) (λ c is. refl)) has.0 has.1 card
 
@@ -189,13 +197,16 @@ module _ (m : KeptMinute) (present : Present) (says : TellsPresent m present) (t
       let low = time.unit in
       let later = run.later in
       let short : V.clock < last_count = omega (arith, low, later) in
-      let cut : IsPowerless f (w2 w) (devices V1 X1 Y1) = subst (λ (b : Bool). IsBroughtOrCut b f (w2 w) (but_to present.driver (owes_minute i)) k2.cabin.cards (devices V1 X1 Y1)) bad (first f w start g leg may gone odometer short card) in
+      let here = first f w start g leg may gone odometer short card in
+      let cut : IsPowerless f (w2 w) (devices V1 X1 Y1) = subst (λ (b : Bool). IsBroughtOrCut b f (w2 w) (but_to present.driver (owes_minute i)) k2.cabin.cards (devices V1 X1 Y1)) bad here.0 in
       let is : w2 w ≡ carried_after present i round w = sym (carried-still present.codriver i.minute (w2 w))
       ∙ ap (λ (x : Fate). carried_brought Still present.codriver i.minute (carried_brought x present.driver i.minute (w1 w))) (sym fate)
       ∙ ap (λ (n : ℕ). carried_brought Still present.codriver i.minute (carried_brought round.driver present.driver i.minute (carried_kept i n w))) (sym at)
       ∙ ap (λ (x : Fate). carried_brought x present.codriver i.minute (carried_brought round.driver present.driver i.minute (carried_kept i round.clock w))) (sym still)
-      ∙ carried-both present i round w two in
-      (subst (λ (v : Carried). IsPowerless f v (devices V1 X1 Y1)) is cut, travelled-noted start (kept i w.book) (travelled leg g) (has f w start g leg may gone odometer short).2 whole run)
+      ∙ carried-both present i round w two in (
+        (subst (λ (v : Carried). IsPowerless f v (devices V1 X1 Y1)) is cut, travelled-noted start (kept i w.book) (travelled leg g) (has f w start g leg may gone odometer short).2 whole run),
+        timed-at f U V X Y (devices V1 X1 Y1) here.1,
+      )
 
   module _ (well : failed1 ≡ false) (failed : Bool) (fd : Fate) (k3 : Keeper) (by2 : k3 ≡ record k2 { cabin = cabin_by fd present.codriver second k2.cabin }) (V2 X2 Y2 : State)
       (other : BooksBrought present.codriver (kept_in m CoDriver) failed fd k2.cabin.cards k3.cabin.cards (devices V1 X1 Y1) (devices V2 X2 Y2))
@@ -227,12 +238,14 @@ module _ (m : KeptMinute) (present : Present) (says : TellsPresent m present) (t
         omega (arith, low, here, there)
 
     behind : (f : Found) (w : Carried) (start : ℕ) (g : Travel) (leg : ℕ) → MayBook f w present m (told-of k ms bs) (devices U X Y) → HasTravelled start w.book g U → m.odometer.0 ≡ odometer_by (odometer_after start g.before) leg → HaveTime (devices V2 X2 Y2)
-        → IsBroughtOrCut failed f (w3 w) (but_to present.codriver (but_to present.driver (owes_minute i))) k3.cabin.cards (devices V2 X2 Y2)
+        → IsBroughtOrCut failed f (w3 w) (but_to present.codriver (but_to present.driver (owes_minute i))) k3.cabin.cards (devices V2 X2 Y2) × AreTimedOn f (devices U X Y) (devices V2 X2 Y2)
     behind f w start g leg may gone odometer time =
-        let lit = subst (λ (b : Bool). IsBroughtOrCut b f (w2 w) (but_to present.driver (owes_minute i)) k2.cabin.cards (devices V1 X1 Y1)) well (first f w start g leg may gone odometer (short time) (time-first time present.driver refl)) in
-        other f (w2 w) (but_to present.driver (owes_minute i)) (found2 f w start g leg may gone odometer (short time))
+        let here = first f w start g leg may gone odometer (short time) (time-first time present.driver refl) in
+        let lit = subst (λ (b : Bool). IsBroughtOrCut b f (w2 w) (but_to present.driver (owes_minute i)) k2.cabin.cards (devices V1 X1 Y1)) well here.0 in
+        let next = other f (w2 w) (but_to present.driver (owes_minute i)) (found2 f w start g leg may gone odometer (short time))
         (may-bring f w i present.codriver (kept_in m CoDriver) (w2 w) (but_to present.driver (owes_minute i)) refl may.comes owes-codriver (λ c is. says-some m present says two c (inr (this-codriver c is)))
-        (λ c is. ap (λ (a : Bool). if a then standing_by fe i.minute (w.standing c) else w.standing c) (not-driver c is))) lit.0 lit.1 (has-time present.codriver (devices V2 X2 Y2) time)
+        (λ c is. ap (λ (a : Bool). if a then standing_by fe i.minute (w.standing c) else w.standing c) (not-driver c is))) lit.0 lit.1 (has-time present.codriver (devices V2 X2 Y2) time) in
+        (next.0, timed-at f U V X Y (devices V2 X2 Y2) (timed-then f (devices V X Y) (devices V1 X1 Y1) (devices V2 X2 Y2) here.1 next.1))
 
     -- all that there is to it
     pub booked-whole : (ms3 : Listed Mark) (bs3 : Listed Break) (round : Round) → round.clock ≡ V.clock → round.driver ≡ fe → round.codriver ≡ fd → BooksMinute present m failed (Some round) (told-of k ms bs) (told-of k3 ms3 bs3) (devices U X Y) (devices V2 X2 Y2)
@@ -243,7 +256,8 @@ module _ (m : KeptMinute) (present : Present) (says : TellsPresent m present) (t
         ∙ carried-both present i round w two in
         let found3 = found-by f fd present.codriver second k2 k3 by2 (found2 f w start g leg may gone odometer (short time)) in
         let first_gone = travelled-noted start (kept i w.book) (travelled leg g) (has f w start g leg may gone odometer (short time)).2 whole1 run1 in
-        by f w start g leg found3 round is failed (behind f w start g leg may gone odometer time) (travelled-noted start (kept i w.book) (travelled leg g) first_gone whole2 run2)
+        let all = behind f w start g leg may gone odometer time in
+        (by f w start g leg found3 round is failed all.0 (travelled-noted start (kept i w.book) (travelled leg g) first_gone whole2 run2), all.1)
       where
         by : (f : Found) (w : Carried) (start : ℕ) (g : Travel) (leg : ℕ) → AreFoundCards f k3.cabin.cards → (round : Round) → w3 w ≡ carried_after present i round w → (b : Bool)
             → IsBroughtOrCut b f (w3 w) (but_to present.codriver (but_to present.driver (owes_minute i))) k3.cabin.cards (devices V2 X2 Y2) → HasTravelled start (kept i w.book) (travelled leg g) V2

@@ -26,7 +26,7 @@ use Rattle.run_strung.specs.Strung.{IsHeld}
 use Rattle.run_told.specs.Told.{GoesOwing, AreFoundCards, AllGo, owes_nothing, IsLitWith, IsLitOwing, IsPowerless}
 use Rattle.run_keeping.specs.Keeping.{Fate, is_this, marks_by}
 use Rattle.run_keeping.specs.Minutes.{Told, unit_mark}
-use Rattle.run_keeping.specs.Books.{MayBook, IsLeftOff, history_minute, standing_by}
+use Rattle.run_keeping.specs.Books.{MayBook, IsLeftOff, IsTimedOn, AreTimedOn, history_minute, standing_by}
 
 -- an entry more is put, for the card that was present
 abbrev pub and_put : Option Card → Entry → (Card → List Entry) → Card → List Entry
@@ -102,7 +102,7 @@ abbrev pub BooksCard : Card → Kept → Fate → (cards cards_after : Cards) �
 BooksCard c said fate cards cards_after unit card card_after = (f : Found) (w : Carried) → AreFoundCards f cards → is_some unit.image ≡ true → Holds f.unit w.due w.book w.marks unit → w.book.maybe ≡ None → card_after.clock < last_count
     → IsOwnValid (found_of f c).image → IsPresent (found_of f c).start (w.standing c) said.entry.minute
     → CardOwing f c w.book (w.standing c) (w.brought c) w.marks (said.entry ∷ []) (session_of cards c) unit card
-    → CardOwing f c w.book (standing_by fate said.entry.minute (w.standing c)) (w.brought c) (w.marks ++ marks_by fate (Some c) said.entry.minute) [] (session_of cards_after c) unit card_after
+    → CardOwing f c w.book (standing_by fate said.entry.minute (w.standing c)) (w.brought c) (w.marks ++ marks_by fate (Some c) said.entry.minute) [] (session_of cards_after c) unit card_after × IsTimedOn (found_of f c) card card_after
 
 -- the clock of the card that was present does not stand at its last value
 abbrev pub HasTime : Option Card → Devices → Type 0
@@ -112,4 +112,4 @@ HasTime (Some c) d = (card_of d c).clock < last_count
 -- AN ENTRY WAS TO BE BROUGHT to a card, of which this became (`bring`)
 abbrev pub BooksBrought : Option Card → Kept → (failed : Bool) → Fate → (cards cards_after : Cards) → (d e : Devices) → Type 0
 BooksBrought present said failed fate cards cards_after d e = (f : Found) (w : Carried) (owes : Card → List Entry) → AreFoundCards f cards → MayBring f present said w owes → IsLitOwing f w owes d → AllGo f w owes cards d → HasTime present e
-    → IsBroughtOrCut failed f (carried_brought fate present said.entry.minute w) (but_to present owes) cards_after e
+    → IsBroughtOrCut failed f (carried_brought fate present said.entry.minute w) (but_to present owes) cards_after e × AreTimedOn f d e

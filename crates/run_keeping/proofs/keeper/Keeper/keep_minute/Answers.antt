@@ -13,7 +13,7 @@ use Rattle.run_keeping.specs.Keeping.{TellsPresent, Still, IsBrought, AreEmptied
 use Rattle.run_keeping.specs.Minutes.{Round, IsMinute, unit_mark}
 use Rattle.run_keeping.specs.Books.{BooksMinute}
 use Rattle.run_keeping.specs.Owing.{BooksBrought}
-use Rattle.run_keeping.proofs.MinuteBooked.{clock-rests, booked-cut, booked-whole}
+use Rattle.run_keeping.proofs.MinuteBooked.{timed-at, clock-rests, booked-cut, booked-whole}
 use Rattle.run_keeping.proofs.Counts.{tears-one, lines-length, first-stays, second-stays}
 use Rattle.run_keeping.proofs.Rounds.{told-of, told-same, brought-minute, brought-past, brought-tears, brought-more, brought-tear-room, brought-marks, brought-mark-room, cut-is, cut-told, whole-driver, whole-codriver, whole-is, whole-told}
 use Rattle.run_keeping.proofs.Units.{unit-stays, left-then}
@@ -38,7 +38,7 @@ returns-in_err-commit-clause-kept g c =
     × (TellsPresent m p → BooksMinute p m f round (told-of k c.args.marks.now c.args.breaks.now) (told-of c.commit.new.self c.commit.new.marks c.args.breaks.now) (devices U X Y) (devices V X Y))) failed (
       None,
       (refl, told-same c.commit.new.self k c.commit.new.marks c.args.marks.now c.args.breaks.now c.args.breaks.now keeper same.1 refl),
-      λ says. λ f w start v leg may gone odometer time. c.in_err-commit.ensures.booked says f w start v leg (record { booked = may.booked; comes = may.comes }) gone odometer time.unit,
+      λ says. λ f w start v leg may gone odometer time. (c.in_err-commit.ensures.booked says f w start v leg (record { booked = may.booked; comes = may.comes }) gone odometer time.unit, timed-at f U V X Y (devices V X Y) (λ card valid timed. timed)),
     )
 
 pub returns-in_err-bring-clause-kept : goal.returns-in_err-bring-clause-kept
