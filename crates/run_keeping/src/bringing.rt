@@ -64,6 +64,7 @@ impl Keeper {
         ensures size { (C.state card.new).size ≡ (C.state card.old).size }
         ensures clock { (C.state card.old).clock ≤ (C.state card.new).clock }
         ensures card_keeps { HasLeftMore (C.state card.old) (C.state card.new) }
+        ensures more { (C.state card.old).breakdowns ≤ (C.state card.new).breakdowns }
         ensures bare { session_of self.old.cabin.cards which ≡ None → card.new ≡ card.old }
         ensures broken { HasBroken (C.state card.old) (C.state card.new) (tears_of (session_of self.old.cabin.cards which) - tears_of (session_of self.new.cabin.cards which)) }
         ensures stands { (from : ℕ) (leaving : Option Card) → from ≤ kept.now.entry.minute + 1 → Stands from leaving self.old.cabin → Stands (kept.now.entry.minute + 1) leaving self.new.cabin }
@@ -132,6 +133,8 @@ impl Keeper {
         ensures clock_b { (D.state card_b.old).clock ≤ (D.state card_b.new).clock }
         ensures a_keeps { HasLeftMore (C.state card_a.old) (C.state card_a.new) }
         ensures b_keeps { HasLeftMore (D.state card_b.old) (D.state card_b.new) }
+        ensures more_a { (C.state card_a.old).breakdowns ≤ (C.state card_a.new).breakdowns }
+        ensures more_b { (D.state card_b.old).breakdowns ≤ (D.state card_b.new).breakdowns }
         ensures a_bare { self.old.cabin.cards.a.accepted ≡ None → card_a.new ≡ card_a.old }
         ensures b_bare { self.old.cabin.cards.b.accepted ≡ None → card_b.new ≡ card_b.old }
         ensures rows { (card : Card) → HasItsRow self.old.cabin.cards (M.state unit.old) card → OnOk result (HasItsRow self.new.cabin.cards (M.state unit.new) card) }

@@ -193,6 +193,8 @@ impl Keeper {
         ensures unit_keeps { HasLeftMore (M.state unit.old) (M.state unit.new) }
         ensures a_keeps { HasLeftMore (C.state card_a.old) (C.state card_a.new) }
         ensures b_keeps { HasLeftMore (D.state card_b.old) (D.state card_b.new) }
+        ensures more_a { (C.state card_a.old).breakdowns ≤ (C.state card_a.new).breakdowns }
+        ensures more_b { (D.state card_b.old).breakdowns ≤ (D.state card_b.new).breakdowns }
         ensures a_bare { self.old.cabin.cards.a.accepted ≡ None → card_a.new ≡ card_a.old }
         ensures b_bare { self.old.cabin.cards.b.accepted ≡ None → card_b.new ≡ card_b.old }
         ensures marks { (marks.new.room ≡ marks.old.room) × (length marks.new.items ≤ length marks.old.items + 3) }

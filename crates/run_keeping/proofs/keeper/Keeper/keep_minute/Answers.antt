@@ -281,6 +281,14 @@ pub returns-clause-b_keeps : goal.returns-clause-b_keeps
 returns-clause-b_keeps g c =
     left-then (g.D.Chip.state c.args.card_b.now) (g.D.Chip.state c.bring.new.card_b) (g.D.Chip.state c.bring-2.new.card_b) c.bring.ensures.b_keeps c.bring.ensures.clock_b c.bring-2.ensures.b_keeps
 
+-- ---- it broke down no less often
+
+pub returns-clause-more_a : goal.returns-clause-more_a
+returns-clause-more_a g c = let one = c.bring.ensures.more_a in let two = c.bring-2.ensures.more_a in omega (arith, one, two)
+
+pub returns-clause-more_b : goal.returns-clause-more_b
+returns-clause-more_b g c = let one = c.bring.ensures.more_b in let two = c.bring-2.ensures.more_b in omega (arith, one, two)
+
 -- ---- a card without a session is as it was
 
 pub returns-in_err-bring-clause-a_bare : goal.returns-in_err-bring-clause-a_bare
