@@ -1,5 +1,5 @@
 //! The entry of a minute is brought onto the card that was present in a slot.
-ghost use Rattle.std.specs.Prelude.{◌≡◌, ◌≢◌, ℕ, ◌+◌, ◌-◌, ◌/◌, ◌<◌, ◌≤◌, ◌^◌, false, Option, Some, IfSome, OnOk, length, is_err};
+ghost use Rattle.std.specs.Prelude.{◌≡◌, ◌≢◌, ℕ, ◌+◌, ◌-◌, ◌/◌, ◌<◌, ◌≤◌, ◌^◌, false, Option, Some, IfSome, OnOk, length, is_some, is_err};
 ghost use Rattle.trace_model.specs.declared.Card.{Card};
 ghost use Rattle.trace_model.specs.declared.Card.TheVariants.{A, B};
 ghost use Rattle.tach_media.specs.Medium.{LeavesOnly, HasCause, HasBroken};
@@ -64,6 +64,7 @@ impl Keeper {
         ensures size { (C.state card.new).size ≡ (C.state card.old).size }
         ensures clock { (C.state card.old).clock ≤ (C.state card.new).clock }
         ensures card_keeps { HasLeftMore (C.state card.old) (C.state card.new) }
+        ensures tells { is_some (C.state card.new).image ≡ is_some (C.state card.old).image }
         ensures more { (C.state card.old).breakdowns ≤ (C.state card.new).breakdowns }
         ensures bare { session_of self.old.cabin.cards which ≡ None → card.new ≡ card.old }
         ensures broken { HasBroken (C.state card.old) (C.state card.new) (tears_of (session_of self.old.cabin.cards which) - tears_of (session_of self.new.cabin.cards which)) }
@@ -133,6 +134,8 @@ impl Keeper {
         ensures clock_b { (D.state card_b.old).clock ≤ (D.state card_b.new).clock }
         ensures a_keeps { HasLeftMore (C.state card_a.old) (C.state card_a.new) }
         ensures b_keeps { HasLeftMore (D.state card_b.old) (D.state card_b.new) }
+        ensures tells_a { is_some (C.state card_a.new).image ≡ is_some (C.state card_a.old).image }
+        ensures tells_b { is_some (D.state card_b.new).image ≡ is_some (D.state card_b.old).image }
         ensures more_a { (C.state card_a.old).breakdowns ≤ (C.state card_a.new).breakdowns }
         ensures more_b { (D.state card_b.old).breakdowns ≤ (D.state card_b.new).breakdowns }
         ensures a_bare { self.old.cabin.cards.a.accepted ≡ None → card_a.new ≡ card_a.old }

@@ -103,6 +103,8 @@ impl Keeper {
         ensures unit_keeps { HasLeftMore (M.state unit.old) (M.state unit.new) }
         ensures a_keeps { HasLeftMore (C.state card_a.old) (C.state card_a.new) }
         ensures b_keeps { HasLeftMore (D.state card_b.old) (D.state card_b.new) }
+        ensures tells_a { is_some (C.state card_a.new).image ≡ is_some (C.state card_a.old).image }
+        ensures tells_b { is_some (D.state card_b.new).image ≡ is_some (D.state card_b.old).image }
         ensures more_a { (C.state card_a.old).breakdowns ≤ (C.state card_a.new).breakdowns }
         ensures more_b { (D.state card_b.old).breakdowns ≤ (D.state card_b.new).breakdowns }
         ensures a_bare { self.old.cabin.cards.a.accepted ≡ None → card_a.new ≡ card_a.old }

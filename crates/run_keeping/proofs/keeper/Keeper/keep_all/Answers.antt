@@ -109,6 +109,8 @@ loop-minute-init g c = record {
   unit_keeps = λ t x le left. left;
   a_keeps = λ t x le left. left;
   b_keeps = λ t x le left. left;
+  tells_a = refl;
+  tells_b = refl;
   more_a = omega arith;
   more_b = omega arith;
   a_bare = λ none. refl;
@@ -175,6 +177,8 @@ loop-minute-preserved g c =
       unit_keeps = left-then (g.M.Medium.state c.args.unit.now) (g.M.Medium.state c.loop-minute.unit) (g.M.Medium.state c.keep_minute.new.unit) v.unit_keeps v.clock e.unit_keeps;
       a_keeps = left-then (g.C.Chip.state c.args.card_a.now) (g.C.Chip.state c.loop-minute.card_a) (g.C.Chip.state c.keep_minute.new.card_a) v.a_keeps v.clock_a e.a_keeps;
       b_keeps = left-then (g.D.Chip.state c.args.card_b.now) (g.D.Chip.state c.loop-minute.card_b) (g.D.Chip.state c.keep_minute.new.card_b) v.b_keeps v.clock_b e.b_keeps;
+      tells_a = e.tells_a ∙ v.tells_a;
+      tells_b = e.tells_b ∙ v.tells_b;
       more_a = let k = e.more_a in let was = v.more_a in omega (arith, k, was);
       more_b = let k = e.more_b in let was = v.more_b in omega (arith, k, was);
       a_bare = λ none. e.a_bare (stays-none c.args.self.now.cabin.cards.a.accepted c.loop-minute.self.cabin.cards.a.accepted v.sessions.a none) ∙ v.a_bare none;
@@ -339,6 +343,12 @@ returns-in_err-keep_minute-clause-a_keeps g c =
 pub returns-in_err-keep_minute-clause-b_keeps : goal.returns-in_err-keep_minute-clause-b_keeps
 returns-in_err-keep_minute-clause-b_keeps g c =
     left-then (g.D.Chip.state c.args.card_b.now) (g.D.Chip.state c.loop-minute.card_b) (g.D.Chip.state c.keep_minute.new.card_b) c.loop-minute.invariant.b_keeps c.loop-minute.invariant.clock_b c.in_err-keep_minute.ensures.b_keeps
+
+pub returns-in_err-keep_minute-clause-tells_a : goal.returns-in_err-keep_minute-clause-tells_a
+returns-in_err-keep_minute-clause-tells_a g c = c.in_err-keep_minute.ensures.tells_a ∙ c.loop-minute.invariant.tells_a
+
+pub returns-in_err-keep_minute-clause-tells_b : goal.returns-in_err-keep_minute-clause-tells_b
+returns-in_err-keep_minute-clause-tells_b g c = c.in_err-keep_minute.ensures.tells_b ∙ c.loop-minute.invariant.tells_b
 
 pub returns-in_err-keep_minute-clause-more_a : goal.returns-in_err-keep_minute-clause-more_a
 returns-in_err-keep_minute-clause-more_a g c = let k = c.in_err-keep_minute.ensures.more_a in let was = c.loop-minute.invariant.more_a in omega (arith, k, was)

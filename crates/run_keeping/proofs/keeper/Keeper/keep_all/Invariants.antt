@@ -42,6 +42,8 @@ invariant-loop-minute g l = record {
   unit_keeps : HasLeftMore (g.M.Medium.state l.fn.unit) (g.M.Medium.state l.unit);
   a_keeps : HasLeftMore (g.C.Chip.state l.fn.card_a) (g.C.Chip.state l.card_a);
   b_keeps : HasLeftMore (g.D.Chip.state l.fn.card_b) (g.D.Chip.state l.card_b);
+  tells_a : is_some (g.C.Chip.state l.card_a).image ≡ is_some (g.C.Chip.state l.fn.card_a).image;
+  tells_b : is_some (g.D.Chip.state l.card_b).image ≡ is_some (g.D.Chip.state l.fn.card_b).image;
   more_a : (g.C.Chip.state l.fn.card_a).breakdowns ≤ (g.C.Chip.state l.card_a).breakdowns;
   more_b : (g.D.Chip.state l.fn.card_b).breakdowns ≤ (g.D.Chip.state l.card_b).breakdowns;
   a_bare : l.fn.self.cabin.cards.a.accepted ≡ None → l.card_a ≡ l.fn.card_a;

@@ -281,7 +281,13 @@ pub returns-clause-b_keeps : goal.returns-clause-b_keeps
 returns-clause-b_keeps g c =
     left-then (g.D.Chip.state c.args.card_b.now) (g.D.Chip.state c.bring.new.card_b) (g.D.Chip.state c.bring-2.new.card_b) c.bring.ensures.b_keeps c.bring.ensures.clock_b c.bring-2.ensures.b_keeps
 
--- ---- it broke down no less often
+-- ---- a card tells its images still, and broke down no less often
+
+pub returns-clause-tells_a : goal.returns-clause-tells_a
+returns-clause-tells_a g c = c.bring-2.ensures.tells_a ∙ c.bring.ensures.tells_a
+
+pub returns-clause-tells_b : goal.returns-clause-tells_b
+returns-clause-tells_b g c = c.bring-2.ensures.tells_b ∙ c.bring.ensures.tells_b
 
 pub returns-clause-more_a : goal.returns-clause-more_a
 returns-clause-more_a g c = let one = c.bring.ensures.more_a in let two = c.bring-2.ensures.more_a in omega (arith, one, two)
