@@ -1,6 +1,7 @@
 -- What is carried of a card that enters: as it is revived, judged, turned away, torn out or taken in.
-use Rattle.std.proofs.Common.{◌≡◌, ◌⊎◌, ◌∙◌, inl, inr, ⊎_elim, ℕ, ◌/◌, ◌^◌, ◌<◌, ◌≤◌, Bool, true, false, Option, Some, None, IfSome, List, [], ◌∷◌, length, refl, ap, sym, subst, arith}
-use Rattle.std.specs.Prelude.{Result, Ok, Err, IsOk}
+use Rattle.std.proofs.Common.{max, ◌+◌, ◌++◌, append-nil, ◌≡◌, ◌⊎◌, ◌∙◌, inl, inr, ⊎_elim, ℕ, ◌/◌, ◌^◌, ◌<◌, ◌≤◌, Bool, true, false, Option, Some, None, IfSome, List, [], ◌∷◌, length, refl, ap, sym, subst, arith}
+use Rattle.std.specs.Prelude.{Result, Ok, Err, IsOk, IfOk}
+use Rattle.activity_codec.specs.declared.entries.Entry.{Entry}
 use Rattle.trace_model.specs.declared.Card.{Card}
 use Rattle.trace_model.specs.declared.Card.TheVariants.{A, B}
 use Rattle.tach_media.specs.Medium.{State, IsCoherent, LeavesOnly, Unchanged, HasCause, last_count}
@@ -10,24 +11,37 @@ use Rattle.card_layout.specs.declared.files.Application.{Application}
 use Rattle.card_layout.specs.declared.files.Fid.{Fid}
 use Rattle.card_layout.specs.Application.{IsApplication}
 use Rattle.card_layout.specs.Files.{image_size_of}
-use Rattle.card_session.specs.Inserting.{IsCardInserting}
+use Rattle.card_session.specs.Inserting.{IsCardInserting, IsCardInserted}
 use Rattle.card_times.proofs.Calls.{inserting-timed}
-use Rattle.card_image.specs.Own.{own_sizes, IsOwnValid}
-use Rattle.joint_rule.specs.Views.{other}
-use Rattle.joint_rule.specs.Rules.{Out}
+use Rattle.card_image.specs.Fields.{session_time}
+use Rattle.card_image.specs.Judging.{IsValid}
+use Rattle.card_image.specs.View.{CardView, card_view}
+use Rattle.card_image.specs.Own.{own_sizes, own_view, IsOwnValid}
+use Rattle.card_session.specs.Sessions.{IsSession, newest_in, book_of}
+use Rattle.card_session.proofs.Renewing.{closed_answered}
+use Rattle.history_model.specs.Minutes.{HistoryMinute, card_history, up_to}
+use Rattle.history_model.specs.Presence.{trimmed_by}
+use Rattle.history_model.specs.Book.{all, Ordered}
+use Rattle.history_model.proofs.Books.{all-none, up_to-whole, mark-earlier}
+use Rattle.joint_rule.specs.Views.{UnitView, unit_view, row, other, owed, owed_in, newest_with}
+use Rattle.joint_rule.specs.Marked.{of_card}
+use Rattle.joint_rule.proofs.Owing.{owed-new}
+use Rattle.joint_rule.specs.Filling.{FillsDays}
+use Rattle.device_steps.proofs.OnCard.{own-is, session-is}
+use Rattle.joint_rule.specs.Rules.{Out, Meets, Shows, IsEntered}
 use Rattle.unit_notes.specs.Journal.{LeavesJournal}
 use Rattle.device_steps.specs.declared.entering.Entered.{Entered}
 use Rattle.device_steps.specs.declared.entering.NotEntered.{NotEntered}
-use Rattle.device_steps.specs.Entering.{owed_on, IsEntering}
+use Rattle.device_steps.specs.Entering.{owed_on, IsAccepted, IsEntering}
 use Rattle.run_crew.specs.declared.cards.Accepted.{Accepted}
 use Rattle.run_crew.specs.declared.cards.Cards.{Cards}
 use Rattle.run_crew.specs.Cards.{session_of, with_session, with_sizes}
 use Rattle.run_crew.specs.Cabin.{with_sizes_of}
-use Rattle.run_rule.specs.Found.{Found, found_of}
-use Rattle.run_rule.specs.Cards.{IsUntouched}
+use Rattle.run_rule.specs.Found.{Found, found_of, unit_seen, AnyKept}
+use Rattle.run_rule.specs.Cards.{IsUntouched, brought_by}
 use Rattle.run_rule.specs.Between.{Carried}
 use Rattle.run_told.specs.Told.{AreFoundCards, IsPowered, IsPowerless, arranged, with_standing, card_marks, with_marks}
-use Rattle.run_told.proofs.Parts.{told-one, CardLit, AreParts, parts-of, powered-of}
+use Rattle.run_told.proofs.Parts.{told-one, UnitLit, CardLit, AreParts, parts-of, powered-of}
 use Rattle.run_told.proofs.Known.{session-sized, found-sizes, found-session}
 use Rattle.run_told.proofs.Begun.{out-powered}
 use Rattle.run_told.proofs.Woken.{read-powered, untouched-read, untouched-entered, MayHaveWritten as MayWrite}
@@ -75,11 +89,11 @@ judged-as false entered clock None e w = refl
 judged-as true entered clock (Some entry) e w = refl
 judged-as false entered clock (Some entry) e w = refl
 
-told-as : (fell : Bool) (entered : Entered) (clock : ℕ) (entry : Option ℕ) (f : Found) (e : Entering) (U X : State) → IsToldSo f e entered U X → IsToldOf (taken_as fell entered clock entry) f e U X
-told-as true entered clock None f e U X told = told
-told-as false entered clock None f e U X told = told
-told-as true entered clock (Some entry) f e U X told = told
-told-as false entered clock (Some entry) f e U X told = told
+told-as : (fell : Bool) (entered : Entered) (clock : ℕ) (entry : Option ℕ) (f : Found) (w : Carried) (e : Entering) (U X : State) → IsToldSo f w e entered U X → IsToldOf (taken_as fell entered clock entry) f w e U X
+told-as true entered clock None f w e U X told = told
+told-as false entered clock None f w e U X told = told
+told-as true entered clock (Some entry) f w e U X told = told
+told-as false entered clock (Some entry) f w e U X told = told
 
 written-as : (fell : Bool) (entered : Entered) (clock : ℕ) (entry : Option ℕ) → MayHaveWritten (taken_as fell entered clock entry)
 written-as true entered clock None = tt
@@ -156,23 +170,108 @@ module _ (app : Application) (e : Entering) (k : Keeper) (U V X M Z : State) (un
         is-ok : answer ≡ Ok entered → IsOk answer
         is-ok is = subst (λ (r : Result Entered NotEntered). IsOk r) (sym is) refl
 
-    told-so : length entered.owed.items ≤ most_owed → IsToldSo f e entered U X
-    told-so most = record {
-      most = most;
-      valid = valid;
-      found = accepted-found-by f w k.cabin.cards e.which U V X M Z m.found unit_whole unit_after whole after registration long odometer e.at.second few answer out bare m.powered m.late app own size enters valid entered ok;
-      whole = accepted-whole-by f w k.cabin.cards e.which U V X M Z m.found unit_whole unit_after whole after registration long odometer e.at.second few answer out bare m.powered m.late app own size enters valid entered ok;
-    }
+    -- the newest minute that it answered: nothing is owed to it any more
+    module _ (works : V.works ≡ true) (low : M.clock < last_count) where
+      put-lit : CardLit f w.book (w.standing e.which) (w.brought e.which) (session_of k.cabin.cards e.which) e.which V M
+      put-lit = (parts-of f w k.cabin.cards e.which V M Z (judged-powered works)).mine valid
 
-    pub taken-known : (fell : Bool) (entry : Option ℕ) (failed : Bool) (v : Keeper) (W Y : State) → V.works ≡ true → M.clock < last_count → length entered.owed.items ≤ most_owed → BooksTaken entered (taken_as fell entered M.clock entry) e failed k v V W M Y Z
+      put-entered : IsEntered (found_of f e.which).start (found_of f e.which).began e.at.second entered.session.minute (of_card M)
+      put-entered = (may-seat works low).put.entered
+
+      unit-lit : UnitLit f w V
+      unit-lit = (parts-of f w k.cabin.cards e.which V M Z (judged-powered works)).unit
+
+      on-unit : (u : List ℕ) × (V.image ≡ Some u)
+      on-unit = told-one V.image unit-lit.tells
+
+      on-card : (x : List ℕ) × (M.image ≡ Some x)
+      on-card = told-one M.image put-lit.held.tells
+
+      abbrev u : UnitView
+      u = unit_view f.card_a.number f.card_b.number on-unit.0
+
+      abbrev x : CardView
+      x = own_view on-card.0
+
+      u-there : (unit_seen f V).may_leave u
+      u-there = (on-unit.0, unit_after.is_left on-unit.0 on-unit.1, refl)
+
+      x-there : (of_card M).may_leave x
+      x-there = (on-card.0, after.is_left on-card.0 on-card.1, refl)
+
+      meets : Meets e.which (found_of f e.which).start AnyKept (all w.book) (w.standing e.which) u x
+      meets = put-lit.rule.dark.meets u x u-there x-there
+
+      shows : Shows (FillsDays f.unit.days) f.unit.first w.book u
+      shows = (unit-lit.unit.unit_holds f.card_a.number f.card_b.number).now u u-there
+
+      order : Ordered f.unit.first w.due w.book
+      order = (unit-lit.unit.unit_holds f.card_a.number f.card_b.number).order
+
+      none-owed : owed e.which u x ≡ []
+      none-owed =
+          let last : u.last < w.due = mark-earlier f.unit.first w.due w.book u.last order shows.mark in
+          let late = m.late in
+          ap (λ (n : ℕ). owed_in (row e.which u) u.last n x.mark) (put-entered.session x x-there) ∙ owed-new (row e.which u) u.last e.at.second x.mark (omega (arith, last, late))
+
+      all-had : meets.more ≡ brought_by e.which (found_of f e.which).start w.book
+      all-had =
+          sym (append-nil meets.more) ∙ ap (λ (es : List Entry). meets.more ++ es) (sym none-owed) ∙ meets.whole
+          ∙ ap (λ (is : List HistoryMinute). (found_of f e.which).start.owed ++ card_history e.which is) (ap (up_to u.last) (all-none w.book unit-lit.none) ∙ up_to-whole u.last w.book.sure shows.sure ∙ sym (all-none w.book unit-lit.none))
+
+      newest-is : x.newest ≡ trimmed_by (found_of f e.which).start ((found_of f e.which).start.entries ++ brought_by e.which (found_of f e.which).start w.book)
+      newest-is =
+          sym (ap (newest_with x) none-owed) ∙ meets.newest
+          ∙ ap (λ (es : List Entry). trimmed_by (found_of f e.which).start ((found_of f e.which).start.entries ++ es)) (ap (λ (es : List Entry). meets.more ++ es) none-owed ∙ append-nil meets.more ∙ all-had)
+
+      -- of a card without a session
+      module _ (z : List ℕ) (is : X.image ≡ Some z) where
+        took : IsAccepted app registration odometer e.at.second U.image X.image M.image entered.look entered.owed.items entered.session entered.replayed
+        took = subst (λ (r : Result Entered NotEntered). IfOk r (λ e_. IsAccepted app registration odometer e.at.second U.image X.image M.image e_.look e_.owed.items e_.session e_.replayed)) ok enters.accepted
+
+        z-own : own_sizes z ≡ app
+        z-own = at_image (λ (l : List ℕ). own_sizes l ≡ app) is told
+
+        words : (own_view z).session ≡ 0 → (own_view z).word ≤ entered.session.minute
+        words shut =
+            let sound = subst IsApplication (sym (own valid)) (m.found.sizes e.which valid) in
+            let fits : image_size_of app ≤ length z = omega (arith, size, whole.sized z is) in
+            let was = (at_image (λ (l : List ℕ). IsValid app l × ((card_view app l).stored ≤ e.at.second)) is took.valid).0 in
+            let none : session_time app z ≡ 0 = sym (session-is app z) ∙ ap (λ (v : CardView). v.session) (sym (own-is app z z-own)) ∙ shut in
+            let done = at_image (IsCardInserted app registration odometer entered.owed.items e.at.second z) on-card.1 (at_image (λ (l : List ℕ). IfSome M.image (IsCardInserted app registration odometer entered.owed.items e.at.second l)) is took.inserted) in
+            let knows = at_image (IsSession entered.session) on-card.1 (at_image (λ (l : List ℕ). IfSome M.image (IsSession entered.session)) is took.knows) in
+            let word : (own_view z).word ≡ (card_view app z).word = ap (λ (v : CardView). v.word) (own-is app z z-own) in
+            let minute : entered.session.minute ≡ max (card_view app z).word (card_view app z).newest = ⊎_elim
+            (λ closed. knows.minute ∙ ap (λ (p : Application). newest_in (book_of p on-card.0)) took.sizes ∙ closed_answered app sound z fits registration long e.at.second was none on-card.0 closed.1)
+            (λ open_. absurd (open_.0 none)) done in
+            omega (arith, word, minute)
+
+    told-so : X.works ≡ true → V.works ≡ true → M.clock < last_count → length entered.owed.items ≤ most_owed → IsToldSo f w e entered U X
+    told-so X_works works low most =
+        let r = accepted-found-by f w k.cabin.cards e.which U V X M Z m.found unit_whole unit_after whole after registration long odometer e.at.second few answer out bare m.powered m.late app own size enters valid entered ok in
+        let bounds = (put-entered works low).answered (x works low) (x-there works low) in
+        let same = newest-is works low in
+        record {
+          valid = valid;
+          found = record { unit_image = r.unit_image; card_image = r.card_image; on = r.on; there = r.there; valid = r.valid; early = r.early; number = r.number };
+          whole = accepted-whole-by f w k.cabin.cards e.which U V X M Z m.found unit_whole unit_after whole after registration long odometer e.at.second few answer out bare m.powered m.late app own size enters valid entered ok;
+          most = most;
+          answers = record {
+            least = let low_ = bounds.0 in omega (arith, low_, same);
+            most = let high = bounds.1 in omega (arith, high, same);
+            words = words works low r.card_image (whole.only r.card_image X_works r.there);
+          };
+        }
+
+    pub taken-known : (fell : Bool) (entry : Option ℕ) (failed : Bool) (v : Keeper) (W Y : State) → X.works ≡ true → V.works ≡ true → M.clock < last_count → length entered.owed.items ≤ most_owed → BooksTaken entered (taken_as fell entered M.clock entry) e failed k v V W M Y Z
         → IsEnteredOn (taken_as fell entered M.clock entry) e failed k v U W X Y Z f w
-    taken-known fell entry failed v W Y works low most books =
+    taken-known fell entry failed v W Y X_works works low most books =
         let behind = books f (with_marks (card_marks e.which M.clock entered.owed.items) w) (may-seat works low) in
         record {
           taken = subst (λ (x : Carried). IsTakenOn (taken_as fell entered M.clock entry) failed e k.journal.kept f x v.cabin.cards (arranged e.which W Y Z)) (sym (judged-as fell entered M.clock entry e w)) behind.0;
           found = behind.1;
           timed = λ valid timed. behind.2 (put-timed valid timed);
-          told = told-as fell entered M.clock entry f e U X (told-so most);
+          told = told-as fell entered M.clock entry f w e U X (told-so X_works works low most);
           untouched = λ same. inr (valid, written-as fell entered M.clock entry);
         }
 
@@ -205,8 +304,8 @@ module _ (e : Entering) (k : Keeper) (sizes : Result Application ℕ) (U X M Z :
   pub woken-timed : (f : Found) (w : Carried) → MayEnter f w k.cabin.cards e U X Z → TimesOn f e.which X M
   woken-timed f w m timed c left = ⊎_elim (λ was. timed c was) (λ never. absurd never.2) (run.since (found_of f e.which).began c m.began left)
 
-  told-before : (f : Found) (entered : Entered) → IsToldSo f e entered U M → IsToldSo f e entered U X
-  told-before f entered t = record {
+  told-before : (f : Found) (w : Carried) (entered : Entered) → IsToldSo f w e entered U M → IsToldSo f w e entered U X
+  told-before f w entered t = record {
     valid = t.valid;
     found = record {
       unit_image = t.found.unit_image;
@@ -219,18 +318,19 @@ module _ (e : Entering) (k : Keeper) (sizes : Result Application ℕ) (U X M Z :
     };
     whole = t.whole;
     most = t.most;
+    answers = record { least = t.answers.least; most = t.answers.most; words = t.answers.words };
   }
 
-  told-woken : (ending : Ending) (f : Found) → IsToldOf ending f e U M → IsToldOf ending f e U X
-  told-woken (Unfit fid place) f t = tt
-  told-woken (Ahead stored) f t = tt
-  told-woken Fell f t = tt
-  told-woken Unasked f t = tt
-  told-woken (Unnoted entered clock) f t = told-before f entered t
-  told-woken (Seated entered clock entry) f t = told-before f entered t
-  told-woken (Lost entered clock entry) f t = told-before f entered t
+  told-woken : (ending : Ending) (f : Found) (w : Carried) → IsToldOf ending f w e U M → IsToldOf ending f w e U X
+  told-woken (Unfit fid place) f w t = tt
+  told-woken (Ahead stored) f w t = tt
+  told-woken Fell f w t = tt
+  told-woken Unasked f w t = tt
+  told-woken (Unnoted entered clock) f w t = told-before f w entered t
+  told-woken (Seated entered clock entry) f w t = told-before f w entered t
+  told-woken (Lost entered clock entry) f w t = told-before f w entered t
 
   -- and what was known of it behind that is so behind all
   pub woken-known : (ending : Ending) (failed : Bool) (v : Keeper) (W Y : State) (f : Found) (w : Carried) → MayEnter f w k.cabin.cards e U X Z
       → IsEnteredOn ending e failed (record k { cabin = with_sizes_of e.which sizes k.cabin }) v U W M Y Z f (with_standing e.which Out w) → IsEnteredOn ending e failed k v U W X Y Z f (with_standing e.which Out w)
-  woken-known ending failed v W Y f w m r = record { taken = r.taken; found = r.found; told = told-woken ending f r.told; timed = λ valid timed. r.timed valid (woken-timed f w m timed); untouched = λ same. r.untouched (woken-untouched f w m same) }
+  woken-known ending failed v W Y f w m r = record { taken = r.taken; found = r.found; told = told-woken ending f (with_standing e.which Out w) r.told; timed = λ valid timed. r.timed valid (woken-timed f w m timed); untouched = λ same. r.untouched (woken-untouched f w m same) }

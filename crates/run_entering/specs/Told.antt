@@ -1,9 +1,11 @@
 -- What an acceptance leaves of what is carried, over devices that tell their images (profile).
-use Rattle.std.specs.Prelude.{◌≡◌, ◌⊎◌, ℕ, ◌/◌, ◌<◌, ◌≤◌, Bool, true, false, Option, Some, is_some, ◌∷◌, length, if◌then◌else◌}
+use Rattle.std.specs.Prelude.{List, ◌++◌, max, ◌≡◌, ◌⊎◌, ℕ, ◌/◌, ◌<◌, ◌≤◌, Bool, true, false, Option, Some, is_some, ◌∷◌, length, if◌then◌else◌}
 use Rattle.trace_model.specs.declared.Card.{Card}
 use Rattle.tach_media.specs.Medium.{State, last_count}
 use Rattle.tacho_types.specs.CardNumber.{card_number_bytes}
-use Rattle.card_image.specs.Own.{IsOwnValid}
+use Rattle.card_image.specs.Own.{own_view, IsOwnValid}
+use Rattle.history_model.specs.Book.{Book}
+use Rattle.history_model.specs.Presence.{trimmed_by}
 use Rattle.card_session.specs.Sessions.{Session, IsValue}
 use Rattle.card_times.specs.Times.{AreTimedSince}
 use Rattle.card_layout.specs.declared.files.Application.{Application}
@@ -13,8 +15,8 @@ use Rattle.run_crew.specs.Cards.{session_of}
 use Rattle.safety_model.specs.Safe.{Devices}
 use Rattle.card_judge.specs.declared.looking.CardLook.{CardLook}
 use Rattle.run_crew.specs.declared.cards.Cards.{Cards}
-use Rattle.run_rule.specs.Found.{Found, found_of}
-use Rattle.run_rule.specs.Cards.{IsUntouched}
+use Rattle.run_rule.specs.Found.{CardFound, Found, found_of}
+use Rattle.run_rule.specs.Cards.{IsUntouched, brought_by}
 use Rattle.run_rule.specs.Between.{Carried}
 use Rattle.run_told.specs.Told.{AreFoundCards, IsPutIn, IsPowered, IsPowerless, HasFoundSo, for_card, arranged, with_standing, with_acceptance, card_marks, with_marks}
 use Rattle.run_keeping.specs.declared.keeper.Keeper.{Keeper}
@@ -127,22 +129,30 @@ pub record MayEnter (f : Found) (w : Carried) (cards : Cards) (e : Entering) (un
   pub began : (found_of f e.which).began ≤ card.clock
   pub spared : IsUntouched (found_of f e.which) card ⊎ IsOwnValid (found_of f e.which).image
 
+-- THE NEWEST MINUTE that an accepted card answered, by the entries that it is to have by a book: not earlier than it is with these, and not later
+-- than that and its newest word at the start. A card without a session tells of no later word.
+pub record Answers (f : CardFound) (c : Card) (b : Book) (x : List ℕ) (minute : ℕ) : Type 0 where
+  pub least : trimmed_by f.start (f.start.entries ++ brought_by c f.start b) ≤ minute
+  pub most : minute ≤ max f.start.word (trimmed_by f.start (f.start.entries ++ brought_by c f.start b))
+  pub words : (own_view x).session ≡ 0 → (own_view x).word ≤ minute
+
 -- what the find of an acceptance tells: so many entries were owed by images that a stop might have left then, and all of them, which are few, are
--- on it; and the card was valid at the start
-pub record IsToldSo (f : Found) (e : Entering) (entered : Entered) (unit card : State) : Type 0 where
+-- on it; the card was valid at the start; and it answered its newest minute
+pub record IsToldSo (f : Found) (w : Carried) (e : Entering) (entered : Entered) (unit card : State) : Type 0 where
   pub valid : IsOwnValid (found_of f e.which).image
   pub found : HasFoundSo f e.which unit card e.at.second entered.replayed
   pub whole : entered.replayed ≡ length entered.owed.items
   pub most : length entered.owed.items ≤ most_owed
+  pub answers : Answers (found_of f e.which) e.which w.book found.card_image entered.session.minute
 
-abbrev pub IsToldOf : Ending → Found → Entering → (unit card : State) → Type 0
-IsToldOf (Unfit fid place) f e unit card = Unit {0}
-IsToldOf (Ahead stored) f e unit card = Unit {0}
-IsToldOf Fell f e unit card = Unit {0}
-IsToldOf Unasked f e unit card = Unit {0}
-IsToldOf (Unnoted entered clock) f e unit card = IsToldSo f e entered unit card
-IsToldOf (Seated entered clock entry) f e unit card = IsToldSo f e entered unit card
-IsToldOf (Lost entered clock entry) f e unit card = IsToldSo f e entered unit card
+abbrev pub IsToldOf : Ending → Found → Carried → Entering → (unit card : State) → Type 0
+IsToldOf (Unfit fid place) f w e unit card = Unit {0}
+IsToldOf (Ahead stored) f w e unit card = Unit {0}
+IsToldOf Fell f w e unit card = Unit {0}
+IsToldOf Unasked f w e unit card = Unit {0}
+IsToldOf (Unnoted entered clock) f w e unit card = IsToldSo f w e entered unit card
+IsToldOf (Seated entered clock entry) f w e unit card = IsToldSo f w e entered unit card
+IsToldOf (Lost entered clock entry) f w e unit card = IsToldSo f w e entered unit card
 
 -- a card that ended so may have been written
 abbrev pub MayHaveWritten : Ending → Type 0
@@ -159,7 +169,7 @@ MayHaveWritten (Lost entered clock entry) = Unit {0}
 pub record IsEnteredOn (ending : Ending) (e : Entering) (failed : Bool) (k v : Keeper) (unit unit_after card card_after others : State) (f : Found) (w : Carried) : Type 0 where
   pub taken : IsTakenOn ending failed e k.journal.kept f (carried_judged ending e w) v.cabin.cards (arranged e.which unit_after card_after others)
   pub found : AreFoundCards f v.cabin.cards
-  pub told : IsToldOf ending f e unit card
+  pub told : IsToldOf ending f w e unit card
   pub timed : IsOwnValid (found_of f e.which).image → TimesOn f e.which card card_after
   pub untouched : IsUntouched (found_of f e.which) card
       → IsUntouched (found_of f e.which) card_after ⊎ (IsOwnValid (found_of f e.which).image × MayHaveWritten ending)

@@ -69,7 +69,7 @@ returns-in-Ok-sizes-clause-entered g c =
     let j = subst (λ (b : Cabin). IsJudgedSo app e failed (record k { cabin = b }) c.accept_by.new.keeper c.args.noted.now c.accept_by.new.noted c.args.outcome.now c.accept_by.new.outcome U W M Y ended.0) kept ended.1 in (
       Judged app ended.0,
       entered-judged e k c.args.noted.now c.args.outcome.now U X M (g.met.C.Chip.coherent c.wake.new.card) c.wake.ensures.leaves c.wake.ensures.clock c.in-Ok.ensures.cause app failed c.accept_by.new.keeper
-          c.accept_by.new.noted c.accept_by.new.outcome W Y ended.0 j,
+          c.accept_by.new.noted c.accept_by.new.outcome W Y (subst (λ (r : Result Application ℕ). IsMeasured r (g.C.Chip.card c.wake.new.card) M) c.in-Ok-sizes.is c.in-Ok.ensures.measured).2 ended.0 j,
       λ f w m low. woken-known e k (Ok app) U X M Z (g.met.M.Medium.coherent c.args.unit.now) (g.met.C.Chip.coherent c.args.card.now) c.wake.ensures.leaves c.wake.ensures.clock c.requires.bare ended.0 failed c.accept_by.new.keeper W Y f w m ((subst (λ (b : Cabin). BooksJudged ended.0 e failed (record k { cabin = b }) c.accept_by.new.keeper U W M Y Z) kept ended.2) f (with_standing e.which Out w) (woken-may e k (Ok app) U X M Z (g.met.M.Medium.coherent c.args.unit.now) (g.met.C.Chip.coherent c.args.card.now) c.wake.ensures.leaves c.wake.ensures.clock c.requires.bare f w m) (out-now e.which w) low),
     )
 
