@@ -1,5 +1,5 @@
 -- What the recorder with cards carries BETWEEN TWO SECONDS (profile): by its values, its devices, and the seconds of the trace so far.
-use Rattle.std.specs.Prelude.{◌≡◌, ℕ, ◌-◌, ◌/◌, ◌≤◌, false, None, List, [], ◌∷◌}
+use Rattle.std.specs.Prelude.{◌≡◌, ℕ, ◌-◌, ◌/◌, ◌≤◌, true, false, None, IfSome, is_some, List, [], ◌∷◌}
 use Rattle.trace_model.specs.declared.Card.{Card}
 use Rattle.trace_model.specs.Trace.{TraceSecond}
 use Rattle.minute_model.specs.Span.{ungiven_of}
@@ -13,15 +13,19 @@ use Rattle.joint_rule.specs.Rules.{Standing}
 use Rattle.unit_course.specs.Followed.{Supply, Lit, Due, Lost}
 use Rattle.unit_course.specs.Legs.{Travel}
 use Rattle.unit_course.specs.Turn.{span_at}
+use Rattle.safety_model.specs.Recording.{Recording}
 use Rattle.safety_model.specs.Safe.{Devices, breakdowns_of}
+use Rattle.slot_machine.specs.Kept.{left_of}
 use Rattle.run_crew.specs.declared.cabin.Cabin.{Cabin}
+use Rattle.run_crew.specs.declared.cards.Cards.{Cards}
 use Rattle.run_crew.specs.Cards.{session_of}
 use Rattle.run_rule.specs.Between.{Carried}
 use Rattle.run_course.specs.Followed.{Progress}
 use Rattle.run_course.specs.Presence.{SlotsTell}
 use Rattle.run_told.specs.Told.{AreFoundCards, IsPowered, IsPowerless, AreEarly}
 use Rattle.run_recorded.specs.Origin.{Origin, rule_of, start_at, HasRecorded}
-use Rattle.run_recorded.specs.Ends.{IsBeside}
+use Rattle.run_recorded.specs.Beside.{AreFewFound}
+use Rattle.run_recorded.specs.Ends.{recording_by, MayBeWritten, IsBeside}
 use Rattle.run_present.specs.Presence.{PresentStand}
 
 -- what a run has by value, as far as its record speaks of it: the lines and marks of its outcome, slots and sessions, the first break of
@@ -47,6 +51,14 @@ carried v due book standing brought = record { due = due; book = book; marks = v
 abbrev pub slots_of : Values → List TraceSecond → Slots
 slots_of v done = (went v.log done).before.slots
 
+-- a card with a session left a slot last no later than in this minute
+abbrev pub AreBack : (low : ℕ) → Cabin → Type 0
+AreBack low cabin = (card : Card) → is_some (session_of cabin.cards card) ≡ true → IfSome (left_of cabin.slots.left card) (λ left. left ≤ low)
+
+-- a card with a session may be written: it was accepted
+abbrev pub AreWritten : Recording → Cards → Type 0
+AreWritten r cards = (card : Card) → is_some (session_of cards card) ≡ true → MayBeWritten r card
+
 -- WHILE THERE IS POWER, with these seconds of the span: unit and cards may be called and are as the book says, the minutes stand for the
 -- span, and who was present in the minutes that are still to be kept is told by the slots, and stands so.
 pub record IsOn (o : Origin) (done : List TraceSecond) (span : List Told) (v : Values) (w : Carried) (d : Devices) : Type 0 where
@@ -55,6 +67,8 @@ pub record IsOn (o : Origin) (done : List TraceSecond) (span : List Told) (v : V
   pub minutes : StandsFor v.minutes (span_at (rule_of o) v.next span)
   pub tells : SlotsTell (start_at o) (went v.log done).told w.book.sure [] (v.next - 1) (ungiven_of (span_at (rule_of o) v.next span)) (slots_of v done) v.cabin.slots
   pub present : PresentStand o.found w.standing (went v.log done).told (fresh false (slots_of v done)) (v.next - 1) (ungiven_of (span_at (rule_of o) v.next span)) v.cabin
+  pub back : AreBack (ungiven_of (span_at (rule_of o) v.next span)) v.cabin
+  pub written : AreWritten (recording_by o done v.log) v.cabin.cards
 
 -- WITHOUT POWER: no card is accepted, and no minute of before is to be kept any more.
 pub record IsOff (o : Origin) (done : List TraceSecond) (v : Values) (w : Carried) (d : Devices) : Type 0 where
@@ -80,6 +94,7 @@ pub record Recorded (o : Origin) (done : List TraceSecond) (supply : Supply) (v 
   pub brought : Card → List ℕ
   pub recorded : HasRecorded o done (progress v supply book) travel v.marks (breakdowns_of d) brought
   pub beside : IsBeside o done (progress v supply book) travel d
+  pub few : AreFewFound (recording_by o done v.log)
   pub found : AreFoundCards o.found v.cabin.cards
   pub early : AreEarly (carried v due book standing brought)
   pub held : IsHeldBy o done supply v (carried v due book standing brought) d

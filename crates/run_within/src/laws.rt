@@ -1,5 +1,5 @@
 ghost use Rattle.run_rule.specs.Between.{devices};
-ghost use Rattle.run_within.specs.Within.{ACutIsRecorded, TheSecondIsOver, ASecondBegins, AMinuteIsOver, ASecondIsFed, AMinuteIsKeptSo, ARefusalIsRecorded, ASelectionIsRecorded, APlaceIsRecorded, ACallIsRecorded, AFailureIsRecorded, AFailureBehindIsRecorded};
+ghost use Rattle.run_within.specs.Within.{ACutIsRecorded, TheSecondIsOver, ASecondBegins, AMinuteIsOver, ASecondIsFed, ARefusalIsRecorded, ASelectionIsRecorded, APlaceIsRecorded, ACallIsRecorded, AFailureIsRecorded};
 ghost use Rattle.run_within.specs.Judging.{ACardIsJudged, AJudgingFails, AWaitingCardIsTorn, ATearingFails};
 ghost use Rattle.run_within.specs.Powering.{PowerIsBack, AMendingFails, AReadingFails};
 ghost use Rattle.run_within.specs.Waking.{PowerWakes};
@@ -29,18 +29,6 @@ pub fn a_minute_is_over<M: Medium, C: Chip, D: Chip>(unit: &M, card_a: &C, card_
 /// A second is fed behind all of its actions.
 pub fn a_second_is_fed<M: Medium, C: Chip, D: Chip>(unit: &M, card_a: &C, card_b: &D)
     ensures { ASecondIsFed (devices (M.state unit.now) (C.state card_a.now) (D.state card_b.now)) }
-{}
-
-/// A minute is kept in the keeping of a second, and no card is torn out.
-pub fn a_minute_is_kept_so<M: Medium, C: Chip, D: Chip, N: Medium, E: Chip, F: Chip>(
-    old_unit: &M,
-    old_a: &C,
-    old_b: &D,
-    unit: &N,
-    card_a: &E,
-    card_b: &F,
-)
-    ensures { AMinuteIsKeptSo (devices (M.state old_unit.now) (C.state old_a.now) (D.state old_b.now)) (devices (N.state unit.now) (E.state card_a.now) (F.state card_b.now)) }
 {}
 
 /// An action is refused, and that is told.
@@ -75,18 +63,6 @@ pub fn a_failure_is_recorded<M: Medium, C: Chip, D: Chip, N: Medium, E: Chip, F:
     card_b: &F,
 )
     ensures { AFailureIsRecorded (devices (M.state old_unit.now) (C.state old_a.now) (D.state old_b.now)) (devices (N.state unit.now) (E.state card_a.now) (F.state card_b.now)) }
-{}
-
-/// It fails behind a minute that was kept.
-pub fn a_failure_behind_is_recorded<M: Medium, C: Chip, D: Chip, N: Medium, E: Chip, F: Chip>(
-    old_unit: &M,
-    old_a: &C,
-    old_b: &D,
-    unit: &N,
-    card_a: &E,
-    card_b: &F,
-)
-    ensures { AFailureBehindIsRecorded (devices (M.state old_unit.now) (C.state old_a.now) (D.state old_b.now)) (devices (N.state unit.now) (E.state card_a.now) (F.state card_b.now)) }
 {}
 
 /// A place is told of.
