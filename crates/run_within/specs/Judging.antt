@@ -17,6 +17,8 @@ use Rattle.joint_rule.specs.Rules.{Standing}
 use Rattle.unit_course.specs.Legs.{all_travelled}
 use Rattle.unit_model.specs.Image.{odometer_at}
 use Rattle.unit_rule.specs.Odometer.{HasTravelled}
+use Rattle.card_image.specs.Own.{IsOwnValid}
+use Rattle.safety_model.specs.Recording.{card_image}
 use Rattle.safety_model.specs.Safe.{Devices, card_of, breakdowns_of}
 use Rattle.slot_machine.specs.Kept.{IsFree, put_in, taken}
 use Rattle.run_crew.specs.declared.cabin.Cabin.{Cabin}
@@ -33,7 +35,7 @@ use Rattle.run_told.specs.Told.{AreFoundCards, IsPowered, IsPowerless}
 use Rattle.run_present.specs.Presence.{IsSeated}
 use Rattle.run_recorded.specs.Origin.{Origin, start_at, first_of}
 use Rattle.run_recorded.specs.Beside.{HaveLeftMore}
-use Rattle.run_within.specs.Recorded.{Values, carried}
+use Rattle.run_within.specs.Recorded.{Values, carried, AreThere}
 use Rattle.run_within.specs.Within.{course_in, VerdictBy, often, AreOld, Within, GoesOn, CutWithin}
 
 -- A CARD WAITS in a slot at a moment: it sits there and is not accepted, and has entered with this moment; all minutes before this second's are
@@ -89,6 +91,7 @@ pub record IsJudged (o : Origin) (done : List TraceSecond) (s : TraceSecond) (at
   pub early : (c : Card) (k : ℕ) → Contains (brought c) k → k < w.due
   pub breakdowns : IsMore (breakdowns_of d) (breakdowns_of e)
   pub left : HaveLeftMore o d e
+  pub there : AreThere o.found d → AreThere o.found e
   pub sessions : (x : Card) → is_some (session_of cabin.cards x) ≡ true → (is_some (session_of v.cabin.cards x) ≡ true) ⊎ IsAccepted card (is_accepting f.verdict) x
   pub untouched : (x : Card) → IsUntouched (found_of o.found x) (card_of d x) → IsUntouched (found_of o.found x) (card_of e x) ⊎ ((is_some (session_of v.cabin.cards x) ≡ true) ⊎ IsAccepted card (is_accepting f.verdict) x)
   pub travels : HasTravelled (odometer_at o.recording.unit) (kept_all w.new w.b.run.book) (all_travelled w.ds w.b.travel) e.unit
@@ -129,7 +132,8 @@ pub record IsTornNext (o : Origin) (done : List TraceSecond) (s : TraceSecond) (
   pub found : AreFoundCards o.found cabin.cards
   pub sessions : AreOld v.cabin.cards cabin.cards
   pub left : HaveLeftMore o d e
-  pub untouched : (x : Card) → IsUntouched (found_of o.found x) (card_of d x) → IsUntouched (found_of o.found x) (card_of e x) ⊎ (is_some (session_of v.cabin.cards x) ≡ true)
+  pub there : AreThere o.found d → AreThere o.found e
+  pub untouched : (x : Card) → IsUntouched (found_of o.found x) (card_of d x) → IsUntouched (found_of o.found x) (card_of e x) ⊎ ((is_some (session_of v.cabin.cards x) ≡ true) ⊎ ((x ≡ card) × IsOwnValid (card_image o.recording card)))
   pub travels : HasTravelled (odometer_at o.recording.unit) (kept_all w.new w.b.run.book) (all_travelled w.ds w.b.travel) e.unit
 
 pub record StandTorn (o : Origin) (done : List TraceSecond) (s : TraceSecond) (at : Phase) (waits : List Visit) (v : Values) (d e : Devices) (w : Within o done s at waits None [] v d) (card : Card) (b : Break) (cabin : Cabin) (standing : Card → Standing) : Type 0 where

@@ -23,7 +23,7 @@ use Rattle.run_told.specs.Told.{all_out, IsPowered, IsPowerless}
 use Rattle.run_recorded.specs.Origin.{Origin, rule_of, first_of}
 use Rattle.run_recorded.specs.Beside.{HaveLeftMore}
 use Rattle.run_recorded.specs.Seconds.{found_again}
-use Rattle.run_within.specs.Recorded.{Values, progress, carried, slots_of, Recorded}
+use Rattle.run_within.specs.Recorded.{Values, progress, carried, slots_of, AreThere, Recorded}
 use Rattle.run_within.specs.Within.{Beginning, GoesOn, CutWithin, cut_values}
 
 -- what a run has by value once its unit was read: of the cuts since it was read before it is known what was kept
@@ -39,6 +39,7 @@ begun_values k minutes v = record (read_values k v) { minutes = minutes }
 pub record GoOn (o : Origin) (d e : Devices) : Type 0 where
   pub breakdowns : IsMore (breakdowns_of d) (breakdowns_of e)
   pub left : HaveLeftMore o d e
+  pub there : AreThere o.found d → AreThere o.found e
   pub untouched : (c : Card) → IsUntouched (found_of o.found c) (card_of d c) → IsUntouched (found_of o.found c) (card_of e c)
 
 -- THE UNIT WAS READ AND MENDED: it showed this last-kept minute, and an odometer of this leg; no card is accepted.

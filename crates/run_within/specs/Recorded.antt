@@ -14,11 +14,12 @@ use Rattle.unit_course.specs.Followed.{Supply, Lit, Due, Lost}
 use Rattle.unit_course.specs.Legs.{Travel}
 use Rattle.unit_course.specs.Turn.{span_at}
 use Rattle.safety_model.specs.Recording.{Recording}
-use Rattle.safety_model.specs.Safe.{Devices, breakdowns_of}
+use Rattle.safety_model.specs.Safe.{Devices, card_of, breakdowns_of}
 use Rattle.slot_machine.specs.Kept.{left_of}
 use Rattle.run_crew.specs.declared.cabin.Cabin.{Cabin}
 use Rattle.run_crew.specs.declared.cards.Cards.{Cards}
 use Rattle.run_crew.specs.Cards.{session_of}
+use Rattle.run_rule.specs.Found.{Found, found_of}
 use Rattle.run_rule.specs.Between.{Carried}
 use Rattle.run_course.specs.Followed.{Progress}
 use Rattle.run_course.specs.Presence.{SlotsTell}
@@ -59,6 +60,12 @@ AreBack low cabin = (card : Card) → is_some (session_of cabin.cards card) ≡ 
 abbrev pub AreWritten : Recording → Cards → Type 0
 AreWritten r cards = (card : Card) → is_some (session_of cards card) ≡ true → MayBeWritten r card
 
+-- each device tells its image, and the clock of no card has gone back since the start
+pub record AreThere (f : Found) (d : Devices) : Type 0 where
+  pub unit : is_some d.unit.image ≡ true
+  pub cards : (card : Card) → is_some (card_of d card).image ≡ true
+  pub clocks : (card : Card) → (found_of f card).began ≤ (card_of d card).clock
+
 -- WHILE THERE IS POWER, with these seconds of the span: unit and cards may be called and are as the book says, the minutes stand for the
 -- span, and who was present in the minutes that are still to be kept is told by the slots, and stands so.
 pub record IsOn (o : Origin) (done : List TraceSecond) (span : List Told) (v : Values) (w : Carried) (d : Devices) : Type 0 where
@@ -94,6 +101,7 @@ pub record Recorded (o : Origin) (done : List TraceSecond) (supply : Supply) (v 
   pub brought : Card → List ℕ
   pub recorded : HasRecorded o done (progress v supply book) travel v.marks (breakdowns_of d) brought
   pub beside : IsBeside o done (progress v supply book) travel d
+  pub there : AreThere o.found d
   pub few : AreFewFound (recording_by o done v.log)
   pub found : AreFoundCards o.found v.cabin.cards
   pub early : AreEarly (carried v due book standing brought)

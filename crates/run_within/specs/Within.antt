@@ -48,7 +48,7 @@ use Rattle.run_course.specs.Presence.{SlotsTell}
 use Rattle.run_brought.specs.Going.{IsTakenAt}
 use Rattle.run_moments.specs.Reached.{course_at, moved_at}
 use Rattle.run_moments.specs.Lines.{times_of}
-use Rattle.run_moments.specs.Moment.{finds_by, Moment}
+use Rattle.run_moments.specs.Moment.{Moment}
 use Rattle.run_moments.specs.Telling.{IsMore, begun_by, IsLeft}
 use Rattle.run_moments.specs.Kept.{HasDecided, BrokenSince, AreMarkedSoFar}
 use Rattle.run_told.specs.Told.{AreFoundCards, IsPowered, IsPowerless, AreEarly}
@@ -63,7 +63,7 @@ use Rattle.run_crew.specs.declared.cabin.Cabin.{Cabin}
 use Rattle.run_crew.specs.declared.cards.Cards.{Cards}
 use Rattle.run_crew.specs.Cards.{session_of}
 use Rattle.run_crew.specs.Cabin.{SitsNowhere, Stands, with_minute_ended, with_power_lost}
-use Rattle.run_within.specs.Recorded.{Values, progress, carried, Recorded}
+use Rattle.run_within.specs.Recorded.{Values, progress, carried, AreThere, Recorded}
 
 -- as the second began, behind its power-on: how far the run had gone, the seconds of the span, what was travelled, the marks, how often each
 -- device had broken down, and what acceptances had brought
@@ -108,15 +108,15 @@ pub record IsFoundSo (o : Origin) (b : Beginning) (done : List TraceSecond) (c :
 abbrev pub overlaps_by : Origin → Card → List (Visit × Verdict) → List (Visit × Verdict)
 overlaps_by o card found = filter (λ f. same_card card f.0.card && is_overlap o.recording card f.1) found
 
--- A card may be written now: it was valid, and it entered in the seconds before, or was judged in this one, more often than it was found to tell
--- of a later time.
-abbrev pub MayBeWrittenSo : Origin → Beginning → List TraceSecond → Course → Card → Type 0
-MayBeWrittenSo o b done c card = IsOwnValid (card_image o.recording card)
-    × (overlaps (recording_by o done b.run.log) card + length (overlaps_by o card c.found) < entered (recording_by o done b.run.log) card + finds_by card c.found)
+-- A card may be written now: it was valid, and it entered more often than it was found to tell of a later time, where it does not wait still to
+-- be judged.
+abbrev pub MayBeWrittenSo : Origin → Beginning → List TraceSecond → Course → (waits : List Visit) → Card → Type 0
+MayBeWrittenSo o b done c waits card = IsOwnValid (card_image o.recording card)
+    × (overlaps (recording_by o done b.run.log) card + length (overlaps_by o card c.found) + times_of card waits < entered (recording_by o done b.run.log) card + times_of card c.entered)
 
 -- A card is as it was, or may be written.
-abbrev pub IsSparedSo : Origin → Beginning → List TraceSecond → Course → Devices → Card → Type 0
-IsSparedSo o b done c d card = IsUntouched (found_of o.found card) (card_of d card) ⊎ MayBeWrittenSo o b done c card
+abbrev pub IsSparedSo : Origin → Beginning → List TraceSecond → Course → (waits : List Visit) → Devices → Card → Type 0
+IsSparedSo o b done c waits d card = IsUntouched (found_of o.found card) (card_of d card) ⊎ MayBeWrittenSo o b done c waits card
 
 -- A CARD IS LEAVING a slot with this moment, and its session is not closed yet: it sits in none, and was not torn out. All minutes before this
 -- one are to be kept by then; in those that are still to be kept, from one on, it was present in that slot, if at all.
@@ -173,9 +173,10 @@ pub record Within (o : Origin) (done : List TraceSecond) (s : TraceSecond) (at :
   -- what was found of cards, which may be written, and the odometer
   pub verdicts : AreVerdicts o done b.run.log d
   pub finds : IsFoundSo o b done (course_in b done s at v.log) s.number from new brought d
+  pub there : AreThere o.found d
   pub few : AreFewFound (recording_by o done b.run.log)
-  pub spared : (c : Card) → IsSparedSo o b done (course_in b done s at v.log) d c
-  pub written : (c : Card) → is_some (session_of v.cabin.cards c) ≡ true → MayBeWrittenSo o b done (course_in b done s at v.log) c
+  pub spared : (c : Card) → IsSparedSo o b done (course_in b done s at v.log) waits d c
+  pub written : (c : Card) → is_some (session_of v.cabin.cards c) ≡ true → MayBeWrittenSo o b done (course_in b done s at v.log) waits c
   pub travels : HasTravelled (odometer_at o.recording.unit) (kept_all new b.run.book) (all_travelled ds b.travel) d.unit
 
 -- THE SECOND GOES ON: it began so, and this is the first minute that is still to be kept.
@@ -223,8 +224,9 @@ pub record CutWithin (o : Origin) (done : List TraceSecond) (s : TraceSecond) (a
   pub tells : SlotsTell (start_at o) (told_before b done) (b.run.book.sure ++ new) (course_in b done s at v.log).left s.number from (course_in b done s at v.log).slots v.cabin.slots
   pub verdicts : AreVerdicts o done b.run.log d
   pub finds : IsFoundSo o b done (course_in b done s at v.log) s.number from new brought d
+  pub there : AreThere o.found d
   pub few : AreFewFound (recording_by o done b.run.log)
-  pub spared : (c : Card) → IsSparedSo o b done (course_in b done s at v.log) d c
+  pub spared : (c : Card) → IsSparedSo o b done (course_in b done s at v.log) waits d c
   pub travels : HasTravelled (odometer_at o.recording.unit) (broken_at (lost_minute o b done new lost) (kept_all new b.run.book)) (stranded_at lost (all_travelled ds b.travel)) d.unit
 
 -- what a run has by value behind the cut of a second, once that has gone
@@ -309,6 +311,7 @@ AreOld old new = (card : Card) → is_some (session_of new card) ≡ true → is
 pub record GoesOnSo (o : Origin) (cards : Cards) (d e : Devices) : Type 0 where
   pub breakdowns : IsMore (breakdowns_of d) (breakdowns_of e)
   pub left : HaveLeftMore o d e
+  pub there : AreThere o.found d → AreThere o.found e
   pub untouched : (card : Card) → IsUntouched (found_of o.found card) (card_of d card) → IsUntouched (found_of o.found card) (card_of e card) ⊎ (is_some (session_of cards card) ≡ true)
 
 -- A CALL of which nothing is told, as one that notes an event or a place: unit and cards are as the book says behind it too.
