@@ -76,8 +76,8 @@ module _ (o : Origin) (done : List TraceSecond) (s : TraceSecond) (at : Phase) (
     finds = same (λ (x : Course). IsFoundSo o w.b done x s.number w.from w.new w.brought d) (record { may = w.finds.may; taken = w.finds.taken; late = w.finds.late });
     there = w.there;
     few = w.few;
-    spared = λ card. same (λ (x : Course). IsSparedSo o w.b done x [] d card) (w.spared card);
-    written = λ card some. same (λ (x : Course). MayBeWrittenSo o w.b done x [] card) (w.written card some);
+    spared = λ card. same (λ (x : Course). IsSparedSo o w.b done x [] s.number v.cabin.slots d card) (w.spared card);
+    written = λ card some. same (λ (x : Course). MayBeWrittenSo o w.b done x [] s.number v.cabin.slots card) (w.written card some);
     travels = w.travels;
   } }
     where

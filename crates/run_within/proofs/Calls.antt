@@ -26,6 +26,8 @@ use Rattle.unit_rule.specs.Odometer.{ShowsOdometer, HasTravelled}
 use Rattle.unit_rule.proofs.Moves.{shown-last}
 use Rattle.unit_rule.proofs.Travelling.{travelled-read, travelled-found}
 use Rattle.device_steps.specs.Rule.{Both, CardRests, IsTakenUp}
+use Rattle.card_image.specs.Own.{IsOwnValid}
+use Rattle.card_times.specs.Times.{IsTimed}
 use Rattle.safety_model.specs.Safe.{Devices, card_of, breakdowns_of}
 use Rattle.run_rule.specs.Between.{Carried, devices}
 use Rattle.run_rule.specs.Cards.{IsUntouched}
@@ -49,11 +51,11 @@ rose-by a b h = by (nat_le (a + 1) last_count) refl
 
 -- only the unit was called
 module _ (o : Origin) (d : Devices) (V : State) (rise : d.unit.breakdowns ≤ V.breakdowns) (tells : is_some V.image ≡ is_some d.unit.image) (keeps : (x : List ℕ) → d.unit.left_since o.found.unit.began x → V.left_since o.found.unit.began x) where
-  goes-on : GoOn o d (devices V d.card_a d.card_b)
+  pub goes-on : GoOn o d (devices V d.card_a d.card_b)
   goes-on = record { breakdowns = more; left = record { unit = keeps; card = left }; there = there; untouched = still }
     where
       there : AreThere o.found d → AreThere o.found (devices V d.card_a d.card_b)
-      there h = record { unit = tells ∙ h.unit; cards = images; clocks = clocks }
+      there h = record { unit = tells ∙ h.unit; cards = images; clocks = clocks; timed = timed }
         where
           images : (c : Card) → is_some (card_of (devices V d.card_a d.card_b) c).image ≡ true
           images A = h.cards A
@@ -62,6 +64,10 @@ module _ (o : Origin) (d : Devices) (V : State) (rise : d.unit.breakdowns ≤ V.
           clocks : (c : Card) → (found_of o.found c).began ≤ (card_of (devices V d.card_a d.card_b) c).clock
           clocks A = h.clocks A
           clocks B = h.clocks B
+
+          timed : (c : Card) → IsOwnValid (found_of o.found c).image → (x : List ℕ) → (card_of (devices V d.card_a d.card_b) c).left_since (found_of o.found c).began x → IsTimed (found_of o.found c).image x
+          timed A valid x left_ = h.timed A valid x left_
+          timed B valid x left_ = h.timed B valid x left_
 
       more : IsMore (breakdowns_of d) (breakdowns_of (devices V d.card_a d.card_b))
       more Recorder = rise

@@ -100,7 +100,7 @@ module _ (o : Origin) (done : List TraceSecond) (s : TraceSecond) (v : Values) (
     finds = same (λ (x : Course). IsFoundSo o w.b done x s.number w.from w.new w.brought d) w.finds;
     there = w.there;
     few = w.few;
-    spared = λ card. same (λ (x : Course). IsSparedSo o w.b done x [] d card) (w.spared card);
-    written = λ card some. same (λ (x : Course). MayBeWrittenSo o w.b done x [] card) (w.written card some);
+    spared = λ card. same (λ (x : Course). IsSparedSo o w.b done x [] s.number v.cabin.slots d card) (w.spared card);
+    written = λ card some. same (λ (x : Course). MayBeWrittenSo o w.b done x [] s.number v.cabin.slots card) (w.written card some);
     travels = w.travels;
   } }

@@ -81,7 +81,7 @@ call-recorded d e o done s at waits speed rest v w k = record { began = refl; fr
   finds = finds-left o w.b done (course_in w.b done s at v.log) s.number w.from w.new w.brought d e k.goes.left w.finds;
   there = k.goes.there w.there;
   few = w.few;
-  spared = λ card. spared-called o w.b done (course_in w.b done s at v.log) waits v.cabin.cards d e w.written k.goes.untouched card (w.spared card);
+  spared = λ card. spared-called o w.b done (course_in w.b done s at v.log) waits s.number v.cabin.slots v.cabin.cards d e w.written k.goes.untouched card (w.spared card);
   written = w.written;
   travels = k.travels;
 } }
@@ -122,6 +122,6 @@ failure-recorded d e o done s at waits speed rest v w k = record {
   finds = finds-left o w.b done (course_in w.b done s at v.log) s.number w.from w.new w.brought d e k.goes.left w.finds;
   there = k.goes.there w.there;
   few = w.few;
-  spared = λ card. spared-called o w.b done (course_in w.b done s at v.log) waits v.cabin.cards d e w.written k.goes.untouched card (w.spared card);
+  spared = λ card. spared-called o w.b done (course_in w.b done s at v.log) waits s.number v.cabin.slots v.cabin.cards d e w.written k.goes.untouched card (w.spared card);
   travels = k.travels;
 }

@@ -75,6 +75,10 @@ pub record IsWrittenSince (o : Origin) (kept : SlotsKept) (last : ℕ) (card : C
   pub past : since ≤ last
   pub stays : SitsAccepted kept card ⊎ LeftSince (since / 60) (left_of kept.left card)
 
+-- Over a step in this second a card that sits accepted does so still, and left when it did; or it has left in the second's minute.
+abbrev pub GoesOnIn : (u : ℕ) → (kept after : SlotsKept) → Card → Type 0
+GoesOnIn u kept after card = ((SitsAccepted kept card → SitsAccepted after card) × (left_of after.left card ≡ left_of kept.left card)) ⊎ (left_of after.left card ≡ Some (u / 60))
+
 -- A card may be written, and was judged in one of the seconds so far in which it entered.
 pub record IsWritten (o : Origin) (done : List TraceSecond) (v : Values) (card : Card) : Type 0 where
   pub may : MayBeWritten (recording_by o done v.log) card
