@@ -27,7 +27,7 @@ use Rattle.unit_rule.proofs.Moves.{shown-last}
 use Rattle.unit_rule.proofs.Travelling.{travelled-read, travelled-found}
 use Rattle.device_steps.specs.Rule.{Both, CardRests, IsTakenUp}
 use Rattle.card_image.specs.Own.{IsOwnValid}
-use Rattle.card_times.specs.Times.{IsTimed}
+use Rattle.card_times.specs.Times.{AreTimedSince}
 use Rattle.safety_model.specs.Safe.{Devices, card_of, breakdowns_of}
 use Rattle.run_rule.specs.Between.{Carried, devices}
 use Rattle.run_rule.specs.Cards.{IsUntouched}
@@ -65,9 +65,9 @@ module _ (o : Origin) (d : Devices) (V : State) (rise : d.unit.breakdowns ≤ V.
           clocks A = h.clocks A
           clocks B = h.clocks B
 
-          timed : (c : Card) → IsOwnValid (found_of o.found c).image → (x : List ℕ) → (card_of (devices V d.card_a d.card_b) c).left_since (found_of o.found c).began x → IsTimed (found_of o.found c).image x
-          timed A valid x left_ = h.timed A valid x left_
-          timed B valid x left_ = h.timed B valid x left_
+          timed : (c : Card) → IsOwnValid (found_of o.found c).image → AreTimedSince (found_of o.found c).image (found_of o.found c).began (card_of (devices V d.card_a d.card_b) c)
+          timed A valid = h.timed A valid
+          timed B valid = h.timed B valid
 
       more : IsMore (breakdowns_of d) (breakdowns_of (devices V d.card_a d.card_b))
       more Recorder = rise

@@ -15,7 +15,7 @@ use Rattle.unit_course.specs.Followed.{Supply, Lit, Due, Lost}
 use Rattle.unit_course.specs.Legs.{Travel}
 use Rattle.unit_course.specs.Turn.{span_at}
 use Rattle.card_image.specs.Own.{own_view, IsOwnValid}
-use Rattle.card_times.specs.Times.{IsTimed}
+use Rattle.card_times.specs.Times.{AreTimedSince}
 use Rattle.safety_model.specs.Recording.{card_image}
 use Rattle.safety_model.specs.Safe.{Devices, card_of, breakdowns_of, entered_by}
 use Rattle.slot_machine.specs.Calls.{seat_in}
@@ -92,7 +92,7 @@ pub record AreThere (f : Found) (d : Devices) : Type 0 where
   pub unit : is_some d.unit.image ≡ true
   pub cards : (card : Card) → is_some (card_of d card).image ≡ true
   pub clocks : (card : Card) → (found_of f card).began ≤ (card_of d card).clock
-  pub timed : (card : Card) → IsOwnValid (found_of f card).image → (x : List ℕ) → (card_of d card).left_since (found_of f card).began x → IsTimed (found_of f card).image x
+  pub timed : (card : Card) → IsOwnValid (found_of f card).image → AreTimedSince (found_of f card).image (found_of f card).began (card_of d card)
 
 -- WHILE THERE IS POWER, with these seconds of the span: unit and cards may be called and are as the book says, the minutes stand for the
 -- span, and who was present in the minutes that are still to be kept is told by the slots, and stands so.
