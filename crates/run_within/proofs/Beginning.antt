@@ -59,7 +59,7 @@ present-later f standing told c number later from cabin le h = record {
 }
 
 -- the last of the seconds before
-ends-with : (log : RunLog) (from : ℕ) (done : List TraceSecond) (begun next : ℕ) → HadActions done begun → AreInOrder from done → next ≡ from + length done →
+pub ends-with : (log : RunLog) (from : ℕ) (done : List TraceSecond) (begun next : ℕ) → HadActions done begun → AreInOrder from done → next ≡ from + length done →
     EndsWith (went log done).told (next - 1) (went log done).before.slots
 ends-with log from done begun next had order is = record {
   front = (went log had.before).told;
@@ -123,47 +123,51 @@ module _ (o : Origin) (done : List TraceSecond) (s : TraceSecond) (t : Told) (sp
 
   begun : (k : SlotsKept) → SlotsTell (start_at o) told0 r.book.sure [] s.number from slots0 k → PresentStand o.found r.standing told0 (fresh false slots0) s.number from (record v.cabin { slots = k }) →
       AreBack from (record v.cabin { slots = k }) → ((card : Card) (time : ℕ) → IsWrittenSince o v.cabin.slots (v.next - 1) card time → IsWrittenSince o k s.number card time) → GoesOn o done s (In 0) [] None [] (record v { cabin = record v.cabin { slots = k } }) d b from
-  begun k tells present back since = record { began = refl; from = refl; within = record {
-    b = b;
-    lit = refl;
-    began = r.recorded;
-    unfound = refl;
-    next = refl;
-    moment = begins.0;
-    sp = span_at (rule_of o) v.next (t ∷ span);
-    minutes = on.minutes;
-    ds = [];
-    new = [];
-    decided = nothing-decided (rule_of o) (start_at o) told0 b.run (t ∷ span) c (ap (λ (x : Course). x.picks) begins.1) (ap (λ (x : Course). x.settled) begins.1);
-    from = from;
-    kept_to = omega arith;
-    until = omega arith;
-    stay = λ mark h. h;
-    marked = nothing-marked v.marks told0 c s.number;
-    due = r.due;
-    standing = r.standing;
-    brought = r.brought;
-    powered = on.powered;
-    found = r.found;
-    early = r.early;
-    late = on.due;
-    more = λ card n h. h;
-    tells = same (λ (x : Course). SlotsTell (start_at o) told0 (r.book.sure ++ []) x.left s.number from x.slots k)
-        (subst (λ (is : List HistoryMinute). SlotsTell (start_at o) told0 is [] s.number from slots0 k) (sym (append-nil r.book.sure)) tells);
-    present = same (λ (x : Course). PresentStand o.found r.standing told0 x s.number from (record v.cabin { slots = k })) present;
-    back = λ card some. inl (back card some);
-    verdicts = r.beside.verdicts;
-    finds = record {
-      may = λ e verdict at. absurd (none e verdict at);
-      taken = λ e verdict at. absurd (none e verdict at);
-      late = λ e verdict at. absurd (none e verdict at);
+  begun k tells present back since = record {
+    began = refl;
+    from = refl;
+    within = record {
+      b = b;
+      lit = refl;
+      began = r.recorded;
+      unfound = refl;
+      next = refl;
+      moment = begins.0;
+      sp = span_at (rule_of o) v.next (t ∷ span);
+      minutes = on.minutes;
+      ds = [];
+      new = [];
+      decided = nothing-decided (rule_of o) (start_at o) told0 b.run (t ∷ span) c (ap (λ (x : Course). x.picks) begins.1) (ap (λ (x : Course). x.settled) begins.1);
+      from = from;
+      kept_to = omega arith;
+      until = omega arith;
+      stay = λ mark h. h;
+      marked = nothing-marked v.marks told0 c s.number;
+      due = r.due;
+      standing = r.standing;
+      brought = r.brought;
+      powered = on.powered;
+      found = r.found;
+      early = r.early;
+      late = on.due;
+      more = λ card n h. h;
+      tells = same (λ (x : Course). SlotsTell (start_at o) told0 (r.book.sure ++ []) x.left s.number from x.slots k)
+          (subst (λ (is : List HistoryMinute). SlotsTell (start_at o) told0 is [] s.number from slots0 k) (sym (append-nil r.book.sure)) tells);
+      present = same (λ (x : Course). PresentStand o.found r.standing told0 x s.number from (record v.cabin { slots = k })) present;
+      back = λ card some. inl (back card some);
+      verdicts = r.beside.verdicts;
+      finds = record {
+        may = λ e verdict at. absurd (none e verdict at);
+        taken = λ e verdict at. absurd (none e verdict at);
+        late = λ e verdict at. absurd (none e verdict at);
+      };
+      there = r.there;
+      few = r.few;
+      spared = λ card. ⊎_elim (λ whole. inl whole) (λ may. inr (writes card may)) (r.written card);
+      written = λ card some. writes card (on.written card some);
+      travels = r.beside.travels;
     };
-    there = r.there;
-    few = r.few;
-    spared = λ card. ⊎_elim (λ whole. inl whole) (λ may. inr (writes card may)) (r.written card);
-    written = λ card some. writes card (on.written card some);
-    travels = r.beside.travels;
-  } }
+  }
     where
       writes : (card : Card) → IsWritten o done v card → MayBeWrittenSo o b done c [] s.number k card
       writes card h =

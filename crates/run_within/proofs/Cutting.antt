@@ -96,7 +96,7 @@ option-same start told t past n None is lt = refl
 option-same start told t past n (Some d) is lt = ap (λ (i : HistoryMinute). Some i) (seated-same start told t past n d is lt.0)
 
 -- CARDS keep what they have told
-found-cut : (f : Found) (cards : Cards) (s : ℕ) → AreFoundCards f cards → AreFoundCards f (with_session B None (with_session A None cards))
+pub found-cut : (f : Found) (cards : Cards) (s : ℕ) → AreFoundCards f cards → AreFoundCards f (with_session B None (with_session A None cards))
 found-cut f cards s h = record { two = h.two; named = named; told = told_; sizes = h.sizes; entries = h.entries }
   where
     told_ : (c : Card) → IsOwnValid (found_of f c).image → is_some (known_of (with_session B None (with_session A None cards)) c).number ≡ true
@@ -107,7 +107,7 @@ found-cut f cards s h = record { two = h.two; named = named; told = told_; sizes
     named A valid = h.named A valid
     named B valid = h.named B valid
 
-dark-seat : (o : Option Sitting) → is_accepted (powerless o) ≡ false
+pub dark-seat : (o : Option Sitting) → is_accepted (powerless o) ≡ false
 dark-seat None = refl
 dark-seat (Some x) = refl
 

@@ -259,26 +259,29 @@ module _ (o : Origin) (done : List TraceSecond) (s : TraceSecond) (v : Values) (
       (next-begins o.found w.standing told0 T s.number s.number w.from v.cabin refl (omega arith) w.present)))))
 
   pub second-over : RecordedFrom o (done ++ s ∷ []) (Lit span) (passed_values s v) d w.b.travel.before
-  second-over = record { travelled_before = same-before w.ds w.b.travel; recorded = record {
-    book = book;
-    travel = all_travelled w.ds w.b.travel;
-    due = w.due;
-    standing = w.standing;
-    brought = w.brought;
-    recorded = recorded;
-    beside = record { verdicts = verdicts; spared = spared; travels = w.travels };
-    there = w.there;
-    few = few;
-    written = λ card. ⊎_elim (λ whole. inl whole) (λ may. inr (written card may)) (w.spared card);
-    found = w.found;
-    early = w.early;
-    held = record {
-      powered = w.powered;
-      due = let late = w.late in let is = from-is in omega (arith, late, is);
-      minutes = subst (λ (x : Span). StandsFor v.minutes x) (sym seen-is) (same-span.stands v.minutes w.minutes);
-      tells = tells;
-      present = present;
-      back = subst (λ (n : ℕ). AreBack n v.cabin) from-is (back-plain o done s Keeping [] (Some s.speed) v d w);
-      written = λ card some. written card (w.written card some);
+  second-over = record {
+    travelled_before = same-before w.ds w.b.travel;
+    recorded = record {
+      book = book;
+      travel = all_travelled w.ds w.b.travel;
+      due = w.due;
+      standing = w.standing;
+      brought = w.brought;
+      recorded = recorded;
+      beside = record { verdicts = verdicts; spared = spared; travels = w.travels };
+      there = w.there;
+      few = few;
+      written = λ card. ⊎_elim (λ whole. inl whole) (λ may. inr (written card may)) (w.spared card);
+      found = w.found;
+      early = w.early;
+      held = record {
+        powered = w.powered;
+        due = let late = w.late in let is = from-is in omega (arith, late, is);
+        minutes = subst (λ (x : Span). StandsFor v.minutes x) (sym seen-is) (same-span.stands v.minutes w.minutes);
+        tells = tells;
+        present = present;
+        back = subst (λ (n : ℕ). AreBack n v.cabin) from-is (back-plain o done s Keeping [] (Some s.speed) v d w);
+        written = λ card some. written card (w.written card some);
+      };
     };
-  } }
+  }

@@ -78,10 +78,10 @@ goes-taken u slot kept card = by (seat_in kept.seats slot) refl
         (λ own. inr (ap (λ (q : Option Seat). left_of (with_left (u / 60) q kept.left) card) some ∙ left-own (u / 60) seat kept.left card own))
         (λ other. inl (
           (λ sits.
-          elsewhere sits (λ same.
-          let is : Some seat ≡ Some (record { card = card; newest = Some sits.1 }) = seated-here kept.seats slot sits.0 (Some seat) (record { card = card; newest = Some sits.1 }) some sits.2 same in
-          let e : seat ≡ record { card = card; newest = Some sits.1 } = cc in
-          other (ap (λ (x : Seat). x.card) e))),
+              elsewhere sits (λ same.
+              let is : Some seat ≡ Some (record { card = card; newest = Some sits.1 }) = seated-here kept.seats slot sits.0 (Some seat) (record { card = card; newest = Some sits.1 }) some sits.2 same in
+              let e : seat ≡ record { card = card; newest = Some sits.1 } = cc in
+              other (ap (λ (x : Seat). x.card) e))),
           ap (λ (q : Option Seat). left_of (with_left (u / 60) q kept.left) card) some ∙ left-other (u / 60) seat kept.left card other,
         ))
         (which seat.card card)
@@ -96,20 +96,23 @@ goes-left_from u (Some slot) kept card = goes-taken u slot kept card
 
 pub goes-put_in : (u : ℕ) (slot : Slot) (mine : Card) (newest : Option ℕ) (kept : Kept) (card : Card) → IsFree kept.seats slot mine → GoesOnIn u kept (put_in slot mine newest kept) card
 goes-put_in u slot mine newest kept card free = inl (
-  (λ sits.
-  (sits.0, sits.1, seat-other kept.seats slot sits.0 (Some (record { card = mine; newest = newest }))
-    (λ same. ⊎_elim
-    (λ none. let clash : None ≡ Some (record { card = card; newest = Some sits.1 }) = seated-here kept.seats slot sits.0 None (record { card = card; newest = Some sits.1 }) none sits.2 same in cc)
-    (λ bare.
-    let is : Some (record { card = mine; newest = None }) ≡ Some (record { card = card; newest = Some sits.1 }) =
-    seated-here kept.seats slot sits.0 (Some (record { card = mine; newest = None })) (record { card = card; newest = Some sits.1 }) bare sits.2 same in
-    let m : Seat = record { card = mine; newest = None } in
-    let n : Seat = record { card = card; newest = Some sits.1 } in
-    let e : m ≡ n = cc in
-    let clash : None ≡ Some sits.1 = ap (λ (x : Seat). x.newest) e in
-    cc)
-    free.here)
-    ∙ sits.2)),
+  (λ sits. (
+    sits.0,
+    sits.1,
+    seat-other kept.seats slot sits.0 (Some (record { card = mine; newest = newest }))
+        (λ same. ⊎_elim
+        (λ none. let clash : None ≡ Some (record { card = card; newest = Some sits.1 }) = seated-here kept.seats slot sits.0 None (record { card = card; newest = Some sits.1 }) none sits.2 same in cc)
+        (λ bare.
+        let is : Some (record { card = mine; newest = None }) ≡ Some (record { card = card; newest = Some sits.1 }) =
+        seated-here kept.seats slot sits.0 (Some (record { card = mine; newest = None })) (record { card = card; newest = Some sits.1 }) bare sits.2 same in
+        let m : Seat = record { card = mine; newest = None } in
+        let n : Seat = record { card = card; newest = Some sits.1 } in
+        let e : m ≡ n = cc in
+        let clash : None ≡ Some sits.1 = ap (λ (x : Seat). x.newest) e in
+        cc)
+        free.here)
+        ∙ sits.2,
+  )),
   refl,
 )
 
