@@ -18,3 +18,5 @@ pub mod Powering
 pub mod Reading
 pub mod Calls
 pub mod Waking
+pub mod Going
+pub mod Turning

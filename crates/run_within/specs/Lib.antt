@@ -3,3 +3,5 @@ pub mod Within
 pub mod Judging
 pub mod Powering
 pub mod Waking
+pub mod Going
+pub mod Turning
