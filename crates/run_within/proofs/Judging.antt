@@ -62,7 +62,7 @@ module _ (o : Origin) (done : List TraceSecond) (s : TraceSecond) (at : Phase) (
   abbrev waiting : Sitting
   waiting = record { card = card; accepted = None }
 
-  moments : Moment p (went p.log done).before s at (and_find v.log f) fewer w.b.broken (breakdowns_of d) × IsFoundOf s.number at f.slot f.verdict c now
+  pub moments : Moment p (went p.log done).before s at (and_find v.log f) fewer w.b.broken (breakdowns_of d) × IsFoundOf s.number at f.slot f.verdict c now
   moments = card-judged p (went p.log done).before s at v.log waits fewer w.b.broken (breakdowns_of d) w.moment f j.here waiting j.next.sits_ j.none j.next.enters j.order j.next.but j.next.behind
 
   is : IsFoundOf s.number at f.slot f.verdict c now
@@ -177,7 +177,7 @@ module _ (o : Origin) (done : List TraceSecond) (s : TraceSecond) (at : Phase) (
       (accepted-written o w.b done c now at f.slot card waits fewer f.verdict s.number cabin.slots j.next.but found-is is.entered w.few (w.moment.counted card) valid.0 valid.1
       (subst (λ (k : Kept). SitsAccepted k card) (sym a.slots_are) (sits-put_in f.slot card a.newest v.cabin.slots)) is_.1)
 
-  still-may : (x : Card) → MayBeWrittenSo o w.b done c waits s.number v.cabin.slots x → MayBeWrittenSo o w.b done now fewer s.number cabin.slots x
+  pub still-may : (x : Card) → MayBeWrittenSo o w.b done c waits s.number v.cabin.slots x → MayBeWrittenSo o w.b done now fewer s.number cabin.slots x
   still-may x may = written-judged o w.b done c now at f.slot card waits fewer f.verdict s.number v.cabin.slots cabin.slots j.next.but found-is is.entered x (goes x) may
 
   pub spared : (x : Card) → IsSparedSo o w.b done now fewer s.number cabin.slots e x

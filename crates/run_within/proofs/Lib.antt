@@ -20,3 +20,4 @@ pub mod Calls
 pub mod Waking
 pub mod Going
 pub mod Turning
+pub mod Losing

@@ -52,7 +52,7 @@ turn-ends done s (suc n) = up-to done s n
 abbrev once : (speed : ℕ) → Kept → Kept
 once speed k = minute_ended (run 1 speed k)
 
-often : (speed : ℕ) → ℕ → Kept → Kept
+abbrev often : (speed : ℕ) → ℕ → Kept → Kept
 often speed zero k = k
 often speed (suc n) k = once speed (often speed n k)
 
@@ -106,9 +106,6 @@ first-of [] t = record { first = t; others = []; are = refl }
 first-of (x ∷ xs) t = record { first = x; others = xs ++ t ∷ []; are = refl }
 
 module _ (o : Origin) (done : List TraceSecond) (s : TraceSecond) (v : Values) (d : Devices) (w : Within o done s (In (length s.actions)) [] None [] v d) where
-  abbrev speed : ℕ
-  speed = s.speed
-
   abbrev gone : (next begun : ℕ) → Kept → Values
   gone next begun minutes = record v { minutes = minutes; next = next; begun = begun }
 
@@ -151,9 +148,13 @@ module _ (o : Origin) (done : List TraceSecond) (s : TraceSecond) (v : Values) (
       let f = first-of g.b.span (next_told y.log before x) in
       let all = second-over o before x y d g in (
         f.first,
-        f.others,
-        subst (λ (ts : List Told). RecordedFrom o (before ++ x ∷ []) (Lit ts) (passed_values x y) d travel) f.are (subst (λ (g_ : List ℕ). RecordedFrom o (before ++ x ∷ []) (Lit (g.b.span ++ next_told y.log before x ∷ [])) (passed_values x y) d g_) same all),
-        subst (λ (ts : List Told). undecided_from o ts (passed_values x y) ≡ first) f.are (sym (from-is o before x y d g) ∙ from),
+        (
+          f.others,
+          (
+            subst (λ (ts : List Told). RecordedFrom o (before ++ x ∷ []) (Lit ts) (passed_values x y) d travel) f.are (subst (λ (ks : List ℕ). RecordedFrom o (before ++ x ∷ []) (Lit (g.b.span ++ next_told y.log before x ∷ [])) (passed_values x y) d ks) same all),
+            subst (λ (ts : List Told). undecided_from o ts (passed_values x y) ≡ first) f.are (sym (from-is o before x y d g) ∙ from),
+          ),
+        ),
       )
 
   -- the first is fed

@@ -5,3 +5,4 @@ pub mod Powering
 pub mod Waking
 pub mod Going
 pub mod Turning
+pub mod Losing

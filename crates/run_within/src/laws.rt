@@ -1,6 +1,7 @@
 ghost use Rattle.run_rule.specs.Between.{devices};
 ghost use Rattle.run_within.specs.Within.{ACutIsRecorded, TheSecondIsOver, ASecondBegins, AMinuteIsOver, ASecondIsFed, ARefusalIsRecorded, ASelectionIsRecorded, APlaceIsRecorded, ACallIsRecorded, AFailureIsRecorded};
 ghost use Rattle.run_within.specs.Judging.{ACardIsJudged, AJudgingFails, AWaitingCardIsTorn, ATearingFails};
+ghost use Rattle.run_within.specs.Losing.{ACardIsLost, ALosingFails};
 ghost use Rattle.run_within.specs.Powering.{PowerIsBack, AMendingFails, AReadingFails};
 ghost use Rattle.run_within.specs.Waking.{PowerWakes};
 ghost use Rattle.run_within.specs.Turning.{ATurnIsFed};
@@ -118,6 +119,30 @@ pub fn a_tearing_fails<M: Medium, C: Chip, D: Chip, N: Medium, E: Chip, F: Chip>
     card_b: &F,
 )
     ensures { ATearingFails (devices (M.state old_unit.now) (C.state old_a.now) (D.state old_b.now)) (devices (N.state unit.now) (E.state card_a.now) (F.state card_b.now)) }
+{}
+
+/// A card that waits is accepted and torn out in one call.
+pub fn a_card_is_lost<M: Medium, C: Chip, D: Chip, N: Medium, E: Chip, F: Chip>(
+    old_unit: &M,
+    old_a: &C,
+    old_b: &D,
+    unit: &N,
+    card_a: &E,
+    card_b: &F,
+)
+    ensures { ACardIsLost (devices (M.state old_unit.now) (C.state old_a.now) (D.state old_b.now)) (devices (N.state unit.now) (E.state card_a.now) (F.state card_b.now)) }
+{}
+
+/// The unit failed behind that: power is about to be cut.
+pub fn a_losing_fails<M: Medium, C: Chip, D: Chip, N: Medium, E: Chip, F: Chip>(
+    old_unit: &M,
+    old_a: &C,
+    old_b: &D,
+    unit: &N,
+    card_a: &E,
+    card_b: &F,
+)
+    ensures { ALosingFails (devices (M.state old_unit.now) (C.state old_a.now) (D.state old_b.now)) (devices (N.state unit.now) (E.state card_a.now) (F.state card_b.now)) }
 {}
 
 /// The unit was read and mended: the second begins with power.

@@ -4,10 +4,10 @@
 mod laws;
 
 pub use laws::{
-    a_call_is_recorded, a_card_is_judged, a_cut_is_recorded, a_failure_is_recorded,
-    a_judging_fails, a_mending_fails, a_minute_is_over, a_place_is_recorded, a_reading_fails,
-    a_refusal_is_recorded, a_run_begins, a_second_begins, a_second_is_fed, a_selection_is_recorded,
-    a_tearing_fails, a_turn_is_fed, a_waiting_card_is_torn, an_off_cut_stays_recorded,
-    an_off_line_stays_recorded, dark_seconds_stay_recorded, power_is_back, power_wakes,
-    quiet_seconds_stay_recorded, the_second_is_over,
+    a_call_is_recorded, a_card_is_judged, a_card_is_lost, a_cut_is_recorded, a_failure_is_recorded,
+    a_judging_fails, a_losing_fails, a_mending_fails, a_minute_is_over, a_place_is_recorded,
+    a_reading_fails, a_refusal_is_recorded, a_run_begins, a_second_begins, a_second_is_fed,
+    a_selection_is_recorded, a_tearing_fails, a_turn_is_fed, a_waiting_card_is_torn,
+    an_off_cut_stays_recorded, an_off_line_stays_recorded, dark_seconds_stay_recorded,
+    power_is_back, power_wakes, quiet_seconds_stay_recorded, the_second_is_over,
 };
