@@ -25,6 +25,8 @@ use Rattle.run_present.specs.Presence.{PresentStand}
 use Rattle.run_within.specs.Recorded.{Values}
 use Rattle.run_within.specs.Within.{told_before, course_in, IsFoundSo, MayBeWrittenSo, IsSparedSo, Within, GoesOn, refused_values, heard_values, ARefusalIsRecorded, ASelectionIsRecorded, APlaceIsRecorded}
 use Rattle.run_within.proofs.Back.{back-plain}
+use Rattle.run_within.proofs.Stays.{goes-still}
+use Rattle.run_within.proofs.Written.{written-on, spared-on}
 
 module _ (o : Origin) (done : List TraceSecond) (s : TraceSecond) (at : Phase) (v : Values) (d : Devices) (w : Within o done s at [] None [] v d) where
   abbrev p : Progress
@@ -79,8 +81,10 @@ module _ (o : Origin) (done : List TraceSecond) (s : TraceSecond) (at : Phase) (
       finds = same (λ (x : Course). IsFoundSo o w.b done x s.number w.from w.new w.brought d) (record { may = w.finds.may; taken = w.finds.taken; late = w.finds.late });
       there = w.there;
       few = w.few;
-      spared = λ card. same (λ (x : Course). IsSparedSo o w.b done x [] s.number v.cabin.slots d card) (w.spared card);
-      written = λ card some. same (λ (x : Course). MayBeWrittenSo o w.b done x [] s.number v.cabin.slots card) (w.written card some);
+      spared = λ card. same (λ (x : Course). IsSparedSo o w.b done x [] s.number v.cabin.slots d card)
+          (spared-on o w.b done c (but picks refused) [] s.number v.cabin.slots v.cabin.slots d card refl refl (goes-still s.number v.cabin.slots v.cabin.slots card refl) (w.spared card));
+      written = λ card some. same (λ (x : Course). MayBeWrittenSo o w.b done x [] s.number v.cabin.slots card)
+          (written-on o w.b done c (but picks refused) [] s.number v.cabin.slots v.cabin.slots card refl refl (goes-still s.number v.cabin.slots v.cabin.slots card refl) (w.written card some));
       travels = w.travels;
     };
   }
