@@ -3,3 +3,4 @@ pub mod Within
 pub mod Judging
 pub mod Powering
 pub mod Waking
+pub mod Taking
