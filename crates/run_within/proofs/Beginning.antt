@@ -39,11 +39,11 @@ use Rattle.run_moments.proofs.Moment.{moment-begins}
 use Rattle.run_moments.proofs.Kept.{nothing-decided, nothing-marked}
 use Rattle.run_told.specs.Told.{GoesWith, GoesOwing, IsPowered}
 use Rattle.run_recorded.specs.Origin.{Origin, rule_of, start_at, first_of}
-use Rattle.run_recorded.specs.Ends.{recording_by}
+use Rattle.run_recorded.specs.Ends.{recording_by, MayBeWritten}
 use Rattle.run_present.specs.Presence.{PresentStand, SessionsStand, StandsIn}
 use Rattle.run_present.proofs.Presence.{minute-ends}
-use Rattle.run_within.specs.Recorded.{Values, progress, carried, slots_of, IsOn, Recorded}
-use Rattle.run_within.specs.Within.{Beginning, told_before, course_in, overlaps_by, Within, undecided_from, ASecondBegins, AMinuteIsOver}
+use Rattle.run_within.specs.Recorded.{Values, progress, carried, slots_of, AreBack, IsOn, Recorded}
+use Rattle.run_within.specs.Within.{Beginning, told_before, course_in, overlaps_by, MayBeWrittenSo, GoesOn, undecided_from, ASecondBegins, AMinuteIsOver}
 
 -- who was present stands so later in the second
 broken-later : (told : List Told) (c : Course) (card : Card) (from number later : ℕ) → number ≤ later → BrokenSince told c card from number → BrokenSince told c card from later
@@ -122,8 +122,8 @@ module _ (o : Origin) (done : List TraceSecond) (s : TraceSecond) (t : Told) (sp
   same P = subst P (sym begins.1)
 
   begun : (k : SlotsKept) → SlotsTell (start_at o) told0 r.book.sure [] s.number from slots0 k → PresentStand o.found r.standing told0 (fresh false slots0) s.number from (record v.cabin { slots = k }) →
-      Within o done s (In 0) [] None [] (record v { cabin = record v.cabin { slots = k } }) d
-  begun k tells present = record {
+      AreBack from (record v.cabin { slots = k }) → GoesOn o done s (In 0) [] None [] (record v { cabin = record v.cabin { slots = k } }) d b from
+  begun k tells present back = record { began = refl; from = refl; within = record {
     b = b;
     lit = refl;
     began = r.recorded;
@@ -151,18 +151,24 @@ module _ (o : Origin) (done : List TraceSecond) (s : TraceSecond) (t : Told) (sp
     tells = same (λ (x : Course). SlotsTell (start_at o) told0 (r.book.sure ++ []) x.left s.number from x.slots k)
         (subst (λ (is : List HistoryMinute). SlotsTell (start_at o) told0 is [] s.number from slots0 k) (sym (append-nil r.book.sure)) tells);
     present = same (λ (x : Course). PresentStand o.found r.standing told0 x s.number from (record v.cabin { slots = k })) present;
+    back = λ card some. inl (back card some);
     verdicts = r.beside.verdicts;
     finds = record {
       may = λ e verdict at. absurd (none e verdict at);
       taken = λ e verdict at. absurd (none e verdict at);
       late = λ e verdict at. absurd (none e verdict at);
     };
-    spared = λ card. ⊎_elim (λ whole. inl whole)
-        (λ may. inr (may.0, same (λ (x : Course). overlaps (recording_by o done v.log) card + length (overlaps_by o card x.found) < entered (recording_by o done v.log) card + times_of card x.entered) (let lt = may.1 in omega (arith, lt))))
-        (r.beside.spared card);
+    there = r.there;
+    few = r.few;
+    spared = λ card. ⊎_elim (λ whole. inl whole) (λ may. inr (writes card may)) (r.beside.spared card);
+    written = λ card some. writes card (on.written card some);
     travels = r.beside.travels;
-  }
+  } }
     where
+      writes : (card : Card) → MayBeWritten (recording_by o done v.log) card → MayBeWrittenSo o b done c [] card
+      writes card may =
+          (may.0, same (λ (x : Course). overlaps (recording_by o done v.log) card + length (overlaps_by o card x.found) + 0 < entered (recording_by o done v.log) card + times_of card x.entered) (let lt = may.1 in omega (arith, lt)))
+
       none : (e : Visit) (verdict : Verdict) → Contains c.found (e, verdict) → ⊥
       none e verdict at = let h = subst (λ (x : Course). Contains x.found (e, verdict)) begins.1 at in omega (arith, h.1)
 
@@ -171,6 +177,7 @@ second-begins d o done s t span v r number given minute =
     begun o done s t span v d r number given v.cabin.slots
     (goes-on (start_at o) (went v.log done).told r.book.sure [] (v.next - 1) s.number (undecided_from o (t ∷ span) v) (slots_of v done) v.cabin.slots on.tells (omega (arith, number)) (omega (arith, number, minute)))
     (present-later o.found r.standing (went v.log done).told (fresh false (slots_of v done)) (v.next - 1) s.number (undecided_from o (t ∷ span) v) v.cabin (omega (arith, number)) on.present)
+    on.back
   where
     on : IsOn o done (t ∷ span) v (carried v r.due r.book r.standing r.brought) d
     on = r.held
@@ -182,6 +189,7 @@ minute-over d o done s t span v r number given starts minute low high stands =
     (ends-with v.log o.from done v.begun v.next f.last f.order f.next) (omega (arith, number, minute)) low high)
     (minute-ends o.found (start_at o) starts r.standing (went v.log done).told (fresh false (slots_of v done)) r.book.sure [] (v.next - 1) s.number from v.cabin on.present on.tells stands
     (sessions-stand o v r.due r.book r.standing r.brought d on.powered) low (omega (arith, number)))
+    on.back
   where
     from : ℕ
     from = undecided_from o (t ∷ span) v

@@ -13,7 +13,7 @@ use Rattle.trace_model.specs.declared.Action.{Action}
 use Rattle.trace_model.specs.Trace.{TraceSecond}
 use Rattle.run_model.specs.declared.Device.{Device}
 use Rattle.minute_model.specs.declared.Minute.{Minute}
-use Rattle.minute_model.specs.Span.{count_from, ungiven_of}
+use Rattle.minute_model.specs.Span.{ungiven_of}
 use Rattle.log_model.specs.declared.lines.Break.{Break}
 use Rattle.log_model.specs.declared.lines.Mark.{Mark}
 use Rattle.log_model.specs.declared.lines.Verdict.{Verdict}
@@ -59,11 +59,14 @@ use Rattle.run_moments.proofs.Cutting.{cut-decided}
 use Rattle.run_told.specs.Told.{AreFoundCards}
 use Rattle.run_recorded.specs.Origin.{Origin, rule_of, start_at, first_of, HasRecorded}
 use Rattle.run_recorded.specs.Seconds.{broke_off, seated_now, seated_next, AreTaken}
-use Rattle.run_recorded.specs.Ends.{recording_by, AreVerdicts, MayBeWritten, AreSpared}
+use Rattle.run_recorded.specs.Ends.{recording_by, AreVerdicts, AreSpared}
+use Rattle.run_recorded.specs.Beside.{AreFewFound}
 use Rattle.run_recorded.proofs.Seconds.{second-is_broken}
 use Rattle.run_recorded.proofs.Beside.{second-tells, verdicts-on}
 use Rattle.run_within.specs.Recorded.{Values, progress, carried, Recorded}
-use Rattle.run_within.specs.Within.{Beginning, told_before, course_in, lost_minute, overlaps_by, IsFoundSo, IsSparedSo, CutWithin, cut_values, ACutIsRecorded}
+use Rattle.run_within.specs.Within.{Beginning, told_before, course_in, lost_minute, overlaps_by, CutWithin, cut_values}
+use Rattle.run_within.proofs.Left.{counted-part}
+use Rattle.run_within.proofs.Written.{few-so_far}
 use Rattle.run_within.proofs.Parts.{still, verdict-by, often-by, entered-by_end, overlaps-by_end, HasAccepted, accepted-or, none-next}
 
 -- ALL MINUTES that are decided are over
@@ -78,14 +81,6 @@ rec-back n (x ∷ xs) ys h = rec-back n xs ys h.1
 pub rec-front : (n : ℕ) (xs ys : List Minute) → AllByRecursion (λ (d : Minute). d.minute < n) (xs ++ ys) → AllByRecursion (λ (d : Minute). d.minute < n) xs
 rec-front n [] ys h = tt
 rec-front n (x ∷ xs) ys h = (h.0, rec-front n xs ys h.1)
-
--- minutes that follow one another, behind some of them
-pub counted-part : (xs ys : List Minute) (a : ℕ) → map (λ (m : Minute). m.minute) (xs ++ ys) ≡ count_from a (length (xs ++ ys)) → map (λ (m : Minute). m.minute) ys ≡ count_from (a + length xs) (length ys)
-counted-part [] ys a is = is ∙ ap (λ (n : ℕ). count_from n (length ys)) (omega arith)
-counted-part (x ∷ xs) ys a is =
-    let rest : map (λ (m : Minute). m.minute) (xs ++ ys) ≡ count_from (a + 1) (length (xs ++ ys)) = cc in
-    let e : a + 1 + length xs ≡ a + suc (length xs) = omega arith in
-    counted-part xs ys (a + 1) rest ∙ ap (λ (n : ℕ). count_from n (length ys)) e
 
 -- a minute has the cards of the seconds before
 seated-same : (start : Start) (told : List Told) (t : Told) (past : List HistoryMinute) (n : ℕ) (d : Minute) → t.second.number ≡ n → d.minute < n / 60 → seated start (told ++ t ∷ []) past d ≡ seated start told past d
@@ -297,6 +292,15 @@ module _ (o : Origin) (done : List TraceSecond) (s : TraceSecond) (at : Phase) (
       ))
       (w.spared card)
 
+  few : AreFewFound (recording_by o (done ++ s ∷ []) log)
+  few card =
+      let a = entered-by_end o done (done ++ s ∷ []) p.log log t card told-now in
+      let b = overlaps-by_end o done (done ++ s ∷ []) p.log log t card told-now in
+      let le = few-so_far o w.b done c waits card w.few (w.moment.counted card) in
+      let entered_ = ap (λ (y : Told). times_of card y.course.entered) ends in
+      let found_ = ap (λ (fs : List (Visit × Verdict)). length (overlaps_by o card fs)) found-is in
+      omega (arith, a, b, le, entered_, found_)
+
   tells : SlotsTell (start_at o) (went log (done ++ s ∷ [])).told book.sure [] (suc v.next - 1) (suc v.next / 60) (went log (done ++ s ∷ [])).before.slots (with_power_lost s.number v.cabin).slots
   tells =
       let T : Told = told_with (begins_with w.b.span) true s ended in
@@ -323,6 +327,8 @@ module _ (o : Origin) (done : List TraceSecond) (s : TraceSecond) (at : Phase) (
     brought = w.brought;
     recorded = recorded;
     beside = record { verdicts = verdicts; spared = spared; travels = w.travels };
+    there = w.there;
+    few = few;
     found = found-cut o.found v.cabin.cards s.number w.found;
     early = w.early;
     held = record {

@@ -21,7 +21,8 @@ use Rattle.run_moments.proofs.Kept.{second-fed}
 use Rattle.run_recorded.specs.Origin.{Origin, rule_of, start_at}
 use Rattle.run_present.specs.Presence.{PresentStand}
 use Rattle.run_within.specs.Recorded.{Values}
-use Rattle.run_within.specs.Within.{told_before, course_in, IsFoundSo, IsSparedSo, Within, ASecondIsFed}
+use Rattle.run_within.specs.Within.{told_before, course_in, IsFoundSo, MayBeWrittenSo, IsSparedSo, Within, GoesOn, ASecondIsFed}
+use Rattle.run_within.proofs.Back.{back-plain}
 
 many : (a n : ℕ) → length (count_from a n) ≡ n
 many a zero = refl
@@ -65,8 +66,8 @@ module _ (o : Origin) (done : List TraceSecond) (s : TraceSecond) (v : Values) (
       let high : w.sp.first / 60 ≤ ungiven_of (fed w.sp s.speed) = omega arith in
       omega (arith, before, behind, count, parts, here, low, high)
 
-  pub second-is_fed : Within o done s Keeping [] (Some s.speed) rest (record v { minutes = minutes }) d
-  second-is_fed = record {
+  pub second-is_fed : GoesOn o done s Keeping [] (Some s.speed) rest (record v { minutes = minutes }) d w.b w.from
+  second-is_fed = record { began = refl; from = refl; within = record {
     b = w.b;
     lit = w.lit;
     began = w.began;
@@ -94,8 +95,12 @@ module _ (o : Origin) (done : List TraceSecond) (s : TraceSecond) (v : Values) (
     more = w.more;
     tells = same (λ (x : Course). SlotsTell (start_at o) told0 (p.book.sure ++ w.new) x.left s.number w.from x.slots v.cabin.slots) w.tells;
     present = same (λ (x : Course). PresentStand o.found w.standing told0 x s.number w.from v.cabin) w.present;
+    back = λ card some. inl (back-plain o done s (In (length s.actions)) [] None v d w card some);
     verdicts = w.verdicts;
     finds = same (λ (x : Course). IsFoundSo o w.b done x s.number w.from w.new w.brought d) w.finds;
-    spared = λ card. same (λ (x : Course). IsSparedSo o w.b done x d card) (w.spared card);
+    there = w.there;
+    few = w.few;
+    spared = λ card. same (λ (x : Course). IsSparedSo o w.b done x [] d card) (w.spared card);
+    written = λ card some. same (λ (x : Course). MayBeWrittenSo o w.b done x [] card) (w.written card some);
     travels = w.travels;
-  }
+  } }

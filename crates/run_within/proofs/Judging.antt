@@ -1,5 +1,5 @@
 -- A card that waits is judged: that is told, and it is accepted or not.
-use Rattle.std.proofs.Common.{◌≡◌, ◌⊎◌, ⊎_elim, ℕ, ◌≤◌, Bool, true, false, cond, Option, Some, None, List, [], ◌∷◌, ◌++◌, Contains, map, refl, ap, sym, subst, ◌∙◌, arith}
+use Rattle.std.proofs.Common.{◌≡◌, ◌⊎◌, inl, inr, ⊎_elim, ℕ, ◌≤◌, Bool, true, false, cond, is_some, Option, Some, None, List, [], ◌∷◌, ◌++◌, Contains, map, refl, ap, sym, subst, ◌∙◌, arith}
 use Rattle.std.specs.Prelude.{option_map}
 use Rattle.std.proofs.lemmas.List.Elements.{Contains-push_cases}
 use Rattle.activity_codec.specs.declared.values.Slot.{Slot}
@@ -12,9 +12,12 @@ use Rattle.log_model.specs.Log.{Phase, is_accepting}
 use Rattle.log_model.specs.Slots.{Slots, Sitting, in_slot}
 use Rattle.log_model.specs.Course.{Told, Course, Visit, card_in, with_slot, went}
 use Rattle.joint_rule.specs.Rules.{Standing}
+use Rattle.card_image.specs.Own.{IsOwnValid}
+use Rattle.safety_model.specs.Recording.{card_image}
 use Rattle.safety_model.specs.Safe.{Devices, card_of, breakdowns_of}
 use Rattle.slot_machine.specs.Kept.{Kept}
 use Rattle.run_crew.specs.declared.cabin.Cabin.{Cabin}
+use Rattle.run_crew.specs.Cards.{session_of}
 use Rattle.run_rule.specs.Found.{found_of}
 use Rattle.run_course.specs.Moments.{and_find}
 use Rattle.run_course.specs.Followed.{Progress}
@@ -28,10 +31,12 @@ use Rattle.run_moments.proofs.Kept.{nothing-else, marks-stay}
 use Rattle.run_present.specs.Presence.{PresentStand, IsSeated, sits}
 use Rattle.run_present.proofs.Presence.{none-to_keep}
 use Rattle.run_recorded.specs.Origin.{Origin, rule_of, start_at}
-use Rattle.run_within.specs.Recorded.{Values}
-use Rattle.run_within.specs.Within.{told_before, course_in, VerdictBy, often, IsFoundSo, Within}
-use Rattle.run_within.proofs.Rounds.{verdict-left}
-use Rattle.run_within.specs.Judging.{IsAcceptedSo, IsSeatedBy, IsJudged, ACardIsJudged, AJudgingFails}
+use Rattle.run_within.specs.Recorded.{Values, AreBack}
+use Rattle.run_within.specs.Within.{told_before, course_in, VerdictBy, often, IsFoundSo, MayBeWrittenSo, IsSparedSo, Within}
+use Rattle.run_within.specs.Judging.{IsAcceptedSo, IsSeatedBy, IsAccepted, IsJudged, ACardIsJudged, AJudgingFails}
+use Rattle.run_within.proofs.Left.{verdict-left}
+use Rattle.run_within.proofs.Back.{back-by_now}
+use Rattle.run_within.proofs.Written.{written-judged, accepted-written, accepted-valid}
 use Rattle.run_within.proofs.Sitting.{another, sits-with, seated-still, verdicts-later}
 
 -- one find is another
@@ -157,6 +162,26 @@ module _ (o : Origin) (done : List TraceSecond) (s : TraceSecond) (at : Phase) (
     late = λ x verdict there accepts. let here = j.next.is_now in omega (arith, here);
   }
 
+  -- which cards may be written
+  own-valid : is_accepting f.verdict ≡ true → IsOwnValid (card_image o.recording card)
+  own-valid accepts = accepted-valid o j.may.0 (e.unit.left_since o.found.unit.began) ((card_of e card).left_since (found_of o.found card).began) card s.number f.verdict accepts j.may.2
+
+  accepted-may : (x : Card) → IsAccepted card (is_accepting f.verdict) x → MayBeWrittenSo o w.b done now fewer x
+  accepted-may x is_ = subst (λ (y : Card). MayBeWrittenSo o w.b done now fewer y) (sym is_.0)
+      (accepted-written o w.b done c now at f.slot card waits fewer f.verdict j.next.but found-is is.entered w.few (w.moment.counted card) (own-valid is_.1) is_.1)
+
+  still-may : (x : Card) → MayBeWrittenSo o w.b done c waits x → MayBeWrittenSo o w.b done now fewer x
+  still-may x may = written-judged o w.b done c now at f.slot card waits fewer f.verdict j.next.but found-is is.entered x may
+
+  pub spared : (x : Card) → IsSparedSo o w.b done now fewer e x
+  spared x = ⊎_elim
+      (λ whole. ⊎_elim (λ still. inl still) (λ wrote. inr (⊎_elim (λ some. still-may x (w.written x some)) (λ is_. accepted-may x is_) wrote)) (j.untouched x whole))
+      (λ may. inr (still-may x may))
+      (w.spared x)
+
+  pub written : (x : Card) → is_some (session_of cabin.cards x) ≡ true → MayBeWrittenSo o w.b done now fewer x
+  written x some = ⊎_elim (λ had. still-may x (w.written x had)) (λ is_. accepted-may x is_) (j.sessions x some)
+
 pub judged-so : (d e : Devices) → ACardIsJudged d e
 judged-so d e o done s at waits fewer v w card f marks cabin brought standing j st = record {
   began = refl;
@@ -190,9 +215,15 @@ judged-so d e o done s at waits fewer v w card f marks cabin brought standing j 
     present = subst (λ (n : ℕ). PresentStand o.found standing (told_before w.b done) (course_in w.b done s at (and_find v.log f)) s.number n cabin) (sym j.next.is_now)
         (none-to_keep o.found standing (told_before w.b done) (course_in w.b done s at (and_find v.log f)) s.number cabin (tells o done s at waits fewer v d e w card f marks cabin brought j).newest
         (tells o done s at waits fewer v d e w card f marks cabin brought j).minute (seated o done s at waits fewer v d e w card f marks cabin brought j standing st.others st.stands));
+    back = λ x some. inl (subst (λ (n : ℕ). AreBack n cabin) (sym j.next.is_now)
+        (back-by_now (start_at o) (told_before w.b done) (w.b.run.book.sure ++ w.new) (course_in w.b done s at (and_find v.log f)).left s.number w.from (course_in w.b done s at (and_find v.log f)).slots cabin
+        (tells o done s at waits fewer v d e w card f marks cabin brought j)) x some);
     verdicts = verdicts-later o done w.b d e j.left w.verdicts;
     finds = finds o done s at waits fewer v d e w card f marks cabin brought j;
-    spared = λ x. j.spared x (w.spared x);
+    there = j.there w.there;
+    few = w.few;
+    spared = spared o done s at waits fewer v d e w card f marks cabin brought j;
+    written = written o done s at waits fewer v d e w card f marks cabin brought j;
     travels = j.travels;
   };
 }
@@ -231,6 +262,8 @@ judging-fails d e o done s at waits fewer v w card f marks cabin brought j k = r
   tells = tells o done s at waits fewer v d e w card f marks cabin brought j;
   verdicts = verdicts-later o done w.b d e j.left w.verdicts;
   finds = finds o done s at waits fewer v d e w card f marks cabin brought j;
-  spared = λ x. j.spared x (w.spared x);
+  there = j.there w.there;
+  few = w.few;
+  spared = spared o done s at waits fewer v d e w card f marks cabin brought j;
   travels = j.travels;
 }

@@ -1,9 +1,11 @@
+pub mod Left
+pub mod Back
+pub mod Written
 pub mod Parts
 pub mod Cutting
 pub mod Spans
 pub mod Beginning
 pub mod Feeding
-pub mod Rounds
 pub mod Acting
 pub mod Steps
 pub mod Ending

@@ -25,10 +25,10 @@ use Rattle.run_moments.specs.Telling.{told_with}
 use Rattle.run_moments.proofs.Failing.{power-on_cut}
 use Rattle.run_told.proofs.Known.{found-session}
 use Rattle.run_recorded.specs.Origin.{Origin, rule_of, start_at, first_of}
-use Rattle.run_recorded.specs.Ends.{AreVerdicts, AreSpared}
-use Rattle.run_recorded.specs.Beside.{TellsMore, entered_in, AreFewer}
+use Rattle.run_recorded.specs.Ends.{recording_by, AreVerdicts, AreSpared}
+use Rattle.run_recorded.specs.Beside.{TellsMore, entered_in, AreFewer, AreFewFound}
 use Rattle.run_recorded.proofs.Seconds.{failed-recorded}
-use Rattle.run_recorded.proofs.Beside.{second-tells, verdicts-on, spared-on}
+use Rattle.run_recorded.proofs.Beside.{second-tells, few-on, verdicts-on, spared-on}
 use Rattle.run_within.specs.Recorded.{Values, progress, carried, IsOff, Recorded}
 use Rattle.run_within.specs.Within.{cut_values}
 use Rattle.run_within.specs.Powering.{IsNotRead, AReadingFails}
@@ -101,6 +101,9 @@ module _ (o : Origin) (done : List TraceSecond) (s : TraceSecond) (supply : Supp
   spared : AreSpared o (done ++ s ∷ []) log e
   spared = spared-on o done (done ++ s ∷ []) v.log log d e (t ∷ []) v.next r.beside.spared further fewer (λ c whole. inl (failed.goes.untouched c whole))
 
+  few : AreFewFound (recording_by o (done ++ s ∷ []) log)
+  few = few-on o done (done ++ s ∷ []) v.log log (t ∷ []) v.next r.few further fewer
+
   tells : SlotsTell (start_at o) (went log (done ++ s ∷ [])).told r.book.sure [] (suc v.next - 1) (suc v.next / 60) (went log (done ++ s ∷ [])).before.slots (with_power_lost s.number v.cabin).slots
   tells =
       let T : Told = told_with true true s ended in
@@ -121,6 +124,8 @@ module _ (o : Origin) (done : List TraceSecond) (s : TraceSecond) (supply : Supp
     brought = r.brought;
     recorded = failed-recorded o done p r.travel v.marks (breakdowns_of d) (breakdowns_of e) r.brought r.recorded (may-fail supply v.next may) s number given failed.goes.breakdowns failed.broke;
     beside = record { verdicts = verdicts; spared = spared; travels = failed.travels };
+    there = failed.goes.there r.there;
+    few = few;
     found = found-session o.found B None (with_session A None v.cabin.cards) (found-session o.found A None v.cabin.cards r.found);
     early = r.early;
     held = record {

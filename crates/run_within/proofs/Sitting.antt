@@ -21,7 +21,7 @@ use Rattle.run_recorded.specs.Origin.{Origin}
 use Rattle.run_recorded.specs.Ends.{AreVerdicts}
 use Rattle.run_recorded.specs.Beside.{HaveLeftMore}
 use Rattle.run_within.specs.Within.{Beginning}
-use Rattle.run_within.proofs.Rounds.{seen-left}
+use Rattle.run_within.proofs.Left.{seen-left}
 
 itself : (c : Card) → same_card c c ≡ true
 itself A = refl

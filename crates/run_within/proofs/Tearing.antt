@@ -1,5 +1,5 @@
 -- A card that waits is torn out before it is judged.
-use Rattle.std.proofs.Common.{◌≡◌, ⊎_elim, ℕ, ◌≤◌, Bool, true, false, ◌&&◌, ◌||◌, nat_eq, Option, None, List, [], ◌∷◌, ◌++◌, Contains, map, refl, ap, sym, subst, ◌∙◌, arith}
+use Rattle.std.proofs.Common.{◌≡◌, inl, inr, ⊎_elim, ℕ, ◌≤◌, Bool, true, false, ◌&&◌, ◌||◌, nat_eq, is_some, Option, None, List, [], ◌∷◌, ◌++◌, Contains, map, refl, ap, sym, subst, ◌∙◌, arith}
 use Rattle.activity_codec.specs.declared.values.Slot.{Slot}
 use Rattle.activity_codec.specs.declared.values.Slot.TheVariants.{Driver, CoDriver}
 use Rattle.activity_codec.specs.Activity.{same_slot}
@@ -11,9 +11,12 @@ use Rattle.log_model.specs.Log.{RunLog, Phase, In, Keeping, same_phase, phase_of
 use Rattle.log_model.specs.Slots.{Slots, Sitting, in_slot}
 use Rattle.log_model.specs.Course.{Told, Course, Visit, visits, card_in, went}
 use Rattle.joint_rule.specs.Rules.{Standing}
+use Rattle.card_image.specs.Own.{IsOwnValid}
+use Rattle.safety_model.specs.Recording.{card_image}
 use Rattle.safety_model.specs.Safe.{Devices, card_of, breakdowns_of}
 use Rattle.slot_machine.specs.Kept.{Kept}
 use Rattle.run_crew.specs.declared.cabin.Cabin.{Cabin}
+use Rattle.run_crew.specs.Cards.{session_of}
 use Rattle.run_rule.specs.Found.{found_of}
 use Rattle.run_course.specs.Moments.{and_break}
 use Rattle.run_course.specs.Followed.{Progress}
@@ -32,9 +35,11 @@ use Rattle.run_moments.proofs.Kept.{nothing-else, marks-stay}
 use Rattle.run_present.specs.Presence.{PresentStand, IsSeated, sits}
 use Rattle.run_present.proofs.Presence.{none-to_keep}
 use Rattle.run_recorded.specs.Origin.{Origin, rule_of, start_at}
-use Rattle.run_within.specs.Recorded.{Values}
-use Rattle.run_within.specs.Within.{told_before, course_in, often, IsFoundSo, Within}
-use Rattle.run_within.proofs.Rounds.{verdict-left}
+use Rattle.run_within.specs.Recorded.{Values, AreBack}
+use Rattle.run_within.specs.Within.{told_before, course_in, often, IsFoundSo, MayBeWrittenSo, IsSparedSo, Within}
+use Rattle.run_within.proofs.Left.{verdict-left}
+use Rattle.run_within.proofs.Back.{back-by_now}
+use Rattle.run_within.proofs.Written.{written-fewer, torn-written}
 use Rattle.run_within.specs.Judging.{IsTornNext, AWaitingCardIsTorn, ATearingFails}
 use Rattle.run_within.proofs.Sitting.{another, sits-with, seated-still, verdicts-later}
 
@@ -133,6 +138,23 @@ module _ (o : Origin) (done : List TraceSecond) (s : TraceSecond) (at : Phase) (
     late = λ x verdict there accepts. w.finds.late x verdict (same-found x verdict there) accepts;
   }
 
+  -- which cards may be written
+  still-may : (x : Card) → MayBeWrittenSo o w.b done c waits x → MayBeWrittenSo o w.b done now fewer x
+  still-may x may = written-fewer o w.b done c now at slot card waits fewer j.next.but is.is.found is.is.entered x may
+
+  torn-may : (x : Card) → (x ≡ card) × IsOwnValid (card_image o.recording card) → MayBeWrittenSo o w.b done now fewer x
+  torn-may x valid = subst (λ (y : Card). MayBeWrittenSo o w.b done now fewer y) (sym valid.0)
+      (torn-written o w.b done c now at slot card waits fewer j.next.but is.is.found is.is.entered w.few (w.moment.counted card) valid.1)
+
+  pub spared : (x : Card) → IsSparedSo o w.b done now fewer e x
+  spared x = ⊎_elim
+      (λ whole. ⊎_elim (λ still. inl still) (λ wrote. inr (⊎_elim (λ some. still-may x (w.written x some)) (λ valid. torn-may x valid) wrote)) (j.untouched x whole))
+      (λ may. inr (still-may x may))
+      (w.spared x)
+
+  pub written : (x : Card) → is_some (session_of cabin.cards x) ≡ true → MayBeWrittenSo o w.b done now fewer x
+  written x some = still-may x (w.written x (j.sessions x some))
+
 pub torn-next : (d e : Devices) → AWaitingCardIsTorn d e
 torn-next d e o done s at waits fewer v w slot card b cabin standing j st = record {
   began = refl;
@@ -166,9 +188,15 @@ torn-next d e o done s at waits fewer v w slot card b cabin standing j st = reco
     present = subst (λ (n : ℕ). PresentStand o.found standing (told_before w.b done) (course_in w.b done s at (and_break v.log b)) s.number n cabin) (sym j.next.is_now)
         (none-to_keep o.found standing (told_before w.b done) (course_in w.b done s at (and_break v.log b)) s.number cabin (tells o done s at waits fewer v d e w slot card b cabin j).newest
         (tells o done s at waits fewer v d e w slot card b cabin j).minute (seated o done s at waits fewer v d e w slot card b cabin j standing st.others));
+    back = λ x some. inl (subst (λ (n : ℕ). AreBack n cabin) (sym j.next.is_now)
+        (back-by_now (start_at o) (told_before w.b done) (w.b.run.book.sure ++ w.new) (course_in w.b done s at (and_break v.log b)).left s.number w.from (course_in w.b done s at (and_break v.log b)).slots cabin
+        (tells o done s at waits fewer v d e w slot card b cabin j)) x some);
     verdicts = verdicts-later o done w.b d e j.left w.verdicts;
     finds = finds o done s at waits fewer v d e w slot card b cabin j;
-    spared = λ x. j.spared x (w.spared x);
+    there = j.there w.there;
+    few = w.few;
+    spared = spared o done s at waits fewer v d e w slot card b cabin j;
+    written = written o done s at waits fewer v d e w slot card b cabin j;
     travels = j.travels;
   };
 }
@@ -207,6 +235,8 @@ tearing-fails d e o done s at waits fewer v w slot card b cabin j k = record {
   tells = tells o done s at waits fewer v d e w slot card b cabin j;
   verdicts = verdicts-later o done w.b d e j.left w.verdicts;
   finds = finds o done s at waits fewer v d e w slot card b cabin j;
-  spared = λ x. j.spared x (w.spared x);
+  there = j.there w.there;
+  few = w.few;
+  spared = spared o done s at waits fewer v d e w slot card b cabin j;
   travels = j.travels;
 }

@@ -17,7 +17,7 @@ use Rattle.joint_rule.specs.Rules.{Standing}
 use Rattle.unit_course.specs.Legs.{all_travelled}
 use Rattle.unit_model.specs.Image.{odometer_at}
 use Rattle.unit_rule.specs.Odometer.{HasTravelled}
-use Rattle.card_image.specs.Own.{IsOwnValid}
+use Rattle.card_image.specs.Own.{own_view, IsOwnValid}
 use Rattle.safety_model.specs.Recording.{card_image}
 use Rattle.safety_model.specs.Safe.{Devices, card_of, breakdowns_of}
 use Rattle.slot_machine.specs.Kept.{IsFree, put_in, taken}
@@ -121,6 +121,10 @@ AJudgingFails d e = (o : Origin) (done : List TraceSecond) (s : TraceSecond) (at
 
 -- ---- a card that is torn out before it is judged
 
+-- a card is this one, which was valid and told of no later time
+abbrev pub MayBeWrittenBy : Origin → ℕ → Card → Card → Type 0
+MayBeWrittenBy o u card x = (x ≡ card) × IsOwnValid (card_image o.recording card) × ((own_view (card_image o.recording card)).stored ≤ u)
+
 abbrev pub torn_values : Break → Cabin → Values → Values
 torn_values b cabin v = record v { log = and_break v.log b; cabin = cabin }
 
@@ -133,7 +137,7 @@ pub record IsTornNext (o : Origin) (done : List TraceSecond) (s : TraceSecond) (
   pub sessions : AreOld v.cabin.cards cabin.cards
   pub left : HaveLeftMore o d e
   pub there : AreThere o.found d → AreThere o.found e
-  pub untouched : (x : Card) → IsUntouched (found_of o.found x) (card_of d x) → IsUntouched (found_of o.found x) (card_of e x) ⊎ ((is_some (session_of v.cabin.cards x) ≡ true) ⊎ ((x ≡ card) × IsOwnValid (card_image o.recording card)))
+  pub untouched : (x : Card) → IsUntouched (found_of o.found x) (card_of d x) → IsUntouched (found_of o.found x) (card_of e x) ⊎ ((is_some (session_of v.cabin.cards x) ≡ true) ⊎ MayBeWrittenBy o s.number card x)
   pub travels : HasTravelled (odometer_at o.recording.unit) (kept_all w.new w.b.run.book) (all_travelled w.ds w.b.travel) e.unit
 
 pub record StandTorn (o : Origin) (done : List TraceSecond) (s : TraceSecond) (at : Phase) (waits : List Visit) (v : Values) (d e : Devices) (w : Within o done s at waits None [] v d) (card : Card) (b : Break) (cabin : Cabin) (standing : Card → Standing) : Type 0 where

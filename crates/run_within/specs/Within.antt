@@ -58,12 +58,12 @@ use Rattle.run_recorded.specs.Beside.{HaveLeftMore, AreFewFound}
 use Rattle.run_present.specs.Presence.{PresentStand}
 use Rattle.slot_machine.specs.declared.seats.Present.{Present}
 use Rattle.slot_machine.specs.Calls.{seat_in, present_in}
-use Rattle.slot_machine.specs.Kept.{left_of}
+use Rattle.slot_machine.specs.Kept.{Kept as SlotsKept, left_of}
 use Rattle.run_crew.specs.declared.cabin.Cabin.{Cabin}
 use Rattle.run_crew.specs.declared.cards.Cards.{Cards}
 use Rattle.run_crew.specs.Cards.{session_of}
 use Rattle.run_crew.specs.Cabin.{SitsNowhere, Stands, with_minute_ended, with_power_lost}
-use Rattle.run_within.specs.Recorded.{Values, progress, carried, AreThere, Recorded}
+use Rattle.run_within.specs.Recorded.{Values, progress, carried, IsWrittenSince, AreThere, Recorded}
 
 -- as the second began, behind its power-on: how far the run had gone, the seconds of the span, what was travelled, the marks, how often each
 -- device had broken down, and what acceptances had brought
@@ -108,15 +108,18 @@ pub record IsFoundSo (o : Origin) (b : Beginning) (done : List TraceSecond) (c :
 abbrev pub overlaps_by : Origin → Card → List (Visit × Verdict) → List (Visit × Verdict)
 overlaps_by o card found = filter (λ f. same_card card f.0.card && is_overlap o.recording card f.1) found
 
--- A card may be written now: it was valid, and it entered more often than it was found to tell of a later time, where it does not wait still to
--- be judged.
-abbrev pub MayBeWrittenSo : Origin → Beginning → List TraceSecond → Course → (waits : List Visit) → Card → Type 0
-MayBeWrittenSo o b done c waits card = IsOwnValid (card_image o.recording card)
-    × (overlaps (recording_by o done b.run.log) card + length (overlaps_by o card c.found) + times_of card waits < entered (recording_by o done b.run.log) card + times_of card c.entered)
+-- A card may be written now, in the second of this number: it was valid, and entered more often than it was found to tell of a later time, where
+-- it does not wait still to be judged; and it was judged in one of the seconds before in which it entered, or is in this one.
+pub record MayBeWrittenSo (o : Origin) (b : Beginning) (done : List TraceSecond) (c : Course) (waits : List Visit) (u : ℕ) (kept : SlotsKept) (card : Card) : Type 0 where
+  pub valid : IsOwnValid (card_image o.recording card)
+  pub fewer : overlaps (recording_by o done b.run.log) card + length (overlaps_by o card c.found) + times_of card waits < entered (recording_by o done b.run.log) card + times_of card c.entered
+  pub time : ℕ
+  pub since : IsWrittenSince o kept u card time
+  pub entered_then : (0 < entered_by (recording_by o done b.run.log) card time) ⊎ ((time ≡ u) × (times_of card waits < times_of card c.entered))
 
 -- A card is as it was, or may be written.
-abbrev pub IsSparedSo : Origin → Beginning → List TraceSecond → Course → (waits : List Visit) → Devices → Card → Type 0
-IsSparedSo o b done c waits d card = IsUntouched (found_of o.found card) (card_of d card) ⊎ MayBeWrittenSo o b done c waits card
+abbrev pub IsSparedSo : Origin → Beginning → List TraceSecond → Course → (waits : List Visit) → (u : ℕ) → SlotsKept → Devices → Card → Type 0
+IsSparedSo o b done c waits u kept d card = IsUntouched (found_of o.found card) (card_of d card) ⊎ MayBeWrittenSo o b done c waits u kept card
 
 -- A CARD IS LEAVING a slot with this moment, and its session is not closed yet: it sits in none, and was not torn out. All minutes before this
 -- one are to be kept by then; in those that are still to be kept, from one on, it was present in that slot, if at all.
@@ -175,8 +178,8 @@ pub record Within (o : Origin) (done : List TraceSecond) (s : TraceSecond) (at :
   pub finds : IsFoundSo o b done (course_in b done s at v.log) s.number from new brought d
   pub there : AreThere o.found d
   pub few : AreFewFound (recording_by o done b.run.log)
-  pub spared : (c : Card) → IsSparedSo o b done (course_in b done s at v.log) waits d c
-  pub written : (c : Card) → is_some (session_of v.cabin.cards c) ≡ true → MayBeWrittenSo o b done (course_in b done s at v.log) waits c
+  pub spared : (c : Card) → IsSparedSo o b done (course_in b done s at v.log) waits s.number v.cabin.slots d c
+  pub written : (c : Card) → is_some (session_of v.cabin.cards c) ≡ true → MayBeWrittenSo o b done (course_in b done s at v.log) waits s.number v.cabin.slots c
   pub travels : HasTravelled (odometer_at o.recording.unit) (kept_all new b.run.book) (all_travelled ds b.travel) d.unit
 
 -- THE SECOND GOES ON: it began so, and this is the first minute that is still to be kept.
@@ -226,7 +229,7 @@ pub record CutWithin (o : Origin) (done : List TraceSecond) (s : TraceSecond) (a
   pub finds : IsFoundSo o b done (course_in b done s at v.log) s.number from new brought d
   pub there : AreThere o.found d
   pub few : AreFewFound (recording_by o done b.run.log)
-  pub spared : (c : Card) → IsSparedSo o b done (course_in b done s at v.log) waits d c
+  pub spared : (c : Card) → IsSparedSo o b done (course_in b done s at v.log) waits s.number v.cabin.slots d c
   pub travels : HasTravelled (odometer_at o.recording.unit) (broken_at (lost_minute o b done new lost) (kept_all new b.run.book)) (stranded_at lost (all_travelled ds b.travel)) d.unit
 
 -- what a run has by value behind the cut of a second, once that has gone

@@ -1,0 +1,2 @@
+//! The last use that the images of a card tell (profile): definitions (specs/).
+#![tactic(auto)]
