@@ -32,6 +32,7 @@ use Rattle.run_within.specs.Recorded.{Values, carried}
 use Rattle.run_within.specs.Within.{told_before, course_in, often, overlaps_by, IsFoundSo, MayBeWrittenSo, IsSparedSo, AreBackAt, AreOld, GoesOnSo, Within, GoesOn, CutWithin}
 use Rattle.run_within.proofs.Left.{verdict-left}
 use Rattle.run_within.proofs.Sitting.{verdicts-later}
+use Rattle.run_within.proofs.Seats.{StaysWritten}
 use Rattle.run_within.proofs.Until.{up-to}
 
 module _ (o : Origin) (done : List TraceSecond) (s : TraceSecond) (at next : Phase) (before waits : List Visit) (rest : List Minute) (v later : Values) (d e : Devices) (w : Within o done s at before None [] v d) where
@@ -58,6 +59,7 @@ module _ (o : Origin) (done : List TraceSecond) (s : TraceSecond) (at next : Pha
     pub decided : HasDecided (rule_of o) (start_at o) told0 w.b.run w.b.span now None sp w.ds rest w.new
     pub found : AreFoundCards o.found later.cabin.cards
     pub tells : SlotsTell (start_at o) told0 (w.b.run.book.sure ++ w.new) now.left s.number w.from now.slots later.cabin.slots
+    pub stays : (x : Card) → StaysWritten v.cabin.slots later.cabin.slots s.number x
     pub goes : GoesOnSo o v.cabin.cards d e
     pub travels : HasTravelled (odometer_at o.recording.unit) (kept_all w.new w.b.run.book) (all_travelled w.ds w.b.travel) e.unit
 
@@ -88,16 +90,16 @@ module _ (o : Origin) (done : List TraceSecond) (s : TraceSecond) (at next : Pha
       late = λ x verdict there accepts. w.finds.late x verdict (same-found x verdict there) accepts;
     }
 
-    written-on : (x : Card) → MayBeWrittenSo o w.b done c before x → MayBeWrittenSo o w.b done now waits x
-    written-on x h = (
-      h.0,
-      let lt = h.1 in
-          let f = ap (λ (fs : List (Visit × Verdict)). length (overlaps_by o x fs)) k.found_same in
-          let more = k.wait x in
-          omega (arith, lt, f, more),
-    )
+    written-on : (x : Card) → MayBeWrittenSo o w.b done c before s.number v.cabin.slots x → MayBeWrittenSo o w.b done now waits s.number later.cabin.slots x
+    written-on x h = record {
+      valid = h.valid;
+      fewer = (let lt = h.fewer in let f = ap (λ (fs : List (Visit × Verdict)). length (overlaps_by o x fs)) k.found_same in let more = k.wait x in omega (arith, lt, f, more));
+      time = h.time;
+      since = record { stored = h.since.stored; past = h.since.past; stays = k.stays x h.time h.since.past h.since.stays };
+      entered_then = ⊎_elim (λ early. inl early) (λ now_. inr (now_.0, (let lt = now_.1 in let more = k.wait x in omega (arith, lt, more)))) h.entered_then;
+    }
 
-    spared-on : (x : Card) → IsSparedSo o w.b done now waits e x
+    spared-on : (x : Card) → IsSparedSo o w.b done now waits s.number later.cabin.slots e x
     spared-on x = ⊎_elim
         (λ whole. ⊎_elim (λ still. inl still) (λ some. inr (written-on x (w.written x some))) (k.goes.untouched x whole))
         (λ may. inr (written-on x may))

@@ -13,13 +13,12 @@ use Rattle.minute_rules.specs.Kept.{Kept, StandsFor}
 use Rattle.log_model.specs.declared.lines.Break.{Break}
 use Rattle.log_model.specs.declared.lines.SlotFault.{SlotFault}
 use Rattle.log_model.specs.Log.{RunLog, Phase, In, found_in}
-use Rattle.log_model.specs.Slots.{Slots, in_slot, refusal}
+use Rattle.log_model.specs.Slots.{in_slot, refusal}
 use Rattle.log_model.specs.Course.{Told, Course, Visit, Before, Moved, with_slot, moved_by, carried_out, went}
 use Rattle.safety_model.specs.Safe.{Devices, breakdowns_of}
 use Rattle.slot_machine.specs.Calls.{seat_in}
-use Rattle.slot_machine.specs.Kept.{Kept as Slots_}
-use Rattle.run_crew.specs.Cards.{session_of}
-use Rattle.run_crew.specs.Cabin.{Stands, with_card_in}
+use Rattle.slot_machine.specs.Kept.{IsFree}
+use Rattle.run_crew.specs.Cabin.{with_card_in}
 use Rattle.run_course.specs.Followed.{Progress}
 use Rattle.run_course.specs.Presence.{SlotsTell}
 use Rattle.run_course.proofs.Presence.{put-in}
@@ -41,7 +40,7 @@ use Rattle.run_within.proofs.Back.{back-at, back-plain}
 use Rattle.run_within.proofs.Known.{waits-there}
 use Rattle.run_within.proofs.Sitting.{sits-with}
 use Rattle.run_within.proofs.Waking.{but-first}
-use Rattle.run_within.proofs.Seats.{free-for}
+use Rattle.run_within.proofs.Seats.{free-for, stays-put}
 use Rattle.run_within.proofs.Until.{settles-to, settles-here}
 use Rattle.run_within.proofs.Moved.{tears-begun, tears-found}
 use Rattle.run_within.proofs.Onward.{IsStep, Powers, steps-on}
@@ -108,6 +107,9 @@ module _ (o : Origin) (done : List TraceSecond) (s : TraceSecond) (v : Values) (
       (λ there. there)
       (sits-with c.slots slot (Some (record { card = card; accepted = None })) sl x u (ap (λ (k : Course). in_slot k.slots sl) (sym done_.1) ∙ here))
 
+  free : IsFree v.cabin.slots.seats slot card
+  free = free-for (start_at o) told0 (p.book.sure ++ w.new) c.left s.number w.from c.slots v.cabin.slots w.tells slot card s.speed is
+
   step : IsStep o done s (In n) (In (suc n)) [] waits decided v later d d w
   step = record {
     unfound_same = refl;
@@ -123,8 +125,8 @@ module _ (o : Origin) (done : List TraceSecond) (s : TraceSecond) (v : Values) (
         (settling-decides (rule_of o) (start_at o) told0 p w.b.span c then_ w.sp w.ds decided w.new w.decided refl refl decides);
     found = w.found;
     tells = same (λ (k : Course). SlotsTell (start_at o) told0 (p.book.sure ++ w.new) k.left s.number w.from k.slots later.cabin.slots)
-        (put-in (start_at o) told0 (p.book.sure ++ w.new) c.left s.number w.from c.slots v.cabin.slots w.tells slot card None None
-        (free-for (start_at o) told0 (p.book.sure ++ w.new) c.left s.number w.from c.slots v.cabin.slots w.tells slot card s.speed is) tt);
+        (put-in (start_at o) told0 (p.book.sure ++ w.new) c.left s.number w.from c.slots v.cabin.slots w.tells slot card None None free tt);
+    stays = λ x. stays-put slot card s.number v.cabin.slots free x;
     goes = still-goes o v d;
     travels = w.travels;
   }
@@ -156,7 +158,7 @@ module _ (o : Origin) (done : List TraceSecond) (s : TraceSecond) (v : Values) (
   }
 
 pub card-put : (d : Devices) → ACardIsPutIn d
-card-put d o done s v front slot card rest are w is low cabin minutes stands decided decides = is-put o done s v d front slot card rest are w is minutes stands decided decides
+card-put d o done s v front slot card rest are w is minutes stands decided decides = is-put o done s v d front slot card rest are w is minutes stands decided decides
 
 -- BEHIND THE KEEPING
 pub entered-next : (d e : Devices) → AnEnteredCardIsNext d e

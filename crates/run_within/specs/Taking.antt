@@ -58,7 +58,7 @@ pub record IsPut (o : Origin) (done : List TraceSecond) (s : TraceSecond) (v : V
 abbrev pub ACardIsPutIn : Devices → Type 0
 ACardIsPutIn d = (o : Origin) (done : List TraceSecond) (s : TraceSecond) (v : Values) (front : List Action) (slot : Slot) (card : Card) (rest : List Action) → s.actions ≡ front ++ Insert slot card ∷ rest →
     (w : Within o done s (In (length front)) [] None [] v d) → refusal (course_in w.b done s (In (length front)) v.log).slots s.speed (Insert slot card) ≡ None →
-    (low : ℕ) → Stands low None v.cabin → (minutes : Kept) → StandsFor minutes (settled w.sp) → (decided : List Minute) → decided_in (settled w.sp) ≡ decided_in w.sp ++ decided →
+    (minutes : Kept) → StandsFor minutes (settled w.sp) → (decided : List Minute) → decided_in (settled w.sp) ≡ decided_in w.sp ++ decided →
     IsPut o done s v d front slot card minutes decided w
 
 -- lines that tell of tears at a moment
