@@ -98,10 +98,13 @@ module _ (start : Start) (told : List Told) (past : List HistoryMinute) (left : 
         (λ sl x u there. ((emptied c.slots slot sl (record { card = x; accepted = Some u }) (ap (λ (q : Slots). in_slot q sl) (sym gone) ∙ there)).0, inl (stays x)))
       where
         stays : (x : Card) → StaysSo z z cabin.cards (torn_out card number cabin).cards x
-        stays x = (refl, λ some. ⊎_elim
-            (λ own. no-both (is_some (session_of cabin.cards x)) some (subst (λ (y : Card). is_some (session_of cabin.cards y) ≡ false) (same_is card x own) (ap (λ (q : Option Accepted). is_some q) none_)))
-            (λ ne. ap (λ (q : Option Accepted). is_some q) (still-has card x cabin.cards ne) ∙ some)
-            (this-or card x))
+        stays x = (
+          refl,
+          λ some. ⊎_elim
+              (λ own. no-both (is_some (session_of cabin.cards x)) some (subst (λ (y : Card). is_some (session_of cabin.cards y) ≡ false) (same_is card x own) (ap (λ (q : Option Accepted). is_some q) none_)))
+              (λ ne. ap (λ (q : Option Accepted). is_some q) (still-has card x cabin.cards ne) ∙ some)
+              (this-or card x),
+        )
 
 -- UNIT AND CARDS, where a card is pulled out and no device is called
 pub pull-powered : (f : Found) (w : Carried) (cards : Cards) (d : Devices) (card : Card) → IsPowered f w cards d → AreFoundCards f cards → (a : Accepted) → session_of cards card ≡ Some a → (time floor : ℕ) → (IsOwnValid (found_of f card).image → w.standing card ≡ In time a.session.minute) →
