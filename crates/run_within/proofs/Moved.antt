@@ -13,7 +13,6 @@ use Rattle.log_model.specs.declared.lines.Verdict.{Verdict}
 use Rattle.log_model.specs.Log.{RunLog, Phase, In, Keeping, is_torn_in, found_in, is_accepting}
 use Rattle.log_model.specs.Slots.{Slots, Sitting, in_slot, refusal}
 use Rattle.log_model.specs.Course.{Course, Visit, Before, Moved, visits, with_slot, leaves, slot_told, both_told, moved_by, carried_out, answered}
-use Rattle.event_model.specs.Events.{course_by}
 use Rattle.run_course.specs.Moments.{and_break}
 use Rattle.run_course.proofs.Lookups.{break-more}
 use Rattle.run_moments.specs.Reached.{moved_with, course_with, begun_at, moved_at, course_at, IsUpTo}
@@ -80,7 +79,7 @@ by-action log u n p (Some a) speed c slot x is = by-act log u n p a (refusal c.s
 
 pub not-leaving : (log : RunLog) (before : Before) (s : TraceSecond) (at : Phase) (slot : Slot) (x : Sitting) → in_slot (course_at log before s at).slots slot ≡ Some x → (moved_at log before s at).leaving slot ≡ []
 not-leaving log before s (In zero) slot x is = refl
-not-leaving log before s (In (suc n)) slot x is = by-action log s.number n (In (suc n)) (slice_get s.actions n) s.speed (course_by log before s n) slot x is
+not-leaving log before s (In (suc n)) slot x is = by-action log s.number n (In (suc n)) (slice_get s.actions n) s.speed _ slot x is
 not-leaving log before s Keeping slot x is = refl
 
 -- TEARS at a moment leave what begins and moves there

@@ -18,7 +18,6 @@ use Rattle.log_model.specs.declared.lines.Verdict.{Verdict}
 use Rattle.log_model.specs.Log.{RunLog, Phase, In, Keeping, is_torn_in, found_in, is_accepting}
 use Rattle.log_model.specs.Slots.{Slots, Sitting, same_card, in_slot, other_slot, holds, refusal}
 use Rattle.log_model.specs.Course.{Told, Course, Visit, Before, Moved, card_in as card_of_sitting, visits, with_slot, leaves, slot_told, both_told, moved_by, unmoved, carried_out, answered}
-use Rattle.event_model.specs.Events.{course_by}
 use Rattle.history_model.specs.Minutes.{HistoryMinute}
 use Rattle.history_model.specs.Presence.{Start}
 use Rattle.card_image.specs.Own.{IsOwnValid}
