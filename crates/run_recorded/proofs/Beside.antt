@@ -196,7 +196,7 @@ none-up c u from (t ∷ more) lt h =
     over : (n u : ℕ) → u < n → nat_le n u ≡ false
     over n u lt = grind (arith, nat_tests)
 
-entered-same : (o : Origin) (done now : List TraceSecond) (log later : RunLog) (more : List Told) (from : ℕ) → TellsMore (went log done).told (went later now).told more from → (c : Card) (u : ℕ) → u < from →
+pub entered-same : (o : Origin) (done now : List TraceSecond) (log later : RunLog) (more : List Told) (from : ℕ) → TellsMore (went log done).told (went later now).told more from → (c : Card) (u : ℕ) → u < from →
     entered_by (recording_by o now later) c u ≡ entered_by (recording_by o done log) c u
 entered-same o done now log later more from tells c u lt =
     counted-up o now later c u

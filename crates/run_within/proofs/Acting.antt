@@ -43,43 +43,47 @@ module _ (o : Origin) (done : List TraceSecond) (s : TraceSecond) (at : Phase) (
   acted : (log : RunLog) (next : Phase) (picks : List (Slot × Pick)) (refused : List SlotFault) (minutes : Kept) (sp : Span) → Moment p (went p.log done).before s next log [] w.b.broken (breakdowns_of d) →
       course_in w.b done s next log ≡ but picks refused → StandsFor minutes sp → ungiven_of sp ≡ ungiven_of w.sp →
       HasDecided (rule_of o) (start_at o) told0 p w.b.span (but picks refused) None sp w.ds [] w.new → GoesOn o done s next [] None [] (record v { log = log; minutes = minutes }) d w.b w.from
-  acted log next picks refused minutes sp m is stands still decided = record { began = refl; from = refl; within = record {
-    b = w.b;
-    lit = w.lit;
-    began = w.began;
-    unfound = w.unfound;
-    next = w.next;
-    moment = m;
-    sp = sp;
-    minutes = stands;
-    ds = w.ds;
-    new = w.new;
-    decided = same (λ (x : Course). HasDecided (rule_of o) (start_at o) told0 p w.b.span x None sp w.ds [] w.new) decided;
-    from = w.from;
-    kept_to = w.kept_to;
-    until = let to = w.until in omega (arith, to, still);
-    stay = w.stay;
-    marked = same (λ (x : Course). AreMarkedSoFar v.marks told0 x s.number w.new) (record { unit = w.marked.unit; card = w.marked.card });
-    due = w.due;
-    standing = w.standing;
-    brought = w.brought;
-    powered = w.powered;
-    found = w.found;
-    early = w.early;
-    late = w.late;
-    more = w.more;
-    tells = same (λ (x : Course). SlotsTell (start_at o) told0 (p.book.sure ++ w.new) x.left s.number w.from x.slots v.cabin.slots) w.tells;
-    present = same (λ (x : Course). PresentStand o.found w.standing told0 x s.number w.from v.cabin)
-        (record { seated = w.present.seated; ended = λ m present card low is in_. let h = w.present.ended m present card low is in_ in record { valid = h.valid; present = h.present; session = h.session } });
-    back = λ card some. inl (back-plain o done s at [] None v d w card some);
-    verdicts = w.verdicts;
-    finds = same (λ (x : Course). IsFoundSo o w.b done x s.number w.from w.new w.brought d) (record { may = w.finds.may; taken = w.finds.taken; late = w.finds.late });
-    there = w.there;
-    few = w.few;
-    spared = λ card. same (λ (x : Course). IsSparedSo o w.b done x [] d card) (w.spared card);
-    written = λ card some. same (λ (x : Course). MayBeWrittenSo o w.b done x [] card) (w.written card some);
-    travels = w.travels;
-  } }
+  acted log next picks refused minutes sp m is stands still decided = record {
+    began = refl;
+    from = refl;
+    within = record {
+      b = w.b;
+      lit = w.lit;
+      began = w.began;
+      unfound = w.unfound;
+      next = w.next;
+      moment = m;
+      sp = sp;
+      minutes = stands;
+      ds = w.ds;
+      new = w.new;
+      decided = same (λ (x : Course). HasDecided (rule_of o) (start_at o) told0 p w.b.span x None sp w.ds [] w.new) decided;
+      from = w.from;
+      kept_to = w.kept_to;
+      until = let to = w.until in omega (arith, to, still);
+      stay = w.stay;
+      marked = same (λ (x : Course). AreMarkedSoFar v.marks told0 x s.number w.new) (record { unit = w.marked.unit; card = w.marked.card });
+      due = w.due;
+      standing = w.standing;
+      brought = w.brought;
+      powered = w.powered;
+      found = w.found;
+      early = w.early;
+      late = w.late;
+      more = w.more;
+      tells = same (λ (x : Course). SlotsTell (start_at o) told0 (p.book.sure ++ w.new) x.left s.number w.from x.slots v.cabin.slots) w.tells;
+      present = same (λ (x : Course). PresentStand o.found w.standing told0 x s.number w.from v.cabin)
+          (record { seated = w.present.seated; ended = λ m present card low is in_. let h = w.present.ended m present card low is in_ in record { valid = h.valid; present = h.present; session = h.session } });
+      back = λ card some. inl (back-plain o done s at [] None v d w card some);
+      verdicts = w.verdicts;
+      finds = same (λ (x : Course). IsFoundSo o w.b done x s.number w.from w.new w.brought d) (record { may = w.finds.may; taken = w.finds.taken; late = w.finds.late });
+      there = w.there;
+      few = w.few;
+      spared = λ card. same (λ (x : Course). IsSparedSo o w.b done x [] s.number v.cabin.slots d card) (w.spared card);
+      written = λ card some. same (λ (x : Course). MayBeWrittenSo o w.b done x [] s.number v.cabin.slots card) (w.written card some);
+      travels = w.travels;
+    };
+  }
     where
       same : (P : Course → Type 0) → P (but picks refused) → P (course_in w.b done s next log)
       same P = subst P (sym is)

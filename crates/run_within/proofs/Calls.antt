@@ -26,6 +26,8 @@ use Rattle.unit_rule.specs.Odometer.{ShowsOdometer, HasTravelled}
 use Rattle.unit_rule.proofs.Moves.{shown-last}
 use Rattle.unit_rule.proofs.Travelling.{travelled-read, travelled-found}
 use Rattle.device_steps.specs.Rule.{Both, CardRests, IsTakenUp}
+use Rattle.card_image.specs.Own.{IsOwnValid}
+use Rattle.card_times.specs.Times.{AreTimedSince}
 use Rattle.safety_model.specs.Safe.{Devices, card_of, breakdowns_of}
 use Rattle.run_rule.specs.Between.{Carried, devices}
 use Rattle.run_rule.specs.Cards.{IsUntouched}
@@ -49,19 +51,20 @@ rose-by a b h = by (nat_le (a + 1) last_count) refl
 
 -- only the unit was called
 module _ (o : Origin) (d : Devices) (V : State) (rise : d.unit.breakdowns ≤ V.breakdowns) (tells : is_some V.image ≡ is_some d.unit.image) (keeps : (x : List ℕ) → d.unit.left_since o.found.unit.began x → V.left_since o.found.unit.began x) where
-  goes-on : GoOn o d (devices V d.card_a d.card_b)
-  goes-on = record { breakdowns = more; left = record { unit = keeps; card = left }; there = there; untouched = still }
+  pub goes-on : GoOn o d (devices V d.card_a d.card_b)
+  goes-on = record { breakdowns = more; left = record { unit = keeps; card = left }; there = λ h. record { unit = tells ∙ h.unit; cards = images h; clocks = clocks h; timed = timed h }; untouched = still }
     where
-      there : AreThere o.found d → AreThere o.found (devices V d.card_a d.card_b)
-      there h = record { unit = tells ∙ h.unit; cards = images; clocks = clocks }
-        where
-          images : (c : Card) → is_some (card_of (devices V d.card_a d.card_b) c).image ≡ true
-          images A = h.cards A
-          images B = h.cards B
+      images : AreThere o.found d → (c : Card) → is_some (card_of (devices V d.card_a d.card_b) c).image ≡ true
+      images h A = h.cards A
+      images h B = h.cards B
 
-          clocks : (c : Card) → (found_of o.found c).began ≤ (card_of (devices V d.card_a d.card_b) c).clock
-          clocks A = h.clocks A
-          clocks B = h.clocks B
+      clocks : AreThere o.found d → (c : Card) → (found_of o.found c).began ≤ (card_of (devices V d.card_a d.card_b) c).clock
+      clocks h A = h.clocks A
+      clocks h B = h.clocks B
+
+      timed : AreThere o.found d → (c : Card) → IsOwnValid (found_of o.found c).image → AreTimedSince (found_of o.found c).image (found_of o.found c).began (card_of (devices V d.card_a d.card_b) c)
+      timed h A valid = h.timed A valid
+      timed h B valid = h.timed B valid
 
       more : IsMore (breakdowns_of d) (breakdowns_of (devices V d.card_a d.card_b))
       more Recorder = rise

@@ -34,7 +34,8 @@ use Rattle.run_within.specs.Within.{told_before, course_in, AreOld, Within, Goes
 use Rattle.run_within.specs.Taking.{IsCalledLeaving, closed_values, fallen_values, ASessionIsClosed, AClosingFails, ALeavingCardIsTorn, ALeavingTearFails}
 use Rattle.run_within.proofs.Back.{back-at, back-plain}
 use Rattle.run_within.proofs.Sitting.{seated-still}
-use Rattle.run_within.proofs.Seats.{no-both, this-or, for-other, old-less, found-less, none-sits, sits-back, seat-tells, nowhere-none, nowhere-not, emptied, tells-still, stays-same}
+use Rattle.run_within.proofs.Stays.{goes-still}
+use Rattle.run_within.proofs.Seats.{no-both, this-or, for-other, old-less, found-less, none-sits, sits-back, seat-tells, nowhere-none, nowhere-not, emptied, tells-still}
 use Rattle.run_within.proofs.Onward.{IsStep, Powers, steps-on, step-fails}
 
 module _ (o : Origin) (done : List TraceSecond) (s : TraceSecond) (at : Phase) (v : Values) (d e : Devices) (w : Within o done s at [] None [] v d) (slot : Slot) (card : Card) (k : IsCalledLeaving o done s at v d e w slot card) where
@@ -83,7 +84,7 @@ module _ (o : Origin) (done : List TraceSecond) (s : TraceSecond) (at : Phase) (
     decided = w.decided;
     found = found-less o.found card v.cabin.cards w.found;
     tells = w.tells;
-    stays = λ x. stays-same v.cabin.slots v.cabin.slots s.number x refl;
+    stays = λ x. goes-still s.number v.cabin.slots v.cabin.slots x refl;
     goes = k.goes;
     travels = k.travels;
   }
@@ -149,7 +150,7 @@ module _ (o : Origin) (done : List TraceSecond) (s : TraceSecond) (at : Phase) (
       decided = nothing-else (rule_of o) (start_at o) told0 p w.b.span c now None w.sp w.ds [] w.new w.decided is.is.picks is.is.settled;
       found = found-less o.found card (with_session card None v.cabin.cards) (found-less o.found card v.cabin.cards w.found);
       tells = tells-now;
-      stays = λ x. stays-same v.cabin.slots later.cabin.slots s.number x slots-same;
+      stays = λ x. goes-still s.number v.cabin.slots later.cabin.slots x slots-same;
       goes = k.goes;
       travels = k.travels;
     }

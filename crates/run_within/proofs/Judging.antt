@@ -12,8 +12,6 @@ use Rattle.log_model.specs.Log.{Phase, is_accepting}
 use Rattle.log_model.specs.Slots.{Slots, Sitting, in_slot}
 use Rattle.log_model.specs.Course.{Told, Course, Visit, card_in, with_slot, went}
 use Rattle.joint_rule.specs.Rules.{Standing}
-use Rattle.card_image.specs.Own.{IsOwnValid}
-use Rattle.safety_model.specs.Recording.{card_image}
 use Rattle.safety_model.specs.Safe.{Devices, card_of, breakdowns_of}
 use Rattle.slot_machine.specs.Kept.{Kept}
 use Rattle.run_crew.specs.declared.cabin.Cabin.{Cabin}
@@ -31,11 +29,12 @@ use Rattle.run_moments.proofs.Kept.{nothing-else, marks-stay}
 use Rattle.run_present.specs.Presence.{PresentStand, IsSeated, sits}
 use Rattle.run_present.proofs.Presence.{none-to_keep}
 use Rattle.run_recorded.specs.Origin.{Origin, rule_of, start_at}
-use Rattle.run_within.specs.Recorded.{Values, AreBack}
+use Rattle.run_within.specs.Recorded.{Values, AreBack, SitsAccepted, GoesOnIn}
 use Rattle.run_within.specs.Within.{told_before, course_in, VerdictBy, often, IsFoundSo, MayBeWrittenSo, IsSparedSo, Within}
 use Rattle.run_within.specs.Judging.{IsAcceptedSo, IsSeatedBy, IsAccepted, IsJudged, ACardIsJudged, AJudgingFails}
 use Rattle.run_within.proofs.Left.{verdict-left}
 use Rattle.run_within.proofs.Back.{back-by_now}
+use Rattle.run_within.proofs.Stays.{goes-still, goes-put_in, sits-put_in}
 use Rattle.run_within.proofs.Written.{written-judged, accepted-written, accepted-valid}
 use Rattle.run_within.proofs.Sitting.{another, sits-with, seated-still, verdicts-later}
 
@@ -163,23 +162,31 @@ module _ (o : Origin) (done : List TraceSecond) (s : TraceSecond) (at : Phase) (
   }
 
   -- which cards may be written
-  own-valid : is_accepting f.verdict ≡ true → IsOwnValid (card_image o.recording card)
-  own-valid accepts = accepted-valid o j.may.0 (e.unit.left_since o.found.unit.began) ((card_of e card).left_since (found_of o.found card).began) card s.number f.verdict accepts j.may.2
+  goes : (x : Card) → GoesOnIn s.number v.cabin.slots cabin.slots x
+  goes x = by (is_accepting f.verdict) j.seats
+    where
+      by : (b : Bool) → IsSeatedBy b o done s at waits v d w f.slot card cabin brought → GoesOnIn s.number v.cabin.slots cabin.slots x
+      by true a = subst (λ (k : Kept). GoesOnIn s.number v.cabin.slots k x) (sym a.slots_are) (goes-put_in s.number f.slot card (Some a.newest) v.cabin.slots x a.free)
+      by false a = goes-still s.number v.cabin.slots cabin.slots x a
 
-  accepted-may : (x : Card) → IsAccepted card (is_accepting f.verdict) x → MayBeWrittenSo o w.b done now fewer x
-  accepted-may x is_ = subst (λ (y : Card). MayBeWrittenSo o w.b done now fewer y) (sym is_.0)
-      (accepted-written o w.b done c now at f.slot card waits fewer f.verdict j.next.but found-is is.entered w.few (w.moment.counted card) (own-valid is_.1) is_.1)
+  accepted-may : (x : Card) → IsAccepted card (is_accepting f.verdict) x → MayBeWrittenSo o w.b done now fewer s.number cabin.slots x
+  accepted-may x is_ =
+      let a = accepted-by is_.1 in
+      let valid = accepted-valid o j.may.0 (e.unit.left_since o.found.unit.began) ((card_of e card).left_since (found_of o.found card).began) card s.number f.verdict is_.1 j.may.2 in
+      subst (λ (y : Card). MayBeWrittenSo o w.b done now fewer s.number cabin.slots y) (sym is_.0)
+      (accepted-written o w.b done c now at f.slot card waits fewer f.verdict s.number cabin.slots j.next.but found-is is.entered w.few (w.moment.counted card) valid.0 valid.1
+      (subst (λ (k : Kept). SitsAccepted k card) (sym a.slots_are) (sits-put_in f.slot card a.newest v.cabin.slots)) is_.1)
 
-  still-may : (x : Card) → MayBeWrittenSo o w.b done c waits x → MayBeWrittenSo o w.b done now fewer x
-  still-may x may = written-judged o w.b done c now at f.slot card waits fewer f.verdict j.next.but found-is is.entered x may
+  still-may : (x : Card) → MayBeWrittenSo o w.b done c waits s.number v.cabin.slots x → MayBeWrittenSo o w.b done now fewer s.number cabin.slots x
+  still-may x may = written-judged o w.b done c now at f.slot card waits fewer f.verdict s.number v.cabin.slots cabin.slots j.next.but found-is is.entered x (goes x) may
 
-  pub spared : (x : Card) → IsSparedSo o w.b done now fewer e x
+  pub spared : (x : Card) → IsSparedSo o w.b done now fewer s.number cabin.slots e x
   spared x = ⊎_elim
       (λ whole. ⊎_elim (λ still. inl still) (λ wrote. inr (⊎_elim (λ some. still-may x (w.written x some)) (λ is_. accepted-may x is_) wrote)) (j.untouched x whole))
       (λ may. inr (still-may x may))
       (w.spared x)
 
-  pub written : (x : Card) → is_some (session_of cabin.cards x) ≡ true → MayBeWrittenSo o w.b done now fewer x
+  pub written : (x : Card) → is_some (session_of cabin.cards x) ≡ true → MayBeWrittenSo o w.b done now fewer s.number cabin.slots x
   written x some = ⊎_elim (λ had. still-may x (w.written x had)) (λ is_. accepted-may x is_) (j.sessions x some)
 
 pub judged-so : (d e : Devices) → ACardIsJudged d e

@@ -42,7 +42,8 @@ use Rattle.run_within.specs.Within.{Beginning, told_before, course_in, IsLeaving
 use Rattle.run_within.specs.Taking.{left_values, IsLeft, ACardLeaves}
 use Rattle.run_within.proofs.Back.{back-plain, low-too}
 use Rattle.run_within.proofs.Sitting.{sits-with}
-use Rattle.run_within.proofs.Seats.{this-or, card-seated, seated-there, seat-tells, one-slot, nowhere-then, none-there, seat-left, stays-taken}
+use Rattle.run_within.proofs.Stays.{goes-taken}
+use Rattle.run_within.proofs.Seats.{this-or, card-seated, seated-there, seat-tells, one-slot, nowhere-then, none-there, seat-left}
 use Rattle.run_within.proofs.Until.{settles-to, settles-here}
 use Rattle.run_within.proofs.Onward.{IsStep, Powers, steps-on}
 use Rattle.run_within.proofs.Putting.{still-goes, slot-itself}
@@ -110,7 +111,7 @@ module _ (o : Origin) (done : List TraceSecond) (s : TraceSecond) (v : Values) (
     found = w.found;
     tells = same (λ (k : Course). SlotsTell (start_at o) told0 (p.book.sure ++ w.new) k.left s.number w.from k.slots later.cabin.slots)
         (taken-out (start_at o) told0 (p.book.sure ++ w.new) c.left s.number w.from c.slots v.cabin.slots w.tells slot);
-    stays = λ x. stays-taken slot s.number v.cabin.slots x;
+    stays = λ x. goes-taken s.number slot v.cabin.slots x;
     goes = still-goes o v d;
     travels = w.travels;
   }

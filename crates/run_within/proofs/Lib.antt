@@ -1,5 +1,6 @@
 pub mod Left
 pub mod Back
+pub mod Stays
 pub mod Written
 pub mod Parts
 pub mod Cutting

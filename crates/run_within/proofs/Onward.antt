@@ -28,11 +28,11 @@ use Rattle.run_moments.proofs.Kept.{marks-stay}
 use Rattle.run_told.specs.Told.{AreFoundCards, IsPowered, IsPowerless}
 use Rattle.run_recorded.specs.Origin.{Origin, rule_of, start_at}
 use Rattle.run_present.specs.Presence.{PresentStand}
-use Rattle.run_within.specs.Recorded.{Values, carried}
+use Rattle.run_within.specs.Recorded.{Values, carried, GoesOnIn}
 use Rattle.run_within.specs.Within.{told_before, course_in, often, overlaps_by, IsFoundSo, MayBeWrittenSo, IsSparedSo, AreBackAt, AreOld, GoesOnSo, Within, GoesOn, CutWithin}
 use Rattle.run_within.proofs.Left.{verdict-left}
 use Rattle.run_within.proofs.Sitting.{verdicts-later}
-use Rattle.run_within.proofs.Seats.{StaysWritten}
+use Rattle.run_within.proofs.Stays.{since-on}
 use Rattle.run_within.proofs.Until.{up-to}
 
 module _ (o : Origin) (done : List TraceSecond) (s : TraceSecond) (at next : Phase) (before waits : List Visit) (rest : List Minute) (v later : Values) (d e : Devices) (w : Within o done s at before None [] v d) where
@@ -59,7 +59,7 @@ module _ (o : Origin) (done : List TraceSecond) (s : TraceSecond) (at next : Pha
     pub decided : HasDecided (rule_of o) (start_at o) told0 w.b.run w.b.span now None sp w.ds rest w.new
     pub found : AreFoundCards o.found later.cabin.cards
     pub tells : SlotsTell (start_at o) told0 (w.b.run.book.sure ++ w.new) now.left s.number w.from now.slots later.cabin.slots
-    pub stays : (x : Card) → StaysWritten v.cabin.slots later.cabin.slots s.number x
+    pub stays : (x : Card) → GoesOnIn s.number v.cabin.slots later.cabin.slots x
     pub goes : GoesOnSo o v.cabin.cards d e
     pub travels : HasTravelled (odometer_at o.recording.unit) (kept_all w.new w.b.run.book) (all_travelled w.ds w.b.travel) e.unit
 
@@ -95,7 +95,7 @@ module _ (o : Origin) (done : List TraceSecond) (s : TraceSecond) (at next : Pha
       valid = h.valid;
       fewer = (let lt = h.fewer in let f = ap (λ (fs : List (Visit × Verdict)). length (overlaps_by o x fs)) k.found_same in let more = k.wait x in omega (arith, lt, f, more));
       time = h.time;
-      since = record { stored = h.since.stored; past = h.since.past; stays = k.stays x h.time h.since.past h.since.stays };
+      since = since-on o s.number v.cabin.slots later.cabin.slots x h.time (k.stays x) h.since;
       entered_then = ⊎_elim (λ early. inl early) (λ now_. inr (now_.0, (let lt = now_.1 in let more = k.wait x in omega (arith, lt, more)))) h.entered_then;
     }
 

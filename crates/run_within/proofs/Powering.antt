@@ -19,7 +19,7 @@ use Rattle.unit_course.specs.Legs.{resumed}
 use Rattle.unit_course.specs.Travelled.{MayShow}
 use Rattle.unit_course.specs.Turn.{span_at}
 use Rattle.safety_model.specs.Cards.{entered, overlaps}
-use Rattle.safety_model.specs.Safe.{Devices, breakdowns_of}
+use Rattle.safety_model.specs.Safe.{Devices, breakdowns_of, entered_by}
 use Rattle.run_crew.specs.Cards.{session_of}
 use Rattle.run_rule.specs.Between.{Carried}
 use Rattle.run_course.specs.Followed.{Progress}
@@ -37,13 +37,16 @@ use Rattle.run_recorded.specs.Seconds.{found_again}
 use Rattle.run_recorded.specs.Ends.{recording_by, AreVerdicts}
 use Rattle.run_recorded.proofs.Seconds.{found-recorded, more-recorded}
 use Rattle.run_recorded.specs.Beside.{AreFewFound}
-use Rattle.run_recorded.proofs.Beside.{found-tells, few-on, idle-verdicts, idle-spared}
+use Rattle.run_recorded.proofs.Beside.{found-tells, few-on, written-on, idle-verdicts}
 use Rattle.run_present.specs.Presence.{PresentStand, sits}
 use Rattle.run_present.proofs.Presence.{none-to_keep}
-use Rattle.run_within.specs.Recorded.{Values, progress, carried, IsOff, IsHeldBy, Recorded}
+use Rattle.run_within.specs.Recorded.{Values, progress, carried, IsWritten, IsOff, IsHeldBy, Recorded}
 use Rattle.run_within.specs.Within.{Beginning, course_in, overlaps_by, IsFoundSo, IsSparedSo, CutWithin}
 use Rattle.run_within.specs.Waking.{IsWaking, both_slots, PowerWakes}
 use Rattle.run_within.specs.Powering.{read_values, begun_values, begun_again, GoOn, PowerIsBack, AMendingFails}
+use Rattle.run_within.proofs.Parts.{entered-told}
+use Rattle.run_within.proofs.Stays.{since-later}
+use Rattle.run_within.proofs.Written.{written-begins}
 
 -- WITHOUT POWER, where power may come
 pub off-of : (o : Origin) (done : List TraceSecond) (supply : Supply) (v : Values) (w : Carried) (d : Devices) → MayPower supply v.next → IsHeldBy o done supply v w d → IsOff o done v w d
@@ -139,15 +142,16 @@ module _ (o : Origin) (done : List TraceSecond) (s : TraceSecond) (supply : Supp
       late = λ x verdict at. absurd (none-yet x verdict at);
     }
 
-    pub spared : (card : Card) → IsSparedSo o (before mid) done c (fresh true now.before.slots).entered e card
+    pub spared : (card : Card) → IsSparedSo o (before mid) done c (fresh true now.before.slots).entered s.number v.cabin.slots e card
     spared card = ⊎_elim
-        (λ whole. inl whole)
-        (λ written. inr (
-          written.0,
-          as-begun (λ (x : Course). overlaps (recording_by o done run.log) card + length (overlaps_by o card x.found) + times_of card (fresh true now.before.slots).entered < entered (recording_by o done run.log) card + times_of card x.entered)
-              (let lt = written.1 in omega (arith, lt)),
-        ))
-        (idle-spared o done done v.log run.log d e [] v.next r.beside.spared (found-tells o done p r.recorded.followed k) tt (λ x whole. inl (goes.untouched x whole)) card)
+        (λ whole. inl (goes.untouched card whole))
+        (λ (h : IsWritten o done v card).
+        let may = written-on o done done v.log run.log [] v.next (found-tells o done p r.recorded.followed k) tt card h.may in
+        let then : 0 < entered_by (recording_by o done run.log) card h.time =
+        (let same_count = entered-told o done done v.log run.log card h.time (ap (λ (w : Went). w.told) same) in let was_then = h.entered_then in omega (arith, same_count, was_then)) in
+        inr (written-begins o (before mid) done c (fresh true now.before.slots).entered s.number v.cabin.slots card (ap (λ (x : Course). x.found) course-is) (ap (λ (x : Course). x.entered) course-is) may.0 may.1 h.time
+        (since-later o (v.next - 1) s.number v.cabin.slots card h.time (omega (arith, number)) h.since) then))
+        (r.written card)
 
   few : AreFewFound (recording_by o done run.log)
   few = few-on o done done v.log run.log [] v.next r.few (found-tells o done p r.recorded.followed k) tt

@@ -18,7 +18,7 @@ use Rattle.slot_machine.specs.Kept.{Kept, taken}
 use Rattle.run_crew.specs.declared.cards.Accepted.{Accepted}
 use Rattle.run_crew.specs.declared.cards.Cards.{Cards}
 use Rattle.run_crew.specs.Cards.{session_of}
-use Rattle.run_crew.specs.Cabin.{Stands, torn_out}
+use Rattle.run_crew.specs.Cabin.{Stands, slot_with, torn_out}
 use Rattle.run_rule.specs.Found.{CardFound, found_of}
 use Rattle.run_course.specs.Followed.{Progress}
 use Rattle.run_course.specs.Presence.{SlotsTell}
@@ -37,7 +37,8 @@ use Rattle.run_within.specs.Within.{told_before, course_in, AreBackAt, Within, G
 use Rattle.run_within.specs.Judging.{torn_values}
 use Rattle.run_within.specs.Taking.{pulled_line, ACardIsPulledOut}
 use Rattle.run_within.proofs.Back.{back-at, back-plain}
-use Rattle.run_within.proofs.Seats.{bare-same, old-less, found-less, seated-there, seat-tells, sits-there, answers-in, accepted-seat, stays-taken, StaysWritten}
+use Rattle.run_within.proofs.Stays.{goes-left_from}
+use Rattle.run_within.proofs.Seats.{bare-same, old-less, found-less, seated-there, seat-tells, sits-there, answers-in, accepted-seat}
 use Rattle.run_within.proofs.Until.{few-left}
 use Rattle.run_within.proofs.Onward.{IsStep, Powers, steps-on}
 use Rattle.run_within.proofs.Putting.{still-goes}
@@ -147,7 +148,7 @@ module _ (o : Origin) (done : List TraceSecond) (s : TraceSecond) (v : Values) (
     tells = subst (λ (q : Kept). SlotsTell (start_at o) told0 (p.book.sure ++ w.new) now.left s.number w.from now.slots q) (sym taken-are)
         (same (λ (k : Course). SlotsTell (start_at o) told0 (p.book.sure ++ w.new) k.left s.number w.from k.slots (taken slot s.number v.cabin.slots))
         (taken-out (start_at o) told0 (p.book.sure ++ w.new) c.left s.number w.from c.slots v.cabin.slots w.tells slot));
-    stays = λ x. subst (λ (q : Kept). StaysWritten v.cabin.slots q s.number x) (sym taken-are) (stays-taken slot s.number v.cabin.slots x);
+    stays = λ x. goes-left_from s.number (slot_with v.cabin.slots.seats card) v.cabin.slots x;
     goes = still-goes o v d;
     travels = w.travels;
   }

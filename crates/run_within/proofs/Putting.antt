@@ -40,7 +40,8 @@ use Rattle.run_within.proofs.Back.{back-at, back-plain}
 use Rattle.run_within.proofs.Known.{waits-there}
 use Rattle.run_within.proofs.Sitting.{sits-with}
 use Rattle.run_within.proofs.Waking.{but-first}
-use Rattle.run_within.proofs.Seats.{free-for, stays-put}
+use Rattle.run_within.proofs.Stays.{goes-put_in}
+use Rattle.run_within.proofs.Seats.{free-for}
 use Rattle.run_within.proofs.Until.{settles-to, settles-here}
 use Rattle.run_within.proofs.Moved.{tears-begun, tears-found}
 use Rattle.run_within.proofs.Onward.{IsStep, Powers, steps-on}
@@ -126,7 +127,7 @@ module _ (o : Origin) (done : List TraceSecond) (s : TraceSecond) (v : Values) (
     found = w.found;
     tells = same (λ (k : Course). SlotsTell (start_at o) told0 (p.book.sure ++ w.new) k.left s.number w.from k.slots later.cabin.slots)
         (put-in (start_at o) told0 (p.book.sure ++ w.new) c.left s.number w.from c.slots v.cabin.slots w.tells slot card None None free tt);
-    stays = λ x. stays-put slot card s.number v.cabin.slots free x;
+    stays = λ x. goes-put_in s.number slot card None v.cabin.slots x free;
     goes = still-goes o v d;
     travels = w.travels;
   }

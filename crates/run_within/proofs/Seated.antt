@@ -11,7 +11,7 @@ use Rattle.log_model.specs.Course.{Told, Course, Visit, Before, visits, card_in 
 use Rattle.joint_rule.specs.Rules.{Standing, In as IsIn, Torn}
 use Rattle.safety_model.specs.Safe.{Devices, breakdowns_of}
 use Rattle.slot_machine.specs.Kept.{Kept, taken}
-use Rattle.run_crew.specs.Cabin.{torn_out}
+use Rattle.run_crew.specs.Cabin.{slot_with, torn_out}
 use Rattle.run_course.specs.Followed.{Progress}
 use Rattle.run_course.specs.Presence.{SlotsTell}
 use Rattle.run_course.specs.Seconds.{kept_all}
@@ -32,7 +32,8 @@ use Rattle.run_within.specs.Within.{told_before, course_in, Within, GoesOn}
 use Rattle.run_within.specs.Judging.{torn_values}
 use Rattle.run_within.specs.Taking.{fallen, IsCalledSeated, ASeatedCardIsTorn, ASeatedTearFails}
 use Rattle.run_within.proofs.Back.{back-at, back-plain}
-use Rattle.run_within.proofs.Seats.{old-less, found-less, stays-taken, StaysWritten}
+use Rattle.run_within.proofs.Stays.{goes-left_from}
+use Rattle.run_within.proofs.Seats.{old-less, found-less}
 use Rattle.run_within.proofs.Until.{few-left}
 use Rattle.run_within.proofs.Moved.{not-leaving}
 use Rattle.run_within.proofs.Onward.{IsStep, Powers, steps-on, step-fails}
@@ -98,7 +99,7 @@ module _ (o : Origin) (done : List TraceSecond) (s : TraceSecond) (at : Phase) (
     found = found-less o.found card v.cabin.cards w.found;
     tells = subst (λ (q : Kept). SlotsTell (start_at o) told0 (p.book.sure ++ w.new) now.left s.number w.from now.slots q) (sym taken-are)
         (tear-tells (start_at o) told0 (p.book.sure ++ w.new) s.number w.from slot c now v.cabin.slots w.tells is.is);
-    stays = λ x. subst (λ (q : Kept). StaysWritten v.cabin.slots q s.number x) (sym taken-are) (stays-taken slot s.number v.cabin.slots x);
+    stays = λ x. goes-left_from s.number (slot_with v.cabin.slots.seats card) v.cabin.slots x;
     goes = k.goes;
     travels = k.travels;
   }

@@ -38,7 +38,6 @@ use Rattle.run_course.specs.Within.{IsTornFrom}
 use Rattle.run_moments.specs.Reached.{moved_with, course_with, begun_at, moved_at, course_at}
 use Rattle.run_told.specs.Told.{AreFoundCards, for_card}
 use Rattle.run_present.specs.Presence.{sits}
-use Rattle.run_within.specs.Recorded.{SitsAccepted, LeftSince}
 
 -- ---- cases
 
@@ -239,69 +238,9 @@ left-other B B n minute left is = no-both true refl is
 left-other A B n minute left is = refl
 left-other B A n minute left is = refl
 
-left-own : (c d : Card) (n : Option ℕ) (minute : ℕ) (left : Lefts) → same_card c d ≡ true → left_of (with_left minute (Some (record { card = c; newest = n })) left) d ≡ Some minute
-left-own A A n minute left is = refl
-left-own B B n minute left is = refl
-left-own A B n minute left is = no-both true is refl
-left-own B A n minute left is = no-both true is refl
-
 pub seat-left : (c d : Card) (seat : Option Seat) (minute : ℕ) (left : Lefts) → card_in seat ≡ Some c → same_card c d ≡ false → left_of (with_left minute seat left) d ≡ left_of left d
 seat-left c d None minute left is ne = absurd (cc)
 seat-left c d (Some seat) minute left is ne = let own : seat.card ≡ c = cc in left-other seat.card d seat.newest minute left (ap (λ (x : Card). same_card x d) own ∙ ne)
-
--- WHO SITS ACCEPTED, or has left since a second, does so still
-abbrev pub StaysWritten : (old new : Kept) → ℕ → Card → Type 0
-StaysWritten old new u x = (t : ℕ) → t ≤ u → SitsAccepted old x ⊎ LeftSince (t / 60) (left_of old.left x) → SitsAccepted new x ⊎ LeftSince (t / 60) (left_of new.left x)
-
--- as a slot is emptied in this second,
-left-on : (seat : Option Seat) (x : Card) (left : Lefts) (u t : ℕ) → t ≤ u → LeftSince (t / 60) (left_of left x) → LeftSince (t / 60) (left_of (with_left (u / 60) seat left) x)
-left-on None x left u t le h = h
-left-on (Some seat) x left u t le h = ⊎_elim
-    (λ same. subst (LeftSince (t / 60)) (sym (left-own seat.card x seat.newest (u / 60) left same)) (let low : t / 60 ≤ u / 60 = omega (arith, le) in low))
-    (λ ne. subst (LeftSince (t / 60)) (sym (left-other seat.card x seat.newest (u / 60) left ne)) h)
-    (this-or seat.card x)
-
-seat-on : (seats : Seats) (slot at : Slot) (x : Card) (n : ℕ) → seat_in seats at ≡ Some (record { card = x; newest = Some n }) → (seat_in seats slot ≡ Some (record { card = x; newest = Some n })) ⊎ (seat_in (with_seat seats slot None) at ≡ Some (record { card = x; newest = Some n }))
-seat-on seats Driver Driver x n is = inl is
-seat-on seats CoDriver CoDriver x n is = inl is
-seat-on seats Driver CoDriver x n is = inr is
-seat-on seats CoDriver Driver x n is = inr is
-
-pub stays-taken : (slot : Slot) (u : ℕ) (k : Kept) (x : Card) → StaysWritten k (taken slot u k) u x
-stays-taken slot u k x t le h = ⊎_elim
-    (λ sits_. ⊎_elim
-    (λ here. inr (subst (λ (seat : Option Seat). LeftSince (t / 60) (left_of (with_left (u / 60) seat k.left) x)) (sym here) (subst (LeftSince (t / 60)) (sym (left-own x x (Some sits_.1) (u / 60) k.left (same_self x))) (let low : t / 60 ≤ u / 60 = omega (arith, le) in low))))
-    (λ there. inl (sits_.0, sits_.1, there))
-    (seat-on k.seats slot sits_.0 x sits_.1 sits_.2))
-    (λ left. inr (left-on (seat_in k.seats slot) x k.left u t le left))
-    h
-
--- as a card is put into a free slot,
-put-on : (seats : Seats) (slot at : Slot) (card x : Card) (n : ℕ) → IsFree seats slot card → seat_in seats at ≡ Some (record { card = x; newest = Some n }) → seat_in (with_seat seats slot (Some (record { card = card; newest = None }))) at ≡ Some (record { card = x; newest = Some n })
-put-on seats slot at card x n free is = by slot at free is
-  where
-    never : (at : Slot) → IsFree seats at card → seat_in seats at ≡ Some (record { card = x; newest = Some n }) → ⊥
-    never at f is = ⊎_elim
-        (λ (none : seat_in seats at ≡ None). let clash : Some (record { card = x; newest = Some n }) ≡ None = sym is ∙ none in absurd (cc))
-        (λ (bare : seat_in seats at ≡ Some (record { card = card; newest = None })).
-        let one : Some (record { card = x; newest = Some n }) ≡ Some (record { card = card; newest = None }) = sym is ∙ bare in
-        let same : record { card = x; newest = Some n } ≡ record { card = card; newest = None } = cc in
-        let clash : Some n ≡ None = ap (λ (seat : Seat). seat.newest) same in
-        absurd (cc))
-        f.here
-
-    by : (slot at : Slot) → IsFree seats slot card → seat_in seats at ≡ Some (record { card = x; newest = Some n }) → seat_in (with_seat seats slot (Some (record { card = card; newest = None }))) at ≡ Some (record { card = x; newest = Some n })
-    by Driver Driver f is = absurd (never Driver f is)
-    by CoDriver CoDriver f is = absurd (never CoDriver f is)
-    by Driver CoDriver f is = is
-    by CoDriver Driver f is = is
-
-pub stays-put : (slot : Slot) (card : Card) (u : ℕ) (k : Kept) → IsFree k.seats slot card → (x : Card) → StaysWritten k (put_in slot card None k) u x
-stays-put slot card u k free x t le h = ⊎_elim (λ sits_. inl (sits_.0, sits_.1, put-on k.seats slot sits_.0 card x sits_.1 free sits_.2)) (λ left. inr left) h
-
--- and where the slots are the same
-pub stays-same : (old new : Kept) (u : ℕ) (x : Card) → new ≡ old → StaysWritten old new u x
-stays-same old new u x same t le h = subst (λ (k : Kept). SitsAccepted k x ⊎ LeftSince (t / 60) (left_of k.left x)) (sym same) h
 
 -- A CARD WITH A SESSION in its slot is accepted there by the slots, and one without is not
 pub answers-in : (low : ℕ) (cabin : Cabin) → Stands low None cabin → (slot : Slot) → SeatAnswers low cabin.cards (seat_in cabin.slots.seats slot)

@@ -49,42 +49,46 @@ finds-left o b done c u from new brought d e left h = record {
 }
 
 pub call-recorded : (d e : Devices) → ACallIsRecorded d e
-call-recorded d e o done s at waits speed rest v w k = record { began = refl; from = refl; within = record {
-  b = w.b;
-  lit = w.lit;
-  began = w.began;
-  unfound = w.unfound;
-  next = w.next;
-  moment = breakdowns-only w.b.run (went w.b.run.log done).before s at v.log waits w.b.broken (breakdowns_of d) (breakdowns_of e) w.moment k.goes.breakdowns;
-  sp = w.sp;
-  minutes = w.minutes;
-  ds = w.ds;
-  new = w.new;
-  decided = w.decided;
-  from = w.from;
-  kept_to = w.kept_to;
-  until = w.until;
-  stay = w.stay;
-  marked = w.marked;
-  due = w.due;
-  standing = w.standing;
-  brought = w.brought;
-  powered = k.powered;
-  found = w.found;
-  early = w.early;
-  late = w.late;
-  more = w.more;
-  tells = w.tells;
-  present = w.present;
-  back = w.back;
-  verdicts = verdicts-left o done w.b d e k.goes.left w.verdicts;
-  finds = finds-left o w.b done (course_in w.b done s at v.log) s.number w.from w.new w.brought d e k.goes.left w.finds;
-  there = k.goes.there w.there;
-  few = w.few;
-  spared = λ card. spared-called o w.b done (course_in w.b done s at v.log) waits v.cabin.cards d e w.written k.goes.untouched card (w.spared card);
-  written = w.written;
-  travels = k.travels;
-} }
+call-recorded d e o done s at waits speed rest v w k = record {
+  began = refl;
+  from = refl;
+  within = record {
+    b = w.b;
+    lit = w.lit;
+    began = w.began;
+    unfound = w.unfound;
+    next = w.next;
+    moment = breakdowns-only w.b.run (went w.b.run.log done).before s at v.log waits w.b.broken (breakdowns_of d) (breakdowns_of e) w.moment k.goes.breakdowns;
+    sp = w.sp;
+    minutes = w.minutes;
+    ds = w.ds;
+    new = w.new;
+    decided = w.decided;
+    from = w.from;
+    kept_to = w.kept_to;
+    until = w.until;
+    stay = w.stay;
+    marked = w.marked;
+    due = w.due;
+    standing = w.standing;
+    brought = w.brought;
+    powered = k.powered;
+    found = w.found;
+    early = w.early;
+    late = w.late;
+    more = w.more;
+    tells = w.tells;
+    present = w.present;
+    back = w.back;
+    verdicts = verdicts-left o done w.b d e k.goes.left w.verdicts;
+    finds = finds-left o w.b done (course_in w.b done s at v.log) s.number w.from w.new w.brought d e k.goes.left w.finds;
+    there = k.goes.there w.there;
+    few = w.few;
+    spared = λ card. spared-called o w.b done (course_in w.b done s at v.log) waits s.number v.cabin.slots v.cabin.cards d e w.written k.goes.untouched card (w.spared card);
+    written = w.written;
+    travels = k.travels;
+  };
+}
 
 pub failure-recorded : (d e : Devices) → AFailureIsRecorded d e
 failure-recorded d e o done s at waits speed rest v w k = record {
@@ -122,6 +126,6 @@ failure-recorded d e o done s at waits speed rest v w k = record {
   finds = finds-left o w.b done (course_in w.b done s at v.log) s.number w.from w.new w.brought d e k.goes.left w.finds;
   there = k.goes.there w.there;
   few = w.few;
-  spared = λ card. spared-called o w.b done (course_in w.b done s at v.log) waits v.cabin.cards d e w.written k.goes.untouched card (w.spared card);
+  spared = λ card. spared-called o w.b done (course_in w.b done s at v.log) waits s.number v.cabin.slots v.cabin.cards d e w.written k.goes.untouched card (w.spared card);
   travels = k.travels;
 }

@@ -67,7 +67,7 @@ and-not : (x : Bool) → (x && false) ≡ false
 and-not true = refl
 and-not false = refl
 
-find-other : (log : RunLog) (f : Find) (u : ℕ) (at : Phase) → f.slot ≡ Driver → found_in (and_find log f) u at CoDriver ≡ found_in log u at CoDriver
+pub find-other : (log : RunLog) (f : Find) (u : ℕ) (at : Phase) → f.slot ≡ Driver → found_in (and_find log f) u at CoDriver ≡ found_in log u at CoDriver
 find-other log f u at driver =
     (find-more log f u).found at CoDriver
     ∙ ap (λ (b : Bool). found_in log u at CoDriver ++ cond b (f.verdict ∷ []) [])

@@ -15,7 +15,7 @@ use Rattle.unit_course.specs.Followed.{Supply, Lit, Due, Lost}
 use Rattle.unit_course.specs.Legs.{Travel}
 use Rattle.unit_course.specs.Turn.{span_at}
 use Rattle.card_image.specs.Own.{own_view, IsOwnValid}
-use Rattle.card_times.specs.Times.{IsTimed}
+use Rattle.card_times.specs.Times.{AreTimedSince}
 use Rattle.safety_model.specs.Recording.{card_image}
 use Rattle.safety_model.specs.Safe.{Devices, card_of, breakdowns_of, entered_by}
 use Rattle.slot_machine.specs.Calls.{seat_in}
@@ -75,6 +75,10 @@ pub record IsWrittenSince (o : Origin) (kept : SlotsKept) (last : ℕ) (card : C
   pub past : since ≤ last
   pub stays : SitsAccepted kept card ⊎ LeftSince (since / 60) (left_of kept.left card)
 
+-- Over a step in this second a card that sits accepted does so still, and left when it did; or it has left in the second's minute.
+abbrev pub GoesOnIn : (u : ℕ) → (kept after : SlotsKept) → Card → Type 0
+GoesOnIn u kept after card = ((SitsAccepted kept card → SitsAccepted after card) × (left_of after.left card ≡ left_of kept.left card)) ⊎ (left_of after.left card ≡ Some (u / 60))
+
 -- A card may be written, and was judged in one of the seconds so far in which it entered.
 pub record IsWritten (o : Origin) (done : List TraceSecond) (v : Values) (card : Card) : Type 0 where
   pub may : MayBeWritten (recording_by o done v.log) card
@@ -88,7 +92,7 @@ pub record AreThere (f : Found) (d : Devices) : Type 0 where
   pub unit : is_some d.unit.image ≡ true
   pub cards : (card : Card) → is_some (card_of d card).image ≡ true
   pub clocks : (card : Card) → (found_of f card).began ≤ (card_of d card).clock
-  pub timed : (card : Card) → IsOwnValid (found_of f card).image → (x : List ℕ) → (card_of d card).left_since (found_of f card).began x → IsTimed (found_of f card).image x
+  pub timed : (card : Card) → IsOwnValid (found_of f card).image → AreTimedSince (found_of f card).image (found_of f card).began (card_of d card)
 
 -- WHILE THERE IS POWER, with these seconds of the span: unit and cards may be called and are as the book says, the minutes stand for the
 -- span, and who was present in the minutes that are still to be kept is told by the slots, and stands so.
