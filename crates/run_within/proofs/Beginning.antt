@@ -50,7 +50,7 @@ broken-later : (told : List Told) (c : Course) (card : Card) (from number later 
 broken-later told c card from number later le (inl h) = inl (h.0, h.1, h.2, (let low = h.3 in omega (arith, low, le)), h.4)
 broken-later told c card from number later le (inr h) = inr ((let low = h.0 in omega (arith, low, le)), h.1)
 
-present-later : (f : Found) (standing : Card → Standing) (told : List Told) (c : Course) (number later from : ℕ) (cabin : Cabin) → number ≤ later → PresentStand f standing told c number from cabin → PresentStand f standing told c later from cabin
+pub present-later : (f : Found) (standing : Card → Standing) (told : List Told) (c : Course) (number later from : ℕ) (cabin : Cabin) → number ≤ later → PresentStand f standing told c number from cabin → PresentStand f standing told c later from cabin
 present-later f standing told c number later from cabin le h = record {
   seated = h.seated;
   ended = λ m present card low is in_.

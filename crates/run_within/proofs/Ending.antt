@@ -229,7 +229,7 @@ module _ (o : Origin) (done : List TraceSecond) (s : TraceSecond) (v : Values) (
   same-span : AreAlike w.sp seen
   same-span = subst (λ (x : Span). AreAlike x seen) (sym w.decided.span_is) (alike w.decided.times c.settled c.picks (span_at (rule_of o) p.next w.b.span) s.speed w.decided.settles)
 
-  from-is : w.from ≡ ungiven_of (span_at (rule_of o) (suc v.next) span)
+  pub from-is : w.from ≡ ungiven_of (span_at (rule_of o) (suc v.next) span)
   from-is = (let to = w.until in let e : w.from ≡ ungiven_of w.sp = omega (arith, to) in e) ∙ same-span.ungiven ∙ ap ungiven_of (sym seen-is)
 
   gone : SlotsTell (start_at o) (told0 ++ T ∷ []) (p.book.sure ++ w.new) [] s.number w.from c.slots v.cabin.slots

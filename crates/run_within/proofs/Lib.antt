@@ -28,3 +28,5 @@ pub mod Closing
 pub mod Torn
 pub mod Pulling
 pub mod Seated
+pub mod Going
+pub mod Turning

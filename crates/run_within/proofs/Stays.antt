@@ -31,10 +31,10 @@ left-other : (m : ℕ) (seat : Seat) (left : Lefts) (card : Card) → (seat.card
 left-other m seat left card other = by seat.card card other
   where
     by : (c d : Card) → (c ≡ d → ⊥) → left_of (with_left m (Some (record { card = c; newest = seat.newest })) left) d ≡ left_of left d
-    by A A no = absurd (no refl)
-    by B B no = absurd (no refl)
-    by A B no = refl
-    by B A no = refl
+    by A A differs = absurd (differs refl)
+    by B B differs = absurd (differs refl)
+    by A B differs = refl
+    by B A differs = refl
 
 since-left : (k m : ℕ) (seat : Option Seat) (left : Lefts) (card : Card) → k ≤ m → LeftSince k (left_of left card) → LeftSince k (left_of (with_left m seat left) card)
 since-left k m None left card le h = h
@@ -46,10 +46,10 @@ since-left k m (Some seat) left card le h = ⊎_elim
 -- ---- who sits
 
 seat-other : (seats : Seats) (a b : Slot) (z : Option Seat) → (b ≡ a → ⊥) → seat_in (with_seat seats a z) b ≡ seat_in seats b
-seat-other seats Driver Driver z no = absurd (no refl)
-seat-other seats CoDriver CoDriver z no = absurd (no refl)
-seat-other seats Driver CoDriver z no = refl
-seat-other seats CoDriver Driver z no = refl
+seat-other seats Driver Driver z differs = absurd (differs refl)
+seat-other seats CoDriver CoDriver z differs = absurd (differs refl)
+seat-other seats Driver CoDriver z differs = refl
+seat-other seats CoDriver Driver z differs = refl
 
 seat-own : (seats : Seats) (a : Slot) (z : Option Seat) → seat_in (with_seat seats a z) a ≡ z
 seat-own seats Driver z = refl
@@ -67,7 +67,7 @@ pub goes-taken : (u : ℕ) (slot : Slot) (kept : Kept) (card : Card) → GoesOnI
 goes-taken u slot kept card = by (seat_in kept.seats slot) refl
   where
     elsewhere : (sits : SitsAccepted kept card) → (sits.0 ≡ slot → ⊥) → SitsAccepted (taken slot u kept) card
-    elsewhere sits no = (sits.0, sits.1, seat-other kept.seats slot sits.0 None no ∙ sits.2)
+    elsewhere sits differs = (sits.0, sits.1, seat-other kept.seats slot sits.0 None differs ∙ sits.2)
 
     by : (q : Option Seat) → seat_in kept.seats slot ≡ q → GoesOnIn u kept (taken slot u kept) card
     by None none = inl (

@@ -4,3 +4,5 @@ pub mod Judging
 pub mod Powering
 pub mod Waking
 pub mod Taking
+pub mod Going
+pub mod Turning

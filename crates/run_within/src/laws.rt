@@ -3,6 +3,8 @@ ghost use Rattle.run_within.specs.Within.{ACutIsRecorded, TheSecondIsOver, ASeco
 ghost use Rattle.run_within.specs.Judging.{ACardIsJudged, AJudgingFails, AWaitingCardIsTorn, ATearingFails};
 ghost use Rattle.run_within.specs.Powering.{PowerIsBack, AMendingFails, AReadingFails};
 ghost use Rattle.run_within.specs.Waking.{PowerWakes};
+ghost use Rattle.run_within.specs.Turning.{ATurnIsFed};
+ghost use Rattle.run_within.specs.Going.{DarkSecondsStayRecorded, AnOffLineStaysRecorded, AnOffCutStaysRecorded, QuietSecondsStayRecorded, ARunBegins};
 
 use tach_media::{Chip, Medium};
 
@@ -164,4 +166,34 @@ pub fn power_wakes<M: Medium, C: Chip, D: Chip, N: Medium, E: Chip, F: Chip>(
     card_b: &F,
 )
     ensures { PowerWakes (devices (M.state old_unit.now) (C.state old_a.now) (D.state old_b.now)) (devices (N.state unit.now) (E.state card_a.now) (F.state card_b.now)) }
+{}
+
+/// Seconds after a failed call, up to the minute's end: the record goes on.
+pub fn dark_seconds_stay_recorded<M: Medium, C: Chip, D: Chip>(unit: &M, card_a: &C, card_b: &D)
+    ensures { DarkSecondsStayRecorded (devices (M.state unit.now) (C.state card_a.now) (D.state card_b.now)) }
+{}
+
+/// So it does over an `off` line where there is no power,
+pub fn an_off_line_stays_recorded<M: Medium, C: Chip, D: Chip>(unit: &M, card_a: &C, card_b: &D)
+    ensures { AnOffLineStaysRecorded (devices (M.state unit.now) (C.state card_a.now) (D.state card_b.now)) }
+{}
+
+/// and where the line takes it.
+pub fn an_off_cut_stays_recorded<M: Medium, C: Chip, D: Chip>(unit: &M, card_a: &C, card_b: &D)
+    ensures { AnOffCutStaysRecorded (devices (M.state unit.now) (C.state card_a.now) (D.state card_b.now)) }
+{}
+
+/// Seconds of a minute with power in which nothing happens.
+pub fn quiet_seconds_stay_recorded<M: Medium, C: Chip, D: Chip>(unit: &M, card_a: &C, card_b: &D)
+    ensures { QuietSecondsStayRecorded (devices (M.state unit.now) (C.state card_a.now) (D.state card_b.now)) }
+{}
+
+/// A run begins with nothing recorded.
+pub fn a_run_begins<M: Medium, C: Chip, D: Chip>(unit: &M, card_a: &C, card_b: &D)
+    ensures { ARunBegins (devices (M.state unit.now) (C.state card_a.now) (D.state card_b.now)) }
+{}
+
+/// So many seconds of a minute are fed at once.
+pub fn a_turn_is_fed<M: Medium, C: Chip, D: Chip>(unit: &M, card_a: &C, card_b: &D)
+    ensures { ATurnIsFed (devices (M.state unit.now) (C.state card_a.now) (D.state card_b.now)) }
 {}
