@@ -70,7 +70,7 @@ module _ (o : Origin) (done : List TraceSecond) (s : TraceSecond) (at : Phase) (
   abbrev closed : Values
   closed = closed_values card v
 
-  step-closed : IsStep o done s at at [] [] [] v closed d e w
+  step-closed : IsStep o done s at at [] [] [] v closed d e w w.sp
   step-closed = record {
     unfound_same = refl;
     next_same = refl;
@@ -80,7 +80,6 @@ module _ (o : Origin) (done : List TraceSecond) (s : TraceSecond) (at : Phase) (
     found_same = refl;
     enter = λ x. omega arith;
     wait = λ x. omega arith;
-    sp = w.sp;
     decided = w.decided;
     found = found-less o.found card v.cabin.cards w.found;
     tells = w.tells;
@@ -90,7 +89,7 @@ module _ (o : Origin) (done : List TraceSecond) (s : TraceSecond) (at : Phase) (
   }
 
   pub closed-goes : IsPowered o.found (carried v w.due (kept_all w.new w.b.run.book) (for_card card Out w.standing) w.brought) closed.cabin.cards e → GoesOn o done s at [] None [] closed e w.b w.from
-  closed-goes powered = steps-on o done s at at [] [] [] v closed d e w step-closed (record {
+  closed-goes powered = steps-on o done s at at [] [] [] v closed d e w w.sp step-closed (record {
     minutes = w.minutes;
     until = w.until;
     standing = for_card card Out w.standing;
@@ -136,7 +135,7 @@ module _ (o : Origin) (done : List TraceSecond) (s : TraceSecond) (at : Phase) (
     tells-now = subst (λ (q : Kept). SlotsTell (start_at o) told0 (p.book.sure ++ w.new) now.left s.number w.from now.slots q) (sym slots-same)
         (tells-still (start_at o) told0 (p.book.sure ++ w.new) s.number w.from slot c now v.cabin.slots w.tells is.is empty)
 
-    step-torn : IsStep o done s at at [] [] [] v later d e w
+    step-torn : IsStep o done s at at [] [] [] v later d e w w.sp
     step-torn = record {
       unfound_same = refl;
       next_same = refl;
@@ -146,7 +145,6 @@ module _ (o : Origin) (done : List TraceSecond) (s : TraceSecond) (at : Phase) (
       found_same = is.is.found;
       enter = λ x. let same = ap (λ (vs : List Visit). times_of x vs) is.is.entered in omega (arith, same);
       wait = λ x. let same = ap (λ (vs : List Visit). times_of x vs) is.is.entered in omega (arith, same);
-      sp = w.sp;
       decided = nothing-else (rule_of o) (start_at o) told0 p w.b.span c now None w.sp w.ds [] w.new w.decided is.is.picks is.is.settled;
       found = found-less o.found card (with_session card None v.cabin.cards) (found-less o.found card v.cabin.cards w.found);
       tells = tells-now;
@@ -163,7 +161,7 @@ module _ (o : Origin) (done : List TraceSecond) (s : TraceSecond) (at : Phase) (
     old-now x some = old-less card x v.cabin.cards (old-less card x (with_session card None v.cabin.cards) some)
 
     pub torn-goes : IsPowered o.found (carried v w.due (kept_all w.new w.b.run.book) (for_card card Out w.standing) w.brought) later.cabin.cards e → GoesOn o done s at [] None [] later e w.b w.from
-    torn-goes powered = steps-on o done s at at [] [] [] v later d e w step-torn (record {
+    torn-goes powered = steps-on o done s at at [] [] [] v later d e w w.sp step-torn (record {
       minutes = w.minutes;
       until = w.until;
       standing = for_card card Out w.standing;
@@ -180,11 +178,11 @@ session-closed d e o done s at v w slot card k powered = closed-goes o done s at
 
 pub closing-fails : (d e : Devices) → AClosingFails d e
 closing-fails d e o done s at v w slot card k powerless broke no_keeping =
-    step-fails o done s at at [] [] [] v (closed_values card v) d e w (step-closed o done s at v d e w slot card k) (for_card card Out w.standing) powerless broke no_keeping refl
+    step-fails o done s at at [] [] [] v (closed_values card v) d e w w.sp (step-closed o done s at v d e w slot card k) (for_card card Out w.standing) powerless broke no_keeping refl
 
 pub leaving-torn : (d e : Devices) → ALeavingCardIsTorn d e
 leaving-torn d e o done s at v w slot card k b here broke powered = torn-goes o done s at v d e w slot card k b here broke powered
 
 pub leaving-tear_fails : (d e : Devices) → ALeavingTearFails d e
 leaving-tear_fails d e o done s at v w slot card k b here broke powerless unit no_keeping =
-    step-fails o done s at at [] [] [] v (fallen_values b card s.number v) d e w (step-torn o done s at v d e w slot card k b here broke) (for_card card Out w.standing) powerless unit no_keeping refl
+    step-fails o done s at at [] [] [] v (fallen_values b card s.number v) d e w w.sp (step-torn o done s at v d e w slot card k b here broke) (for_card card Out w.standing) powerless unit no_keeping refl

@@ -43,7 +43,7 @@ use Rattle.run_within.specs.Taking.{left_values, IsLeft, ACardLeaves}
 use Rattle.run_within.proofs.Back.{back-plain, low-too}
 use Rattle.run_within.proofs.Sitting.{sits-with}
 use Rattle.run_within.proofs.Stays.{goes-taken}
-use Rattle.run_within.proofs.Seats.{this-or, card-seated, seated-there, seat-tells, one-slot, nowhere-then, none-there, seat-left}
+use Rattle.run_within.proofs.Seats.{never-none, this-or, card-seated, seated-there, seat-tells, one-slot, nowhere-then, none-there, seat-left}
 use Rattle.run_within.proofs.Until.{settles-to, settles-here}
 use Rattle.run_within.proofs.Onward.{IsStep, Powers, steps-on}
 use Rattle.run_within.proofs.Putting.{still-goes, slot-itself}
@@ -91,11 +91,11 @@ module _ (o : Origin) (done : List TraceSecond) (s : TraceSecond) (v : Values) (
   -- who sits accepted sat there before
   who : (sl : Slot) (x : Card) (u : ℕ) → in_slot now.slots sl ≡ sits x u → in_slot c.slots sl ≡ sits x u
   who sl x u there = ⊎_elim
-      (λ (none : None ≡ sits x u). absurd (cc))
+      (λ (none : None ≡ sits x u). never-none x u none)
       (λ before. before)
       (sits-with c.slots slot None sl x u (ap (λ (k : Course). in_slot k.slots sl) (sym done_.1) ∙ there))
 
-  step : IsStep o done s (In n) (In (suc n)) [] [] decided v later d d w
+  step : IsStep o done s (In n) (In (suc n)) [] [] decided v later d d w (settled w.sp)
   step = record {
     unfound_same = refl;
     next_same = refl;
@@ -105,7 +105,6 @@ module _ (o : Origin) (done : List TraceSecond) (s : TraceSecond) (v : Values) (
     found_same = ap (λ (k : Course). k.found) done_.1;
     enter = λ x. same (λ (k : Course). times_of x c.entered ≤ times_of x k.entered) (omega arith);
     wait = λ x. same (λ (k : Course). times_of x [] + times_of x c.entered ≤ times_of x [] + times_of x k.entered) (omega arith);
-    sp = settled w.sp;
     decided = same (λ (k : Course). HasDecided (rule_of o) (start_at o) told0 p w.b.span k None (settled w.sp) w.ds decided w.new)
         (settling-decides (rule_of o) (start_at o) told0 p w.b.span c then_ w.sp w.ds decided w.new w.decided refl refl decides);
     found = w.found;
@@ -166,7 +165,7 @@ module _ (o : Origin) (done : List TraceSecond) (s : TraceSecond) (v : Values) (
       (this-or card x)
 
   pub left-goes : GoesOn o done s (In (suc n)) [] None decided later d w.b w.from
-  left-goes = steps-on o done s (In n) (In (suc n)) [] [] decided v later d d w step (record {
+  left-goes = steps-on o done s (In n) (In (suc n)) [] [] decided v later d d w (settled w.sp) step (record {
     minutes = stands;
     until = settles-to o done s (In n) [] [] v d w minutes stands decided decides refl;
     standing = w.standing;

@@ -46,7 +46,7 @@ module _ (o : Origin) (done : List TraceSecond) (s : TraceSecond) (at next : Pha
   now = course_in w.b done s next later.log
 
   -- THE STEP: marks stay; the log tells of what happened; nothing was found; whom the log has waiting has entered; these minutes are to be kept
-  pub record IsStep : Type 0 where
+  pub record IsStep (sp : Span) : Type 0 where
     pub unfound_same : later.unfound ≡ v.unfound
     pub next_same : later.next ≡ v.next
     pub marks_same : later.marks ≡ v.marks
@@ -55,7 +55,6 @@ module _ (o : Origin) (done : List TraceSecond) (s : TraceSecond) (at next : Pha
     pub found_same : now.found ≡ c.found
     pub enter : (x : Card) → times_of x c.entered ≤ times_of x now.entered
     pub wait : (x : Card) → times_of x waits + times_of x c.entered ≤ times_of x before + times_of x now.entered
-    pub sp : Span
     pub decided : HasDecided (rule_of o) (start_at o) told0 w.b.run w.b.span now None sp w.ds rest w.new
     pub found : AreFoundCards o.found later.cabin.cards
     pub tells : SlotsTell (start_at o) told0 (w.b.run.book.sure ++ w.new) now.left s.number w.from now.slots later.cabin.slots
@@ -64,16 +63,16 @@ module _ (o : Origin) (done : List TraceSecond) (s : TraceSecond) (at next : Pha
     pub travels : HasTravelled (odometer_at o.recording.unit) (kept_all w.new w.b.run.book) (all_travelled w.ds w.b.travel) e.unit
 
   -- unit and cards behind it, with power
-  pub record Powers (k : IsStep) : Type 0 where
-    pub minutes : StandsFor later.minutes k.sp
-    pub until : w.from + length rest ≡ ungiven_of k.sp
+  pub record Powers (sp : Span) : Type 0 where
+    pub minutes : StandsFor later.minutes sp
+    pub until : w.from + length rest ≡ ungiven_of sp
     pub standing : Card → Standing
     pub powered : IsPowered o.found (carried later w.due (kept_all w.new w.b.run.book) standing w.brought) later.cabin.cards e
     pub present : PresentStand o.found standing told0 now s.number w.from later.cabin
     pub back : AreBackAt later.log (went w.b.run.log done).before s next w.from (w.from + length rest) later.cabin
     pub old : AreOld v.cabin.cards later.cabin.cards
 
-  module _ (k : IsStep) where
+  module _ (sp : Span) (k : IsStep sp) where
     same-found : (x : Visit) (verdict : Verdict) → Contains now.found (x, verdict) → Contains c.found (x, verdict)
     same-found x verdict there = subst (λ (fs : List (Visit × Verdict)). Contains fs (x, verdict)) k.found_same there
 
@@ -111,7 +110,7 @@ module _ (o : Origin) (done : List TraceSecond) (s : TraceSecond) (at next : Pha
     stay : (mark : Mark) → Contains w.b.marks mark → Contains later.marks mark
     stay mark there = subst (λ (ms : List Mark). Contains ms mark) (sym k.marks_same) (w.stay mark there)
 
-    pub steps-on : Powers k → GoesOn o done s next waits None rest later e w.b w.from
+    pub steps-on : Powers sp → GoesOn o done s next waits None rest later e w.b w.from
     steps-on p = record {
       began = refl;
       from = refl;
@@ -122,7 +121,7 @@ module _ (o : Origin) (done : List TraceSecond) (s : TraceSecond) (at next : Pha
         unfound = k.unfound_same ∙ w.unfound;
         next = k.next_same ∙ w.next;
         moment = k.moment;
-        sp = k.sp;
+        sp = sp;
         minutes = p.minutes;
         ds = w.ds;
         new = w.new;
@@ -166,12 +165,12 @@ module _ (o : Origin) (done : List TraceSecond) (s : TraceSecond) (at next : Pha
       moment = k.moment;
       rise = λ device. omega arith;
       broke = broke;
-      sp = k.sp;
+      sp = sp;
       ds = w.ds;
       lost = None;
       rest = [];
       new = w.new;
-      decided = subst (λ (ms : List Minute). HasDecided (rule_of o) (start_at o) told0 w.b.run w.b.span now None k.sp w.ds ms w.new) none k.decided;
+      decided = subst (λ (ms : List Minute). HasDecided (rule_of o) (start_at o) told0 w.b.run w.b.span now None sp w.ds ms w.new) none k.decided;
       fed = λ other. refl;
       kept = λ keeping. absurd (no_keeping keeping);
       from = w.from;

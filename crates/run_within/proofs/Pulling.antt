@@ -132,7 +132,7 @@ module _ (o : Origin) (done : List TraceSecond) (s : TraceSecond) (v : Values) (
   taken-are : later.cabin.slots ≡ taken slot s.number v.cabin.slots
   taken-are = slots-taken (start_at o) told0 (p.book.sure ++ w.new) c.left s.number w.from c.slots v.cabin w.tells slot card seated
 
-  step : IsStep o done s (In n) (In (suc n)) [] [] [] v later d d w
+  step : IsStep o done s (In n) (In (suc n)) [] [] [] v later d d w w.sp
   step = record {
     unfound_same = refl;
     next_same = refl;
@@ -142,7 +142,6 @@ module _ (o : Origin) (done : List TraceSecond) (s : TraceSecond) (v : Values) (
     found_same = ap (λ (k : Course). k.found) done_.1;
     enter = λ x. same (λ (k : Course). times_of x c.entered ≤ times_of x k.entered) (omega arith);
     wait = λ x. same (λ (k : Course). times_of x [] + times_of x c.entered ≤ times_of x [] + times_of x k.entered) (omega arith);
-    sp = w.sp;
     decided = nothing-else (rule_of o) (start_at o) told0 p w.b.span c now None w.sp w.ds [] w.new w.decided (ap (λ (k : Course). k.picks) done_.1) (ap (λ (k : Course). k.settled) done_.1);
     found = found-less o.found card v.cabin.cards w.found;
     tells = subst (λ (q : Kept). SlotsTell (start_at o) told0 (p.book.sure ++ w.new) now.left s.number w.from now.slots q) (sym taken-are)
@@ -162,7 +161,7 @@ module _ (o : Origin) (done : List TraceSecond) (s : TraceSecond) (v : Values) (
 
   goes-so : (standing : Card → Standing) → IsPowered o.found (carried later w.due (kept_all w.new w.b.run.book) standing w.brought) later.cabin.cards d → PresentStand o.found standing told0 now s.number w.from later.cabin →
       GoesOn o done s (In (suc n)) [] None [] later d w.b w.from
-  goes-so standing powered present = steps-on o done s (In n) (In (suc n)) [] [] [] v later d d w step (record {
+  goes-so standing powered present = steps-on o done s (In n) (In (suc n)) [] [] [] v later d d w w.sp step (record {
     minutes = w.minutes;
     until = w.until;
     standing = standing;

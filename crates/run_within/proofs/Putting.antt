@@ -41,7 +41,7 @@ use Rattle.run_within.proofs.Known.{waits-there}
 use Rattle.run_within.proofs.Sitting.{sits-with}
 use Rattle.run_within.proofs.Waking.{but-first}
 use Rattle.run_within.proofs.Stays.{goes-put_in}
-use Rattle.run_within.proofs.Seats.{free-for}
+use Rattle.run_within.proofs.Seats.{free-for, never-bare}
 use Rattle.run_within.proofs.Until.{settles-to, settles-here}
 use Rattle.run_within.proofs.Moved.{tears-begun, tears-found}
 use Rattle.run_within.proofs.Onward.{IsStep, Powers, steps-on}
@@ -55,7 +55,7 @@ still-goes o v d = record {
   untouched = λ card h. inl h;
 }
 
-slot-itself : (slot : Slot) → same_slot slot slot ≡ true
+pub slot-itself : (slot : Slot) → same_slot slot slot ≡ true
 slot-itself Driver = refl
 slot-itself CoDriver = refl
 
@@ -104,14 +104,14 @@ module _ (o : Origin) (done : List TraceSecond) (s : TraceSecond) (v : Values) (
   -- who sits accepted sat there before
   who : (sl : Slot) (x : Card) (u : ℕ) → in_slot now.slots sl ≡ sits x u → in_slot c.slots sl ≡ sits x u
   who sl x u here = ⊎_elim
-      (λ (one : Some (record { card = card; accepted = None }) ≡ sits x u). absurd (cc))
+      (λ (one : Some (record { card = card; accepted = None }) ≡ sits x u). never-bare card x u one)
       (λ there. there)
       (sits-with c.slots slot (Some (record { card = card; accepted = None })) sl x u (ap (λ (k : Course). in_slot k.slots sl) (sym done_.1) ∙ here))
 
   free : IsFree v.cabin.slots.seats slot card
   free = free-for (start_at o) told0 (p.book.sure ++ w.new) c.left s.number w.from c.slots v.cabin.slots w.tells slot card s.speed is
 
-  step : IsStep o done s (In n) (In (suc n)) [] waits decided v later d d w
+  step : IsStep o done s (In n) (In (suc n)) [] waits decided v later d d w (settled w.sp)
   step = record {
     unfound_same = refl;
     next_same = refl;
@@ -121,7 +121,6 @@ module _ (o : Origin) (done : List TraceSecond) (s : TraceSecond) (v : Values) (
     found_same = ap (λ (k : Course). k.found) done_.1;
     enter = λ x. same (λ (k : Course). times_of x c.entered ≤ times_of x k.entered) (let more = entered-more x in omega (arith, more));
     wait = λ x. same (λ (k : Course). times_of x waits + times_of x c.entered ≤ times_of x [] + times_of x k.entered) (let more = entered-more x in omega (arith, more));
-    sp = settled w.sp;
     decided = same (λ (k : Course). HasDecided (rule_of o) (start_at o) told0 p w.b.span k None (settled w.sp) w.ds decided w.new)
         (settling-decides (rule_of o) (start_at o) told0 p w.b.span c then_ w.sp w.ds decided w.new w.decided refl refl decides);
     found = w.found;
@@ -133,7 +132,7 @@ module _ (o : Origin) (done : List TraceSecond) (s : TraceSecond) (v : Values) (
   }
 
   pub put-goes : GoesOn o done s (In (suc n)) waits None decided later d w.b w.from
-  put-goes = steps-on o done s (In n) (In (suc n)) [] waits decided v later d d w step (record {
+  put-goes = steps-on o done s (In n) (In (suc n)) [] waits decided v later d d w (settled w.sp) step (record {
     minutes = stands;
     until = settles-to o done s (In n) [] [] v d w minutes stands decided decides refl;
     standing = w.standing;

@@ -62,7 +62,7 @@ module _ (o : Origin) (done : List TraceSecond) (s : TraceSecond) (at : Phase) (
   abbrev visit : Visit
   visit = record { phase = at; slot = slot; card = card }
 
-  sitting : (u : ℕ) × (in_slot c.slots slot ≡ sits card u)
+  abbrev sitting : (u : ℕ) × (in_slot c.slots slot ≡ sits card u)
   sitting = sitting-now o done s at v d w slot card k.sits_ k.low k.stands k.session
 
   untorn : is_torn_in v.log s.number at slot ≡ false
@@ -84,7 +84,7 @@ module _ (o : Origin) (done : List TraceSecond) (s : TraceSecond) (at : Phase) (
   taken-are : later.cabin.slots ≡ taken slot s.number v.cabin.slots
   taken-are = slots-taken (start_at o) told0 (p.book.sure ++ w.new) c.left s.number w.from c.slots v.cabin w.tells slot card k.sits_
 
-  step : IsStep o done s at at [] [] [] v later d e w
+  step : IsStep o done s at at [] [] [] v later d e w w.sp
   step = record {
     unfound_same = refl;
     next_same = refl;
@@ -94,7 +94,6 @@ module _ (o : Origin) (done : List TraceSecond) (s : TraceSecond) (at : Phase) (
     found_same = is.is.found;
     enter = λ x. let same = ap (λ (vs : List Visit). times_of x vs) is.is.entered in omega (arith, same);
     wait = λ x. let same = ap (λ (vs : List Visit). times_of x vs) is.is.entered in omega (arith, same);
-    sp = w.sp;
     decided = nothing-else (rule_of o) (start_at o) told0 p w.b.span c now None w.sp w.ds [] w.new w.decided is.is.picks is.is.settled;
     found = found-less o.found card v.cabin.cards w.found;
     tells = subst (λ (q : Kept). SlotsTell (start_at o) told0 (p.book.sure ++ w.new) now.left s.number w.from now.slots q) (sym taken-are)
@@ -118,7 +117,7 @@ module _ (o : Origin) (done : List TraceSecond) (s : TraceSecond) (at : Phase) (
   few = let left = few-left o done s at [] [] v d w in omega (arith, left)
 
   pub torn-goes : IsPowered o.found (carried v w.due (kept_all w.new w.b.run.book) fell w.brought) later.cabin.cards e → GoesOn o done s at [] None [] later e w.b w.from
-  torn-goes powered = steps-on o done s at at [] [] [] v later d e w step (record {
+  torn-goes powered = steps-on o done s at at [] [] [] v later d e w w.sp step (record {
     minutes = w.minutes;
     until = w.until;
     standing = fell;
@@ -136,4 +135,4 @@ seated-torn d e o done s at v w slot card b k powered = torn-goes o done s at v 
 
 pub seated-tear_fails : (d e : Devices) → ASeatedTearFails d e
 seated-tear_fails d e o done s at v w slot card b k powerless unit no_keeping =
-    step-fails o done s at at [] [] [] v (torn_values b (torn_out card s.number v.cabin) v) d e w (step o done s at v d e w slot card b k) (for_card card (fallen w.from (w.standing card)) w.standing) powerless unit no_keeping refl
+    step-fails o done s at at [] [] [] v (torn_values b (torn_out card s.number v.cabin) v) d e w w.sp (step o done s at v d e w slot card b k) (for_card card (fallen w.from (w.standing card)) w.standing) powerless unit no_keeping refl

@@ -50,6 +50,18 @@ this-or B B = inl refl
 this-or A B = inr refl
 this-or B A = inr refl
 
+-- who sits accepted is neither nobody nor one that is not
+pub never-none : {T : Type 0} (x : Card) (u : ℕ) → None ≡ sits x u → T
+never-none {T} x u is = absurd (cc)
+
+pub never-bare : {T : Type 0} (card x : Card) (u : ℕ) → Some (record { card = card; accepted = None }) ≡ sits x u → T
+never-bare {T} card x u is =
+    let a : Sitting = record { card = card; accepted = None } in
+    let b : Sitting = record { card = x; accepted = Some u } in
+    let same : a ≡ b = cc in
+    let clash : None ≡ Some u = ap (λ (k : Sitting). k.accepted) same in
+    absurd (cc)
+
 -- one card stands so, and another as it did
 pub for-other : (c d : Card) (z : Standing) (standing : Card → Standing) → same_card c d ≡ false → for_card c z standing d ≡ standing d
 for-other A A z standing is = no-both true refl is
