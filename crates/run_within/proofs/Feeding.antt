@@ -29,7 +29,7 @@ many a zero = refl
 many a (suc n) = ap suc (many (a + 1) n)
 
 -- how many minutes a span has decided
-decided-many : (span : Span) (minutes : Kept) → StandsFor minutes span → length (decided_in span) ≡ ungiven_of span - span.first / 60
+pub decided-many : (span : Span) (minutes : Kept) → StandsFor minutes span → length (decided_in span) ≡ ungiven_of span - span.first / 60
 decided-many span minutes h =
     ap (λ (ds : List Minute). length ds) (decided-counted span h.numbered h.settled)
     ∙ length-map (count_from (span.first / 60) (ungiven_of span - span.first / 60)) (judged span.rule span.settlings span.seconds)

@@ -18,6 +18,16 @@ pub mod Powering
 pub mod Reading
 pub mod Calls
 pub mod Waking
+pub mod Seats
+pub mod Until
+pub mod Moved
+pub mod Onward
+pub mod Putting
+pub mod Leaving
+pub mod Closing
+pub mod Torn
+pub mod Pulling
+pub mod Seated
 pub mod Going
 pub mod Turning
 pub mod Losing
