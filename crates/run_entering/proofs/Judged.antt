@@ -10,6 +10,7 @@ use Rattle.card_layout.specs.declared.files.Application.{Application}
 use Rattle.card_layout.specs.declared.files.Fid.{Fid}
 use Rattle.card_layout.specs.Application.{application_in, first_bad_field}
 use Rattle.card_image.specs.Fields.{session_time, end_mark}
+use Rattle.card_image.specs.Own.{own_sizes}
 use Rattle.card_image.specs.Judging.{IsValid}
 use Rattle.card_image.specs.View.{card_view}
 use Rattle.card_judge.specs.Judged.{IsLook}
@@ -190,8 +191,8 @@ module _ (e : Entering) (k : Keeper) (noted : ℕ) (o : Outcome) (U X M : State)
     ending-woken (Seated entered t entry) is = (is.0, is.1, clock-woken t is.2)
     ending-woken (Lost entered t entry) is = (is.0, is.1, clock-woken t is.2)
 
-    pub entered-judged : (ending : Ending) → Ended ending → HasEntered e failed k v noted noted_after o p U W X Y (Judged app ending)
-    entered-judged ending j = record {
+    pub entered-judged : IfSome M.image (λ x. own_sizes x ≡ app) → (ending : Ending) → Ended ending → HasEntered e failed k v noted noted_after o p U W X Y (Judged app ending)
+    entered-judged sized ending j = record {
       is = ending-woken ending j.is;
       left = j.left;
       notes = j.notes;
@@ -199,7 +200,7 @@ module _ (e : Entering) (k : Keeper) (noted : ℕ) (o : Outcome) (U X M : State)
           let here = woken x is in (
             here.0,
             revived whole leaves here.0 here.1,
-            at_image (IsFound app e.at.second U.image ending) here.1 j.found,
+            (at_image (λ (l : List ℕ). own_sizes l ≡ app) here.1 sized, at_image (IsFound app e.at.second U.image ending) here.1 j.found),
             λ well. if_told U.image _ (λ u told. at_image (λ (l : List ℕ). IfSome Y.image (AreOnCard (Judged app ending) k.memory.registration e u l)) here.1 ((noted-on u told ending j).whole well)),
           ));
       moments = if_told U.image _ (λ u told. goes_on (from_reads leaves) ((noted-on u told ending j).moments) (λ x y c was is here. (y, revived whole leaves y is, here)));

@@ -166,11 +166,11 @@ IsWay Unread registration e failed unit card card_after = Unit {0}
 IsWay (Unsized field) registration e failed unit card card_after = Unit {0}
 IsWay (Judged app ending) registration e failed unit card card_after = IsEnding ending app registration e failed unit card card_after
 
--- what its image was then
+-- what its image was then: it goes by these sizes
 abbrev pub IsFoundIn : (second : ℕ) → (unit : Option (List ℕ)) → Way → List ℕ → Type 0
 IsFoundIn second unit Unread x = Unit {0}
 IsFoundIn second unit (Unsized field) x = first_bad_field (application_in x) ≡ Some field
-IsFoundIn second unit (Judged app ending) x = IsFound app second unit ending x
+IsFoundIn second unit (Judged app ending) x = (own_sizes x ≡ app) × IsFound app second unit ending x
 
 -- A CARD ENTERED in this way: what is left behind it, and what was noted on the unit and on the card. Of a card that tells its image it was
 -- so of one that a stop might leave.

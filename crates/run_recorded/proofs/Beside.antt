@@ -42,7 +42,7 @@ use Rattle.run_moments.specs.Moment.{finds_by}
 use Rattle.run_moments.proofs.Telling.{each-of}
 use Rattle.run_recorded.specs.Origin.{Origin, rule_of, start_at, first_of}
 use Rattle.run_recorded.specs.Ends.{recording_by, AreVerdicts, MayBeWritten, AreSpared}
-use Rattle.run_recorded.specs.Beside.{CardsTold, cards_of, TellsMore, HaveLeftMore, MayBeFound, entered_in, overlaps_in, AreFewer, AreIdle, ASecondTellsMore, FoundTellsNoMore, QuietSecondsTellMore, DarkSecondsTellMore, AnOffLineTellsMore, AnOffCutTellsMore, FewerAreFound}
+use Rattle.run_recorded.specs.Beside.{CardsTold, cards_of, TellsMore, HaveLeftMore, MayBeFound, entered_in, overlaps_in, AreFewer, AreIdle, ASecondTellsMore, FoundTellsNoMore, QuietSecondsTellMore, DarkSecondsTellMore, AnOffLineTellsMore, AnOffCutTellsMore, FewerAreFound, AreFewFound, FewAreFoundOn}
 
 -- NUMBERS of the seconds so far
 number-of : (n : ℕ) (told : List Told) (t : Told) → AreNumbered n (seconds_in told) → Contains told t → t.second.number < n + length told
@@ -196,7 +196,7 @@ none-up c u from (t ∷ more) lt h =
     over : (n u : ℕ) → u < n → nat_le n u ≡ false
     over n u lt = grind (arith, nat_tests)
 
-entered-same : (o : Origin) (done now : List TraceSecond) (log later : RunLog) (more : List Told) (from : ℕ) → TellsMore (went log done).told (went later now).told more from → (c : Card) (u : ℕ) → u < from →
+pub entered-same : (o : Origin) (done now : List TraceSecond) (log later : RunLog) (more : List Told) (from : ℕ) → TellsMore (went log done).told (went later now).told more from → (c : Card) (u : ℕ) → u < from →
     entered_by (recording_by o now later) c u ≡ entered_by (recording_by o done log) c u
 entered-same o done now log later more from tells c u lt =
     counted-up o now later c u
@@ -277,6 +277,18 @@ written-on o done now log later more from tells few c may =
     let lt = may.1 in
     (may.0, omega (arith, old_o, old_e, new_o, new_e, le, lt))
 
+-- no card is found to tell of a later time more often than it entered
+pub few-on : FewAreFoundOn
+few-on o done now log later more from old tells few c =
+    let r : Recording = o.recording in
+    let old_o = overlaps-as o done log r c in
+    let old_e = entered-as o done log c in
+    let new_o = overlaps-as o now later r c ∙ ap (λ (xs : List CardsTold). length (flat_map (overlaps_of r c) xs)) tells.same ∙ both-of (overlaps_of r c) (map cards_of (went log done).told) (map cards_of more) in
+    let new_e = entered-as o now later c ∙ ap (λ (xs : List CardsTold). length (flat_map (entered_of c) xs)) tells.same ∙ both-of (entered_of c) (map cards_of (went log done).told) (map cards_of more) in
+    let le = fewer-of r c more few in
+    let low = old c in
+    omega (arith, old_o, old_e, new_o, new_e, le, low)
+
 pub spared-on : (o : Origin) (done now : List TraceSecond) (log later : RunLog) (d e : Devices) (more : List Told) (from : ℕ) → AreSpared o done log d → TellsMore (went log done).told (went later now).told more from → AreFewer o.recording more →
     ((c : Card) → IsUntouched (found_of o.found c) (card_of d c) → IsUntouched (found_of o.found c) (card_of e c) ⊎ MayBeWritten (recording_by o now later) c) → AreSpared o now later e
 spared-on o done now log later d e more from old tells few step c = ⊎_elim
@@ -285,7 +297,7 @@ spared-on o done now log later d e more from old tells few step c = ⊎_elim
     (old c)
 
 -- where no card enters
-idle-few : (r : Recording) (more : List Told) → AreIdle more → AreFewer r more
+pub idle-few : (r : Recording) (more : List Told) → AreIdle more → AreFewer r more
 idle-few r [] h = tt
 idle-few r (t ∷ more) h = ((λ c. subst (λ (fs : List (Visit × Verdict)). length (filter (λ (f : Visit × Verdict). same_card c f.0.card && is_overlap r c f.1) fs) ≤ length (entered_in c t)) (sym h.0.1) (omega arith)), idle-few r more h.1)
 
@@ -303,7 +315,7 @@ pub idle-spared : (o : Origin) (done now : List TraceSecond) (log later : RunLog
 idle-spared o done now log later d e more from old tells idle step = spared-on o done now log later d e more from old tells (idle-few o.recording more idle) step
 
 -- no more was found than entered
-fewer-found : (r : Recording) (c : Card) (fs : List (Visit × Verdict)) → length (filter (λ (f : Visit × Verdict). same_card c f.0.card && is_overlap r c f.1) fs) ≤ finds_by c fs
+pub fewer-found : (r : Recording) (c : Card) (fs : List (Visit × Verdict)) → length (filter (λ (f : Visit × Verdict). same_card c f.0.card && is_overlap r c f.1) fs) ≤ finds_by c fs
 fewer-found r c [] = omega arith
 fewer-found r c (f ∷ fs) = by (same_card c f.0.card) (is_overlap r c f.1) (fewer-found r c fs)
   where

@@ -12,7 +12,7 @@ use Rattle.log_model.specs.Course.{Told, Visit, went}
 use Rattle.unit_course.specs.Lines.{cut_at, found_from}
 use Rattle.unit_course.specs.Followed.{Lit, Lost, MayPower}
 use Rattle.safety_model.specs.Recording.{Recording}
-use Rattle.safety_model.specs.Cards.{is_overlap}
+use Rattle.safety_model.specs.Cards.{is_overlap, entered, overlaps}
 use Rattle.safety_model.specs.Safe.{Devices, card_of, IsVerdict}
 use Rattle.run_rule.specs.Found.{found_of}
 use Rattle.run_rule.specs.Cards.{IsUntouched}
@@ -123,3 +123,12 @@ IdleCardsAreSpared d e = (o : Origin) (done now : List TraceSecond) (log later :
 -- a card that enters at a moment is found to tell of a later time no more often than it enters
 abbrev pub FewerAreFound : Type 0
 FewerAreFound = (r : Recording) (t : Told) → ((c : Card) → finds_by c t.course.found ≤ times_of c t.course.entered) → AreFewer r (t ∷ [])
+
+-- no card was found to tell of a later time more often than it entered
+abbrev pub AreFewFound : Recording → Type 0
+AreFewFound r = (c : Card) → overlaps r c ≤ entered r c
+
+-- AND SO IT IS from then on.
+abbrev pub FewAreFoundOn : Type 0
+FewAreFoundOn = (o : Origin) (done now : List TraceSecond) (log later : RunLog) (more : List Told) (from : ℕ) → AreFewFound (recording_by o done log) → TellsMore (went log done).told (went later now).told more from → AreFewer o.recording more →
+    AreFewFound (recording_by o now later)

@@ -7,7 +7,7 @@ ghost use Rattle.safety_model.specs.Safe.{breakdowns_of};
 ghost use Rattle.run_rule.specs.Between.{Carried, IsCarried, IsFound, devices};
 ghost use Rattle.run_course.specs.Followed.{Progress};
 ghost use Rattle.run_recorded.specs.Origin.{Origin, HasRecorded};
-ghost use Rattle.run_recorded.specs.Beside.{FindsGoOn, NothingIsFound, CardsAreSpared, IdleCardsAreSpared, ASecondTellsMore, FoundTellsNoMore, QuietSecondsTellMore, DarkSecondsTellMore, AnOffLineTellsMore, AnOffCutTellsMore, FewerAreFound};
+ghost use Rattle.run_recorded.specs.Beside.{FindsGoOn, NothingIsFound, CardsAreSpared, IdleCardsAreSpared, ASecondTellsMore, FoundTellsNoMore, QuietSecondsTellMore, DarkSecondsTellMore, AnOffLineTellsMore, AnOffCutTellsMore, FewerAreFound, FewAreFoundOn};
 ghost use Rattle.run_recorded.specs.Ends.{recording_by, IsBeside, EndsRun};
 ghost use Rattle.run_recorded.specs.Seconds.{NothingIsRecorded, WhatWasKeptIsFound, MoreIsRecorded, ASecondIsRecorded, ASecondIsBroken, AFailedPowerOnIsRecorded, QuietSecondsAreRecorded, DarkSecondsAreRecorded, AnOffLineIsRecorded, AnOffCutIsRecorded};
 
@@ -114,6 +114,11 @@ pub fn an_off_cut_tells_more()
 /// No more is found of cards than they entered.
 pub fn fewer_are_found()
     ensures { FewerAreFound }
+{}
+
+/// And so it is from second to second.
+pub fn few_are_found_on()
+    ensures { FewAreFoundOn }
 {}
 
 /// What was found of cards stays found, and further finds are made.

@@ -23,7 +23,10 @@ use Rattle.run_moments.proofs.Kept.{selection-heard, nothing-else}
 use Rattle.run_recorded.specs.Origin.{Origin, rule_of, start_at}
 use Rattle.run_present.specs.Presence.{PresentStand}
 use Rattle.run_within.specs.Recorded.{Values}
-use Rattle.run_within.specs.Within.{told_before, course_in, IsFoundSo, IsSparedSo, Within, refused_values, heard_values, ARefusalIsRecorded, ASelectionIsRecorded, APlaceIsRecorded}
+use Rattle.run_within.specs.Within.{told_before, course_in, IsFoundSo, MayBeWrittenSo, IsSparedSo, Within, GoesOn, refused_values, heard_values, ARefusalIsRecorded, ASelectionIsRecorded, APlaceIsRecorded}
+use Rattle.run_within.proofs.Back.{back-plain}
+use Rattle.run_within.proofs.Stays.{goes-still}
+use Rattle.run_within.proofs.Written.{written-on, spared-on}
 
 module _ (o : Origin) (done : List TraceSecond) (s : TraceSecond) (at : Phase) (v : Values) (d : Devices) (w : Within o done s at [] None [] v d) where
   abbrev p : Progress
@@ -41,39 +44,49 @@ module _ (o : Origin) (done : List TraceSecond) (s : TraceSecond) (at : Phase) (
 
   acted : (log : RunLog) (next : Phase) (picks : List (Slot × Pick)) (refused : List SlotFault) (minutes : Kept) (sp : Span) → Moment p (went p.log done).before s next log [] w.b.broken (breakdowns_of d) →
       course_in w.b done s next log ≡ but picks refused → StandsFor minutes sp → ungiven_of sp ≡ ungiven_of w.sp →
-      HasDecided (rule_of o) (start_at o) told0 p w.b.span (but picks refused) None sp w.ds [] w.new → Within o done s next [] None [] (record v { log = log; minutes = minutes }) d
+      HasDecided (rule_of o) (start_at o) told0 p w.b.span (but picks refused) None sp w.ds [] w.new → GoesOn o done s next [] None [] (record v { log = log; minutes = minutes }) d w.b w.from
   acted log next picks refused minutes sp m is stands still decided = record {
-    b = w.b;
-    lit = w.lit;
-    began = w.began;
-    unfound = w.unfound;
-    next = w.next;
-    moment = m;
-    sp = sp;
-    minutes = stands;
-    ds = w.ds;
-    new = w.new;
-    decided = same (λ (x : Course). HasDecided (rule_of o) (start_at o) told0 p w.b.span x None sp w.ds [] w.new) decided;
-    from = w.from;
-    kept_to = w.kept_to;
-    until = let to = w.until in omega (arith, to, still);
-    stay = w.stay;
-    marked = same (λ (x : Course). AreMarkedSoFar v.marks told0 x s.number w.new) (record { unit = w.marked.unit; card = w.marked.card });
-    due = w.due;
-    standing = w.standing;
-    brought = w.brought;
-    powered = w.powered;
-    found = w.found;
-    early = w.early;
-    late = w.late;
-    more = w.more;
-    tells = same (λ (x : Course). SlotsTell (start_at o) told0 (p.book.sure ++ w.new) x.left s.number w.from x.slots v.cabin.slots) w.tells;
-    present = same (λ (x : Course). PresentStand o.found w.standing told0 x s.number w.from v.cabin)
-        (record { seated = w.present.seated; ended = λ m present card low is in_. let h = w.present.ended m present card low is in_ in record { valid = h.valid; present = h.present; session = h.session } });
-    verdicts = w.verdicts;
-    finds = same (λ (x : Course). IsFoundSo o w.b done x s.number w.from w.new w.brought d) (record { may = w.finds.may; taken = w.finds.taken; late = w.finds.late });
-    spared = λ card. same (λ (x : Course). IsSparedSo o w.b done x d card) (w.spared card);
-    travels = w.travels;
+    began = refl;
+    from = refl;
+    within = record {
+      b = w.b;
+      lit = w.lit;
+      began = w.began;
+      unfound = w.unfound;
+      next = w.next;
+      moment = m;
+      sp = sp;
+      minutes = stands;
+      ds = w.ds;
+      new = w.new;
+      decided = same (λ (x : Course). HasDecided (rule_of o) (start_at o) told0 p w.b.span x None sp w.ds [] w.new) decided;
+      from = w.from;
+      kept_to = w.kept_to;
+      until = let to = w.until in omega (arith, to, still);
+      stay = w.stay;
+      marked = same (λ (x : Course). AreMarkedSoFar v.marks told0 x s.number w.new) (record { unit = w.marked.unit; card = w.marked.card });
+      due = w.due;
+      standing = w.standing;
+      brought = w.brought;
+      powered = w.powered;
+      found = w.found;
+      early = w.early;
+      late = w.late;
+      more = w.more;
+      tells = same (λ (x : Course). SlotsTell (start_at o) told0 (p.book.sure ++ w.new) x.left s.number w.from x.slots v.cabin.slots) w.tells;
+      present = same (λ (x : Course). PresentStand o.found w.standing told0 x s.number w.from v.cabin)
+          (record { seated = w.present.seated; ended = λ m present card low is in_. let h = w.present.ended m present card low is in_ in record { valid = h.valid; present = h.present; session = h.session } });
+      back = λ card some. inl (back-plain o done s at [] None v d w card some);
+      verdicts = w.verdicts;
+      finds = same (λ (x : Course). IsFoundSo o w.b done x s.number w.from w.new w.brought d) (record { may = w.finds.may; taken = w.finds.taken; late = w.finds.late });
+      there = w.there;
+      few = w.few;
+      spared = λ card. same (λ (x : Course). IsSparedSo o w.b done x [] s.number v.cabin.slots d card)
+          (spared-on o w.b done c (but picks refused) [] s.number v.cabin.slots v.cabin.slots d card refl refl (goes-still s.number v.cabin.slots v.cabin.slots card refl) (w.spared card));
+      written = λ card some. same (λ (x : Course). MayBeWrittenSo o w.b done x [] s.number v.cabin.slots card)
+          (written-on o w.b done c (but picks refused) [] s.number v.cabin.slots v.cabin.slots card refl refl (goes-still s.number v.cabin.slots v.cabin.slots card refl) (w.written card some));
+      travels = w.travels;
+    };
   }
     where
       same : (P : Course → Type 0) → P (but picks refused) → P (course_in w.b done s next log)

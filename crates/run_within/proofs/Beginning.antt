@@ -39,18 +39,18 @@ use Rattle.run_moments.proofs.Moment.{moment-begins}
 use Rattle.run_moments.proofs.Kept.{nothing-decided, nothing-marked}
 use Rattle.run_told.specs.Told.{GoesWith, GoesOwing, IsPowered}
 use Rattle.run_recorded.specs.Origin.{Origin, rule_of, start_at, first_of}
-use Rattle.run_recorded.specs.Ends.{recording_by}
 use Rattle.run_present.specs.Presence.{PresentStand, SessionsStand, StandsIn}
 use Rattle.run_present.proofs.Presence.{minute-ends}
-use Rattle.run_within.specs.Recorded.{Values, progress, carried, slots_of, IsOn, Recorded}
-use Rattle.run_within.specs.Within.{Beginning, told_before, course_in, overlaps_by, Within, undecided_from, ASecondBegins, AMinuteIsOver}
+use Rattle.run_within.specs.Recorded.{Values, progress, carried, slots_of, AreBack, IsWrittenSince, IsWritten, IsOn, Recorded}
+use Rattle.run_within.specs.Within.{Beginning, told_before, course_in, MayBeWrittenSo, GoesOn, undecided_from, ASecondBegins, AMinuteIsOver}
+use Rattle.run_within.proofs.Written.{written-begins}
 
 -- who was present stands so later in the second
 broken-later : (told : List Told) (c : Course) (card : Card) (from number later : ℕ) → number ≤ later → BrokenSince told c card from number → BrokenSince told c card from later
 broken-later told c card from number later le (inl h) = inl (h.0, h.1, h.2, (let low = h.3 in omega (arith, low, le)), h.4)
 broken-later told c card from number later le (inr h) = inr ((let low = h.0 in omega (arith, low, le)), h.1)
 
-present-later : (f : Found) (standing : Card → Standing) (told : List Told) (c : Course) (number later from : ℕ) (cabin : Cabin) → number ≤ later → PresentStand f standing told c number from cabin → PresentStand f standing told c later from cabin
+pub present-later : (f : Found) (standing : Card → Standing) (told : List Told) (c : Course) (number later from : ℕ) (cabin : Cabin) → number ≤ later → PresentStand f standing told c number from cabin → PresentStand f standing told c later from cabin
 present-later f standing told c number later from cabin le h = record {
   seated = h.seated;
   ended = λ m present card low is in_.
@@ -59,7 +59,7 @@ present-later f standing told c number later from cabin le h = record {
 }
 
 -- the last of the seconds before
-ends-with : (log : RunLog) (from : ℕ) (done : List TraceSecond) (begun next : ℕ) → HadActions done begun → AreInOrder from done → next ≡ from + length done →
+pub ends-with : (log : RunLog) (from : ℕ) (done : List TraceSecond) (begun next : ℕ) → HadActions done begun → AreInOrder from done → next ≡ from + length done →
     EndsWith (went log done).told (next - 1) (went log done).before.slots
 ends-with log from done begun next had order is = record {
   front = (went log had.before).told;
@@ -122,47 +122,57 @@ module _ (o : Origin) (done : List TraceSecond) (s : TraceSecond) (t : Told) (sp
   same P = subst P (sym begins.1)
 
   begun : (k : SlotsKept) → SlotsTell (start_at o) told0 r.book.sure [] s.number from slots0 k → PresentStand o.found r.standing told0 (fresh false slots0) s.number from (record v.cabin { slots = k }) →
-      Within o done s (In 0) [] None [] (record v { cabin = record v.cabin { slots = k } }) d
-  begun k tells present = record {
-    b = b;
-    lit = refl;
-    began = r.recorded;
-    unfound = refl;
-    next = refl;
-    moment = begins.0;
-    sp = span_at (rule_of o) v.next (t ∷ span);
-    minutes = on.minutes;
-    ds = [];
-    new = [];
-    decided = nothing-decided (rule_of o) (start_at o) told0 b.run (t ∷ span) c (ap (λ (x : Course). x.picks) begins.1) (ap (λ (x : Course). x.settled) begins.1);
-    from = from;
-    kept_to = omega arith;
-    until = omega arith;
-    stay = λ mark h. h;
-    marked = nothing-marked v.marks told0 c s.number;
-    due = r.due;
-    standing = r.standing;
-    brought = r.brought;
-    powered = on.powered;
-    found = r.found;
-    early = r.early;
-    late = on.due;
-    more = λ card n h. h;
-    tells = same (λ (x : Course). SlotsTell (start_at o) told0 (r.book.sure ++ []) x.left s.number from x.slots k)
-        (subst (λ (is : List HistoryMinute). SlotsTell (start_at o) told0 is [] s.number from slots0 k) (sym (append-nil r.book.sure)) tells);
-    present = same (λ (x : Course). PresentStand o.found r.standing told0 x s.number from (record v.cabin { slots = k })) present;
-    verdicts = r.beside.verdicts;
-    finds = record {
-      may = λ e verdict at. absurd (none e verdict at);
-      taken = λ e verdict at. absurd (none e verdict at);
-      late = λ e verdict at. absurd (none e verdict at);
+      AreBack from (record v.cabin { slots = k }) → ((card : Card) (time : ℕ) → IsWrittenSince o v.cabin.slots (v.next - 1) card time → IsWrittenSince o k s.number card time) → GoesOn o done s (In 0) [] None [] (record v { cabin = record v.cabin { slots = k } }) d b from
+  begun k tells present back since = record {
+    began = refl;
+    from = refl;
+    within = record {
+      b = b;
+      lit = refl;
+      began = r.recorded;
+      unfound = refl;
+      next = refl;
+      moment = begins.0;
+      sp = span_at (rule_of o) v.next (t ∷ span);
+      minutes = on.minutes;
+      ds = [];
+      new = [];
+      decided = nothing-decided (rule_of o) (start_at o) told0 b.run (t ∷ span) c (ap (λ (x : Course). x.picks) begins.1) (ap (λ (x : Course). x.settled) begins.1);
+      from = from;
+      kept_to = omega arith;
+      until = omega arith;
+      stay = λ mark h. h;
+      marked = nothing-marked v.marks told0 c s.number;
+      due = r.due;
+      standing = r.standing;
+      brought = r.brought;
+      powered = on.powered;
+      found = r.found;
+      early = r.early;
+      late = on.due;
+      more = λ card n h. h;
+      tells = same (λ (x : Course). SlotsTell (start_at o) told0 (r.book.sure ++ []) x.left s.number from x.slots k)
+          (subst (λ (is : List HistoryMinute). SlotsTell (start_at o) told0 is [] s.number from slots0 k) (sym (append-nil r.book.sure)) tells);
+      present = same (λ (x : Course). PresentStand o.found r.standing told0 x s.number from (record v.cabin { slots = k })) present;
+      back = λ card some. inl (back card some);
+      verdicts = r.beside.verdicts;
+      finds = record {
+        may = λ e verdict at. absurd (none e verdict at);
+        taken = λ e verdict at. absurd (none e verdict at);
+        late = λ e verdict at. absurd (none e verdict at);
+      };
+      there = r.there;
+      few = r.few;
+      spared = λ card. ⊎_elim (λ whole. inl whole) (λ may. inr (writes card may)) (r.written card);
+      written = λ card some. writes card (on.written card some);
+      travels = r.beside.travels;
     };
-    spared = λ card. ⊎_elim (λ whole. inl whole)
-        (λ may. inr (may.0, same (λ (x : Course). overlaps (recording_by o done v.log) card + length (overlaps_by o card x.found) < entered (recording_by o done v.log) card + times_of card x.entered) (let lt = may.1 in omega (arith, lt))))
-        (r.beside.spared card);
-    travels = r.beside.travels;
   }
     where
+      writes : (card : Card) → IsWritten o done v card → MayBeWrittenSo o b done c [] s.number k card
+      writes card h =
+          written-begins o b done c [] s.number k card (ap (λ (x : Course). x.found) begins.1) (ap (λ (x : Course). x.entered) begins.1) h.may.0 h.may.1 h.time (since card h.time h.since) h.entered_then
+
       none : (e : Visit) (verdict : Verdict) → Contains c.found (e, verdict) → ⊥
       none e verdict at = let h = subst (λ (x : Course). Contains x.found (e, verdict)) begins.1 at in omega (arith, h.1)
 
@@ -171,6 +181,8 @@ second-begins d o done s t span v r number given minute =
     begun o done s t span v d r number given v.cabin.slots
     (goes-on (start_at o) (went v.log done).told r.book.sure [] (v.next - 1) s.number (undecided_from o (t ∷ span) v) (slots_of v done) v.cabin.slots on.tells (omega (arith, number)) (omega (arith, number, minute)))
     (present-later o.found r.standing (went v.log done).told (fresh false (slots_of v done)) (v.next - 1) s.number (undecided_from o (t ∷ span) v) v.cabin (omega (arith, number)) on.present)
+    on.back
+    (λ card time h. record { stored = h.stored; past = (let past = h.past in omega (arith, past, number)); stays = h.stays })
   where
     on : IsOn o done (t ∷ span) v (carried v r.due r.book r.standing r.brought) d
     on = r.held
@@ -182,6 +194,8 @@ minute-over d o done s t span v r number given starts minute low high stands =
     (ends-with v.log o.from done v.begun v.next f.last f.order f.next) (omega (arith, number, minute)) low high)
     (minute-ends o.found (start_at o) starts r.standing (went v.log done).told (fresh false (slots_of v done)) r.book.sure [] (v.next - 1) s.number from v.cabin on.present on.tells stands
     (sessions-stand o v r.due r.book r.standing r.brought d on.powered) low (omega (arith, number)))
+    on.back
+    (λ card time h. record { stored = h.stored; past = (let past = h.past in omega (arith, past, number)); stays = h.stays })
   where
     from : ℕ
     from = undecided_from o (t ∷ span) v

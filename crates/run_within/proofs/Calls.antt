@@ -26,6 +26,8 @@ use Rattle.unit_rule.specs.Odometer.{ShowsOdometer, HasTravelled}
 use Rattle.unit_rule.proofs.Moves.{shown-last}
 use Rattle.unit_rule.proofs.Travelling.{travelled-read, travelled-found}
 use Rattle.device_steps.specs.Rule.{Both, CardRests, IsTakenUp}
+use Rattle.card_image.specs.Own.{IsOwnValid}
+use Rattle.card_times.specs.Times.{AreTimedSince}
 use Rattle.safety_model.specs.Safe.{Devices, card_of, breakdowns_of}
 use Rattle.run_rule.specs.Between.{Carried, devices}
 use Rattle.run_rule.specs.Cards.{IsUntouched}
@@ -35,7 +37,7 @@ use Rattle.run_told.specs.Told.{carried_found, IsPowerless}
 use Rattle.run_told.proofs.Power.{found-powerless, unread-powerless, mended-powered, mended-powerless}
 use Rattle.run_told.proofs.Travelled.{travelled-mended}
 use Rattle.run_recorded.specs.Origin.{Origin, rule_of, first_of}
-use Rattle.run_within.specs.Recorded.{Values, carried, IsOff, Recorded}
+use Rattle.run_within.specs.Recorded.{Values, carried, AreThere, IsOff, Recorded}
 use Rattle.run_within.specs.Powering.{GoOn, IsBack, IsOnlyRead, IsNotRead}
 use Rattle.run_within.proofs.Powering.{off-of}
 
@@ -48,10 +50,22 @@ rose-by a b h = by (nat_le (a + 1) last_count) refl
     by false is = let gt : last_count < a + 1 = grind (arith, nat_tests) in inr (omega (arith, gt, h))
 
 -- only the unit was called
-module _ (o : Origin) (d : Devices) (V : State) (rise : d.unit.breakdowns ≤ V.breakdowns) (keeps : (x : List ℕ) → d.unit.left_since o.found.unit.began x → V.left_since o.found.unit.began x) where
-  goes-on : GoOn o d (devices V d.card_a d.card_b)
-  goes-on = record { breakdowns = more; left = record { unit = keeps; card = left }; untouched = still }
+module _ (o : Origin) (d : Devices) (V : State) (rise : d.unit.breakdowns ≤ V.breakdowns) (tells : is_some V.image ≡ is_some d.unit.image) (keeps : (x : List ℕ) → d.unit.left_since o.found.unit.began x → V.left_since o.found.unit.began x) where
+  pub goes-on : GoOn o d (devices V d.card_a d.card_b)
+  goes-on = record { breakdowns = more; left = record { unit = keeps; card = left }; there = λ h. record { unit = tells ∙ h.unit; cards = images h; clocks = clocks h; timed = timed h }; untouched = still }
     where
+      images : AreThere o.found d → (c : Card) → is_some (card_of (devices V d.card_a d.card_b) c).image ≡ true
+      images h A = h.cards A
+      images h B = h.cards B
+
+      clocks : AreThere o.found d → (c : Card) → (found_of o.found c).began ≤ (card_of (devices V d.card_a d.card_b) c).clock
+      clocks h A = h.clocks A
+      clocks h B = h.clocks B
+
+      timed : AreThere o.found d → (c : Card) → IsOwnValid (found_of o.found c).image → AreTimedSince (found_of o.found c).image (found_of o.found c).began (card_of (devices V d.card_a d.card_b) c)
+      timed h A valid = h.timed A valid
+      timed h B valid = h.timed B valid
+
       more : IsMore (breakdowns_of d) (breakdowns_of (devices V d.card_a d.card_b))
       more Recorder = rise
       more CardA = omega arith
@@ -81,7 +95,7 @@ module _ (o : Origin) (done : List TraceSecond) (supply : Supply) (v : Values) (
   not-read cause = record {
     powerless = unread-powerless o.found w d V r.found.two whole off.powerless run;
     broke = rose-by d.unit.breakdowns V.breakdowns (cause.breaks refl refl);
-    goes = goes-on o d V cause.breakdowns (λ x left. run.keeps o.found.unit.began x began left);
+    goes = goes-on o d V cause.breakdowns run.tells (λ x left. run.keeps o.found.unit.began x began left);
     travels = travelled-read (odometer_at o.recording.unit) r.book r.travel r.beside.travels whole run;
   }
 
@@ -115,7 +129,7 @@ module _ (o : Origin) (done : List TraceSecond) (supply : Supply) (v : Values) (
         (taken_a : (q : Both) (c : Card) (b : Book) (z : Standing) → CardRests q c b z V d.card_a → IsTakenUp q c b z failed W d.card_a)
         (taken_b : (q : Both) (c : Card) (b : Book) (z : Standing) → CardRests q c b z V d.card_b → IsTakenUp q c b z failed W d.card_b) where
       goes : GoOn o d (devices W d.card_a d.card_b)
-      goes = goes-on o d W (let rise = cause.breakdowns in omega (arith, rise, same))
+      goes = goes-on o d W (let rise = cause.breakdowns in omega (arith, rise, same)) (tells ∙ run.tells)
           (λ y left. mends.keeps o.found.unit.began y (let le = began in let on = run.later in omega (arith, le, on)) (run.keeps o.found.unit.began y began left))
 
       travels : HasTravelled (odometer_at o.recording.unit) (found k r.book) (resumed odometers.0.leg r.travel) W

@@ -13,7 +13,7 @@ use Rattle.trace_model.specs.declared.Action.{Action}
 use Rattle.trace_model.specs.Trace.{TraceSecond}
 use Rattle.run_model.specs.declared.Device.{Device}
 use Rattle.minute_model.specs.declared.Minute.{Minute}
-use Rattle.minute_model.specs.Span.{count_from, ungiven_of}
+use Rattle.minute_model.specs.Span.{ungiven_of}
 use Rattle.log_model.specs.declared.lines.Break.{Break}
 use Rattle.log_model.specs.declared.lines.Mark.{Mark}
 use Rattle.log_model.specs.declared.lines.Verdict.{Verdict}
@@ -32,7 +32,7 @@ use Rattle.unit_course.specs.Legs.{Travel, stranded_at, all_travelled}
 use Rattle.unit_course.specs.Turn.{begins_with, span_at}
 use Rattle.card_image.specs.Own.{IsOwnValid}
 use Rattle.safety_model.specs.Recording.{card_image}
-use Rattle.safety_model.specs.Safe.{Devices, card_of, breakdowns_of, IsVerdict}
+use Rattle.safety_model.specs.Safe.{Devices, card_of, breakdowns_of, entered_by, IsVerdict}
 use Rattle.run_crew.specs.declared.cards.Cards.{Cards}
 use Rattle.run_crew.specs.declared.cabin.Cabin.{Cabin}
 use Rattle.run_crew.specs.Cabin.{with_power_lost}
@@ -59,12 +59,16 @@ use Rattle.run_moments.proofs.Cutting.{cut-decided}
 use Rattle.run_told.specs.Told.{AreFoundCards}
 use Rattle.run_recorded.specs.Origin.{Origin, rule_of, start_at, first_of, HasRecorded}
 use Rattle.run_recorded.specs.Seconds.{broke_off, seated_now, seated_next, AreTaken}
-use Rattle.run_recorded.specs.Ends.{recording_by, AreVerdicts, MayBeWritten, AreSpared}
+use Rattle.run_recorded.specs.Ends.{recording_by, AreVerdicts, AreSpared}
+use Rattle.run_recorded.specs.Beside.{AreFewFound}
 use Rattle.run_recorded.proofs.Seconds.{second-is_broken}
 use Rattle.run_recorded.proofs.Beside.{second-tells, verdicts-on}
-use Rattle.run_within.specs.Recorded.{Values, progress, carried, Recorded}
-use Rattle.run_within.specs.Within.{Beginning, told_before, course_in, lost_minute, overlaps_by, IsFoundSo, IsSparedSo, CutWithin, cut_values, ACutIsRecorded}
-use Rattle.run_within.proofs.Parts.{still, verdict-by, often-by, entered-by_end, overlaps-by_end, HasAccepted, accepted-or, none-next}
+use Rattle.run_within.specs.Recorded.{Values, progress, carried, IsWritten, Recorded}
+use Rattle.run_within.specs.Within.{Beginning, told_before, course_in, lost_minute, overlaps_by, MayBeWrittenSo, CutWithin, cut_values}
+use Rattle.run_within.proofs.Left.{counted-part}
+use Rattle.run_within.proofs.Stays.{since-later, since-cut}
+use Rattle.run_within.proofs.Written.{few-so_far}
+use Rattle.run_within.proofs.Parts.{still, verdict-by, often-by, entered-grows, entered-by_end, overlaps-by_end, HasAccepted, accepted-or, none-next}
 
 -- ALL MINUTES that are decided are over
 pub all-rec : (n : ℕ) (xs : List Minute) → All (λ (d : Minute). d.minute < n) xs → AllByRecursion (λ (d : Minute). d.minute < n) xs
@@ -79,14 +83,6 @@ pub rec-front : (n : ℕ) (xs ys : List Minute) → AllByRecursion (λ (d : Minu
 rec-front n [] ys h = tt
 rec-front n (x ∷ xs) ys h = (h.0, rec-front n xs ys h.1)
 
--- minutes that follow one another, behind some of them
-pub counted-part : (xs ys : List Minute) (a : ℕ) → map (λ (m : Minute). m.minute) (xs ++ ys) ≡ count_from a (length (xs ++ ys)) → map (λ (m : Minute). m.minute) ys ≡ count_from (a + length xs) (length ys)
-counted-part [] ys a is = is ∙ ap (λ (n : ℕ). count_from n (length ys)) (omega arith)
-counted-part (x ∷ xs) ys a is =
-    let rest : map (λ (m : Minute). m.minute) (xs ++ ys) ≡ count_from (a + 1) (length (xs ++ ys)) = cc in
-    let e : a + 1 + length xs ≡ a + suc (length xs) = omega arith in
-    counted-part xs ys (a + 1) rest ∙ ap (λ (n : ℕ). count_from n (length ys)) e
-
 -- a minute has the cards of the seconds before
 seated-same : (start : Start) (told : List Told) (t : Told) (past : List HistoryMinute) (n : ℕ) (d : Minute) → t.second.number ≡ n → d.minute < n / 60 → seated start (told ++ t ∷ []) past d ≡ seated start told past d
 seated-same start told t past n d is lt =
@@ -100,7 +96,7 @@ option-same start told t past n None is lt = refl
 option-same start told t past n (Some d) is lt = ap (λ (i : HistoryMinute). Some i) (seated-same start told t past n d is lt.0)
 
 -- CARDS keep what they have told
-found-cut : (f : Found) (cards : Cards) (s : ℕ) → AreFoundCards f cards → AreFoundCards f (with_session B None (with_session A None cards))
+pub found-cut : (f : Found) (cards : Cards) (s : ℕ) → AreFoundCards f cards → AreFoundCards f (with_session B None (with_session A None cards))
 found-cut f cards s h = record { two = h.two; named = named; told = told_; sizes = h.sizes; entries = h.entries }
   where
     told_ : (c : Card) → IsOwnValid (found_of f c).image → is_some (known_of (with_session B None (with_session A None cards)) c).number ≡ true
@@ -111,7 +107,7 @@ found-cut f cards s h = record { two = h.two; named = named; told = told_; sizes
     named A valid = h.named A valid
     named B valid = h.named B valid
 
-dark-seat : (o : Option Sitting) → is_accepted (powerless o) ≡ false
+pub dark-seat : (o : Option Sitting) → is_accepted (powerless o) ≡ false
 dark-seat None = refl
 dark-seat (Some x) = refl
 
@@ -283,19 +279,39 @@ module _ (o : Origin) (done : List TraceSecond) (s : TraceSecond) (at : Phase) (
       (verdict-by o (done ++ s ∷ []) log may.0 (d.unit.left_since o.found.unit.began) ((card_of d e.card).left_since (found_of o.found e.card).began) e.card s.number verdict
       (let low = may.1 in let same_times = ap (times_of e.card) entered_ in omega (arith, low, count, same_times)) may.2)))
 
+  written : (card : Card) → MayBeWrittenSo o w.b done c waits s.number v.cabin.slots card → IsWritten o (done ++ s ∷ []) (cut_values s at v) card
+  written card h = record {
+    may = (
+      h.valid,
+      let a = entered-by_end o done (done ++ s ∷ []) p.log log t card told-now in
+          let b = overlaps-by_end o done (done ++ s ∷ []) p.log log t card told-now in
+          let lt = h.fewer in
+          let entered_ = ap (λ (y : Told). times_of card y.course.entered) ends in
+          let found_ = ap (λ (fs : List (Visit × Verdict)). length (overlaps_by o card fs)) found-is in
+          omega (arith, a, b, lt, entered_, found_),
+    );
+    time = h.time;
+    since = since-later o s.number (suc v.next - 1) (with_power_lost s.number v.cabin).slots card h.time (let is = w.moment.number in let next = w.next in omega (arith, is, next)) (since-cut o s.number v.cabin.slots card h.time h.since);
+    entered_then = ⊎_elim
+        (λ before. let grows = entered-grows o done (done ++ s ∷ []) p.log log t card h.time told-now in omega (arith, before, grows))
+        (λ now.
+        let count = often-by o done (done ++ s ∷ []) p.log log t card s.number told-now (ap (λ (y : Told). y.second.number) ends) in
+        let entered_ = ap (λ (y : Told). times_of card y.course.entered) ends in
+        subst (λ (n : ℕ). 0 < entered_by (recording_by o (done ++ s ∷ []) log) card n) (sym now.0) (let lt = now.1 in omega (arith, count, entered_, lt)))
+        h.entered_then;
+  }
+
   spared : AreSpared o (done ++ s ∷ []) log d
-  spared card = ⊎_elim
-      (λ whole. inl whole)
-      (λ may. inr (
-        may.0,
-        let a = entered-by_end o done (done ++ s ∷ []) p.log log t card told-now in
-            let b = overlaps-by_end o done (done ++ s ∷ []) p.log log t card told-now in
-            let lt = may.1 in
-            let entered_ = ap (λ (y : Told). times_of card y.course.entered) ends in
-            let found_ = ap (λ (fs : List (Visit × Verdict)). length (overlaps_by o card fs)) found-is in
-            omega (arith, a, b, lt, entered_, found_),
-      ))
-      (w.spared card)
+  spared card = ⊎_elim (λ whole. inl whole) (λ may. inr (written card may).may) (w.spared card)
+
+  few : AreFewFound (recording_by o (done ++ s ∷ []) log)
+  few card =
+      let a = entered-by_end o done (done ++ s ∷ []) p.log log t card told-now in
+      let b = overlaps-by_end o done (done ++ s ∷ []) p.log log t card told-now in
+      let le = few-so_far o w.b done c waits card w.few (w.moment.counted card) in
+      let entered_ = ap (λ (y : Told). times_of card y.course.entered) ends in
+      let found_ = ap (λ (fs : List (Visit × Verdict)). length (overlaps_by o card fs)) found-is in
+      omega (arith, a, b, le, entered_, found_)
 
   tells : SlotsTell (start_at o) (went log (done ++ s ∷ [])).told book.sure [] (suc v.next - 1) (suc v.next / 60) (went log (done ++ s ∷ [])).before.slots (with_power_lost s.number v.cabin).slots
   tells =
@@ -323,6 +339,9 @@ module _ (o : Origin) (done : List TraceSecond) (s : TraceSecond) (at : Phase) (
     brought = w.brought;
     recorded = recorded;
     beside = record { verdicts = verdicts; spared = spared; travels = w.travels };
+    there = w.there;
+    few = few;
+    written = λ card. ⊎_elim (λ whole. inl whole) (λ may. inr (written card may)) (w.spared card);
     found = found-cut o.found v.cabin.cards s.number w.found;
     early = w.early;
     held = record {

@@ -28,11 +28,11 @@ use Rattle.history_model.specs.Book.{Book, IsMark}
 use Rattle.history_model.proofs.Stilled.{minutes-still}
 use Rattle.unit_course.specs.Lines.{cut_at}
 use Rattle.unit_course.specs.Followed.{Lit, Lost}
-use Rattle.unit_course.specs.Legs.{Travel, stranded_at, all_travelled}
+use Rattle.unit_course.specs.Legs.{Travel, travelled, all_travelled}
 use Rattle.unit_course.specs.Turn.{begins_with, span_at}
 use Rattle.card_image.specs.Own.{IsOwnValid}
 use Rattle.safety_model.specs.Recording.{card_image}
-use Rattle.safety_model.specs.Safe.{Devices, card_of, breakdowns_of, IsVerdict}
+use Rattle.safety_model.specs.Safe.{Devices, card_of, breakdowns_of, entered_by, IsVerdict}
 use Rattle.run_crew.specs.declared.cards.Cards.{Cards}
 use Rattle.run_crew.specs.declared.cabin.Cabin.{Cabin}
 use Rattle.run_crew.specs.Cabin.{with_power_lost}
@@ -60,14 +60,23 @@ use Rattle.run_present.proofs.Presence.{next-begins}
 use Rattle.run_told.specs.Told.{AreFoundCards}
 use Rattle.run_recorded.specs.Origin.{Origin, rule_of, start_at, first_of, HasRecorded}
 use Rattle.run_recorded.specs.Seconds.{went_on, seated_now, AreTaken}
-use Rattle.run_recorded.specs.Ends.{recording_by, AreVerdicts, MayBeWritten, AreSpared}
+use Rattle.run_recorded.specs.Ends.{recording_by, AreVerdicts, AreSpared}
+use Rattle.run_recorded.specs.Beside.{AreFewFound}
 use Rattle.run_recorded.proofs.Seconds.{second-is_recorded}
 use Rattle.run_recorded.proofs.Beside.{second-tells, verdicts-on}
-use Rattle.run_within.specs.Recorded.{Values, progress, carried, Recorded}
-use Rattle.run_within.specs.Within.{Beginning, told_before, course_in, lost_minute, overlaps_by, IsFoundSo, IsSparedSo, Within, passed_values, TheSecondIsOver}
+use Rattle.run_within.specs.Recorded.{Values, progress, carried, AreBack, IsWritten, Recorded}
+use Rattle.run_within.specs.Within.{Beginning, told_before, course_in, overlaps_by, IsFoundSo, MayBeWrittenSo, Within, passed_values, RecordedFrom}
 use Rattle.run_within.proofs.Cutting.{rec-front, marks-all}
 use Rattle.run_within.proofs.Spans.{AreAlike, alike}
-use Rattle.run_within.proofs.Parts.{still, verdict-by, often-by, entered-by_end, overlaps-by_end, HasAccepted, accepted-or, none-next}
+use Rattle.run_within.proofs.Back.{back-plain}
+use Rattle.run_within.proofs.Stays.{since-later}
+use Rattle.run_within.proofs.Written.{few-so_far}
+use Rattle.run_within.proofs.Parts.{still, verdict-by, often-by, entered-grows, entered-by_end, overlaps-by_end, HasAccepted, accepted-or, none-next}
+
+-- minutes that are kept add nothing to what was travelled before the span
+pub same-before : (ds : List Minute) (g : Travel) → (all_travelled ds g).before ≡ g.before
+same-before [] g = refl
+same-before (m ∷ ds) g = same-before ds (travelled m.travelled g)
 
 module _ (o : Origin) (done : List TraceSecond) (s : TraceSecond) (v : Values) (d : Devices) (w : Within o done s Keeping [] (Some s.speed) [] v d) where
   abbrev p : Progress
@@ -173,19 +182,39 @@ module _ (o : Origin) (done : List TraceSecond) (s : TraceSecond) (v : Values) (
       (verdict-by o (done ++ s ∷ []) log may.0 (d.unit.left_since o.found.unit.began) ((card_of d e.card).left_since (found_of o.found e.card).began) e.card s.number verdict
       (let low = may.1 in let same_times = ap (λ (y : Course). times_of e.card y.entered) course-is in omega (arith, low, count, same_times)) may.2)))
 
+  written : (card : Card) → MayBeWrittenSo o w.b done c [] s.number v.cabin.slots card → IsWritten o (done ++ s ∷ []) (passed_values s v) card
+  written card h = record {
+    may = (
+      h.valid,
+      let a = entered-by_end o done (done ++ s ∷ []) p.log log t card told-now in
+          let b = overlaps-by_end o done (done ++ s ∷ []) p.log log t card told-now in
+          let lt = h.fewer in
+          let entered_ = ap (λ (y : Course). times_of card y.entered) course-is in
+          let found_ = ap (λ (fs : List (Visit × Verdict)). length (overlaps_by o card fs)) found-is in
+          omega (arith, a, b, lt, entered_, found_),
+    );
+    time = h.time;
+    since = since-later o s.number (suc v.next - 1) v.cabin.slots card h.time (let is = w.moment.number in let next = w.next in omega (arith, is, next)) h.since;
+    entered_then = ⊎_elim
+        (λ before. let grows = entered-grows o done (done ++ s ∷ []) p.log log t card h.time told-now in omega (arith, before, grows))
+        (λ now.
+        let count = often-by o done (done ++ s ∷ []) p.log log t card s.number told-now (ap (λ (y : Told). y.second.number) ends) in
+        let entered_ = ap (λ (y : Course). times_of card y.entered) course-is in
+        subst (λ (n : ℕ). 0 < entered_by (recording_by o (done ++ s ∷ []) log) card n) (sym now.0) (let lt = now.1 in omega (arith, count, entered_, lt)))
+        h.entered_then;
+  }
+
   spared : AreSpared o (done ++ s ∷ []) log d
-  spared card = ⊎_elim
-      (λ whole. inl whole)
-      (λ may. inr (
-        may.0,
-        let a = entered-by_end o done (done ++ s ∷ []) p.log log t card told-now in
-            let b = overlaps-by_end o done (done ++ s ∷ []) p.log log t card told-now in
-            let lt = may.1 in
-            let entered_ = ap (λ (y : Course). times_of card y.entered) course-is in
-            let found_ = ap (λ (fs : List (Visit × Verdict)). length (overlaps_by o card fs)) found-is in
-            omega (arith, a, b, lt, entered_, found_),
-      ))
-      (w.spared card)
+  spared card = ⊎_elim (λ whole. inl whole) (λ may. inr (written card may).may) (w.spared card)
+
+  few : AreFewFound (recording_by o (done ++ s ∷ []) log)
+  few card =
+      let a = entered-by_end o done (done ++ s ∷ []) p.log log t card told-now in
+      let b = overlaps-by_end o done (done ++ s ∷ []) p.log log t card told-now in
+      let le = few-so_far o w.b done c [] card w.few (w.moment.counted card) in
+      let entered_ = ap (λ (y : Course). times_of card y.entered) course-is in
+      let found_ = ap (λ (fs : List (Visit × Verdict)). length (overlaps_by o card fs)) found-is in
+      omega (arith, a, b, le, entered_, found_)
 
   -- the span as the rules of minutes have it
   abbrev seen : Span
@@ -200,7 +229,7 @@ module _ (o : Origin) (done : List TraceSecond) (s : TraceSecond) (v : Values) (
   same-span : AreAlike w.sp seen
   same-span = subst (λ (x : Span). AreAlike x seen) (sym w.decided.span_is) (alike w.decided.times c.settled c.picks (span_at (rule_of o) p.next w.b.span) s.speed w.decided.settles)
 
-  from-is : w.from ≡ ungiven_of (span_at (rule_of o) (suc v.next) span)
+  pub from-is : w.from ≡ ungiven_of (span_at (rule_of o) (suc v.next) span)
   from-is = (let to = w.until in let e : w.from ≡ ungiven_of w.sp = omega (arith, to) in e) ∙ same-span.ungiven ∙ ap ungiven_of (sym seen-is)
 
   gone : SlotsTell (start_at o) (told0 ++ T ∷ []) (p.book.sure ++ w.new) [] s.number w.from c.slots v.cabin.slots
@@ -229,22 +258,30 @@ module _ (o : Origin) (done : List TraceSecond) (s : TraceSecond) (v : Values) (
       (subst (λ (n : ℕ). PresentStand o.found w.standing (told0 ++ T ∷ []) (fresh false c.slots) s.number n v.cabin) from-is
       (next-begins o.found w.standing told0 T s.number s.number w.from v.cabin refl (omega arith) w.present)))))
 
-  pub second-over : Recorded o (done ++ s ∷ []) (Lit span) (passed_values s v) d
+  pub second-over : RecordedFrom o (done ++ s ∷ []) (Lit span) (passed_values s v) d w.b.travel.before
   second-over = record {
-    book = book;
-    travel = all_travelled w.ds w.b.travel;
-    due = w.due;
-    standing = w.standing;
-    brought = w.brought;
-    recorded = recorded;
-    beside = record { verdicts = verdicts; spared = spared; travels = w.travels };
-    found = w.found;
-    early = w.early;
-    held = record {
-      powered = w.powered;
-      due = let late = w.late in let is = from-is in omega (arith, late, is);
-      minutes = subst (λ (x : Span). StandsFor v.minutes x) (sym seen-is) (same-span.stands v.minutes w.minutes);
-      tells = tells;
-      present = present;
+    travelled_before = same-before w.ds w.b.travel;
+    recorded = record {
+      book = book;
+      travel = all_travelled w.ds w.b.travel;
+      due = w.due;
+      standing = w.standing;
+      brought = w.brought;
+      recorded = recorded;
+      beside = record { verdicts = verdicts; spared = spared; travels = w.travels };
+      there = w.there;
+      few = few;
+      written = λ card. ⊎_elim (λ whole. inl whole) (λ may. inr (written card may)) (w.spared card);
+      found = w.found;
+      early = w.early;
+      held = record {
+        powered = w.powered;
+        due = let late = w.late in let is = from-is in omega (arith, late, is);
+        minutes = subst (λ (x : Span). StandsFor v.minutes x) (sym seen-is) (same-span.stands v.minutes w.minutes);
+        tells = tells;
+        present = present;
+        back = subst (λ (n : ℕ). AreBack n v.cabin) from-is (back-plain o done s Keeping [] (Some s.speed) v d w);
+        written = λ card some. written card (w.written card some);
+      };
     };
   }

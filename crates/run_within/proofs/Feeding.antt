@@ -21,14 +21,15 @@ use Rattle.run_moments.proofs.Kept.{second-fed}
 use Rattle.run_recorded.specs.Origin.{Origin, rule_of, start_at}
 use Rattle.run_present.specs.Presence.{PresentStand}
 use Rattle.run_within.specs.Recorded.{Values}
-use Rattle.run_within.specs.Within.{told_before, course_in, IsFoundSo, IsSparedSo, Within, ASecondIsFed}
+use Rattle.run_within.specs.Within.{told_before, course_in, IsFoundSo, MayBeWrittenSo, IsSparedSo, Within, GoesOn, ASecondIsFed}
+use Rattle.run_within.proofs.Back.{back-plain}
 
 many : (a n : ℕ) → length (count_from a n) ≡ n
 many a zero = refl
 many a (suc n) = ap suc (many (a + 1) n)
 
 -- how many minutes a span has decided
-decided-many : (span : Span) (minutes : Kept) → StandsFor minutes span → length (decided_in span) ≡ ungiven_of span - span.first / 60
+pub decided-many : (span : Span) (minutes : Kept) → StandsFor minutes span → length (decided_in span) ≡ ungiven_of span - span.first / 60
 decided-many span minutes h =
     ap (λ (ds : List Minute). length ds) (decided-counted span h.numbered h.settled)
     ∙ length-map (count_from (span.first / 60) (ungiven_of span - span.first / 60)) (judged span.rule span.settlings span.seconds)
@@ -65,37 +66,45 @@ module _ (o : Origin) (done : List TraceSecond) (s : TraceSecond) (v : Values) (
       let high : w.sp.first / 60 ≤ ungiven_of (fed w.sp s.speed) = omega arith in
       omega (arith, before, behind, count, parts, here, low, high)
 
-  pub second-is_fed : Within o done s Keeping [] (Some s.speed) rest (record v { minutes = minutes }) d
+  pub second-is_fed : GoesOn o done s Keeping [] (Some s.speed) rest (record v { minutes = minutes }) d w.b w.from
   second-is_fed = record {
-    b = w.b;
-    lit = w.lit;
-    began = w.began;
-    unfound = w.unfound;
-    next = w.next;
-    moment = comes.0;
-    sp = fed w.sp s.speed;
-    minutes = stands;
-    ds = w.ds;
-    new = w.new;
-    decided = same (λ (x : Course). HasDecided (rule_of o) (start_at o) told0 p w.b.span x (Some s.speed) (fed w.sp s.speed) w.ds rest w.new)
-        (second-fed (rule_of o) (start_at o) told0 p w.b.span c w.sp s.speed w.ds rest w.new w.decided decides);
-    from = w.from;
-    kept_to = w.kept_to;
-    until = up_to;
-    stay = w.stay;
-    marked = same (λ (x : Course). AreMarkedSoFar v.marks told0 x s.number w.new) w.marked;
-    due = w.due;
-    standing = w.standing;
-    brought = w.brought;
-    powered = w.powered;
-    found = w.found;
-    early = w.early;
-    late = w.late;
-    more = w.more;
-    tells = same (λ (x : Course). SlotsTell (start_at o) told0 (p.book.sure ++ w.new) x.left s.number w.from x.slots v.cabin.slots) w.tells;
-    present = same (λ (x : Course). PresentStand o.found w.standing told0 x s.number w.from v.cabin) w.present;
-    verdicts = w.verdicts;
-    finds = same (λ (x : Course). IsFoundSo o w.b done x s.number w.from w.new w.brought d) w.finds;
-    spared = λ card. same (λ (x : Course). IsSparedSo o w.b done x d card) (w.spared card);
-    travels = w.travels;
+    began = refl;
+    from = refl;
+    within = record {
+      b = w.b;
+      lit = w.lit;
+      began = w.began;
+      unfound = w.unfound;
+      next = w.next;
+      moment = comes.0;
+      sp = fed w.sp s.speed;
+      minutes = stands;
+      ds = w.ds;
+      new = w.new;
+      decided = same (λ (x : Course). HasDecided (rule_of o) (start_at o) told0 p w.b.span x (Some s.speed) (fed w.sp s.speed) w.ds rest w.new)
+          (second-fed (rule_of o) (start_at o) told0 p w.b.span c w.sp s.speed w.ds rest w.new w.decided decides);
+      from = w.from;
+      kept_to = w.kept_to;
+      until = up_to;
+      stay = w.stay;
+      marked = same (λ (x : Course). AreMarkedSoFar v.marks told0 x s.number w.new) w.marked;
+      due = w.due;
+      standing = w.standing;
+      brought = w.brought;
+      powered = w.powered;
+      found = w.found;
+      early = w.early;
+      late = w.late;
+      more = w.more;
+      tells = same (λ (x : Course). SlotsTell (start_at o) told0 (p.book.sure ++ w.new) x.left s.number w.from x.slots v.cabin.slots) w.tells;
+      present = same (λ (x : Course). PresentStand o.found w.standing told0 x s.number w.from v.cabin) w.present;
+      back = λ card some. inl (back-plain o done s (In (length s.actions)) [] None v d w card some);
+      verdicts = w.verdicts;
+      finds = same (λ (x : Course). IsFoundSo o w.b done x s.number w.from w.new w.brought d) w.finds;
+      there = w.there;
+      few = w.few;
+      spared = λ card. same (λ (x : Course). IsSparedSo o w.b done x [] s.number v.cabin.slots d card) (w.spared card);
+      written = λ card some. same (λ (x : Course). MayBeWrittenSo o w.b done x [] s.number v.cabin.slots card) (w.written card some);
+      travels = w.travels;
+    };
   }

@@ -1,5 +1,5 @@
 -- A card that waits is judged: that is told, and it is accepted or not.
-use Rattle.std.proofs.Common.{◌≡◌, ◌⊎◌, ⊎_elim, ℕ, ◌≤◌, Bool, true, false, cond, Option, Some, None, List, [], ◌∷◌, ◌++◌, Contains, map, refl, ap, sym, subst, ◌∙◌, arith}
+use Rattle.std.proofs.Common.{◌≡◌, ◌⊎◌, inl, inr, ⊎_elim, ℕ, ◌≤◌, Bool, true, false, cond, is_some, Option, Some, None, List, [], ◌∷◌, ◌++◌, Contains, map, refl, ap, sym, subst, ◌∙◌, arith}
 use Rattle.std.specs.Prelude.{option_map}
 use Rattle.std.proofs.lemmas.List.Elements.{Contains-push_cases}
 use Rattle.activity_codec.specs.declared.values.Slot.{Slot}
@@ -15,6 +15,7 @@ use Rattle.joint_rule.specs.Rules.{Standing}
 use Rattle.safety_model.specs.Safe.{Devices, card_of, breakdowns_of}
 use Rattle.slot_machine.specs.Kept.{Kept}
 use Rattle.run_crew.specs.declared.cabin.Cabin.{Cabin}
+use Rattle.run_crew.specs.Cards.{session_of}
 use Rattle.run_rule.specs.Found.{found_of}
 use Rattle.run_course.specs.Moments.{and_find}
 use Rattle.run_course.specs.Followed.{Progress}
@@ -28,10 +29,13 @@ use Rattle.run_moments.proofs.Kept.{nothing-else, marks-stay}
 use Rattle.run_present.specs.Presence.{PresentStand, IsSeated, sits}
 use Rattle.run_present.proofs.Presence.{none-to_keep}
 use Rattle.run_recorded.specs.Origin.{Origin, rule_of, start_at}
-use Rattle.run_within.specs.Recorded.{Values}
-use Rattle.run_within.specs.Within.{told_before, course_in, VerdictBy, often, IsFoundSo, Within}
-use Rattle.run_within.proofs.Rounds.{verdict-left}
-use Rattle.run_within.specs.Judging.{IsAcceptedSo, IsSeatedBy, IsJudged, ACardIsJudged, AJudgingFails}
+use Rattle.run_within.specs.Recorded.{Values, AreBack, SitsAccepted, GoesOnIn}
+use Rattle.run_within.specs.Within.{told_before, course_in, VerdictBy, often, IsFoundSo, MayBeWrittenSo, IsSparedSo, Within}
+use Rattle.run_within.specs.Judging.{IsAcceptedSo, IsSeatedBy, IsAccepted, IsJudged, ACardIsJudged, AJudgingFails}
+use Rattle.run_within.proofs.Left.{verdict-left}
+use Rattle.run_within.proofs.Back.{back-by_now}
+use Rattle.run_within.proofs.Stays.{goes-still, goes-put_in, sits-put_in}
+use Rattle.run_within.proofs.Written.{written-judged, accepted-written, accepted-valid}
 use Rattle.run_within.proofs.Sitting.{another, sits-with, seated-still, verdicts-later}
 
 -- one find is another
@@ -58,7 +62,7 @@ module _ (o : Origin) (done : List TraceSecond) (s : TraceSecond) (at : Phase) (
   abbrev waiting : Sitting
   waiting = record { card = card; accepted = None }
 
-  moments : Moment p (went p.log done).before s at (and_find v.log f) fewer w.b.broken (breakdowns_of d) × IsFoundOf s.number at f.slot f.verdict c now
+  pub moments : Moment p (went p.log done).before s at (and_find v.log f) fewer w.b.broken (breakdowns_of d) × IsFoundOf s.number at f.slot f.verdict c now
   moments = card-judged p (went p.log done).before s at v.log waits fewer w.b.broken (breakdowns_of d) w.moment f j.here waiting j.next.sits_ j.none j.next.enters j.order j.next.but j.next.behind
 
   is : IsFoundOf s.number at f.slot f.verdict c now
@@ -157,6 +161,34 @@ module _ (o : Origin) (done : List TraceSecond) (s : TraceSecond) (at : Phase) (
     late = λ x verdict there accepts. let here = j.next.is_now in omega (arith, here);
   }
 
+  -- which cards may be written
+  goes : (x : Card) → GoesOnIn s.number v.cabin.slots cabin.slots x
+  goes x = by (is_accepting f.verdict) j.seats
+    where
+      by : (b : Bool) → IsSeatedBy b o done s at waits v d w f.slot card cabin brought → GoesOnIn s.number v.cabin.slots cabin.slots x
+      by true a = subst (λ (k : Kept). GoesOnIn s.number v.cabin.slots k x) (sym a.slots_are) (goes-put_in s.number f.slot card (Some a.newest) v.cabin.slots x a.free)
+      by false a = goes-still s.number v.cabin.slots cabin.slots x a
+
+  accepted-may : (x : Card) → IsAccepted card (is_accepting f.verdict) x → MayBeWrittenSo o w.b done now fewer s.number cabin.slots x
+  accepted-may x is_ =
+      let a = accepted-by is_.1 in
+      let valid = accepted-valid o j.may.0 (e.unit.left_since o.found.unit.began) ((card_of e card).left_since (found_of o.found card).began) card s.number f.verdict is_.1 j.may.2 in
+      subst (λ (y : Card). MayBeWrittenSo o w.b done now fewer s.number cabin.slots y) (sym is_.0)
+      (accepted-written o w.b done c now at f.slot card waits fewer f.verdict s.number cabin.slots j.next.but found-is is.entered w.few (w.moment.counted card) valid.0 valid.1
+      (subst (λ (k : Kept). SitsAccepted k card) (sym a.slots_are) (sits-put_in f.slot card a.newest v.cabin.slots)) is_.1)
+
+  pub still-may : (x : Card) → MayBeWrittenSo o w.b done c waits s.number v.cabin.slots x → MayBeWrittenSo o w.b done now fewer s.number cabin.slots x
+  still-may x may = written-judged o w.b done c now at f.slot card waits fewer f.verdict s.number v.cabin.slots cabin.slots j.next.but found-is is.entered x (goes x) may
+
+  pub spared : (x : Card) → IsSparedSo o w.b done now fewer s.number cabin.slots e x
+  spared x = ⊎_elim
+      (λ whole. ⊎_elim (λ still. inl still) (λ wrote. inr (⊎_elim (λ some. still-may x (w.written x some)) (λ is_. accepted-may x is_) wrote)) (j.untouched x whole))
+      (λ may. inr (still-may x may))
+      (w.spared x)
+
+  pub written : (x : Card) → is_some (session_of cabin.cards x) ≡ true → MayBeWrittenSo o w.b done now fewer s.number cabin.slots x
+  written x some = ⊎_elim (λ had. still-may x (w.written x had)) (λ is_. accepted-may x is_) (j.sessions x some)
+
 pub judged-so : (d e : Devices) → ACardIsJudged d e
 judged-so d e o done s at waits fewer v w card f marks cabin brought standing j st = record {
   began = refl;
@@ -190,9 +222,15 @@ judged-so d e o done s at waits fewer v w card f marks cabin brought standing j 
     present = subst (λ (n : ℕ). PresentStand o.found standing (told_before w.b done) (course_in w.b done s at (and_find v.log f)) s.number n cabin) (sym j.next.is_now)
         (none-to_keep o.found standing (told_before w.b done) (course_in w.b done s at (and_find v.log f)) s.number cabin (tells o done s at waits fewer v d e w card f marks cabin brought j).newest
         (tells o done s at waits fewer v d e w card f marks cabin brought j).minute (seated o done s at waits fewer v d e w card f marks cabin brought j standing st.others st.stands));
+    back = λ x some. inl (subst (λ (n : ℕ). AreBack n cabin) (sym j.next.is_now)
+        (back-by_now (start_at o) (told_before w.b done) (w.b.run.book.sure ++ w.new) (course_in w.b done s at (and_find v.log f)).left s.number w.from (course_in w.b done s at (and_find v.log f)).slots cabin
+        (tells o done s at waits fewer v d e w card f marks cabin brought j)) x some);
     verdicts = verdicts-later o done w.b d e j.left w.verdicts;
     finds = finds o done s at waits fewer v d e w card f marks cabin brought j;
-    spared = λ x. j.spared x (w.spared x);
+    there = j.there w.there;
+    few = w.few;
+    spared = spared o done s at waits fewer v d e w card f marks cabin brought j;
+    written = written o done s at waits fewer v d e w card f marks cabin brought j;
     travels = j.travels;
   };
 }
@@ -231,6 +269,8 @@ judging-fails d e o done s at waits fewer v w card f marks cabin brought j k = r
   tells = tells o done s at waits fewer v d e w card f marks cabin brought j;
   verdicts = verdicts-later o done w.b d e j.left w.verdicts;
   finds = finds o done s at waits fewer v d e w card f marks cabin brought j;
-  spared = λ x. j.spared x (w.spared x);
+  there = j.there w.there;
+  few = w.few;
+  spared = spared o done s at waits fewer v d e w card f marks cabin brought j;
   travels = j.travels;
 }

@@ -63,7 +63,7 @@ sure-of : (first n : ℕ) (b : Book) → b.maybe ≡ None → IsMark first (all 
 sure-of first n b none h = subst (λ (is : List HistoryMinute). IsMark first is n) (ap (λ (i : Option HistoryMinute). b.sure ++ option_to_list i) none ∙ append-nil b.sure) h
 
 -- it is before what is decided next
-before-due : (first due n : ℕ) (b : Book) → Ordered first due b → IsMark first (all b) n → n < due
+pub before-due : (first due n : ℕ) (b : Book) → Ordered first due b → IsMark first (all b) n → n < due
 before-due first due n b order mark = ⊎_elim
     (λ (is : n ≡ first). let low = order.begins in omega (arith, is, low))
     (λ one. let at = late one.0 one.1 in let is = one.2 in omega (arith, at, is))

@@ -86,6 +86,17 @@ often-by o done now log later t c u told is =
     ∙ ap (λ (b : Bool). entered_by (recording_by o done log) c u + length (cond b (filter (λ (e : Visit). same_card c e.card) t.course.entered) [])) (both-same t.second.number u is)
     ∙ ap (λ (n : ℕ). entered_by (recording_by o done log) c u + n) (sym (visits-as c t.course.entered))
 
+-- by a second more it has entered no less often,
+pub entered-grows : (o : Origin) (done now : List TraceSecond) (log later : RunLog) (t : Told) (c : Card) (u : ℕ) → (went later now).told ≡ (went log done).told ++ t ∷ [] → entered_by (recording_by o done log) c u ≤ entered_by (recording_by o now later) c u
+entered-grows o done now log later t c u told =
+    let e = ap (λ (ts : List Told). length (flat_map (entered_up c u) ts)) told ∙ flat-more (entered_up c u) (went log done).told t in
+    let more : entered_by (recording_by o now later) c u ≡ entered_by (recording_by o done log) c u + length (entered_up c u t) = e in
+    omega (arith, more)
+
+-- and by the same seconds as often
+pub entered-told : (o : Origin) (done now : List TraceSecond) (log later : RunLog) (c : Card) (u : ℕ) → (went later now).told ≡ (went log done).told → entered_by (recording_by o now later) c u ≡ entered_by (recording_by o done log) c u
+entered-told o done now log later c u told = ap (λ (ts : List Told). length (flat_map (entered_up c u) ts)) told
+
 -- which cards may be written, by the end of the second
 pub entered-by_end : (o : Origin) (done now : List TraceSecond) (log later : RunLog) (t : Told) (c : Card) → (went later now).told ≡ (went log done).told ++ t ∷ [] →
     entered (recording_by o now later) c ≡ entered (recording_by o done log) c + times_of c t.course.entered

@@ -1,5 +1,5 @@
 -- Power is back: the unit was read. It was mended, and the second begins; or that failed.
-use Rattle.std.proofs.Common.{◌≡◌, inl, inr, ⊎_elim, ℕ, ◌+◌, ◌-◌, ◌/◌, ◌<◌, max, true, false, None, List, [], ◌++◌, Contains, length, refl, ap, sym, subst, ◌∙◌, arith}
+use Rattle.std.proofs.Common.{◌≡◌, inl, inr, ⊎_elim, ℕ, ◌+◌, ◌-◌, ◌/◌, ◌<◌, max, true, false, is_some, None, List, [], ◌++◌, Contains, length, refl, ap, sym, subst, ◌∙◌, arith}
 use Rattle.activity_codec.specs.declared.values.Slot.{Slot}
 use Rattle.activity_codec.specs.declared.values.Slot.TheVariants.{Driver, CoDriver}
 use Rattle.trace_model.specs.declared.Card.{Card}
@@ -19,7 +19,8 @@ use Rattle.unit_course.specs.Legs.{resumed}
 use Rattle.unit_course.specs.Travelled.{MayShow}
 use Rattle.unit_course.specs.Turn.{span_at}
 use Rattle.safety_model.specs.Cards.{entered, overlaps}
-use Rattle.safety_model.specs.Safe.{Devices, breakdowns_of}
+use Rattle.safety_model.specs.Safe.{Devices, breakdowns_of, entered_by}
+use Rattle.run_crew.specs.Cards.{session_of}
 use Rattle.run_rule.specs.Between.{Carried}
 use Rattle.run_course.specs.Followed.{Progress}
 use Rattle.run_course.specs.Presence.{SlotsTell}
@@ -35,13 +36,17 @@ use Rattle.run_recorded.specs.Origin.{Origin, rule_of, start_at, first_of, HasRe
 use Rattle.run_recorded.specs.Seconds.{found_again}
 use Rattle.run_recorded.specs.Ends.{recording_by, AreVerdicts}
 use Rattle.run_recorded.proofs.Seconds.{found-recorded, more-recorded}
-use Rattle.run_recorded.proofs.Beside.{found-tells, idle-verdicts, idle-spared}
+use Rattle.run_recorded.specs.Beside.{AreFewFound}
+use Rattle.run_recorded.proofs.Beside.{found-tells, few-on, written-on, idle-verdicts}
 use Rattle.run_present.specs.Presence.{PresentStand, sits}
 use Rattle.run_present.proofs.Presence.{none-to_keep}
-use Rattle.run_within.specs.Recorded.{Values, progress, carried, IsOff, IsHeldBy, Recorded}
+use Rattle.run_within.specs.Recorded.{Values, progress, carried, IsWritten, IsOff, IsHeldBy, Recorded}
 use Rattle.run_within.specs.Within.{Beginning, course_in, overlaps_by, IsFoundSo, IsSparedSo, CutWithin}
 use Rattle.run_within.specs.Waking.{IsWaking, both_slots, PowerWakes}
-use Rattle.run_within.specs.Powering.{read_values, begun_values, GoOn, PowerIsBack, AMendingFails}
+use Rattle.run_within.specs.Powering.{read_values, begun_values, begun_again, GoOn, PowerIsBack, AMendingFails}
+use Rattle.run_within.proofs.Parts.{entered-told}
+use Rattle.run_within.proofs.Stays.{since-later}
+use Rattle.run_within.proofs.Written.{written-begins}
 
 -- WITHOUT POWER, where power may come
 pub off-of : (o : Origin) (done : List TraceSecond) (supply : Supply) (v : Values) (w : Carried) (d : Devices) → MayPower supply v.next → IsHeldBy o done supply v w d → IsOff o done v w d
@@ -137,19 +142,32 @@ module _ (o : Origin) (done : List TraceSecond) (s : TraceSecond) (supply : Supp
       late = λ x verdict at. absurd (none-yet x verdict at);
     }
 
-    pub spared : (card : Card) → IsSparedSo o (before mid) done c e card
+    pub spared : (card : Card) → IsSparedSo o (before mid) done c (fresh true now.before.slots).entered s.number v.cabin.slots e card
     spared card = ⊎_elim
-        (λ whole. inl whole)
-        (λ written. inr (written.0, as-begun (λ (x : Course). overlaps (recording_by o done run.log) card + length (overlaps_by o card x.found) < entered (recording_by o done run.log) card + times_of card x.entered) (let lt = written.1 in omega (arith, lt))))
-        (idle-spared o done done v.log run.log d e [] v.next r.beside.spared (found-tells o done p r.recorded.followed k) tt (λ x whole. inl (goes.untouched x whole)) card)
+        (λ whole. inl (goes.untouched card whole))
+        (λ (h : IsWritten o done v card).
+        let may = written-on o done done v.log run.log [] v.next (found-tells o done p r.recorded.followed k) tt card h.may in
+        let then : 0 < entered_by (recording_by o done run.log) card h.time =
+        (let same_count = entered-told o done done v.log run.log card h.time (ap (λ (w : Went). w.told) same) in let was_then = h.entered_then in omega (arith, same_count, was_then)) in
+        inr (written-begins o (before mid) done c (fresh true now.before.slots).entered s.number v.cabin.slots card (ap (λ (x : Course). x.found) course-is) (ap (λ (x : Course). x.entered) course-is) may.0 may.1 h.time
+        (since-later o (v.next - 1) s.number v.cabin.slots card h.time (omega (arith, number)) h.since) then))
+        (r.written card)
+
+  few : AreFewFound (recording_by o done run.log)
+  few = few-on o done done v.log run.log [] v.next r.few (found-tells o done p r.recorded.followed k) tt
+
+  -- nobody has a session
+  nobody : (card : Card) → is_some (session_of v.cabin.cards card) ≡ true → ⊥
+  nobody card some = let none : is_some (session_of v.cabin.cards card) ≡ false = ap is_some (off.bare card) in let clash : true ≡ false = sym some ∙ none in cc
 
   verdicts : AreVerdicts o done run.log e
   verdicts = idle-verdicts o done done v.log run.log d e [] v.next r.beside.verdicts goes.left (found-tells o done p r.recorded.followed k) tt
 
 pub power-wakes : (d e : Devices) → PowerWakes d e
 power-wakes d e o done s supply v r may number given k minutes back =
-    subst (λ (w : Went). IsWaking o done s (begun_values k minutes v) e (fresh true w.before.slots).entered both_slots) (same o done s supply v d e r may number given k back.leg back.shows back.goes)
+    subst (λ (w : Went). IsWaking o done s (begun_again o done supply v d r k back.leg e) (begun_values k minutes v) e (fresh true w.before.slots).entered both_slots) (same o done s supply v d e r may number given k back.leg back.shows back.goes)
     (record {
+      began = refl;
       starts = (recorded o done s supply v d e r may number given k back.leg back.shows back.goes).followed.power.running;
       is_now = from-is o done s supply v d e r may number given k back.leg back.shows back.goes;
       none = λ slot there. (nothing-told (rule_of o) (start_at o) o.from (first_of o) done (found_again k (progress v supply r.book)) (recorded o done s supply v d e r may number given k back.leg back.shows back.goes).followed s.number (omega (arith, number))).found (In 0) slot;
@@ -180,15 +198,21 @@ power-wakes d e o done s supply v r may number given k minutes back =
         more = λ card n h. h;
         tells = tells o done s supply v d e r may number given k back.leg back.shows back.goes (breakdowns_of e);
         present = present o done s supply v d e r may number given k back.leg back.shows back.goes (breakdowns_of e) (λ card. Out);
+        back = λ card some. absurd (nobody o done s supply v d e r may number given k back.leg back.shows back.goes card some);
         verdicts = verdicts o done s supply v d e r may number given k back.leg back.shows back.goes;
         finds = finds o done s supply v d e r may number given k back.leg back.shows back.goes (breakdowns_of e);
+        there = back.goes.there r.there;
+        few = few o done s supply v d e r may number given k back.leg back.shows back.goes;
         spared = spared o done s supply v d e r may number given k back.leg back.shows back.goes (breakdowns_of e);
+        written = λ card some. absurd (nobody o done s supply v d e r may number given k back.leg back.shows back.goes card some);
         travels = back.travels;
       };
     })
 
 pub power-back : (d e : Devices) → PowerIsBack d e
-power-back d e o done s supply v r may number given k minutes back = (power-wakes d e o done s supply v r may number given k minutes back).within
+power-back d e o done s supply v r may number given k minutes back =
+    let w = power-wakes d e o done s supply v r may number given k minutes back in
+    record { within = w.within; began = w.began; from = w.is_now }
 
 pub mending-fails : (d e : Devices) → AMendingFails d e
 mending-fails d e o done s supply v r may number given k read =
@@ -226,6 +250,8 @@ mending-fails d e o done s supply v r may number given k read =
       tells = tells o done s supply v d e r may number given k read.leg read.shows read.goes (breakdowns_of d);
       verdicts = verdicts o done s supply v d e r may number given k read.leg read.shows read.goes;
       finds = finds o done s supply v d e r may number given k read.leg read.shows read.goes (breakdowns_of d);
+      there = read.goes.there r.there;
+      few = few o done s supply v d e r may number given k read.leg read.shows read.goes;
       spared = spared o done s supply v d e r may number given k read.leg read.shows read.goes (breakdowns_of d);
       travels = read.travels;
     })

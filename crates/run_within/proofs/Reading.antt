@@ -1,6 +1,7 @@
 -- Power comes, and the unit was not read: a cut ends the second.
-use Rattle.std.proofs.Common.{◌≡◌, inl, ⊎_elim, ℕ, suc, ◌-◌, ◌/◌, ◌≤◌, true, false, ◌&&◌, Option, Some, None, List, [], ◌∷◌, ◌++◌, Contains, length, filter, refl, ap, sym, subst, ◌∙◌, arith, append-nil}
+use Rattle.std.proofs.Common.{◌≡◌, ◌⊎◌, inl, inr, ⊎_elim, ℕ, suc, ◌-◌, ◌/◌, ◌≤◌, ◌<◌, true, false, ◌&&◌, Option, Some, None, List, [], ◌∷◌, ◌++◌, Contains, length, filter, refl, ap, sym, subst, ◌∙◌, arith, append-nil}
 use Rattle.std.proofs.lemmas.List.Elements.{Contains-push_cases}
+use Rattle.trace_model.specs.declared.Card.{Card}
 use Rattle.trace_model.specs.declared.Card.TheVariants.{A, B}
 use Rattle.trace_model.specs.Trace.{TraceSecond}
 use Rattle.log_model.specs.declared.lines.Verdict.{Verdict}
@@ -10,7 +11,7 @@ use Rattle.log_model.specs.Course.{Told, Went, Course, Visit, fresh, powerless, 
 use Rattle.unit_course.specs.Lines.{cut_at}
 use Rattle.unit_course.specs.Followed.{Supply, Lit, Due, Lost, MayPower, MayFail}
 use Rattle.safety_model.specs.Cards.{is_overlap}
-use Rattle.safety_model.specs.Safe.{Devices, breakdowns_of}
+use Rattle.safety_model.specs.Safe.{Devices, card_of, breakdowns_of}
 use Rattle.run_crew.specs.Cabin.{with_power_lost}
 use Rattle.run_crew.specs.Cards.{with_session}
 use Rattle.run_crew.proofs.Sessions.{all_gone}
@@ -25,13 +26,17 @@ use Rattle.run_moments.specs.Telling.{told_with}
 use Rattle.run_moments.proofs.Failing.{power-on_cut}
 use Rattle.run_told.proofs.Known.{found-session}
 use Rattle.run_recorded.specs.Origin.{Origin, rule_of, start_at, first_of}
-use Rattle.run_recorded.specs.Ends.{AreVerdicts, AreSpared}
-use Rattle.run_recorded.specs.Beside.{TellsMore, entered_in, AreFewer}
+use Rattle.run_recorded.specs.Ends.{recording_by, AreVerdicts, AreSpared}
+use Rattle.run_recorded.specs.Beside.{TellsMore, entered_in, AreFewer, AreFewFound}
 use Rattle.run_recorded.proofs.Seconds.{failed-recorded}
-use Rattle.run_recorded.proofs.Beside.{second-tells, verdicts-on, spared-on}
-use Rattle.run_within.specs.Recorded.{Values, progress, carried, IsOff, Recorded}
+use Rattle.run_recorded.proofs.Beside.{second-tells, few-on, written-on, verdicts-on, spared-on}
+use Rattle.run_rule.specs.Found.{found_of}
+use Rattle.run_rule.specs.Cards.{IsUntouched}
+use Rattle.run_within.specs.Recorded.{Values, progress, carried, IsWritten, IsOff, Recorded}
 use Rattle.run_within.specs.Within.{cut_values}
 use Rattle.run_within.specs.Powering.{IsNotRead, AReadingFails}
+use Rattle.run_within.proofs.Parts.{entered-grows}
+use Rattle.run_within.proofs.Stays.{since-later, since-cut}
 use Rattle.run_within.proofs.Powering.{off-of}
 
 -- where power may come it may fail
@@ -101,6 +106,21 @@ module _ (o : Origin) (done : List TraceSecond) (s : TraceSecond) (supply : Supp
   spared : AreSpared o (done ++ s ∷ []) log e
   spared = spared-on o done (done ++ s ∷ []) v.log log d e (t ∷ []) v.next r.beside.spared further fewer (λ c whole. inl (failed.goes.untouched c whole))
 
+  few : AreFewFound (recording_by o (done ++ s ∷ []) log)
+  few = few-on o done (done ++ s ∷ []) v.log log (t ∷ []) v.next r.few further fewer
+
+  written : (c : Card) → IsUntouched (found_of o.found c) (card_of e c) ⊎ IsWritten o (done ++ s ∷ []) (cut_values s (In 0) v) c
+  written c = ⊎_elim
+      (λ whole. inl (failed.goes.untouched c whole))
+      (λ (h : IsWritten o done v c). inr (record {
+        may = written-on o done (done ++ s ∷ []) v.log log (t ∷ []) v.next further fewer c h.may;
+        time = h.time;
+        since = since-later o s.number (suc v.next - 1) (with_power_lost s.number v.cabin).slots c h.time (omega (arith, number))
+            (since-cut o s.number v.cabin.slots c h.time (since-later o (v.next - 1) s.number v.cabin.slots c h.time (omega (arith, number)) h.since));
+        entered_then = let was_then = h.entered_then in let grows = entered-grows o done (done ++ s ∷ []) v.log log t c h.time told-now in omega (arith, was_then, grows);
+      }))
+      (r.written c)
+
   tells : SlotsTell (start_at o) (went log (done ++ s ∷ [])).told r.book.sure [] (suc v.next - 1) (suc v.next / 60) (went log (done ++ s ∷ [])).before.slots (with_power_lost s.number v.cabin).slots
   tells =
       let T : Told = told_with true true s ended in
@@ -121,6 +141,9 @@ module _ (o : Origin) (done : List TraceSecond) (s : TraceSecond) (supply : Supp
     brought = r.brought;
     recorded = failed-recorded o done p r.travel v.marks (breakdowns_of d) (breakdowns_of e) r.brought r.recorded (may-fail supply v.next may) s number given failed.goes.breakdowns failed.broke;
     beside = record { verdicts = verdicts; spared = spared; travels = failed.travels };
+    there = failed.goes.there r.there;
+    few = few;
+    written = written;
     found = found-session o.found B None (with_session A None v.cabin.cards) (found-session o.found A None v.cabin.cards r.found);
     early = r.early;
     held = record {

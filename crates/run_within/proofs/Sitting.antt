@@ -10,7 +10,7 @@ use Rattle.log_model.specs.Course.{Told, with_slot}
 use Rattle.history_model.specs.Minutes.{HistoryMinute}
 use Rattle.history_model.specs.Presence.{Start}
 use Rattle.slot_machine.specs.declared.seats.Seat.{Seat}
-use Rattle.slot_machine.specs.Calls.{is_card}
+use Rattle.slot_machine.specs.Calls.{seat_in, is_card}
 use Rattle.slot_machine.specs.Kept.{Kept}
 use Rattle.joint_rule.specs.Rules.{Standing}
 use Rattle.safety_model.specs.Safe.{Devices, card_of}
@@ -21,7 +21,7 @@ use Rattle.run_recorded.specs.Origin.{Origin}
 use Rattle.run_recorded.specs.Ends.{AreVerdicts}
 use Rattle.run_recorded.specs.Beside.{HaveLeftMore}
 use Rattle.run_within.specs.Within.{Beginning}
-use Rattle.run_within.proofs.Rounds.{seen-left}
+use Rattle.run_within.proofs.Left.{seen-left}
 
 itself : (c : Card) → same_card c c ≡ true
 itself A = refl
@@ -59,6 +59,18 @@ module _ (start : Start) (told : List Told) (past : List HistoryMinute) (left : 
       let e : m ≡ n = no-twice a b m n waits is (sym same) in
       let clash : None ≡ Some u = ap (λ (z : Sitting). z.accepted) e in
       cc
+
+-- the seat of a card that sits there by the log
+seat-of : (start : Start) (past : List HistoryMinute) (from : ℕ) (k : Kept) (seat : Option Seat) (x : Option Sitting) (m : Sitting) → SitsAs start past from k seat x → x ≡ Some m → (y : Seat) × (seat ≡ Some y) × (y.card ≡ m.card)
+seat-of start past from k None None m h is = absurd (cc)
+seat-of start past from k None (Some y) m h is = absurd h
+seat-of start past from k (Some seat) None m h is = absurd h
+seat-of start past from k (Some seat) (Some y) m h is = let e : y ≡ m = cc in (seat, refl, h.0 ∙ ap (λ (z : Sitting). z.card) e)
+
+pub seat-there : (start : Start) (told : List Told) (past : List HistoryMinute) (left : List Card) (number from : ℕ) (slots : Slots) (k : Kept) → SlotsTell start told past left number from slots k →
+    (slot : Slot) (m : Sitting) → in_slot slots slot ≡ Some m → (y : Seat) × (seat_in k.seats slot ≡ Some y) × (y.card ≡ m.card)
+seat-there start told past left number from slots k h Driver m is = seat-of start past from k k.seats.driver slots.driver m h.driver is
+seat-there start told past left number from slots k h CoDriver m is = seat-of start past from k k.seats.codriver slots.codriver m h.codriver is
 
 -- WHO SITS with this in a slot
 pub sits-with : (slots : Slots) (a : Slot) (z : Option Sitting) (b : Slot) (x : Card) (u : ℕ) → in_slot (with_slot slots a z) b ≡ sits x u → (z ≡ sits x u) ⊎ (in_slot slots b ≡ sits x u)

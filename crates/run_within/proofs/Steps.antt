@@ -23,8 +23,9 @@ use Rattle.run_recorded.specs.Origin.{Origin, rule_of, start_at}
 use Rattle.run_recorded.specs.Ends.{AreVerdicts}
 use Rattle.run_recorded.specs.Beside.{HaveLeftMore}
 use Rattle.run_within.specs.Recorded.{Values, carried}
-use Rattle.run_within.specs.Within.{Beginning, told_before, course_in, IsFoundSo, Within, CutWithin, GoesOnSo, HasFailed, ACallIsRecorded, AFailureIsRecorded, AFailureBehindIsRecorded, minute_next, kept_values}
-use Rattle.run_within.proofs.Rounds.{verdict-left, seen-left, kept-more, minute-told}
+use Rattle.run_within.specs.Within.{Beginning, told_before, course_in, IsFoundSo, Within, CutWithin, ACallIsRecorded, AFailureIsRecorded}
+use Rattle.run_within.proofs.Left.{verdict-left, seen-left}
+use Rattle.run_within.proofs.Written.{spared-called}
 
 verdicts-left : (o : Origin) (done : List TraceSecond) (b : Beginning) (d e : Devices) → HaveLeftMore o d e → AreVerdicts o done b.run.log d → AreVerdicts o done b.run.log e
 verdicts-left o done b d e left h = record {
@@ -49,36 +50,44 @@ finds-left o b done c u from new brought d e left h = record {
 
 pub call-recorded : (d e : Devices) → ACallIsRecorded d e
 call-recorded d e o done s at waits speed rest v w k = record {
-  b = w.b;
-  lit = w.lit;
-  began = w.began;
-  unfound = w.unfound;
-  next = w.next;
-  moment = breakdowns-only w.b.run (went w.b.run.log done).before s at v.log waits w.b.broken (breakdowns_of d) (breakdowns_of e) w.moment k.goes.breakdowns;
-  sp = w.sp;
-  minutes = w.minutes;
-  ds = w.ds;
-  new = w.new;
-  decided = w.decided;
-  from = w.from;
-  kept_to = w.kept_to;
-  until = w.until;
-  stay = w.stay;
-  marked = w.marked;
-  due = w.due;
-  standing = w.standing;
-  brought = w.brought;
-  powered = k.powered;
-  found = w.found;
-  early = w.early;
-  late = w.late;
-  more = w.more;
-  tells = w.tells;
-  present = w.present;
-  verdicts = verdicts-left o done w.b d e k.goes.left w.verdicts;
-  finds = finds-left o w.b done (course_in w.b done s at v.log) s.number w.from w.new w.brought d e k.goes.left w.finds;
-  spared = λ card. k.goes.spared card (w.spared card);
-  travels = k.travels;
+  began = refl;
+  from = refl;
+  within = record {
+    b = w.b;
+    lit = w.lit;
+    began = w.began;
+    unfound = w.unfound;
+    next = w.next;
+    moment = breakdowns-only w.b.run (went w.b.run.log done).before s at v.log waits w.b.broken (breakdowns_of d) (breakdowns_of e) w.moment k.goes.breakdowns;
+    sp = w.sp;
+    minutes = w.minutes;
+    ds = w.ds;
+    new = w.new;
+    decided = w.decided;
+    from = w.from;
+    kept_to = w.kept_to;
+    until = w.until;
+    stay = w.stay;
+    marked = w.marked;
+    due = w.due;
+    standing = w.standing;
+    brought = w.brought;
+    powered = k.powered;
+    found = w.found;
+    early = w.early;
+    late = w.late;
+    more = w.more;
+    tells = w.tells;
+    present = w.present;
+    back = w.back;
+    verdicts = verdicts-left o done w.b d e k.goes.left w.verdicts;
+    finds = finds-left o w.b done (course_in w.b done s at v.log) s.number w.from w.new w.brought d e k.goes.left w.finds;
+    there = k.goes.there w.there;
+    few = w.few;
+    spared = λ card. spared-called o w.b done (course_in w.b done s at v.log) waits s.number v.cabin.slots v.cabin.cards d e w.written k.goes.untouched card (w.spared card);
+    written = w.written;
+    travels = k.travels;
+  };
 }
 
 pub failure-recorded : (d e : Devices) → AFailureIsRecorded d e
@@ -115,64 +124,8 @@ failure-recorded d e o done s at waits speed rest v w k = record {
   tells = w.tells;
   verdicts = verdicts-left o done w.b d e k.goes.left w.verdicts;
   finds = finds-left o w.b done (course_in w.b done s at v.log) s.number w.from w.new w.brought d e k.goes.left w.finds;
-  spared = λ card. k.goes.spared card (w.spared card);
+  there = k.goes.there w.there;
+  few = w.few;
+  spared = λ card. spared-called o w.b done (course_in w.b done s at v.log) waits s.number v.cabin.slots v.cabin.cards d e w.written k.goes.untouched card (w.spared card);
   travels = k.travels;
 }
-
-pub failure-behind : (d e : Devices) → AFailureBehindIsRecorded d e
-failure-behind d e o done s m rest v w marks cards k = record {
-  b = w.b;
-  lit = w.lit;
-  began = w.began;
-  unfound = w.unfound;
-  next = w.next;
-  counted = breakdowns_of d;
-  moment = w.moment;
-  rise = k.goes.breakdowns;
-  broke = k.broke;
-  sp = w.sp;
-  ds = w.ds ++ m ∷ [];
-  lost = None;
-  rest = rest;
-  new = w.new ++ i ∷ [];
-  decided = minute-kept (rule_of o) (start_at o) told0 w.b.run w.b.span c (Some s.speed) w.sp w.ds m rest w.new w.decided;
-  fed = λ no_keeping. absurd (no_keeping refl);
-  kept = λ is. refl;
-  from = suc w.from;
-  kept_to = let to = w.kept_to in let more = length-append w.ds (m ∷ []) in omega (arith, to, more);
-  stay = λ mark at_. k.stay mark (w.stay mark at_);
-  due = suc w.from;
-  standing = k.standing;
-  brought = w.brought;
-  powerless = subst (λ (b : Book). IsPowerless o.found (carried (kept_values marks cards v) (suc w.from) b k.standing w.brought) e) book-is k.powerless;
-  found = k.found;
-  early = λ card n at_. let lt = w.early card n at_ in let late = w.late in omega (arith, lt, late);
-  late = let over = k.over in omega (arith, over);
-  low = let over = k.over in omega (arith, over);
-  more = w.more;
-  tells = minute-told o done s m rest v d w k.minute;
-  verdicts = verdicts-left o done w.b d e k.goes.left w.verdicts;
-  finds = record {
-    may = (finds-left o w.b done c s.number w.from w.new w.brought d e k.goes.left w.finds).may;
-    taken = λ x verdict at_ accepts. absurd (none x verdict at_ accepts);
-    late = λ x verdict at_ accepts. absurd (none x verdict at_ accepts);
-  };
-  spared = λ card. k.goes.spared card (w.spared card);
-  travels = subst (λ (g : Travel). HasTravelled (odometer_at o.recording.unit) (kept_all (w.new ++ i ∷ []) w.b.run.book) g e.unit) (sym (one-travelled w.ds m w.b.travel))
-      (subst (λ (b : Book). HasTravelled (odometer_at o.recording.unit) b (travelled m.travelled (all_travelled w.ds w.b.travel)) e.unit) book-is k.travels);
-}
-  where
-    told0 : List Told
-    told0 = told_before w.b done
-
-    c : Course
-    c = course_in w.b done s Keeping v.log
-
-    i : HistoryMinute
-    i = minute_next o done s m rest v d w
-
-    book-is : kept i (kept_all w.new w.b.run.book) ≡ kept_all (w.new ++ i ∷ []) w.b.run.book
-    book-is = sym (kept-more w.new i w.b.run.book)
-
-    none : (x : Visit) (verdict : Verdict) → Contains c.found (x, verdict) → is_accepting verdict ≡ true → ⊥
-    none x verdict at_ accepts = let low = w.finds.late x verdict at_ accepts in let over = k.over in absurd (omega (arith, low, over))

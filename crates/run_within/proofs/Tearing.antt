@@ -1,5 +1,5 @@
 -- A card that waits is torn out before it is judged.
-use Rattle.std.proofs.Common.{◌≡◌, ⊎_elim, ℕ, ◌≤◌, Bool, true, false, ◌&&◌, ◌||◌, nat_eq, Option, None, List, [], ◌∷◌, ◌++◌, Contains, map, refl, ap, sym, subst, ◌∙◌, arith}
+use Rattle.std.proofs.Common.{◌≡◌, inl, inr, ⊎_elim, ℕ, ◌≤◌, ◌/◌, Bool, true, false, ◌&&◌, ◌||◌, nat_eq, is_some, Option, Some, None, List, [], ◌∷◌, ◌++◌, Contains, map, refl, ap, sym, subst, ◌∙◌, arith}
 use Rattle.activity_codec.specs.declared.values.Slot.{Slot}
 use Rattle.activity_codec.specs.declared.values.Slot.TheVariants.{Driver, CoDriver}
 use Rattle.activity_codec.specs.Activity.{same_slot}
@@ -12,8 +12,9 @@ use Rattle.log_model.specs.Slots.{Slots, Sitting, in_slot}
 use Rattle.log_model.specs.Course.{Told, Course, Visit, visits, card_in, went}
 use Rattle.joint_rule.specs.Rules.{Standing}
 use Rattle.safety_model.specs.Safe.{Devices, card_of, breakdowns_of}
-use Rattle.slot_machine.specs.Kept.{Kept}
+use Rattle.slot_machine.specs.Kept.{Kept, left_of}
 use Rattle.run_crew.specs.declared.cabin.Cabin.{Cabin}
+use Rattle.run_crew.specs.Cards.{session_of}
 use Rattle.run_rule.specs.Found.{found_of}
 use Rattle.run_course.specs.Moments.{and_break}
 use Rattle.run_course.specs.Followed.{Progress}
@@ -32,11 +33,14 @@ use Rattle.run_moments.proofs.Kept.{nothing-else, marks-stay}
 use Rattle.run_present.specs.Presence.{PresentStand, IsSeated, sits}
 use Rattle.run_present.proofs.Presence.{none-to_keep}
 use Rattle.run_recorded.specs.Origin.{Origin, rule_of, start_at}
-use Rattle.run_within.specs.Recorded.{Values}
-use Rattle.run_within.specs.Within.{told_before, course_in, often, IsFoundSo, Within}
-use Rattle.run_within.proofs.Rounds.{verdict-left}
-use Rattle.run_within.specs.Judging.{IsTornNext, AWaitingCardIsTorn, ATearingFails}
-use Rattle.run_within.proofs.Sitting.{another, sits-with, seated-still, verdicts-later}
+use Rattle.run_within.specs.Recorded.{Values, AreBack, GoesOnIn}
+use Rattle.run_within.specs.Within.{told_before, course_in, often, IsFoundSo, MayBeWrittenSo, IsSparedSo, Within}
+use Rattle.run_within.proofs.Left.{verdict-left}
+use Rattle.run_within.proofs.Back.{back-by_now}
+use Rattle.run_within.proofs.Stays.{goes-taken, left-taken}
+use Rattle.run_within.proofs.Written.{written-fewer, torn-written}
+use Rattle.run_within.specs.Judging.{MayBeWrittenBy, IsTornNext, AWaitingCardIsTorn, ATearingFails}
+use Rattle.run_within.proofs.Sitting.{another, seat-there, sits-with, seated-still, verdicts-later}
 
 -- a tear that is told is one that the log tells of
 itself : (slot : Slot) → same_slot slot slot ≡ true
@@ -133,6 +137,31 @@ module _ (o : Origin) (done : List TraceSecond) (s : TraceSecond) (at : Phase) (
     late = λ x verdict there accepts. w.finds.late x verdict (same-found x verdict there) accepts;
   }
 
+  -- which cards may be written
+  goes : (x : Card) → GoesOnIn s.number v.cabin.slots cabin.slots x
+  goes x = subst (λ (k : Kept). GoesOnIn s.number v.cabin.slots k x) (sym j.slots_are) (goes-taken s.number slot v.cabin.slots x)
+
+  gone : left_of cabin.slots.left card ≡ Some (s.number / 60)
+  gone =
+      let seat = seat-there (start_at o) told0 (p.book.sure ++ w.new) c.left s.number w.from c.slots v.cabin.slots w.tells slot waiting j.next.sits_ in
+      subst (λ (k : Kept). left_of k.left card ≡ Some (s.number / 60)) (sym j.slots_are) (left-taken s.number slot v.cabin.slots card seat.0 seat.1 seat.2)
+
+  still-may : (x : Card) → MayBeWrittenSo o w.b done c waits s.number v.cabin.slots x → MayBeWrittenSo o w.b done now fewer s.number cabin.slots x
+  still-may x may = written-fewer o w.b done c now at slot card waits fewer s.number v.cabin.slots cabin.slots j.next.but is.is.found is.is.entered x (goes x) may
+
+  torn-may : (x : Card) → MayBeWrittenBy o s.number card x → MayBeWrittenSo o w.b done now fewer s.number cabin.slots x
+  torn-may x valid = subst (λ (y : Card). MayBeWrittenSo o w.b done now fewer s.number cabin.slots y) (sym valid.0)
+      (torn-written o w.b done c now at slot card waits fewer s.number cabin.slots j.next.but is.is.found is.is.entered w.few (w.moment.counted card) valid.1 valid.2 gone)
+
+  pub spared : (x : Card) → IsSparedSo o w.b done now fewer s.number cabin.slots e x
+  spared x = ⊎_elim
+      (λ whole. ⊎_elim (λ still. inl still) (λ wrote. inr (⊎_elim (λ some. still-may x (w.written x some)) (λ valid. torn-may x valid) wrote)) (j.untouched x whole))
+      (λ may. inr (still-may x may))
+      (w.spared x)
+
+  pub written : (x : Card) → is_some (session_of cabin.cards x) ≡ true → MayBeWrittenSo o w.b done now fewer s.number cabin.slots x
+  written x some = still-may x (w.written x (j.sessions x some))
+
 pub torn-next : (d e : Devices) → AWaitingCardIsTorn d e
 torn-next d e o done s at waits fewer v w slot card b cabin standing j st = record {
   began = refl;
@@ -166,9 +195,15 @@ torn-next d e o done s at waits fewer v w slot card b cabin standing j st = reco
     present = subst (λ (n : ℕ). PresentStand o.found standing (told_before w.b done) (course_in w.b done s at (and_break v.log b)) s.number n cabin) (sym j.next.is_now)
         (none-to_keep o.found standing (told_before w.b done) (course_in w.b done s at (and_break v.log b)) s.number cabin (tells o done s at waits fewer v d e w slot card b cabin j).newest
         (tells o done s at waits fewer v d e w slot card b cabin j).minute (seated o done s at waits fewer v d e w slot card b cabin j standing st.others));
+    back = λ x some. inl (subst (λ (n : ℕ). AreBack n cabin) (sym j.next.is_now)
+        (back-by_now (start_at o) (told_before w.b done) (w.b.run.book.sure ++ w.new) (course_in w.b done s at (and_break v.log b)).left s.number w.from (course_in w.b done s at (and_break v.log b)).slots cabin
+        (tells o done s at waits fewer v d e w slot card b cabin j)) x some);
     verdicts = verdicts-later o done w.b d e j.left w.verdicts;
     finds = finds o done s at waits fewer v d e w slot card b cabin j;
-    spared = λ x. j.spared x (w.spared x);
+    there = j.there w.there;
+    few = w.few;
+    spared = spared o done s at waits fewer v d e w slot card b cabin j;
+    written = written o done s at waits fewer v d e w slot card b cabin j;
     travels = j.travels;
   };
 }
@@ -207,6 +242,8 @@ tearing-fails d e o done s at waits fewer v w slot card b cabin j k = record {
   tells = tells o done s at waits fewer v d e w slot card b cabin j;
   verdicts = verdicts-later o done w.b d e j.left w.verdicts;
   finds = finds o done s at waits fewer v d e w slot card b cabin j;
-  spared = λ x. j.spared x (w.spared x);
+  there = j.there w.there;
+  few = w.few;
+  spared = spared o done s at waits fewer v d e w slot card b cabin j;
   travels = j.travels;
 }

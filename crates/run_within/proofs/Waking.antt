@@ -39,27 +39,25 @@ but-first at slot card rest = record {
     v : Visit
     v = record { phase = at; slot = slot; card = card }
 
-module _ (o : Origin) (done : List TraceSecond) (s : TraceSecond) (v : Values) (d : Devices) (waits : List Visit) (untold : List Slot) (k : IsWaking o done s v d waits untold) where
+module _ (o : Origin) (done : List TraceSecond) (s : TraceSecond) (a : Beginning) (v : Values) (d : Devices) (waits : List Visit) (untold : List Slot) (k : IsWaking o done s a v d waits untold) where
   -- a card that sits in a slot and is not accepted may be judged now
   pub next-waking : (slot : Slot) (card : Card) (fewer : List Visit) → seat_in v.cabin.slots.seats slot ≡ Some (record { card = card; newest = None }) → WaitBut (In 0) slot card waits fewer → AllByRecursion (λ (x : Visit). x.phase ≡ In 0) fewer →
       IsNext o done s (In 0) waits fewer v d k.within slot card
   next-waking slot card fewer seat but behind = record {
     sits_ = waits-there (start_at o) (told_before k.within.b done) (k.within.b.run.book.sure ++ k.within.new) (course_in k.within.b done s (In 0) v.log).left s.number k.within.from (course_in k.within.b done s (In 0) v.log).slots v.cabin.slots k.within.tells slot card seat;
-    enters = ap not k.starts;
+    enters = ap not (ap (λ (x : Beginning). (went x.run.log done).before.running) k.began ∙ k.starts);
     stays_in = refl;
     but = but;
     behind = behind;
     is_now = k.is_now;
   }
 
-  still-starts : (b : Beginning) → b ≡ k.within.b → (went b.run.log done).before.running ≡ false
-  still-starts b same = ap (λ (x : Beginning). (went x.run.log done).before.running) same ∙ k.starts
-
   -- behind a tear of one of them
-  pub torn-waking : (b : Break) (cabin : Cabin) (e : Devices) (fewer : List Visit) → Behind o done s (In 0) waits fewer v (torn_values b cabin v) d e k.within → IsWaking o done s (torn_values b cabin v) e fewer untold
+  pub torn-waking : (b : Break) (cabin : Cabin) (e : Devices) (fewer : List Visit) → Behind o done s (In 0) waits fewer v (torn_values b cabin v) d e k.within → IsWaking o done s a (torn_values b cabin v) e fewer untold
   torn-waking b cabin e fewer w = record {
     within = w.within;
-    starts = still-starts w.within.b w.began;
+    began = w.began ∙ k.began;
+    starts = k.starts;
     is_now = w.from ∙ k.is_now;
     none = λ slot there. (break-more v.log b s.number).found (In 0) slot ∙ k.none slot there;
   }
@@ -69,19 +67,20 @@ and-not : (x : Bool) → (x && false) ≡ false
 and-not true = refl
 and-not false = refl
 
-find-other : (log : RunLog) (f : Find) (u : ℕ) (at : Phase) → f.slot ≡ Driver → found_in (and_find log f) u at CoDriver ≡ found_in log u at CoDriver
+pub find-other : (log : RunLog) (f : Find) (u : ℕ) (at : Phase) → f.slot ≡ Driver → found_in (and_find log f) u at CoDriver ≡ found_in log u at CoDriver
 find-other log f u at driver =
     (find-more log f u).found at CoDriver
     ∙ ap (λ (b : Bool). found_in log u at CoDriver ++ cond b (f.verdict ∷ []) [])
     (ap (λ (sl : Slot). nat_eq f.second u && same_phase (In f.begun) at && same_slot sl CoDriver) driver ∙ and-not (nat_eq f.second u && same_phase (In f.begun) at))
     ∙ append-nil (found_in log u at CoDriver)
 
-module _ (o : Origin) (done : List TraceSecond) (s : TraceSecond) (v : Values) (d : Devices) (waits : List Visit) (k : IsWaking o done s v d waits both_slots) where
+module _ (o : Origin) (done : List TraceSecond) (s : TraceSecond) (a : Beginning) (v : Values) (d : Devices) (waits : List Visit) (k : IsWaking o done s a v d waits both_slots) where
   pub driver-told : (f : Find) → f.slot ≡ Driver → (marks : List Mark) (cabin : Cabin) (e : Devices) (fewer : List Visit) → Behind o done s (In 0) waits fewer v (judged_values f marks cabin v) d e k.within →
-      IsWaking o done s (judged_values f marks cabin v) e fewer (CoDriver ∷ [])
+      IsWaking o done s a (judged_values f marks cabin v) e fewer (CoDriver ∷ [])
   driver-told f driver marks cabin e fewer w = record {
     within = w.within;
-    starts = still-starts o done s v d waits both_slots k w.within.b w.began;
+    began = w.began ∙ k.began;
+    starts = k.starts;
     is_now = w.from ∙ k.is_now;
     none = λ slot there. only slot there;
   }

@@ -1,5 +1,5 @@
 -- A card that waits in a slot is judged in a run with cards (profile): what is found of it is told, and it is accepted or not; or it is torn out.
-use Rattle.std.specs.Prelude.{◌≡◌, ◌⊎◌, ℕ, ◌/◌, ◌<◌, ◌≤◌, Bool, true, false, Some, None, List, [], ◌++◌, Contains}
+use Rattle.std.specs.Prelude.{◌≡◌, ◌⊎◌, ℕ, ◌/◌, ◌<◌, ◌≤◌, Bool, true, false, Some, None, List, [], ◌++◌, Contains, is_some}
 use Rattle.std.specs.List.{AllByRecursion}
 use Rattle.activity_codec.specs.declared.values.Slot.{Slot}
 use Rattle.activity_codec.specs.declared.values.Slot.TheVariants.{Driver, CoDriver}
@@ -17,10 +17,14 @@ use Rattle.joint_rule.specs.Rules.{Standing}
 use Rattle.unit_course.specs.Legs.{all_travelled}
 use Rattle.unit_model.specs.Image.{odometer_at}
 use Rattle.unit_rule.specs.Odometer.{HasTravelled}
+use Rattle.card_image.specs.Own.{own_view, IsOwnValid}
+use Rattle.safety_model.specs.Recording.{card_image}
 use Rattle.safety_model.specs.Safe.{Devices, card_of, breakdowns_of}
 use Rattle.slot_machine.specs.Kept.{IsFree, put_in, taken}
 use Rattle.run_crew.specs.declared.cabin.Cabin.{Cabin}
+use Rattle.run_crew.specs.Cards.{session_of}
 use Rattle.run_rule.specs.Found.{found_of}
+use Rattle.run_rule.specs.Cards.{IsUntouched}
 use Rattle.run_course.specs.Moments.{and_break, and_find}
 use Rattle.run_course.specs.Presence.{IsNewestAt}
 use Rattle.run_course.specs.Seconds.{kept_all}
@@ -31,8 +35,8 @@ use Rattle.run_told.specs.Told.{AreFoundCards, IsPowered, IsPowerless}
 use Rattle.run_present.specs.Presence.{IsSeated}
 use Rattle.run_recorded.specs.Origin.{Origin, start_at, first_of}
 use Rattle.run_recorded.specs.Beside.{HaveLeftMore}
-use Rattle.run_within.specs.Recorded.{Values, carried}
-use Rattle.run_within.specs.Within.{course_in, VerdictBy, often, IsSparedSo, Within, CutWithin}
+use Rattle.run_within.specs.Recorded.{Values, carried, AreThere}
+use Rattle.run_within.specs.Within.{course_in, VerdictBy, often, AreOld, Within, GoesOn, CutWithin}
 
 -- A CARD WAITS in a slot at a moment: it sits there and is not accepted, and has entered with this moment; all minutes before this second's are
 -- kept. Behind it these cards wait.
@@ -45,10 +49,8 @@ pub record IsNext (o : Origin) (done : List TraceSecond) (s : TraceSecond) (at :
   pub is_now : w.from ≡ s.number / 60
 
 -- THE SECOND GOES ON at that moment: it began as before, and no minute was kept.
-pub record Behind (o : Origin) (done : List TraceSecond) (s : TraceSecond) (at : Phase) (waits fewer : List Visit) (v later : Values) (d e : Devices) (w : Within o done s at waits None [] v d) : Type 0 where
-  pub within : Within o done s at fewer None [] later e
-  pub began : within.b ≡ w.b
-  pub from : within.from ≡ w.from
+abbrev pub Behind : (o : Origin) (done : List TraceSecond) (s : TraceSecond) (at : Phase) (waits fewer : List Visit) (v later : Values) (d e : Devices) → Within o done s at waits None [] v d → Type 0
+Behind o done s at waits fewer v later d e w = GoesOn o done s at fewer None [] later e w.b w.from
 
 -- what a run has by value behind a find, with these marks, slots and sessions
 abbrev pub judged_values : Find → List Mark → Cabin → Values → Values
@@ -69,8 +71,12 @@ abbrev pub IsSeatedBy : (accepts : Bool) → (o : Origin) (done : List TraceSeco
 IsSeatedBy true o done s at waits v d w slot card cabin brought = IsAcceptedSo o done s at waits v d w slot card cabin brought
 IsSeatedBy false o done s at waits v d w slot card cabin brought = cabin.slots ≡ v.cabin.slots
 
--- A CARD WAS JUDGED, and so was found of it: that may be found of it; what was acknowledged is so still; each device goes on; and which cards
--- may be written is so still.
+-- a card is this one, and was accepted by this find
+abbrev pub IsAccepted : Card → (accepts : Bool) → Card → Type 0
+IsAccepted card accepts x = (x ≡ card) × (accepts ≡ true)
+
+-- A CARD WAS JUDGED, and so was found of it: that may be found of it; what was acknowledged is so still; each device goes on; and no card has a
+-- session, or was written, but for those that had one and this one where it is accepted.
 pub record IsJudged (o : Origin) (done : List TraceSecond) (s : TraceSecond) (at : Phase) (waits fewer : List Visit) (v : Values) (d e : Devices) (w : Within o done s at waits None [] v d) (card : Card) (f : Find) (marks : List Mark) (cabin : Cabin) (brought : Card → List ℕ) : Type 0 where
   pub next : IsNext o done s at waits fewer v d w f.slot card
   pub here : IsFindAt s at f
@@ -85,7 +91,9 @@ pub record IsJudged (o : Origin) (done : List TraceSecond) (s : TraceSecond) (at
   pub early : (c : Card) (k : ℕ) → Contains (brought c) k → k < w.due
   pub breakdowns : IsMore (breakdowns_of d) (breakdowns_of e)
   pub left : HaveLeftMore o d e
-  pub spared : (x : Card) → IsSparedSo o w.b done (course_in w.b done s at v.log) d x → IsSparedSo o w.b done (course_in w.b done s at (and_find v.log f)) e x
+  pub there : AreThere o.found d → AreThere o.found e
+  pub sessions : (x : Card) → is_some (session_of cabin.cards x) ≡ true → (is_some (session_of v.cabin.cards x) ≡ true) ⊎ IsAccepted card (is_accepting f.verdict) x
+  pub untouched : (x : Card) → IsUntouched (found_of o.found x) (card_of d x) → IsUntouched (found_of o.found x) (card_of e x) ⊎ ((is_some (session_of v.cabin.cards x) ≡ true) ⊎ IsAccepted card (is_accepting f.verdict) x)
   pub travels : HasTravelled (odometer_at o.recording.unit) (kept_all w.new w.b.run.book) (all_travelled w.ds w.b.travel) e.unit
 
 -- unit and cards are as the book says, and the card stands as it was judged
@@ -113,6 +121,10 @@ AJudgingFails d e = (o : Origin) (done : List TraceSecond) (s : TraceSecond) (at
 
 -- ---- a card that is torn out before it is judged
 
+-- a card is this one, which was valid and told of no later time
+abbrev pub MayBeWrittenBy : Origin → ℕ → Card → Card → Type 0
+MayBeWrittenBy o u card x = (x ≡ card) × IsOwnValid (card_image o.recording card) × ((own_view (card_image o.recording card)).stored ≤ u)
+
 abbrev pub torn_values : Break → Cabin → Values → Values
 torn_values b cabin v = record v { log = and_break v.log b; cabin = cabin }
 
@@ -122,8 +134,10 @@ pub record IsTornNext (o : Origin) (done : List TraceSecond) (s : TraceSecond) (
   pub broke : BrokeDown card (breakdowns_of d) (breakdowns_of e)
   pub slots_are : cabin.slots ≡ taken slot s.number v.cabin.slots
   pub found : AreFoundCards o.found cabin.cards
+  pub sessions : AreOld v.cabin.cards cabin.cards
   pub left : HaveLeftMore o d e
-  pub spared : (x : Card) → IsSparedSo o w.b done (course_in w.b done s at v.log) d x → IsSparedSo o w.b done (course_in w.b done s at (and_break v.log b)) e x
+  pub there : AreThere o.found d → AreThere o.found e
+  pub untouched : (x : Card) → IsUntouched (found_of o.found x) (card_of d x) → IsUntouched (found_of o.found x) (card_of e x) ⊎ ((is_some (session_of v.cabin.cards x) ≡ true) ⊎ MayBeWrittenBy o s.number card x)
   pub travels : HasTravelled (odometer_at o.recording.unit) (kept_all w.new w.b.run.book) (all_travelled w.ds w.b.travel) e.unit
 
 pub record StandTorn (o : Origin) (done : List TraceSecond) (s : TraceSecond) (at : Phase) (waits : List Visit) (v : Values) (d e : Devices) (w : Within o done s at waits None [] v d) (card : Card) (b : Break) (cabin : Cabin) (standing : Card → Standing) : Type 0 where

@@ -1,5 +1,5 @@
 -- Power comes back in a run with cards (profile): how a second begins with it, or how it fails.
-use Rattle.std.specs.Prelude.{◌≡◌, ℕ, true, None, List, [], ◌∷◌, ◌++◌, length}
+use Rattle.std.specs.Prelude.{◌≡◌, ℕ, ◌/◌, true, None, List, [], ◌∷◌, ◌++◌, length}
 use Rattle.trace_model.specs.declared.Card.{Card}
 use Rattle.trace_model.specs.Trace.{TraceSecond}
 use Rattle.run_model.specs.declared.Device.TheVariants.{Unit as Recorder}
@@ -22,8 +22,9 @@ use Rattle.run_moments.specs.Telling.{IsMore}
 use Rattle.run_told.specs.Told.{all_out, IsPowered, IsPowerless}
 use Rattle.run_recorded.specs.Origin.{Origin, rule_of, first_of}
 use Rattle.run_recorded.specs.Beside.{HaveLeftMore}
-use Rattle.run_within.specs.Recorded.{Values, carried, slots_of, Recorded}
-use Rattle.run_within.specs.Within.{Within, CutWithin, cut_values}
+use Rattle.run_recorded.specs.Seconds.{found_again}
+use Rattle.run_within.specs.Recorded.{Values, progress, carried, slots_of, AreThere, Recorded}
+use Rattle.run_within.specs.Within.{Beginning, GoesOn, CutWithin, cut_values}
 
 -- what a run has by value once its unit was read: of the cuts since it was read before it is known what was kept
 abbrev pub read_values : (k : ℕ) → Values → Values
@@ -38,6 +39,7 @@ begun_values k minutes v = record (read_values k v) { minutes = minutes }
 pub record GoOn (o : Origin) (d e : Devices) : Type 0 where
   pub breakdowns : IsMore (breakdowns_of d) (breakdowns_of e)
   pub left : HaveLeftMore o d e
+  pub there : AreThere o.found d → AreThere o.found e
   pub untouched : (c : Card) → IsUntouched (found_of o.found c) (card_of d c) → IsUntouched (found_of o.found c) (card_of e c)
 
 -- THE UNIT WAS READ AND MENDED: it showed this last-kept minute, and an odometer of this leg; no card is accepted.
@@ -49,10 +51,15 @@ pub record IsBack (o : Origin) (done : List TraceSecond) (supply : Supply) (v : 
   pub goes : GoOn o d e
   pub travels : HasTravelled (odometer_at o.recording.unit) (found k r.book) (resumed leg r.travel) e.unit
 
+-- how a second begins with power
+abbrev pub begun_again : (o : Origin) (done : List TraceSecond) (supply : Supply) (v : Values) (d : Devices) → Recorded o done supply v d → (k leg : ℕ) (e : Devices) → Beginning
+begun_again o done supply v d r k leg e = record { run = found_again k (progress v supply r.book); span = []; travel = resumed leg r.travel; marks = v.marks; broken = breakdowns_of e; brought = r.brought }
+
 -- POWER IS BACK: the second begins with it, and each card in a slot waits to be judged anew.
 abbrev pub PowerIsBack : (d e : Devices) → Type 0
 PowerIsBack d e = (o : Origin) (done : List TraceSecond) (s : TraceSecond) (supply : Supply) (v : Values) → (r : Recorded o done supply v d) → MayPower supply v.next → s.number ≡ v.next → s.has_power ≡ true →
-    (k : ℕ) (minutes : Kept) → IsBack o done supply v d r k minutes e → Within o done s (In 0) (fresh true (slots_of v done)).entered None [] (begun_values k minutes v) e
+    (k : ℕ) (minutes : Kept) → (back : IsBack o done supply v d r k minutes e) →
+    GoesOn o done s (In 0) (fresh true (slots_of v done)).entered None [] (begun_values k minutes v) e (begun_again o done supply v d r k back.leg e) (s.number / 60)
 
 -- THE UNIT WAS READ, and its mending failed.
 pub record IsOnlyRead (o : Origin) (done : List TraceSecond) (supply : Supply) (v : Values) (d : Devices) (r : Recorded o done supply v d) (k : ℕ) (e : Devices) : Type 0 where

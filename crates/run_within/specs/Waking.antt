@@ -10,14 +10,15 @@ use Rattle.unit_course.specs.Followed.{Supply, MayPower}
 use Rattle.safety_model.specs.Safe.{Devices}
 use Rattle.run_recorded.specs.Origin.{Origin}
 use Rattle.run_within.specs.Recorded.{Values, slots_of, Recorded}
-use Rattle.run_within.specs.Within.{Within}
-use Rattle.run_within.specs.Powering.{begun_values, IsBack}
+use Rattle.run_within.specs.Within.{Beginning, Within}
+use Rattle.run_within.specs.Powering.{begun_values, IsBack, begun_again}
 
--- AT A POWER-ON: power begins with the second, these cards wait, all minutes before this one are over, and of the cards of these slots nothing
--- was found yet.
-pub record IsWaking (o : Origin) (done : List TraceSecond) (s : TraceSecond) (v : Values) (d : Devices) (waits : List Visit) (untold : List Slot) : Type 0 where
+-- AT A POWER-ON with which a second begins so: power begins with it, these cards wait, all minutes before this one are over, and of the cards
+-- of these slots nothing was found yet.
+pub record IsWaking (o : Origin) (done : List TraceSecond) (s : TraceSecond) (b : Beginning) (v : Values) (d : Devices) (waits : List Visit) (untold : List Slot) : Type 0 where
   pub within : Within o done s (In 0) waits None [] v d
-  pub starts : (went within.b.run.log done).before.running ≡ false
+  pub began : within.b ≡ b
+  pub starts : (went b.run.log done).before.running ≡ false
   pub is_now : within.from ≡ s.number / 60
   pub none : (slot : Slot) → Contains untold slot → found_in v.log s.number (In 0) slot ≡ []
 
@@ -27,4 +28,5 @@ both_slots = Driver ∷ CoDriver ∷ []
 -- POWER IS BACK: both slots are to be told of.
 abbrev pub PowerWakes : (d e : Devices) → Type 0
 PowerWakes d e = (o : Origin) (done : List TraceSecond) (s : TraceSecond) (supply : Supply) (v : Values) → (r : Recorded o done supply v d) → MayPower supply v.next → s.number ≡ v.next → s.has_power ≡ true →
-    (k : ℕ) (minutes : Kept) → IsBack o done supply v d r k minutes e → IsWaking o done s (begun_values k minutes v) e (fresh true (slots_of v done)).entered both_slots
+    (k : ℕ) (minutes : Kept) → (back : IsBack o done supply v d r k minutes e) →
+    IsWaking o done s (begun_again o done supply v d r k back.leg e) (begun_values k minutes v) e (fresh true (slots_of v done)).entered both_slots

@@ -1,7 +1,8 @@
 -- What the recorder with cards carries WITHIN A SECOND that has power (profile): at its power-on, at each of its actions, and in its keeping.
-use Rattle.std.specs.Prelude.{◌≡◌, ◌⊎◌, ◌&&◌, Bool, ℕ, suc, ◌+◌, ◌-◌, ◌*◌, ◌/◌, ◌≤◌, ◌<◌, true, false, Option, Some, None, List, [], ◌∷◌, ◌++◌, All, Contains, length, map, filter, option_map, option_to_list}
+use Rattle.std.specs.Prelude.{◌≡◌, ◌⊎◌, ◌&&◌, Bool, ℕ, suc, ◌+◌, ◌-◌, ◌*◌, ◌/◌, ◌≤◌, ◌<◌, true, false, Option, Some, None, IfSome, is_some, List, [], ◌∷◌, ◌++◌, All, Contains, length, map, filter, option_map, option_to_list}
 use Rattle.activity_codec.specs.declared.entries.Entry.{Entry}
 use Rattle.activity_codec.specs.declared.values.Slot.{Slot}
+use Rattle.activity_codec.specs.declared.values.Slot.TheVariants.{Driver, CoDriver}
 use Rattle.activity_codec.specs.declared.values.Pick.{Pick}
 use Rattle.trace_model.specs.declared.Card.{Card}
 use Rattle.trace_model.specs.Trace.{TraceSecond}
@@ -16,17 +17,17 @@ use Rattle.log_model.specs.declared.lines.Mark.{Mark}
 use Rattle.log_model.specs.declared.lines.Verdict.{Verdict}
 use Rattle.log_model.specs.declared.lines.Verdict.TheVariants.{Accepted, NotValid, TimeOverlap}
 use Rattle.log_model.specs.Causes.{device_of, RoseBy}
-use Rattle.log_model.specs.Log.{RunLog, Phase, In, Keeping, is_accepting}
+use Rattle.log_model.specs.Log.{RunLog, Phase, In, Keeping, is_accepting, is_torn_in}
 use Rattle.log_model.specs.declared.lines.SlotFault.{SlotFault}
 use Rattle.log_model.specs.Slots.{same_card, refusal}
-use Rattle.log_model.specs.Course.{Told, Course, Visit, went}
+use Rattle.log_model.specs.Course.{Told, Course, Visit, Before, went}
 use Rattle.history_model.specs.Minutes.{HistoryMinute, on_card}
 use Rattle.history_model.specs.Completeness.{IsMarked}
 use Rattle.history_model.specs.Presence.{card_start}
 use Rattle.history_model.specs.History.{seated}
 use Rattle.history_model.specs.Book.{Book, kept}
 use Rattle.joint_rule.specs.Rules.{Standing}
-use Rattle.unit_course.specs.Followed.{Lit, Lost}
+use Rattle.unit_course.specs.Followed.{Supply, Lit, Lost}
 use Rattle.unit_course.specs.Legs.{Travel, travelled, stranded_at, all_travelled}
 use Rattle.unit_course.specs.Lines.{cut_at}
 use Rattle.unit_course.specs.Turn.{span_at}
@@ -45,7 +46,7 @@ use Rattle.run_course.specs.Moments.{and_break, and_refused}
 use Rattle.run_course.specs.Seconds.{next_told, kept_all, broken_at}
 use Rattle.run_course.specs.Presence.{SlotsTell}
 use Rattle.run_brought.specs.Going.{IsTakenAt}
-use Rattle.run_moments.specs.Reached.{course_at}
+use Rattle.run_moments.specs.Reached.{course_at, moved_at}
 use Rattle.run_moments.specs.Lines.{times_of}
 use Rattle.run_moments.specs.Moment.{Moment}
 use Rattle.run_moments.specs.Telling.{IsMore, begun_by, IsLeft}
@@ -53,11 +54,16 @@ use Rattle.run_moments.specs.Kept.{HasDecided, BrokenSince, AreMarkedSoFar}
 use Rattle.run_told.specs.Told.{AreFoundCards, IsPowered, IsPowerless, AreEarly}
 use Rattle.run_recorded.specs.Origin.{Origin, rule_of, start_at, first_of, HasRecorded}
 use Rattle.run_recorded.specs.Ends.{recording_by, AreVerdicts, MayBeWritten}
-use Rattle.run_recorded.specs.Beside.{HaveLeftMore}
-use Rattle.run_present.specs.Presence.{PresentStand, StaysSo, HasMore}
+use Rattle.run_recorded.specs.Beside.{HaveLeftMore, AreFewFound}
+use Rattle.run_present.specs.Presence.{PresentStand}
+use Rattle.slot_machine.specs.declared.seats.Present.{Present}
+use Rattle.slot_machine.specs.Calls.{seat_in, present_in}
+use Rattle.slot_machine.specs.Kept.{Kept as SlotsKept, left_of}
+use Rattle.run_crew.specs.declared.cabin.Cabin.{Cabin}
 use Rattle.run_crew.specs.declared.cards.Cards.{Cards}
-use Rattle.run_crew.specs.Cabin.{Stands, with_minute_ended, with_power_lost}
-use Rattle.run_within.specs.Recorded.{Values, carried, Recorded}
+use Rattle.run_crew.specs.Cards.{session_of}
+use Rattle.run_crew.specs.Cabin.{SitsNowhere, Stands, with_minute_ended, with_power_lost}
+use Rattle.run_within.specs.Recorded.{Values, progress, carried, IsWrittenSince, AreThere, Recorded}
 
 -- as the second began, behind its power-on: how far the run had gone, the seconds of the span, what was travelled, the marks, how often each
 -- device had broken down, and what acceptances had brought
@@ -102,11 +108,34 @@ pub record IsFoundSo (o : Origin) (b : Beginning) (done : List TraceSecond) (c :
 abbrev pub overlaps_by : Origin → Card → List (Visit × Verdict) → List (Visit × Verdict)
 overlaps_by o card found = filter (λ f. same_card card f.0.card && is_overlap o.recording card f.1) found
 
--- A card is as it was, or may be written: it was valid, and it entered more often than it was found to tell of a later time.
-abbrev pub IsSparedSo : Origin → Beginning → List TraceSecond → Course → Devices → Card → Type 0
-IsSparedSo o b done c d card = IsUntouched (found_of o.found card) (card_of d card)
-    ⊎ (IsOwnValid (card_image o.recording card)
-    × (overlaps (recording_by o done b.run.log) card + length (overlaps_by o card c.found) < entered (recording_by o done b.run.log) card + times_of card c.entered))
+-- A card may be written now, in the second of this number: it was valid, and entered more often than it was found to tell of a later time, where
+-- it does not wait still to be judged; and it was judged in one of the seconds before in which it entered, or is in this one.
+pub record MayBeWrittenSo (o : Origin) (b : Beginning) (done : List TraceSecond) (c : Course) (waits : List Visit) (u : ℕ) (kept : SlotsKept) (card : Card) : Type 0 where
+  pub valid : IsOwnValid (card_image o.recording card)
+  pub fewer : overlaps (recording_by o done b.run.log) card + length (overlaps_by o card c.found) + times_of card waits < entered (recording_by o done b.run.log) card + times_of card c.entered
+  pub time : ℕ
+  pub since : IsWrittenSince o kept u card time
+  pub entered_then : (0 < entered_by (recording_by o done b.run.log) card time) ⊎ ((time ≡ u) × (times_of card waits < times_of card c.entered))
+
+-- A card is as it was, or may be written.
+abbrev pub IsSparedSo : Origin → Beginning → List TraceSecond → Course → (waits : List Visit) → (u : ℕ) → SlotsKept → Devices → Card → Type 0
+IsSparedSo o b done c waits u kept d card = IsUntouched (found_of o.found card) (card_of d card) ⊎ MayBeWrittenSo o b done c waits u kept card
+
+-- A CARD IS LEAVING a slot with this moment, and its session is not closed yet: it sits in none, and was not torn out. All minutes before this
+-- one are to be kept by then; in those that are still to be kept, from one on, it was present in that slot, if at all.
+pub record IsLeaving (log : RunLog) (before : Before) (s : TraceSecond) (at : Phase) (low high : ℕ) (cabin : Cabin) (slot : Slot) (card : Card) : Type 0 where
+  pub leaves : (moved_at log before s at).leaving slot ≡ record { phase = at; slot = slot; card = card } ∷ []
+  pub empty : seat_in cabin.slots.seats slot ≡ None
+  pub nowhere : SitsNowhere cabin.slots.seats card
+  pub untorn : is_torn_in log s.number at slot ≡ false
+  pub to : high ≡ s.number / 60
+  pub driver : (m : ℕ) (present : Present) → low ≤ m → present_in cabin.slots.past m ≡ Some present → present.driver ≡ Some card → slot ≡ Driver
+  pub codriver : (m : ℕ) (present : Present) → low ≤ m → present_in cabin.slots.past m ≡ Some present → present.codriver ≡ Some card → slot ≡ CoDriver
+
+-- A card with a session left a slot last no later than in the first minute that is still to be kept; or it is leaving one.
+abbrev pub AreBackAt : RunLog → Before → TraceSecond → Phase → (low high : ℕ) → Cabin → Type 0
+AreBackAt log before s at low high cabin = (card : Card) → is_some (session_of cabin.cards card) ≡ true →
+    IfSome (left_of cabin.slots.left card) (λ left. left ≤ low) ⊎ ((slot : Slot) × IsLeaving log before s at low high cabin slot card)
 
 -- THE RECORD AT A MOMENT of a second. These cards have entered at it and are not judged yet; one may be leaving its slot, whose session is
 -- not closed yet; the second is fed, or not; and of the minutes that it has decided these are still to be kept.
@@ -143,11 +172,21 @@ pub record Within (o : Origin) (done : List TraceSecond) (s : TraceSecond) (at :
   -- who is present
   pub tells : SlotsTell (start_at o) (told_before b done) (b.run.book.sure ++ new) (course_in b done s at v.log).left s.number from (course_in b done s at v.log).slots v.cabin.slots
   pub present : PresentStand o.found standing (told_before b done) (course_in b done s at v.log) s.number from v.cabin
+  pub back : AreBackAt v.log (went b.run.log done).before s at from (from + length rest) v.cabin
   -- what was found of cards, which may be written, and the odometer
   pub verdicts : AreVerdicts o done b.run.log d
   pub finds : IsFoundSo o b done (course_in b done s at v.log) s.number from new brought d
-  pub spared : (c : Card) → IsSparedSo o b done (course_in b done s at v.log) d c
+  pub there : AreThere o.found d
+  pub few : AreFewFound (recording_by o done b.run.log)
+  pub spared : (c : Card) → IsSparedSo o b done (course_in b done s at v.log) waits s.number v.cabin.slots d c
+  pub written : (c : Card) → is_some (session_of v.cabin.cards c) ≡ true → MayBeWrittenSo o b done (course_in b done s at v.log) waits s.number v.cabin.slots c
   pub travels : HasTravelled (odometer_at o.recording.unit) (kept_all new b.run.book) (all_travelled ds b.travel) d.unit
+
+-- THE SECOND GOES ON: it began so, and this is the first minute that is still to be kept.
+pub record GoesOn (o : Origin) (done : List TraceSecond) (s : TraceSecond) (at : Phase) (waits : List Visit) (speed : Option ℕ) (rest : List Minute) (v : Values) (d : Devices) (b : Beginning) (first : ℕ) : Type 0 where
+  pub within : Within o done s at waits speed rest v d
+  pub began : within.b ≡ b
+  pub from : within.from ≡ first
 
 -- the minute whose keeping was broken off, with its cards
 abbrev pub lost_minute : Origin → Beginning → List TraceSecond → (new : List HistoryMinute) → Option Minute → Option HistoryMinute
@@ -188,7 +227,9 @@ pub record CutWithin (o : Origin) (done : List TraceSecond) (s : TraceSecond) (a
   pub tells : SlotsTell (start_at o) (told_before b done) (b.run.book.sure ++ new) (course_in b done s at v.log).left s.number from (course_in b done s at v.log).slots v.cabin.slots
   pub verdicts : AreVerdicts o done b.run.log d
   pub finds : IsFoundSo o b done (course_in b done s at v.log) s.number from new brought d
-  pub spared : (c : Card) → IsSparedSo o b done (course_in b done s at v.log) d c
+  pub there : AreThere o.found d
+  pub few : AreFewFound (recording_by o done b.run.log)
+  pub spared : (c : Card) → IsSparedSo o b done (course_in b done s at v.log) waits s.number v.cabin.slots d c
   pub travels : HasTravelled (odometer_at o.recording.unit) (broken_at (lost_minute o b done new lost) (kept_all new b.run.book)) (stranded_at lost (all_travelled ds b.travel)) d.unit
 
 -- what a run has by value behind the cut of a second, once that has gone
@@ -209,63 +250,42 @@ ACutIsRecorded d = (o : Origin) (done : List TraceSecond) (s : TraceSecond) (at 
 abbrev pub passed_values : TraceSecond → Values → Values
 passed_values s v = record v { next = suc v.next; begun = length s.actions }
 
+-- THE RECORD with this travelled before the span
+pub record RecordedFrom (o : Origin) (done : List TraceSecond) (supply : Supply) (v : Values) (d : Devices) (before : List ℕ) : Type 0 where
+  pub recorded : Recorded o done supply v d
+  pub travelled_before : recorded.travel.before ≡ before
+
 -- THE SECOND ENDS: all that it decided is kept, and behind it all is recorded.
 abbrev pub TheSecondIsOver : Devices → Type 0
 TheSecondIsOver d = (o : Origin) (done : List TraceSecond) (s : TraceSecond) (v : Values) → (w : Within o done s Keeping [] (Some s.speed) [] v d) →
-    Recorded o (done ++ s ∷ []) (Lit (w.b.span ++ next_told v.log done s ∷ [])) (passed_values s v) d
+    RecordedFrom o (done ++ s ∷ []) (Lit (w.b.span ++ next_told v.log done s ∷ [])) (passed_values s v) d w.b.travel.before
 
 -- the first minute that a span has not decided
 abbrev pub undecided_from : Origin → List Told → Values → ℕ
 undecided_from o span v = ungiven_of (span_at (rule_of o) v.next span)
 
+-- how a second begins behind one with power
+abbrev pub begun_behind : (o : Origin) (done : List TraceSecond) (span : List Told) (v : Values) (d : Devices) → Recorded o done (Lit span) v d → Beginning
+begun_behind o done span v d r = record { run = progress v (Lit span) r.book; span = span; travel = r.travel; marks = v.marks; broken = breakdowns_of d; brought = r.brought }
+
 -- A SECOND BEGINS behind one with power, in the same minute: nothing of it is told or decided yet.
 abbrev pub ASecondBegins : Devices → Type 0
-ASecondBegins d = (o : Origin) (done : List TraceSecond) (s : TraceSecond) (t : Told) (span : List Told) (v : Values) → Recorded o done (Lit (t ∷ span)) v d → s.number ≡ v.next → s.has_power ≡ true →
-    v.next / 60 ≡ (v.next - 1) / 60 → Within o done s (In 0) [] None [] v d
+ASecondBegins d = (o : Origin) (done : List TraceSecond) (s : TraceSecond) (t : Told) (span : List Told) (v : Values) → (r : Recorded o done (Lit (t ∷ span)) v d) → s.number ≡ v.next → s.has_power ≡ true →
+    v.next / 60 ≡ (v.next - 1) / 60 → GoesOn o done s (In 0) [] None [] v d (begun_behind o done (t ∷ span) v d r) (undecided_from o (t ∷ span) v)
 
 -- OR A MINUTE IS OVER: who was present in it is known.
 abbrev pub AMinuteIsOver : Devices → Type 0
-AMinuteIsOver d = (o : Origin) (done : List TraceSecond) (s : TraceSecond) (t : Told) (span : List Told) (v : Values) → Recorded o done (Lit (t ∷ span)) v d → s.number ≡ v.next → s.has_power ≡ true →
+AMinuteIsOver d = (o : Origin) (done : List TraceSecond) (s : TraceSecond) (t : Told) (span : List Told) (v : Values) → (r : Recorded o done (Lit (t ∷ span)) v d) → s.number ≡ v.next → s.has_power ≡ true →
     ((card : Card) → (found_of o.found card).start ≡ card_start (start_at o) card) →
     v.next / 60 ≡ (v.next - 1) / 60 + 1 → undecided_from o (t ∷ span) v ≤ (v.next - 1) / 60 → (v.next - 1) / 60 ≤ undecided_from o (t ∷ span) v + 3 →
-    Stands (undecided_from o (t ∷ span) v) None v.cabin → Within o done s (In 0) [] None [] (record v { cabin = with_minute_ended ((v.next - 1) / 60) v.cabin }) d
+    Stands (undecided_from o (t ∷ span) v) None v.cabin →
+    GoesOn o done s (In 0) [] None [] (record v { cabin = with_minute_ended ((v.next - 1) / 60) v.cabin }) d (begun_behind o done (t ∷ span) v d r) (undecided_from o (t ∷ span) v)
 
 -- THE SECOND IS FED behind all of its actions: these minutes are to be kept then.
 abbrev pub ASecondIsFed : Devices → Type 0
 ASecondIsFed d = (o : Origin) (done : List TraceSecond) (s : TraceSecond) (v : Values) → (w : Within o done s (In (length s.actions)) [] None [] v d) →
     (minutes : Kept) → StandsFor minutes (fed w.sp s.speed) → (rest : List Minute) → decided_in (fed w.sp s.speed) ≡ decided_in w.sp ++ rest →
-    Within o done s Keeping [] (Some s.speed) rest (record v { minutes = minutes }) d
-
--- the next minute that is to be kept, with its cards
-abbrev pub minute_next : (o : Origin) (done : List TraceSecond) (s : TraceSecond) (m : Minute) (rest : List Minute) (v : Values) (d : Devices) → Within o done s Keeping [] (Some s.speed) (m ∷ rest) v d → HistoryMinute
-minute_next o done s m rest v d w = seated (start_at o) (told_before w.b done) (w.b.run.book.sure ++ w.new) m
-
--- what a run has by value behind it, with these marks and sessions
-abbrev pub kept_values : List Mark → Cards → Values → Values
-kept_values marks cards v = record v { marks = marks; cabin = record v.cabin { cards = cards } }
-
--- A MINUTE WAS KEPT, and no card was torn out: it is the first that was still to be kept and is over as the second begins; unit and cards go
--- with the book that has it and have acknowledged it, and each card stands as it did, or has one minute more.
-pub record IsOneKept (o : Origin) (done : List TraceSecond) (s : TraceSecond) (m : Minute) (rest : List Minute) (v : Values) (d e : Devices) (w : Within o done s Keeping [] (Some s.speed) (m ∷ rest) v d) (marks : List Mark) (cards : Cards) : Type 0 where
-  pub minute : m.minute ≡ w.from
-  pub over : w.from < s.number / 60
-  pub stay : (mark : Mark) → Contains v.marks mark → Contains marks mark
-  pub unit : IsMarked marks Recorder m.minute
-  pub cards_ : (card : Card) (x : Entry) → Contains (on_card card (minute_next o done s m rest v d w)) x →
-      IsMarked marks (device_of card) m.minute ⊎ BrokenSince (told_before w.b done) (course_in w.b done s Keeping v.log) card (60 * (m.minute + 1)) s.number
-  pub standing : Card → Standing
-  pub powered : IsPowered o.found (carried (kept_values marks cards v) (suc w.from) (kept (minute_next o done s m rest v d w) (kept_all w.new w.b.run.book)) standing w.brought) cards e
-  pub found : AreFoundCards o.found cards
-  pub each : (card : Card) → StaysSo w.standing standing v.cabin.cards cards card ⊎ HasMore (suc w.from) w.standing standing cards card
-  pub breakdowns : IsMore (breakdowns_of d) (breakdowns_of e)
-  pub left : HaveLeftMore o d e
-  pub spared : (card : Card) → IsSparedSo o w.b done (course_in w.b done s Keeping v.log) d card → IsSparedSo o w.b done (course_in w.b done s Keeping v.log) e card
-  pub travels : HasTravelled (odometer_at o.recording.unit) (kept (minute_next o done s m rest v d w) (kept_all w.new w.b.run.book)) (travelled m.travelled (all_travelled w.ds w.b.travel)) e.unit
-
--- A MINUTE IS KEPT in the keeping of a second.
-abbrev pub AMinuteIsKeptSo : (d e : Devices) → Type 0
-AMinuteIsKeptSo d e = (o : Origin) (done : List TraceSecond) (s : TraceSecond) (m : Minute) (rest : List Minute) (v : Values) → (w : Within o done s Keeping [] (Some s.speed) (m ∷ rest) v d) →
-    (marks : List Mark) (cards : Cards) → IsOneKept o done s m rest v d e w marks cards → Within o done s Keeping [] (Some s.speed) rest (kept_values marks cards v) e
+    GoesOn o done s Keeping [] (Some s.speed) rest (record v { minutes = minutes }) d w.b w.from
 
 -- AN ACTION IS REFUSED, and that is told;
 abbrev pub refused_values : ℕ → SlotFault → Values → Values
@@ -274,7 +294,7 @@ refused_values u fault v = record v { log = and_refused v.log (record { second =
 abbrev pub ARefusalIsRecorded : Devices → Type 0
 ARefusalIsRecorded d = (o : Origin) (done : List TraceSecond) (s : TraceSecond) (v : Values) (front : List Action) (a : Action) (rest : List Action) → s.actions ≡ front ++ a ∷ rest →
     (w : Within o done s (In (length front)) [] None [] v d) → (fault : SlotFault) → refusal (course_in w.b done s (In (length front)) v.log).slots s.speed a ≡ Some fault →
-    Within o done s (In (suc (length front))) [] None [] (refused_values s.number fault v) d
+    GoesOn o done s (In (suc (length front))) [] None [] (refused_values s.number fault v) d w.b w.from
 
 -- or an activity IS SELECTED.
 abbrev pub heard_values : Kept → Values → Values
@@ -283,28 +303,33 @@ heard_values minutes v = record v { minutes = minutes }
 abbrev pub ASelectionIsRecorded : Devices → Type 0
 ASelectionIsRecorded d = (o : Origin) (done : List TraceSecond) (s : TraceSecond) (v : Values) (front : List Action) (slot : Slot) (pick : Pick) (rest : List Action) → s.actions ≡ front ++ Select slot pick ∷ rest →
     (w : Within o done s (In (length front)) [] None [] v d) → refusal (course_in w.b done s (In (length front)) v.log).slots s.speed (Select slot pick) ≡ None →
-    (minutes : Kept) → StandsFor minutes (picked w.sp slot pick) → Within o done s (In (suc (length front))) [] None [] (heard_values minutes v) d
+    (minutes : Kept) → StandsFor minutes (picked w.sp slot pick) → GoesOn o done s (In (suc (length front))) [] None [] (heard_values minutes v) d w.b w.from
+
+-- no session is new
+abbrev pub AreOld : (old new : Cards) → Type 0
+AreOld old new = (card : Card) → is_some (session_of new card) ≡ true → is_some (session_of old card) ≡ true
 
 -- what a call leaves of the devices, unit and cards by the book apart: none broke down less often, what might have been left might be left
--- still, and a card that was as it was is so, or may be written
-pub record GoesOnSo (o : Origin) (done : List TraceSecond) (b : Beginning) (c : Course) (d e : Devices) : Type 0 where
+-- still, and a card that was as it was is so, or has a session
+pub record GoesOnSo (o : Origin) (cards : Cards) (d e : Devices) : Type 0 where
   pub breakdowns : IsMore (breakdowns_of d) (breakdowns_of e)
   pub left : HaveLeftMore o d e
-  pub spared : (card : Card) → IsSparedSo o b done c d card → IsSparedSo o b done c e card
+  pub there : AreThere o.found d → AreThere o.found e
+  pub untouched : (card : Card) → IsUntouched (found_of o.found card) (card_of d card) → IsUntouched (found_of o.found card) (card_of e card) ⊎ (is_some (session_of cards card) ≡ true)
 
 -- A CALL of which nothing is told, as one that notes an event or a place: unit and cards are as the book says behind it too.
 pub record IsCalled (o : Origin) (done : List TraceSecond) (s : TraceSecond) (at : Phase) (waits : List Visit) (speed : Option ℕ) (rest : List Minute) (v : Values) (d e : Devices) (w : Within o done s at waits speed rest v d) : Type 0 where
-  pub goes : GoesOnSo o done w.b (course_in w.b done s at v.log) d e
+  pub goes : GoesOnSo o v.cabin.cards d e
   pub powered : IsPowered o.found (carried v w.due (kept_all w.new w.b.run.book) w.standing w.brought) v.cabin.cards e
   pub travels : HasTravelled (odometer_at o.recording.unit) (kept_all w.new w.b.run.book) (all_travelled w.ds w.b.travel) e.unit
 
 abbrev pub ACallIsRecorded : (d e : Devices) → Type 0
 ACallIsRecorded d e = (o : Origin) (done : List TraceSecond) (s : TraceSecond) (at : Phase) (waits : List Visit) (speed : Option ℕ) (rest : List Minute) (v : Values) → (w : Within o done s at waits speed rest v d) →
-    IsCalled o done s at waits speed rest v d e w → Within o done s at waits speed rest v e
+    IsCalled o done s at waits speed rest v d e w → GoesOn o done s at waits speed rest v e w.b w.from
 
 -- A CALL IN WHICH THE UNIT FAILED: the next of the minutes that were to be kept may be kept or not, if it was begun.
 pub record HasFailed (o : Origin) (done : List TraceSecond) (s : TraceSecond) (at : Phase) (waits : List Visit) (speed : Option ℕ) (rest : List Minute) (v : Values) (d e : Devices) (w : Within o done s at waits speed rest v d) : Type 0 where
-  pub goes : GoesOnSo o done w.b (course_in w.b done s at v.log) d e
+  pub goes : GoesOnSo o v.cabin.cards d e
   pub broke : RoseBy 1 (w.b.broken Recorder) (breakdowns_of e Recorder)
   pub unfed : (at ≡ Keeping → ⊥) → speed ≡ None
   pub feeds : at ≡ Keeping → speed ≡ Some s.speed
@@ -323,25 +348,9 @@ abbrev pub AFailureIsRecorded : (d e : Devices) → Type 0
 AFailureIsRecorded d e = (o : Origin) (done : List TraceSecond) (s : TraceSecond) (at : Phase) (waits : List Visit) (speed : Option ℕ) (rest : List Minute) (v : Values) → (w : Within o done s at waits speed rest v d) →
     HasFailed o done s at waits speed rest v d e w → CutWithin o done s at waits speed v e
 
--- OR IT FAILED BEHIND A MINUTE that was kept, as where a card was torn out by then.
-pub record HasFailedBehind (o : Origin) (done : List TraceSecond) (s : TraceSecond) (m : Minute) (rest : List Minute) (v : Values) (d e : Devices) (w : Within o done s Keeping [] (Some s.speed) (m ∷ rest) v d) (marks : List Mark) (cards : Cards) : Type 0 where
-  pub goes : GoesOnSo o done w.b (course_in w.b done s Keeping v.log) d e
-  pub broke : RoseBy 1 (w.b.broken Recorder) (breakdowns_of e Recorder)
-  pub minute : m.minute ≡ w.from
-  pub over : w.from < s.number / 60
-  pub stay : (mark : Mark) → Contains v.marks mark → Contains marks mark
-  pub found : AreFoundCards o.found cards
-  pub standing : Card → Standing
-  pub powerless : IsPowerless o.found (carried (kept_values marks cards v) (suc w.from) (kept (minute_next o done s m rest v d w) (kept_all w.new w.b.run.book)) standing w.brought) e
-  pub travels : HasTravelled (odometer_at o.recording.unit) (kept (minute_next o done s m rest v d w) (kept_all w.new w.b.run.book)) (travelled m.travelled (all_travelled w.ds w.b.travel)) e.unit
-
-abbrev pub AFailureBehindIsRecorded : (d e : Devices) → Type 0
-AFailureBehindIsRecorded d e = (o : Origin) (done : List TraceSecond) (s : TraceSecond) (m : Minute) (rest : List Minute) (v : Values) → (w : Within o done s Keeping [] (Some s.speed) (m ∷ rest) v d) →
-    (marks : List Mark) (cards : Cards) → HasFailedBehind o done s m rest v d e w marks cards → CutWithin o done s Keeping [] (Some s.speed) (kept_values marks cards v) e
-
 -- A PLACE is told of: its note is a call of its own.
 abbrev pub APlaceIsRecorded : Devices → Type 0
 APlaceIsRecorded d = (o : Origin) (done : List TraceSecond) (s : TraceSecond) (v : Values) (front : List Action) (slot : Slot) (ending : Bool) (country region : ℕ) (rest : List Action) →
     s.actions ≡ front ++ Place slot ending country region ∷ rest →
     (w : Within o done s (In (length front)) [] None [] v d) → refusal (course_in w.b done s (In (length front)) v.log).slots s.speed (Place slot ending country region) ≡ None →
-    Within o done s (In (suc (length front))) [] None [] v d
+    GoesOn o done s (In (suc (length front))) [] None [] v d w.b w.from

@@ -1,8 +1,11 @@
 ghost use Rattle.run_rule.specs.Between.{devices};
-ghost use Rattle.run_within.specs.Within.{ACutIsRecorded, TheSecondIsOver, ASecondBegins, AMinuteIsOver, ASecondIsFed, AMinuteIsKeptSo, ARefusalIsRecorded, ASelectionIsRecorded, APlaceIsRecorded, ACallIsRecorded, AFailureIsRecorded, AFailureBehindIsRecorded};
+ghost use Rattle.run_within.specs.Within.{ACutIsRecorded, TheSecondIsOver, ASecondBegins, AMinuteIsOver, ASecondIsFed, ARefusalIsRecorded, ASelectionIsRecorded, APlaceIsRecorded, ACallIsRecorded, AFailureIsRecorded};
 ghost use Rattle.run_within.specs.Judging.{ACardIsJudged, AJudgingFails, AWaitingCardIsTorn, ATearingFails};
+ghost use Rattle.run_within.specs.Losing.{ACardIsLost, ALosingFails};
 ghost use Rattle.run_within.specs.Powering.{PowerIsBack, AMendingFails, AReadingFails};
 ghost use Rattle.run_within.specs.Waking.{PowerWakes};
+ghost use Rattle.run_within.specs.Turning.{ATurnIsFed};
+ghost use Rattle.run_within.specs.Going.{DarkSecondsStayRecorded, AnOffLineStaysRecorded, AnOffCutStaysRecorded, QuietSecondsStayRecorded, ARunBegins};
 
 use tach_media::{Chip, Medium};
 
@@ -29,18 +32,6 @@ pub fn a_minute_is_over<M: Medium, C: Chip, D: Chip>(unit: &M, card_a: &C, card_
 /// A second is fed behind all of its actions.
 pub fn a_second_is_fed<M: Medium, C: Chip, D: Chip>(unit: &M, card_a: &C, card_b: &D)
     ensures { ASecondIsFed (devices (M.state unit.now) (C.state card_a.now) (D.state card_b.now)) }
-{}
-
-/// A minute is kept in the keeping of a second, and no card is torn out.
-pub fn a_minute_is_kept_so<M: Medium, C: Chip, D: Chip, N: Medium, E: Chip, F: Chip>(
-    old_unit: &M,
-    old_a: &C,
-    old_b: &D,
-    unit: &N,
-    card_a: &E,
-    card_b: &F,
-)
-    ensures { AMinuteIsKeptSo (devices (M.state old_unit.now) (C.state old_a.now) (D.state old_b.now)) (devices (N.state unit.now) (E.state card_a.now) (F.state card_b.now)) }
 {}
 
 /// An action is refused, and that is told.
@@ -75,18 +66,6 @@ pub fn a_failure_is_recorded<M: Medium, C: Chip, D: Chip, N: Medium, E: Chip, F:
     card_b: &F,
 )
     ensures { AFailureIsRecorded (devices (M.state old_unit.now) (C.state old_a.now) (D.state old_b.now)) (devices (N.state unit.now) (E.state card_a.now) (F.state card_b.now)) }
-{}
-
-/// It fails behind a minute that was kept.
-pub fn a_failure_behind_is_recorded<M: Medium, C: Chip, D: Chip, N: Medium, E: Chip, F: Chip>(
-    old_unit: &M,
-    old_a: &C,
-    old_b: &D,
-    unit: &N,
-    card_a: &E,
-    card_b: &F,
-)
-    ensures { AFailureBehindIsRecorded (devices (M.state old_unit.now) (C.state old_a.now) (D.state old_b.now)) (devices (N.state unit.now) (E.state card_a.now) (F.state card_b.now)) }
 {}
 
 /// A place is told of.
@@ -142,6 +121,30 @@ pub fn a_tearing_fails<M: Medium, C: Chip, D: Chip, N: Medium, E: Chip, F: Chip>
     ensures { ATearingFails (devices (M.state old_unit.now) (C.state old_a.now) (D.state old_b.now)) (devices (N.state unit.now) (E.state card_a.now) (F.state card_b.now)) }
 {}
 
+/// A card that waits is accepted and torn out in one call.
+pub fn a_card_is_lost<M: Medium, C: Chip, D: Chip, N: Medium, E: Chip, F: Chip>(
+    old_unit: &M,
+    old_a: &C,
+    old_b: &D,
+    unit: &N,
+    card_a: &E,
+    card_b: &F,
+)
+    ensures { ACardIsLost (devices (M.state old_unit.now) (C.state old_a.now) (D.state old_b.now)) (devices (N.state unit.now) (E.state card_a.now) (F.state card_b.now)) }
+{}
+
+/// The unit failed behind that: power is about to be cut.
+pub fn a_losing_fails<M: Medium, C: Chip, D: Chip, N: Medium, E: Chip, F: Chip>(
+    old_unit: &M,
+    old_a: &C,
+    old_b: &D,
+    unit: &N,
+    card_a: &E,
+    card_b: &F,
+)
+    ensures { ALosingFails (devices (M.state old_unit.now) (C.state old_a.now) (D.state old_b.now)) (devices (N.state unit.now) (E.state card_a.now) (F.state card_b.now)) }
+{}
+
 /// The unit was read and mended: the second begins with power.
 pub fn power_is_back<M: Medium, C: Chip, D: Chip, N: Medium, E: Chip, F: Chip>(
     old_unit: &M,
@@ -188,4 +191,34 @@ pub fn power_wakes<M: Medium, C: Chip, D: Chip, N: Medium, E: Chip, F: Chip>(
     card_b: &F,
 )
     ensures { PowerWakes (devices (M.state old_unit.now) (C.state old_a.now) (D.state old_b.now)) (devices (N.state unit.now) (E.state card_a.now) (F.state card_b.now)) }
+{}
+
+/// Seconds after a failed call, up to the minute's end: the record goes on.
+pub fn dark_seconds_stay_recorded<M: Medium, C: Chip, D: Chip>(unit: &M, card_a: &C, card_b: &D)
+    ensures { DarkSecondsStayRecorded (devices (M.state unit.now) (C.state card_a.now) (D.state card_b.now)) }
+{}
+
+/// So it does over an `off` line where there is no power,
+pub fn an_off_line_stays_recorded<M: Medium, C: Chip, D: Chip>(unit: &M, card_a: &C, card_b: &D)
+    ensures { AnOffLineStaysRecorded (devices (M.state unit.now) (C.state card_a.now) (D.state card_b.now)) }
+{}
+
+/// and where the line takes it.
+pub fn an_off_cut_stays_recorded<M: Medium, C: Chip, D: Chip>(unit: &M, card_a: &C, card_b: &D)
+    ensures { AnOffCutStaysRecorded (devices (M.state unit.now) (C.state card_a.now) (D.state card_b.now)) }
+{}
+
+/// Seconds of a minute with power in which nothing happens.
+pub fn quiet_seconds_stay_recorded<M: Medium, C: Chip, D: Chip>(unit: &M, card_a: &C, card_b: &D)
+    ensures { QuietSecondsStayRecorded (devices (M.state unit.now) (C.state card_a.now) (D.state card_b.now)) }
+{}
+
+/// A run begins with nothing recorded.
+pub fn a_run_begins<M: Medium, C: Chip, D: Chip>(unit: &M, card_a: &C, card_b: &D)
+    ensures { ARunBegins (devices (M.state unit.now) (C.state card_a.now) (D.state card_b.now)) }
+{}
+
+/// So many seconds of a minute are fed at once.
+pub fn a_turn_is_fed<M: Medium, C: Chip, D: Chip>(unit: &M, card_a: &C, card_b: &D)
+    ensures { ATurnIsFed (devices (M.state unit.now) (C.state card_a.now) (D.state card_b.now)) }
 {}

@@ -1,0 +1,46 @@
+-- What was found stays found as more was left; minutes that follow one another, and one more in the book.
+use Rattle.std.proofs.Common.{◌≡◌, ◌⊎◌, inl, inr, ⊎_elim, ℕ, suc, ◌+◌, List, [], ◌∷◌, ◌++◌, length, map, refl, ap, ◌∙◌, arith}
+use Rattle.trace_model.specs.declared.Card.{Card}
+use Rattle.trace_model.specs.Trace.{TraceSecond}
+use Rattle.minute_model.specs.declared.Minute.{Minute}
+use Rattle.minute_model.specs.Span.{count_from}
+use Rattle.log_model.specs.declared.lines.Verdict.{Verdict}
+use Rattle.log_model.specs.declared.lines.Verdict.TheVariants.{Accepted, NotValid, TimeOverlap}
+use Rattle.log_model.specs.Log.{RunLog}
+use Rattle.history_model.specs.Minutes.{HistoryMinute}
+use Rattle.history_model.specs.Book.{Book, kept}
+use Rattle.safety_model.specs.Safe.{IsVerdict}
+use Rattle.run_course.specs.Seconds.{kept_all}
+use Rattle.run_recorded.specs.Origin.{Origin}
+use Rattle.run_recorded.specs.Ends.{recording_by}
+use Rattle.run_within.specs.Within.{VerdictBy}
+
+-- what was found may be found as more was left
+pub verdict-left : (o : Origin) (n : ℕ) (unit card more_unit more_card : List ℕ → Type 0) → ((x : List ℕ) → unit x → more_unit x) → ((x : List ℕ) → card x → more_card x) → (c : Card) (u : ℕ) (v : Verdict) →
+    VerdictBy o n unit card c u v → VerdictBy o n more_unit more_card c u v
+verdict-left o n unit card more_unit more_card on_unit on_card c u (Accepted replayed) h =
+    (h.0, h.1, (h.2.0, h.2.1, on_unit h.2.0 h.2.2, on_card h.2.1 h.2.3, h.2.4, h.2.5))
+verdict-left o n unit card more_unit more_card on_unit on_card c u (NotValid fid place) h = h
+verdict-left o n unit card more_unit more_card on_unit on_card c u (TimeOverlap stored now) h =
+    (h.0, h.1, (h.2.0, ⊎_elim (λ first. inl first) (λ again. inr (again.0, again.1, again.2, (again.3.0, on_card again.3.0 again.3.1, again.3.2))) h.2.1))
+
+pub seen-left : (o : Origin) (done : List TraceSecond) (log : RunLog) (unit card more_unit more_card : List ℕ → Type 0) → ((x : List ℕ) → unit x → more_unit x) → ((x : List ℕ) → card x → more_card x) → (c : Card) (u : ℕ) (v : Verdict) →
+    IsVerdict (recording_by o done log) unit card c u v → IsVerdict (recording_by o done log) more_unit more_card c u v
+seen-left o done log unit card more_unit more_card on_unit on_card c u (Accepted replayed) h =
+    (h.0, h.1, (h.2.0, h.2.1, on_unit h.2.0 h.2.2, on_card h.2.1 h.2.3, h.2.4, h.2.5))
+seen-left o done log unit card more_unit more_card on_unit on_card c u (NotValid fid place) h = h
+seen-left o done log unit card more_unit more_card on_unit on_card c u (TimeOverlap stored now) h =
+    (h.0, h.1, (h.2.0, ⊎_elim (λ first. inl first) (λ again. inr (again.0, again.1, again.2, (again.3.0, on_card again.3.0 again.3.1, again.3.2))) h.2.1))
+
+-- one minute more in the book
+pub kept-more : (new : List HistoryMinute) (i : HistoryMinute) (b : Book) → kept_all (new ++ i ∷ []) b ≡ kept i (kept_all new b)
+kept-more [] i b = refl
+kept-more (j ∷ new) i b = kept-more new i (kept j b)
+
+-- minutes that follow one another, behind some of them
+pub counted-part : (xs ys : List Minute) (a : ℕ) → map (λ (m : Minute). m.minute) (xs ++ ys) ≡ count_from a (length (xs ++ ys)) → map (λ (m : Minute). m.minute) ys ≡ count_from (a + length xs) (length ys)
+counted-part [] ys a is = is ∙ ap (λ (n : ℕ). count_from n (length ys)) (omega arith)
+counted-part (x ∷ xs) ys a is =
+    let rest : map (λ (m : Minute). m.minute) (xs ++ ys) ≡ count_from (a + 1) (length (xs ++ ys)) = cc in
+    let e : a + 1 + length xs ≡ a + suc (length xs) = omega arith in
+    counted-part xs ys (a + 1) rest ∙ ap (λ (n : ℕ). count_from n (length ys)) e
