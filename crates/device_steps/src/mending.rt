@@ -1,10 +1,10 @@
 //! The unit is mended at a power-on.
 ghost use Rattle.std.specs.Prelude.{◌≡◌, ◌≤◌, ℕ, List, OnOk, OnErr, IfSome, is_some, is_err};
 ghost use Rattle.trace_model.specs.declared.Card.{Card};
-ghost use Rattle.tach_media.specs.Medium.{HasCause};
+ghost use Rattle.tach_media.specs.Medium.{HasCause, LeavesOnly};
 ghost use Rattle.unit_model.specs.Image.{IsUnit};
 ghost use Rattle.unit_journal.specs.Image.{Agrees};
-ghost use Rattle.unit_journal.specs.Mends.{IsMendable, notes_mended};
+ghost use Rattle.unit_journal.specs.Mends.{IsMendable, IsMending as IsMendingImage, notes_mended};
 ghost use Rattle.log_model.specs.declared.lines.Mark.{Mark};
 ghost use Rattle.history_model.specs.Book.{Book};
 ghost use Rattle.joint_rule.specs.Device.{LeavesViews};
@@ -39,6 +39,7 @@ pub fn mend<M: Medium, C: Chip, D: Chip>(
     ensures first { (r : Both) (c : Card) (b : Book) (z : Standing) → CardRests r c b z (M.state unit.old) (C.state first.now) → IsTakenUp r c b z (is_err result) (M.state unit.new) (C.state first.now) }
     ensures second { (r : Both) (c : Card) (b : Book) (z : Standing) → CardRests r c b z (M.state unit.old) (D.state second.now) → IsTakenUp r c b z (is_err result) (M.state unit.new) (D.state second.now) }
     ensures views { (a b : List ℕ) → LeavesViews (of_unit a b (M.state unit.old)) (of_unit a b (M.state unit.new)) IsMending }
+    ensures moments { LeavesOnly (M.state unit.old) (M.state unit.new) (IsMendingImage journal.old) }
     ensures clock { (M.state unit.old).clock ≤ (M.state unit.new).clock }
     ensures tells { is_some (M.state unit.new).image ≡ is_some (M.state unit.old).image }
     ensures cause { HasCause (M.state unit.old) (M.state unit.new) (is_err result) }

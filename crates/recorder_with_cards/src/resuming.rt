@@ -1,10 +1,10 @@
 //! Power is back.
-ghost use Rattle.std.specs.Prelude.{◌≡◌, ◌⊎◌, ℕ, ◌+◌, ◌-◌, ◌*◌, ◌/◌, ◌<◌, ◌≤◌, true, false, IfOk, IfErr, OnOk, length, is_err};
+ghost use Rattle.std.specs.Prelude.{◌≡◌, ◌⊎◌, ℕ, ◌+◌, ◌-◌, ◌*◌, ◌/◌, ◌<◌, ◌≤◌, true, false, IfOk, IfErr, IsOk, OnOk, length, is_err};
 ghost use Rattle.tach_media.specs.Medium.{HasCause};
 ghost use Rattle.unit_model.specs.Image.{IsUnit};
 ghost use Rattle.run_opening.specs.Units.{IsLoaded};
 ghost use Rattle.run_acts.specs.declared.run.Power.TheVariants.{Lit};
-ghost use Rattle.run_acts.specs.Power.{is_lit, has_power};
+ghost use Rattle.run_acts.specs.Power.{is_lit, has_power, minute_over};
 ghost use Rattle.run_acts.specs.Going.{end_of_seconds, IsHeld, IsLit, IsAt, IsGoing, IsWithin, IsFoundLater};
 ghost use Rattle.run_acts.specs.Room.{HasRoom, HasRoomWithin, falls_of, bare_seats};
 ghost use Rattle.recorder_with_cards.specs.Waking.{IsAwake, TakesUp, TakesAwake};
@@ -37,7 +37,8 @@ pub(crate) fn begin_second<M: Medium, C: Chip, D: Chip>(
     requires unfound { run.old.unfound ≤ length outcome.old.breaks.items }
     ensures late { IfErr result IsFoundLater }
     ensures power { IfOk result (λ powered. powered ≡ has_power run.old.power run.old.next) }
-    ensures dark { IfOk result (λ powered. powered ≡ false → (run.new ≡ run.old) × (outcome.new ≡ outcome.old)) }
+    ensures dark { IfOk result (λ powered. powered ≡ false → (run.new ≡ run.old) × (outcome.new ≡ outcome.old) × (unit.new ≡ unit.old) × (card_a.new ≡ card_a.old) × (card_b.new ≡ card_b.old)) }
+    ensures lit { is_lit run.old.power ≡ true → IsOk result × (run.new ≡ minute_over run.old) × (outcome.new ≡ outcome.old) × (unit.new ≡ unit.old) × (card_a.new ≡ card_a.old) × (card_b.new ≡ card_b.old) }
     ensures going { OnOk result (IsWithin run.new (M.state unit.new) (C.card card_a.new) (D.card card_b.new) (C.state card_a.new) (D.state card_b.new)) }
     ensures next { OnOk result (run.new.next ≡ run.old.next) }
     ensures room { (left offs insertions actions : ℕ) → HasRoom run.old outcome.old (1 + left) offs insertions actions → OnOk result (HasRoomWithin run.new outcome.new (1 + left) offs insertions actions) }

@@ -1,5 +1,6 @@
 -- The session of a card that has left its slot is closed, and that is noted on the unit: what is carried of unit and cards.
 use Rattle.std.proofs.Common.{◌≡◌, ◌∙◌, ◌⊎◌, inl, inr, ℕ, ◌≤◌, Bool, true, false, not, Option, Some, None, IfSome, List, refl, sym, subst, arith}
+use Rattle.std.specs.Prelude.{map}
 use Rattle.activity_codec.specs.declared.values.Activity.{Activity}
 use Rattle.trace_model.specs.declared.Card.{Card}
 use Rattle.trace_model.specs.declared.Card.TheVariants.{A, B}
@@ -24,6 +25,9 @@ use Rattle.run_told.proofs.OnCards.{valid-or, no-marks}
 use Rattle.run_told.proofs.Parts.{CardLit, AreParts, parts-of, powered-of, at-other}
 use Rattle.run_told.proofs.Noted.{noted-powered, noted-powerless}
 use Rattle.run_told.proofs.Left.{left-powered}
+use Rattle.run_told.proofs.Travelled.{travelled-noted}
+use Rattle.unit_course.specs.Legs.{Travel, all_travelled}
+use Rattle.unit_rule.specs.Odometer.{HasTravelled}
 use Rattle.minute_model.specs.declared.Minute.{Minute}
 use Rattle.safety_model.specs.Safe.{Devices}
 use Rattle.run_keeping.specs.declared.keeper.Moment.{Moment}
@@ -147,10 +151,19 @@ time-before : (c : Card) (U V X Y Z : State) → U.clock ≤ V.clock → X.clock
 time-before A U V X Y Z unit card time = let u = time.unit in let a = time.card_a in record { unit = omega (arith, unit, u); card_a = omega (arith, card, a); card_b = time.card_b }
 time-before B U V X Y Z unit card time = let u = time.unit in let b = time.card_b in record { unit = omega (arith, unit, u); card_a = time.card_a; card_b = omega (arith, card, b) }
 
+-- the unit is the same, whichever card a call is about
+unit-at : (c : Card) (P : State → Type 0) (U X Z : State) → P U → P (arranged c U X Z).unit
+unit-at A P U X Z p = p
+unit-at B P U X Z p = p
+
+unit-from : (c : Card) (P : State → Type 0) (U X Z : State) → P (arranged c U X Z).unit → P U
+unit-from A P U X Z p = p
+unit-from B P U X Z p = p
+
 -- the unit failed in one of them
 pub withdrawn-cut : (card : Card) (decided : List Minute) (at : Moment) (t u : Told) (d e : Devices) (reach : Reach) → IsReach decided at true t u reach → BooksAll decided true reach t u d e → BooksWithdrawn card decided true reach None t u d e
 withdrawn-cut card decided at t u d e (Whole xs) is books = absurd is
-withdrawn-cut card decided at t u d e (Short xs m round) is books = books
+withdrawn-cut card decided at t u d e (Short xs m round) is books = λ f w start g may gone stored time. (books f w start g may gone stored time).0
 
 abbrev IsEnd : (failed : Bool) → Found → Carried → Told → Devices → Type 0
 IsEnd false f w u e = AreBooked f w u.keeper.cabin.cards u.marks.items e
@@ -165,13 +178,19 @@ module _ {C : Type 0} (state : C → State) (c : Card) (second : ℕ) (U V Z : S
 
   pub withdrawn-closed : (reach : Reach) → IsReach decided at false t v reach → BooksAll decided false reach t v d (arranged c U (state x) Z) → BooksWithdrawn c decided failed reach (Some closing) t u d (arranged c V (state y) Z)
   withdrawn-closed (Short xs m round) is books = absurd is
-  withdrawn-closed (Whole xs) is books = λ f w may time.
-      let b = books f w may (time-before c U V (state x) (state y) Z unit.later (later (session_of v.keeper.cabin.cards c) refl) time) in
-      cast f w xs failed (end f w (carried_by t.keeper xs w) b failed (closed-any state f (carried_by t.keeper xs w) c second v.keeper.cabin U V Z x y b.found unit_whole whole size b.powered left still unit failed works closing how))
+  withdrawn-closed (Whole xs) is books = λ f w start g may gone stored time.
+      let behind = (books f w start g may gone stored (time-before c U V (state x) (state y) Z unit.later (later (session_of v.keeper.cabin.cards c) refl) time)).0 in
+      let b = behind.0 in
+      let far : Travel = all_travelled (map (λ (x : Done). x.minute) xs) g in
+      let before = unit-from c (HasTravelled start (carried_by t.keeper xs w).book far) U (state x) Z behind.1 in
+      cast f start w xs g failed
+      (end f w (carried_by t.keeper xs w) b failed (closed-any state f (carried_by t.keeper xs w) c second v.keeper.cabin U V Z x y b.found unit_whole whole size b.powered left still unit failed works closing how))
+      (unit-at c (HasTravelled start (carried_by t.keeper xs w).book far) V (state y) Z (travelled-noted start (carried_by t.keeper xs w).book far before unit_whole unit))
     where
-      cast : (f : Found) (w : Carried) (xs : List Done) (b : Bool) → IsEnd b f (carried_closed closing c (carried_by t.keeper xs w)) u (arranged c V (state y) Z) → IsWithdrawnTo f w t.keeper c b (Whole xs) (Some closing) u (arranged c V (state y) Z)
-      cast f w xs false q = q
-      cast f w xs true q = q
+      cast : (f : Found) (start : ℕ) (w : Carried) (xs : List Done) (g : Travel) (b : Bool) → IsEnd b f (carried_closed closing c (carried_by t.keeper xs w)) u (arranged c V (state y) Z)
+          → HasTravelled start (carried_by t.keeper xs w).book (all_travelled (map (λ (x : Done). x.minute) xs) g) (arranged c V (state y) Z).unit → IsWithdrawnTo f start w t.keeper c b (Whole xs) (Some closing) g u (arranged c V (state y) Z)
+      cast f start w xs g false q on = (q, on)
+      cast f start w xs g true q on = (q, on)
 
       end : (f : Found) (w q : Carried) → AreBooked f q v.keeper.cabin.cards v.marks.items (arranged c U (state x) Z) → (b : Bool) → IsPoweredOrOff b f (carried_closed closing c q) (closed_cabin closing c second v.keeper.cabin).cards (arranged c V (state y) Z)
           → IsEnd b f (carried_closed closing c q) u (arranged c V (state y) Z)

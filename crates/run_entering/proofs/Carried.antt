@@ -1,11 +1,12 @@
 -- What is carried, over an acceptance: the steps on unit and card that device_steps and run_told have laws of.
-use Rattle.std.proofs.Common.{◌≡◌, ◌≢◌, ◌∙◌, inl, inr, ℕ, ◌/◌, ◌≤◌, Bool, true, false, Option, Some, None, IfSome, is_some, List, [], ◌∷◌, refl, ap, sym, subst, arith}
+use Rattle.std.proofs.Common.{◌≡◌, ◌≢◌, ◌∙◌, inl, inr, ℕ, ◌/◌, ◌≤◌, Bool, true, false, Option, Some, None, IfSome, is_some, List, [], ◌∷◌, All, refl, ap, sym, subst, ◌<◌, arith}
 use Rattle.std.specs.Prelude.{not, option_map}
+use Rattle.std.proofs.lemmas.List.Elements.{All-nil}
 use Rattle.activity_codec.specs.declared.entries.Entry.{Entry}
 use Rattle.activity_codec.specs.declared.values.Slot.{Slot}
 use Rattle.trace_model.specs.declared.Card.{Card}
 use Rattle.trace_model.specs.declared.Card.TheVariants.{A, B}
-use Rattle.tach_media.proofs.Runs.{weaken}
+use Rattle.tach_media.proofs.Runs.{weaken, if_told}
 use Rattle.tach_media.specs.Medium.{State, IsCoherent, LeavesOnly, HasCause}
 use Rattle.tacho_types.specs.CardNumber.{card_number_bytes}
 use Rattle.tacho_types.specs.declared.card_number.FullCardNumber.{FullCardNumber}
@@ -13,12 +14,16 @@ use Rattle.card_layout.specs.declared.files.Application.{Application}
 use Rattle.card_layout.specs.Files.{image_size_of}
 use Rattle.card_records.specs.declared.card_event.CardEvent.{CardEvent}
 use Rattle.card_records.specs.Noting.{IsNotingEvent}
+use Rattle.card_image.specs.Judging.{IsValid}
 use Rattle.card_image.specs.Own.{own_sizes, IsOwnValid}
 use Rattle.card_judge.specs.declared.looking.CardLook.{CardLook}
 use Rattle.card_session.specs.Sessions.{Session, IsValue}
 use Rattle.log_model.specs.declared.lines.Mark.{Mark}
 use Rattle.history_model.specs.Book.{Book}
-use Rattle.joint_rule.specs.Views.{other}
+use Rattle.history_model.proofs.Books.{mark-earlier}
+use Rattle.joint_rule.specs.Views.{other, row, owed_in}
+use Rattle.joint_rule.specs.Marked.{of_card, HasBrought}
+use Rattle.joint_rule.proofs.Owing.{owed-new}
 use Rattle.joint_rule.specs.Rules.{Standing, Out, In, IsEntered}
 use Rattle.unit_rule.specs.Rule.{Started}
 use Rattle.unit_rule.specs.Marks.{Holds}
@@ -35,14 +40,16 @@ use Rattle.run_rule.specs.Between.{Carried}
 use Rattle.safety_model.specs.Safe.{Devices}
 use Rattle.device_steps.specs.declared.entering.Entered.{Entered}
 use Rattle.run_told.specs.Told.{AreFoundCards, GoesOwing, IsPowered, IsPowerless, arranged, for_card}
-use Rattle.run_told.proofs.Parts.{parts-of}
+use Rattle.run_told.proofs.Parts.{CardLit, AreParts, parts-of, powered-of, at-card, at-other}
+use Rattle.card_times.proofs.Calls.{noting-timed}
+use Rattle.run_told.proofs.OnCards.{own-valid}
 use Rattle.run_told.proofs.Noted.{noted-powered, noted-powerless, noted-on, noted-off}
 use Rattle.run_told.proofs.Begun.{begun-powered, begun-powerless}
 use Rattle.run_keeping.specs.declared.keeper.Keeper.{Keeper}
 use Rattle.run_entering.specs.declared.lines.Entering.{Entering}
 use Rattle.run_entering.specs.Entering.{and_one, seated, fallen, taken_as}
 use Rattle.run_entering.specs.Entered.{IsSeatedBy}
-use Rattle.run_entering.specs.Told.{IsCarriedOn, IsTakenOn, MaySeat, MayNote, BooksSeat, BooksNotes, BooksTaken, carried_row, carried_seated, fallen_carried}
+use Rattle.run_entering.specs.Told.{IsCarriedOn, IsTakenOn, MaySeat, MayNote, BooksSeat, BooksNotes, BooksTaken, TimesOn, TimesNotes, with_brought, carried_row, carried_seated, fallen_carried}
 
 -- ---- a note on the unit
 
@@ -101,6 +108,32 @@ spared-number f cards c found valid = by (known_of cards c).number (found.told c
     by None some is = absurd (cc)
     by (Some number) some is = ap (λ (n : List ℕ). Some n) is
 
+-- ---- nothing is owed to a card that was put in
+
+module _ (f : Found) (w : Carried) (cards : Cards) (c : Card) (U X Z : State) (found : AreFoundCards f cards) (second newest : ℕ) (entered : IsEntered (found_of f c).start (found_of f c).began second newest (of_card X)) (late : w.due ≤ second / 60) (p : IsPowered f w cards (arranged c U X Z)) where
+  put-parts : AreParts f w cards c U X Z
+  put-parts = parts-of f w cards c U X Z p
+
+  -- its session is of a minute of which the unit has kept none
+  nothing-owed : (k : ℕ) → HasBrought f.card_a.number f.card_b.number c k U X
+  nothing-owed k u x on there =
+      let held = put-parts.unit.unit.unit_holds f.card_a.number f.card_b.number in
+      let last : u.last < w.due = mark-earlier f.unit.first w.due w.book u.last held.order (held.now u on).mark in
+      subst (All (λ (e : Entry). k < e.minute)) (sym (ap (λ (s : ℕ). owed_in (row c u) u.last s x.mark) (entered.session x there) ∙ owed-new (row c u) u.last second x.mark (omega (arith, last, late)))) (All-nil (λ (e : Entry). k < e.minute))
+
+  -- so an acceptance has brought all
+  pub brought-powered : (kept : ℕ) → IsPowered f (with_brought c kept w) cards (arranged c U X Z)
+  brought-powered kept = powered-of f (with_brought c kept w) cards c U X Z found (record {
+    unit = record { tells = put-parts.unit.tells; works = put-parts.unit.works; unit = put-parts.unit.unit; none = put-parts.unit.none };
+    mine = λ valid.
+        let one = put-parts.mine valid in
+        at-card c (kept ∷ w.brought c) w.brought (λ (ks : List ℕ). CardLit f w.book (w.standing c) ks (session_of cards c) c U X)
+        (record { rule = one.rule; valid = one.valid; rises = one.rises; brought = λ k in_. nothing-owed k; held = one.held; goes = one.goes });
+    others = λ valid. at-other c (kept ∷ w.brought c) w.brought (λ (ks : List ℕ). CardLit f w.book (w.standing (other c)) ks (session_of cards (other c)) (other c) U Z) (put-parts.others valid);
+    marks_mine = put-parts.marks_mine;
+    marks_others = put-parts.marks_others;
+  })
+
 -- ---- A CARD IS SEATED: its insertion was noted, and its row is begun
 
 module _ (f : Found) (w : Carried) (k : Keeper) (e : Entering) (look : CardLook) (session : Session) (entry noted : ℕ) (U V W X Z : State) (m : MaySeat f w k e look session U X Z) (whole : IsCoherent U) (middle : IsCoherent V) (run : LeavesOnly U V LeavesJournal) (cause : HasCause U V false)
@@ -125,7 +158,8 @@ module _ (f : Found) (w : Carried) (k : Keeper) (e : Entering) (look : CardLook)
       by false well = begun-powered f w k.cabin.cards e.which V W X Z m.found middle e.at.second accepted m.valid m.out m.put noted-so m.late (card_number_bytes look.number) spared failed holds mine others tells m.named spares
           well (began.works ∙ ap not well) kept (seated look session entry noted e k.cabin).cards (found-seated f e.slot e.which look.number accepted k.cabin m.named m.found)
           (has-session e.slot e.which look.number accepted k.cabin) (others-session e.slot e.which look.number accepted k.cabin)
-      by true bad = begun-powerless f w k.cabin.cards e.which V W X Z m.found middle e.at.second accepted m.valid m.out m.put noted-so m.late (card_number_bytes look.number) spared failed holds mine others tells m.named spares
+      by true bad = begun-powerless f (with_brought e.which kept w) k.cabin.cards e.which V W X Z m.found middle e.at.second accepted m.valid m.out m.put
+          (brought-powered f w k.cabin.cards e.which V X Z m.found e.at.second session.minute m.put.entered m.late noted-so kept) m.late (card_number_bytes look.number) spared failed holds mine others tells m.named spares
 
 -- ---- THE CARD IS NOTED ON: that the vehicle moves, on unit and card
 
@@ -165,6 +199,16 @@ module _ (f : Found) (w : Carried) (app : Application) (a : Accepted) (e : Enter
     pub moved-kept : X.works ≡ true → HasCause X Y false → image_size_of app ≤ X.size → IsPowered f w k.cabin.cards (arranged e.which V Y Z)
     moved-kept works well room = noted-on f w k.cabin.cards e.which V X Y Z m.found after before behind a m.value m.has on-card is-note works well.works (subst (λ (p : Application). image_size_of p ≤ X.size) on-sizes room)
 
+    -- it was last used as before
+    pub moved-timed : TimesOn f e.which X Y
+    moved-timed timed =
+        let one = (parts-of f w k.cabin.cards e.which U X Z m.powered).mine m.valid in
+        noting-timed (found_of f e.which).image (found_of f e.which).began X Y one.rule.dark.later before timed (own_sizes (found_of f e.which).image) (m.found.sizes e.which m.valid)
+        (if_told X.image (λ x. own_sizes x ≡ own_sizes (found_of f e.which).image) (λ x is. (one.held.now x (before.is_left x is)).0))
+        (if_told X.image (IsValid (own_sizes (found_of f e.which).image)) (λ x is.
+        own-valid (own_sizes (found_of f e.which).image) x (one.held.now x (before.is_left x is)).0 (one.valid x (before.counts_now (found_of f e.which).began x one.rule.dark.later (before.is_left x is)))))
+        is-note
+
     -- the card failed: it is torn out, and the fault is noted
     pub moved-torn : (failed : Bool) (v : Keeper) (W : State) → v ≡ fallen true e k → LeavesOnly V W LeavesJournal → HasCause V W failed → IsCarriedOn failed f (fallen_carried true e a.session.minute w) v.cabin.cards (arranged e.which W Y Z)
     moved-torn failed v W torn tearing fault =
@@ -186,10 +230,17 @@ pub unclosed-carried : (app : Application) (e : Entering) (k v : Keeper) (fell :
 unclosed-carried app e k v fell U V W X Y Z failed is whole books run cause = λ f w a m.
     noted-carried e.which f (fallen_carried fell e a.session.minute w) v.cabin.cards V W Y Z failed (found-fallen fell f e k v is m.found) whole (books f w a m) run cause
 
+-- what was found of the cards is so still where one is seated, or is not
+pub seat-found : (look : CardLook) (session : Session) (e : Entering) (failed : Bool) (k v : Keeper) (noted noted_after : ℕ) (unit : Option (List ℕ)) (entry : Option ℕ) → IsSeatedBy look session e failed k v noted noted_after unit entry → (f : Found) → card_number_bytes look.number ≡ (found_of f e.which).number
+    → AreFoundCards f k.cabin.cards → AreFoundCards f v.cabin.cards
+seat-found look session e failed k v noted noted_after unit None s f named found = subst (λ (q : Keeper). AreFoundCards f q.cabin.cards) (sym s.1) found
+seat-found look session e failed k v noted noted_after unit (Some entry) s f named found =
+    subst (λ (q : Keeper). AreFoundCards f q.cabin.cards) (sym s.1) (found-seated f e.slot e.which look.number (record { session = session; entry = entry; noted = and_one noted }) k.cabin named found)
+
 -- ---- A CARD IS TAKEN IN
 
 -- the unit failed as it was seated
-pub taken-row : (entered : Entered) (clock : ℕ) (e : Entering) (kept : ℕ) (f : Found) (w : Carried) (cards : Cards) (d : Devices) (entry : Option ℕ) → IsPowerless f w d → IsTakenOn (taken_as false entered clock entry) true e kept f w cards d
+pub taken-row : (entered : Entered) (clock : ℕ) (e : Entering) (kept : ℕ) (f : Found) (w : Carried) (cards : Cards) (d : Devices) (entry : Option ℕ) → IsPowerless f (with_brought e.which kept w) d → IsTakenOn (taken_as false entered clock entry) true e kept f w cards d
 taken-row entered clock e kept f w cards d None p = p
 taken-row entered clock e kept f w cards d (Some entry) p = inl p
 
@@ -208,10 +259,11 @@ not_failed e = cc
 
 module _ (app : Application) (e : Entering) (entered : Entered) (clock : ℕ) (k : Keeper) (noted : ℕ) (fell failed : Bool) (k1 v : Keeper) (noted_after : ℕ) (U V W X Y Z : State) where
   -- it is seated, and noted on
-  pub taken-notes : (entry : Option ℕ) → IsSeatedBy entered.look entered.session e false k k1 noted noted_after U.image entry → entered.session.application ≡ app → BooksSeat entered.look entered.session e false k k1 U V X Z → IsValue entered.session
-      → BooksNotes app e failed k1 v fell (arranged e.which V X Z) (arranged e.which W Y Z) → BooksTaken entered (taken_as fell entered clock entry) e failed k v U W X Y Z
-  taken-notes None s sizes seat value notes = absurd (not_failed s.0)
-  taken-notes (Some entry) s sizes seat value notes = λ f w m.
+  pub taken-notes : v ≡ fallen fell e k1 → (entry : Option ℕ) → IsSeatedBy entered.look entered.session e false k k1 noted noted_after U.image entry → entered.session.application ≡ app → BooksSeat entered.look entered.session e false k k1 U V X Z → IsValue entered.session
+      → BooksNotes app e failed k1 v fell (arranged e.which V X Z) (arranged e.which W Y Z)
+      → TimesNotes app e k1 (arranged e.which V X Z) X Y → BooksTaken entered (taken_as fell entered clock entry) e failed k v U W X Y Z
+  taken-notes is None s sizes seat value notes times = absurd (not_failed s.0)
+  taken-notes is (Some entry) s sizes seat value notes times = λ f w m.
       let a : Accepted = record { session = entered.session; entry = entry; noted = and_one noted } in
       let may : MayNote f (carried_seated entered.session e k.journal.kept w) k1.cabin.cards e app a (arranged e.which V X Z) = record {
         found = subst (λ (q : Keeper). AreFoundCards f q.cabin.cards) (sym s.1) (found-seated f e.slot e.which entered.look.number a k.cabin m.named m.found);
@@ -221,5 +273,8 @@ module _ (app : Application) (e : Entering) (entered : Entered) (clock : ℕ) (k
         value = value;
         sizes = sizes;
         stands = stands-at e.which (In e.at.second entered.session.minute) w.standing;
-      } in
-      lost-or-seated fell failed entered clock entry e k.journal.kept f w v.cabin.cards (arranged e.which W Y Z) (notes f (carried_seated entered.session e k.journal.kept w) a may)
+      } in (
+        lost-or-seated fell failed entered clock entry e k.journal.kept f w v.cabin.cards (arranged e.which W Y Z) (notes f (carried_seated entered.session e k.journal.kept w) a may),
+        found-fallen fell f e k1 v is (seat-found entered.look entered.session e false k k1 noted noted_after U.image (Some entry) s f m.named m.found),
+        times f (carried_seated entered.session e k.journal.kept w) a may,
+      )

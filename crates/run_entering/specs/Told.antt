@@ -1,9 +1,11 @@
 -- What an acceptance leaves of what is carried, over devices that tell their images (profile).
-use Rattle.std.specs.Prelude.{◌≡◌, ◌⊎◌, ℕ, ◌/◌, ◌<◌, ◌≤◌, Bool, true, false, Option, Some, is_some, if◌then◌else◌}
+use Rattle.std.specs.Prelude.{◌≡◌, ◌⊎◌, ℕ, ◌/◌, ◌<◌, ◌≤◌, Bool, true, false, Option, Some, is_some, ◌∷◌, length, if◌then◌else◌}
+use Rattle.trace_model.specs.declared.Card.{Card}
 use Rattle.tach_media.specs.Medium.{State, last_count}
 use Rattle.tacho_types.specs.CardNumber.{card_number_bytes}
 use Rattle.card_image.specs.Own.{IsOwnValid}
 use Rattle.card_session.specs.Sessions.{Session, IsValue}
+use Rattle.card_times.specs.Times.{AreTimedSince}
 use Rattle.card_layout.specs.declared.files.Application.{Application}
 use Rattle.joint_rule.specs.Rules.{Out, In, Torn}
 use Rattle.run_crew.specs.declared.cards.Accepted.{Accepted}
@@ -14,11 +16,11 @@ use Rattle.run_crew.specs.declared.cards.Cards.{Cards}
 use Rattle.run_rule.specs.Found.{Found, found_of}
 use Rattle.run_rule.specs.Cards.{IsUntouched}
 use Rattle.run_rule.specs.Between.{Carried}
-use Rattle.run_told.specs.Told.{AreFoundCards, IsPutIn, IsPowered, IsPowerless, arranged, with_standing, with_acceptance, card_marks, with_marks}
+use Rattle.run_told.specs.Told.{AreFoundCards, IsPutIn, IsPowered, IsPowerless, HasFoundSo, for_card, arranged, with_standing, with_acceptance, card_marks, with_marks}
 use Rattle.run_keeping.specs.declared.keeper.Keeper.{Keeper}
 use Rattle.device_steps.specs.declared.entering.Entered.{Entered}
 use Rattle.run_entering.specs.declared.lines.Entering.{Entering}
-use Rattle.run_entering.specs.Entering.{Ending, Unfit, Ahead, Fell, Unasked, Unnoted, Seated, Lost, Way, ending_of}
+use Rattle.run_entering.specs.Entering.{Ending, Unfit, Ahead, Fell, Unasked, Unnoted, Seated, Lost, Way, ending_of, most_owed}
 
 -- all that is carried, while the unit works; or behind its failure
 abbrev pub IsCarriedOn : (failed : Bool) → Found → Carried → Cards → Devices → Type 0
@@ -35,6 +37,10 @@ pub record MaySeat (f : Found) (w : Carried) (k : Keeper) (e : Entering) (look :
   pub put : IsPutIn (found_of f e.which) e.which w.book e.at.second session card
   pub late : w.due ≤ e.at.second / 60
   pub named : card_number_bytes look.number ≡ (found_of f e.which).number
+
+-- by an acceptance nothing is owed to a card any more up to this minute, which the unit had kept last
+abbrev pub with_brought : Card → (kept : ℕ) → Carried → Carried
+with_brought c kept w = record w { brought = for_card c (kept ∷ w.brought c) w.brought }
 
 -- the card is accepted, when the unit had kept this minute last
 abbrev pub carried_seated : Session → Entering → (kept : ℕ) → Carried → Carried
@@ -64,9 +70,17 @@ abbrev pub BooksNotes : Application → Entering → (failed : Bool) → (k v : 
 BooksNotes app e failed k v fell before after =
     (f : Found) (w : Carried) (a : Accepted) → MayNote f w k.cabin.cards e app a before → IsCarriedOn failed f (fallen_carried fell e a.session.minute w) v.cabin.cards after
 
--- where the unit failed as the row was begun, it is not accepted yet
+-- the last use of each image of the card is that of the start still, or a whole minute
+abbrev pub TimesOn : Found → Card → (card card_after : State) → Type 0
+TimesOn f c card card_after = AreTimedSince (found_of f c).image (found_of f c).began card → AreTimedSince (found_of f c).image (found_of f c).began card_after
+
+abbrev pub TimesNotes : Application → Entering → Keeper → (before : Devices) → (card card_after : State) → Type 0
+TimesNotes app e k before card card_after =
+    (f : Found) (w : Carried) (a : Accepted) → MayNote f w k.cabin.cards e app a before → TimesOn f e.which card card_after
+
+-- where the unit failed as the row was begun, it is not accepted yet; but nothing is owed to it any more
 abbrev pub carried_row : (failed : Bool) → Session → Entering → (kept : ℕ) → Carried → Carried
-carried_row failed session e kept w = if failed then w else carried_seated session e kept w
+carried_row failed session e kept w = if failed then with_brought e.which kept w else carried_seated session e kept w
 
 -- THE CARD IS SEATED: what is carried behind it
 abbrev pub BooksSeat : CardLook → Session → Entering → (failed : Bool) → (k v : Keeper) → (unit unit_after card others : State) → Type 0
@@ -80,16 +94,17 @@ IsTakenOn (Unfit fid place) failed e kept f w cards d = IsCarriedOn failed f w c
 IsTakenOn (Ahead stored) failed e kept f w cards d = IsCarriedOn failed f w cards d
 IsTakenOn Fell failed e kept f w cards d = IsCarriedOn failed f w cards d
 IsTakenOn Unasked failed e kept f w cards d = IsPowerless f w d
-IsTakenOn (Unnoted entered clock) failed e kept f w cards d = IsPowerless f w d
+IsTakenOn (Unnoted entered clock) failed e kept f w cards d = IsPowerless f (with_brought e.which kept w) d
 IsTakenOn (Seated entered clock entry) false e kept f w cards d = IsPowered f (carried_seated entered.session e kept w) cards d
-IsTakenOn (Seated entered clock entry) true e kept f w cards d = IsPowerless f w d ⊎ IsPowerless f (carried_seated entered.session e kept w) d
+IsTakenOn (Seated entered clock entry) true e kept f w cards d =
+    IsPowerless f (with_brought e.which kept w) d ⊎ IsPowerless f (carried_seated entered.session e kept w) d
 IsTakenOn (Lost entered clock entry) failed e kept f w cards d = IsCarriedOn failed f (carried_lost entered.session e kept w) cards d
 
 -- a card that is found to be accepted
 abbrev pub BooksTaken : Entered → Ending → Entering → (failed : Bool) → (k v : Keeper) → (unit unit_after card card_after others : State) → Type 0
 BooksTaken entered ending e failed k v unit unit_after card card_after others =
     (f : Found) (w : Carried) → MaySeat f w k e entered.look entered.session unit card others
-    → IsTakenOn ending failed e k.journal.kept f w v.cabin.cards (arranged e.which unit_after card_after others)
+    → IsTakenOn ending failed e k.journal.kept f w v.cabin.cards (arranged e.which unit_after card_after others) × AreFoundCards f v.cabin.cards × TimesOn f e.which card card_after
 
 -- ---- a card that is judged
 
@@ -112,14 +127,51 @@ pub record MayEnter (f : Found) (w : Carried) (cards : Cards) (e : Entering) (un
   pub began : (found_of f e.which).began ≤ card.clock
   pub spared : IsUntouched (found_of f e.which) card ⊎ IsOwnValid (found_of f e.which).image
 
--- A CARD WAS JUDGED, which stands as one that is not accepted: what is carried behind it. No clock is at its last value.
+-- what the find of an acceptance tells: so many entries were owed by images that a stop might have left then, and all of them, which are few, are
+-- on it; and the card was valid at the start
+pub record IsToldSo (f : Found) (e : Entering) (entered : Entered) (unit card : State) : Type 0 where
+  pub valid : IsOwnValid (found_of f e.which).image
+  pub found : HasFoundSo f e.which unit card e.at.second entered.replayed
+  pub whole : entered.replayed ≡ length entered.owed.items
+  pub most : length entered.owed.items ≤ most_owed
+
+abbrev pub IsToldOf : Ending → Found → Entering → (unit card : State) → Type 0
+IsToldOf (Unfit fid place) f e unit card = Unit {0}
+IsToldOf (Ahead stored) f e unit card = Unit {0}
+IsToldOf Fell f e unit card = Unit {0}
+IsToldOf Unasked f e unit card = Unit {0}
+IsToldOf (Unnoted entered clock) f e unit card = IsToldSo f e entered unit card
+IsToldOf (Seated entered clock entry) f e unit card = IsToldSo f e entered unit card
+IsToldOf (Lost entered clock entry) f e unit card = IsToldSo f e entered unit card
+
+-- a card that ended so may have been written
+abbrev pub MayHaveWritten : Ending → Type 0
+MayHaveWritten (Unfit fid place) = ⊥
+MayHaveWritten (Ahead stored) = ⊥
+MayHaveWritten Fell = Unit {0}
+MayHaveWritten Unasked = ⊥
+MayHaveWritten (Unnoted entered clock) = Unit {0}
+MayHaveWritten (Seated entered clock entry) = Unit {0}
+MayHaveWritten (Lost entered clock entry) = Unit {0}
+
+-- WHAT IS KNOWN BEHIND AN ENDING, of what was carried as the card was judged: what is carried, what was found of the cards, what a find tells;
+-- that the card is as it was, or was valid and may have been written; and of a valid one when it was last used.
+pub record IsEnteredOn (ending : Ending) (e : Entering) (failed : Bool) (k v : Keeper) (unit unit_after card card_after others : State) (f : Found) (w : Carried) : Type 0 where
+  pub taken : IsTakenOn ending failed e k.journal.kept f (carried_judged ending e w) v.cabin.cards (arranged e.which unit_after card_after others)
+  pub found : AreFoundCards f v.cabin.cards
+  pub told : IsToldOf ending f e unit card
+  pub timed : IsOwnValid (found_of f e.which).image → TimesOn f e.which card card_after
+  pub untouched : IsUntouched (found_of f e.which) card
+      → IsUntouched (found_of f e.which) card_after ⊎ (IsOwnValid (found_of f e.which).image × MayHaveWritten ending)
+
+-- A CARD WAS JUDGED, which stands as one that is not accepted: what is known behind it. No clock is at its last value.
 abbrev pub BooksJudged : Ending → Entering → (failed : Bool) → (k v : Keeper) → (unit unit_after card card_after others : State) → Type 0
 BooksJudged ending e failed k v unit unit_after card card_after others =
     (f : Found) (w : Carried) → MayEnter f w k.cabin.cards e unit card others → w.standing e.which ≡ Out → card_after.clock < last_count
-    → IsTakenOn ending failed e k.journal.kept f (carried_judged ending e w) v.cabin.cards (arranged e.which unit_after card_after others)
+    → IsEnteredOn ending e failed k v unit unit_after card card_after others f w
 
 -- A CARD ENTERED, however it stood before
 abbrev pub BooksEntered : Way → Entering → (failed : Bool) → (k v : Keeper) → (unit unit_after card card_after others : State) → Type 0
 BooksEntered way e failed k v unit unit_after card card_after others =
     (f : Found) (w : Carried) → MayEnter f w k.cabin.cards e unit card others → card_after.clock < last_count
-    → IsTakenOn (ending_of way) failed e k.journal.kept f (carried_judged (ending_of way) e (with_standing e.which Out w)) v.cabin.cards (arranged e.which unit_after card_after others)
+    → IsEnteredOn (ending_of way) e failed k v unit unit_after card card_after others f (with_standing e.which Out w)

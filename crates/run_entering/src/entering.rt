@@ -121,6 +121,9 @@ fn accept_by<M: Medium, C: Chip, D: Chip>(
     ensures cause { HasCause (M.state unit.old) (M.state unit.new) (is_err result) }
     ensures card { CardReady (known_of keeper.new.cabin.cards entering.which) (C.card card.new) (C.state card.new) }
     ensures size { (C.state card.new).size ≡ (C.state card.old).size }
+    ensures clock { (M.state unit.old).clock ≤ (M.state unit.new).clock }
+    ensures clock_card { (C.state card.old).clock ≤ (C.state card.new).clock }
+    ensures more { (C.state card.old).breakdowns ≤ (C.state card.new).breakdowns }
 {
     let registration = keeper.memory.identity().registration;
     let now = TimeReal(entering.at.second);
@@ -192,6 +195,9 @@ pub fn accept<M: Medium, C: Chip, D: Chip>(
     ensures cause { HasCause (M.state unit.old) (M.state unit.new) (is_err result) }
     ensures card { CardReady (known_of keeper.new.cabin.cards entering.which) (C.card card.new) (C.state card.new) }
     ensures size { (C.state card.new).size ≡ (C.state card.old).size }
+    ensures clock { (M.state unit.old).clock ≤ (M.state unit.new).clock }
+    ensures clock_card { (C.state card.old).clock ≤ (C.state card.new).clock }
+    ensures more { (C.state card.old).breakdowns ≤ (C.state card.new).breakdowns }
 {
     let Ok(sizes) = wake(card) else {
         keeper.cabin.measure(entering.which, Err(UNTOLD));

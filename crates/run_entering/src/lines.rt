@@ -72,6 +72,7 @@ pub(crate) fn tell_replayed(which: Card, owed: &Owed, many: u8, clock: u64, mark
     ensures told { marks.new ≡ and_marks (device_of which) clock (last_of owed.now.items many) marks.old }
     ensures room { marks.new.room ≡ marks.old.room }
     ensures few { length marks.new.items ≤ length marks.old.items + most_owed }
+    ensures most { length owed.now.items ≤ most_owed }
 {
     let device = device_of(which);
     let entries = owed.as_slice();

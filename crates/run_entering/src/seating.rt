@@ -11,7 +11,7 @@ ghost use Rattle.run_keeping.specs.Keeping.{UnitReady, CardReady, HasItsRow};
 ghost use Rattle.run_entering.specs.Entering.{taken_as, most_owed};
 ghost use Rattle.card_session.specs.Sessions.{IsValue};
 ghost use Rattle.run_told.specs.Told.{arranged};
-ghost use Rattle.run_entering.specs.Told.{BooksSeat, BooksNotes, BooksTaken};
+ghost use Rattle.run_entering.specs.Told.{BooksSeat, BooksNotes, TimesNotes, BooksTaken};
 ghost use Rattle.run_entering.specs.Entered.{IsSeated, IsMoved, IsNotedOn, IsEntry, IsTaken};
 
 use crate::lines::{Entering, find, insertion_of, other_card, tell_replayed};
@@ -100,12 +100,14 @@ fn note_moving<M: Medium, C: Chip, D: Chip>(
     requires room { length breaks.old.items < breaks.old.room }
     ensures noted { (fell : Bool) × IsMoved app entering (is_err result) keeper.old keeper.new breaks.old breaks.new (M.state unit.old) (M.state unit.new) (C.state card.old) (C.state card.new) fell
         × BooksNotes app entering (is_err result) keeper.old keeper.new fell (arranged entering.which (M.state unit.old) (C.state card.old) (D.state others.now)) (arranged entering.which (M.state unit.new) (C.state card.new) (D.state others.now)) }
+    ensures timed { TimesNotes app entering keeper.old (arranged entering.which (M.state unit.old) (C.state card.old) (D.state others.now)) (C.state card.old) (C.state card.new) }
     ensures ready { OnOk result (UnitReady keeper.new (M.state unit.new)) }
     ensures rows { (card : Card) → HasItsRow keeper.old.cabin.cards (M.state unit.old) card → OnOk result (HasItsRow keeper.new.cabin.cards (M.state unit.new) card) }
     ensures stands { (from : ℕ) → keeper.old.cabin.slots.minute ≤ from → Stands from None keeper.old.cabin → Stands from None keeper.new.cabin }
     ensures cause { HasCause (M.state unit.old) (M.state unit.new) (is_err result) }
     ensures card { CardReady (known_of keeper.new.cabin.cards entering.which) (C.card card.new) (C.state card.new) }
     ensures size { (C.state card.new).size ≡ (C.state card.old).size }
+    ensures more { (C.state card.old).breakdowns ≤ (C.state card.new).breakdowns }
 {
     let second = entering.at.second;
     note_driving(keeper, second, unit)?;
@@ -139,12 +141,14 @@ fn note_entered<M: Medium, C: Chip, D: Chip>(
     requires room { length breaks.old.items < breaks.old.room }
     ensures noted { (fell : Bool) × IsNotedOn app session entering (is_err result) keeper.old keeper.new breaks.old breaks.new (M.state unit.old) (M.state unit.new) (C.state card.old) (C.state card.new) fell
         × BooksNotes app entering (is_err result) keeper.old keeper.new fell (arranged entering.which (M.state unit.old) (C.state card.old) (D.state others.now)) (arranged entering.which (M.state unit.new) (C.state card.new) (D.state others.now)) }
+    ensures timed { TimesNotes app entering keeper.old (arranged entering.which (M.state unit.old) (C.state card.old) (D.state others.now)) (C.state card.old) (C.state card.new) }
     ensures ready { OnOk result (UnitReady keeper.new (M.state unit.new)) }
     ensures rows { (card : Card) → HasItsRow keeper.old.cabin.cards (M.state unit.old) card → OnOk result (HasItsRow keeper.new.cabin.cards (M.state unit.new) card) }
     ensures stands { (from : ℕ) → keeper.old.cabin.slots.minute ≤ from → Stands from None keeper.old.cabin → Stands from None keeper.new.cabin }
     ensures cause { HasCause (M.state unit.old) (M.state unit.new) (is_err result) }
     ensures card { CardReady (known_of keeper.new.cabin.cards entering.which) (C.card card.new) (C.state card.new) }
     ensures size { (C.state card.new).size ≡ (C.state card.old).size }
+    ensures more { (C.state card.old).breakdowns ≤ (C.state card.new).breakdowns }
 {
     let crew = keeper.cabin.crew();
     if entering.speed > 0 {
@@ -192,6 +196,8 @@ pub(crate) fn take_in<M: Medium, C: Chip, D: Chip>(
     ensures cause { HasCause (M.state unit.old) (M.state unit.new) (is_err result) }
     ensures card { CardReady (known_of keeper.new.cabin.cards entering.which) (C.card card.new) (C.state card.new) }
     ensures size { (C.state card.new).size ≡ (C.state card.old).size }
+    ensures more { (C.state card.old).breakdowns ≤ (C.state card.new).breakdowns }
+    ensures most { length entered.owed.items ≤ most_owed }
 {
     let look = entered.look;
     let replayed = entered.replayed;

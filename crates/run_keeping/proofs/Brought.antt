@@ -30,7 +30,7 @@ use Rattle.run_told.proofs.Parts.{both_of, as-rests, of-rests, brought-on, CardO
 use Rattle.run_told.proofs.Noted.{noted-with, go-unit}
 use Rattle.run_keeping.specs.declared.keeper.Keeper.{Keeper}
 use Rattle.run_keeping.specs.Keeping.{Fate, Still, Has, Fell, cabin_by, marks_by}
-use Rattle.run_keeping.specs.Books.{standing_by}
+use Rattle.run_keeping.specs.Books.{IsTimedOn, AreTimedOn, standing_by}
 use Rattle.run_keeping.specs.Owing.{CardOwing, BooksCard, HasTime, BooksBrought, IsBroughtOrCut, carried_brought, but_to}
 use Rattle.run_keeping.proofs.MarksOn.{unit-none, others-hold}
 use Rattle.run_keeping.proofs.CardBooked.{session-set}
@@ -201,6 +201,13 @@ found-session f B s cards found = record { two = found.two; named = named; told 
     told A = found.told A
     told B = found.told B
 
+-- the other card is as it was
+timed-by : (f : Found) (c : Card) (U V X Y Z : State) → IsTimedOn (found_of f c) X Y → AreTimedOn f (arranged c U X Z) (arranged c V Y Z)
+timed-by f A U V X Y Z on A valid = on
+timed-by f A U V X Y Z on B valid = λ timed. timed
+timed-by f B U V X Y Z on A valid = λ timed. timed
+timed-by f B U V X Y Z on B valid = on
+
 -- ---- ALL OF IT
 
 time-of : (c : Card) (V Y Z : State) → HasTime (Some c) (arranged c V Y Z) → Y.clock < last_count
@@ -234,16 +241,18 @@ module _ (c : Card) (said : Kept) (fate : Fate) (k v : Cabin) (second : ℕ) (U 
   pub brought-booked : (failed : Bool) → V.works ≡ not failed → BooksCard c said fate k.cards v.cards U X Y → BooksBrought (Some c) said failed fate k.cards v.cards (arranged c U X Z) (arranged c V Y Z)
   brought-booked failed works booked = λ f w owes found may lit go time.
       let before = subst (λ (es : List Entry). CardOwing f c w.book (w.standing c) (w.brought c) w.marks es (session_of k.cards c) U X) may.1 (card-before f w owes k.cards c U X Z lit go may.0) in
+      let card = booked f w found (unit-tells f w owes c U X Z lit) (unit-holds f w owes c U X Z lit) (unit-shut f w owes c U X Z lit) (time-of c V Y Z time) may.0 may.2 before in
       let one = subst (λ (o : Option Accepted). CardOwing f c w.book (standing_by fate said.entry.minute (w.standing c)) (w.brought c) (w.marks ++ marks_by fate (Some c) said.entry.minute) [] o U Y)
-      (ap (λ (q : Cards). session_of q c) same ∙ session-set c session k.cards)
-      (booked f w found (unit-tells f w owes c U X Z lit) (unit-holds f w owes c U X Z lit) (unit-shut f w owes c U X Z lit) (time-of c V Y Z time) may.0 may.2 before) in
-      let behind = subst (λ (q : Cards). AllGo f (carried_brought fate (Some c) said.entry.minute w) (but_to (Some c) owes) q (arranged c U Y Z)) (sym same) (brought-go f w owes k.cards c fate said.entry.minute session U X Y Z go one) in
-      behind-note-of c f (carried_brought fate (Some c) said.entry.minute w) (but_to (Some c) owes) v.cards U V Y Z (subst (AreFoundCards f) (sym same) (found-session f c session k.cards found)) whole
-      (brought-lit f w owes k.cards c fate said.entry.minute session U X Y Z lit one) behind run failed works
+      (ap (λ (q : Cards). session_of q c) same ∙ session-set c session k.cards) card.0 in
+      let behind = subst (λ (q : Cards). AllGo f (carried_brought fate (Some c) said.entry.minute w) (but_to (Some c) owes) q (arranged c U Y Z)) (sym same) (brought-go f w owes k.cards c fate said.entry.minute session U X Y Z go one) in (
+        behind-note-of c f (carried_brought fate (Some c) said.entry.minute w) (but_to (Some c) owes) v.cards U V Y Z (subst (AreFoundCards f) (sym same) (found-session f c session k.cards found)) whole
+            (brought-lit f w owes k.cards c fate said.entry.minute session U X Y Z lit one) behind run failed works,
+        timed-by f c U V X Y Z card.1,
+      )
 
 -- no card was present
 pub nobody-booked : (said : Kept) (cards : Cards) (d : Devices) → BooksBrought None said false Still cards cards d d
 nobody-booked said cards d = λ f w owes found may lit go time. (
-  subst (λ (ms : List Mark). IsLitOwing f (record w { marks = ms }) owes d) (sym (append-nil w.marks)) lit,
-  record { held = go.held; goes = go.goes },
+  (subst (λ (ms : List Mark). IsLitOwing f (record w { marks = ms }) owes d) (sym (append-nil w.marks)) lit, record { held = go.held; goes = go.goes }),
+  λ c valid timed. timed,
 )

@@ -5,6 +5,8 @@ use Rattle.activity_codec.specs.declared.entries.Entry.{Entry}
 use Rattle.trace_model.specs.declared.Card.{Card}
 use Rattle.trace_model.specs.declared.Card.TheVariants.{A, B}
 use Rattle.tach_media.specs.Medium.{State, IsCoherent, LeavesOnly, IsSettled, last_count}
+use Rattle.tach_media.proofs.Runs.{if_told}
+use Rattle.log_model.specs.declared.lines.Mark.{Mark}
 use Rattle.chip_model.specs.declared.command.CardState.{CardState}
 use Rattle.card_layout.specs.declared.files.Application.{Application}
 use Rattle.card_layout.specs.Files.{image_size_of}
@@ -13,13 +15,17 @@ use Rattle.card_commands.specs.Ports.{IsPort}
 use Rattle.card_session.specs.declared.session.Kept.{Kept}
 use Rattle.card_session.specs.Sessions.{IsSession}
 use Rattle.card_session.specs.Cards.{IsCardKept, IsCardKeeping}
+use Rattle.card_image.specs.Own.{own_sizes}
+use Rattle.card_times.proofs.Calls.{keeping-timed}
+use Rattle.history_model.specs.Book.{Book}
+use Rattle.joint_rule.specs.Rules.{Standing}
 use Rattle.run_crew.specs.declared.cards.Accepted.{Accepted}
 use Rattle.run_crew.specs.declared.cards.Cards.{Cards}
 use Rattle.run_crew.specs.Cards.{known_of, session_of, with_session}
 use Rattle.run_crew.specs.Cabin.{IsBehind}
-use Rattle.run_rule.specs.Found.{found_of}
+use Rattle.run_rule.specs.Found.{Found, found_of}
 use Rattle.run_keeping.specs.Keeping.{Still, Has, Fell, CardReady, marks_by}
-use Rattle.run_keeping.specs.Books.{standing_by}
+use Rattle.run_keeping.specs.Books.{IsTimedOn, standing_by}
 use Rattle.run_keeping.specs.Owing.{CardOwing, BooksCard}
 use Rattle.run_keeping.proofs.CardBrought.{card-still, card-fell, card-has}
 
@@ -54,13 +60,23 @@ pub session-unset : (c : Card) (cards : Cards) → session_of cards c ≡ None �
 session-unset A cards gone = ap (λ (o : Option Accepted). record cards { a = record cards.a { accepted = o } }) (sym gone)
 session-unset B cards gone = ap (λ (o : Option Accepted). record cards { b = record cards.b { accepted = o } }) (sym gone)
 
+-- a call on a card that has a session leaves what is known of its last use
+timed-of : (f : Found) (c : Card) (b : Book) (z : Standing) (ks : List ℕ) (marks : List Mark) (owes : List Entry) (a : Accepted) (U X Y : State) (e : Entry) (odometer : ℕ) → IsCoherent X → CardOwing f c b z ks marks owes (Some a) U X
+    → LeavesOnly X Y (λ x y. IsSession a.session x → IsCardKeeping a.session e odometer x y) → IsTimedOn (found_of f c) X Y
+timed-of f c b z ks marks owes a U X Y e odometer whole one run = λ timed.
+    let on = one.goes.goes in
+    keeping-timed (found_of f c).image (found_of f c).began X Y one.rule.dark.later whole timed a.session e odometer
+    (if_told X.image (λ x. own_sizes x ≡ a.session.application) (λ x is. (one.held.now x (whole.is_left x is)).0 ∙ sym on.sizes)) on.session run
+
 module _ (c : Card) (said : Kept) (cards : Cards) (U X : State) where
   -- it has no session
   pub booked-still : session_of cards c ≡ None → BooksCard c said Still cards cards U X X
-  booked-still gone = λ f w found tells h none time valid present one.
-      subst (λ (o : Option Accepted). CardOwing f c w.book (w.standing c) (w.brought c) (w.marks ++ []) [] o U X) (sym gone)
-      (card-still f c w.book (w.standing c) (w.brought c) w.marks (said.entry ∷ []) said.entry.minute U X present
-      (subst (λ (o : Option Accepted). CardOwing f c w.book (w.standing c) (w.brought c) w.marks (said.entry ∷ []) o U X) gone one))
+  booked-still gone = λ f w found tells h none time valid present one. (
+    subst (λ (o : Option Accepted). CardOwing f c w.book (w.standing c) (w.brought c) (w.marks ++ []) [] o U X) (sym gone)
+        (card-still f c w.book (w.standing c) (w.brought c) w.marks (said.entry ∷ []) said.entry.minute U X present
+        (subst (λ (o : Option Accepted). CardOwing f c w.book (w.standing c) (w.brought c) w.marks (said.entry ∷ []) o U X) gone one)),
+    λ timed. timed,
+  )
 
   module _ (behind : Cards) (Y : State) (chip : CardState) (a : Accepted) (unit : IsCoherent U) (whole : IsCoherent X) (after : IsCoherent Y) (some : session_of cards c ≡ Some a) (ready : CardReady (known_of cards c) chip X) (may : IsBehind cards said.entry.minute (Some c))
       (run : LeavesOnly X Y (λ x y. IsSession a.session x → IsCardKeeping a.session said.entry said.odometer.0 x y)) where
@@ -77,15 +93,19 @@ module _ (c : Card) (said : Kept) (cards : Cards) (U X : State) where
     -- its call failed
     pub booked-fell : session_of behind c ≡ None → BooksCard c said Fell cards behind U X Y
     booked-fell gone = λ f w found tells h none time valid present one.
-        subst (λ (o : Option Accepted). CardOwing f c w.book (standing_by Fell said.entry.minute (w.standing c)) (w.brought c) (w.marks ++ marks_by Fell (Some c) said.entry.minute) [] o U Y) (sym gone)
-        (card-fell f cards found c w.due w.book (w.standing c) (w.brought c) w.marks a said.entry said.odometer.0 U X Y unit whole after tells h none valid present
-        (subst (λ (o : Option Accepted). CardOwing f c w.book (w.standing c) (w.brought c) w.marks (said.entry ∷ []) o U X) some one) fits late run)
+        let before = subst (λ (o : Option Accepted). CardOwing f c w.book (w.standing c) (w.brought c) w.marks (said.entry ∷ []) o U X) some one in (
+          subst (λ (o : Option Accepted). CardOwing f c w.book (standing_by Fell said.entry.minute (w.standing c)) (w.brought c) (w.marks ++ marks_by Fell (Some c) said.entry.minute) [] o U Y) (sym gone)
+              (card-fell f cards found c w.due w.book (w.standing c) (w.brought c) w.marks a said.entry said.odometer.0 U X Y unit whole after tells h none valid present before fits late run),
+          timed-of f c w.book (w.standing c) (w.brought c) w.marks (said.entry ∷ []) a U X Y said.entry said.odometer.0 whole before run,
+        )
 
     -- it has the entry
     pub booked-has : (t : Accepted) (n : ℕ) → session_of behind c ≡ Some t → Y.works ≡ true → t.session.application ≡ a.session.application → t.session.minute ≡ said.entry.minute
         → IfSome X.image (λ x. IfSome Y.image (λ y. IsSession a.session x → IsCardKept a.session t.session said.entry said.odometer.0 x y)) → (Y.clock < last_count → IsSettled Y) → n ≡ Y.clock → BooksCard c said (Has t n) cards behind U X Y
     booked-has t n is works sizes at kept settles clock = λ f w found tells h none time valid present one.
-        subst (λ (o : Option Accepted). CardOwing f c w.book (standing_by (Has t n) said.entry.minute (w.standing c)) (w.brought c) (w.marks ++ marks_by (Has t n) (Some c) said.entry.minute) [] o U Y) (sym is)
-        (card-has f cards found c w.due w.book (w.standing c) (w.brought c) w.marks a said.entry said.odometer.0 U X Y unit whole after tells h none valid present
-        (subst (λ (o : Option Accepted). CardOwing f c w.book (w.standing c) (w.brought c) w.marks (said.entry ∷ []) o U X) some one) fits late run
-        t works sizes at kept (settles time) n clock)
+        let before = subst (λ (o : Option Accepted). CardOwing f c w.book (w.standing c) (w.brought c) w.marks (said.entry ∷ []) o U X) some one in (
+          subst (λ (o : Option Accepted). CardOwing f c w.book (standing_by (Has t n) said.entry.minute (w.standing c)) (w.brought c) (w.marks ++ marks_by (Has t n) (Some c) said.entry.minute) [] o U Y) (sym is)
+              (card-has f cards found c w.due w.book (w.standing c) (w.brought c) w.marks a said.entry said.odometer.0 U X Y unit whole after tells h none valid present before fits late run
+              t works sizes at kept (settles time) n clock),
+          timed-of f c w.book (w.standing c) (w.brought c) w.marks (said.entry ∷ []) a U X Y said.entry said.odometer.0 whole before run,
+        )

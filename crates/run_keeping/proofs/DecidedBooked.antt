@@ -13,6 +13,8 @@ use Rattle.history_model.specs.Minutes.{HistoryMinute, on_card}
 use Rattle.history_model.specs.Presence.{CardStart}
 use Rattle.joint_rule.specs.Rules.{Standing, Out, In, Torn, IsPresent}
 use Rattle.safety_model.specs.Safe.{Devices}
+use Rattle.unit_course.specs.Legs.{Travel, travelled, all_travelled}
+use Rattle.unit_rule.specs.Odometer.{HasTravelled, odometer_by, odometer_after}
 use Rattle.slot_machine.specs.declared.seats.Present.{Present}
 use Rattle.run_crew.specs.declared.cabin.Cabin.{Cabin}
 use Rattle.run_rule.specs.Found.{Found, found_of}
@@ -22,9 +24,10 @@ use Rattle.run_keeping.specs.declared.keeper.Keeper.{Keeper}
 use Rattle.run_keeping.specs.declared.keeper.Moment.{Moment}
 use Rattle.run_keeping.specs.Keeping.{Fate, Still, Has, Fell, TellsPresent, cabin_by}
 use Rattle.run_keeping.specs.Minutes.{Round, Told, Done, Reach, Whole, Short, IsRound, IsMinute, IsReach, IsLast, AreRounds, AreDue, told_after, told_by, cabin_after, marks_after, kept_of, minute_of, present_at}
-use Rattle.run_keeping.specs.Books.{AreBooked, HaveTime, MayBook, MayCome, BooksMinute, carried_after, fate_of, standing_by}
+use Rattle.run_keeping.specs.Books.{AreBooked, AreTimedOn, HaveTime, MayBook, MayCome, BooksMinute, carried_after, fate_of, standing_by}
 use Rattle.run_keeping.specs.Decided.{MayBookAll, BooksAll, carried_by, decided_minute}
 use Rattle.run_keeping.proofs.Brought.{cards-by, found-session}
+use Rattle.run_keeping.proofs.MinuteBooked.{timed-then}
 use Rattle.run_keeping.proofs.Decided.{no_minute, this, front, whole, all-here}
 
 -- ---- one more behind some
@@ -36,6 +39,15 @@ told-snoc k at (y ∷ ys) x t = told-snoc k at ys x (told_after (present_at k.ca
 carried-snoc : (k : Keeper) (xs : List Done) (x : Done) (w : Carried) → carried_by k (xs ++ x ∷ []) w ≡ carried_after (present_at k.cabin x.minute.minute) (decided_minute k x.minute) x.round (carried_by k xs w)
 carried-snoc k [] x w = refl
 carried-snoc k (y ∷ ys) x w = carried-snoc k ys x (carried_after (present_at k.cabin y.minute.minute) (decided_minute k y.minute) y.round w)
+
+travel-snoc : (xs : List Done) (x : Done) (g : Travel) → all_travelled (map (λ (y : Done). y.minute) (xs ++ x ∷ [])) g ≡ travelled x.minute.travelled (all_travelled (map (λ (y : Done). y.minute) xs) g)
+travel-snoc [] x g = refl
+travel-snoc (y ∷ ys) x g = travel-snoc ys x (travelled y.minute.travelled g)
+
+-- the legs before power came last stay
+legs-before : (xs : List Done) (g : Travel) → (all_travelled (map (λ (y : Done). y.minute) xs) g).before ≡ g.before
+legs-before [] g = refl
+legs-before (y ∷ ys) g = legs-before ys (travelled y.minute.travelled g)
 
 rounds-snoc : (k : Keeper) (at : Moment) (xs : List Done) (x : Done) (t : Told) → AreRounds k at xs t → IsRound (present_at k.cabin x.minute.minute) (minute_of x.minute k) at false (told_by k at xs t).keeper x.round → AreRounds k at (xs ++ x ∷ []) t
 rounds-snoc k at [] x t all is = (is, tt)
@@ -106,10 +118,11 @@ pub record Booked (ds : List Minute) (i : ℕ) (at : Moment) (t u : Told) (d e :
   pub are : take i ds ≡ map (λ (x : Done). x.minute) done
   pub rounds : AreRounds t.keeper at done t
   pub told : u ≡ told_by t.keeper at done t
-  pub books : (f : Found) (w : Carried) → MayBookAll f w ds t d → HaveTime e → AreBooked f (carried_by t.keeper done w) u.keeper.cabin.cards u.marks.items e
+  pub books : (f : Found) (w : Carried) (start : ℕ) (g : Travel) → MayBookAll f w ds t d → HasTravelled start w.book g d.unit → t.keeper.odometer ≡ odometer_after start g.before → HaveTime e
+      → (AreBooked f (carried_by t.keeper done w) u.keeper.cabin.cards u.marks.items e × HasTravelled start (carried_by t.keeper done w).book (all_travelled (map (λ (x : Done). x.minute) done) g) e.unit) × AreTimedOn f d e
 
 pub none-booked : (ds : List Minute) (at : Moment) (t : Told) (d : Devices) → Booked ds 0 at t t d d
-none-booked ds at t d = record { done = []; are = refl; rounds = tt; told = refl; books = λ f w may time. may.booked }
+none-booked ds at t d = record { done = []; are = refl; rounds = tt; told = refl; books = λ f w start g may gone stored time. ((may.booked, gone), λ c valid timed. timed) }
 
 -- all of them
 pub all-booked : (ds : List Minute) (i : ℕ) → length ds ≤ i → (at : Moment) (t u : Told) (d e : Devices) → Booked ds i at t u d e → (reach : Reach) × IsReach ds at false t u reach × BooksAll ds false reach t u d e
@@ -146,8 +159,20 @@ module _ (ds : List Minute) (i : ℕ) (low : i < length ds) (at : Moment) (t u v
             (unmap (λ (j : HistoryMinute). (on_card c j ≡ []) ⊎ (IsOwnValid (found_of f c).image × IsPresent (found_of f c).start (w.standing c) j.minute)) (decided_minute k) ds (may.comes.fits c)));
       }
 
-  may-here : (f : Found) (w : Carried) → MayBookAll f w ds t d → HaveTime g → MayBook f (carried_by k so.done w) here (minute_of m k) u e
-  may-here f w may time = record { booked = so.books f w may (earlier time); comes = comes f w may }
+  -- behind those before
+  module _ (f : Found) (w : Carried) (start : ℕ) (travel : Travel) (may : MayBookAll f w ds t d) (gone : HasTravelled start w.book travel d.unit) (stored : t.keeper.odometer ≡ odometer_after start travel.before) (time : HaveTime g) where
+    abbrev so_far : Travel
+    so_far = all_travelled (map (λ (x : Done). x.minute) so.done) travel
+
+    was : (AreBooked f (carried_by k so.done w) u.keeper.cabin.cards u.marks.items e × HasTravelled start (carried_by k so.done w).book so_far e.unit) × AreTimedOn f d e
+    was = so.books f w start travel may gone stored (earlier time)
+
+    may-here : MayBook f (carried_by k so.done w) here (minute_of m k) u e
+    may-here = record { booked = was.0.0; comes = comes f w may }
+
+    -- what the minute says of the odometer
+    odometer-here : odometer_by k.odometer m.travelled ≡ odometer_by (odometer_after start so_far.before) m.travelled
+    odometer-here = ap (λ (n : ℕ). odometer_by n m.travelled) (stored ∙ ap (λ (legs : List ℕ). odometer_after start legs) (sym (legs-before so.done travel)))
 
   -- what the minute says of who was present
   tells : TellsPresent (minute_of m k) here
@@ -167,16 +192,25 @@ module _ (ds : List Minute) (i : ℕ) (low : i < length ds) (at : Moment) (t u v
     abbrev x : Done
     x = record { minute = m; round = r }
 
-    next : (f : Found) (w : Carried) → MayBookAll f w ds t d → HaveTime g → AreBooked f (carried_after here (decided_minute k m) r (carried_by k so.done w)) v.keeper.cabin.cards v.marks.items g
-    next f w may time =
-        let was = so.books f w may (earlier time) in
+    abbrev carried_next : Carried → Carried
+    carried_next w = carried_after here (decided_minute k m) r (carried_by k so.done w)
+
+    next : (f : Found) (w : Carried) (start : ℕ) (travel : Travel) → MayBookAll f w ds t d → HasTravelled start w.book travel d.unit → t.keeper.odometer ≡ odometer_after start travel.before → HaveTime g
+        → (AreBooked f (carried_next w) v.keeper.cabin.cards v.marks.items g × HasTravelled start (carried_next w).book (travelled m.travelled (all_travelled (map (λ (x : Done). x.minute) so.done) travel)) g.unit) × AreTimedOn f d g
+    next f w start travel may gone stored time =
+        let ahead = was f w start travel may gone stored time in
+        let before = ahead.0 in
         let late = (comes f w may).late in
+        let all = books f (carried_by k so.done w) start (all_travelled (map (λ (x : Done). x.minute) so.done) travel) m.travelled (may-here f w start travel may gone stored time) before.1 (odometer-here f w start travel may gone stored time) time in
+        let behind = all.0 in
+        let booked : AreBooked f (carried_next w) v.keeper.cabin.cards v.marks.items g =
         record {
-          found = subst (λ (q : Told). AreFoundCards f q.keeper.cabin.cards) (sym minute.2) (found-after f here at.second r u.keeper.cabin was.found);
-          powered = books f (carried_by k so.done w) (may-here f w may time) time;
-          told = ap (λ (ms : List Mark). (marks_after here m.minute r (record { items = ms; room = 0 })).items) was.told ∙ sym (ap (λ (q : Told). q.marks.items) minute.2);
-          early = λ c n at. let lt = was.early c n at in omega (arith, lt, late);
-        }
+          found = subst (λ (q : Told). AreFoundCards f q.keeper.cabin.cards) (sym minute.2) (found-after f here at.second r u.keeper.cabin before.0.found);
+          powered = behind.0;
+          told = ap (λ (ms : List Mark). (marks_after here m.minute r (record { items = ms; room = 0 })).items) before.0.told ∙ sym (ap (λ (q : Told). q.marks.items) minute.2);
+          early = λ c n at. let lt = before.0.early c n at in omega (arith, lt, late);
+        } in
+        ((booked, behind.1), timed-then f d e g ahead.1 all.1)
 
     more-booked : Booked ds (i + 1) at t v d g
     more-booked = record {
@@ -184,7 +218,14 @@ module _ (ds : List Minute) (i : ℕ) (low : i < length ds) (at : Moment) (t u v
       are = front ds i low ∙ ap (λ (zs : List Minute). zs ++ m ∷ []) so.are ∙ sym (map-append (λ (y : Done). y.minute) so.done (x ∷ []));
       rounds = rounds-snoc k at so.done x t so.rounds (subst (λ (q : Told). IsRound here (minute_of m k) at false q.keeper r) so.told minute.0);
       told = minute.2 ∙ ap (told_after here m.minute at r) so.told ∙ sym (told-snoc k at so.done x t);
-      books = λ f w may time. subst (λ (q : Carried). AreBooked f q v.keeper.cabin.cards v.marks.items g) (sym (carried-snoc k so.done x w)) (next f w may time);
+      books = λ f w start travel may gone stored time.
+          let all = next f w start travel may gone stored time in
+          let behind = all.0 in
+          let carried = sym (carried-snoc k so.done x w) in
+          let booked : AreBooked f (carried_by k (so.done ++ x ∷ []) w) v.keeper.cabin.cards v.marks.items g = subst (λ (q : Carried). AreBooked f q v.keeper.cabin.cards v.marks.items g) carried behind.0 in
+          let far : HasTravelled start (carried_by k (so.done ++ x ∷ []) w).book (all_travelled (map (λ (y : Done). y.minute) (so.done ++ x ∷ [])) travel) g.unit = subst (λ (legs : Travel). HasTravelled start (carried_by k (so.done ++ x ∷ []) w).book legs g.unit) (sym (travel-snoc so.done x travel))
+          (subst (λ (q : Carried). HasTravelled start q.book (travelled m.travelled (all_travelled (map (λ (y : Done). y.minute) so.done) travel)) g.unit) carried behind.1) in
+          ((booked, far), all.1);
     }
 
   pub booked-on : (round : Option Round) → IsMinute p km at false u v A B C D round → (TellsPresent km p → BooksMinute p km false round u v e g) → Booked ds (i + 1) at t v d g
@@ -200,5 +241,8 @@ module _ (ds : List Minute) (i : ℕ) (low : i < length ds) (at : Moment) (t u v
   cut-booked round h books = (
     Short so.done m round,
     ((drop (i + 1) ds, whole ds i low ∙ ap (λ (zs : List Minute). zs ++ m ∷ drop (i + 1) ds) so.are), so.rounds, last-here round (minute-here true round h)),
-    λ f w may time. books-here true round books f (carried_by k so.done w) (may-here f w may time) time,
+    λ f w start travel may gone stored time.
+        let all = books-here true round books f (carried_by k so.done w) start (all_travelled (map (λ (x : Done). x.minute) so.done) travel) m.travelled
+        (may-here f w start travel may gone stored time) (was f w start travel may gone stored time).0.1 (odometer-here f w start travel may gone stored time) time in
+        (all.0, timed-then f d e g (was f w start travel may gone stored time).1 all.1),
   )

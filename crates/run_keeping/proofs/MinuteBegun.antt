@@ -24,7 +24,10 @@ use Rattle.joint_rule.specs.Rules.{Standing, Fits, IsPresent, CardRule}
 use Rattle.safety_model.specs.Safe.{card_of}
 use Rattle.unit_rule.specs.Rule.{Started}
 use Rattle.unit_rule.specs.Marks.{Holds}
+use Rattle.unit_course.specs.Legs.{Travel}
+use Rattle.unit_rule.specs.Odometer.{HasTravelled, odometer_by, odometer_after}
 use Rattle.device_steps.specs.Rule.{Both, opened, CardHolds, IsCommitted, IsHeldUp}
+use Rattle.device_steps.specs.Travel.{HasGone}
 use Rattle.slot_machine.specs.declared.seats.Present.{Present}
 use Rattle.run_crew.specs.declared.cards.Cards.{Cards}
 use Rattle.run_crew.specs.Cabin.{AreTwo}
@@ -37,7 +40,7 @@ use Rattle.run_keeping.specs.declared.keeper.Keeper.{Keeper}
 use Rattle.run_keeping.specs.Keeping.{TellsPresent, act_in, entry_in, is_this}
 use Rattle.run_keeping.specs.Minutes.{Told}
 use Rattle.run_keeping.specs.Books.{history_minute, MayCome, MayBook}
-use Rattle.run_keeping.specs.Owing.{and_put, MayPut, BooksPut, owes_minute, IsOwedOrCut, BooksOwed}
+use Rattle.run_keeping.specs.Owing.{and_put, MayPut, BooksPut, TravelsOn, owes_minute, IsOwedOrCut, BooksOwed}
 use Rattle.run_keeping.proofs.Counts.{apart-turned}
 use Rattle.run_keeping.proofs.MinuteOwed.{owed-or-cut}
 
@@ -179,23 +182,28 @@ module _ (m : KeptMinute) (present : Present) (says : TellsPresent m present) (t
 
   module _ (t u : Told) (U U1 X Y : State) where
     -- the unit failed in the first
-    pub cut-first : BooksPut present.driver e true t.keeper.cabin.cards (devices U X Y) (devices U1 X Y) → BooksOwed present m true t u (devices U X Y) (devices U1 X Y)
-    cut-first puts = λ f w may time.
+    pub cut-first : BooksPut present.driver e true t.keeper.cabin.cards (devices U X Y) (devices U1 X Y) → TravelsOn U U1 → BooksOwed present m true t u (devices U X Y) (devices U1 X Y)
+    cut-first puts on = λ f w start g leg may gone odometer time.
         let b = may.booked in
-        inl (puts f w owes_nothing b.found (may-driver f w may.comes) (owing-of f w (devices U X Y) b.powered.lit) b.powered.go)
+        inl (puts f w owes_nothing b.found (may-driver f w may.comes) (owing-of f w (devices U X Y) b.powered.lit) b.powered.go, on start w.book g gone)
 
-    module _ (first : BooksPut present.driver e false t.keeper.cabin.cards (devices U X Y) (devices U1 X Y)) (U2 : State) where
+    module _ (first : BooksPut present.driver e false t.keeper.cabin.cards (devices U X Y) (devices U1 X Y)) (on : TravelsOn U U1) (U2 : State) where
       -- and in the second
-      pub cut-second : BooksPut present.codriver d true t.keeper.cabin.cards (devices U1 X Y) (devices U2 X Y) → BooksOwed present m true t u (devices U X Y) (devices U2 X Y)
-      cut-second puts = λ f w may time.
+      pub cut-second : BooksPut present.codriver d true t.keeper.cabin.cards (devices U1 X Y) (devices U2 X Y) → TravelsOn U1 U2 → BooksOwed present m true t u (devices U X Y) (devices U2 X Y)
+      cut-second puts next = λ f w start g leg may gone odometer time.
           let b = may.booked in
-          inl (puts f w (and_put present.driver e owes_nothing) b.found (may-codriver f w may.comes) (first f w owes_nothing b.found (may-driver f w may.comes) (owing-of f w (devices U X Y) b.powered.lit) b.powered.go) (go-on f w t.keeper.cabin.cards U U1 X Y b.powered.go))
+          inl (
+            puts f w (and_put present.driver e owes_nothing) b.found (may-codriver f w may.comes) (first f w owes_nothing b.found (may-driver f w may.comes) (owing-of f w (devices U X Y) b.powered.lit) b.powered.go) (go-on f w t.keeper.cabin.cards U U1 X Y b.powered.go),
+            next start w.book g (on start w.book g gone),
+          )
 
-      module _ (second : BooksPut present.codriver d false t.keeper.cabin.cards (devices U1 X Y) (devices U2 X Y)) (V : State) (failed : Bool) (whole : IsCoherent U2) (whole_a : IsCoherent X) (whole_b : IsCoherent Y)
+      module _ (second : BooksPut present.codriver d false t.keeper.cabin.cards (devices U1 X Y) (devices U2 X Y)) (next : TravelsOn U1 U2) (V : State) (failed : Bool) (whole : IsCoherent U2) (whole_a : IsCoherent X) (whole_b : IsCoherent Y)
           (tells : is_some V.image ≡ is_some U2.image) (cause : HasCause U2 V failed)
           (holds : (s : Started) (due : ℕ) (b : Book) (marks : List Mark) (i : HistoryMinute) → kept_minute m ≡ seen_by_unit i → Holds s due b marks U2 → b.maybe ≡ None → due ≤ i.minute → IsHeldUp s b marks i failed V)
           (on_a : Commits m failed U2 V X) (on_b : Commits m failed U2 V Y)
           (views : (a b : List ℕ) (i : HistoryMinute) → kept_minute m ≡ seen_by_unit i → LeavesViews (of_unit a b U2) (of_unit a b V) (IsKeeping KeepsMinute GivesUpDay i))
+          (goes : (start : ℕ) (g : Travel) (leg : ℕ) (s : Started) (due : ℕ) (b : Book) (marks : List Mark) (i : HistoryMinute) → kept_minute m ≡ seen_by_unit i → Holds s due b marks U2 → b.maybe ≡ None → due ≤ i.minute
+          → HasTravelled start b g U2 → m.odometer.0 ≡ odometer_by (odometer_after start g.before) leg → HasGone start b g i leg failed V)
           (same : u.keeper.cabin.cards ≡ t.keeper.cabin.cards) where
         committed : (f : Found) (w : Carried) (two : f.card_a.number ≢ f.card_b.number) → MayCome f w i → IsLitWith f w (owes_minute i) owes_nothing (devices U2 X Y) → (c : Card) → IsOwnValid (found_of f c).image
             → IsCommitted (both_of f two) c w.book i (w.standing c) failed V (card_of (devices U2 X Y) c)
@@ -209,10 +217,11 @@ module _ (m : KeptMinute) (present : Present) (says : TellsPresent m present) (t
         wholes B = whole_b
 
         pub kept-or-cut : BooksOwed present m failed t u (devices U X Y) (devices V X Y)
-        kept-or-cut = λ f w may time.
+        kept-or-cut = λ f w start g leg may gone odometer time.
             let b = may.booked in
             let put = second f w (and_put present.driver e owes_nothing) b.found (may-codriver f w may.comes) (first f w owes_nothing b.found (may-driver f w may.comes) (owing-of f w (devices U X Y) b.powered.lit) b.powered.go) (go-on f w t.keeper.cabin.cards U U1 X Y b.powered.go) in
             let h = lit-puts f w (both_put present.driver present.codriver e d) (owes_minute i) U2 X Y all-said put in
-            subst (λ (cards : Cards). IsOwedOrCut failed f w i cards (devices V X Y)) (sym same)
+            subst (λ (cards : Cards). IsOwedOrCut failed f start w i g leg cards (devices V X Y)) (sym same)
             (owed-or-cut f t.keeper.cabin.cards b.found w i U2 V X Y whole wholes h (go-on f w t.keeper.cabin.cards U U2 X Y b.powered.go) may.comes one b.early failed tells cause (holds f.unit w.due w.book w.marks i (kept-seen m present says) h.unit h.none may.comes.late)
-            (committed f w b.found.two may.comes h) (views f.card_a.number f.card_b.number i (kept-seen m present says)) time)
+            (committed f w b.found.two may.comes h) (views f.card_a.number f.card_b.number i (kept-seen m present says))
+            start g leg (goes start g leg f.unit w.due w.book w.marks i (kept-seen m present says) h.unit h.none may.comes.late (next start w.book g (on start w.book g gone)) odometer) time)

@@ -6,13 +6,17 @@ use Rattle.activity_codec.specs.declared.entries.Entry.{Entry}
 use Rattle.activity_codec.specs.declared.values.Slot.TheVariants.{Driver, CoDriver}
 use Rattle.trace_model.specs.declared.Card.{Card}
 use Rattle.trace_model.specs.declared.Card.TheVariants.{A, B}
-use Rattle.tach_media.specs.Medium.{State, last_count}
+use Rattle.tach_media.specs.Medium.{State, IsCoherent, LeavesOnly, last_count}
 use Rattle.log_model.specs.declared.lines.Break.{Break}
 use Rattle.log_model.specs.declared.lines.Mark.{Mark}
 use Rattle.card_image.specs.Own.{IsOwnValid}
 use Rattle.card_session.specs.declared.session.Kept.{Kept}
 use Rattle.unit_journal.specs.declared.kept.KeptMinute.{KeptMinute}
+use Rattle.unit_notes.specs.Journal.{LeavesJournal}
+use Rattle.unit_course.specs.Legs.{Travel, travelled}
+use Rattle.unit_rule.specs.Odometer.{HasTravelled, odometer_by, odometer_after}
 use Rattle.history_model.specs.Minutes.{HistoryMinute, on_card}
+use Rattle.history_model.specs.Book.{kept}
 use Rattle.joint_rule.specs.Rules.{Standing, IsPresent, CardRule}
 use Rattle.joint_rule.specs.Marked.{of_card}
 use Rattle.safety_model.specs.Safe.{Devices, card_of}
@@ -26,10 +30,11 @@ use Rattle.run_rule.specs.Found.{Found, found_of, unit_seen, AnyKept}
 use Rattle.run_rule.specs.Between.{Carried, devices}
 use Rattle.run_told.specs.Told.{AreFoundCards, owes_nothing, GoesOwing, AllGo, IsLitWith, IsLitOwing, IsPowered, IsPowerless}
 use Rattle.run_told.proofs.Parts.{lit-of}
+use Rattle.run_told.proofs.Travelled.{travelled-noted}
 use Rattle.run_keeping.specs.declared.keeper.Keeper.{Keeper}
 use Rattle.run_keeping.specs.Keeping.{Fate, Still, TellsPresent, entry_in, kept_in, cabin_by, is_this}
 use Rattle.run_keeping.specs.Minutes.{Round, Told, unit_mark}
-use Rattle.run_keeping.specs.Books.{history_minute, standing_by, carried_after, MayCome, MayBook, HaveTime, IsBooked, BooksMinute}
+use Rattle.run_keeping.specs.Books.{history_minute, standing_by, carried_after, MayCome, MayBook, HaveTime, IsBooked, AreTimedOn, BooksMinute}
 use Rattle.run_keeping.specs.Owing.{owes_minute, but_to, carried_kept, carried_brought, HasTime, MayBring, IsBroughtOrCut, BooksBrought, BooksOwed}
 use Rattle.run_keeping.proofs.Counts.{apart-turned}
 use Rattle.run_keeping.proofs.Rounds.{told-of}
@@ -74,6 +79,14 @@ carried-still None m w = ap (λ (ms : List Mark). record w { marks = ms }) (appe
 carried-still (Some k) m w =
     ap (λ (s : Card → Standing). record w { marks = w.marks ++ []; standing = s }) (ext (carried_brought Still (Some k) m w).standing w.standing (λ c. same-both (is_this (Some k) c) (w.standing c)))
     ∙ ap (λ (ms : List Mark). record w { marks = ms }) (append-nil w.marks)
+
+-- the cards alone tell of their last use
+pub timed-at : (f : Found) (U V X Y : State) (e : Devices) → AreTimedOn f (devices V X Y) e → AreTimedOn f (devices U X Y) e
+timed-at f U V X Y e timed A = timed A
+timed-at f U V X Y e timed B = timed B
+
+pub timed-then : (f : Found) (d e g : Devices) → AreTimedOn f d e → AreTimedOn f e g → AreTimedOn f d g
+timed-then f d e g first next c valid = λ timed. next c valid (first c valid timed)
 
 -- the clock of a card that was not asked
 pub clock-rests : {C : Type 0} (state : C → State) (a b : C) → b ≡ a → (state b).clock ≡ (state a).clock
@@ -163,36 +176,42 @@ module _ (m : KeptMinute) (present : Present) (says : TellsPresent m present) (t
   owes-codriver c is = ap (λ (a : Bool). if a then [] else on_card c i) (not-driver c is) ∙ sym (all-said m present says two c)
       ∙ ap (λ (b : Bool). if b then d ∷ [] else (if is_this present.driver c then e ∷ [] else [])) (this-codriver c is)
 
-  module _ (f : Found) (w : Carried) (may : MayBook f w present m (told-of k ms bs) (devices U X Y)) (time : V.clock < last_count) where
+  module _ (f : Found) (w : Carried) (start : ℕ) (g : Travel) (leg : ℕ) (may : MayBook f w present m (told-of k ms bs) (devices U X Y)) (gone : HasTravelled start w.book g U) (odometer : m.odometer.0 ≡ odometer_by (odometer_after start g.before) leg) (time : V.clock < last_count) where
     found1 : AreFoundCards f k1.cabin.cards
     found1 = subst (AreFoundCards f) (sym same) may.booked.found
 
     found2 : AreFoundCards f k2.cabin.cards
     found2 = found-by f fe present.driver second k1 k2 by1 found1
 
-    has : IsLitOwing f (w1 w) (owes_minute i) (devices V X Y) × AllGo f (w1 w) (owes_minute i) k1.cabin.cards (devices V X Y)
-    has = owed f w (record { booked = may.booked; comes = may.comes }) time
+    has : IsLitOwing f (w1 w) (owes_minute i) (devices V X Y) × AllGo f (w1 w) (owes_minute i) k1.cabin.cards (devices V X Y) × HasTravelled start (kept i w.book) (travelled leg g) V
+    has = owed f w start g leg (record { booked = may.booked; comes = may.comes }) gone odometer time
 
-    first : HasTime present.driver (devices V1 X1 Y1) → IsBroughtOrCut failed1 f (w2 w) (but_to present.driver (owes_minute i)) k2.cabin.cards (devices V1 X1 Y1)
+    first : HasTime present.driver (devices V1 X1 Y1) → IsBroughtOrCut failed1 f (w2 w) (but_to present.driver (owes_minute i)) k2.cabin.cards (devices V1 X1 Y1) × AreTimedOn f (devices V X Y) (devices V1 X1 Y1)
     first card = one f (w1 w) (owes_minute i) found1
         (may-bring f w i present.driver (kept_in m Driver) (w1 w) (owes_minute i) refl may.comes owes-driver (λ c is. says-some m present says two c (inl (this-driver c is))) (λ c is. refl)) has.0 has.1 card
 
   -- the unit failed as it noted the fault of the driver's card
-  pub booked-cut : failed1 ≡ true → V.clock ≤ V1.clock → (u : Told) (round : Round) → round.clock ≡ V.clock → round.driver ≡ fe → round.codriver ≡ Still → BooksMinute present m true (Some round) (told-of k ms bs) u (devices U X Y) (devices V1 X1 Y1)
-  booked-cut bad later u round at fate still = λ f w may time.
+  pub booked-cut : failed1 ≡ true → IsCoherent V → LeavesOnly V V1 LeavesJournal → (u : Told) (round : Round) → round.clock ≡ V.clock → round.driver ≡ fe → round.codriver ≡ Still → BooksMinute present m true (Some round) (told-of k ms bs) u (devices U X Y) (devices V1 X1 Y1)
+  booked-cut bad whole run u round at fate still = λ f w start g leg may gone odometer time.
       let card = has-time present.driver (devices V1 X1 Y1) time in
       let low = time.unit in
-      let cut : IsPowerless f (w2 w) (devices V1 X1 Y1) = subst (λ (b : Bool). IsBroughtOrCut b f (w2 w) (but_to present.driver (owes_minute i)) k2.cabin.cards (devices V1 X1 Y1)) bad (first f w may (omega (arith, low, later)) card) in
+      let later = run.later in
+      let short : V.clock < last_count = omega (arith, low, later) in
+      let here = first f w start g leg may gone odometer short card in
+      let cut : IsPowerless f (w2 w) (devices V1 X1 Y1) = subst (λ (b : Bool). IsBroughtOrCut b f (w2 w) (but_to present.driver (owes_minute i)) k2.cabin.cards (devices V1 X1 Y1)) bad here.0 in
       let is : w2 w ≡ carried_after present i round w = sym (carried-still present.codriver i.minute (w2 w))
       ∙ ap (λ (x : Fate). carried_brought Still present.codriver i.minute (carried_brought x present.driver i.minute (w1 w))) (sym fate)
       ∙ ap (λ (n : ℕ). carried_brought Still present.codriver i.minute (carried_brought round.driver present.driver i.minute (carried_kept i n w))) (sym at)
       ∙ ap (λ (x : Fate). carried_brought x present.codriver i.minute (carried_brought round.driver present.driver i.minute (carried_kept i round.clock w))) (sym still)
-      ∙ carried-both present i round w two in
-      subst (λ (v : Carried). IsPowerless f v (devices V1 X1 Y1)) is cut
+      ∙ carried-both present i round w two in (
+        (subst (λ (v : Carried). IsPowerless f v (devices V1 X1 Y1)) is cut, travelled-noted start (kept i w.book) (travelled leg g) (has f w start g leg may gone odometer short).2 whole run),
+        timed-at f U V X Y (devices V1 X1 Y1) here.1,
+      )
 
   module _ (well : failed1 ≡ false) (failed : Bool) (fd : Fate) (k3 : Keeper) (by2 : k3 ≡ record k2 { cabin = cabin_by fd present.codriver second k2.cabin }) (V2 X2 Y2 : State)
       (other : BooksBrought present.codriver (kept_in m CoDriver) failed fd k2.cabin.cards k3.cabin.cards (devices V1 X1 Y1) (devices V2 X2 Y2))
-      (rests_a : is_this present.codriver A ≡ false → X2.clock ≡ X1.clock) (rests_b : is_this present.codriver B ≡ false → Y2.clock ≡ Y1.clock) (later : V.clock ≤ V2.clock) where
+      (rests_a : is_this present.codriver A ≡ false → X2.clock ≡ X1.clock) (rests_b : is_this present.codriver B ≡ false → Y2.clock ≡ Y1.clock)
+      (whole1 : IsCoherent V) (run1 : LeavesOnly V V1 LeavesJournal) (whole2 : IsCoherent V1) (run2 : LeavesOnly V1 V2 LeavesJournal) where
     abbrev w3 : Carried → Carried
     w3 w = carried_brought fd present.codriver i.minute (w2 w)
 
@@ -211,33 +230,43 @@ module _ (m : KeptMinute) (present : Present) (says : TellsPresent m present) (t
     none-left : (c : Card) → but_to present.codriver (but_to present.driver (owes_minute i)) c ≡ []
     none-left c = left-none (is_this present.driver c) (is_this present.codriver c) e d (on_card c i) (all-said m present says two c)
 
-    behind : (f : Found) (w : Carried) → MayBook f w present m (told-of k ms bs) (devices U X Y) → HaveTime (devices V2 X2 Y2) → IsBroughtOrCut failed f (w3 w) (but_to present.codriver (but_to present.driver (owes_minute i))) k3.cabin.cards (devices V2 X2 Y2)
-    behind f w may time =
+    short : HaveTime (devices V2 X2 Y2) → V.clock < last_count
+    short time =
         let low = time.unit in
-        let short : V.clock < last_count = omega (arith, low, later) in
-        let lit = subst (λ (b : Bool). IsBroughtOrCut b f (w2 w) (but_to present.driver (owes_minute i)) k2.cabin.cards (devices V1 X1 Y1)) well (first f w may short (time-first time present.driver refl)) in
-        other f (w2 w) (but_to present.driver (owes_minute i)) (found2 f w may short)
+        let here = run1.later in
+        let there = run2.later in
+        omega (arith, low, here, there)
+
+    behind : (f : Found) (w : Carried) (start : ℕ) (g : Travel) (leg : ℕ) → MayBook f w present m (told-of k ms bs) (devices U X Y) → HasTravelled start w.book g U → m.odometer.0 ≡ odometer_by (odometer_after start g.before) leg → HaveTime (devices V2 X2 Y2)
+        → IsBroughtOrCut failed f (w3 w) (but_to present.codriver (but_to present.driver (owes_minute i))) k3.cabin.cards (devices V2 X2 Y2) × AreTimedOn f (devices U X Y) (devices V2 X2 Y2)
+    behind f w start g leg may gone odometer time =
+        let here = first f w start g leg may gone odometer (short time) (time-first time present.driver refl) in
+        let lit = subst (λ (b : Bool). IsBroughtOrCut b f (w2 w) (but_to present.driver (owes_minute i)) k2.cabin.cards (devices V1 X1 Y1)) well here.0 in
+        let next = other f (w2 w) (but_to present.driver (owes_minute i)) (found2 f w start g leg may gone odometer (short time))
         (may-bring f w i present.codriver (kept_in m CoDriver) (w2 w) (but_to present.driver (owes_minute i)) refl may.comes owes-codriver (λ c is. says-some m present says two c (inr (this-codriver c is)))
-        (λ c is. ap (λ (a : Bool). if a then standing_by fe i.minute (w.standing c) else w.standing c) (not-driver c is))) lit.0 lit.1 (has-time present.codriver (devices V2 X2 Y2) time)
+        (λ c is. ap (λ (a : Bool). if a then standing_by fe i.minute (w.standing c) else w.standing c) (not-driver c is))) lit.0 lit.1 (has-time present.codriver (devices V2 X2 Y2) time) in
+        (next.0, timed-at f U V X Y (devices V2 X2 Y2) (timed-then f (devices V X Y) (devices V1 X1 Y1) (devices V2 X2 Y2) here.1 next.1))
 
     -- all that there is to it
     pub booked-whole : (ms3 : Listed Mark) (bs3 : Listed Break) (round : Round) → round.clock ≡ V.clock → round.driver ≡ fe → round.codriver ≡ fd → BooksMinute present m failed (Some round) (told-of k ms bs) (told-of k3 ms3 bs3) (devices U X Y) (devices V2 X2 Y2)
-    booked-whole ms3 bs3 round at first_fate second_fate = λ f w may time.
+    booked-whole ms3 bs3 round at first_fate second_fate = λ f w start g leg may gone odometer time.
         let is : w3 w ≡ carried_after present i round w = ap (λ (x : Fate). carried_brought fd present.codriver i.minute (carried_brought x present.driver i.minute (w1 w))) (sym first_fate)
         ∙ ap (λ (n : ℕ). carried_brought fd present.codriver i.minute (carried_brought round.driver present.driver i.minute (carried_kept i n w))) (sym at)
         ∙ ap (λ (x : Fate). carried_brought x present.codriver i.minute (carried_brought round.driver present.driver i.minute (carried_kept i round.clock w))) (sym second_fate)
         ∙ carried-both present i round w two in
-        let low = time.unit in
-        let found3 = found-by f fd present.codriver second k2 k3 by2 (found2 f w may (omega (arith, low, later))) in
-        by f w found3 round is failed (behind f w may time)
+        let found3 = found-by f fd present.codriver second k2 k3 by2 (found2 f w start g leg may gone odometer (short time)) in
+        let first_gone = travelled-noted start (kept i w.book) (travelled leg g) (has f w start g leg may gone odometer (short time)).2 whole1 run1 in
+        let all = behind f w start g leg may gone odometer time in
+        (by f w start g leg found3 round is failed all.0 (travelled-noted start (kept i w.book) (travelled leg g) first_gone whole2 run2), all.1)
       where
-        by : (f : Found) (w : Carried) → AreFoundCards f k3.cabin.cards → (round : Round) → w3 w ≡ carried_after present i round w → (b : Bool) → IsBroughtOrCut b f (w3 w) (but_to present.codriver (but_to present.driver (owes_minute i))) k3.cabin.cards (devices V2 X2 Y2)
-            → IsBooked f w present i b (Some round) k3.cabin.cards (devices V2 X2 Y2)
-        by f w found round is false lit =
+        by : (f : Found) (w : Carried) (start : ℕ) (g : Travel) (leg : ℕ) → AreFoundCards f k3.cabin.cards → (round : Round) → w3 w ≡ carried_after present i round w → (b : Bool)
+            → IsBroughtOrCut b f (w3 w) (but_to present.codriver (but_to present.driver (owes_minute i))) k3.cabin.cards (devices V2 X2 Y2) → HasTravelled start (kept i w.book) (travelled leg g) V2
+            → IsBooked f start w present i g leg b (Some round) k3.cabin.cards (devices V2 X2 Y2)
+        by f w start g leg found round is false lit gone =
             let go = go-owes f (w3 w) (but_to present.codriver (but_to present.driver (owes_minute i))) owes_nothing k3.cabin.cards V2 X2 Y2 none-left lit.1 in
             let powered : IsPowered f (w3 w) k3.cabin.cards (devices V2 X2 Y2) = record {
               lit = lit-of f (w3 w) k3.cabin.cards (devices V2 X2 Y2) found (lit-owes f (w3 w) (but_to present.codriver (but_to present.driver (owes_minute i))) owes_nothing V2 X2 Y2 none-left lit.0) go;
               go = go;
             } in
-            subst (λ (v : Carried). IsPowered f v k3.cabin.cards (devices V2 X2 Y2)) is powered
-        by f w found round is true cut = subst (λ (v : Carried). IsPowerless f v (devices V2 X2 Y2)) is cut
+            (subst (λ (v : Carried). IsPowered f v k3.cabin.cards (devices V2 X2 Y2)) is powered, gone)
+        by f w start g leg found round is true cut gone = (subst (λ (v : Carried). IsPowerless f v (devices V2 X2 Y2)) is cut, gone)

@@ -29,7 +29,9 @@ use Rattle.joint_rule.proofs.Staying.{commit-stays}
 use Rattle.card_image.specs.View.{CardView}
 use Rattle.safety_model.specs.Unit.{marks_of, Increase}
 use Rattle.safety_model.specs.Safe.{Devices, card_of}
+use Rattle.unit_course.specs.Legs.{Travel}
 use Rattle.device_steps.specs.Rule.{IsCommitted, IsHeldUp}
+use Rattle.device_steps.specs.Travel.{HasGone}
 use Rattle.device_steps.proofs.EntryOwed.{worked}
 use Rattle.run_crew.specs.declared.cards.Cards.{Cards}
 use Rattle.run_rule.specs.Found.{CardFound, Found, found_of, unit_seen, AnyKept}
@@ -256,9 +258,9 @@ module _ (f : Found) (cards : Cards) (found : AreFoundCards f cards) (w : Carrie
     wait = wait;
   }
 
-  pub owed-or-cut : V.clock < last_count → IsOwedOrCut failed f w i cards (devices V X Y)
-  owed-or-cut time = by failed refl
+  pub owed-or-cut : (start : ℕ) (travel : Travel) (leg : ℕ) → HasGone start w.book travel i leg failed V → V.clock < last_count → IsOwedOrCut failed f start w i travel leg cards (devices V X Y)
+  owed-or-cut start travel leg gone time = by failed refl
     where
-      by : (b : Bool) → failed ≡ b → IsOwedOrCut b f w i cards (devices V X Y)
-      by false well = (owing well time, goes)
-      by true bad = inr cut
+      by : (b : Bool) → failed ≡ b → IsOwedOrCut b f start w i travel leg cards (devices V X Y)
+      by false well = (owing well time, goes, gone.lit well)
+      by true bad = inr (cut, gone.dark)

@@ -64,6 +64,12 @@ goes-then a None (Some z) first next = absurd next
 goes-then None (Some y) (Some z) first next = absurd first
 goes-then (Some x) (Some y) (Some z) first next = (next.0 ∙ first.0, next.1 ∙ first.1)
 
+-- where there is none, none comes
+pub stays-none : (a b : Option Accepted) → GoesOnFrom a b → a ≡ None → b ≡ None
+stays-none a None goes is = refl
+stays-none None (Some y) goes is = absurd goes
+stays-none (Some x) (Some y) goes is = absurd (cc)
+
 pub sessions-none : (cards : Cards) → SessionsGoOn cards cards
 sessions-none cards = record { a = goes-same cards.a.accepted; b = goes-same cards.b.accepted }
 

@@ -1,5 +1,5 @@
--- The unit over a note: it is the same, what the journal knows is so still, and each row is there.
-use Rattle.std.proofs.Common.{◌≡◌, ◌∙◌, ⊎_elim, ℕ, ◌-◌, true, List, IfSome, ap, sym, arith}
+-- The unit over a note: it is the same, what the journal knows is so still, and each row is there; and what might be left of a device.
+use Rattle.std.proofs.Common.{◌≡◌, ◌∙◌, ⊎_elim, ℕ, ◌-◌, ◌≤◌, true, List, IfSome, ap, sym, arith}
 use Rattle.byte_fields.proofs.Images.{part_in}
 use Rattle.tach_media.specs.Medium.{State, IsCoherent, LeavesOnly, bytes_at}
 use Rattle.tach_media.proofs.Runs.{at_image, if_told}
@@ -12,6 +12,7 @@ use Rattle.unit_journal.specs.Image.{Agrees}
 use Rattle.unit_journal.proofs.Beside.{agrees_beside}
 use Rattle.unit_notes.specs.Journal.{KeepsJournal, LeavesJournal}
 use Rattle.unit_notes.proofs.Journals.{same_journal}
+use Rattle.run_keeping.specs.Keeping.{HasLeftMore}
 
 -- it is a unit still
 pub unit-stays : {U V : State} {R : List ℕ → List ℕ → Type 0} → LeavesOnly U V R → IsUnit U → IsUnit V
@@ -41,3 +42,7 @@ module _ {U V : State} (before : IsCoherent U) (after : IsCoherent V) (works : U
 
   pub row-noted : (n : List ℕ) → IfSome U.image (HasRow n) → IfSome V.image (HasRow n)
   row-noted n said = noted-image (HasRow n) (λ x c is same. (is.0, ap (λ (rows : List ℕ). row_index n rows) (rows-noted x c same.keeps) ∙ is.1)) said
+
+-- what might be left might be left still, behind one call and another
+pub left-then : (U V W : State) → HasLeftMore U V → U.clock ≤ V.clock → HasLeftMore V W → HasLeftMore U W
+left-then U V W first later next = λ t x le left. next t x (omega (arith, le, later)) (first t x le left)

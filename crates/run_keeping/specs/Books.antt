@@ -1,17 +1,20 @@
--- What the keeping of a minute leaves of unit and cards, over devices that tell their images (profile).
+-- What the keeping of a minute leaves of unit and cards, and of what was travelled, over devices that tell their images (profile).
 use Rattle.std.specs.Prelude.{◌≡◌, ◌⊎◌, ℕ, suc, ◌≤◌, ◌<◌, Bool, true, false, Option, Some, None, List, [], if◌then◌else◌}
 use Rattle.trace_model.specs.declared.Card.{Card}
-use Rattle.tach_media.specs.Medium.{last_count}
+use Rattle.tach_media.specs.Medium.{State, last_count}
 use Rattle.log_model.specs.declared.lines.Mark.{Mark}
 use Rattle.card_image.specs.Own.{IsOwnValid}
+use Rattle.card_times.specs.Times.{AreTimedSince}
 use Rattle.unit_journal.specs.declared.kept.KeptMinute.{KeptMinute}
 use Rattle.history_model.specs.Minutes.{HistoryMinute, on_card}
 use Rattle.history_model.specs.Book.{kept, broken}
 use Rattle.joint_rule.specs.Rules.{Standing, Out, In, Torn, IsPresent}
-use Rattle.safety_model.specs.Safe.{Devices}
+use Rattle.safety_model.specs.Safe.{Devices, card_of}
+use Rattle.unit_course.specs.Legs.{Travel, travelled, stranded}
+use Rattle.unit_rule.specs.Odometer.{HasTravelled, odometer_by, odometer_after}
 use Rattle.slot_machine.specs.declared.seats.Present.{Present}
 use Rattle.run_crew.specs.declared.cards.Cards.{Cards}
-use Rattle.run_rule.specs.Found.{Found, found_of}
+use Rattle.run_rule.specs.Found.{CardFound, Found, found_of}
 use Rattle.run_rule.specs.Between.{Carried}
 use Rattle.run_told.specs.Told.{AreFoundCards, IsPowered, IsPowerless, AreEarly}
 use Rattle.run_keeping.specs.Keeping.{Fate, Still, Has, Fell, is_this}
@@ -71,12 +74,21 @@ carried_after present i round w = record {
 abbrev pub carried_broken : HistoryMinute → Carried → Carried
 carried_broken i w = record w { due = suc i.minute; book = broken i w.book }
 
+-- the unit failed before it had a minute, up to which this was travelled: that was not begun, or was
+abbrev pub IsLeftOff : Found → (start : ℕ) → Carried → HistoryMinute → Travel → (leg : ℕ) → Devices → Type 0
+IsLeftOff f start w i g leg d = (IsPowerless f w d × HasTravelled start w.book g d.unit) ⊎ (IsPowerless f (carried_broken i w) d × HasTravelled start (broken i w.book) (stranded leg g) d.unit)
+
+-- HOW IT FAILED in a minute: before it had it; or it has it, and a card was torn out
+abbrev pub IsCutIn : Found → (start : ℕ) → Carried → Present → HistoryMinute → Travel → (leg : ℕ) → Option Round → Devices → Type 0
+IsCutIn f start w present i g leg None d = IsLeftOff f start w i g leg d
+IsCutIn f start w present i g leg (Some round) d = IsPowerless f (carried_after present i round w) d × HasTravelled start (kept i w.book) (travelled leg g) d.unit
+
 -- THE BOOK BEHIND A MINUTE that was to be kept: it is kept, all that is carried stands, and the cards go with their sessions; or the unit
--- failed, and the minute was not begun, or was, or it is kept and a card was torn out.
-abbrev pub IsBooked : Found → Carried → Present → HistoryMinute → (failed : Bool) → Option Round → Cards → Devices → Type 0
-IsBooked f w present i failed None cards d = IsPowerless f w d ⊎ IsPowerless f (carried_broken i w) d
-IsBooked f w present i false (Some round) cards d = IsPowered f (carried_after present i round w) cards d
-IsBooked f w present i true (Some round) cards d = IsPowerless f (carried_after present i round w) d
+-- failed in it.
+abbrev pub IsBooked : Found → (start : ℕ) → Carried → Present → HistoryMinute → Travel → (leg : ℕ) → (failed : Bool) → Option Round → Cards → Devices → Type 0
+IsBooked f start w present i g leg true round cards d = IsCutIn f start w present i g leg round d
+IsBooked f start w present i g leg false None cards d = ⊥
+IsBooked f start w present i g leg false (Some round) cards d = IsPowered f (carried_after present i round w) cards d × HasTravelled start (kept i w.book) (travelled leg g) d.unit
 
 -- WHAT IS ASKED: unit and cards are as the book says, and the minute may come.
 pub record MayBook (f : Found) (w : Carried) (present : Present) (m : KeptMinute) (t : Told) (d : Devices) : Type 0 where
@@ -89,6 +101,16 @@ pub record HaveTime (d : Devices) : Type 0 where
   pub card_a : d.card_a.clock < last_count
   pub card_b : d.card_b.clock < last_count
 
--- A MINUTE WAS TO BE KEPT, and this came of it: so it is booked.
+-- In each image that a card might have left since the start its last use is that at the start, or a whole minute: so it is behind a call
+-- where it was before,
+abbrev pub IsTimedOn : CardFound → (old new : State) → Type 0
+IsTimedOn f old new = AreTimedSince f.image f.began old → AreTimedSince f.image f.began new
+
+-- of each card that was valid
+abbrev pub AreTimedOn : Found → (d e : Devices) → Type 0
+AreTimedOn f d e = (c : Card) → IsOwnValid (found_of f c).image → IsTimedOn (found_of f c) (card_of d c) (card_of e c)
+
+-- A MINUTE WAS TO BE KEPT, whose odometer is that of the start and of what was travelled up to it, and this came of it: so it is booked.
 abbrev pub BooksMinute : Present → KeptMinute → (failed : Bool) → Option Round → (t u : Told) → (d e : Devices) → Type 0
-BooksMinute present m failed round t u d e = (f : Found) (w : Carried) → MayBook f w present m t d → HaveTime e → IsBooked f w present (history_minute present m) failed round u.keeper.cabin.cards e
+BooksMinute present m failed round t u d e = (f : Found) (w : Carried) (start : ℕ) (g : Travel) (leg : ℕ) → MayBook f w present m t d → HasTravelled start w.book g d.unit → m.odometer.0 ≡ odometer_by (odometer_after start g.before) leg → HaveTime e
+    → IsBooked f start w present (history_minute present m) g leg failed round u.keeper.cabin.cards e × AreTimedOn f d e

@@ -1,16 +1,18 @@
 -- What the keeping of some decided minutes leaves of unit and cards, over devices that tell their images (profile).
-use Rattle.std.specs.Prelude.{◌≡◌, ◌⊎◌, ℕ, ◌+◌, ◌<◌, ◌≤◌, Bool, true, false, List, [], ◌∷◌, All, map}
+use Rattle.std.specs.Prelude.{◌≡◌, ◌⊎◌, ℕ, ◌+◌, ◌<◌, ◌≤◌, Bool, true, false, Option, List, [], ◌∷◌, All, map}
 use Rattle.trace_model.specs.declared.Card.{Card}
 use Rattle.minute_model.specs.declared.Minute.{Minute}
 use Rattle.card_image.specs.Own.{IsOwnValid}
 use Rattle.history_model.specs.Minutes.{HistoryMinute, on_card}
 use Rattle.joint_rule.specs.Rules.{IsPresent}
 use Rattle.safety_model.specs.Safe.{Devices}
+use Rattle.unit_course.specs.Legs.{Travel, all_travelled}
+use Rattle.unit_rule.specs.Odometer.{HasTravelled, odometer_after}
 use Rattle.run_rule.specs.Found.{Found, found_of}
 use Rattle.run_rule.specs.Between.{Carried}
 use Rattle.run_keeping.specs.declared.keeper.Keeper.{Keeper}
-use Rattle.run_keeping.specs.Minutes.{Done, Reach, Whole, Short, Told, present_at, minute_of}
-use Rattle.run_keeping.specs.Books.{AreBooked, HaveTime, IsBooked, carried_after, history_minute}
+use Rattle.run_keeping.specs.Minutes.{Round, Done, Reach, Whole, Short, Told, present_at, minute_of}
+use Rattle.run_keeping.specs.Books.{AreBooked, AreTimedOn, HaveTime, IsCutIn, carried_after, history_minute}
 
 -- a decided minute as the history has it: with the cards that were present in it, as the slots remember
 abbrev pub decided_minute : Keeper → Minute → HistoryMinute
@@ -35,14 +37,19 @@ pub record MayBookAll (f : Found) (w : Carried) (decided : List Minute) (t : Tol
   pub booked : AreBooked f w t.keeper.cabin.cards t.marks.items d
   pub comes : MayAllCome f w (map (decided_minute t.keeper) decided)
 
--- WHAT IS LEFT: unit and cards are as the book says that has all these minutes; or the unit failed in one, and all that is carried stands
--- by the book with those before it, and with that one not begun, or begun, or kept.
-abbrev pub IsBookedTo : Found → Carried → Keeper → (failed : Bool) → Reach → (u : Told) → Devices → Type 0
-IsBookedTo f w k false (Whole xs) u e = AreBooked f (carried_by k xs w) u.keeper.cabin.cards u.marks.items e
-IsBookedTo f w k false (Short xs m round) u e = ⊥
-IsBookedTo f w k true (Whole xs) u e = ⊥
-IsBookedTo f w k true (Short xs m round) u e = IsBooked f (carried_by k xs w) (present_at k.cabin m.minute) (decided_minute k m) true round u.keeper.cabin.cards e
+-- how the unit failed in a decided minute: it was not begun, or was; or it is kept, and a card was torn out
+abbrev pub IsCutSo : Found → (start : ℕ) → Keeper → Minute → Option Round → Carried → Travel → Devices → Type 0
+IsCutSo f start k m round w g e = IsCutIn f start w (present_at k.cabin m.minute) (decided_minute k m) g m.travelled round e
 
--- DECIDED MINUTES WERE TO BE KEPT, and it came so far: so they are booked.
+-- WHAT IS LEFT: unit and cards are as the book says that has all these minutes, and so much was travelled; or the unit failed in one, and
+-- all that is carried stands by the book with those before it, and with that one not begun, or begun, or kept.
+abbrev pub EndsAll : Found → (start : ℕ) → Carried → Keeper → (failed : Bool) → Reach → Travel → (u : Told) → Devices → Type 0
+EndsAll f start w k false (Whole xs) g u e = AreBooked f (carried_by k xs w) u.keeper.cabin.cards u.marks.items e × HasTravelled start (carried_by k xs w).book (all_travelled (map (λ (x : Done). x.minute) xs) g) e.unit
+EndsAll f start w k false (Short xs m round) g u e = ⊥
+EndsAll f start w k true (Whole xs) g u e = ⊥
+EndsAll f start w k true (Short xs m round) g u e = IsCutSo f start k m round (carried_by k xs w) (all_travelled (map (λ (x : Done). x.minute) xs) g) e
+
+-- DECIDED MINUTES WERE TO BE KEPT, counted from the odometer that was found when power came last, and it came so far: so they are booked.
 abbrev pub BooksAll : List Minute → (failed : Bool) → Reach → (t u : Told) → (d e : Devices) → Type 0
-BooksAll decided failed reach t u d e = (f : Found) (w : Carried) → MayBookAll f w decided t d → HaveTime e → IsBookedTo f w t.keeper failed reach u e
+BooksAll decided failed reach t u d e = (f : Found) (w : Carried) (start : ℕ) (g : Travel) → MayBookAll f w decided t d → HasTravelled start w.book g d.unit → t.keeper.odometer ≡ odometer_after start g.before → HaveTime e
+    → EndsAll f start w t.keeper failed reach g u e × AreTimedOn f d e

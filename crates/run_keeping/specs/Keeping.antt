@@ -1,5 +1,5 @@
 -- What the keeping of a minute is given, and what becomes of its entries on the cards, by value (profile).
-use Rattle.std.specs.Prelude.{◌≡◌, ◌⊎◌, ℕ, ◌+◌, Bool, true, false, Option, Some, None, Ok, IfSome, List, [], ◌∷◌, ◌++◌, is_some}
+use Rattle.std.specs.Prelude.{◌≡◌, ◌⊎◌, ℕ, ◌+◌, ◌≤◌, Bool, true, false, Option, Some, None, Ok, IfSome, List, [], ◌∷◌, ◌++◌, is_some}
 use Rattle.activity_codec.specs.declared.entries.Entry.{Entry}
 use Rattle.activity_codec.specs.declared.values.Activity.{Activity}
 use Rattle.activity_codec.specs.declared.values.Slot.{Slot}
@@ -39,6 +39,10 @@ use Rattle.run_notes.specs.Entries.{entry_of}
 use Rattle.run_outcome.specs.Lines.{Listed}
 use Rattle.run_keeping.specs.declared.keeper.Keeper.{Keeper}
 use Rattle.run_keeping.specs.declared.keeper.Moment.{Moment}
+
+-- what a device might have left since some time, it might have left still
+abbrev pub HasLeftMore : (old new : State) → Type 0
+HasLeftMore old new = (t : ℕ) (x : List ℕ) → t ≤ old.clock → old.left_since t x → new.left_since t x
 
 -- ---- what is known before a call, whatever the devices tell
 

@@ -1,12 +1,12 @@
 -- How a minute is kept by the unit and the cards that were present, and some minutes, by value (profile).
-use Rattle.std.specs.Prelude.{◌≡◌, ◌⊎◌, ℕ, ◌+◌, ◌/◌, ◌<◌, ◌≤◌, Bool, true, false, Option, Some, None, List, [], ◌∷◌, ◌++◌, All, map, is_some, min}
+use Rattle.std.specs.Prelude.{◌≡◌, ◌⊎◌, ℕ, ◌<◌, ◌≤◌, Bool, true, false, Option, Some, None, List, [], ◌∷◌, ◌++◌, All, map, is_some}
 use Rattle.activity_codec.specs.declared.values.Slot.TheVariants.{Driver, CoDriver}
 use Rattle.tach_media.specs.Medium.{State}
 use Rattle.minute_model.specs.declared.Minute.{Minute}
 use Rattle.run_model.specs.declared.Device.TheVariants.{Unit as Recorder}
 use Rattle.card_session.specs.declared.words.TheConstants.{LATEST_MINUTE}
-use Rattle.unit_model.specs.declared.layout.TheConstants.{HIGHEST_ODOMETER}
 use Rattle.unit_journal.specs.declared.kept.KeptMinute.{KeptMinute}
+pub use Rattle.unit_rule.specs.Odometer.{odometer_by}
 use Rattle.unit_journal.specs.declared.notes.Notes.{Notes}
 use Rattle.log_model.specs.declared.lines.Break.{Break}
 use Rattle.log_model.specs.declared.lines.Mark.{Mark}
@@ -91,10 +91,6 @@ IsMinute present minute at failed t u a a_new b b_new (Some round) =
     IsRound present minute at failed t.keeper round × AreOnCards present round a a_new b b_new × (u ≡ told_after present minute.minute at round t)
 
 -- ---- some minutes
-
--- the odometer in kilometres, where it stood at `stored` and so many km/h were summed up by seconds since
-abbrev pub odometer_by : (stored travelled : ℕ) → ℕ
-odometer_by stored travelled = min (stored + min (travelled / 3600) HIGHEST_ODOMETER) HIGHEST_ODOMETER
 
 -- a decided minute as it is kept, where these cards were present
 abbrev pub kept_of : (stored : ℕ) → Minute → Present → KeptMinute

@@ -1,5 +1,5 @@
--- How unit and cards stand while the entries of a minute are brought to the cards (profile).
-use Rattle.std.specs.Prelude.{◌≡◌, ◌⊎◌, ℕ, suc, ◌<◌, ◌≤◌, ◌++◌, ◌∷◌, Bool, true, false, Option, Some, None, List, [], Contains, is_some, if◌then◌else◌}
+-- How unit and cards stand while the entries of a minute are brought to the cards, and what was travelled (profile).
+use Rattle.std.specs.Prelude.{◌≡◌, ℕ, suc, ◌<◌, ◌≤◌, ◌++◌, ◌∷◌, Bool, true, false, Option, Some, None, List, [], Contains, is_some, if◌then◌else◌}
 use Rattle.activity_codec.specs.declared.entries.Entry.{Entry}
 use Rattle.trace_model.specs.declared.Card.{Card}
 use Rattle.tach_media.specs.Medium.{State, last_count}
@@ -12,6 +12,8 @@ use Rattle.history_model.specs.Book.{Book, kept}
 use Rattle.joint_rule.specs.Rules.{Standing, CardRule, IsPresent}
 use Rattle.joint_rule.specs.Marked.{of_card, HasBrought}
 use Rattle.safety_model.specs.Safe.{Devices, card_of}
+use Rattle.unit_course.specs.Legs.{Travel, travelled}
+use Rattle.unit_rule.specs.Odometer.{HasTravelled, odometer_by, odometer_after}
 use Rattle.unit_rule.specs.Marks.{Holds}
 use Rattle.slot_machine.specs.declared.seats.Present.{Present}
 use Rattle.run_crew.specs.declared.cards.Accepted.{Accepted}
@@ -24,7 +26,7 @@ use Rattle.run_strung.specs.Strung.{IsHeld}
 use Rattle.run_told.specs.Told.{GoesOwing, AreFoundCards, AllGo, owes_nothing, IsLitWith, IsLitOwing, IsPowerless}
 use Rattle.run_keeping.specs.Keeping.{Fate, is_this, marks_by}
 use Rattle.run_keeping.specs.Minutes.{Told, unit_mark}
-use Rattle.run_keeping.specs.Books.{MayBook, history_minute, standing_by, carried_broken}
+use Rattle.run_keeping.specs.Books.{MayBook, IsLeftOff, IsTimedOn, AreTimedOn, history_minute, standing_by}
 
 -- an entry more is put, for the card that was present
 abbrev pub and_put : Option Card → Entry → (Card → List Entry) → Card → List Entry
@@ -42,6 +44,10 @@ IsPutOrCut true f w puts d = IsPowerless f w d
 abbrev pub BooksPut : Option Card → Entry → (failed : Bool) → Cards → (d e : Devices) → Type 0
 BooksPut present entry failed cards d e = (f : Found) (w : Carried) (puts : Card → List Entry) → AreFoundCards f cards → MayPut f present entry w puts → IsLitWith f w puts owes_nothing d → AllGo f w owes_nothing cards d
     → IsPutOrCut failed f w (and_put present entry puts) e
+
+-- what was travelled is the same
+abbrev pub TravelsOn : (old new : State) → Type 0
+TravelsOn old new = (start : ℕ) (b : Book) (g : Travel) → HasTravelled start b g old → HasTravelled start b g new
 
 -- what a minute says is owed
 abbrev pub owes_minute : HistoryMinute → Card → List Entry
@@ -63,13 +69,14 @@ carried_brought fate present minute w = record w {
 }
 
 -- behind the unit's part: it has the minute, and owes its entries to the cards; or it failed, and the minute was not begun, or was
-abbrev pub IsOwedOrCut : (failed : Bool) → Found → Carried → HistoryMinute → Cards → Devices → Type 0
-IsOwedOrCut false f w i cards d = IsLitOwing f (carried_kept i d.unit.clock w) (owes_minute i) d × AllGo f (carried_kept i d.unit.clock w) (owes_minute i) cards d
-IsOwedOrCut true f w i cards d = IsPowerless f w d ⊎ IsPowerless f (carried_broken i w) d
+abbrev pub IsOwedOrCut : (failed : Bool) → Found → (start : ℕ) → Carried → HistoryMinute → Travel → (leg : ℕ) → Cards → Devices → Type 0
+IsOwedOrCut false f start w i g leg cards d = IsLitOwing f (carried_kept i d.unit.clock w) (owes_minute i) d × AllGo f (carried_kept i d.unit.clock w) (owes_minute i) cards d × HasTravelled start (kept i w.book) (travelled leg g) d.unit
+IsOwedOrCut true f start w i g leg cards d = IsLeftOff f start w i g leg d
 
 -- THE UNIT WAS TO KEEP A MINUTE (`commit`)
 abbrev pub BooksOwed : Present → KeptMinute → (failed : Bool) → (t u : Told) → (d e : Devices) → Type 0
-BooksOwed present m failed t u d e = (f : Found) (w : Carried) → MayBook f w present m t d → e.unit.clock < last_count → IsOwedOrCut failed f w (history_minute present m) u.keeper.cabin.cards e
+BooksOwed present m failed t u d e = (f : Found) (w : Carried) (start : ℕ) (g : Travel) (leg : ℕ) → MayBook f w present m t d → HasTravelled start w.book g d.unit → m.odometer.0 ≡ odometer_by (odometer_after start g.before) leg → e.unit.clock < last_count
+    → IsOwedOrCut failed f start w (history_minute present m) g leg u.keeper.cabin.cards e
 
 -- behind an entry: nothing is owed any more to the card that was present; or the unit failed
 abbrev pub IsBroughtOrCut : (failed : Bool) → Found → Carried → (owes : Card → List Entry) → Cards → Devices → Type 0
@@ -95,7 +102,7 @@ abbrev pub BooksCard : Card → Kept → Fate → (cards cards_after : Cards) �
 BooksCard c said fate cards cards_after unit card card_after = (f : Found) (w : Carried) → AreFoundCards f cards → is_some unit.image ≡ true → Holds f.unit w.due w.book w.marks unit → w.book.maybe ≡ None → card_after.clock < last_count
     → IsOwnValid (found_of f c).image → IsPresent (found_of f c).start (w.standing c) said.entry.minute
     → CardOwing f c w.book (w.standing c) (w.brought c) w.marks (said.entry ∷ []) (session_of cards c) unit card
-    → CardOwing f c w.book (standing_by fate said.entry.minute (w.standing c)) (w.brought c) (w.marks ++ marks_by fate (Some c) said.entry.minute) [] (session_of cards_after c) unit card_after
+    → CardOwing f c w.book (standing_by fate said.entry.minute (w.standing c)) (w.brought c) (w.marks ++ marks_by fate (Some c) said.entry.minute) [] (session_of cards_after c) unit card_after × IsTimedOn (found_of f c) card card_after
 
 -- the clock of the card that was present does not stand at its last value
 abbrev pub HasTime : Option Card → Devices → Type 0
@@ -105,4 +112,4 @@ HasTime (Some c) d = (card_of d c).clock < last_count
 -- AN ENTRY WAS TO BE BROUGHT to a card, of which this became (`bring`)
 abbrev pub BooksBrought : Option Card → Kept → (failed : Bool) → Fate → (cards cards_after : Cards) → (d e : Devices) → Type 0
 BooksBrought present said failed fate cards cards_after d e = (f : Found) (w : Carried) (owes : Card → List Entry) → AreFoundCards f cards → MayBring f present said w owes → IsLitOwing f w owes d → AllGo f w owes cards d → HasTime present e
-    → IsBroughtOrCut failed f (carried_brought fate present said.entry.minute w) (but_to present owes) cards_after e
+    → IsBroughtOrCut failed f (carried_brought fate present said.entry.minute w) (but_to present owes) cards_after e × AreTimedOn f d e

@@ -1,5 +1,5 @@
 //! The entry of a minute is brought onto the card that was present in a slot.
-ghost use Rattle.std.specs.Prelude.{◌≡◌, ◌≢◌, ℕ, ◌+◌, ◌-◌, ◌/◌, ◌<◌, ◌≤◌, ◌^◌, false, Option, Some, IfSome, OnOk, length, is_err};
+ghost use Rattle.std.specs.Prelude.{◌≡◌, ◌≢◌, ℕ, ◌+◌, ◌-◌, ◌/◌, ◌<◌, ◌≤◌, ◌^◌, false, Option, Some, IfSome, OnOk, length, is_some, is_err};
 ghost use Rattle.trace_model.specs.declared.Card.{Card};
 ghost use Rattle.trace_model.specs.declared.Card.TheVariants.{A, B};
 ghost use Rattle.tach_media.specs.Medium.{LeavesOnly, HasCause, HasBroken};
@@ -10,7 +10,7 @@ ghost use Rattle.run_crew.specs.Cards.{known_of, session_of};
 ghost use Rattle.run_crew.specs.Cabin.{Stands, IsBehind, crew_of};
 ghost use Rattle.run_keeping.specs.Owing.{BooksCard, BooksBrought};
 ghost use Rattle.run_rule.specs.Between.{devices};
-ghost use Rattle.run_keeping.specs.Keeping.{UnitReady, CardReady, HasItsRow, IsReady, AreEmptied, SessionsGoOn, Fate, IsBrought, IsNotingFault, tears_of, session_at, state_at, is_this};
+ghost use Rattle.run_keeping.specs.Keeping.{UnitReady, CardReady, HasItsRow, HasLeftMore, IsReady, AreEmptied, SessionsGoOn, Fate, IsBrought, IsNotingFault, tears_of, session_at, state_at, is_this};
 
 use crate::keeper::{Keeper, Moment};
 use card_session::Kept;
@@ -63,6 +63,10 @@ impl Keeper {
         ensures card { CardReady (known_of self.new.cabin.cards which) (C.card card.new) (C.state card.new) }
         ensures size { (C.state card.new).size ≡ (C.state card.old).size }
         ensures clock { (C.state card.old).clock ≤ (C.state card.new).clock }
+        ensures card_keeps { HasLeftMore (C.state card.old) (C.state card.new) }
+        ensures tells { is_some (C.state card.new).image ≡ is_some (C.state card.old).image }
+        ensures more { (C.state card.old).breakdowns ≤ (C.state card.new).breakdowns }
+        ensures bare { session_of self.old.cabin.cards which ≡ None → card.new ≡ card.old }
         ensures broken { HasBroken (C.state card.old) (C.state card.new) (tears_of (session_of self.old.cabin.cards which) - tears_of (session_of self.new.cabin.cards which)) }
         ensures stands { (from : ℕ) (leaving : Option Card) → from ≤ kept.now.entry.minute + 1 → Stands from leaving self.old.cabin → Stands (kept.now.entry.minute + 1) leaving self.new.cabin }
     {
@@ -128,6 +132,14 @@ impl Keeper {
         ensures size_b { (D.state card_b.new).size ≡ (D.state card_b.old).size }
         ensures clock_a { (C.state card_a.old).clock ≤ (C.state card_a.new).clock }
         ensures clock_b { (D.state card_b.old).clock ≤ (D.state card_b.new).clock }
+        ensures a_keeps { HasLeftMore (C.state card_a.old) (C.state card_a.new) }
+        ensures b_keeps { HasLeftMore (D.state card_b.old) (D.state card_b.new) }
+        ensures tells_a { is_some (C.state card_a.new).image ≡ is_some (C.state card_a.old).image }
+        ensures tells_b { is_some (D.state card_b.new).image ≡ is_some (D.state card_b.old).image }
+        ensures more_a { (C.state card_a.old).breakdowns ≤ (C.state card_a.new).breakdowns }
+        ensures more_b { (D.state card_b.old).breakdowns ≤ (D.state card_b.new).breakdowns }
+        ensures a_bare { self.old.cabin.cards.a.accepted ≡ None → card_a.new ≡ card_a.old }
+        ensures b_bare { self.old.cabin.cards.b.accepted ≡ None → card_b.new ≡ card_b.old }
         ensures rows { (card : Card) → HasItsRow self.old.cabin.cards (M.state unit.old) card → OnOk result (HasItsRow self.new.cabin.cards (M.state unit.new) card) }
         ensures stands { (from : ℕ) (leaving : Option Card) → from ≤ kept.now.entry.minute + 1 → Stands from leaving self.old.cabin → Stands (kept.now.entry.minute + 1) leaving self.new.cabin }
     {

@@ -10,11 +10,11 @@ ghost use Rattle.unit_journal.specs.Image.{Agrees};
 ghost use Rattle.run_crew.specs.Cabin.{Stands, MayBeKept, AreTwo};
 ghost use Rattle.trace_model.specs.declared.Card.{Card};
 ghost use Rattle.trace_model.specs.declared.Card.TheVariants.{A, B};
-ghost use Rattle.run_keeping.specs.Keeping.{UnitReady, CardReady, IsReady, HasItsRow, HaveRows, AreEmptied, SessionsGoOn, entry_in, kept_in, is_this, tears_of, most_tears, with_lines};
+ghost use Rattle.run_keeping.specs.Keeping.{UnitReady, CardReady, IsReady, HasItsRow, HasLeftMore, HaveRows, AreEmptied, SessionsGoOn, entry_in, kept_in, is_this, tears_of, most_tears, with_lines};
 ghost use Rattle.run_keeping.specs.Keeping.{TellsPresent};
 ghost use Rattle.run_keeping.specs.Minutes.{Round, IsMinute, unit_mark};
 ghost use Rattle.run_keeping.specs.Books.{BooksMinute};
-ghost use Rattle.run_keeping.specs.Owing.{BooksPut, BooksOwed};
+ghost use Rattle.run_keeping.specs.Owing.{BooksPut, BooksOwed, TravelsOn};
 ghost use Rattle.run_rule.specs.Between.{devices};
 
 use crate::keeper::{Keeper, Moment};
@@ -65,6 +65,8 @@ impl Keeper {
         ensures same { self.new ≡ self.old }
         ensures ready { OnOk result (UnitReady self.new (M.state unit.new)) }
         ensures rows { (card : Card) → HasItsRow self.old.cabin.cards (M.state unit.old) card → OnOk result (HasItsRow self.new.cabin.cards (M.state unit.new) card) }
+        ensures travelled { TravelsOn (M.state unit.old) (M.state unit.new) }
+        ensures unit_keeps { HasLeftMore (M.state unit.old) (M.state unit.new) }
         ensures booked { BooksPut present entry.now (is_err result) self.old.cabin.cards (devices (M.state unit.old) (C.state card_a.now) (D.state card_b.now)) (devices (M.state unit.new) (C.state card_a.now) (D.state card_b.now)) }
         ensures clock { (M.state unit.old).clock ≤ (M.state unit.new).clock }
         ensures tells { is_some (M.state unit.new).image ≡ is_some (M.state unit.old).image }
@@ -121,6 +123,7 @@ impl Keeper {
         ensures marked { OnOk result (marks.new ≡ with_lines (unit_mark minute.now.minute (M.state unit.new).clock ∷ []) marks.old) }
         ensures ready { OnOk result (UnitReady self.new (M.state unit.new)) }
         ensures rows { (card : Card) → HasItsRow self.old.cabin.cards (M.state unit.old) card → OnOk result (HasItsRow self.new.cabin.cards (M.state unit.new) card) }
+        ensures unit_keeps { HasLeftMore (M.state unit.old) (M.state unit.new) }
         ensures booked { TellsPresent minute.now present → BooksOwed present minute.now (is_err result) (record { keeper = self.old; marks = marks.old; breaks = record { items = []; room = 0 } }) (record { keeper = self.new; marks = marks.new; breaks = record { items = []; room = 0 } }) (devices (M.state unit.old) (C.state card_a.now) (D.state card_b.now)) (devices (M.state unit.new) (C.state card_a.now) (D.state card_b.now)) }
         ensures clock { (M.state unit.old).clock ≤ (M.state unit.new).clock }
         ensures tells { is_some (M.state unit.new).image ≡ is_some (M.state unit.old).image }
@@ -187,6 +190,15 @@ impl Keeper {
         ensures size_b { (D.state card_b.new).size ≡ (D.state card_b.old).size }
         ensures clock_a { (C.state card_a.old).clock ≤ (C.state card_a.new).clock }
         ensures clock_b { (D.state card_b.old).clock ≤ (D.state card_b.new).clock }
+        ensures unit_keeps { HasLeftMore (M.state unit.old) (M.state unit.new) }
+        ensures a_keeps { HasLeftMore (C.state card_a.old) (C.state card_a.new) }
+        ensures b_keeps { HasLeftMore (D.state card_b.old) (D.state card_b.new) }
+        ensures tells_a { is_some (C.state card_a.new).image ≡ is_some (C.state card_a.old).image }
+        ensures tells_b { is_some (D.state card_b.new).image ≡ is_some (D.state card_b.old).image }
+        ensures more_a { (C.state card_a.old).breakdowns ≤ (C.state card_a.new).breakdowns }
+        ensures more_b { (D.state card_b.old).breakdowns ≤ (D.state card_b.new).breakdowns }
+        ensures a_bare { self.old.cabin.cards.a.accepted ≡ None → card_a.new ≡ card_a.old }
+        ensures b_bare { self.old.cabin.cards.b.accepted ≡ None → card_b.new ≡ card_b.old }
         ensures marks { (marks.new.room ≡ marks.old.room) × (length marks.new.items ≤ length marks.old.items + 3) }
         ensures breaks { (breaks.new.room ≡ breaks.old.room) × (length breaks.new.items + most_tears self.new.cabin.cards ≤ length breaks.old.items + most_tears self.old.cabin.cards) }
         ensures a_broken { HasBroken (C.state card_a.old) (C.state card_a.new) (tears_of self.old.cabin.cards.a.accepted - tears_of self.new.cabin.cards.a.accepted) }

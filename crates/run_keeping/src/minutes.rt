@@ -6,7 +6,7 @@ ghost use Rattle.slot_machine.specs.Calls.{present_in};
 ghost use Rattle.unit_model.specs.declared.layout.TheConstants.{HIGHEST_ODOMETER};
 ghost use Rattle.unit_model.specs.Image.{IsUnit};
 ghost use Rattle.run_crew.specs.Cabin.{Stands};
-ghost use Rattle.run_keeping.specs.Keeping.{IsReady, CardReady, HasItsRow, HaveRows, AreEmptied, SessionsGoOn, tears_of, most_tears};
+ghost use Rattle.run_keeping.specs.Keeping.{IsReady, CardReady, HasItsRow, HasLeftMore, HaveRows, AreEmptied, SessionsGoOn, tears_of, most_tears};
 ghost use Rattle.run_keeping.specs.Minutes.{odometer_by, kept_of, AreDue, kept_after, AreKeptUpTo, Reach, IsReach};
 ghost use Rattle.run_keeping.specs.Decided.{BooksAll};
 ghost use Rattle.run_rule.specs.Between.{devices};
@@ -100,6 +100,15 @@ impl Keeper {
         ensures size_b { (D.state card_b.new).size ≡ (D.state card_b.old).size }
         ensures clock_a { (C.state card_a.old).clock ≤ (C.state card_a.new).clock }
         ensures clock_b { (D.state card_b.old).clock ≤ (D.state card_b.new).clock }
+        ensures unit_keeps { HasLeftMore (M.state unit.old) (M.state unit.new) }
+        ensures a_keeps { HasLeftMore (C.state card_a.old) (C.state card_a.new) }
+        ensures b_keeps { HasLeftMore (D.state card_b.old) (D.state card_b.new) }
+        ensures tells_a { is_some (C.state card_a.new).image ≡ is_some (C.state card_a.old).image }
+        ensures tells_b { is_some (D.state card_b.new).image ≡ is_some (D.state card_b.old).image }
+        ensures more_a { (C.state card_a.old).breakdowns ≤ (C.state card_a.new).breakdowns }
+        ensures more_b { (D.state card_b.old).breakdowns ≤ (D.state card_b.new).breakdowns }
+        ensures a_bare { self.old.cabin.cards.a.accepted ≡ None → card_a.new ≡ card_a.old }
+        ensures b_bare { self.old.cabin.cards.b.accepted ≡ None → card_b.new ≡ card_b.old }
         ensures marks { (marks.new.room ≡ marks.old.room) × (length marks.new.items ≤ length marks.old.items + 3 * length decided.now) }
         ensures breaks { (breaks.new.room ≡ breaks.old.room) × (length breaks.new.items + most_tears self.new.cabin.cards ≤ length breaks.old.items + most_tears self.old.cabin.cards) }
         ensures a_broken { HasBroken (C.state card_a.old) (C.state card_a.new) (tears_of self.old.cabin.cards.a.accepted - tears_of self.new.cabin.cards.a.accepted) }

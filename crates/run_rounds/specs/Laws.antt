@@ -32,8 +32,9 @@ use Rattle.run_recorded.specs.Beside.{HaveLeftMore}
 use Rattle.run_keeping.specs.declared.keeper.Keeper.{Keeper}
 use Rattle.run_keeping.specs.Minutes.{Round, Told, Done, Reach, Whole, Short, AreRounds, IsLast, IsReach, told_by, present_at}
 use Rattle.run_keeping.specs.Keeping.{tears_of}
-use Rattle.run_keeping.specs.Books.{AreBooked, carried_after, carried_broken}
-use Rattle.run_keeping.specs.Decided.{MayBookAll, carried_by, decided_minute}
+use Rattle.run_keeping.specs.Books.{AreBooked}
+use Rattle.run_keeping.specs.Decided.{MayBookAll, carried_by}
+pub use Rattle.run_keeping.specs.Decided.{IsCutSo, EndsAll}
 use Rattle.run_within.specs.Recorded.{Values, carried}
 use Rattle.run_within.specs.Within.{course_in, IsSparedSo, Within, CutWithin}
 use Rattle.run_rounds.specs.Rounds.{told_values, keeping_of, AreBack, HasBrokenDown, HaveBroken}
@@ -83,12 +84,6 @@ HasBrokenLast k m (Some round) first last =
 abbrev pub AreGone : (old new : Cards) → (first last : Device → ℕ) → Type 0
 AreGone old new first last = (card : Card) → is_some (session_of old card) ≡ true → session_of new card ≡ None → RoseBy 1 (first (device_of card)) (last (device_of card))
 
--- how the unit failed in a minute: it was not begun, or was; or it is kept, and a card was torn out
-abbrev pub IsCutSo : Found → (start : ℕ) → Keeper → Minute → Option Round → Carried → Travel → Devices → Type 0
-IsCutSo f start k m None w g e = (IsPowerless f w e × HasTravelled start w.book g e.unit)
-    ⊎ (IsPowerless f (carried_broken (decided_minute k m) w) e × HasTravelled start (broken (decided_minute k m) w.book) (stranded m.travelled g) e.unit)
-IsCutSo f start k m (Some round) w g e = IsPowerless f (carried_after (present_at k.cabin m.minute) (decided_minute k m) round w) e × HasTravelled start (kept (decided_minute k m) w.book) (travelled m.travelled g) e.unit
-
 -- OR THE UNIT FAILS in one, behind these: the power is about to be cut.
 abbrev pub TheKeepingFails : (d e : Devices) → Type 0
 TheKeepingFails d e = (o : Origin) (done : List TraceSecond) (s : TraceSecond) (all : List Minute) (t u : Told) (v : Values) → (w : InKeeping o done s all t v d) → KeepsSo o done s all t v d e w →
@@ -98,13 +93,6 @@ TheKeepingFails d e = (o : Origin) (done : List TraceSecond) (s : TraceSecond) (
     CutWithin o done s Keeping [] (Some s.speed) (told_values u v) e
 
 -- ---- by how far it came
-
--- WHAT IS LEFT of unit and cards by how far a keeping came, and what was travelled up to there
-abbrev pub EndsAll : Found → (start : ℕ) → Carried → Keeper → (failed : Bool) → Reach → Travel → (u : Told) → Devices → Type 0
-EndsAll f start w k false (Whole xs) g u e = AreBooked f (carried_by k xs w) u.keeper.cabin.cards u.marks.items e × HasTravelled start (carried_by k xs w).book (all_travelled (map (λ (x : Done). x.minute) xs) g) e.unit
-EndsAll f start w k false (Short xs m round) g u e = ⊥
-EndsAll f start w k true (Whole xs) g u e = ⊥
-EndsAll f start w k true (Short xs m round) g u e = IsCutSo f start k m round (carried_by k xs w) (all_travelled (map (λ (x : Done). x.minute) xs) g) e
 
 -- each card broke down as often as it was torn out
 pub record HaveBrokenOff (t u : Told) (d e : Devices) : Type 0 where

@@ -51,3 +51,23 @@ returns-clause-room g c = λ left offs insertions actions h.
     let dark : is_lit run.power ≡ false = sym c.is_lit.ensures ∙ c.if-is_lit.false in
     let has : has_power run.power run.next ≡ true = sym c.has_power.ensures ∙ c.if-not-has_power.false in
     room-awake run c.power_on.new.run c.args.outcome.now c.power_on.new.outcome c.power_on.ensures.next dark has c.in_ok-power_on.ensures.awake c.power_on.ensures.takes c.power_on.ensures.refused (1 + left) offs insertions actions h
+
+-- ---- what has changed
+
+pub returns-then-not-has_power-clause-lit : goal.returns-then-not-has_power-clause-lit
+returns-then-not-has_power-clause-lit g c = λ lit.
+    let away : has_power c.args.run.now.power c.args.run.now.next ≡ false = sym c.has_power.ensures ∙ c.if-not-has_power.true in
+    absurd (let bad : false ≡ true = sym (away-dark c.args.run.now.power c.args.run.now.next away) ∙ lit in cc)
+
+pub returns-then-is_lit-clause-lit : goal.returns-then-is_lit-clause-lit
+returns-then-is_lit-clause-lit g c = λ lit. (refl, c.end_minute.ensures.run, refl, refl, refl, refl)
+
+pub returns-clause-lit : goal.returns-clause-lit
+returns-clause-lit g c = λ lit.
+    let dark : is_lit c.args.run.now.power ≡ false = sym c.is_lit.ensures ∙ c.if-is_lit.false in
+    absurd (let bad : false ≡ true = sym dark ∙ lit in cc)
+
+pub returns-in_err-power_on-clause-lit : goal.returns-in_err-power_on-clause-lit
+returns-in_err-power_on-clause-lit g c = λ lit.
+    let dark : is_lit c.args.run.now.power ≡ false = sym c.is_lit.ensures ∙ c.if-is_lit.false in
+    absurd (let bad : false ≡ true = sym dark ∙ lit in cc)

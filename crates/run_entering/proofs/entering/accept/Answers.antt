@@ -1,4 +1,4 @@
-use Rattle.std.proofs.Common.{◌≡◌, ◌∙◌, ◌≤◌, ℕ, Bool, true, false, rules, Option, None, Ok, refl, ap, sym, subst, [], ◌∷◌}
+use Rattle.std.proofs.Common.{arith, inl, ◌≡◌, ◌∙◌, ◌≤◌, ℕ, Bool, true, false, rules, Option, None, Ok, refl, ap, sym, subst, [], ◌∷◌}
 use Rattle.std.specs.Prelude.{is_err, Result, Err}
 use Rattle.card_layout.specs.declared.files.Application.{Application}
 use Rattle.card_layout.specs.Application.{place_of_field}
@@ -14,8 +14,8 @@ use Rattle.run_told.specs.Told.{with_standing}
 use Rattle.run_told.proofs.Putting.{out-now}
 use Rattle.run_entering.specs.declared.waking.TheConstants.{UNTOLD}
 use Rattle.run_entering.specs.Told.{BooksJudged, BooksEntered}
-use Rattle.run_entering.proofs.Carried.{noted-carried}
-use Rattle.run_entering.proofs.Booked.{torn-carried, still-bare, woken-may}
+use Rattle.run_entering.proofs.Carried.{noted-carried, found-fallen}
+use Rattle.run_entering.proofs.Booked.{torn-carried, still-bare, woken-may, woken-untouched, woken-timed, woken-known}
 use Rattle.run_entering.proofs.Notes.{fault-noted}
 use Rattle.run_entering.proofs.Judged.{entered-judged, entered-unsized, entered-unread}
 use Rattle.run_entering.proofs.Seats.{unsized-ready}
@@ -38,7 +38,13 @@ returns-in_default-clause-entered g c =
       Unread,
       entered-unread e k c.args.noted.now c.args.outcome.now U X M (g.met.C.Chip.coherent c.wake.new.card) c.wake.ensures.leaves (g.met.C.Chip.coherent c.args.card.now) c.in_default.ensures.cause
           (is_err c.tear.result) c.tear.new.self c.tear.new.breaks W keeper c.tear.ensures.told notes,
-      λ f w m low. let may = woken-may e k (Err UNTOLD) U X M Z (g.met.M.Medium.coherent c.args.unit.now) (g.met.C.Chip.coherent c.args.card.now) c.wake.ensures.leaves c.wake.ensures.clock c.requires.bare f w m in torn-carried f (with_standing e.which Out w) e (record k { cabin = with_sizes_of e.which (Err UNTOLD) k.cabin }) c.tear.new.self U W M Z (is_err c.tear.result) (still-bare e k (Err UNTOLD) U X M Z (g.met.M.Medium.coherent c.args.unit.now) (g.met.C.Chip.coherent c.args.card.now) c.wake.ensures.leaves c.wake.ensures.clock c.requires.bare) may.found (g.met.M.Medium.coherent c.args.unit.now) may.powered keeper c.tear.ensures.journal c.tear.ensures.cause,
+      λ f w m low. let may = woken-may e k (Err UNTOLD) U X M Z (g.met.M.Medium.coherent c.args.unit.now) (g.met.C.Chip.coherent c.args.card.now) c.wake.ensures.leaves c.wake.ensures.clock c.requires.bare f w m in record {
+        taken = torn-carried f (with_standing e.which Out w) e (record k { cabin = with_sizes_of e.which (Err UNTOLD) k.cabin }) c.tear.new.self U W M Z (is_err c.tear.result) (still-bare e k (Err UNTOLD) U X M Z (g.met.M.Medium.coherent c.args.unit.now) (g.met.C.Chip.coherent c.args.card.now) c.wake.ensures.leaves c.wake.ensures.clock c.requires.bare) may.found (g.met.M.Medium.coherent c.args.unit.now) may.powered keeper c.tear.ensures.journal c.tear.ensures.cause;
+        found = found-fallen true f e (record k { cabin = with_sizes_of e.which (Err UNTOLD) k.cabin }) c.tear.new.self keeper may.found;
+        told = tt;
+        timed = λ valid. woken-timed e k (Err UNTOLD) U X M Z (g.met.M.Medium.coherent c.args.unit.now) (g.met.C.Chip.coherent c.args.card.now) c.wake.ensures.leaves c.wake.ensures.clock c.requires.bare f w m;
+        untouched = λ same. inl (woken-untouched e k (Err UNTOLD) U X M Z (g.met.M.Medium.coherent c.args.unit.now) (g.met.C.Chip.coherent c.args.card.now) c.wake.ensures.leaves c.wake.ensures.clock c.requires.bare f w m same);
+      },
     )
 
 pub returns-in_default-clause-stands : goal.returns-in_default-clause-stands
@@ -64,7 +70,7 @@ returns-in-Ok-sizes-clause-entered g c =
       Judged app ended.0,
       entered-judged e k c.args.noted.now c.args.outcome.now U X M (g.met.C.Chip.coherent c.wake.new.card) c.wake.ensures.leaves c.wake.ensures.clock c.in-Ok.ensures.cause app failed c.accept_by.new.keeper
           c.accept_by.new.noted c.accept_by.new.outcome W Y ended.0 j,
-      λ f w m low. (subst (λ (b : Cabin). BooksJudged ended.0 e failed (record k { cabin = b }) c.accept_by.new.keeper U W M Y Z) kept ended.2) f (with_standing e.which Out w) (woken-may e k (Ok app) U X M Z (g.met.M.Medium.coherent c.args.unit.now) (g.met.C.Chip.coherent c.args.card.now) c.wake.ensures.leaves c.wake.ensures.clock c.requires.bare f w m) (out-now e.which w) low,
+      λ f w m low. woken-known e k (Ok app) U X M Z (g.met.M.Medium.coherent c.args.unit.now) (g.met.C.Chip.coherent c.args.card.now) c.wake.ensures.leaves c.wake.ensures.clock c.requires.bare ended.0 failed c.accept_by.new.keeper W Y f w m ((subst (λ (b : Cabin). BooksJudged ended.0 e failed (record k { cabin = b }) c.accept_by.new.keeper U W M Y Z) kept ended.2) f (with_standing e.which Out w) (woken-may e k (Ok app) U X M Z (g.met.M.Medium.coherent c.args.unit.now) (g.met.C.Chip.coherent c.args.card.now) c.wake.ensures.leaves c.wake.ensures.clock c.requires.bare f w m) (out-now e.which w) low),
     )
 
 pub returns-in-Ok-sizes-clause-stands : goal.returns-in-Ok-sizes-clause-stands
@@ -91,7 +97,13 @@ returns-in-Err-clause-entered g c =
     let notes = subst (λ (b : Cabin). HasNoted IsOnUnit IsComing (notes_by (Unfit APPLICATION_FILE (place_of_field field)) e c.args.noted.now b) failed U W) kept c.refuse.ensures.notes in
     let r = subst (λ (b : Cabin). HasEntered e failed k (record k { cabin = b }) c.args.noted.now c.args.noted.now o c.refuse.new.outcome U W X M (Unsized field) × BooksEntered (Unsized field) e failed k (record k { cabin = b }) U W X M Z) (sym kept) (
       entered-unsized e k c.args.noted.now o U X M (g.met.C.Chip.coherent c.wake.new.card) c.wake.ensures.leaves c.in-Ok.ensures.cause field failed c.refuse.new.outcome W bad told notes,
-      λ f w m low. let may = woken-may e k (Err field) U X M Z (g.met.M.Medium.coherent c.args.unit.now) (g.met.C.Chip.coherent c.args.card.now) c.wake.ensures.leaves c.wake.ensures.clock c.requires.bare f w m in noted-carried e.which f (with_standing e.which Out w) (with_sizes_of e.which (Err field) k.cabin).cards U W M Z failed may.found (g.met.M.Medium.coherent c.args.unit.now) may.powered c.refuse.ensures.journal c.refuse.ensures.cause,
+      λ f w m low. let may = woken-may e k (Err field) U X M Z (g.met.M.Medium.coherent c.args.unit.now) (g.met.C.Chip.coherent c.args.card.now) c.wake.ensures.leaves c.wake.ensures.clock c.requires.bare f w m in record {
+        taken = noted-carried e.which f (with_standing e.which Out w) (with_sizes_of e.which (Err field) k.cabin).cards U W M Z failed may.found (g.met.M.Medium.coherent c.args.unit.now) may.powered c.refuse.ensures.journal c.refuse.ensures.cause;
+        found = may.found;
+        told = tt;
+        timed = λ valid. woken-timed e k (Err field) U X M Z (g.met.M.Medium.coherent c.args.unit.now) (g.met.C.Chip.coherent c.args.card.now) c.wake.ensures.leaves c.wake.ensures.clock c.requires.bare f w m;
+        untouched = λ same. inl (woken-untouched e k (Err field) U X M Z (g.met.M.Medium.coherent c.args.unit.now) (g.met.C.Chip.coherent c.args.card.now) c.wake.ensures.leaves c.wake.ensures.clock c.requires.bare f w m same);
+      },
     ) in
     (Unsized field, r.0, r.1)
 
@@ -103,3 +115,31 @@ returns-in-Err-clause-card g c =
     let kept = c.measure-2.ensures.kept ∙ ap (λ (s : Result Application ℕ). with_sizes_of c.args.entering.which s c.args.keeper.now.cabin) c.in-Err.is in
     subst (λ (b : Cabin). CardReady (known_of b.cards c.args.entering.which) (g.C.Chip.card c.wake.new.card) (g.C.Chip.state c.wake.new.card)) (sym kept)
     (unsized-ready c.args.entering.which c.args.keeper.now.cabin c.in-Err.field (g.C.Chip.card c.wake.new.card) (g.C.Chip.state c.wake.new.card) c.requires.bare)
+
+-- ---- the clocks
+
+pub returns-in_default-clause-clock : goal.returns-in_default-clause-clock
+returns-in_default-clause-clock g c = c.tear.ensures.journal.later
+
+pub returns-in-Err-clause-clock : goal.returns-in-Err-clause-clock
+returns-in-Err-clause-clock g c = c.refuse.ensures.journal.later
+
+pub returns-in_default-clause-clock_card : goal.returns-in_default-clause-clock_card
+returns-in_default-clause-clock_card g c = let same = c.wake.ensures.clock in omega (arith, same)
+
+pub returns-in-Ok-sizes-clause-clock_card : goal.returns-in-Ok-sizes-clause-clock_card
+returns-in-Ok-sizes-clause-clock_card g c = let same = c.wake.ensures.clock in let later = c.accept_by.ensures.clock_card in omega (arith, same, later)
+
+pub returns-in-Err-clause-clock_card : goal.returns-in-Err-clause-clock_card
+returns-in-Err-clause-clock_card g c = let same = c.wake.ensures.clock in omega (arith, same)
+
+-- ---- how often it broke down
+
+pub returns-in_default-clause-more : goal.returns-in_default-clause-more
+returns-in_default-clause-more g c = c.in_default.ensures.cause.breakdowns
+
+pub returns-in-Ok-sizes-clause-more : goal.returns-in-Ok-sizes-clause-more
+returns-in-Ok-sizes-clause-more g c = let first = c.in-Ok.ensures.cause.breakdowns in let next = c.accept_by.ensures.more in omega (arith, first, next)
+
+pub returns-in-Err-clause-more : goal.returns-in-Err-clause-more
+returns-in-Err-clause-more g c = c.in-Ok.ensures.cause.breakdowns

@@ -7,7 +7,7 @@ use Rattle.device_steps.specs.declared.entering.NotEntered.TheVariants.{UnitFail
 use Rattle.device_steps.specs.Entering.{IsEntering}
 use Rattle.run_entering.specs.Entering.{Fell, Unasked, Unfit, Ahead, taken_as}
 use Rattle.card_layout.proofs.Sizes.{largest_image}
-use Rattle.run_entering.proofs.Booked.{taken-carried, judged-powerless, fell-carried, refused-carried}
+use Rattle.run_entering.proofs.Booked.{taken-known, unasked-known, fell-known, unfit-known, ahead-known}
 use Rattle.run_entering.proofs.Notes.{fault-noted}
 use Rattle.run_entering.proofs.Judged.{judged-taken, judged-unasked, judged-fell, judged-unfit, judged-ahead, unfit-told, ahead-told, ahead-noted}
 use Rattle.run_entering.proofs.entering.accept_by.Goals as goal
@@ -28,7 +28,7 @@ returns-in-Ok-clause-ended g c =
       taken_as t.0 c.in-Ok.entered M.clock t.1,
       judged-taken c.args.app e k c.args.noted.now c.args.outcome.now U V X M c.in-Ok.entered enters c.enter.ensures.leaves.later (is_err c.take_in.result) c.take_in.new.keeper c.take_in.new.noted c.take_in.new.outcome
           (g.M.Medium.state c.take_in.new.unit) (g.C.Chip.state c.take_in.new.card) t.0 t.1 t.2 t.3,
-      λ f w m out low. taken-carried c.args.app e k U V X M Z (g.met.M.Medium.coherent c.args.unit.now) (g.met.M.Medium.coherent c.enter.new.unit) (g.met.C.Chip.coherent c.args.card.now) (g.met.C.Chip.coherent c.enter.new.card) c.requires.bare c.requires.sized (omega (arith, largest_image c.args.app c.requires.port.good, c.requires.port.size)) k.memory.registration long e.odometer.0 (omega (arith, c.requires.last)) (Ok c.in-Ok.entered) enters f w m out c.in-Ok.entered refl t.0 t.1 (is_err c.take_in.result) c.take_in.new.keeper (g.M.Medium.state c.take_in.new.unit) (g.C.Chip.state c.take_in.new.card) (enters.unit.cause refl).works (let later = t.3.later in omega (arith, later, low)) t.4,
+      λ f w m out low. taken-known c.args.app e k U V X M Z (g.met.M.Medium.coherent c.args.unit.now) (g.met.M.Medium.coherent c.enter.new.unit) (g.met.C.Chip.coherent c.args.card.now) (g.met.C.Chip.coherent c.enter.new.card) c.requires.bare c.requires.sized (omega (arith, largest_image c.args.app c.requires.port.good, c.requires.port.size)) k.memory.registration long e.odometer.0 (omega (arith, c.requires.last)) (Ok c.in-Ok.entered) enters f w m out c.in-Ok.entered refl t.0 t.1 (is_err c.take_in.result) c.take_in.new.keeper (g.M.Medium.state c.take_in.new.unit) (g.C.Chip.state c.take_in.new.card) (enters.unit.cause refl).works (let later = t.3.later in omega (arith, later, low)) c.take_in.ensures.most t.4,
     )
 
 pub returns-in-Err-UnitFailed-clause-ended : goal.returns-in-Err-UnitFailed-clause-ended
@@ -47,7 +47,7 @@ returns-in-Err-UnitFailed-clause-ended g c =
     (subst (λ (f : NotEntered). IsEntering c.args.app c.identity.result.registration e.odometer.0 e.at.second U V X M (Err f)) is c.in-Err-UnitFailed.ensures.enters) in (
       Unasked,
       judged-unasked c.args.app e k c.args.noted.now c.args.outcome.now U V X M enters,
-      λ f w m out low. judged-powerless c.args.app e k U V X M Z (g.met.M.Medium.coherent c.args.unit.now) (g.met.M.Medium.coherent c.enter.new.unit) (g.met.C.Chip.coherent c.args.card.now) (g.met.C.Chip.coherent c.enter.new.card) c.requires.bare c.requires.sized (omega (arith, largest_image c.args.app c.requires.port.good, c.requires.port.size)) k.memory.registration long e.odometer.0 (omega (arith, c.requires.last)) (Err UnitFailed) enters f w m out,
+      λ f w m out low. unasked-known c.args.app e k U V X M Z (g.met.M.Medium.coherent c.args.unit.now) (g.met.M.Medium.coherent c.enter.new.unit) (g.met.C.Chip.coherent c.args.card.now) (g.met.C.Chip.coherent c.enter.new.card) c.requires.bare c.requires.sized (omega (arith, largest_image c.args.app c.requires.port.good, c.requires.port.size)) k.memory.registration long e.odometer.0 (omega (arith, c.requires.last)) (Err UnitFailed) enters f w m out (λ never. never),
     )
 
 pub returns-in-Err-CardFailed-clause-ended : goal.returns-in-Err-CardFailed-clause-ended
@@ -67,7 +67,7 @@ returns-in-Err-CardFailed-clause-ended g c =
       Fell,
       judged-fell c.args.app e k c.args.noted.now c.args.outcome.now U V X M (is_err c.tear.result) c.tear.new.self c.tear.new.breaks (g.M.Medium.state c.tear.new.unit) c.requires.works enters c.tear.ensures.keeper c.tear.ensures.told
           (fault-noted e k c.tear.new.self c.tear.result c.tear.ensures.keeper c.tear.ensures.noted c.tear.ensures.moments),
-      λ f w m out low. fell-carried c.args.app e k U V X M Z (g.met.M.Medium.coherent c.args.unit.now) (g.met.M.Medium.coherent c.enter.new.unit) (g.met.C.Chip.coherent c.args.card.now) (g.met.C.Chip.coherent c.enter.new.card) c.requires.bare c.requires.sized (omega (arith, largest_image c.args.app c.requires.port.good, c.requires.port.size)) k.memory.registration long e.odometer.0 (omega (arith, c.requires.last)) (Err CardFailed) enters f w m out (is_err c.tear.result) c.tear.new.self (g.M.Medium.state c.tear.new.unit) (enters.unit.rests refl c.requires.ready.works).works c.tear.ensures.keeper c.tear.ensures.journal c.tear.ensures.cause,
+      λ f w m out low. fell-known c.args.app e k U V X M Z (g.met.M.Medium.coherent c.args.unit.now) (g.met.M.Medium.coherent c.enter.new.unit) (g.met.C.Chip.coherent c.args.card.now) (g.met.C.Chip.coherent c.enter.new.card) c.requires.bare c.requires.sized (omega (arith, largest_image c.args.app c.requires.port.good, c.requires.port.size)) k.memory.registration long e.odometer.0 (omega (arith, c.requires.last)) (Err CardFailed) enters f w m out (is_err c.tear.result) (g.M.Medium.state c.tear.new.unit) (enters.unit.rests refl c.requires.ready.works).works c.tear.ensures.journal c.tear.ensures.cause c.tear.new.self c.tear.ensures.keeper,
     )
 
 pub returns-in-Err-CardFailed-clause-stands : goal.returns-in-Err-CardFailed-clause-stands
@@ -92,7 +92,7 @@ returns-in-Err-NotValid-clause-ended g c =
     let told = unfit-told e c.args.outcome.now c.refuse.new.outcome _ fid _ place c.refuse.ensures.told (cc (c.in-Err-NotValid.fid-is)) (cc (c.in-Err-NotValid.place-is)) in (
       Unfit fid place,
       judged-unfit c.args.app e k c.args.noted.now c.args.outcome.now U V X M (is_err c.refuse.result) fid place c.refuse.new.outcome (g.M.Medium.state c.refuse.new.unit) enters told c.refuse.ensures.notes,
-      λ f w m out low. refused-carried c.args.app e k U V X M Z (g.met.M.Medium.coherent c.args.unit.now) (g.met.M.Medium.coherent c.enter.new.unit) (g.met.C.Chip.coherent c.args.card.now) (g.met.C.Chip.coherent c.enter.new.card) c.requires.bare c.requires.sized (omega (arith, largest_image c.args.app c.requires.port.good, c.requires.port.size)) k.memory.registration long e.odometer.0 (omega (arith, c.requires.last)) (Err (NotValid fid place)) enters f w m out (is_err c.refuse.result) (g.M.Medium.state c.refuse.new.unit) (enters.unit.rests refl c.requires.ready.works).works c.refuse.ensures.journal c.refuse.ensures.cause,
+      λ f w m out low. unfit-known c.args.app e k U V X M Z (g.met.M.Medium.coherent c.args.unit.now) (g.met.M.Medium.coherent c.enter.new.unit) (g.met.C.Chip.coherent c.args.card.now) (g.met.C.Chip.coherent c.enter.new.card) c.requires.bare c.requires.sized (omega (arith, largest_image c.args.app c.requires.port.good, c.requires.port.size)) k.memory.registration long e.odometer.0 (omega (arith, c.requires.last)) (Err (NotValid fid place)) enters f w m out (is_err c.refuse.result) (g.M.Medium.state c.refuse.new.unit) (enters.unit.rests refl c.requires.ready.works).works c.refuse.ensures.journal c.refuse.ensures.cause fid place (λ never. never),
     )
 
 pub returns-in-Err-TimeOverlap-clause-ended : goal.returns-in-Err-TimeOverlap-clause-ended
@@ -115,5 +115,54 @@ returns-in-Err-TimeOverlap-clause-ended g c =
     let notes = ahead-noted e k.cabin _ stored c.defer.ensures.notes (cc (c.in-Err-TimeOverlap.stored-is)) in (
       Ahead stored,
       judged-ahead c.args.app e k c.args.noted.now c.args.outcome.now U V X M (is_err c.defer.result) stored now c.defer.new.outcome (g.M.Medium.state c.defer.new.unit) enters told notes,
-      λ f w m out low. refused-carried c.args.app e k U V X M Z (g.met.M.Medium.coherent c.args.unit.now) (g.met.M.Medium.coherent c.enter.new.unit) (g.met.C.Chip.coherent c.args.card.now) (g.met.C.Chip.coherent c.enter.new.card) c.requires.bare c.requires.sized (omega (arith, largest_image c.args.app c.requires.port.good, c.requires.port.size)) k.memory.registration long e.odometer.0 (omega (arith, c.requires.last)) (Err (TimeOverlap stored now)) enters f w m out (is_err c.defer.result) (g.M.Medium.state c.defer.new.unit) (enters.unit.rests refl c.requires.ready.works).works c.defer.ensures.journal c.defer.ensures.cause,
+      λ f w m out low. ahead-known c.args.app e k U V X M Z (g.met.M.Medium.coherent c.args.unit.now) (g.met.M.Medium.coherent c.enter.new.unit) (g.met.C.Chip.coherent c.args.card.now) (g.met.C.Chip.coherent c.enter.new.card) c.requires.bare c.requires.sized (omega (arith, largest_image c.args.app c.requires.port.good, c.requires.port.size)) k.memory.registration long e.odometer.0 (omega (arith, c.requires.last)) (Err (TimeOverlap stored now)) enters f w m out (is_err c.defer.result) (g.M.Medium.state c.defer.new.unit) (enters.unit.rests refl c.requires.ready.works).works c.defer.ensures.journal c.defer.ensures.cause stored (λ never. never),
     )
+
+-- ---- the clocks
+
+pub returns-in-Ok-clause-clock : goal.returns-in-Ok-clause-clock
+returns-in-Ok-clause-clock g c = let same = c.in-Ok.ensures.enters.unit.clock in let later = c.take_in.ensures.ended.3.notes.moments.later in omega (arith, same, later)
+
+pub returns-in-Err-UnitFailed-clause-clock : goal.returns-in-Err-UnitFailed-clause-clock
+returns-in-Err-UnitFailed-clause-clock g c = let same = c.in-Err-UnitFailed.ensures.enters.unit.clock in omega (arith, same)
+
+pub returns-in-Err-CardFailed-clause-clock : goal.returns-in-Err-CardFailed-clause-clock
+returns-in-Err-CardFailed-clause-clock g c = let same = c.in-Err-CardFailed.ensures.enters.unit.clock in let later = c.tear.ensures.journal.later in omega (arith, same, later)
+
+pub returns-in-Err-NotValid-clause-clock : goal.returns-in-Err-NotValid-clause-clock
+returns-in-Err-NotValid-clause-clock g c = let same = c.in-Err-NotValid.ensures.enters.unit.clock in let later = c.refuse.ensures.journal.later in omega (arith, same, later)
+
+pub returns-in-Err-TimeOverlap-clause-clock : goal.returns-in-Err-TimeOverlap-clause-clock
+returns-in-Err-TimeOverlap-clause-clock g c = let same = c.in-Err-TimeOverlap.ensures.enters.unit.clock in let later = c.defer.ensures.journal.later in omega (arith, same, later)
+
+pub returns-in-Ok-clause-clock_card : goal.returns-in-Ok-clause-clock_card
+returns-in-Ok-clause-clock_card g c = let first = c.enter.ensures.leaves.later in let next = c.take_in.ensures.ended.3.later in omega (arith, first, next)
+
+pub returns-in-Err-UnitFailed-clause-clock_card : goal.returns-in-Err-UnitFailed-clause-clock_card
+returns-in-Err-UnitFailed-clause-clock_card g c = c.enter.ensures.leaves.later
+
+pub returns-in-Err-CardFailed-clause-clock_card : goal.returns-in-Err-CardFailed-clause-clock_card
+returns-in-Err-CardFailed-clause-clock_card g c = c.enter.ensures.leaves.later
+
+pub returns-in-Err-NotValid-clause-clock_card : goal.returns-in-Err-NotValid-clause-clock_card
+returns-in-Err-NotValid-clause-clock_card g c = c.enter.ensures.leaves.later
+
+pub returns-in-Err-TimeOverlap-clause-clock_card : goal.returns-in-Err-TimeOverlap-clause-clock_card
+returns-in-Err-TimeOverlap-clause-clock_card g c = c.enter.ensures.leaves.later
+
+-- ---- how often it broke down
+
+pub returns-in-Ok-clause-more : goal.returns-in-Ok-clause-more
+returns-in-Ok-clause-more g c = let first = c.in-Ok.ensures.enters.cause.breakdowns in let next = c.take_in.ensures.more in omega (arith, first, next)
+
+pub returns-in-Err-UnitFailed-clause-more : goal.returns-in-Err-UnitFailed-clause-more
+returns-in-Err-UnitFailed-clause-more g c = c.in-Err-UnitFailed.ensures.enters.cause.breakdowns
+
+pub returns-in-Err-CardFailed-clause-more : goal.returns-in-Err-CardFailed-clause-more
+returns-in-Err-CardFailed-clause-more g c = c.in-Err-CardFailed.ensures.enters.cause.breakdowns
+
+pub returns-in-Err-NotValid-clause-more : goal.returns-in-Err-NotValid-clause-more
+returns-in-Err-NotValid-clause-more g c = c.in-Err-NotValid.ensures.enters.cause.breakdowns
+
+pub returns-in-Err-TimeOverlap-clause-more : goal.returns-in-Err-TimeOverlap-clause-more
+returns-in-Err-TimeOverlap-clause-more g c = c.in-Err-TimeOverlap.ensures.enters.cause.breakdowns

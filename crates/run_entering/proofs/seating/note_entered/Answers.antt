@@ -1,4 +1,4 @@
-use Rattle.std.proofs.Common.{◌≡◌, Bool, true, false, rules, refl, sym, subst}
+use Rattle.std.proofs.Common.{◌≡◌, arith, Bool, true, false, rules, refl, sym, subst}
 use Rattle.std.specs.Prelude.{is_err}
 use Rattle.run_told.specs.Told.{arranged}
 use Rattle.run_entering.specs.Told.{BooksNotes}
@@ -82,4 +82,28 @@ pub returns-clause-card : goal.returns-clause-card
 returns-clause-card g c = elim c.if-entering-gt0.branch [
   | then-entering-gt0+in_ok-note_moving w ↦ rw (w.keeper-is, w.card-is) w.in_ok-note_moving.ensures.card
   | else-entering-gt0 w ↦ rw (w.keeper-is, w.card-is) c.requires.card
+]
+
+pub returns-then-session-eq0-clause-timed : goal.returns-then-session-eq0-clause-timed
+returns-then-session-eq0-clause-timed g c = elim c.if-entering-gt0.branch [
+  | then-entering-gt0+in_ok-note_moving w ↦ rw w.card-is w.in_ok-note_moving.ensures.timed
+  | else-entering-gt0 w ↦ rw w.card-is (λ f wc a may timed. timed)
+]
+
+pub returns-clause-timed : goal.returns-clause-timed
+returns-clause-timed g c = elim c.if-entering-gt0.branch [
+  | then-entering-gt0+in_ok-note_moving w ↦ rw w.card-is w.in_ok-note_moving.ensures.timed
+  | else-entering-gt0 w ↦ rw w.card-is (λ f wc a may timed. timed)
+]
+
+pub returns-then-session-eq0-clause-more : goal.returns-then-session-eq0-clause-more
+returns-then-session-eq0-clause-more g c = elim c.if-entering-gt0.branch [
+  | then-entering-gt0+in_ok-note_moving w ↦ rw w.card-is w.in_ok-note_moving.ensures.more
+  | else-entering-gt0 w ↦ rw w.card-is (omega arith)
+]
+
+pub returns-clause-more : goal.returns-clause-more
+returns-clause-more g c = elim c.if-entering-gt0.branch [
+  | then-entering-gt0+in_ok-note_moving w ↦ rw w.card-is w.in_ok-note_moving.ensures.more
+  | else-entering-gt0 w ↦ rw w.card-is (omega arith)
 ]

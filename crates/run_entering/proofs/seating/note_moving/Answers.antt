@@ -56,3 +56,25 @@ returns-in-Err-clause-noted g c =
           (fault-noted e k c.tear.new.self c.tear.result c.tear.ensures.keeper c.tear.ensures.noted c.tear.ensures.moments),
       λ f w a m. booked.moved-torn f w c.args.app a e k (g.M.Medium.state c.args.unit.now) (g.M.Medium.state c.note_driving.new.unit) (g.C.Chip.state c.args.card.now) (g.D.Chip.state c.args.others.now) m (g.met.M.Medium.coherent c.args.unit.now) c.note_driving.ensures.journal c.in_ok-note_driving.ensures.cause (g.met.M.Medium.coherent c.note_driving.new.unit) (g.met.C.Chip.coherent c.args.card.now) (g.C.Chip.state c.note_event_on.new.card) (g.met.C.Chip.coherent c.note_event_on.new.card) c.on_card-event.result c.note_event_on.ensures.moments (is_err c.tear.result) c.tear.new.self (g.M.Medium.state c.tear.new.unit) c.tear.ensures.keeper c.tear.ensures.journal c.tear.ensures.cause,
     )
+
+-- ---- when the card was last used
+
+pub returns-in_err-note_driving-clause-timed : goal.returns-in_err-note_driving-clause-timed
+returns-in_err-note_driving-clause-timed g c = λ f w a m timed. timed
+
+pub returns-in-Ok-clause-timed : goal.returns-in-Ok-clause-timed
+returns-in-Ok-clause-timed g c = λ f w a m. booked.moved-timed f w c.args.app a c.args.entering c.args.keeper.now (g.M.Medium.state c.args.unit.now) (g.M.Medium.state c.note_driving.new.unit) (g.C.Chip.state c.args.card.now) (g.D.Chip.state c.args.others.now) m (g.met.M.Medium.coherent c.args.unit.now) c.note_driving.ensures.journal c.in_ok-note_driving.ensures.cause (g.met.M.Medium.coherent c.note_driving.new.unit) (g.met.C.Chip.coherent c.args.card.now) (g.C.Chip.state c.note_event_on.new.card) (g.met.C.Chip.coherent c.note_event_on.new.card) c.on_card-event.result c.note_event_on.ensures.moments
+
+pub returns-in-Err-clause-timed : goal.returns-in-Err-clause-timed
+returns-in-Err-clause-timed g c = λ f w a m. booked.moved-timed f w c.args.app a c.args.entering c.args.keeper.now (g.M.Medium.state c.args.unit.now) (g.M.Medium.state c.note_driving.new.unit) (g.C.Chip.state c.args.card.now) (g.D.Chip.state c.args.others.now) m (g.met.M.Medium.coherent c.args.unit.now) c.note_driving.ensures.journal c.in_ok-note_driving.ensures.cause (g.met.M.Medium.coherent c.note_driving.new.unit) (g.met.C.Chip.coherent c.args.card.now) (g.C.Chip.state c.note_event_on.new.card) (g.met.C.Chip.coherent c.note_event_on.new.card) c.on_card-event.result c.note_event_on.ensures.moments
+
+-- ---- how often it broke down
+
+pub returns-in_err-note_driving-clause-more : goal.returns-in_err-note_driving-clause-more
+returns-in_err-note_driving-clause-more g c = omega arith
+
+pub returns-in-Ok-clause-more : goal.returns-in-Ok-clause-more
+returns-in-Ok-clause-more g c = c.in-Ok.ensures.cause.breakdowns
+
+pub returns-in-Err-clause-more : goal.returns-in-Err-clause-more
+returns-in-Err-clause-more g c = c.in-Err.ensures.cause.breakdowns

@@ -9,8 +9,8 @@ use Rattle.run_keeping.specs.Keeping.{HasItsRow}
 use Rattle.run_keeping.proofs.Units.{agrees-noted, row-noted}
 use Rattle.run_told.specs.Told.{arranged}
 use Rattle.run_entering.specs.Entering.{insertion_of, seated}
-use Rattle.run_entering.specs.Told.{IsCarriedOn, carried_row}
-use Rattle.run_entering.proofs.Carried.{seat-carried, noted-carried}
+use Rattle.run_entering.specs.Told.{IsCarriedOn, with_brought, carried_row}
+use Rattle.run_entering.proofs.Carried.{brought-powered, seat-carried, noted-carried}
 use Rattle.run_entering.specs.Noted.{IsOnUnit, IsComing}
 use Rattle.run_entering.specs.Entered.{IsSeated}
 use Rattle.run_entering.proofs.Notes.{not_cut, notes-then, insertion-noted, row-noted-so}
@@ -85,4 +85,5 @@ returns-in_err-entry-clause-booked g c = λ f w m.
     let Z = g.D.Chip.state c.args.others.now in
     let failed : true ≡ is_err c.from_residual.result = search rules in
     subst (λ (b : Bool). IsCarriedOn b f (carried_row b c.args.session e k.journal.kept w) k.cabin.cards (arranged e.which V X Z)) failed
-    (noted-carried e.which f w k.cabin.cards U V X Z true m.found (g.met.M.Medium.coherent c.args.unit.now) m.powered c.note_insertion.ensures.journal c.in_err-entry.ensures.cause)
+    (noted-carried e.which f (with_brought e.which k.journal.kept w) k.cabin.cards U V X Z true m.found (g.met.M.Medium.coherent c.args.unit.now)
+    (brought-powered f w k.cabin.cards e.which U X Z m.found e.at.second c.args.session.minute m.put.entered m.late m.powered k.journal.kept) c.note_insertion.ensures.journal c.in_err-entry.ensures.cause)

@@ -1,11 +1,11 @@
-use Rattle.std.proofs.Common.{◌≡◌, ◌≤◌, ℕ, Bool, true, false, rules, Option, refl, sym, subst}
+use Rattle.std.proofs.Common.{◌≡◌, arith, ◌≤◌, ℕ, Bool, true, false, rules, Option, refl, sym, subst}
 use Rattle.std.specs.Prelude.{is_err}
 use Rattle.log_model.specs.Causes.{device_of}
 use Rattle.run_entering.specs.Entering.{and_marks, last_of, taken_as}
 use Rattle.run_entering.specs.Entered.{IsEntry, IsTaken}
 use Rattle.run_told.specs.Told.{arranged}
 use Rattle.run_entering.specs.Told.{BooksTaken}
-use Rattle.run_entering.proofs.Carried.{taken-row, taken-notes}
+use Rattle.run_entering.proofs.Carried.{taken-row, seat-found, taken-notes}
 use Rattle.run_entering.proofs.Accepted.{taken-cut, taken-on}
 use Rattle.run_entering.proofs.Seats.{if-any, seated-ready, seated-minute}
 use Rattle.run_entering.proofs.seating.take_in.Goals as goal
@@ -25,8 +25,17 @@ returns-in_err-seat-clause-ended g c =
     let t = taken-cut c.args.app e entered X.clock k c.args.noted.now o c.tell_replayed.new.marks c.find.new.finds marked c.find.ensures.told c.seat.new.keeper c.seat.new.noted U V X s.0 s.1 in
     let failed : true ≡ is_err c.from_residual.result = search rules in
     subst (λ (b : Bool). (fell : Bool) × (entry : Option ℕ) × IsEntry entry b U.image
-    × IsTaken c.args.app e b k c.seat.new.keeper c.args.noted.now c.seat.new.noted o (record o { marks = c.tell_replayed.new.marks; finds = c.find.new.finds }) U V X X (taken_as fell entered X.clock entry) × BooksTaken entered (taken_as fell entered X.clock entry) e b k c.seat.new.keeper U V X X Z) failed
-    (false, s.0, t.0, t.1, λ f w m. taken-row entered X.clock e k.journal.kept f w c.seat.new.keeper.cabin.cards (arranged e.which V X Z) s.0 (c.in_err-seat.ensures.booked f w m))
+    × IsTaken c.args.app e b k c.seat.new.keeper c.args.noted.now c.seat.new.noted o (record o { marks = c.tell_replayed.new.marks; finds = c.find.new.finds }) U V X X (taken_as fell entered X.clock entry) × BooksTaken entered (taken_as fell entered X.clock entry) e b k c.seat.new.keeper U V X X Z) failed (
+      false,
+      s.0,
+      t.0,
+      t.1,
+      λ f w m. (
+        taken-row entered X.clock e k.journal.kept f w c.seat.new.keeper.cabin.cards (arranged e.which V X Z) s.0 (c.in_err-seat.ensures.booked f w m),
+        seat-found entered.look entered.session e true k c.seat.new.keeper c.args.noted.now c.seat.new.noted U.image s.0 s.1.by f m.named m.found,
+        λ timed. timed,
+      ),
+    )
 
 pub returns-clause-ended : goal.returns-clause-ended
 returns-clause-ended g c =
@@ -47,7 +56,7 @@ returns-clause-ended g c =
       t.0,
       t.1,
       taken-notes c.args.app e entered X.clock k c.args.noted.now m.0 (is_err c.note_entered.result) c.seat.new.keeper c.note_entered.new.keeper c.seat.new.noted U (g.M.Medium.state c.seat.new.unit) (g.M.Medium.state c.note_entered.new.unit)
-          X (g.C.Chip.state c.note_entered.new.card) Z s.0 s.1.by c.requires.session c.in_ok-seat.ensures.booked c.in_ok-seat.ensures.value m.2,
+          X (g.C.Chip.state c.note_entered.new.card) Z m.1.keeper s.0 s.1.by c.requires.session c.in_ok-seat.ensures.booked c.in_ok-seat.ensures.value m.2 c.note_entered.ensures.timed,
     )
 
 -- ---- what is ready behind it
@@ -70,3 +79,15 @@ returns-clause-stands g c = λ from le s.
     let t = c.in_ok-seat.ensures.seated in
     let same = seated-minute c.args.entered.look c.args.entered.session c.args.entering false c.args.keeper.now c.seat.new.keeper c.args.noted.now c.seat.new.noted (g.M.Medium.state c.args.unit.now).image t.0 t.1.by in
     c.note_entered.ensures.stands from (subst (λ (m : ℕ). m ≤ from) (sym same) le) (c.in_ok-seat.ensures.stands from le s)
+
+pub returns-in_err-seat-clause-more : goal.returns-in_err-seat-clause-more
+returns-in_err-seat-clause-more g c = omega arith
+
+pub returns-clause-more : goal.returns-clause-more
+returns-clause-more g c = c.note_entered.ensures.more
+
+pub returns-in_err-seat-clause-most : goal.returns-in_err-seat-clause-most
+returns-in_err-seat-clause-most g c = c.tell_replayed.ensures.most
+
+pub returns-clause-most : goal.returns-clause-most
+returns-clause-most g c = c.tell_replayed.ensures.most

@@ -108,3 +108,15 @@ returns-clause-stands g c = λ from leaving le h.
     let now : after.session.minute ≡ m = last.0 in
     subst (λ (q : Cards). Stands (m + 1) leaving (record { slots = k.cabin.slots; cards = q })) (sym cards)
     (kept-stands from m c.args.which c.in-Some.accepted after k.cabin leaving le (sym c.in-Some.ensures.taken) c.keep_on_card.ensures.same.0 (omega (arith, now)) h)
+
+-- ---- a card without a session is as it was
+
+pub returns-then-is_err-clause-bare : goal.returns-then-is_err-clause-bare
+returns-then-is_err-clause-bare g c = λ none.
+    let taken : Some c.in-Some.accepted ≡ session_of c.args.self.now.cabin.cards c.args.which = c.in-Some.ensures.taken in
+    absurd (cc)
+
+pub returns-clause-bare : goal.returns-clause-bare
+returns-clause-bare g c = λ none.
+    let taken : Some c.in-Some.accepted ≡ session_of c.args.self.now.cabin.cards c.args.which = c.in-Some.ensures.taken in
+    absurd (cc)

@@ -7,6 +7,7 @@ use Rattle.run_keeping.specs.declared.keeper.Keeper.{Keeper}
 use Rattle.run_keeping.specs.Keeping.{HasItsRow, entry_in}
 use Rattle.run_keeping.specs.Owing.{BooksOwed}
 use Rattle.run_keeping.proofs.Sessions.{some-goes}
+use Rattle.run_keeping.proofs.Units.{left-then}
 use Rattle.run_keeping.proofs.MinuteBegun.{put-at, told_with, cut-first, cut-second, kept-or-cut}
 use Rattle.run_keeping.proofs.keeper.Keeper.commit.Goals as goal
 
@@ -26,7 +27,7 @@ returns-in_err-owe_to-clause-booked g c = λ says.
     let Y = g.D.Chip.state c.args.card_b.now in
     subst (λ (b : Bool). BooksOwed c.args.present c.args.minute.now b (told_with c.args.self.now c.args.marks.now) (told_with c.owe_to.new.self c.args.marks.now) (devices U X Y) (devices U1 X Y)) failed
     (cut-first c.args.minute.now c.args.present says c.requires.apart (told_with c.args.self.now c.args.marks.now) (told_with c.owe_to.new.self c.args.marks.now) U U1 X Y
-    (put-at c.args.present.driver c.kept_in-driver.result.entry (entry_in c.args.minute.now Driver) true c.args.self.now.cabin.cards c.args.self.now.cabin.cards U U1 X Y (ap (λ (k : Kept). k.entry) c.kept_in-driver.ensures) refl c.in_err-owe_to.ensures.booked))
+    (put-at c.args.present.driver c.kept_in-driver.result.entry (entry_in c.args.minute.now Driver) true c.args.self.now.cabin.cards c.args.self.now.cabin.cards U U1 X Y (ap (λ (k : Kept). k.entry) c.kept_in-driver.ensures) refl c.in_err-owe_to.ensures.booked) c.in_err-owe_to.ensures.travelled)
 
 pub returns-in_err-owe_to-2-clause-booked : goal.returns-in_err-owe_to-2-clause-booked
 returns-in_err-owe_to-2-clause-booked g c = λ says.
@@ -38,9 +39,9 @@ returns-in_err-owe_to-2-clause-booked g c = λ says.
     let Y = g.D.Chip.state c.args.card_b.now in
     subst (λ (b : Bool). BooksOwed c.args.present c.args.minute.now b (told_with c.args.self.now c.args.marks.now) (told_with c.owe_to-2.new.self c.args.marks.now) (devices U X Y) (devices U2 X Y)) failed
     (cut-second c.args.minute.now c.args.present says c.requires.apart (told_with c.args.self.now c.args.marks.now) (told_with c.owe_to-2.new.self c.args.marks.now) U U1 X Y
-    (put-at c.args.present.driver c.kept_in-driver.result.entry (entry_in c.args.minute.now Driver) false c.args.self.now.cabin.cards c.args.self.now.cabin.cards U U1 X Y (ap (λ (k : Kept). k.entry) c.kept_in-driver.ensures) refl c.in_ok-owe_to.ensures.booked) U2
+    (put-at c.args.present.driver c.kept_in-driver.result.entry (entry_in c.args.minute.now Driver) false c.args.self.now.cabin.cards c.args.self.now.cabin.cards U U1 X Y (ap (λ (k : Kept). k.entry) c.kept_in-driver.ensures) refl c.in_ok-owe_to.ensures.booked) c.in_ok-owe_to.ensures.travelled U2
     (put-at c.args.present.codriver c.kept_in-codriver.result.entry (entry_in c.args.minute.now CoDriver) true c.owe_to.new.self.cabin.cards c.args.self.now.cabin.cards U1 U2 X Y (ap (λ (k : Kept). k.entry) c.kept_in-codriver.ensures)
-    (ap (λ (k : Keeper). k.cabin.cards) {y = c.args.self.now} c.in_ok-owe_to.ensures.same) c.in_err-owe_to-2.ensures.booked))
+    (ap (λ (k : Keeper). k.cabin.cards) {y = c.args.self.now} c.in_ok-owe_to.ensures.same) c.in_err-owe_to-2.ensures.booked) c.in_err-owe_to-2.ensures.travelled)
 
 -- ---- or as it kept the minute
 
@@ -56,10 +57,10 @@ returns-in_err-commit-clause-booked g c = λ says.
     let e = c.in_err-commit.ensures in
     subst (λ (b : Bool). BooksOwed c.args.present c.args.minute.now b (told_with c.args.self.now c.args.marks.now) (told_with (record c.owe_to-2.new.self { journal = c.commit.new.journal }) c.args.marks.now) (devices U X Y) (devices V X Y)) failed
     (kept-or-cut c.args.minute.now c.args.present says c.requires.apart (told_with c.args.self.now c.args.marks.now) (told_with (record c.owe_to-2.new.self { journal = c.commit.new.journal }) c.args.marks.now) U U1 X Y
-    (put-at c.args.present.driver c.kept_in-driver.result.entry (entry_in c.args.minute.now Driver) false c.args.self.now.cabin.cards c.args.self.now.cabin.cards U U1 X Y (ap (λ (k : Kept). k.entry) c.kept_in-driver.ensures) refl c.in_ok-owe_to.ensures.booked) U2
+    (put-at c.args.present.driver c.kept_in-driver.result.entry (entry_in c.args.minute.now Driver) false c.args.self.now.cabin.cards c.args.self.now.cabin.cards U U1 X Y (ap (λ (k : Kept). k.entry) c.kept_in-driver.ensures) refl c.in_ok-owe_to.ensures.booked) c.in_ok-owe_to.ensures.travelled U2
     (put-at c.args.present.codriver c.kept_in-codriver.result.entry (entry_in c.args.minute.now CoDriver) false c.owe_to.new.self.cabin.cards c.args.self.now.cabin.cards U1 U2 X Y (ap (λ (k : Kept). k.entry) c.kept_in-codriver.ensures)
-    (ap (λ (k : Keeper). k.cabin.cards) {y = c.args.self.now} c.in_ok-owe_to.ensures.same) c.in_ok-owe_to-2.ensures.booked) V true
-    (g.met.M.Medium.coherent c.owe_to-2.new.unit) (g.met.C.Chip.coherent c.args.card_a.now) (g.met.D.Chip.coherent c.args.card_b.now) e.tells e.cause e.holds e.first e.second e.views
+    (ap (λ (k : Keeper). k.cabin.cards) {y = c.args.self.now} c.in_ok-owe_to.ensures.same) c.in_ok-owe_to-2.ensures.booked) c.in_ok-owe_to-2.ensures.travelled V true
+    (g.met.M.Medium.coherent c.owe_to-2.new.unit) (g.met.C.Chip.coherent c.args.card_a.now) (g.met.D.Chip.coherent c.args.card_b.now) e.tells e.cause e.holds e.first e.second e.views e.travelled
     (ap (λ (k : Keeper). k.cabin.cards) (c.in_ok-owe_to-2.ensures.same ∙ c.in_ok-owe_to.ensures.same)))
 
 -- ---- or it has it
@@ -74,8 +75,28 @@ returns-clause-booked g c = λ says.
     let Y = g.D.Chip.state c.args.card_b.now in
     let e = c.in_ok-commit.ensures in
     kept-or-cut c.args.minute.now c.args.present says c.requires.apart (told_with c.args.self.now c.args.marks.now) (told_with (record c.owe_to-2.new.self { journal = c.commit.new.journal }) c.add.new.self) U U1 X Y
-    (put-at c.args.present.driver c.kept_in-driver.result.entry (entry_in c.args.minute.now Driver) false c.args.self.now.cabin.cards c.args.self.now.cabin.cards U U1 X Y (ap (λ (k : Kept). k.entry) c.kept_in-driver.ensures) refl c.in_ok-owe_to.ensures.booked) U2
+    (put-at c.args.present.driver c.kept_in-driver.result.entry (entry_in c.args.minute.now Driver) false c.args.self.now.cabin.cards c.args.self.now.cabin.cards U U1 X Y (ap (λ (k : Kept). k.entry) c.kept_in-driver.ensures) refl c.in_ok-owe_to.ensures.booked) c.in_ok-owe_to.ensures.travelled U2
     (put-at c.args.present.codriver c.kept_in-codriver.result.entry (entry_in c.args.minute.now CoDriver) false c.owe_to.new.self.cabin.cards c.args.self.now.cabin.cards U1 U2 X Y (ap (λ (k : Kept). k.entry) c.kept_in-codriver.ensures)
-    (ap (λ (k : Keeper). k.cabin.cards) {y = c.args.self.now} c.in_ok-owe_to.ensures.same) c.in_ok-owe_to-2.ensures.booked) V false
-    (g.met.M.Medium.coherent c.owe_to-2.new.unit) (g.met.C.Chip.coherent c.args.card_a.now) (g.met.D.Chip.coherent c.args.card_b.now) e.tells e.cause e.holds e.first e.second e.views
+    (ap (λ (k : Keeper). k.cabin.cards) {y = c.args.self.now} c.in_ok-owe_to.ensures.same) c.in_ok-owe_to-2.ensures.booked) c.in_ok-owe_to-2.ensures.travelled V false
+    (g.met.M.Medium.coherent c.owe_to-2.new.unit) (g.met.C.Chip.coherent c.args.card_a.now) (g.met.D.Chip.coherent c.args.card_b.now) e.tells e.cause e.holds e.first e.second e.views e.travelled
     (ap (λ (k : Keeper). k.cabin.cards) (c.in_ok-owe_to-2.ensures.same ∙ c.in_ok-owe_to.ensures.same))
+
+-- ---- what might be left of the unit might be left still
+
+pub returns-in_err-owe_to-2-clause-unit_keeps : goal.returns-in_err-owe_to-2-clause-unit_keeps
+returns-in_err-owe_to-2-clause-unit_keeps g c =
+    left-then (g.M.Medium.state c.args.unit.now) (g.M.Medium.state c.owe_to.new.unit) (g.M.Medium.state c.owe_to-2.new.unit) c.in_ok-owe_to.ensures.unit_keeps c.in_ok-owe_to.ensures.clock c.in_err-owe_to-2.ensures.unit_keeps
+
+pub returns-in_err-commit-clause-unit_keeps : goal.returns-in_err-commit-clause-unit_keeps
+returns-in_err-commit-clause-unit_keeps g c =
+    let U1 = g.M.Medium.state c.owe_to.new.unit in
+    let U2 = g.M.Medium.state c.owe_to-2.new.unit in
+    let V = g.M.Medium.state c.commit.new.unit in
+    left-then (g.M.Medium.state c.args.unit.now) U1 V c.in_ok-owe_to.ensures.unit_keeps c.in_ok-owe_to.ensures.clock (left-then U1 U2 V c.in_ok-owe_to-2.ensures.unit_keeps c.in_ok-owe_to-2.ensures.clock c.in_err-commit.ensures.keeps)
+
+pub returns-clause-unit_keeps : goal.returns-clause-unit_keeps
+returns-clause-unit_keeps g c =
+    let U1 = g.M.Medium.state c.owe_to.new.unit in
+    let U2 = g.M.Medium.state c.owe_to-2.new.unit in
+    let V = g.M.Medium.state c.commit.new.unit in
+    left-then (g.M.Medium.state c.args.unit.now) U1 V c.in_ok-owe_to.ensures.unit_keeps c.in_ok-owe_to.ensures.clock (left-then U1 U2 V c.in_ok-owe_to-2.ensures.unit_keeps c.in_ok-owe_to-2.ensures.clock c.in_ok-commit.ensures.keeps)

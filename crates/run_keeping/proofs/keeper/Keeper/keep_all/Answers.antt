@@ -16,7 +16,8 @@ use Rattle.run_keeping.proofs.DecidedBooked.{none-booked, booked-on, cut-booked,
 use Rattle.run_keeping.proofs.Sessions.{stands-later}
 use Rattle.run_keeping.proofs.Rounds.{told-of}
 use Rattle.run_keeping.proofs.Decided.{this, due-here, due-most, kept-here, all-here, kept-on, cut-on, present-here, rows-on}
-use Rattle.run_keeping.proofs.Seats.{emptied-none, emptied-then, sessions-none, sessions-then}
+use Rattle.run_keeping.proofs.Units.{left-then}
+use Rattle.run_keeping.proofs.Seats.{emptied-none, emptied-then, stays-none, sessions-none, sessions-then}
 use Rattle.run_keeping.proofs.keeper.Keeper.keep_all.Goals as goal
 
 pub present-present-requires : goal.present-present-requires
@@ -105,6 +106,15 @@ loop-minute-init g c = record {
   clock = omega arith;
   tells = refl;
   cause = (no_reads (g.M.Medium.state c.args.unit.now) c.requires.ready.unit_ready.works).cause;
+  unit_keeps = λ t x le left. left;
+  a_keeps = λ t x le left. left;
+  b_keeps = λ t x le left. left;
+  tells_a = refl;
+  tells_b = refl;
+  more_a = omega arith;
+  more_b = omega arith;
+  a_bare = λ none. refl;
+  b_bare = λ none. refl;
 }
 
 pub loop-minute-preserved : goal.loop-minute-preserved
@@ -164,6 +174,15 @@ loop-minute-preserved g c =
       clock = let k = e.clock in let was = v.clock in omega (arith, k, was);
       tells = e.tells ∙ v.tells;
       cause = cause_after v.cause e.cause;
+      unit_keeps = left-then (g.M.Medium.state c.args.unit.now) (g.M.Medium.state c.loop-minute.unit) (g.M.Medium.state c.keep_minute.new.unit) v.unit_keeps v.clock e.unit_keeps;
+      a_keeps = left-then (g.C.Chip.state c.args.card_a.now) (g.C.Chip.state c.loop-minute.card_a) (g.C.Chip.state c.keep_minute.new.card_a) v.a_keeps v.clock_a e.a_keeps;
+      b_keeps = left-then (g.D.Chip.state c.args.card_b.now) (g.D.Chip.state c.loop-minute.card_b) (g.D.Chip.state c.keep_minute.new.card_b) v.b_keeps v.clock_b e.b_keeps;
+      tells_a = e.tells_a ∙ v.tells_a;
+      tells_b = e.tells_b ∙ v.tells_b;
+      more_a = let k = e.more_a in let was = v.more_a in omega (arith, k, was);
+      more_b = let k = e.more_b in let was = v.more_b in omega (arith, k, was);
+      a_bare = λ none. e.a_bare (stays-none c.args.self.now.cabin.cards.a.accepted c.loop-minute.self.cabin.cards.a.accepted v.sessions.a none) ∙ v.a_bare none;
+      b_bare = λ none. e.b_bare (stays-none c.args.self.now.cabin.cards.b.accepted c.loop-minute.self.cabin.cards.b.accepted v.sessions.b none) ∙ v.b_bare none;
     }
 
 pub returns-clause-kept : goal.returns-clause-kept
@@ -310,3 +329,39 @@ returns-in_err-keep_minute-clause-b_broken g c =
     ≤ (tears_of c.args.self.now.cabin.cards.b.accepted - tears_of c.loop-minute.self.cabin.cards.b.accepted) + (tears_of c.loop-minute.self.cabin.cards.b.accepted - tears_of c.keep_minute.new.self.cabin.cards.b.accepted) =
     omega arith in
     fewer_broken few (both_broken c.loop-minute.invariant.b_broken c.in_err-keep_minute.ensures.b_broken)
+
+-- ---- what might be left might be left still, and a card without a session is as it was
+
+pub returns-in_err-keep_minute-clause-unit_keeps : goal.returns-in_err-keep_minute-clause-unit_keeps
+returns-in_err-keep_minute-clause-unit_keeps g c =
+    left-then (g.M.Medium.state c.args.unit.now) (g.M.Medium.state c.loop-minute.unit) (g.M.Medium.state c.keep_minute.new.unit) c.loop-minute.invariant.unit_keeps c.loop-minute.invariant.clock c.in_err-keep_minute.ensures.unit_keeps
+
+pub returns-in_err-keep_minute-clause-a_keeps : goal.returns-in_err-keep_minute-clause-a_keeps
+returns-in_err-keep_minute-clause-a_keeps g c =
+    left-then (g.C.Chip.state c.args.card_a.now) (g.C.Chip.state c.loop-minute.card_a) (g.C.Chip.state c.keep_minute.new.card_a) c.loop-minute.invariant.a_keeps c.loop-minute.invariant.clock_a c.in_err-keep_minute.ensures.a_keeps
+
+pub returns-in_err-keep_minute-clause-b_keeps : goal.returns-in_err-keep_minute-clause-b_keeps
+returns-in_err-keep_minute-clause-b_keeps g c =
+    left-then (g.D.Chip.state c.args.card_b.now) (g.D.Chip.state c.loop-minute.card_b) (g.D.Chip.state c.keep_minute.new.card_b) c.loop-minute.invariant.b_keeps c.loop-minute.invariant.clock_b c.in_err-keep_minute.ensures.b_keeps
+
+pub returns-in_err-keep_minute-clause-tells_a : goal.returns-in_err-keep_minute-clause-tells_a
+returns-in_err-keep_minute-clause-tells_a g c = c.in_err-keep_minute.ensures.tells_a ∙ c.loop-minute.invariant.tells_a
+
+pub returns-in_err-keep_minute-clause-tells_b : goal.returns-in_err-keep_minute-clause-tells_b
+returns-in_err-keep_minute-clause-tells_b g c = c.in_err-keep_minute.ensures.tells_b ∙ c.loop-minute.invariant.tells_b
+
+pub returns-in_err-keep_minute-clause-more_a : goal.returns-in_err-keep_minute-clause-more_a
+returns-in_err-keep_minute-clause-more_a g c = let k = c.in_err-keep_minute.ensures.more_a in let was = c.loop-minute.invariant.more_a in omega (arith, k, was)
+
+pub returns-in_err-keep_minute-clause-more_b : goal.returns-in_err-keep_minute-clause-more_b
+returns-in_err-keep_minute-clause-more_b g c = let k = c.in_err-keep_minute.ensures.more_b in let was = c.loop-minute.invariant.more_b in omega (arith, k, was)
+
+pub returns-in_err-keep_minute-clause-a_bare : goal.returns-in_err-keep_minute-clause-a_bare
+returns-in_err-keep_minute-clause-a_bare g c = λ none.
+    let v = c.loop-minute.invariant in
+    c.in_err-keep_minute.ensures.a_bare (stays-none c.args.self.now.cabin.cards.a.accepted c.loop-minute.self.cabin.cards.a.accepted v.sessions.a none) ∙ v.a_bare none
+
+pub returns-in_err-keep_minute-clause-b_bare : goal.returns-in_err-keep_minute-clause-b_bare
+returns-in_err-keep_minute-clause-b_bare g c = λ none.
+    let v = c.loop-minute.invariant in
+    c.in_err-keep_minute.ensures.b_bare (stays-none c.args.self.now.cabin.cards.b.accepted c.loop-minute.self.cabin.cards.b.accepted v.sessions.b none) ∙ v.b_bare none

@@ -1,8 +1,8 @@
-use Rattle.std.proofs.Common.{◌≡◌, ℕ, ◌+◌, ◌-◌, ◌*◌, ◌/◌, ◌<◌, ◌≤◌, false, Option, is_some, All, length, take, drop}
+use Rattle.std.proofs.Common.{◌≡◌, ℕ, ◌+◌, ◌-◌, ◌*◌, ◌/◌, ◌<◌, ◌≤◌, false, Option, None, is_some, All, length, take, drop}
 use Rattle.trace_model.specs.declared.Card.{Card}
 use Rattle.tach_media.specs.Medium.{HasCause, HasBroken}
 use Rattle.run_crew.specs.Cabin.{Stands}
-use Rattle.run_keeping.specs.Keeping.{IsReady, HasItsRow, AreEmptied, SessionsGoOn, tears_of, most_tears}
+use Rattle.run_keeping.specs.Keeping.{IsReady, HasItsRow, HasLeftMore, AreEmptied, SessionsGoOn, tears_of, most_tears}
 use Rattle.run_keeping.specs.Minutes.{AreDue, AreKept, kept_after}
 use Rattle.run_rule.specs.Between.{devices}
 use Rattle.run_keeping.proofs.Rounds.{told-of}
@@ -39,4 +39,13 @@ invariant-loop-minute g l = record {
   clock : (g.M.Medium.state l.fn.unit).clock ≤ (g.M.Medium.state l.unit).clock;
   tells : is_some (g.M.Medium.state l.unit).image ≡ is_some (g.M.Medium.state l.fn.unit).image;
   cause : HasCause (g.M.Medium.state l.fn.unit) (g.M.Medium.state l.unit) false;
+  unit_keeps : HasLeftMore (g.M.Medium.state l.fn.unit) (g.M.Medium.state l.unit);
+  a_keeps : HasLeftMore (g.C.Chip.state l.fn.card_a) (g.C.Chip.state l.card_a);
+  b_keeps : HasLeftMore (g.D.Chip.state l.fn.card_b) (g.D.Chip.state l.card_b);
+  tells_a : is_some (g.C.Chip.state l.card_a).image ≡ is_some (g.C.Chip.state l.fn.card_a).image;
+  tells_b : is_some (g.D.Chip.state l.card_b).image ≡ is_some (g.D.Chip.state l.fn.card_b).image;
+  more_a : (g.C.Chip.state l.fn.card_a).breakdowns ≤ (g.C.Chip.state l.card_a).breakdowns;
+  more_b : (g.D.Chip.state l.fn.card_b).breakdowns ≤ (g.D.Chip.state l.card_b).breakdowns;
+  a_bare : l.fn.self.cabin.cards.a.accepted ≡ None → l.card_a ≡ l.fn.card_a;
+  b_bare : l.fn.self.cabin.cards.b.accepted ≡ None → l.card_b ≡ l.fn.card_b;
 }

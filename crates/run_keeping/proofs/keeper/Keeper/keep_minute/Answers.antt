@@ -13,11 +13,11 @@ use Rattle.run_keeping.specs.Keeping.{TellsPresent, Still, IsBrought, AreEmptied
 use Rattle.run_keeping.specs.Minutes.{Round, IsMinute, unit_mark}
 use Rattle.run_keeping.specs.Books.{BooksMinute}
 use Rattle.run_keeping.specs.Owing.{BooksBrought}
-use Rattle.run_keeping.proofs.MinuteBooked.{clock-rests, booked-cut, booked-whole}
+use Rattle.run_keeping.proofs.MinuteBooked.{timed-at, clock-rests, booked-cut, booked-whole}
 use Rattle.run_keeping.proofs.Counts.{tears-one, lines-length, first-stays, second-stays}
 use Rattle.run_keeping.proofs.Rounds.{told-of, told-same, brought-minute, brought-past, brought-tears, brought-more, brought-tear-room, brought-marks, brought-mark-room, cut-is, cut-told, whole-driver, whole-codriver, whole-is, whole-told}
-use Rattle.run_keeping.proofs.Units.{unit-stays}
-use Rattle.run_keeping.proofs.Seats.{emptied-then, sessions-none, sessions-then}
+use Rattle.run_keeping.proofs.Units.{unit-stays, left-then}
+use Rattle.run_keeping.proofs.Seats.{emptied-then, stays-none, sessions-none, sessions-then}
 use Rattle.run_keeping.proofs.keeper.Keeper.keep_minute.Goals as goal
 
 -- ---- the unit failed before
@@ -38,7 +38,7 @@ returns-in_err-commit-clause-kept g c =
     × (TellsPresent m p → BooksMinute p m f round (told-of k c.args.marks.now c.args.breaks.now) (told-of c.commit.new.self c.commit.new.marks c.args.breaks.now) (devices U X Y) (devices V X Y))) failed (
       None,
       (refl, told-same c.commit.new.self k c.commit.new.marks c.args.marks.now c.args.breaks.now c.args.breaks.now keeper same.1 refl),
-      λ says. λ f w may time. c.in_err-commit.ensures.booked says f w (record { booked = may.booked; comes = may.comes }) time.unit,
+      λ says. λ f w start v leg may gone odometer time. (c.in_err-commit.ensures.booked says f w start v leg (record { booked = may.booked; comes = may.comes }) gone odometer time.unit, timed-at f U V X Y (devices V X Y) (λ card valid timed. timed)),
     )
 
 pub returns-in_err-bring-clause-kept : goal.returns-in_err-bring-clause-kept
@@ -73,7 +73,7 @@ returns-in_err-bring-clause-kept g c =
             c.bring.new.self c.bring.new.marks c.bring.new.breaks was.0 U V X Y b,
       ),
       λ says. booked-cut m p says c.requires.kept.apart k c.commit.new.self c.args.marks.now c.commit.new.marks c.args.breaks.now (ap (λ (q : Keeper). q.cabin.cards) c.commit.ensures.keeper) (g.M.Medium.state c.args.unit.now) U A0 B0
-          (c.in_ok-commit.ensures.booked says) true was.0 c.bring.new.self c.args.at.second b.keeper V A1 B1 one refl c.bring.ensures.journal.later (told-of c.bring.new.self c.bring.new.marks c.bring.new.breaks)
+          (c.in_ok-commit.ensures.booked says) true was.0 c.bring.new.self c.args.at.second b.keeper V A1 B1 one refl (g.met.M.Medium.coherent c.commit.new.unit) c.bring.ensures.journal (told-of c.bring.new.self c.bring.new.marks c.bring.new.breaks)
           (record { journal = c.commit.new.self.journal; clock = clock; driver = was.0; codriver = Still }) refl refl refl,
     )
 
@@ -143,12 +143,10 @@ returns-clause-kept g c =
           subst (λ (q : Kept). BooksBrought p.driver q false was.0 c.commit.new.self.cabin.cards c.bring.new.self.cabin.cards (devices U A0 B0) (devices V A1 B1)) c.kept_in-driver.ensures was.3 in
           let second : BooksBrought p.codriver (kept_in m CoDriver) failed is.0 c.bring.new.self.cabin.cards c.bring-2.new.self.cabin.cards (devices V A1 B1) (devices W A2 B2) =
           subst (λ (q : Kept). BooksBrought p.codriver q failed is.0 c.bring.new.self.cabin.cards c.bring-2.new.self.cabin.cards (devices V A1 B1) (devices W A2 B2)) c.kept_in-codriver.ensures is.3 in
-          let here = c.bring.ensures.journal.later in
-          let there = c.bring-2.ensures.journal.later in
           booked-whole m p says c.requires.kept.apart k c.commit.new.self c.args.marks.now c.commit.new.marks c.args.breaks.now (ap (λ (q : Keeper). q.cabin.cards) c.commit.ensures.keeper) (g.M.Medium.state c.args.unit.now) U A0 B0
           (c.in_ok-commit.ensures.booked says) false was.0 c.bring.new.self c.args.at.second b.keeper V A1 B1 first refl failed is.0 c.bring-2.new.self d.keeper W A2 B2 second
           (λ none. clock-rests g.C.Chip.state c.bring.new.card_a c.bring-2.new.card_a (c.bring-2.ensures.a_rests none)) (λ none. clock-rests g.D.Chip.state c.bring.new.card_b c.bring-2.new.card_b (c.bring-2.ensures.b_rests none))
-          (omega (arith, here, there)) c.bring-2.new.marks c.bring-2.new.breaks (record { journal = j; clock = clock; driver = was.0; codriver = is.0 }) refl refl refl,
+          (g.met.M.Medium.coherent c.commit.new.unit) c.bring.ensures.journal (g.met.M.Medium.coherent c.bring.new.unit) c.bring-2.ensures.journal c.bring-2.new.marks c.bring-2.new.breaks (record { journal = j; clock = clock; driver = was.0; codriver = is.0 }) refl refl refl,
     )
 
 pub returns-clause-stands : goal.returns-clause-stands
@@ -261,3 +259,56 @@ returns-clause-more g c =
     let one = brought-more _ _ _ _ _ _ _ _ _ _ _ _ _ _ _ c.in_ok-bring.ensures.brought.1 in
     let two = brought-more _ _ _ _ _ _ _ _ _ _ _ _ _ _ _ c.bring-2.ensures.brought.1 in
     omega (arith, one, two)
+
+-- ---- what might be left might be left still
+
+pub returns-in_err-bring-clause-unit_keeps : goal.returns-in_err-bring-clause-unit_keeps
+returns-in_err-bring-clause-unit_keeps g c =
+    left-then (g.M.Medium.state c.args.unit.now) (g.M.Medium.state c.commit.new.unit) (g.M.Medium.state c.bring.new.unit) c.commit.ensures.unit_keeps c.commit.ensures.clock c.bring.ensures.journal.keeps
+
+pub returns-clause-unit_keeps : goal.returns-clause-unit_keeps
+returns-clause-unit_keeps g c =
+    let U1 = g.M.Medium.state c.commit.new.unit in
+    let U2 = g.M.Medium.state c.bring.new.unit in
+    let V = g.M.Medium.state c.bring-2.new.unit in
+    left-then (g.M.Medium.state c.args.unit.now) U1 V c.commit.ensures.unit_keeps c.commit.ensures.clock (left-then U1 U2 V c.bring.ensures.journal.keeps c.bring.ensures.journal.later c.bring-2.ensures.journal.keeps)
+
+pub returns-clause-a_keeps : goal.returns-clause-a_keeps
+returns-clause-a_keeps g c =
+    left-then (g.C.Chip.state c.args.card_a.now) (g.C.Chip.state c.bring.new.card_a) (g.C.Chip.state c.bring-2.new.card_a) c.bring.ensures.a_keeps c.bring.ensures.clock_a c.bring-2.ensures.a_keeps
+
+pub returns-clause-b_keeps : goal.returns-clause-b_keeps
+returns-clause-b_keeps g c =
+    left-then (g.D.Chip.state c.args.card_b.now) (g.D.Chip.state c.bring.new.card_b) (g.D.Chip.state c.bring-2.new.card_b) c.bring.ensures.b_keeps c.bring.ensures.clock_b c.bring-2.ensures.b_keeps
+
+-- ---- a card tells its images still, and broke down no less often
+
+pub returns-clause-tells_a : goal.returns-clause-tells_a
+returns-clause-tells_a g c = c.bring-2.ensures.tells_a ∙ c.bring.ensures.tells_a
+
+pub returns-clause-tells_b : goal.returns-clause-tells_b
+returns-clause-tells_b g c = c.bring-2.ensures.tells_b ∙ c.bring.ensures.tells_b
+
+pub returns-clause-more_a : goal.returns-clause-more_a
+returns-clause-more_a g c = let one = c.bring.ensures.more_a in let two = c.bring-2.ensures.more_a in omega (arith, one, two)
+
+pub returns-clause-more_b : goal.returns-clause-more_b
+returns-clause-more_b g c = let one = c.bring.ensures.more_b in let two = c.bring-2.ensures.more_b in omega (arith, one, two)
+
+-- ---- a card without a session is as it was
+
+pub returns-in_err-bring-clause-a_bare : goal.returns-in_err-bring-clause-a_bare
+returns-in_err-bring-clause-a_bare g c = λ none. c.bring.ensures.a_bare (ap (λ (q : Keeper). q.cabin.cards.a.accepted) c.commit.ensures.keeper ∙ none)
+
+pub returns-in_err-bring-clause-b_bare : goal.returns-in_err-bring-clause-b_bare
+returns-in_err-bring-clause-b_bare g c = λ none. c.bring.ensures.b_bare (ap (λ (q : Keeper). q.cabin.cards.b.accepted) c.commit.ensures.keeper ∙ none)
+
+pub returns-clause-a_bare : goal.returns-clause-a_bare
+returns-clause-a_bare g c = λ none.
+    let before = ap (λ (q : Keeper). q.cabin.cards.a.accepted) c.commit.ensures.keeper ∙ none in
+    c.bring-2.ensures.a_bare (stays-none c.commit.new.self.cabin.cards.a.accepted c.bring.new.self.cabin.cards.a.accepted c.bring.ensures.sessions.a before) ∙ c.bring.ensures.a_bare before
+
+pub returns-clause-b_bare : goal.returns-clause-b_bare
+returns-clause-b_bare g c = λ none.
+    let before = ap (λ (q : Keeper). q.cabin.cards.b.accepted) c.commit.ensures.keeper ∙ none in
+    c.bring-2.ensures.b_bare (stays-none c.commit.new.self.cabin.cards.b.accepted c.bring.new.self.cabin.cards.b.accepted c.bring.ensures.sessions.b before) ∙ c.bring.ensures.b_bare before
