@@ -1,31 +1,22 @@
 -- How a trace with cards ends that is recorded on the unit and both cards.
 use Rattle.std.proofs.Common.{◌≡◌, ◌∙◌, ◌≤◌, ◌<◌, ℕ, ◌/◌, refl, ap, sym, subst, arith, List, Option, Some, None}
 use Rattle.tach_media.specs.Medium.{Rose}
-use Rattle.run_model.specs.declared.Device.{Device}
 use Rattle.run_model.specs.declared.Device.TheVariants.{Unit as OfUnit, CardA, CardB}
-use Rattle.trace_model.specs.declared.Card.{Card}
 use Rattle.trace_model.specs.declared.Card.TheVariants.{A, B}
 use Rattle.trace_model.specs.declared.Item.{Item}
 use Rattle.trace_text.specs.declared.trace.Form.TheVariants.{Whole}
 use Rattle.trace_text.specs.Judged.{IsTraceText}
-use Rattle.unit_model.specs.Image.{last_kept}
-use Rattle.unit_model.specs.Decoding.{Decodes}
-use Rattle.safety_model.specs.Recording.{Recording, card_image}
-use Rattle.safety_model.specs.Safe.{card_of}
-use Rattle.run_rule.specs.Opening.{BeginsAs}
 use Rattle.run_keeping.specs.Books.{HaveTime}
-use Rattle.run_opening.specs.Begun.{Begin, IsRefusedBy}
-use Rattle.run_opening.specs.Opening.{faults_of}
 use Rattle.run_opening.specs.declared.fault.RunFault.{RunFault}
 use Rattle.run_opening.specs.declared.fault.RunFault.TheVariants as run
-use Rattle.run_recorded.specs.Ends.{EndsRun}
 use Rattle.recorder.specs.Trace.{IsForUnit}
+use Rattle.recorder_with_cards.specs.Ends.{BeginAs, MayRecord, EndsTrace, IsKeptFrom}
 use Rattle.run_outcome.specs.declared.outcome.Outcome.{Outcome}
 use Rattle.tacho.specs.declared.end.Fault.{Fault}
 use Rattle.tacho.specs.declared.end.Fault.TheVariants.{Done, WriteFault}
 use Rattle.tacho.specs.Outside.{Outside}
 use Rattle.tacho.specs.Outcomes.{IsEmpty, IsRun, IsRefusal, IsTold}
-use Rattle.tacho.specs.CardsRecorded.{refusal_with_cards, devices_of, recording_of, StartWith, AreSound, IsCauseOf, MayBeRecorded, AreAsTheyWere, EndsWithCards}
+use Rattle.tacho.specs.CardsRecorded.{refusal_with_cards, devices_of, StartWith, AreSound, IsRefusedBy, EndsWithCards}
 use Rattle.tacho.proofs.Recordings.{none-bad, refused-no-run}
 use Rattle.tacho.proofs.UnitRuns.{run-done}
 
@@ -36,72 +27,51 @@ cards-refusal (run.BadUnit place) = tt
 cards-refusal (run.ClockBack kept second) = tt
 cards-refusal (run.SameCard number) = tt
 
--- what was recorded, at another name of the same trace
-at-trace : {start s : ℕ} {items is : List Item} (P : ℕ → List Item → Type 0) → (start ≡ s) × (items ≡ is) → P start items → P s is
-at-trace {start} {s} {items} {is} P same h = subst (λ (t : ℕ). P t is) same.0 (subst (λ (l : List Item). P start l) same.1 h)
-
--- by the fault of a run, its cause
-cause-of : (old new : Outside) (r : Recording) (start : ℕ) (fault : RunFault) → IsRefusedBy r start (devices_of old) (devices_of new) fault → IsCauseOf old new r start (refusal_with_cards fault)
-cause-of old new r start (run.MediumFault device) h = h
-cause-of old new r start (run.BadUnit place) h = h
-cause-of old new r start (run.ClockBack kept second) h = h
-cause-of old new r start (run.SameCard number) h = (h.0, h.1, h.2 A, h.2 B)
-
 -- no fault has a cause where nothing failed and the trace may be recorded
-none-caused : (old new : Outside) (r : Recording) (start : ℕ) (fault : RunFault) → AreSound old new → MayBeRecorded r start → IsCauseOf old new r start (refusal_with_cards fault) → ⊥
-none-caused old new r start (run.MediumFault OfUnit) sound may h = sound.unit h
-none-caused old new r start (run.MediumFault CardA) sound may h = sound.card_a h
-none-caused old new r start (run.MediumFault CardB) sound may h = sound.card_b h
-none-caused old new r start (run.BadUnit place) sound may h = none-bad r.unit place may.decodes h
-none-caused old new r start (run.ClockBack kept second) sound may h = let a = may.later in let b = h.1 in let c = h.2.1 in omega (arith, a, b, c)
-none-caused old new r start (run.SameCard number) sound may h = may.two h.2.0.0 h.2.1.0 (h.2.0.1 ∙ sym h.2.1.1)
+none-caused : (old new : Outside) (x a b : List ℕ) (start : ℕ) (fault : RunFault) → AreSound old new → MayRecord x a b start → IsKeptFrom x a b start (devices_of old) (devices_of new) fault → ⊥
+none-caused old new x a b start (run.MediumFault OfUnit) sound may h = sound.unit h.cause
+none-caused old new x a b start (run.MediumFault CardA) sound may h = sound.card_a h.cause
+none-caused old new x a b start (run.MediumFault CardB) sound may h = sound.card_b h.cause
+none-caused old new x a b start (run.BadUnit place) sound may h = none-bad x place may.decodes h.cause
+none-caused old new x a b start (run.ClockBack kept second) sound may h = let p = may.later in let q = h.cause.1 in let r = h.cause.2.1 in let s = h.cause.2.2 in omega (arith, p, q, r, s)
+none-caused old new x a b start (run.SameCard number) sound may h = may.numbers (h.cause.2 A).0 (h.cause.2 B).0 ((h.cause.2 A).1 ∙ sym (h.cause.2 B).1)
 
--- THE RUN WAS REFUSED
-pub cards-refused : (old new : Outside) (outcome : Outcome) (start : ℕ) (items : List Item) → (IsForUnit items → ⊥)
-    → ((text : List ℕ) (s : ℕ) (is : List Item) → old.source.left ≡ Some text → IsTraceText Whole text s is → (start ≡ s) × (items ≡ is))
-    → (fault : RunFault)
-    → ((r : Recording) → Begin r (devices_of old) → HaveTime (devices_of new) → IsRefusedBy r start (devices_of old) (devices_of new) fault × AreAsTheyWere old new × IsEmpty outcome)
-    → EndsWithCards old new outcome (refusal_with_cards fault)
-cards-refused old new outcome start items not_unit is_read fault refused = record {
-  with_cards = λ s is told for. not_unit (subst IsForUnit (sym (is_read told.text s is told.told told.trace).1) for);
-  run = λ s is u a b told starts ran. absurd (refused-no-run (refusal_with_cards fault) (cards-refusal fault) ran);
-  refused = λ s is u a b told starts ref. let h = found s is u a b told starts in (h.0, h.1, h.2);
-  records = λ s is u a b told starts sound may. absurd (none-caused old new (recording_of u a b s is outcome) s fault sound may (found s is u a b told starts).0);
-  finds = λ s is u a b told starts sound not. (found s is u a b told starts).0;
-}
-  where
-    found : (s : ℕ) (is : List Item) (u a b : List ℕ) → IsTold old s is → StartWith (recording_of u a b s is outcome) old new
-        → IsCauseOf old new (recording_of u a b s is outcome) s (refusal_with_cards fault) × AreAsTheyWere old new × IsEmpty outcome
-    found s is u a b told starts =
-        let r : Recording = recording_of u a b s is outcome in
-        let h = refused r starts.alone starts.clocks in
-        let same = (is_read told.text s is told.told told.trace).0 in
-        (subst (λ (t : ℕ). IsCauseOf old new r t (refusal_with_cards fault)) same (cause-of old new r start fault h.0), h.1, h.2)
+module _ (old new : Outside) (outcome : Outcome) (start : ℕ) (items : List Item) (not_unit : IsForUnit items → ⊥)
+    (is_read : (text : List ℕ) (s : ℕ) (is : List Item) → old.source.left ≡ Some text → IsTraceText Whole text s is → (start ≡ s) × (items ≡ is)) where
+  same-trace : (s : ℕ) (is : List Item) → IsTold old s is → (start ≡ s) × (items ≡ is)
+  same-trace s is told = is_read told.text s is told.told told.trace
 
--- THE RUN IS DONE
-pub cards-run : (old new : Outside) (outcome : Outcome) (start : ℕ) (items : List Item) → (IsForUnit items → ⊥)
-    → ((text : List ℕ) (s : ℕ) (is : List Item) → old.source.left ≡ Some text → IsTraceText Whole text s is → (start ≡ s) × (items ≡ is))
-    → ((u a b : List ℕ) → Begin (recording_of u a b start items outcome) (devices_of old) → HaveTime (devices_of new)
-    → EndsRun (recording_of u a b start items outcome) outcome.marks.items (devices_of old) (devices_of new))
-    → ((r : Recording) → Begin r (devices_of old) → MayBeRecorded r start)
-    → (fault : Fault) → IsRun fault → (fault ≡ WriteFault → Rose old.sink.faults new.sink.faults) → EndsWithCards old new outcome fault
-cards-run old new outcome start items not_unit is_read recorded begun fault ran rose = record {
-  with_cards = λ s is told for. not_unit (subst IsForUnit (sym (is_read told.text s is told.told told.trace).1) for);
-  run = λ s is u a b told starts done.
-      at-trace (λ (t : ℕ) (l : List Item). EndsRun (recording_of u a b t l outcome) outcome.marks.items (devices_of old) (devices_of new))
-      (is_read told.text s is told.told told.trace) (recorded u a b (begins u a b s is starts.alone) starts.clocks);
-  refused = λ s is u a b told starts ref. absurd (refused-no-run fault ref ran);
-  records = λ s is u a b told starts sound may. run-done old new fault ran rose sound.sink;
-  finds = λ s is u a b told starts sound not.
-      let r : Recording = recording_of u a b s is outcome in
-      let same = (is_read told.text s is told.told told.trace).0 in
-      absurd (not (subst (λ (t : ℕ). MayBeRecorded r t) same (begun r starts.alone)));
-}
-  where
-    -- the devices begin with the images, whatever the trace
-    begins : (u a b : List ℕ) (s : ℕ) (is : List Item) → Begin (recording_of u a b s is outcome) (devices_of old) → Begin (recording_of u a b start items outcome) (devices_of old)
-    begins u a b s is h = record { unit = h.unit; card = λ c. each c (h.card c) }
-      where
-        each : (c : Card) → BeginsAs (card_image (recording_of u a b s is outcome) c) (card_of (devices_of old) c) → BeginsAs (card_image (recording_of u a b start items outcome) c) (card_of (devices_of old) c)
-        each A h = h
-        each B h = h
+  not-unit : (s : ℕ) (is : List Item) → IsTold old s is → IsForUnit is → ⊥
+  not-unit s is told for = not_unit (subst IsForUnit (sym (same-trace s is told).1) for)
+
+  -- THE RUN WAS REFUSED
+  pub cards-refused : (fault : RunFault)
+      → ((x a b : List ℕ) → BeginAs x a b (devices_of old) → HaveTime (devices_of new) → IsKeptFrom x a b start (devices_of old) (devices_of new) fault × IsEmpty outcome)
+      → EndsWithCards old new outcome (refusal_with_cards fault)
+  cards-refused fault refused = record {
+    with_cards = not-unit;
+    run = λ s is x a b starts ran. absurd (refused-no-run (refusal_with_cards fault) (cards-refusal fault) ran);
+    refused = λ s is x a b starts ref. (record { by = fault; is = refl; kept = kept-from s is x a b starts }, (refused x a b starts.begins starts.clocks).1);
+    records = λ s is x a b starts sound may. absurd (none-caused old new x a b s fault sound may (kept-from s is x a b starts));
+    finds = λ s is x a b starts sound not. record { by = fault; is = refl; kept = kept-from s is x a b starts };
+  }
+    where
+      kept-from : (s : ℕ) (is : List Item) (x a b : List ℕ) → StartWith x a b s is old new → IsKeptFrom x a b s (devices_of old) (devices_of new) fault
+      kept-from s is x a b starts =
+          subst (λ (t : ℕ). IsKeptFrom x a b t (devices_of old) (devices_of new) fault) (same-trace s is starts.told).0 (refused x a b starts.begins starts.clocks).0
+
+  -- THE RUN IS DONE
+  pub cards-run : ((x a b : List ℕ) → BeginAs x a b (devices_of old) → HaveTime (devices_of new) → EndsTrace x a b start items outcome (devices_of old) (devices_of new))
+      → ((x a b : List ℕ) → BeginAs x a b (devices_of old) → MayRecord x a b start)
+      → (fault : Fault) → IsRun fault → (fault ≡ WriteFault → Rose old.sink.faults new.sink.faults) → EndsWithCards old new outcome fault
+  cards-run recorded begun fault ran rose = record {
+    with_cards = not-unit;
+    run = λ s is x a b starts done.
+        let same = same-trace s is starts.told in
+        subst (λ (t : ℕ). EndsTrace x a b t is outcome (devices_of old) (devices_of new)) same.0
+        (subst (λ (l : List Item). EndsTrace x a b start l outcome (devices_of old) (devices_of new)) same.1 (recorded x a b starts.begins starts.clocks));
+    refused = λ s is x a b starts ref. absurd (refused-no-run fault ref ran);
+    records = λ s is x a b starts sound may. run-done old new fault ran rose sound.sink;
+    finds = λ s is x a b starts sound not.
+        absurd (not (subst (λ (t : ℕ). MayRecord x a b t) (same-trace s is starts.told).0 (begun x a b starts.begins)));
+  }

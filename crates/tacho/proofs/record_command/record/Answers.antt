@@ -34,9 +34,9 @@ returns-in-Err-record_with_cards-clause-ends g c =
     rw c.refusal_with_cards.ensures
     (ends-refused _ _ _ _ e.finds_bad_line e.finds_too_long (cards-refusal c.in-Err-record_with_cards.fault)
     (inr (inr (cards-refused _ _ c.record_with_cards.new.outcome c.in-Ok.trace.start c.in-Ok.trace.items (c.is_for_unit.ensures.card c.if-not-is_for_unit.false) e.reads c.in-Err-record_with_cards.fault
-    (λ r alone clocks.
-    let h = f.refused_by r alone clocks in
-    (h.0, record { unit = h.1.0; card_a = h.1.1; card_b = h.1.2 }, subst IsEmpty (sym h.2) (reserved-empty c.in-Ok.trace.items c.in-Ok-reserve.reserved c.in-Ok-reserve.ensures)))))))
+    (λ x a b begins clocks.
+    let h = f.fault x a b begins clocks (omega (arith, e.few)) in
+    (h.0, subst IsEmpty (sym h.1) (reserved-empty c.in-Ok.trace.items c.in-Ok-reserve.reserved c.in-Ok-reserve.ensures)))))))
 
 pub returns-clause-ends : goal.returns-clause-ends
 returns-clause-ends g c =
@@ -44,6 +44,5 @@ returns-clause-ends g c =
     let f = c.in_default-record_with_cards.ensures in
     ends-run _ _ c.record_with_cards.new.outcome c.print_outcome-2.result e.end e.finds_bad_line e.finds_too_long
     (λ fault ran rose. inr (inr (cards-run _ _ c.record_with_cards.new.outcome c.in-Ok.trace.start c.in-Ok.trace.items (c.is_for_unit.ensures.card c.if-not-is_for_unit.false) e.reads
-    (λ u a b alone clocks. f.recorded _ alone refl refl refl (omega (arith, e.few)) clocks)
-    (λ r alone. let b = f.begun r alone in record { decodes = b.0; later = b.1; two = b.2 }) fault ran rose)))
+    (λ x a b begins clocks. f.recorded x a b begins clocks (omega (arith, e.few))) f.begun fault ran rose)))
     c.print_outcome-2.ensures.ok c.print_outcome-2.ensures.err c.print_outcome-2.ensures.cause
