@@ -33,7 +33,7 @@ none-caused old new x a b start (run.MediumFault OfUnit) sound may h = sound.uni
 none-caused old new x a b start (run.MediumFault CardA) sound may h = sound.card_a h.cause
 none-caused old new x a b start (run.MediumFault CardB) sound may h = sound.card_b h.cause
 none-caused old new x a b start (run.BadUnit place) sound may h = none-bad x place may.decodes h.cause
-none-caused old new x a b start (run.ClockBack kept second) sound may h = let p = may.later in let q = h.cause.1 in let r = h.cause.2.1 in let s = h.cause.2.2 in omega (arith, p, q, r, s)
+none-caused old new x a b start (run.ClockBack kept second) sound may h = let p = may.later in let q = h.cause.1 in let r = h.cause.3 in omega (arith, p, q, r)
 none-caused old new x a b start (run.SameCard number) sound may h = may.numbers (h.cause.2 A).0 (h.cause.2 B).0 ((h.cause.2 A).1 ∙ sym (h.cause.2 B).1)
 
 module _ (old new : Outside) (outcome : Outcome) (start : ℕ) (items : List Item) (not_unit : IsForUnit items → ⊥)

@@ -102,6 +102,13 @@ module _ (old new : Outside) (outcome : Outcome) (start : ℕ) (items : List Ite
       }
   unit-refused (run.SameCard number) of_unit refused = absurd of_unit
 
+-- a fault of the run is the unit's
+pub of-unit : (old new : State) (fault : RunFault) → IsUnitFault old new fault → IsOfUnit fault
+of-unit old new (run.MediumFault device) is = is.0
+of-unit old new (run.BadUnit place) is = tt
+of-unit old new (run.ClockBack kept second) is = tt
+of-unit old new (run.SameCard number) is = is
+
 -- such a fault is a refusal
 pub unit-refusal : (fault : RunFault) → IsOfUnit fault → IsRefusal (refusal_on_unit fault)
 unit-refusal (run.MediumFault device) of_unit = tt
