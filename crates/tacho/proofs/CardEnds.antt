@@ -14,7 +14,7 @@ use Rattle.tacho.specs.declared.end.Fault.TheVariants.{Done, Usage, ReadFault, W
 use Rattle.tacho.specs.declared.forms.Form.TheVariants.{CardFile}
 use Rattle.tacho.specs.End.{ended_by, is_medium_fault}
 use Rattle.tacho.specs.Outside.{Outside, SinkTold, CardTold, memory_of}
-use Rattle.tacho.specs.Recorded.{IsEmpty}
+use Rattle.tacho.specs.Outcomes.{IsEmpty}
 use Rattle.tacho.specs.CardFile.{end_of_card, EndsCard}
 use Rattle.tacho.specs.Program.{Ends, HasCauses, NamesField}
 

@@ -19,7 +19,7 @@ use Rattle.tacho.specs.declared.end.Fault.TheVariants.{Done, Usage, BadUnit, Rea
 use Rattle.tacho.specs.declared.forms.Form.TheVariants.{Download}
 use Rattle.tacho.specs.End.{ended_with, is_medium_fault}
 use Rattle.tacho.specs.Outside.{Outside, SinkTold, memory_of}
-use Rattle.tacho.specs.Recorded.{IsEmpty}
+use Rattle.tacho.specs.Outcomes.{IsEmpty}
 use Rattle.tacho.specs.Downloading.{end_of_download}
 use Rattle.tacho.specs.Program.{Ends}
 use Rattle.tacho.proofs.Services.{reads-rose}

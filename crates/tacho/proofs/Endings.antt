@@ -17,7 +17,7 @@ use Rattle.tacho.specs.Outside.{Outside}
 use Rattle.tacho.specs.Minutes.{PrintsMinutes, IsMinutesEnd, EndsMinutes}
 use Rattle.tacho.specs.View.{PrintsFile, IsBadFile, IsViewEnd, EndsView, most_bytes}
 use Rattle.run_outcome.specs.declared.outcome.Outcome.{Outcome}
-use Rattle.tacho.specs.Recorded.{IsEmpty}
+use Rattle.tacho.specs.Outcomes.{IsEmpty}
 use Rattle.tacho.specs.Program.{Ends, EndsForm, IsUnrecorded, IsUnpassed}
 use Rattle.tacho.proofs.EndLaws.{prints-end, wanted-end, judges-trace}
 

@@ -9,6 +9,8 @@ pub mod Formats
 pub mod WordRows
 pub mod Lines
 pub mod Recordings
+pub mod UnitRuns
+pub mod CardRuns
 pub mod Services
 pub mod LineServices
 pub mod Downloads

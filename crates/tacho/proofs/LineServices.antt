@@ -19,7 +19,7 @@ use Rattle.tacho.specs.declared.end.Fault.TheVariants.{Done, Usage, BadUnit, Rea
 use Rattle.tacho.specs.declared.forms.Form.TheVariants.{ServeHex}
 use Rattle.tacho.specs.End.{ended_by, is_medium_fault}
 use Rattle.tacho.specs.Outside.{Outside, memory_of}
-use Rattle.tacho.specs.Recorded.{IsEmpty}
+use Rattle.tacho.specs.Outcomes.{IsEmpty}
 use Rattle.tacho.specs.Serving.{end_of_service, end_of_lines, EndsServeHex}
 use Rattle.tacho.specs.Program.{Ends}
 use Rattle.tacho.proofs.Services.{not-usage, of-done, of-read, of-write, of-bad, of-unit, IsBadAt}

@@ -17,7 +17,7 @@ use Rattle.tacho.specs.declared.end.Fault.TheVariants.{Done, Usage, TooLong, Bad
 use Rattle.tacho.specs.declared.forms.Form.TheVariants.{Serve}
 use Rattle.tacho.specs.End.{ended_by, is_medium_fault}
 use Rattle.tacho.specs.Outside.{Outside, memory_of}
-use Rattle.tacho.specs.Recorded.{IsEmpty}
+use Rattle.tacho.specs.Outcomes.{IsEmpty}
 use Rattle.tacho.specs.Serving.{end_of_service, EndsServe}
 use Rattle.tacho.specs.Program.{Ends}
 

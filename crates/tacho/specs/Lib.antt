@@ -5,6 +5,9 @@ pub mod End
 pub mod Outside
 pub mod Reading
 pub mod Minutes
+pub mod Outcomes
+pub mod UnitRecorded
+pub mod CardsRecorded
 pub mod Recorded
 pub mod Formatting
 pub mod Serving

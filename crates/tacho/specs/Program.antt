@@ -16,7 +16,8 @@ use Rattle.tacho.specs.declared.forms.Form.TheVariants.{Minutes, Record, FormatC
 use Rattle.tacho.specs.End.{status_of, IsBeforeDevices}
 use Rattle.tacho.specs.Outside.{Outside, memory_of}
 use Rattle.tacho.specs.Minutes.{EndsMinutes}
-use Rattle.tacho.specs.Recorded.{EndsRecord, IsEmpty}
+use Rattle.tacho.specs.Outcomes.{IsEmpty}
+use Rattle.tacho.specs.Recorded.{EndsRecord}
 use Rattle.tacho.specs.Serving.{EndsServe, EndsServeHex}
 use Rattle.tacho.specs.Downloading.{EndsDownload}
 use Rattle.tacho.specs.View.{EndsView}
@@ -57,7 +58,7 @@ IsUnpassed asked wire = wire ≡ []
 abbrev pub LeavesOthers : Option Form → (source unit card_a card_b : Type 0) → Type 0
 LeavesOthers None source unit card_a card_b = source × unit × card_a × card_b
 LeavesOthers (Some Minutes) source unit card_a card_b = unit × card_a × card_b
-LeavesOthers (Some Record) source unit card_a card_b = card_a × card_b
+LeavesOthers (Some Record) source unit card_a card_b = Unit {0}
 LeavesOthers (Some (FormatCard A identity)) source unit card_a card_b = source × unit × card_b
 LeavesOthers (Some (FormatCard B identity)) source unit card_a card_b = source × unit × card_a
 LeavesOthers (Some (FormatUnit identity)) source unit card_a card_b = source × card_a × card_b
@@ -101,8 +102,10 @@ NamesField (Some (CardFile card)) (BadCard field) = Unit {0}
 NamesField asked fault = ⊥
 
 -- WHAT IT LEAVES UNTOUCHED. Each argument says that one of what it is handed is as it was.
-pub record Spares (asked : Option Form) (fault : Fault) (source sink unit card_a card_b : Type 0) : Type 0 where
+pub record Spares (asked : Option Form) (fault : Fault) (for_unit source sink unit card_a card_b : Type 0) : Type 0 where
   pub others : LeavesOthers asked source unit card_a card_b
+  -- `record` leaves the cards as they were where the source told a trace of the unit alone, which the first argument says.
+  pub cards : asked ≡ Some Record → for_unit → card_a × card_b
   -- Where no trace was read the devices are as they were; and memory runs out only before the first call on them.
   pub before : ReadsFirst asked → IsBeforeDevices fault → unit × card_a × card_b
   -- But at Done and at a write fault the sink is as it was.

@@ -1,7 +1,8 @@
 //! How the top call ends.
-use recorder::Outcome;
+use run_outcome::Outcome;
 use run_model::Device;
 use std::alloc::Global;
+use tacho_types::FullCardNumber;
 use unit_download::Wire;
 
 /// Why the call ended.
@@ -19,6 +20,8 @@ pub enum Fault {
     BadUnit(u32),
     /// The unit's last-kept minute, and the trace's first second (since 1970-01-01 00:00 GMT), whose minute is not later.
     ClockBack(u32, u32),
+    /// Both cards are valid and have this number.
+    SameCard(FullCardNumber),
     /// The source failed.
     ReadFault,
     /// The sink failed.
@@ -64,6 +67,7 @@ impl Ended {
             Fault::TooLong(_) => 3,
             Fault::BadUnit(_) => 4,
             Fault::ClockBack(_, _) => 5,
+            Fault::SameCard(_) => 6,
             Fault::ReadFault => 7,
             Fault::WriteFault => 8,
             Fault::MediumFault(_) => 9,

@@ -22,8 +22,9 @@ use end::{Ended, Fault};
 use run_model::Device;
 use std::io::ErrorKind;
 use std::process::ExitCode;
-use std::{env, io};
+use std::{env, io, str};
 use tach_media::{FileMedium, StdSink, StdSource};
+use tacho_types::{FullCardNumber, write_card_number};
 use top::{nothing, tacho};
 use unit_model::layout::IMAGE_SIZE;
 use words::Words;
@@ -64,6 +65,18 @@ fn run(rt: &HostRuntime) -> Ended {
     }
 }
 
+/// The line of two cards of one number, which is told in 36 hexadecimal digits.
+fn tell_same_card(rt: &HostRuntime, number: &FullCardNumber) -> io::Result<()> {
+    let mut bytes = [0; FullCardNumber::SIZE];
+    write_card_number(number, &mut bytes);
+    let mut digits = [0; 2 * FullCardNumber::SIZE];
+    let _ = hex::encode_to_slice(&bytes, &mut digits);
+    match str::from_utf8(&digits) {
+        Ok(text) => eprintln!(rt; "same card {text}"),
+        Err(_) => Ok(()),
+    }
+}
+
 /// The fault's line on standard error.
 fn tell(rt: &HostRuntime, fault: Fault) -> io::Result<()> {
     match fault {
@@ -73,6 +86,7 @@ fn tell(rt: &HostRuntime, fault: Fault) -> io::Result<()> {
         Fault::TooLong(n) => eprintln!(rt; "too long at line {n}"),
         Fault::BadUnit(place) => eprintln!(rt; "bad unit at {place}"),
         Fault::ClockBack(kept, second) => eprintln!(rt; "clock back, kept {kept}, start {second}"),
+        Fault::SameCard(number) => tell_same_card(rt, &number),
         Fault::ReadFault => eprintln!(rt; "read fault"),
         Fault::WriteFault => eprintln!(rt; "write fault"),
         Fault::MediumFault(Device::Unit) => eprintln!(rt; "medium fault unit"),

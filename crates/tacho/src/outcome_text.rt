@@ -3,12 +3,12 @@ ghost use Rattle.std.specs.Prelude.{◌≡◌, ◌+◌, ◌≤◌, ◌++◌, len
 ghost use Rattle.arrayvec.specs.ArrayVec.{array_vec_len};
 ghost use Rattle.run_model.specs.declared.Device.{Device as EachDevice};
 ghost use Rattle.safety_model.specs.Unit.{is_of};
-ghost use Rattle.tacho.specs.Recorded.{count_line, mark_count, outcome_text};
+ghost use Rattle.tacho.specs.Outcomes.{count_line, mark_count, outcome_text};
 
 use arrayvec::ArrayVec;
 use itoa::Buffer;
 use log_model::Mark;
-use recorder::{Lines, Outcome};
+use run_outcome::{Lines, Outcome};
 use run_model::Device;
 
 /// The most bytes of the five lines: 29 of names, and in each line a space, at most 20 digits, and LF.

@@ -1,4 +1,4 @@
-//! The command `record`: a trace is recorded on the unit, and what was recorded is counted.
+//! The command `record`: a trace is recorded on the unit and the cards, and what was recorded is counted.
 ghost use Rattle.std.specs.Prelude.{◌≡◌, ◌≢◌, ◌≤◌, OnOk, IfErr};
 ghost use Rattle.std.specs.Io.KnownBytes.{Appends};
 ghost use Rattle.tach_media.specs.Medium.{Rose};
@@ -6,18 +6,25 @@ ghost use Rattle.tach_media.specs.Streams.{AppendsFront};
 ghost use Rattle.unit_model.specs.Image.{IsUnit};
 ghost use Rattle.tacho.specs.End.{end_of, IsBeforeDevices};
 ghost use Rattle.tacho.specs.Outside.{outside};
-ghost use Rattle.tacho.specs.Recorded.{EndsRecord, IsEmpty, IsOfUnit, run_refusal_of, outcome_text as text_of_outcome};
-ghost use Rattle.run_model.specs.declared.Device.{Device};
+ghost use Rattle.tacho.specs.Program.{HasCauses};
+ghost use Rattle.tacho.specs.Formatting.{IsCard};
+ghost use Rattle.tacho.specs.Outcomes.{IsEmpty, outcome_text as text_of_outcome, IsToldForUnit};
+ghost use Rattle.tacho.specs.Recorded.{EndsRecord};
+ghost use Rattle.tacho.specs.UnitRecorded.{IsOfUnit, refusal_on_unit};
+ghost use Rattle.tacho.specs.CardsRecorded.{refusal_with_cards};
 
 use crate::end::Fault;
 use crate::minutes_command::refusal;
 use crate::outcome_text::outcome_text;
-use recorder::{Outcome, RunFault, run_trace};
+use recorder::{RunFault as UnitFault, is_for_unit, run_trace as record_on_unit};
+use recorder_with_cards::{RunFault, run_trace as record_with_cards};
+use run_outcome::Outcome;
 use std::alloc::Global;
 use tach_media::{Chip, Medium, Sink, Source, put_all};
 use trace_text::{Form, read_trace};
 
-/// The command `record`. The outcome is what was recorded; it stays as it was where the trace is not recorded.
+/// The command `record`. A trace without a card's line is recorded on the unit alone, and any other on the unit and both cards. The outcome
+/// is what was recorded; it stays as it was where the trace is not recorded.
 pub fn record<S: Source, K: Sink, U: Medium, C: Chip>(
     alloc: Global,
     source: &mut S,
@@ -28,19 +35,20 @@ pub fn record<S: Source, K: Sink, U: Medium, C: Chip>(
     outcome: &mut Outcome,
 ) -> Result<(), Fault>
     requires unit { IsUnit (U.state unit.old) }
+    requires card_a { IsCard (C.state card_a.old) }
+    requires card_b { IsCard (C.state card_b.old) }
     requires empty { IsEmpty outcome.old }
     ensures ends { EndsRecord
         (outside S.left S.faults K.held K.faults U.state C.state C.card source.old sink.old unit.old card_a.old card_b.old)
         (outside S.left S.faults K.held K.faults U.state C.state C.card source.new sink.new unit.new card_a.new card_b.new) outcome.new (end_of result) }
-    ensures before { IfErr result (λ fault. IsBeforeDevices fault → unit.new ≡ unit.old) }
+    ensures before { IfErr result (λ fault. IsBeforeDevices fault → (unit.new ≡ unit.old) × (card_a.new ≡ card_a.old) × (card_b.new ≡ card_b.old)) }
     ensures nothing { IfErr result (λ fault. fault ≢ Fault.WriteFault → sink.new ≡ sink.old) }
-    ensures cards { (card_a.new ≡ card_a.old) × (card_b.new ≡ card_b.old) }
-    ensures causes { IfErr result (λ fault. (fault ≡ Fault.ReadFault → Rose (S.faults source.old) (S.faults source.new))
-        × (fault ≡ Fault.WriteFault → Rose (K.faults sink.old) (K.faults sink.new))
-        × (fault ≡ Fault.MediumFault Device.Unit → Rose (U.state unit.old).faults (U.state unit.new).faults)) }
-    ensures counts { (S.faults source.old ≤ S.faults source.new) × (K.faults sink.old ≤ K.faults sink.new) }
+    ensures for_unit { IsToldForUnit (S.left source.old) → (card_a.new ≡ card_a.old) × (card_b.new ≡ card_b.old) }
+    ensures causes { HasCauses
+        (outside S.left S.faults K.held K.faults U.state C.state C.card source.old sink.old unit.old card_a.old card_b.old)
+        (outside S.left S.faults K.held K.faults U.state C.state C.card source.new sink.new unit.new card_a.new card_b.new) (end_of result) }
 {
-    let trace = match read_trace(alloc, source, Form::UnitAlone) {
+    let trace = match read_trace(alloc, source, Form::Whole) {
         Ok(trace) => trace,
         Err(fault) => return Err(refusal(fault)),
     };
@@ -48,22 +56,40 @@ pub fn record<S: Source, K: Sink, U: Medium, C: Chip>(
         return Err(Fault::Memory);
     };
     *outcome = reserved;
-    if let Err(fault) = run_trace(&trace, unit, card_a, card_b, outcome) {
-        return Err(run_refusal(fault));
+    if is_for_unit(&trace.items) {
+        if let Err(fault) = record_on_unit(&trace, unit, card_a, card_b, outcome) {
+            return Err(refusal_on_unit(fault));
+        }
+        return print_outcome(outcome, sink);
+    }
+    if let Err(fault) = record_with_cards(&trace, unit, card_a, card_b, outcome) {
+        return Err(refusal_with_cards(fault));
     }
     print_outcome(outcome, sink)
 }
 
-/// The end where the unit keeps a trace from being recorded.
-fn run_refusal(fault: RunFault) -> Fault
+/// The end where the unit keeps a trace from being recorded on it alone.
+fn refusal_on_unit(fault: UnitFault) -> Fault
     requires { IsOfUnit fault }
-    ensures { result ≡ run_refusal_of fault }
+    ensures { result ≡ refusal_on_unit fault }
+{
+    match fault {
+        UnitFault::MediumFault(device) => Fault::MediumFault(device),
+        UnitFault::BadUnit(place) => Fault::BadUnit(place),
+        UnitFault::ClockBack(kept, second) => Fault::ClockBack(kept, second),
+        UnitFault::SameCard(_) => unreachable!(),
+    }
+}
+
+/// The end where a device, the unit's image or the cards keep a trace from being recorded.
+fn refusal_with_cards(fault: RunFault) -> Fault
+    ensures { result ≡ refusal_with_cards fault }
 {
     match fault {
         RunFault::MediumFault(device) => Fault::MediumFault(device),
         RunFault::BadUnit(place) => Fault::BadUnit(place),
         RunFault::ClockBack(kept, second) => Fault::ClockBack(kept, second),
-        RunFault::SameCard(_) => unreachable!(),
+        RunFault::SameCard(number) => Fault::SameCard(number),
     }
 }
 

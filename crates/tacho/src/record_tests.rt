@@ -168,22 +168,12 @@ fn refused(rt: &(impl Abort + AllocGlobal), text: &[u8], fault: Fault) -> Result
 }
 
 #[test]
-fn a_line_of_cards_is_bad(rt: HostRuntime) -> Result<(), Fail> {
-    refused(&rt, b"start 86400\ninsert driver a\n", Fault::BadTrace(2))?;
+fn a_bad_line_is_told(rt: HostRuntime) -> Result<(), Fail> {
+    refused(&rt, b"start 86400\ninsert driver c\n", Fault::BadTrace(2))?;
     refused(
         &rt,
-        b"start 86400\nrun 60 0\noff 1\nwithdraw driver\n",
+        b"start 86400\nrun 60 0\noff 1\nwithdraw a\n",
         Fault::BadTrace(4),
-    )?;
-    refused(
-        &rt,
-        b"start 86400\n#\ntear codriver\nrun 0 0\n",
-        Fault::BadTrace(3),
-    )?;
-    refused(
-        &rt,
-        b"start 86400\nselect driver rest\nplace driver begin 1 2\n",
-        Fault::BadTrace(3),
     )?;
     refused(
         &rt,
@@ -192,6 +182,19 @@ fn a_line_of_cards_is_bad(rt: HostRuntime) -> Result<(), Fail> {
     )?;
     unknown(&rt, &["record", "record"])?;
     unknown(&rt, &["Record"])
+}
+
+#[test]
+fn a_card_that_fails_in_the_opening_is_told(rt: HostRuntime) -> Result<(), Fail> {
+    let alloc = rt.alloc();
+    let mut unit = new_unit(alloc, Vec::new(alloc))?;
+    let text = b"start 1267401600\ninsert driver a\nrun 300 0\n";
+    let ended = record(alloc, text, &mut unit)?;
+    assert_eq!(rt; ended.fault, Fault::MediumFault(Device::CardA));
+    assert_eq!(rt; ended.status, 9);
+    assert_eq!(rt; ended.printed.len(), 0);
+    assert_eq!(rt; unit.clock(), 0);
+    Ok(())
 }
 
 #[test]

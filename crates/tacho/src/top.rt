@@ -4,7 +4,7 @@ ghost use Rattle.tacho.specs.Forms.{form_of};
 ghost use Rattle.tacho.specs.Outside.{outside};
 ghost use Rattle.unit_model.specs.Image.{IsUnit};
 ghost use Rattle.tacho.specs.declared.forms.Form.TheVariants.{Record as FormOfRecord, CardFile as FormOfCard};
-ghost use Rattle.tacho.specs.Recorded.{IsEmpty};
+ghost use Rattle.tacho.specs.Outcomes.{IsEmpty, IsToldForUnit};
 ghost use Rattle.tacho.specs.Program.{AreDevices, Ends, Spares};
 
 use crate::card_command::card_end;
@@ -19,7 +19,7 @@ use crate::view_command::print_view;
 use crate::words::Words;
 use card_download::write_card_file;
 use link_service::{serve, serve_lines};
-use recorder::Outcome;
+use run_outcome::Outcome;
 use run_model::{Card, Device};
 use std::alloc::Global;
 use tach_media::{Chip, Medium, Sink, Source};
@@ -28,7 +28,8 @@ use unit_download::{Wire, download};
 /// Does what the words ask for.
 ///
 /// `minutes` reads a trace from the source, and writes the view text of its decided minutes, no card present, to the sink.
-/// `record` reads a trace that no card bears on, records it on the unit, and writes five lines of counts to the sink.
+/// `record` reads a trace, records it on the unit and the cards, and writes five lines of counts to the sink; a trace without a card's
+/// line is recorded on the unit alone.
 /// `serve` answers the frames among the bytes of the source by the messages of the unit, and writes the answers to the sink;
 /// `serve --hex` the same of lines of hexadecimal digits.
 /// `download` downloads the unit, and writes its file, message by message, to the sink.
@@ -53,10 +54,11 @@ pub fn tacho<S: Source, K: Sink, U: Medium, C: Chip>(
         (outside S.left S.faults K.held K.faults U.state C.state C.card source.old sink.old unit.old card_a.old card_b.old)
         (outside S.left S.faults K.held K.faults U.state C.state C.card source.new sink.new unit.new card_a.new card_b.new) result }
 
-    // What the form does not name is as it was; so are the devices where memory ran out, and the sink where nothing is to be
+    // What the form does not name is as it was, and so are the cards where `record` reads a trace without a card's line; so are the devices where
+    // memory ran out, and the sink where nothing is to be
     // printed, but for `serve`, `serve --hex` and `download`, which write as they read, and for `card a` and `card b`, which leave
     // the sink as it was where a field is named.
-    ensures spares { Spares (form_of words.now) result.fault
+    ensures spares { Spares (form_of words.now) result.fault (IsToldForUnit (S.left source.old))
         (source.new ≡ source.old) (sink.new ≡ sink.old) (unit.new ≡ unit.old) (card_a.new ≡ card_a.old) (card_b.new ≡ card_b.old) }
 {
     match form_of(words) {
@@ -79,7 +81,7 @@ fn perform<S: Source, K: Sink, U: Medium, C: Chip>(
     ensures ends { Ends (Some form)
         (outside S.left S.faults K.held K.faults U.state C.state C.card source.old sink.old unit.old card_a.old card_b.old)
         (outside S.left S.faults K.held K.faults U.state C.state C.card source.new sink.new unit.new card_a.new card_b.new) result }
-    ensures spares { Spares (Some form) result.fault
+    ensures spares { Spares (Some form) result.fault (IsToldForUnit (S.left source.old))
         (source.new ≡ source.old) (sink.new ≡ sink.old) (unit.new ≡ unit.old) (card_a.new ≡ card_a.old) (card_b.new ≡ card_b.old) }
 {
     let nothing = nothing(alloc);
@@ -134,11 +136,11 @@ fn perform_record<S: Source, K: Sink, U: Medium, C: Chip>(
     card_a: &mut C,
     card_b: &mut C,
 ) -> Ended
-    requires { IsUnit (U.state unit.old) }
+    requires { AreDevices (U.state unit.old) (C.state card_a.old) (C.state card_b.old) }
     ensures ends { Ends (Some FormOfRecord)
         (outside S.left S.faults K.held K.faults U.state C.state C.card source.old sink.old unit.old card_a.old card_b.old)
         (outside S.left S.faults K.held K.faults U.state C.state C.card source.new sink.new unit.new card_a.new card_b.new) result }
-    ensures spares { Spares (Some FormOfRecord) result.fault
+    ensures spares { Spares (Some FormOfRecord) result.fault (IsToldForUnit (S.left source.old))
         (source.new ≡ source.old) (sink.new ≡ sink.old) (unit.new ≡ unit.old) (card_a.new ≡ card_a.old) (card_b.new ≡ card_b.old) }
 {
     let mut outcome = nothing(alloc);
@@ -160,7 +162,7 @@ fn perform_card<S: Source, K: Sink, U: Medium, C: Chip>(
     ensures ends { Ends (Some (FormOfCard card))
         (outside S.left S.faults K.held K.faults U.state C.state C.card source.old sink.old unit.old card_a.old card_b.old)
         (outside S.left S.faults K.held K.faults U.state C.state C.card source.new sink.new unit.new card_a.new card_b.new) result }
-    ensures spares { Spares (Some (FormOfCard card)) result.fault
+    ensures spares { Spares (Some (FormOfCard card)) result.fault (IsToldForUnit (S.left source.old))
         (source.new ≡ source.old) (sink.new ≡ sink.old) (unit.new ≡ unit.old) (card_a.new ≡ card_a.old) (card_b.new ≡ card_b.old) }
 {
     let outcome = nothing(alloc);

@@ -6,7 +6,7 @@ use Rattle.activity_codec.proofs.ByTest.{by_test}
 use Rattle.run_model.specs.declared.Device.{Device}
 use Rattle.log_model.specs.declared.lines.Mark.{Mark}
 use Rattle.safety_model.specs.Unit.{is_of}
-use Rattle.tacho.specs.Recorded.{mark_count}
+use Rattle.tacho.specs.Outcomes.{mark_count}
 use Rattle.tacho.proofs.outcome_text.mark_count.Goals.{then-is_of, else-is_of}
 use Rattle.tacho.proofs.outcome_text.mark_count.Goals as goal
 

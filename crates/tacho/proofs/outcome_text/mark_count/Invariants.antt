@@ -1,5 +1,5 @@
 use Rattle.std.proofs.Common.{◌≡◌, ◌≤◌, take}
-use Rattle.tacho.specs.Recorded.{mark_count}
+use Rattle.tacho.specs.Outcomes.{mark_count}
 use Rattle.tacho.proofs.outcome_text.mark_count.Given as goal
 
 abbrev pub invariant-loop-i : goal.invariant-loop-i

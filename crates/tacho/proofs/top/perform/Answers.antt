@@ -20,7 +20,7 @@ returns-in-Serve-clause-ends g c =
     (serve-ends _ _ c.serve.result e.served e.end e.cause e.unit e.counts c.nothing-nothing.result c.nothing-nothing.ensures)
 
 pub returns-in-Serve-clause-spares : goal.returns-in-Serve-clause-spares
-returns-in-Serve-clause-spares g c = rw c.in-Serve.is (record { others = (refl, refl); before = λ none. absurd none; nothing = λ none. absurd none; unprinted = λ none. absurd none })
+returns-in-Serve-clause-spares g c = rw c.in-Serve.is (record { others = (refl, refl); cards = λ is. absurd (cc); before = λ none. absurd none; nothing = λ none. absurd none; unprinted = λ none. absurd none })
 
 pub returns-in-ServeHex-clause-ends : goal.returns-in-ServeHex-clause-ends
 returns-in-ServeHex-clause-ends g c =
@@ -29,7 +29,7 @@ returns-in-ServeHex-clause-ends g c =
     (serve-hex-ends _ _ c.serve_lines.result e.served e.end e.cause e.unit e.counts c.nothing-nothing.result c.nothing-nothing.ensures)
 
 pub returns-in-ServeHex-clause-spares : goal.returns-in-ServeHex-clause-spares
-returns-in-ServeHex-clause-spares g c = rw c.in-ServeHex.is (record { others = (refl, refl); before = λ none. absurd none; nothing = λ none. absurd none; unprinted = λ none. absurd none })
+returns-in-ServeHex-clause-spares g c = rw c.in-ServeHex.is (record { others = (refl, refl); cards = λ is. absurd (cc); before = λ none. absurd none; nothing = λ none. absurd none; unprinted = λ none. absurd none })
 
 pub returns-in-View-clause-ends : goal.returns-in-View-clause-ends
 returns-in-View-clause-ends g c =
@@ -46,4 +46,4 @@ returns-in-Download-clause-ends g c =
     (download-ends _ _ c.download-done.new.wire c.download-done.result e.downloaded e.file e.front e.changed e.bad e.nothing e.cause (omega arith) e.counts e.unit c.nothing-nothing.result c.nothing-nothing.ensures)
 
 pub returns-in-Download-clause-spares : goal.returns-in-Download-clause-spares
-returns-in-Download-clause-spares g c = rw c.in-Download.is (record { others = (refl, refl, refl); before = λ none. absurd none; nothing = λ none. absurd none; unprinted = λ none. absurd none })
+returns-in-Download-clause-spares g c = rw c.in-Download.is (record { others = (refl, refl, refl); cards = λ is. absurd (cc); before = λ none. absurd none; nothing = λ none. absurd none; unprinted = λ none. absurd none })

@@ -11,7 +11,7 @@ returns-in-A-clause-ends g c =
 
 pub returns-in-A-clause-spares : goal.returns-in-A-clause-spares
 returns-in-A-clause-spares g c = rw (c.in-A.is, c.of.ensures, c.card_end.ensures)
-    (record { others = (refl, refl, refl); before = λ none. absurd none; nothing = λ none. absurd none; unprinted = λ named. c.write_card_file.ensures.untouched (is-bad CardA c.write_card_file.result named) })
+    (record { others = (refl, refl, refl); cards = λ is. absurd (cc); before = λ none. absurd none; nothing = λ none. absurd none; unprinted = λ named. c.write_card_file.ensures.untouched (is-bad CardA c.write_card_file.result named) })
 
 pub returns-in-B-clause-ends : goal.returns-in-B-clause-ends
 returns-in-B-clause-ends g c =
@@ -21,4 +21,4 @@ returns-in-B-clause-ends g c =
 
 pub returns-in-B-clause-spares : goal.returns-in-B-clause-spares
 returns-in-B-clause-spares g c = rw (c.in-B.is, c.of-in-B.ensures, c.card_end-in-B.ensures)
-    (record { others = (refl, refl, refl); before = λ none. absurd none; nothing = λ none. absurd none; unprinted = λ named. c.write_card_file-in-B.ensures.untouched (is-bad CardB c.write_card_file-in-B.result named) })
+    (record { others = (refl, refl, refl); cards = λ is. absurd (cc); before = λ none. absurd none; nothing = λ none. absurd none; unprinted = λ named. c.write_card_file-in-B.ensures.untouched (is-bad CardB c.write_card_file-in-B.result named) })

@@ -4,4 +4,4 @@ use Rattle.tacho.proofs.top.perform_record.Goals as goal
 pub returns-clause-ends : goal.returns-clause-ends
 returns-clause-ends g c =
     let e = c.record-done.ensures in
-    rw c.after.ensures (record-ends _ _ c.record-done.new.outcome c.record-done.result e.ends e.causes e.counts)
+    rw c.after.ensures (record-ends _ _ c.record-done.new.outcome c.record-done.result e.ends e.causes)

@@ -1,0 +1,77 @@
+-- How a trace with cards ends that is recorded on the unit and both cards.
+use Rattle.std.proofs.Common.{◌≡◌, ◌∙◌, ◌≤◌, ◌<◌, ℕ, ◌/◌, refl, ap, sym, subst, arith, List, Option, Some, None}
+use Rattle.tach_media.specs.Medium.{Rose}
+use Rattle.run_model.specs.declared.Device.TheVariants.{Unit as OfUnit, CardA, CardB}
+use Rattle.trace_model.specs.declared.Card.TheVariants.{A, B}
+use Rattle.trace_model.specs.declared.Item.{Item}
+use Rattle.trace_text.specs.declared.trace.Form.TheVariants.{Whole}
+use Rattle.trace_text.specs.Judged.{IsTraceText}
+use Rattle.run_keeping.specs.Books.{HaveTime}
+use Rattle.run_opening.specs.declared.fault.RunFault.{RunFault}
+use Rattle.run_opening.specs.declared.fault.RunFault.TheVariants as run
+use Rattle.recorder.specs.Trace.{IsForUnit}
+use Rattle.recorder_with_cards.specs.Ends.{BeginAs, MayRecord, EndsTrace, IsKeptFrom}
+use Rattle.run_outcome.specs.declared.outcome.Outcome.{Outcome}
+use Rattle.tacho.specs.declared.end.Fault.{Fault}
+use Rattle.tacho.specs.declared.end.Fault.TheVariants.{Done, WriteFault}
+use Rattle.tacho.specs.Outside.{Outside}
+use Rattle.tacho.specs.Outcomes.{IsEmpty, IsRun, IsRefusal, IsTold}
+use Rattle.tacho.specs.CardsRecorded.{refusal_with_cards, devices_of, StartWith, AreSound, IsRefusedBy, EndsWithCards}
+use Rattle.tacho.proofs.Recordings.{none-bad, refused-no-run}
+use Rattle.tacho.proofs.UnitRuns.{run-done}
+
+-- each fault of such a run is a refusal
+pub cards-refusal : (fault : RunFault) → IsRefusal (refusal_with_cards fault)
+cards-refusal (run.MediumFault device) = tt
+cards-refusal (run.BadUnit place) = tt
+cards-refusal (run.ClockBack kept second) = tt
+cards-refusal (run.SameCard number) = tt
+
+-- no fault has a cause where nothing failed and the trace may be recorded
+none-caused : (old new : Outside) (x a b : List ℕ) (start : ℕ) (fault : RunFault) → AreSound old new → MayRecord x a b start → IsKeptFrom x a b start (devices_of old) (devices_of new) fault → ⊥
+none-caused old new x a b start (run.MediumFault OfUnit) sound may h = sound.unit h.cause
+none-caused old new x a b start (run.MediumFault CardA) sound may h = sound.card_a h.cause
+none-caused old new x a b start (run.MediumFault CardB) sound may h = sound.card_b h.cause
+none-caused old new x a b start (run.BadUnit place) sound may h = none-bad x place may.decodes h.cause
+none-caused old new x a b start (run.ClockBack kept second) sound may h = let p = may.later in let q = h.cause.1 in let r = h.cause.3 in omega (arith, p, q, r)
+none-caused old new x a b start (run.SameCard number) sound may h = may.numbers (h.cause.2 A).0 (h.cause.2 B).0 ((h.cause.2 A).1 ∙ sym (h.cause.2 B).1)
+
+module _ (old new : Outside) (outcome : Outcome) (start : ℕ) (items : List Item) (not_unit : IsForUnit items → ⊥)
+    (is_read : (text : List ℕ) (s : ℕ) (is : List Item) → old.source.left ≡ Some text → IsTraceText Whole text s is → (start ≡ s) × (items ≡ is)) where
+  same-trace : (s : ℕ) (is : List Item) → IsTold old s is → (start ≡ s) × (items ≡ is)
+  same-trace s is told = is_read told.text s is told.told told.trace
+
+  not-unit : (s : ℕ) (is : List Item) → IsTold old s is → IsForUnit is → ⊥
+  not-unit s is told for = not_unit (subst IsForUnit (sym (same-trace s is told).1) for)
+
+  -- THE RUN WAS REFUSED
+  pub cards-refused : (fault : RunFault)
+      → ((x a b : List ℕ) → BeginAs x a b (devices_of old) → HaveTime (devices_of new) → IsKeptFrom x a b start (devices_of old) (devices_of new) fault × IsEmpty outcome)
+      → EndsWithCards old new outcome (refusal_with_cards fault)
+  cards-refused fault refused = record {
+    with_cards = not-unit;
+    run = λ s is x a b starts ran. absurd (refused-no-run (refusal_with_cards fault) (cards-refusal fault) ran);
+    refused = λ s is x a b starts ref. (record { by = fault; is = refl; kept = kept-from s is x a b starts }, (refused x a b starts.begins starts.clocks).1);
+    records = λ s is x a b starts sound may. absurd (none-caused old new x a b s fault sound may (kept-from s is x a b starts));
+    finds = λ s is x a b starts sound not. record { by = fault; is = refl; kept = kept-from s is x a b starts };
+  }
+    where
+      kept-from : (s : ℕ) (is : List Item) (x a b : List ℕ) → StartWith x a b s is old new → IsKeptFrom x a b s (devices_of old) (devices_of new) fault
+      kept-from s is x a b starts =
+          subst (λ (t : ℕ). IsKeptFrom x a b t (devices_of old) (devices_of new) fault) (same-trace s is starts.told).0 (refused x a b starts.begins starts.clocks).0
+
+  -- THE RUN IS DONE
+  pub cards-run : ((x a b : List ℕ) → BeginAs x a b (devices_of old) → HaveTime (devices_of new) → EndsTrace x a b start items outcome (devices_of old) (devices_of new))
+      → ((x a b : List ℕ) → BeginAs x a b (devices_of old) → MayRecord x a b start)
+      → (fault : Fault) → IsRun fault → (fault ≡ WriteFault → Rose old.sink.faults new.sink.faults) → EndsWithCards old new outcome fault
+  cards-run recorded begun fault ran rose = record {
+    with_cards = not-unit;
+    run = λ s is x a b starts done.
+        let same = same-trace s is starts.told in
+        subst (λ (t : ℕ). EndsTrace x a b t is outcome (devices_of old) (devices_of new)) same.0
+        (subst (λ (l : List Item). EndsTrace x a b start l outcome (devices_of old) (devices_of new)) same.1 (recorded x a b starts.begins starts.clocks));
+    refused = λ s is x a b starts ref. absurd (refused-no-run fault ref ran);
+    records = λ s is x a b starts sound may. run-done old new fault ran rose sound.sink;
+    finds = λ s is x a b starts sound not.
+        absurd (not (subst (λ (t : ℕ). MayRecord x a b t) (same-trace s is starts.told).0 (begun x a b starts.begins)));
+  }

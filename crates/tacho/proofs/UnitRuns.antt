@@ -1,0 +1,163 @@
+-- How a trace without a card's line ends that is recorded on the unit alone.
+use Rattle.std.proofs.Common.{◌≡◌, ◌∙◌, ◌≤◌, ◌<◌, ℕ, ◌/◌, ⊎_elim, refl, ap, sym, subst, arith, true, Bool, List, Option, Some, None}
+use Rattle.std.specs.Prelude.{IfSome, is_some}
+use Rattle.tach_media.specs.Medium.{State, IsCoherent, LeavesOnly, Unchanged, Rose, last_count}
+use Rattle.run_model.specs.declared.Device.{Device}
+use Rattle.trace_model.specs.declared.Item.{Item}
+use Rattle.trace_text.specs.declared.trace.Form.TheVariants.{Whole}
+use Rattle.trace_text.specs.Judged.{IsTraceText}
+use Rattle.unit_model.specs.Image.{last_kept}
+use Rattle.unit_model.specs.Decoding.{Decodes, first_bad_place}
+use Rattle.recorder.specs.declared.opening.RunFault.{RunFault}
+use Rattle.recorder.specs.declared.opening.RunFault.TheVariants as run
+use Rattle.recorder.specs.Trace.{IsForUnit}
+use Rattle.recorder.specs.Booked.{StartsAs}
+use Rattle.recorder.specs.Opening.{IsRefused, IsUnitFault}
+use Rattle.run_outcome.specs.declared.outcome.Outcome.{Outcome}
+use Rattle.tacho.specs.declared.end.Fault.{Fault}
+use Rattle.tacho.specs.declared.end.Fault.TheVariants.{Done, Usage, BadTrace, TooLong, BadUnit, ClockBack, SameCard, ReadFault, WriteFault, MediumFault, Memory, BadFile, BadCard, Changed}
+use Rattle.tacho.specs.Outside.{Outside}
+use Rattle.tacho.specs.Outcomes.{IsEmpty, IsRun, IsRefusal, IsTold}
+use Rattle.tacho.specs.UnitRecorded.{IsOfUnit, refusal_on_unit, IsSound, Starts, IsRecorded, IsCaused, EndsOnUnit}
+use Rattle.tacho.proofs.Recordings.{none-bad, refused-no-run}
+
+-- the image that a unit tells behind reads alone is the one that it started with
+told-still : (x y : List ℕ) (old new : State) → IsCoherent old → IsCoherent new → StartsAs x old → LeavesOnly old new Unchanged → new.image ≡ Some y → y ≡ x
+told-still x y old new before after alone only told =
+    let left : old.may_leave y = ⊎_elim (λ l. l) (λ none. absurd none.2) (only.now y (after.is_left y told)) in
+    alone.only y (before.counts_now old.clock y (omega arith) left)
+
+pub still : (x : List ℕ) (old new : State) (P : List ℕ → Type 0) → IsCoherent old → IsCoherent new → StartsAs x old → LeavesOnly old new Unchanged → IfSome new.image P → P x
+still x old new P before after alone only holds = by_image new.image refl holds
+  where
+    by_image : (o : Option (List ℕ)) → new.image ≡ o → IfSome o P → P x
+    by_image (Some y) told p = subst P (told-still x y old new before after alone only told) p
+    by_image None told p =
+        let e : is_some new.image ≡ true = only.tells ∙ alone.tells in
+        let f = rw told at e in absurd (cc)
+
+-- THE RUN WAS REFUSED by the unit
+module _ (old new : Outside) (outcome : Outcome) (start : ℕ) (items : List Item)
+    (whole : IsCoherent old.unit) (whole_new : IsCoherent new.unit) (for_unit : IsForUnit items)
+    (is_read : (text : List ℕ) (s : ℕ) (is : List Item) → old.source.left ≡ Some text → IsTraceText Whole text s is → (start ≡ s) × (items ≡ is)) where
+  only-lines : (s : ℕ) (is : List Item) → IsTold old s is → IsForUnit is
+  only-lines s is told = subst IsForUnit (is_read told.text s is told.told told.trace).1 for_unit
+
+  pub unit-refused : (fault : RunFault) → IsUnitFault old.unit new.unit fault
+      → ((x : List ℕ) → StartsAs x old.unit → new.unit.clock < last_count → IsRefused start old.unit new.unit fault × LeavesOnly old.unit new.unit Unchanged × IsEmpty outcome)
+      → EndsOnUnit old new outcome (refusal_on_unit fault)
+  unit-refused (run.MediumFault device) of_unit refused = record {
+    for_unit = only-lines;
+    only = λ d is. let e : device ≡ d = cc in sym e ∙ of_unit.0;
+    run = λ s is x told starts no. absurd no;
+    caused = λ s is x told starts no. absurd no;
+    bad_unit = λ place x starts is. absurd (cc);
+    clock_back = λ kept second x starts is. absurd (cc);
+    refused = λ x starts is. let r = refused x starts.alone starts.clock in (r.1, r.2);
+    records = λ s is x told starts sound decodes late. absurd (sound.unit of_unit.1);
+    finds_bad_unit = λ s is x place told starts sound bad. absurd (sound.unit of_unit.1);
+    finds_clock_back = λ s is x told starts sound decodes back. absurd (sound.unit of_unit.1);
+  }
+  unit-refused (run.BadUnit place) of_unit refused =
+      let bad : (x : List ℕ) → Starts x old.unit new.unit → first_bad_place x ≡ Some place = λ x starts.
+      let r = refused x starts.alone starts.clock in still x old.unit new.unit (λ y. first_bad_place y ≡ Some place) whole whole_new starts.alone r.1 r.0 in
+      record {
+        for_unit = only-lines;
+        only = λ device is. absurd (cc);
+        run = λ s is x told starts no. absurd no;
+        caused = λ s is x told starts no. absurd no;
+        bad_unit = λ p x starts is. let e : place ≡ p = cc in bad x starts ∙ ap Some e;
+        clock_back = λ kept second x starts is. absurd (cc);
+        refused = λ x starts is. let r = refused x starts.alone starts.clock in (r.1, r.2);
+        records = λ s is x told starts sound decodes late. absurd (none-bad x place decodes (bad x starts));
+        finds_bad_unit = λ s is x p told starts sound found. let e : Some place ≡ Some p = sym (bad x starts) ∙ found in let f : place ≡ p = cc in ap BadUnit f;
+        finds_clock_back = λ s is x told starts sound decodes back. absurd (none-bad x place decodes (bad x starts));
+      }
+  unit-refused (run.ClockBack kept second) of_unit refused =
+      let found : (x : List ℕ) → Starts x old.unit new.unit → Decodes x × (last_kept x ≡ kept) = λ x starts.
+      let r = refused x starts.alone starts.clock in still x old.unit new.unit (λ y. Decodes y × (last_kept y ≡ kept)) whole whole_new starts.alone r.1 r.0.2 in
+      let when : (x : List ℕ) → Starts x old.unit new.unit → (second ≡ start) × (start / 60 ≤ kept) = λ x starts.
+      let r = refused x starts.alone starts.clock in (r.0.0, r.0.1) in
+      record {
+        for_unit = only-lines;
+        only = λ device is. absurd (cc);
+        run = λ s is x told starts no. absurd no;
+        caused = λ s is x told starts no. absurd no;
+        bad_unit = λ p x starts is. absurd (cc);
+        clock_back = λ k t x starts is.
+            let e : kept ≡ k = cc in let f : second ≡ t = cc in
+            let have = found x starts in let w = when x starts in
+            (have.0, have.1 ∙ e, subst (λ (u : ℕ). u / 60 ≤ k) (sym w.0 ∙ f) (subst (λ (u : ℕ). start / 60 ≤ u) e w.1));
+        refused = λ x starts is. let r = refused x starts.alone starts.clock in (r.1, r.2);
+        records = λ s is x told starts sound decodes late.
+            let same = (is_read told.text s is told.told told.trace).0 in
+            let kept_is = (found x starts).1 in let w = (when x starts).1 in
+            let late_here : last_kept x < start / 60 = subst (λ (u : ℕ). last_kept x < u / 60) (sym same) late in
+            absurd (omega (arith, late_here, kept_is, w));
+        finds_bad_unit = λ s is x p told starts sound bad. absurd (none-bad x p (found x starts).0 bad);
+        finds_clock_back = λ s is x told starts sound decodes back.
+            let same = (is_read told.text s is told.told told.trace).0 in
+            let kept_is = (found x starts).1 in let w = (when x starts).0 in
+            ap (λ (k : ℕ). ClockBack k second) (sym kept_is) ∙ ap (ClockBack (last_kept x)) (w ∙ same);
+      }
+  unit-refused (run.SameCard number) of_unit refused = absurd of_unit
+
+-- a fault of the run is the unit's
+pub of-unit : (old new : State) (fault : RunFault) → IsUnitFault old new fault → IsOfUnit fault
+of-unit old new (run.MediumFault device) is = is.0
+of-unit old new (run.BadUnit place) is = tt
+of-unit old new (run.ClockBack kept second) is = tt
+of-unit old new (run.SameCard number) is = is
+
+-- such a fault is a refusal
+pub unit-refusal : (fault : RunFault) → IsOfUnit fault → IsRefusal (refusal_on_unit fault)
+unit-refusal (run.MediumFault device) of_unit = tt
+unit-refusal (run.BadUnit place) of_unit = tt
+unit-refusal (run.ClockBack kept second) of_unit = tt
+unit-refusal (run.SameCard number) of_unit = of_unit
+
+-- a run that went well, or could not be printed, is done where no call failed
+pub run-done : (old new : Outside) (fault : Fault) → IsRun fault → (fault ≡ WriteFault → Rose old.sink.faults new.sink.faults) → (Rose old.sink.faults new.sink.faults → ⊥) → fault ≡ Done
+run-done old new Done is rose sound = refl
+run-done old new WriteFault is rose sound = absurd (sound (rose refl))
+run-done old new Usage is rose sound = absurd is
+run-done old new (BadTrace n) is rose sound = absurd is
+run-done old new (TooLong n) is rose sound = absurd is
+run-done old new (BadUnit place) is rose sound = absurd is
+run-done old new (ClockBack kept second) is rose sound = absurd is
+run-done old new (SameCard number) is rose sound = absurd is
+run-done old new ReadFault is rose sound = absurd is
+run-done old new (MediumFault device) is rose sound = absurd is
+run-done old new Memory is rose sound = absurd is
+run-done old new (BadFile place) is rose sound = absurd is
+run-done old new (BadCard field) is rose sound = absurd is
+run-done old new Changed is rose sound = absurd is
+
+-- THE RUN IS DONE
+pub unit-run : (old new : Outside) (outcome : Outcome) (start : ℕ) (items : List Item) → IsForUnit items
+    → ((text : List ℕ) (s : ℕ) (is : List Item) → old.source.left ≡ Some text → IsTraceText Whole text s is → (start ≡ s) × (items ≡ is))
+    → ((x : List ℕ) → StartsAs x old.unit → new.unit.clock < last_count → IsRecorded x start items old.unit.clock outcome new.unit)
+    → ((x : List ℕ) → StartsAs x old.unit → new.unit.clock < last_count → IsCaused old new start items outcome)
+    → ((x : List ℕ) → StartsAs x old.unit → Decodes x × (last_kept x < start / 60))
+    → (fault : Fault) → IsRun fault → (fault ≡ WriteFault → Rose old.sink.faults new.sink.faults) → EndsOnUnit old new outcome fault
+unit-run old new outcome start items for_unit is_read recorded caused begun fault ran rose = record {
+  for_unit = λ s is told. subst IsForUnit (is_read told.text s is told.told told.trace).1 for_unit;
+  only = λ device is. absurd (subst IsRun is ran);
+  run = λ s is x told starts done. of_trace s is x (is_read told.text s is told.told told.trace) (recorded x starts.alone starts.clock);
+  caused = λ s is x told starts done. of_causes s is (is_read told.text s is told.told told.trace) (caused x starts.alone starts.clock);
+  bad_unit = λ place x starts is. absurd (subst IsRun is ran);
+  clock_back = λ kept second x starts is. absurd (subst IsRun is ran);
+  refused = λ x starts is. absurd (refused-no-run fault is ran);
+  records = λ s is x told starts sound decodes late. run-done old new fault ran rose sound.sink;
+  finds_bad_unit = λ s is x place told starts sound bad. absurd (none-bad x place (begun x starts.alone).0 bad);
+  finds_clock_back = λ s is x told starts sound decodes back. absurd (not_back s x (is_read told.text s is told.told told.trace).0 (begun x starts.alone).1 back);
+}
+  where
+    of_trace : (s : ℕ) (is : List Item) (x : List ℕ) → (start ≡ s) × (items ≡ is) → IsRecorded x start items old.unit.clock outcome new.unit → IsRecorded x s is old.unit.clock outcome new.unit
+    of_trace s is x same h = subst (λ (t : ℕ). IsRecorded x t is old.unit.clock outcome new.unit) same.0 (subst (λ (l : List Item). IsRecorded x start l old.unit.clock outcome new.unit) same.1 h)
+
+    of_causes : (s : ℕ) (is : List Item) → (start ≡ s) × (items ≡ is) → IsCaused old new start items outcome → IsCaused old new s is outcome
+    of_causes s is same h = subst (λ (t : ℕ). IsCaused old new t is outcome) same.0 (subst (λ (l : List Item). IsCaused old new start l outcome) same.1 h)
+
+    not_back : (s : ℕ) (x : List ℕ) → start ≡ s → last_kept x < start / 60 → s / 60 ≤ last_kept x → ⊥
+    not_back s x same late back = let here : last_kept x < s / 60 = subst (λ (t : ℕ). last_kept x < t / 60) same late in omega (arith, here, back)

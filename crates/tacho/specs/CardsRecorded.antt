@@ -1,0 +1,64 @@
+-- How a trace with cards is recorded on the unit and both cards (profile).
+use Rattle.std.specs.Prelude.{◌≡◌, ℕ, List}
+use Rattle.tach_media.specs.Medium.{Rose}
+use Rattle.safety_model.specs.Safe.{Devices}
+use Rattle.run_rule.specs.Between.{devices}
+use Rattle.run_keeping.specs.Books.{HaveTime}
+use Rattle.run_opening.specs.declared.fault.RunFault.{RunFault}
+use Rattle.run_opening.specs.declared.fault.RunFault.TheVariants as run
+use Rattle.recorder.specs.Trace.{IsForUnit}
+use Rattle.recorder_with_cards.specs.Ends.{BeginAs, MayRecord, EndsTrace, IsKeptFrom}
+use Rattle.run_outcome.specs.declared.outcome.Outcome.{Outcome}
+use Rattle.trace_model.specs.declared.Item.{Item}
+use Rattle.tacho.specs.declared.end.Fault.{Fault}
+use Rattle.tacho.specs.declared.end.Fault.TheVariants.{Done, BadUnit, ClockBack, SameCard, MediumFault}
+use Rattle.tacho.specs.Outside.{Outside}
+use Rattle.tacho.specs.Outcomes.{IsEmpty, IsRun, IsRefusal, IsTold}
+
+-- the end by a fault of such a run
+abbrev pub refusal_with_cards : RunFault → Fault
+refusal_with_cards (run.MediumFault device) = MediumFault device
+refusal_with_cards (run.BadUnit place) = BadUnit place
+refusal_with_cards (run.ClockBack kept second) = ClockBack kept second
+refusal_with_cards (run.SameCard number) = SameCard number
+
+-- the unit and both cards
+abbrev pub devices_of : Outside → Devices
+devices_of told = devices told.unit told.card_a.memory told.card_b.memory
+
+-- the source told this trace, each device started with its image alone, and no clock has come to its end
+pub record StartWith (unit card_a card_b : List ℕ) (start : ℕ) (items : List Item) (old new : Outside) : Type 0 where
+  pub told : IsTold old start items
+  pub begins : BeginAs unit card_a card_b (devices_of old)
+  pub clocks : HaveTime (devices_of new)
+
+-- neither stream failed, and no call on a device
+pub record AreSound (old new : Outside) : Type 0 where
+  pub source : Rose old.source.faults new.source.faults → ⊥
+  pub sink : Rose old.sink.faults new.sink.faults → ⊥
+  pub unit : Rose old.unit.faults new.unit.faults → ⊥
+  pub card_a : Rose old.card_a.memory.faults new.card_a.memory.faults → ⊥
+  pub card_b : Rose old.card_b.memory.faults new.card_b.memory.faults → ⊥
+
+-- THE TRACE WAS KEPT FROM BEING RECORDED, for the cause that this end names: a call failed in the opening; or by these images the unit's does
+-- not decode, the clock is back, or both cards have one number. Each device is as it was.
+pub record IsRefusedBy (unit card_a card_b : List ℕ) (start : ℕ) (old new : Outside) (fault : Fault) : Type 0 where
+  pub by : RunFault
+  pub is : fault ≡ refusal_with_cards by
+  pub kept : IsKeptFrom unit card_a card_b start (devices_of old) (devices_of new) by
+
+-- THE TRACE WAS RECORDED ON THE UNIT AND BOTH CARDS, or one of them kept it from being recorded.
+pub record EndsWithCards (old new : Outside) (outcome : Outcome) (fault : Fault) : Type 0 where
+  -- One of its lines is a card's.
+  pub with_cards : (start : ℕ) (items : List Item) → IsTold old start items → IsForUnit items → ⊥
+  -- THE RUN of the trace, where it was recorded: the crash-safety theorem of unit and cards.
+  pub run : (start : ℕ) (items : List Item) (unit card_a card_b : List ℕ) → StartWith unit card_a card_b start items old new → IsRun fault
+      → EndsTrace unit card_a card_b start items outcome (devices_of old) (devices_of new)
+  -- Each refusal has its cause; the devices are as they were, and there is no outcome.
+  pub refused : (start : ℕ) (items : List Item) (unit card_a card_b : List ℕ) → StartWith unit card_a card_b start items old new → IsRefusal fault
+      → IsRefusedBy unit card_a card_b start old new fault × IsEmpty outcome
+  -- And each cause has its end, where nothing failed: what can be recorded is.
+  pub records : (start : ℕ) (items : List Item) (unit card_a card_b : List ℕ) → StartWith unit card_a card_b start items old new → AreSound old new
+      → MayRecord unit card_a card_b start → fault ≡ Done
+  pub finds : (start : ℕ) (items : List Item) (unit card_a card_b : List ℕ) → StartWith unit card_a card_b start items old new → AreSound old new
+      → (MayRecord unit card_a card_b start → ⊥) → IsRefusedBy unit card_a card_b start old new fault

@@ -1,0 +1,82 @@
+-- How a trace without a card's line is recorded on the unit alone (profile).
+use Rattle.std.specs.Prelude.{◌≡◌, ◌⊎◌, ℕ, ◌/◌, ◌<◌, ◌≤◌, Some, List}
+use Rattle.tach_media.specs.Medium.{State, Rose, LeavesOnly, Unchanged, last_count}
+use Rattle.run_model.specs.declared.Device.{Device}
+use Rattle.run_model.specs.declared.Device.TheVariants.{Unit as OfUnit}
+use Rattle.log_model.specs.Causes.{HasCauses}
+use Rattle.history_model.specs.Presence.{Start}
+use Rattle.recorder.specs.Booked.{StartsAs}
+use Rattle.recorder.specs.Followed.{IsFollowed, NoVerdict, breakdowns_of, run_log}
+use Rattle.recorder.specs.Trace.{IsForUnit}
+use Rattle.recorder.specs.declared.opening.RunFault.{RunFault}
+use Rattle.recorder.specs.declared.opening.RunFault.TheVariants as run
+use Rattle.run_outcome.specs.declared.outcome.Outcome.{Outcome}
+use Rattle.trace_model.specs.declared.Item.{Item}
+use Rattle.trace_model.specs.Trace.{seconds_of}
+use Rattle.unit_model.specs.Image.{last_kept}
+use Rattle.unit_model.specs.Decoding.{Decodes, first_bad_place}
+use Rattle.tacho.specs.declared.end.Fault.{Fault}
+use Rattle.tacho.specs.declared.end.Fault.TheVariants.{Done, Usage, BadUnit, ClockBack, MediumFault, Memory}
+use Rattle.tacho.specs.Outside.{Outside}
+use Rattle.tacho.specs.Outcomes.{IsEmpty, IsRun, IsRefusal, IsTold}
+
+-- a fault of such a run is the unit's
+abbrev pub IsOfUnit : RunFault → Type 0
+IsOfUnit (run.MediumFault device) = device ≡ OfUnit
+IsOfUnit (run.BadUnit place) = Unit {0}
+IsOfUnit (run.ClockBack kept second) = Unit {0}
+IsOfUnit (run.SameCard number) = ⊥
+
+-- the end by it
+abbrev pub refusal_on_unit : RunFault → Fault
+refusal_on_unit (run.MediumFault device) = MediumFault device
+refusal_on_unit (run.BadUnit place) = BadUnit place
+refusal_on_unit (run.ClockBack kept second) = ClockBack kept second
+refusal_on_unit (run.SameCard number) = Usage
+
+-- neither stream failed, and no call on the unit
+pub record IsSound (old new : Outside) : Type 0 where
+  pub source : Rose old.source.faults new.source.faults → ⊥
+  pub sink : Rose old.sink.faults new.sink.faults → ⊥
+  pub unit : Rose old.unit.faults new.unit.faults → ⊥
+
+-- the unit started with this image alone, and its clock has not come to its end
+pub record Starts (x : List ℕ) (old new : State) : Type 0 where
+  pub alone : StartsAs x old
+  pub clock : new.clock < last_count
+
+-- what a run has recorded of a trace, whatever the cards bring: it began with this image, at this clock
+abbrev pub IsRecorded : (x : List ℕ) → (start : ℕ) → List Item → (clock : ℕ) → Outcome → State → Type 0
+IsRecorded x start items clock outcome unit = (cards : Start) → IsFollowed cards x start items clock outcome unit
+
+-- how often each device broke down
+abbrev pub breakdowns_in : Outside → Device → ℕ
+breakdowns_in told = breakdowns_of told.unit told.card_a.memory told.card_b.memory
+
+-- each line of the run log of a trace has its cause, and what happened has its line
+abbrev pub IsCaused : (old new : Outside) → (start : ℕ) → List Item → Outcome → Type 0
+IsCaused old new start items outcome = HasCauses NoVerdict (breakdowns_in old) (breakdowns_in new) (seconds_of start items) (run_log outcome)
+
+-- THE TRACE WAS RECORDED ON THE UNIT ALONE, or the unit kept it from being recorded.
+pub record EndsOnUnit (old new : Outside) (outcome : Outcome) (fault : Fault) : Type 0 where
+  -- None of its lines is a card's.
+  pub for_unit : (start : ℕ) (items : List Item) → IsTold old start items → IsForUnit items
+  pub only : (device : Device) → fault ≡ MediumFault device → device ≡ OfUnit
+  -- THE RUN of the trace, where it was recorded.
+  pub run : (start : ℕ) (items : List Item) (x : List ℕ) → IsTold old start items → Starts x old.unit new.unit → IsRun fault
+      → IsRecorded x start items old.unit.clock outcome new.unit
+  -- Its refused actions are those of the seconds without power, and each cut was an `off` line's or a breakdown of the unit.
+  pub caused : (start : ℕ) (items : List Item) (x : List ℕ) → IsTold old start items → Starts x old.unit new.unit → IsRun fault
+      → IsCaused old new start items outcome
+  -- Each refusal by the unit has its cause in the image that it started with; the unit is as it was, and there is no outcome.
+  pub bad_unit : (place : ℕ) (x : List ℕ) → Starts x old.unit new.unit → fault ≡ BadUnit place → first_bad_place x ≡ Some place
+  pub clock_back : (kept second : ℕ) (x : List ℕ) → Starts x old.unit new.unit → fault ≡ ClockBack kept second
+      → Decodes x × (last_kept x ≡ kept) × (second / 60 ≤ kept)
+  pub refused : (x : List ℕ) → Starts x old.unit new.unit → IsRefusal fault → LeavesOnly old.unit new.unit Unchanged × IsEmpty outcome
+  -- And each cause has its end, where nothing failed: what can be recorded is.
+  pub records : (start : ℕ) (items : List Item) (x : List ℕ) → IsTold old start items → Starts x old.unit new.unit → IsSound old new
+      → Decodes x → last_kept x < start / 60 → fault ≡ Done
+  pub finds_bad_unit : (start : ℕ) (items : List Item) (x : List ℕ) (place : ℕ) → IsTold old start items → Starts x old.unit new.unit → IsSound old new
+      → first_bad_place x ≡ Some place → fault ≡ BadUnit place
+  pub finds_clock_back : (start : ℕ) (items : List Item) (x : List ℕ) → IsTold old start items → Starts x old.unit new.unit → IsSound old new
+      → Decodes x → start / 60 ≤ last_kept x → fault ≡ ClockBack (last_kept x) start
