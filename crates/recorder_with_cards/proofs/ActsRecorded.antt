@@ -62,7 +62,7 @@ module _ (o : Origin) (done : List TraceSecond) (s : TraceSecond) (run : Run) (o
 module _ (o : Origin) (done : List TraceSecond) (s : TraceSecond) (speed : ℕ) (run : Run) (before : Outcome) (d : Devices) (now : IsNow s speed run)
     (front : List Action) (a : Action) (rest : List Action) (are : s.actions ≡ front ++ a ∷ rest) (h : RunWithin o done s (In (length front)) [] [] run before d) where
   -- slots and speed refuse it in the log as they do in the slots
-  refuses : (r : Option SlotFault) → refusal (logged run.keeper.cabin.slots.seats) speed a ≡ r → refusal (course_in h.within.b done s (In (length front)) (values_of run before).log).slots s.speed a ≡ r
+  pub refuses : (r : Option SlotFault) → refusal (logged run.keeper.cabin.slots.seats) speed a ≡ r → refusal (course_in h.within.b done s (In (length front)) (values_of run before).log).slots s.speed a ≡ r
   refuses r is =
       let w = h.within in
       let c = course_in w.b done s (In (length front)) (values_of run before).log in
