@@ -1,5 +1,5 @@
 -- What a card that enters leaves of the devices, whatever becomes of it.
-use Rattle.std.proofs.Common.{◌≡◌, ◌⊎◌, inl, inr, ⊎_elim, ℕ, ◌+◌, ◌/◌, ◌≤◌, ◌<◌, Bool, true, false, Option, Some, None, is_some, List, [], ◌∷◌, length, refl, ap, sym, subst, ◌∙◌, arith}
+use Rattle.std.proofs.Common.{◌≡◌, ◌⊎◌, inl, inr, ⊎_elim, ℕ, ◌+◌, ◌≤◌, ◌<◌, Bool, true, false, Some, None, is_some, List, [], refl, ap, sym, subst, ◌∙◌, arith}
 use Rattle.std.specs.Prelude.{nat_le}
 use Rattle.std.proofs.lemmas.Bool.Decides.{nat_tests}
 use Rattle.trace_model.specs.declared.Card.{Card}
@@ -7,7 +7,6 @@ use Rattle.trace_model.specs.declared.Card.TheVariants.{A, B}
 use Rattle.trace_model.specs.Trace.{TraceSecond}
 use Rattle.tach_media.specs.Medium.{State, LeavesOnly, Rose, HasBroken, last_count}
 use Rattle.tach_media.proofs.Runs.{at_image}
-use Rattle.run_model.specs.declared.Device.{Device}
 use Rattle.run_model.specs.declared.Device.TheVariants.{Unit as Recorder, CardA, CardB}
 use Rattle.minute_rules.specs.Kept.{Kept}
 use Rattle.card_image.specs.Own.{IsOwnValid}
@@ -15,14 +14,12 @@ use Rattle.card_times.specs.Times.{AreTimedSince}
 use Rattle.log_model.specs.Log.{In}
 use Rattle.log_model.specs.Causes.{device_of, RoseBy}
 use Rattle.log_model.specs.Course.{Visit}
-use Rattle.history_model.specs.Book.{Book}
 use Rattle.joint_rule.specs.Rules.{Out}
 use Rattle.joint_rule.specs.Views.{other}
 use Rattle.unit_course.specs.Legs.{all_travelled}
 use Rattle.unit_model.specs.Image.{odometer_at}
 use Rattle.unit_rule.specs.Odometer.{HasTravelled}
-use Rattle.safety_model.specs.Safe.{Devices, card_of, breakdowns_of}
-use Rattle.safety_model.specs.Recording.{card_image}
+use Rattle.safety_model.specs.Safe.{card_of, breakdowns_of}
 use Rattle.run_rule.specs.Found.{found_of}
 use Rattle.run_rule.specs.Cards.{IsUntouched}
 use Rattle.run_rule.specs.Between.{Carried}
@@ -37,9 +34,9 @@ use Rattle.run_keeping.specs.declared.keeper.Keeper.{Keeper}
 use Rattle.run_keeping.specs.declared.keeper.Moment.{Moment as KeepingAt}
 use Rattle.run_entering.specs.declared.lines.Entering.{Entering}
 use Rattle.run_entering.specs.Entering.{Way, ending_of}
-use Rattle.run_entering.specs.Noted.{AreComingOnCard, notes_by}
+use Rattle.run_entering.specs.Noted.{AreComingOnCard}
 use Rattle.run_entering.specs.Told.{MayEnter, IsEnteredOn, MayHaveWritten}
-use Rattle.run_within.specs.Recorded.{Values, carried, AreThere}
+use Rattle.run_within.specs.Recorded.{carried, AreThere}
 use Rattle.run_within.specs.Within.{Within}
 use Rattle.run_entered.specs.Entered.{values_with, MayJudge, HasGone, AreSound}
 use Rattle.run_entered.proofs.Travelled.{travelled-entered}

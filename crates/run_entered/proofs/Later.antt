@@ -1,10 +1,9 @@
 -- A card that is found to tell of a later time: it did so at the start, or it was put in before in the minute, and its closing word stands in the
 -- minute behind.
-use Rattle.std.proofs.Common.{◌≡◌, ◌⊎◌, inl, inr, ⊎_elim, ℕ, suc, ◌+◌, ◌*◌, ◌/◌, ◌≤◌, ◌<◌, max, min, Bool, true, false, cond, ◌&&◌, Option, Some, None, List, [], ◌∷◌, ◌++◌, All, Contains, length, refl, ap, sym, subst, ◌∙◌, arith, length-append}
-use Rattle.std.specs.Prelude.{nat_eq, nat_le, nat_lt, filter, flat_map}
+use Rattle.std.proofs.Common.{◌≡◌, ◌⊎◌, inl, inr, ⊎_elim, ℕ, suc, ◌*◌, ◌/◌, ◌≤◌, ◌<◌, max, min, Bool, true, false, cond, ◌&&◌, Option, None, List, [], ◌∷◌, ◌++◌, All, length, refl, ap, sym, subst, ◌∙◌, arith, length-append}
+use Rattle.std.specs.Prelude.{nat_eq, nat_le, filter, flat_map}
 use Rattle.std.proofs.lemmas.Bool.{cases_lt}
 use Rattle.std.proofs.lemmas.Bool.Decides.{nat_tests}
-use Rattle.std.proofs.lemmas.List.Elements.{All-append, All-weaker}
 use Rattle.activity_codec.specs.declared.entries.Entry.{Entry}
 use Rattle.trace_model.specs.declared.Card.{Card}
 use Rattle.trace_model.specs.declared.Card.TheVariants.{A, B}
@@ -12,38 +11,33 @@ use Rattle.trace_model.specs.Trace.{TraceSecond}
 use Rattle.tach_media.specs.Medium.{State, IsCoherent}
 use Rattle.minute_rules.specs.Kept.{Kept}
 use Rattle.minute_model.specs.Activity.{last}
-use Rattle.card_layout.specs.declared.files.Application.{Application}
 use Rattle.card_image.specs.Fields.{session_time, last_use, card_days}
 use Rattle.card_retention.specs.Entries.{newest_word}
 use Rattle.card_session.specs.declared.words.TheConstants.{LATEST_MINUTE}
 use Rattle.run_crew.specs.declared.cards.Accepted.{Accepted as Session}
-use Rattle.card_image.specs.Judging.{IsValid}
-use Rattle.card_image.specs.View.{CardView, card_view}
-use Rattle.card_image.specs.Own.{own_sizes, own_view, own_bad_file, IsOwnValid}
+use Rattle.card_image.specs.View.{CardView}
+use Rattle.card_image.specs.Own.{own_sizes, own_view, IsOwnValid}
 use Rattle.card_session.proofs.NewestStays.{view_word}
 use Rattle.card_session.proofs.Renewing.{stored_least, stored_open, stored_shut}
 use Rattle.card_times.specs.Times.{own_use, IsTimed}
 use Rattle.card_times.proofs.Calls.{use-is}
 use Rattle.device_steps.proofs.OnCard.{own-is, session-is, mark-is}
-use Rattle.log_model.specs.declared.lines.Verdict.TheVariants.{TimeOverlap}
 use Rattle.log_model.specs.Log.{In}
 use Rattle.log_model.specs.Slots.{same_card}
 use Rattle.log_model.specs.Course.{Told, Visit}
-use Rattle.history_model.specs.Minutes.{HistoryMinute, card_history, up_to}
-use Rattle.history_model.specs.Presence.{CardStart, closed_at, trimmed_by}
-use Rattle.history_model.specs.Book.{Book, all}
+use Rattle.history_model.specs.Minutes.{card_history, up_to}
+use Rattle.history_model.specs.Presence.{CardStart, closed_at}
+use Rattle.history_model.specs.Book.{all}
 use Rattle.joint_rule.specs.Rules.{Meets}
 use Rattle.joint_rule.specs.Views.{UnitView, unit_view, owed, newest_with, beyond}
 use Rattle.joint_rule.proofs.Pairs.{mark-newest}
 use Rattle.safety_model.specs.Recording.{Recording, card_image, told_of}
-use Rattle.safety_model.specs.Safe.{Devices, card_of, entered_by}
+use Rattle.safety_model.specs.Safe.{entered_by}
 use Rattle.run_rule.specs.Found.{found_of, AnyKept}
-use Rattle.run_rule.specs.Cards.{IsUntouched, brought_by}
 use Rattle.run_rule.proofs.Behind.{own-marked}
 use Rattle.run_course.specs.Seconds.{kept_all}
 use Rattle.run_moments.specs.Lines.{times_of}
 use Rattle.run_told.specs.Told.{arranged}
-use Rattle.run_told.proofs.OnCards.{valid-own}
 use Rattle.run_told.proofs.Opened.{owed-none}
 use Rattle.run_told.proofs.Parts.{CardLit}
 use Rattle.run_outcome.specs.declared.outcome.Outcome.{Outcome}
@@ -51,10 +45,10 @@ use Rattle.run_recorded.specs.Origin.{Origin}
 use Rattle.run_recorded.specs.Ends.{recording_by}
 use Rattle.run_keeping.specs.declared.keeper.Keeper.{Keeper}
 use Rattle.run_entering.specs.declared.lines.Entering.{Entering}
-use Rattle.run_within.specs.Within.{course_in, often, VerdictBy, MayBeWrittenSo, Within}
+use Rattle.run_within.specs.Within.{course_in, often, MayBeWrittenSo, Within}
 use Rattle.run_entered.specs.Entered.{values_with, MayJudge}
 use Rattle.run_entered.proofs.Facts.{mine, was, now-is, unit-told, card-began}
-use Rattle.run_entered.proofs.Newest.{trimmed-most, closed-up, mark-low, beyond-low, brought-part, few-now, written-or}
+use Rattle.run_entered.proofs.Newest.{trimmed-most, closed-up, mark-low, beyond-low, brought-part, few-now}
 
 -- ---- how often a card entered in a minute, by an earlier second of it
 
@@ -63,34 +57,34 @@ both-true true true c d one two is = ap (λ (x : Bool). x && d) (one refl) ∙ t
 both-true true false c d one two is = absurd (cc)
 both-true false b c d one two is = absurd (cc)
 
+abbrev entered_in_ : Card → Told → List Visit
+entered_in_ card x = filter (λ (v : Visit). same_card card v.card) x.course.entered
+
+abbrev here : ℕ → Told → Bool
+here n x = nat_le x.second.number n && nat_eq (x.second.number / 60) (n / 60)
+
 pub entered-later : (r : Recording) (card : Card) (t u : ℕ) → t ≤ u → t / 60 ≡ u / 60 → entered_by r card t ≤ entered_by r card u
 entered-later r card t u le minute = by (told_of r)
   where
-    abbrev entered_in_ : Told → List Visit
-    entered_in_ x = filter (λ (v : Visit). same_card card v.card) x.course.entered
-
-    abbrev here : ℕ → Told → Bool
-    here n x = nat_le x.second.number n && nat_eq (x.second.number / 60) (n / 60)
-
     up : (x : Told) → here t x ≡ true → here u x ≡ true
     up x is = both-true (nat_le x.second.number t) (nat_eq (x.second.number / 60) (t / 60)) (nat_le x.second.number u) (nat_eq (x.second.number / 60) (u / 60))
         (λ a. grind (arith, nat_tests)) (λ b. grind (arith, nat_tests)) is
 
-    one : (x : Told) → length (cond (here t x) (entered_in_ x) []) ≤ length (cond (here u x) (entered_in_ x) [])
+    one : (x : Told) → length (cond (here t x) (entered_in_ card x) []) ≤ length (cond (here u x) (entered_in_ card x) [])
     one x = go (here t x) (here u x) (up x)
       where
-        go : (a b : Bool) → (a ≡ true → b ≡ true) → length (cond a (entered_in_ x) []) ≤ length (cond b (entered_in_ x) [])
+        go : (a b : Bool) → (a ≡ true → b ≡ true) → length (cond a (entered_in_ card x) []) ≤ length (cond b (entered_in_ card x) [])
         go false b imp = omega arith
         go true true imp = omega arith
         go true false imp = absurd (let e : false ≡ true = imp refl in cc)
 
-    by : (told : List Told) → length (flat_map (λ (x : Told). cond (here t x) (entered_in_ x) []) told) ≤ length (flat_map (λ (x : Told). cond (here u x) (entered_in_ x) []) told)
+    by : (told : List Told) → length (flat_map (λ (x : Told). cond (here t x) (entered_in_ card x) []) told) ≤ length (flat_map (λ (x : Told). cond (here u x) (entered_in_ card x) []) told)
     by [] = omega arith
     by (x ∷ told) =
         let first = one x in
         let rest = by told in
-        let a = length-append (cond (here t x) (entered_in_ x) []) (flat_map (λ (x : Told). cond (here t x) (entered_in_ x) []) told) in
-        let b = length-append (cond (here u x) (entered_in_ x) []) (flat_map (λ (x : Told). cond (here u x) (entered_in_ x) []) told) in
+        let a = length-append (cond (here t x) (entered_in_ card x) []) (flat_map (λ (x : Told). cond (here t x) (entered_in_ card x) []) told) in
+        let b = length-append (cond (here u x) (entered_in_ card x) []) (flat_map (λ (x : Told). cond (here u x) (entered_in_ card x) []) told) in
         omega (arith, first, rest, a, b)
 
 -- ---- the stored time of an image, by its last use, its end mark and its newest word
@@ -111,17 +105,15 @@ stores x =
       open_ = λ some. ap (λ (v : CardView). v.stored) same ∙ stored_open app x (apart (session_time app x) (λ none. some (session ∙ none))) ∙ sym used;
       shut = λ none.
           ap (λ (v : CardView). v.stored) same ∙ stored_shut app x (ap (λ (k : ℕ). nat_eq k 0) (sym session ∙ none))
-          ∙ ap (λ (k : ℕ). max k (min 4294967295 (60 * newest_word_))) (sym used) ∙ ap (λ (k : ℕ). max (own_use x) (min 4294967295 (60 * k))) (sym (ap (λ (v : CardView). v.word) same ∙ view_word app x));
+          ∙ ap (λ (k : ℕ). max k (min 4294967295 (60 * newest_word (card_days (own_sizes x) x)))) (sym used) ∙ ap (λ (k : ℕ). max (own_use x) (min 4294967295 (60 * k))) (sym (ap (λ (v : CardView). v.word) same ∙ view_word app x));
     }
   where
-    abbrev newest_word_ : ℕ
-    newest_word_ = newest_word (card_days (own_sizes x) x)
-
     apart : (k : ℕ) → (k ≡ 0 → ⊥) → nat_eq k 0 ≡ false
-    apart k no = by (nat_eq k 0) refl
+    apart k some = by (nat_eq k 0) refl
       where
-        by : (b : Bool) → nat_eq k 0 ≡ b → nat_eq k 0 ≡ b
-        by b is = is
+        by : (b : Bool) → nat_eq k 0 ≡ b → nat_eq k 0 ≡ false
+        by false is = is
+        by true is = let zero : k ≡ 0 = grind (arith, nat_tests, is) in absurd (some zero)
 
 -- ---- it tells of a later time
 

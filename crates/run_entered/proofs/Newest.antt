@@ -1,6 +1,6 @@
 -- The newest minute that an accepted card answers is that of the history; and what is known of times at the start.
-use Rattle.std.proofs.Common.{◌≡◌, ◌≢◌, ◌⊎◌, inl, inr, ⊎_elim, ℕ, suc, ◌+◌, ◌*◌, ◌/◌, ◌%◌, ◌≤◌, ◌<◌, max, min, Bool, true, false, cond, Option, Some, None, List, [], ◌∷◌, ◌++◌, All, Contains, refl, ap, sym, subst, ◌∙◌, arith, append-nil}
-use Rattle.std.specs.Prelude.{nat_eq, nat_lt, nat_le, filter, ◌↔◌}
+use Rattle.std.proofs.Common.{◌≡◌, ◌⊎◌, inl, inr, ⊎_elim, ℕ, suc, ◌*◌, ◌/◌, ◌%◌, ◌≤◌, ◌<◌, max, Bool, true, false, cond, Option, Some, None, List, [], ◌∷◌, ◌++◌, All, refl, ap, sym, subst, ◌∙◌, arith, append-nil}
+use Rattle.std.specs.Prelude.{nat_eq, nat_lt, nat_le, filter}
 use Rattle.std.proofs.lemmas.Bool.{lt-ltb, cases_lt}
 use Rattle.std.proofs.lemmas.Bool.Decides.{nat_tests}
 use Rattle.std.proofs.lemmas.List.Elements.{All-nil, All-head, All-tail, All-append, All-weaker, All-filter}
@@ -14,9 +14,8 @@ use Rattle.tach_media.specs.Medium.{State, IsCoherent}
 use Rattle.minute_rules.specs.Kept.{Kept}
 use Rattle.minute_model.specs.Activity.{last}
 use Rattle.card_image.specs.Fields.{session_time, last_use, end_mark}
-use Rattle.card_image.specs.View.{CardView, card_view}
-use Rattle.card_image.specs.Own.{own_sizes, own_view, IsOwnValid}
-use Rattle.card_session.specs.declared.words.TheConstants.{LATEST_MINUTE}
+use Rattle.card_image.specs.View.{CardView}
+use Rattle.card_image.specs.Own.{own_sizes, own_view}
 use Rattle.card_session.proofs.NewestStays.{view_word}
 use Rattle.card_session.proofs.Renewing.{stored_least, stored_shut}
 use Rattle.device_steps.proofs.OnCard.{own-is, session-is, mark-is}
@@ -24,23 +23,20 @@ use Rattle.log_model.specs.Log.{In}
 use Rattle.log_model.specs.Slots.{other_slot}
 use Rattle.log_model.specs.Course.{Visit}
 use Rattle.history_model.specs.Minutes.{HistoryMinute, on_card, card_history, up_to}
-use Rattle.history_model.specs.Presence.{Start, CardStart, card_start, expected_entries, closed_at, trimmed_by, newest_by, newest_minute}
+use Rattle.history_model.specs.Presence.{CardStart, card_start, expected_entries, closed_at, trimmed_by, newest_by, newest_minute}
 use Rattle.history_model.specs.Book.{Book, all, Ordered}
 use Rattle.history_model.proofs.Books.{all-none, history-append, history-one, history-none, on_card-minute}
 use Rattle.history_model.proofs.Filters.{filter-whole}
 use Rattle.joint_rule.specs.Rules.{Out}
 use Rattle.joint_rule.specs.Views.{beyond}
-use Rattle.unit_model.specs.Image.{last_kept}
 use Rattle.unit_rule.proofs.Moves.{shown-last}
 use Rattle.slot_machine.specs.declared.seats.Seat.{Seat}
 use Rattle.slot_machine.specs.Calls.{seat_in, is_card}
 use Rattle.slot_machine.specs.Kept.{Kept as SlotsKept, is_minute, left_in, left_of}
 use Rattle.safety_model.specs.Recording.{Recording, card_image, brought, start_of, unit_seen}
-use Rattle.safety_model.specs.Safe.{Devices, card_of}
-use Rattle.run_rule.specs.Found.{Found, found_of}
+use Rattle.run_rule.specs.Found.{found_of}
 use Rattle.run_rule.specs.Cards.{IsUntouched, brought_by}
-use Rattle.run_rule.specs.Between.{Carried}
-use Rattle.run_rule.proofs.Behind.{own-marked, owed-until}
+use Rattle.run_rule.proofs.Behind.{owed-until}
 use Rattle.run_course.specs.Presence.{IsNewestAt}
 use Rattle.run_course.specs.Seconds.{kept_all}
 use Rattle.run_brought.proofs.Going.{sure-kept}
@@ -50,7 +46,7 @@ use Rattle.run_recorded.specs.Origin.{Origin, start_at, first_of}
 use Rattle.run_keeping.specs.declared.keeper.Keeper.{Keeper}
 use Rattle.device_steps.specs.declared.entering.Entered.{Entered}
 use Rattle.run_entering.specs.declared.lines.Entering.{Entering}
-use Rattle.run_entering.specs.Told.{IsToldSo, Answers}
+use Rattle.run_entering.specs.Told.{IsToldSo}
 use Rattle.run_within.specs.Recorded.{SitsAccepted, LeftSince}
 use Rattle.run_within.specs.Within.{course_in, MayBeWrittenSo, Within}
 use Rattle.run_entered.specs.Entered.{values_with, MayJudge}
@@ -129,36 +125,36 @@ beyond-low x u few le = ⊎_elim
 
 -- ---- who does not sit accepted
 
+abbrev bare_seat : Card → Seat
+bare_seat card = record { card = card; newest = None }
+
+abbrev accepted_seat : Card → ℕ → Seat
+accepted_seat card newest = record { card = card; newest = Some newest }
+
 sits-not : (kept : SlotsKept) (slot : Slot) (card : Card) → seat_in kept.seats slot ≡ Some (record { card = card; newest = None }) → is_card (seat_in kept.seats (other_slot slot)) card ≡ false → SitsAccepted kept card → ⊥
 sits-not kept slot card here elsewhere sits = by slot sits.0 here elsewhere sits.2
   where
-    abbrev accepted : Seat
-    accepted = record { card = card; newest = Some sits.1 }
-
-    abbrev bare : Seat
-    bare = record { card = card; newest = None }
-
     own-card : (c : Card) → is_card (Some (record { card = c; newest = Some sits.1 })) c ≡ true
     own-card A = refl
     own-card B = refl
 
-    apart : bare ≡ accepted → ⊥
+    apart : bare_seat card ≡ accepted_seat card sits.1 → ⊥
     apart same = let both : None ≡ Some sits.1 = ap (λ (q : Seat). q.newest) same in cc
 
-    same-seat : (q : Option Seat) → q ≡ Some bare → q ≡ Some accepted → ⊥
-    same-seat q one two = let both : Some bare ≡ Some accepted = sym one ∙ two in apart (some-same both)
+    same-seat : (q : Option Seat) → q ≡ Some (bare_seat card) → q ≡ Some (accepted_seat card sits.1) → ⊥
+    same-seat q one two = let both : Some (bare_seat card) ≡ Some (accepted_seat card sits.1) = sym one ∙ two in apart (some-same both)
       where
-        some-same : Some bare ≡ Some accepted → bare ≡ accepted
+        some-same : Some (bare_seat card) ≡ Some (accepted_seat card sits.1) → bare_seat card ≡ accepted_seat card sits.1
         some-same e = cc
 
-    other-seat : (q : Option Seat) → is_card q card ≡ false → q ≡ Some accepted → ⊥
-    other-seat q no is = let both : true ≡ false = sym (own-card card) ∙ ap (λ (p : Option Seat). is_card p card) (sym is) ∙ no in cc
+    other-seat : (q : Option Seat) → is_card q card ≡ false → q ≡ Some (accepted_seat card sits.1) → ⊥
+    other-seat q not is = let both : true ≡ false = sym (own-card card) ∙ ap (λ (p : Option Seat). is_card p card) (sym is) ∙ not in cc
 
-    by : (slot at_ : Slot) → seat_in kept.seats slot ≡ Some bare → is_card (seat_in kept.seats (other_slot slot)) card ≡ false → seat_in kept.seats at_ ≡ Some accepted → ⊥
-    by Driver Driver h no is = same-seat kept.seats.driver h is
-    by Driver CoDriver h no is = other-seat kept.seats.codriver no is
-    by CoDriver Driver h no is = other-seat kept.seats.driver no is
-    by CoDriver CoDriver h no is = same-seat kept.seats.codriver h is
+    by : (slot at_ : Slot) → seat_in kept.seats slot ≡ Some (bare_seat card) → is_card (seat_in kept.seats (other_slot slot)) card ≡ false → seat_in kept.seats at_ ≡ Some (accepted_seat card sits.1) → ⊥
+    by Driver Driver h _ is = same-seat kept.seats.driver h is
+    by Driver CoDriver h not is = other-seat kept.seats.codriver not is
+    by CoDriver Driver h not is = other-seat kept.seats.driver not is
+    by CoDriver CoDriver h _ is = same-seat kept.seats.codriver h is
 
 left-then : (kept : SlotsKept) (c : Card) (m : ℕ) → (left_in kept.left c m ≡ true → m ≤ m) → left_of kept.left c ≡ Some m → left_in kept.left c m ≡ true
 left-then kept c m low is = by c is
@@ -246,7 +242,7 @@ module _ (o : Origin) (done : List TraceSecond) (s : TraceSecond) (n : ℕ) (wai
   pub written-or : ((x : List ℕ) → X.may_leave x → x ≡ card_image o.recording e.which) ⊎ MayBeWrittenSo o w.b done (course_in w.b done s (In n) (values_with k out unfound next_ begun minutes).log) waits s.number k.cabin.slots e.which
   written-or = ⊎_elim
       (λ whole. inl (λ x there. mine e.which U X Z (λ (a : State). (found_of o.found e.which).began ≤ a.clock → a.may_leave x → a.left_since (found_of o.found e.which).began x → IsUntouched (found_of o.found e.which) a → x ≡ card_image o.recording e.which)
-          (λ began there_ left whole_. whole_ x left ∙ m.origin.image e.which) (card-began o done s n waits fewer e k out unfound next_ begun minutes U X Z w m) there (coherent.counts_now (found_of o.found e.which).began x (card-began o done s n waits fewer e k out unfound next_ begun minutes U X Z w m) there) (mine e.which U X Z (λ (a : State). IsUntouched (found_of o.found e.which) a) whole)))
+      (λ began there_ left whole_. whole_ x left ∙ m.origin.image e.which) (card-began o done s n waits fewer e k out unfound next_ begun minutes U X Z w m) there (coherent.counts_now (found_of o.found e.which).began x (card-began o done s n waits fewer e k out unfound next_ begun minutes U X Z w m) there) (mine e.which U X Z (λ (a : State). IsUntouched (found_of o.found e.which) a) whole)))
       (λ may. inr may)
       (w.spared e.which)
 

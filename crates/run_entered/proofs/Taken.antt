@@ -1,5 +1,5 @@
 -- A card that enters is found to be accepted: it is seated, or torn out since, or the unit fails.
-use Rattle.std.proofs.Common.{◌≡◌, ◌⊎◌, inl, inr, ⊎_elim, ℕ, ◌+◌, ◌/◌, ◌≤◌, ◌<◌, Bool, true, false, cond, Option, Some, None, is_some, List, [], ◌∷◌, ◌++◌, Contains, length, refl, ap, sym, subst, ◌∙◌, arith}
+use Rattle.std.proofs.Common.{◌≡◌, ◌⊎◌, inl, inr, ⊎_elim, ℕ, ◌/◌, ◌≤◌, ◌<◌, Bool, true, false, Option, Some, None, is_some, List, [], ◌∷◌, ◌++◌, Contains, refl, ap, sym, subst, ◌∙◌}
 use Rattle.std.specs.Prelude.{Result}
 use Rattle.std.proofs.lemmas.List.Elements.{Contains-append_left, Contains-append_right, Contains-push}
 use Rattle.activity_codec.specs.declared.values.Slot.{Slot}
@@ -12,28 +12,22 @@ use Rattle.tach_media.specs.Medium.{State, HasBroken}
 use Rattle.tach_media.proofs.Runs.{at_image}
 use Rattle.minute_rules.specs.Kept.{Kept}
 use Rattle.card_layout.specs.declared.files.Application.{Application}
-use Rattle.card_image.specs.Own.{own_view, IsOwnValid}
-use Rattle.log_model.specs.declared.lines.Mark.{Mark}
-use Rattle.log_model.specs.declared.lines.Verdict.{Verdict}
 use Rattle.log_model.specs.declared.lines.Verdict.TheVariants.{Accepted}
-use Rattle.log_model.specs.Log.{Phase, In, Keeping, is_accepting}
+use Rattle.log_model.specs.Log.{In}
 use Rattle.log_model.specs.Slots.{other_slot}
 use Rattle.log_model.specs.Course.{Visit}
 use Rattle.unit_journal.specs.Image.{Agrees}
 use Rattle.unit_model.specs.Image.{last_kept}
 use Rattle.joint_rule.specs.Rules.{Standing, Out, In as IsIn, Torn}
-use Rattle.slot_machine.specs.Calls.{Seats, seat_in, is_card}
+use Rattle.slot_machine.specs.Calls.{seat_in, is_card}
 use Rattle.slot_machine.specs.Kept.{Kept as SlotsKept, put_in, taken}
-use Rattle.safety_model.specs.Recording.{card_image}
-use Rattle.safety_model.specs.Safe.{Devices, card_of, breakdowns_of}
+use Rattle.safety_model.specs.Safe.{card_of}
 use Rattle.run_crew.specs.declared.cabin.Cabin.{Cabin}
 use Rattle.run_crew.specs.declared.cards.Cards.{Cards}
 use Rattle.run_crew.specs.declared.cards.Accepted.{Accepted as Session}
 use Rattle.run_crew.specs.Cards.{session_of, with_sizes, with_session, with_number}
 use Rattle.run_crew.specs.Cabin.{slot_with, left_from, torn_out, with_sizes_of, with_power_lost}
 use Rattle.run_rule.specs.Found.{found_of}
-use Rattle.run_rule.specs.Cards.{IsUntouched}
-use Rattle.run_rule.specs.Between.{Carried}
 use Rattle.run_course.specs.Presence.{IsNewestAt}
 use Rattle.run_course.specs.Seconds.{kept_all}
 use Rattle.run_brought.specs.Going.{IsTakenAt}
@@ -47,8 +41,8 @@ use Rattle.run_keeping.specs.declared.keeper.Moment.{Moment as KeepingAt}
 use Rattle.run_keeping.specs.Keeping.{tear_of}
 use Rattle.device_steps.specs.declared.entering.Entered.{Entered}
 use Rattle.run_entering.specs.declared.lines.Entering.{Entering}
-use Rattle.run_entering.specs.Entering.{Way, ending_of, find_of, seated, and_one, Unnoted, Seated, Lost}
-use Rattle.run_entering.specs.Told.{IsCarriedOn, IsTakenOn, IsToldSo, MayHaveWritten}
+use Rattle.run_entering.specs.Entering.{Way, find_of, seated, and_one, Unnoted, Seated, Lost}
+use Rattle.run_entering.specs.Told.{IsTakenOn, IsToldSo}
 use Rattle.run_within.specs.Recorded.{Values, carried}
 use Rattle.run_within.specs.Within.{course_in, often, VerdictBy, AreOld, Within, CutWithin}
 use Rattle.run_within.specs.Judging.{IsJudged, judged_values}

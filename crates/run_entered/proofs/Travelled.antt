@@ -1,5 +1,5 @@
 -- What a card that enters is noted with on the unit leaves its last-kept minute and its odometer alone.
-use Rattle.std.proofs.Common.{◌≡◌, ⊎_elim, ℕ, ◌+◌, ◌≤◌, List, [], ◌∷◌, refl, ◌∙◌, arith}
+use Rattle.std.proofs.Common.{◌≡◌, ⊎_elim, ℕ, ◌+◌, ◌≤◌, List, [], ◌∷◌, ◌∙◌, arith}
 use Rattle.byte_fields.specs.Images.{SameOutside}
 use Rattle.byte_fields.proofs.Spelled.{number_before}
 use Rattle.tach_media.specs.Medium.{State, IsCoherent, LeavesOnly}

@@ -1,5 +1,5 @@
 -- A card that enters is turned away, or torn out before it is judged, or the unit fails before that.
-use Rattle.std.proofs.Common.{◌≡◌, ◌⊎◌, inl, inr, ⊎_elim, ℕ, ◌+◌, ◌/◌, ◌≤◌, ◌<◌, Bool, true, false, Option, Some, None, is_some, List, [], ◌∷◌, Contains, refl, ap, sym, subst, ◌∙◌, arith}
+use Rattle.std.proofs.Common.{◌≡◌, ◌⊎◌, inl, inr, ⊎_elim, ℕ, ◌≤◌, Bool, true, false, Option, Some, None, is_some, List, [], refl, ap, sym, subst, ◌∙◌, arith}
 use Rattle.std.specs.Prelude.{Result, cond}
 use Rattle.activity_codec.specs.declared.values.Slot.{Slot}
 use Rattle.activity_codec.specs.declared.values.Slot.TheVariants.{Driver, CoDriver}
@@ -18,7 +18,7 @@ use Rattle.joint_rule.specs.Rules.{Out}
 use Rattle.slot_machine.specs.Calls.{Seats, seat_in, is_card}
 use Rattle.slot_machine.specs.Kept.{taken}
 use Rattle.safety_model.specs.Recording.{card_image}
-use Rattle.safety_model.specs.Safe.{Devices, card_of, breakdowns_of}
+use Rattle.safety_model.specs.Safe.{Devices, card_of}
 use Rattle.slot_machine.specs.declared.seats.Seat.{Seat}
 use Rattle.run_crew.specs.declared.cards.Accepted.{Accepted}
 use Rattle.run_crew.specs.declared.cabin.Cabin.{Cabin}
@@ -27,8 +27,6 @@ use Rattle.run_crew.specs.Cards.{session_of, with_sizes, with_session}
 use Rattle.run_crew.specs.Cabin.{slot_with, left_from, torn_out, with_sizes_of}
 use Rattle.run_rule.specs.Found.{found_of}
 use Rattle.run_rule.specs.Cards.{IsUntouched}
-use Rattle.run_rule.specs.Between.{Carried}
-use Rattle.run_course.specs.Seconds.{kept_all}
 use Rattle.run_told.specs.Told.{AreFoundCards, arranged, for_card, with_standing}
 use Rattle.run_told.proofs.Known.{session-sized}
 use Rattle.run_outcome.specs.declared.outcome.Outcome.{Outcome}
@@ -39,7 +37,7 @@ use Rattle.run_keeping.specs.Keeping.{tear_of}
 use Rattle.run_entering.specs.declared.lines.Entering.{Entering}
 use Rattle.run_entering.specs.Entering.{Way, ending_of, find_of}
 use Rattle.run_entering.specs.Told.{IsCarriedOn, MayHaveWritten}
-use Rattle.run_within.specs.Recorded.{Values, carried}
+use Rattle.run_within.specs.Recorded.{Values}
 use Rattle.run_within.specs.Within.{course_in, often, VerdictBy, AreOld, Within, CutWithin}
 use Rattle.run_within.specs.Judging.{IsSeatedBy, IsJudged, MayBeWrittenBy, IsTornNext, judged_values, torn_values}
 use Rattle.run_within.proofs.Steps.{failure-recorded}
@@ -94,13 +92,13 @@ cut-cabin o done s at waits speed v d cards found w = record {
 }
 
 -- the slot in which a card sits
-slot-there : (seats : Seats) (slot : Slot) (card : Card) → is_card (seat_in seats slot) card ≡ true → is_card (seat_in seats (other_slot slot)) card ≡ false → slot_with seats card ≡ Some slot
+pub slot-there : (seats : Seats) (slot : Slot) (card : Card) → is_card (seat_in seats slot) card ≡ true → is_card (seat_in seats (other_slot slot)) card ≡ false → slot_with seats card ≡ Some slot
 slot-there seats Driver card here elsewhere = ap (λ (b : Bool). cond b (Some Driver) (cond (is_card seats.codriver card) (Some CoDriver) None)) here
 slot-there seats CoDriver card here elsewhere =
     ap (λ (b : Bool). cond b (Some Driver) (cond (is_card seats.codriver card) (Some CoDriver) None)) elsewhere
     ∙ ap (λ (b : Bool). cond b (Some CoDriver) None) here
 
-own-card : (card : Card) (newest : Option ℕ) → is_card (Some (record { card = card; newest = newest })) card ≡ true
+pub own-card : (card : Card) (newest : Option ℕ) → is_card (Some (record { card = card; newest = newest })) card ≡ true
 own-card A newest = refl
 own-card B newest = refl
 

@@ -1,5 +1,5 @@
 -- What may be found of a card that enters.
-use Rattle.std.proofs.Common.{◌≡◌, ◌⊎◌, inl, inr, ⊎_elim, ℕ, suc, ◌+◌, ◌*◌, ◌/◌, ◌≤◌, ◌<◌, Option, Some, None, option_map, List, [], ◌∷◌, drop, length, refl, ap, sym, subst, ◌∙◌, arith}
+use Rattle.std.proofs.Common.{◌≡◌, inl, inr, ⊎_elim, ℕ, ◌≤◌, ◌<◌, Option, Some, is_some, None, option_map, List, [], ◌∷◌, drop, length, refl, ap, sym, subst, ◌∙◌, arith, true, false}
 use Rattle.activity_codec.specs.declared.entries.Entry.{Entry}
 use Rattle.trace_model.specs.declared.Card.{Card}
 use Rattle.trace_model.specs.declared.Card.TheVariants.{A, B}
@@ -20,14 +20,10 @@ use Rattle.log_model.specs.Course.{Visit}
 use Rattle.joint_rule.specs.Rules.{Out}
 use Rattle.joint_rule.specs.Views.{unit_view, owed}
 use Rattle.safety_model.specs.Recording.{card_image, unit_seen}
-use Rattle.safety_model.specs.Safe.{Devices, card_of}
-use Rattle.run_crew.specs.declared.cards.Accepted.{Accepted as Session}
+use Rattle.safety_model.specs.Safe.{card_of}
 use Rattle.run_rule.specs.Found.{found_of}
-use Rattle.run_rule.specs.Between.{Carried}
-use Rattle.run_course.specs.Seconds.{kept_all}
 use Rattle.run_told.specs.Told.{arranged, with_standing}
 use Rattle.run_told.proofs.OnCards.{valid-own}
-use Rattle.run_told.proofs.Parts.{CardLit}
 use Rattle.run_outcome.specs.declared.outcome.Outcome.{Outcome}
 use Rattle.run_recorded.specs.Origin.{Origin}
 use Rattle.run_recorded.specs.Beside.{HaveLeftMore}
@@ -83,13 +79,17 @@ module _ (o : Origin) (done : List TraceSecond) (s : TraceSecond) (n : ℕ) (wai
   -- NOT VALID
   pub not-valid : (fid : Fid) (place : ℕ) (y : List ℕ) → X.may_leave y → own_bad_file y ≡ Some (fid, place) →
       (many : ℕ) × (many ≤ often o w.b done (course_in w.b done s (In n) (values_with k out unfound next_ begun minutes).log) s.number e.which) × VerdictBy o many ((arranged e.which W Y Z).unit.left_since o.found.unit.began) ((card_of (arranged e.which W Y Z) e.which).left_since (found_of o.found e.which).began) e.which s.number (NotValid fid place)
-  not-valid fid place y there bad = (0, omega arith, ⊎_elim
-      (λ whole. ap own_bad_file (sym (whole y there)) ∙ bad)
-      (λ may. absurd (clash (valid-still may.valid y there)))
-      (written-or o done s n waits fewer e k out unfound next_ begun minutes U X Z w m coherent))
+  not-valid fid place y there bad = (
+    0,
+    omega arith,
+    ⊎_elim
+        (λ whole. ap own_bad_file (sym (whole y there)) ∙ bad)
+        (λ may. absurd (clash (valid-still may.valid y there)))
+        (written-or o done s n waits fewer e k out unfound next_ begun minutes U X Z w m coherent),
+  )
     where
       clash : own_bad_file y ≡ None → ⊥
-      clash none = let both : None ≡ Some (fid, place) = sym none ∙ bad in cc
+      clash none = let both : false ≡ true = ap (λ (q : Option (Fid × ℕ)). is_some q) (sym none ∙ bad) in cc
 
   -- OF A LATER TIME
   pub later-time : (app : Application) (stored : ℕ) (y : List ℕ) → X.may_leave y → own_sizes y ≡ app → IsValid app y → stored ≡ (card_view app y).stored → s.number < stored →

@@ -1,17 +1,15 @@
 -- A CARD THAT ENTERED is recorded, whatever became of it.
-use Rattle.std.proofs.Common.{◌≡◌, ◌⊎◌, inl, inr, ⊎_elim, ℕ, ◌+◌, ◌/◌, ◌≤◌, ◌<◌, Bool, true, false, Option, Some, None, IfSome, is_some, List, [], ◌∷◌, ◌++◌, length, refl, ap, sym, subst, ◌∙◌, arith, append-nil}
-use Rattle.std.specs.Prelude.{Result, Ok, Err}
+use Rattle.std.proofs.Common.{◌≡◌, ◌⊎◌, inl, inr, ⊎_elim, ℕ, ◌≤◌, Bool, false, Some, None, IfSome, List, [], ◌∷◌, ◌++◌, refl, ap, sym, subst, ◌∙◌, arith, append-nil}
+use Rattle.std.specs.Prelude.{Ok, Err}
 use Rattle.trace_model.specs.declared.Card.{Card}
 use Rattle.trace_model.specs.Trace.{TraceSecond}
-use Rattle.tach_media.specs.Medium.{State, IsCoherent}
+use Rattle.tach_media.specs.Medium.{State}
 use Rattle.tach_media.proofs.Runs.{at_image}
 use Rattle.minute_rules.specs.Kept.{Kept}
 use Rattle.card_layout.specs.declared.files.Application.{Application}
 use Rattle.card_layout.specs.declared.files.Fid.{Fid}
 use Rattle.card_layout.specs.Application.{place_of_field}
-use Rattle.card_image.specs.Own.{own_sizes, own_view, own_bad_file, IsOwnValid}
-use Rattle.log_model.specs.declared.lines.Break.{Break}
-use Rattle.log_model.specs.declared.lines.Find.{Find}
+use Rattle.card_image.specs.Own.{own_view, IsOwnValid}
 use Rattle.log_model.specs.declared.lines.Verdict.TheVariants.{Accepted, NotValid, TimeOverlap}
 use Rattle.log_model.specs.Log.{In}
 use Rattle.log_model.specs.Causes.{device_of}
@@ -19,12 +17,10 @@ use Rattle.log_model.specs.Course.{Visit}
 use Rattle.joint_rule.specs.Rules.{Out}
 use Rattle.safety_model.specs.Recording.{card_image}
 use Rattle.run_crew.specs.declared.cards.Cards.{Cards}
-use Rattle.run_crew.specs.Cards.{known_of, with_session, with_sizes}
+use Rattle.run_crew.specs.Cards.{with_session}
 use Rattle.run_crew.specs.Cabin.{torn_out, with_sizes_of}
 use Rattle.run_rule.specs.Found.{Found, found_of}
 use Rattle.run_rule.specs.Cards.{IsUntouched}
-use Rattle.run_rule.specs.Between.{Carried}
-use Rattle.run_course.specs.Seconds.{kept_all}
 use Rattle.run_told.specs.Told.{AreFoundCards, arranged, card_marks, with_marks, with_standing}
 use Rattle.run_told.proofs.Known.{found-still}
 use Rattle.run_told.proofs.Parts.{told-one}
@@ -36,12 +32,11 @@ use Rattle.run_keeping.specs.Keeping.{tear_of}
 use Rattle.device_steps.specs.declared.entering.Entered.{Entered}
 use Rattle.run_entering.specs.declared.lines.Entering.{Entering}
 use Rattle.run_entering.specs.declared.waking.TheConstants.{UNTOLD}
-use Rattle.run_entering.specs.Entering.{Way, Unread, Unsized, Judged, Ending, Unfit, Ahead, Fell, Unasked, Unnoted, Seated, Lost, APPLICATION_FILE, ending_of, measured, cabin_by, outcome_by, find_of, seated, and_marks, last_of}
+use Rattle.run_entering.specs.Entering.{Way, Unread, Unsized, Judged, Unfit, Ahead, Fell, Unasked, Unnoted, Seated, Lost, APPLICATION_FILE, ending_of, measured, cabin_by, outcome_by, find_of, seated, and_marks, last_of}
 use Rattle.run_entering.specs.Noted.{AreOnCard, is_cut}
 use Rattle.run_entering.specs.Entered.{IsFoundIn}
 use Rattle.run_entering.specs.Told.{IsCarriedOn, IsTakenOn, IsToldSo}
 use Rattle.run_entering.proofs.Carried.{number-still}
-use Rattle.run_within.specs.Recorded.{Values}
 use Rattle.run_within.specs.Within.{Within}
 use Rattle.run_entered.specs.Entered.{values_with, MayJudge, HasGone, AreSound, GoesOnOrIsCut}
 use Rattle.run_entered.proofs.Facts.{before, now-is, card-tells, card-began, known, left}
@@ -58,9 +53,6 @@ found-before f c cards found = found-still f (with_session c None cards) cards (
 module _ (o : Origin) (done : List TraceSecond) (s : TraceSecond) (n : ℕ) (waits fewer : List Visit) (e : Entering) (k : Keeper) (out : Outcome) (unfound next_ begun : ℕ) (minutes : Kept) (U X Z : State) (w : Within o done s (In n) waits None [] (values_with k out unfound next_ begun minutes) (arranged e.which U X Z)) (m : MayJudge o done s n waits fewer e k out unfound next_ begun minutes U X Z w) where
   module _ (failed : Bool) (k' : Keeper) (noted noted' : ℕ) (out' : Outcome) (W Y : State) (way : Way) (g : HasGone e failed k k' noted noted' out out' U W X Y Z way) (sound : AreSound U W X Y) where
     -- keeper and lines behind it
-    abbrev kk : Keeper
-    kk = record (measured way e k) { cabin = cabin_by (ending_of way) e noted (measured way e k).cabin }
-
     pub values-behind : values_with k' out' unfound next_ begun minutes ≡ values_with (record (measured way e k) { cabin = cabin_by (ending_of way) e noted (measured way e k).cabin }) (outcome_by (ending_of way) e out) unfound next_ begun minutes
     values-behind = values-as (record (measured way e k) { cabin = cabin_by (ending_of way) e noted (measured way e k).cabin }) k' (outcome_by (ending_of way) e out) out' unfound next_ begun minutes g.entered.left.keeper g.entered.left.outcome
 
@@ -91,6 +83,7 @@ module _ (o : Origin) (done : List TraceSecond) (s : TraceSecond) (n : ℕ) (wai
         g.in_time)
         ((known o done s n waits fewer e k out unfound next_ begun minutes U X Z w m failed k' noted noted' out' W Y way g sound).untouched same)
 
+module _ (o : Origin) (done : List TraceSecond) (s : TraceSecond) (n : ℕ) (waits fewer : List Visit) (e : Entering) (k : Keeper) (out : Outcome) (unfound next_ begun : ℕ) (minutes : Kept) (U X Z : State) (w : Within o done s (In n) waits None [] (values_with k out unfound next_ begun minutes) (arranged e.which U X Z)) (m : MayJudge o done s n waits fewer e k out unfound next_ begun minutes U X Z w) where
   module _ (failed : Bool) (k' : Keeper) (noted noted' : ℕ) (out' : Outcome) (W Y : State) (sound : AreSound U W X Y) where
     abbrev Goes : Type 0
     Goes = GoesOnOrIsCut failed o done s n waits fewer (values_with k out unfound next_ begun minutes) (values_with k' out' unfound next_ begun minutes) (arranged e.which U X Z) (arranged e.which W Y Z) w
@@ -111,18 +104,18 @@ module _ (o : Origin) (done : List TraceSecond) (s : TraceSecond) (n : ℕ) (wai
         let y = found-in o done s n waits fewer e k out unfound next_ begun minutes U X Z w m failed k' noted noted' out' W Y (Judged app (Unfit fid place)) g sound in
         turned-away o done s n waits fewer e k out unfound next_ begun minutes U X Z w m failed k' noted noted' out' W Y (Judged app (Unfit fid place)) g sound (NotValid fid place) refl (Ok app)
         (cards-behind o done s n waits fewer e k out unfound next_ begun minutes U X Z w m failed k' noted noted' out' W Y (Judged app (Unfit fid place)) g sound (λ (q : Cards). AreFoundCards o.found q) (known o done s n waits fewer e k out unfound next_ begun minutes U X Z w m failed k' noted noted' out' W Y (Judged app (Unfit fid place)) g sound).found)
-        (not-valid o done s n waits fewer e k out unfound next_ begun minutes U X Z w m sound.card_before sound.unit_before W Y (left o done s n waits fewer e k out unfound next_ begun minutes U X Z w m failed k' noted noted' out' W Y (Judged app (Unfit fid place)) g sound) fid place y.0 y.1 (bad-file app y.0 (Some (fid, place)) y.2 y.3)) (λ never. never)
+        (not-valid o done s n waits fewer e k out unfound next_ begun minutes U X Z w m sound.card_before sound.unit_before W Y (left o done s n waits fewer e k out unfound next_ begun minutes U X Z w m failed k' noted noted' out' W Y (Judged app (Unfit fid place)) g sound) fid place y.0 y.1 (bad-file app y.0 (Some (fid, place)) y.2.0 y.2.1)) (λ never. never)
         (values-behind o done s n waits fewer e k out unfound next_ begun minutes U X Z w m failed k' noted noted' out' W Y (Judged app (Unfit fid place)) g sound ∙ lined-as (out.breaks.items ++ []) out.breaks.items out.refused.items (out.finds.items ++ find_of e (NotValid fid place) ∷ []) _ out.marks.items out.marks.items (with_sizes_of e.which (Ok app) k.cabin) unfound next_ begun minutes (append-nil out.breaks.items) refl refl)
         (cards-behind o done s n waits fewer e k out unfound next_ begun minutes U X Z w m failed k' noted noted' out' W Y (Judged app (Unfit fid place)) g sound (λ (q : Cards). IsCarriedOn failed o.found (with_standing e.which Out (before o done s n waits fewer e k out unfound next_ begun minutes U X Z w m)) q (arranged e.which W Y Z)) (known o done s n waits fewer e k out unfound next_ begun minutes U X Z w m failed k' noted noted' out' W Y (Judged app (Unfit fid place)) g sound).taken)
 
     ahead : (app : Application) (stored : ℕ) → HasGone e failed k k' noted noted' out out' U W X Y Z (Judged app (Ahead stored)) → Goes
     ahead app stored g =
         let y = found-in o done s n waits fewer e k out unfound next_ begun minutes U X Z w m failed k' noted noted' out' W Y (Judged app (Ahead stored)) g sound in
-        let lt = y.5 in
+        let lt = y.2.1.2 in
         let now = now-is o done s n waits fewer e k out unfound next_ begun minutes U X Z w m in
         turned-away o done s n waits fewer e k out unfound next_ begun minutes U X Z w m failed k' noted noted' out' W Y (Judged app (Ahead stored)) g sound (TimeOverlap stored e.at.second) refl (Ok app)
         (cards-behind o done s n waits fewer e k out unfound next_ begun minutes U X Z w m failed k' noted noted' out' W Y (Judged app (Ahead stored)) g sound (λ (q : Cards). AreFoundCards o.found q) (known o done s n waits fewer e k out unfound next_ begun minutes U X Z w m failed k' noted noted' out' W Y (Judged app (Ahead stored)) g sound).found)
-        (later-time o done s n waits fewer e k out unfound next_ begun minutes U X Z w m sound.card_before sound.unit_before W Y (left o done s n waits fewer e k out unfound next_ begun minutes U X Z w m failed k' noted noted' out' W Y (Judged app (Ahead stored)) g sound) app stored y.0 y.1 y.2 y.3 y.4 (omega (arith, lt, now))) (λ never. never)
+        (later-time o done s n waits fewer e k out unfound next_ begun minutes U X Z w m sound.card_before sound.unit_before W Y (left o done s n waits fewer e k out unfound next_ begun minutes U X Z w m failed k' noted noted' out' W Y (Judged app (Ahead stored)) g sound) app stored y.0 y.1 y.2.0 y.2.1.0 y.2.1.1 (omega (arith, lt, now))) (λ never. never)
         (values-behind o done s n waits fewer e k out unfound next_ begun minutes U X Z w m failed k' noted noted' out' W Y (Judged app (Ahead stored)) g sound ∙ lined-as (out.breaks.items ++ []) out.breaks.items out.refused.items (out.finds.items ++ find_of e (TimeOverlap stored e.at.second) ∷ []) _ out.marks.items out.marks.items (with_sizes_of e.which (Ok app) k.cabin) unfound next_ begun minutes (append-nil out.breaks.items) refl refl)
         (cards-behind o done s n waits fewer e k out unfound next_ begun minutes U X Z w m failed k' noted noted' out' W Y (Judged app (Ahead stored)) g sound (λ (q : Cards). IsCarriedOn failed o.found (with_standing e.which Out (before o done s n waits fewer e k out unfound next_ begun minutes U X Z w m)) q (arranged e.which W Y Z)) (known o done s n waits fewer e k out unfound next_ begun minutes U X Z w m failed k' noted noted' out' W Y (Judged app (Ahead stored)) g sound).taken)
 

@@ -16,7 +16,6 @@ use Rattle.safety_model.specs.Safe.{Devices}
 use Rattle.run_crew.specs.declared.cabin.Cabin.{Cabin}
 use Rattle.run_crew.specs.Cards.{session_of}
 use Rattle.run_crew.specs.Cabin.{with_power_lost}
-use Rattle.run_course.specs.Seconds.{kept_all}
 use Rattle.run_moments.specs.Reached.{moved_at}
 use Rattle.run_told.specs.Told.{arranged}
 use Rattle.run_rule.specs.Found.{found_of}
@@ -96,3 +95,11 @@ pub record IsCut (o : Origin) (done : List TraceSecond) (s : TraceSecond) (n : �
 abbrev pub GoesOnOrIsCut : (failed : Bool) → (o : Origin) (done : List TraceSecond) (s : TraceSecond) (n : ℕ) (waits fewer : List Visit) (v later : Values) (d e : Devices) → Within o done s (In n) waits None [] v d → Type 0
 GoesOnOrIsCut false o done s n waits fewer v later d e w = Behind o done s (In n) waits fewer v later d e w
 GoesOnOrIsCut true o done s n waits fewer v later d e w = IsCut o done s n later e
+
+-- THE LAW, of these devices before and behind the call
+abbrev pub ACardThatEntersIsRecorded : (unit unit_after card card_after others : State) → Type 0
+ACardThatEntersIsRecorded unit unit_after card card_after others =
+    (o : Origin) (done : List TraceSecond) (s : TraceSecond) (n : ℕ) (waits fewer : List Visit) (e : Entering) (k : Keeper) (out : Outcome) (unfound next begun : ℕ) (minutes : Kept) →
+    (w : Within o done s (In n) waits None [] (values_with k out unfound next begun minutes) (arranged e.which unit card others)) → MayJudge o done s n waits fewer e k out unfound next begun minutes unit card others w →
+    (failed : Bool) (v : Keeper) (noted noted_after : ℕ) (after : Outcome) (way : Way) → HasGone e failed k v noted noted_after out after unit unit_after card card_after others way → card_after.clock < last_count →
+    GoesOnOrIsCut failed o done s n waits fewer (values_with k out unfound next begun minutes) (values_with v after unfound next begun minutes) (arranged e.which unit card others) (arranged e.which unit_after card_after others) w
