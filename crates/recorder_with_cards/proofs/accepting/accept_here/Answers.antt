@@ -138,6 +138,7 @@ returns-clause-recorded g c = λ room o done s n waits fewer at next time.
     let may : MayJudge o done s n waits fewer e run.keeper c.args.outcome.now run.unfound run.next run.begun run.minutes U X Y next.goes.within = record {
       origin = found-by o next.goes.origin;
       moment = at;
+      last = let second = c.requires.at in let small = c.requires.small in omega (arith, second, small);
       next_ = next.next;
       none = next.none;
       order = next.order;
@@ -148,7 +149,7 @@ returns-clause-recorded g c = λ room o done s n waits fewer at next time.
       room = room;
     } in
     let gone : HasGone e failed run.keeper c.accept-answer.new.keeper run.noted c.accept-answer.new.noted c.args.outcome.now c.accept-answer.new.outcome U V X Z Y w.0 =
-    record { entered = w.1; books = w.2; cause = c.accept-answer.ensures.cause; more = c.accept-answer.ensures.more } in
+    record { entered = w.1; books = w.2; cause = c.accept-answer.ensures.cause; more = c.accept-answer.ensures.more; in_time = c.accept-answer.ensures.in_time } in
     let sound : AreSound U V X Z = record {
       time = mine-time e.which V Z Y time;
       unit_before = g.met.M.Medium.coherent c.args.unit.now;
@@ -157,4 +158,4 @@ returns-clause-recorded g c = λ room o done s n waits fewer at next time.
       card_behind = g.met.C.Chip.coherent c.accept-answer.new.card;
     } in
     judged-by failed o done s n waits fewer run new c.args.outcome.now c.accept-answer.new.outcome (arranged e.which U X Y) (arranged e.which V Z Y) next.goes c.requires.lit (ap (λ (q : Keeper). q.odometer) w.1.left.keeper)
-    (entered-recorded o done s n waits fewer e run.keeper c.accept-answer.new.keeper run.noted c.accept-answer.new.noted c.args.outcome.now c.accept-answer.new.outcome run.unfound run.next run.begun run.minutes U V X Z Y failed w.0 next.goes.within may gone sound)
+    (entered-recorded o done s n waits fewer e run.keeper c.args.outcome.now run.unfound run.next run.begun run.minutes U X Y next.goes.within may failed c.accept-answer.new.keeper run.noted c.accept-answer.new.noted c.accept-answer.new.outcome V Z sound w.0 gone)
