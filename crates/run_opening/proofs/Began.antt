@@ -193,6 +193,7 @@ module _ (r : Recording) (start : ℕ) (old new : Devices) (unit_before : IsCohe
       named = λ c. subst (λ (l : List ℕ). IfSome (known_of opened c).number (λ n. card_number_bytes n ≡ l)) (sym (named-found c)) (named c (card_image r c) (known_of opened c) (told c) (own_bad_file (card_image r c)) refl);
       two = names;
       found = is-found;
+      looked = looked;
       carried = carried;
       may = λ at. record { decodes = decodes; clock = λ s is. let number = at s is in subst (λ (n : ℕ). last_kept r.unit < n / 60) (sym number) late-start; numbers = numbers };
     }

@@ -17,7 +17,7 @@ use Rattle.unit_rule.specs.Rule.{started}
 use Rattle.run_crew.specs.declared.cards.Known.{Known}
 use Rattle.run_rule.specs.Found.{CardFound, Found, found_of}
 use Rattle.run_rule.specs.Between.{IsCarried, IsFound}
-use Rattle.run_rule.specs.Opening.{BeginsAs, as_found, carried_first}
+use Rattle.run_rule.specs.Opening.{BeginsAs, as_found, IsLookedAt, carried_first}
 use Rattle.run_opening.specs.declared.fault.RunFault.{RunFault}
 use Rattle.run_opening.specs.declared.fault.RunFault.TheVariants.{MediumFault, BadUnit, ClockBack, SameCard}
 use Rattle.run_opening.specs.declared.opening.Opened.{Opened}
@@ -80,6 +80,7 @@ pub record IsReady (r : Recording) (start : ℕ) (opened : Opened) (old new : De
   pub named : (c : Card) → IfSome (known_of opened c).number (λ n. card_number_bytes n ≡ (found_of (found_in r old) c).number)
   pub two : (found_in r old).card_a.number ≢ (found_in r old).card_b.number
   pub found : IsFound r (found_in r old) old
+  pub looked : (c : Card) → IsOwnValid (card_image r c) → IsLookedAt (found_in r old) c r.unit (card_image r c) (card_of new c).clock
   pub carried : (due : ℕ) → last_kept r.unit < due → IsCarried (found_in r old) (carried_first due) new
   pub may : StartsAt r start → MayBegin r
 

@@ -1,11 +1,13 @@
--- The keeping of a second begins: how far it has gone, and what may be booked.
-use Rattle.std.proofs.Common.{◌≡◌, ◌⊎◌, inl, inr, ⊎_elim, ℕ, zero, suc, ◌+◌, ◌*◌, ◌/◌, ◌≤◌, ◌<◌, Bool, true, false, Option, Some, None, IfSome, is_some, List, [], ◌∷◌, ◌++◌, All, Contains, length, map, refl, ap, sym, subst, ◌∙◌, arith}
+-- The keeping of some minutes begins: how far it has gone, and what may be booked.
+use Rattle.std.proofs.Common.{◌≡◌, ◌⊎◌, inl, inr, ⊎_elim, ℕ, zero, suc, ◌+◌, ◌-◌, ◌*◌, ◌/◌, ◌≤◌, ◌<◌, Bool, true, false, Option, Some, None, IfSome, is_some, List, [], ◌∷◌, ◌++◌, All, Contains, length, map, refl, ap, sym, subst, ◌∙◌, arith, append_assoc, length-append}
+use Rattle.std.proofs.lemmas.List.{length-map}
 use Rattle.std.proofs.lemmas.List.Elements.{All-nil, All-cons, All-head, All-tail}
 use Rattle.activity_codec.specs.declared.entries.Entry.{Entry}
 use Rattle.trace_model.specs.declared.Card.{Card}
 use Rattle.trace_model.specs.Trace.{TraceSecond}
 use Rattle.minute_model.specs.declared.Minute.{Minute}
-use Rattle.minute_model.specs.Span.{count_from, ungiven_of}
+use Rattle.minute_model.specs.Span.{count_from, decided_in, ungiven_of}
+use Rattle.minute_model.proofs.Counted.{decided-minutes}
 use Rattle.log_model.specs.declared.lines.Mark.{Mark}
 use Rattle.log_model.specs.Log.{RunLog, Keeping}
 use Rattle.log_model.specs.Course.{Told as Second, Course, went}
@@ -38,8 +40,8 @@ use Rattle.run_keeping.specs.Minutes.{Told, or_nobody, present_at}
 use Rattle.run_keeping.specs.Decided.{MayBookAll, MayAllCome, decided_minute}
 use Rattle.run_within.specs.Recorded.{Values}
 use Rattle.run_within.specs.Within.{told_before, course_in}
-use Rattle.run_rounds.specs.Rounds.{told_values, SoFar}
-use Rattle.run_rounds.specs.Laws.{InKeeping, carried_at, KeepsSo, TheMinutesMayBeBooked}
+use Rattle.run_rounds.specs.Rounds.{Point, Outset, told_values, keeping_of, SoFar}
+use Rattle.run_rounds.specs.Laws.{InRounds, carried_at, KeepsSo}
 
 all-behind : {X : Type 0} (P : X → Type 0) (xs ys : List X) → All P (xs ++ ys) → All P ys
 all-behind P [] ys h = h
@@ -74,62 +76,112 @@ each-decided P f from n (x ∷ xs) h low over =
 stands-of : (f : CardFound) (has : List Entry) (z : Standing) (a : Accepted) (card : State) → GoesWith f has z (Some a) card → (t : ℕ) × (z ≡ In t a.session.minute)
 stands-of f has z a card h = (h.time, h.stands)
 
-module _ (o : Origin) (done : List TraceSecond) (s : TraceSecond) (all : List Minute) (t : Told) (v : Values) (d : Devices) (w : InKeeping o done s all t v d) where
-  abbrev p : Progress
-  p = w.b.run
+-- they are over where they end by a minute
+over-from : (xs : List Minute) (from n : ℕ) → map (λ (m : Minute). m.minute) xs ≡ count_from from (length xs) → from + length xs ≤ n → All (λ (m : Minute). m.minute < n) xs
+over-from [] from n is le = All-nil (λ (m : Minute). m.minute < n)
+over-from (x ∷ xs) from n is le =
+    let head : x.minute ≡ from = cc in
+    let tail : map (λ (m : Minute). m.minute) xs ≡ count_from (from + 1) (length xs) = cc in
+    All-cons (λ (m : Minute). m.minute < n) x xs (omega (arith, head, le)) (over-from xs (from + 1) n tail (omega (arith, le)))
 
+many : (a n : ℕ) → length (count_from a n) ≡ n
+many a zero = refl
+many a (suc n) = ap suc (many (a + 1) n)
+
+-- IN THE KEEPING of a second
+module _ (o : Origin) (done : List TraceSecond) (s : TraceSecond) (all : List Minute) (t : Told) (v : Values) (d : Devices) (w : InRounds o done s (keeping_of s) all t v d) where
+  abbrev pk : Progress
+  pk = w.b.run
+
+  abbrev lk : RunLog
+  lk = (told_values t v).log
+
+  abbrev ck : Course
+  ck = course_in w.b done s Keeping lk
+
+  abbrev now : Second
+  now = next_told lk done s
+
+  abbrev f : Followed (rule_of o) (start_at o) o.from (first_of o) done pk
+  f = w.began.followed
+
+  ends : now ≡ told_with (begins_with w.b.span) false s ck
+  ends = (second-ends_told (rule_of o) (start_at o) o.from (first_of o) done pk f w.b.span w.lit s lk w.b.broken (breakdowns_of d) w.moment).0
+
+  abbrev goes : GoesOnBy pk lk s
+  goes = goes_on w.moment
+
+  decides : decided_of (rule_of o) (w.b.span ++ now ∷ []) ≡ decided_of (rule_of o) w.b.span ++ (w.ds ++ all)
+  decides = second-decided (rule_of o) (start_at o) o.from (first_of o) done pk f w.b.span w.lit s lk goes ck w.sp w.ds all w.new w.decided (ap (λ (x : Second). x.second.picks) ends) (ap (λ (x : Second). x.course.settled) ends)
+      (ap (λ (x : Second). x.second.speed) ends)
+
+  news : AreNew (rule_of o) (start_at o) pk.next w.b.span (went lk done).told now (w.ds ++ all)
+  news = are-new (rule_of o) (start_at o) o.from (first_of o) done pk f w.b.span w.lit w.began.waiting s lk goes (w.ds ++ all) decides
+
+  pub are-over : All (λ (m : Minute). m.minute < s.number / 60) all
+  are-over = subst (λ (n : ℕ). All (λ (m : Minute). m.minute < n / 60) all) (sym w.moment.number) (all-behind (λ (m : Minute). m.minute < pk.next / 60) w.ds all news.over)
+
+-- AT ANY POINT
+module _ (o : Origin) (done : List TraceSecond) (s : TraceSecond) (q : Point) (all : List Minute) (t : Told) (v : Values) (d : Devices) (w : InRounds o done s q all t v d) where
   abbrev log : RunLog
   log = (told_values t v).log
 
   abbrev c : Course
-  c = course_in w.b done s Keeping log
+  c = course_in w.b done s q.at log
 
-  abbrev now : Second
-  now = next_told log done s
+  abbrev before : List Minute
+  before = decided_of (rule_of o) w.b.span ++ w.ds
 
-  abbrev f : Followed (rule_of o) (start_at o) o.from (first_of o) done p
-  f = w.began.followed
+  decided-is : decided_in w.sp ≡ before ++ all
+  decided-is = w.decided.decided ∙ sym (append_assoc (decided_of (rule_of o) w.b.span) w.ds all)
 
-  ends : now ≡ told_with (begins_with w.b.span) false s c
-  ends = (second-ends_told (rule_of o) (start_at o) o.from (first_of o) done p f w.b.span w.lit s log w.b.broken (breakdowns_of d) w.moment).0
+  counted : map (λ (m : Minute). m.minute) (before ++ all) ≡ count_from (w.sp.first / 60) (ungiven_of w.sp - w.sp.first / 60)
+  counted = ap (map (λ (m : Minute). m.minute)) (sym decided-is) ∙ decided-minutes w.sp w.minutes.numbered w.minutes.settled
 
-  abbrev goes : GoesOnBy p log s
-  goes = goes_on w.moment
-
-  decides : decided_of (rule_of o) (w.b.span ++ now ∷ []) ≡ decided_of (rule_of o) w.b.span ++ (w.ds ++ all)
-  decides = second-decided (rule_of o) (start_at o) o.from (first_of o) done p f w.b.span w.lit s log goes c w.sp w.ds all w.new w.decided (ap (λ (x : Second). x.second.picks) ends) (ap (λ (x : Second). x.course.settled) ends)
-      (ap (λ (x : Second). x.second.speed) ends)
-
-  news : AreNew (rule_of o) (start_at o) p.next w.b.span (went log done).told now (w.ds ++ all)
-  news = are-new (rule_of o) (start_at o) o.from (first_of o) done p f w.b.span w.lit w.began.waiting s log goes (w.ds ++ all) decides
+  length-is : length (before ++ all) ≡ ungiven_of w.sp - w.sp.first / 60
+  length-is = sym (length-map (before ++ all) (λ (m : Minute). m.minute)) ∙ ap (λ (ns : List ℕ). length ns) counted ∙ many (w.sp.first / 60) (ungiven_of w.sp - w.sp.first / 60)
 
   pub numbers : map (λ (m : Minute). m.minute) all ≡ count_from w.from (length all)
-  numbers = counted-part w.ds all (ungiven_of (span_at (rule_of o) p.next w.b.span)) news.due ∙ ap (λ (n : ℕ). count_from n (length all)) (sym w.kept_to)
+  numbers =
+      let parts = length-append before all in
+      let here = length-is in
+      let to = w.until in
+      let low : w.sp.first / 60 ≤ ungiven_of w.sp = omega arith in
+      let e : w.sp.first / 60 + length before ≡ w.from = omega (arith, parts, here, to, low) in
+      counted-part before all (w.sp.first / 60) (counted ∙ ap (count_from (w.sp.first / 60)) (sym length-is)) ∙ ap (λ (n : ℕ). count_from n (length all)) e
 
-  pub over : All (λ (m : Minute). m.minute < s.number / 60) all
-  over = subst (λ (n : ℕ). All (λ (m : Minute). m.minute < n / 60) all) (sym w.moment.number) (all-behind (λ (m : Minute). m.minute < p.next / 60) w.ds all news.over)
+  pub over-so : w.from + length all ≤ s.number / 60 → All (λ (m : Minute). m.minute < s.number / 60) all
+  over-so le = over-from all w.from (s.number / 60) numbers le
+
+  abbrev pub outset : Outset
+  outset = record { log = log; cabin = t.keeper.cabin; low = w.from; high = w.from + length all }
 
   sessions : SessionsStand o.found w.standing t.keeper.cabin.cards
   sessions card a valid is =
       let g = w.powered.go.goes card valid in
       stands-of (found_of o.found card) g.has (w.standing card) a (card_of d card) (subst (λ (q : Option Accepted). GoesWith (found_of o.found card) g.has (w.standing card) q (card_of d card)) is g.goes)
 
-  pub begun-so : (e : Devices) → KeepsSo o done s all t v d e w → SoFar o done s w.b w.from (breakdowns_of d) (breakdowns_of e) t.keeper w.sp v t.marks.items c w.brought t (carried_at o done s all t v d w) w.ds all w.new w.from
+  pub begun-so : (e : Devices) → KeepsSo o done s q all t v d e w → SoFar o done s q w.b outset (breakdowns_of d) (breakdowns_of e) t.keeper w.sp v t.marks.items c w.brought t (carried_at o done s q all t v d w) w.ds all w.new w.from
   begun-so e k = record {
     slate = record {
+      point = k.point;
       now = breakdowns_of d;
       moment = w.moment;
-      rise = k.breakdowns;
+      rise = k.goes.breakdowns;
       rests = λ card some. refl;
       tells = w.tells;
       present = w.present;
       sessions = sessions;
-      back = k.back;
+      back = w.back;
+      leave = λ slot card leaving some. leaving;
+      had = λ card some. some;
+      stays = λ card. inl ((λ sits. sits), refl);
     };
     past = refl;
     decided = w.decided;
     numbers = numbers;
-    over = over;
+    over = k.over;
+    ends = refl;
     high = omega arith;
     to = w.kept_to;
     until = w.until;
@@ -147,8 +199,8 @@ module _ (o : Origin) (done : List TraceSecond) (s : TraceSecond) (all : List Mi
       let is = w.tells.ended m.minute low lt [] (All-nil (λ (j : HistoryMinute). w.from ≤ j.minute)) in
       is ∙ ap (λ (q : Present). Some q) (sym (ap or_nobody is))
 
-  pub may-book : s.number / 60 ≤ w.from + 4 → MayBookAll o.found (carried_at o done s all t v d w) all t d
-  may-book few =
+  pub may-book : s.number / 60 ≤ w.from + 4 → All (λ (m : Minute). m.minute < s.number / 60) all → MayBookAll o.found (carried_at o done s q all t v d w) all t d
+  may-book few over =
       let low = low-all all w.from numbers in
       let D : Minute → HistoryMinute = decided_minute t.keeper in
       record {

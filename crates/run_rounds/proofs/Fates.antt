@@ -1,6 +1,7 @@
 -- What became of the entry of a card that was present, in the keeping of a second: the slots, the log and the standings behind it.
-use Rattle.std.proofs.Common.{◌≡◌, ◌⊎◌, inl, inr, ⊎_elim, ℕ, zero, suc, ◌+◌, ◌/◌, ◌≤◌, ◌<◌, Bool, true, false, Option, Some, None, IfSome, is_some, List, [], ◌∷◌, ◌++◌, All, Contains, length, map, refl, ap, sym, subst, ◌∙◌, arith, append-nil}
+use Rattle.std.proofs.Common.{◌≡◌, ◌⊎◌, inl, inr, ⊎_elim, ℕ, zero, suc, ◌+◌, ◌/◌, ◌≤◌, ◌<◌, Bool, true, false, Option, Some, None, IfSome, is_some, List, [], ◌∷◌, ◌++◌, ◌||◌, All, Contains, length, map, refl, ap, sym, subst, ◌∙◌, arith, append-nil}
 use Rattle.std.specs.Prelude.{if◌then◌else◌}
+use Rattle.std.specs.List.{list_any}
 use Rattle.std.proofs.lemmas.List.Elements.{Contains-push}
 use Rattle.activity_codec.specs.declared.values.Slot.{Slot}
 use Rattle.activity_codec.specs.declared.values.Slot.TheVariants.{Driver, CoDriver}
@@ -10,12 +11,12 @@ use Rattle.trace_model.specs.Trace.{TraceSecond}
 use Rattle.run_model.specs.declared.Device.{Device}
 use Rattle.run_model.specs.declared.Device.TheVariants.{Unit as Recorder, CardA, CardB}
 use Rattle.log_model.specs.declared.lines.Break.{Break}
-use Rattle.log_model.specs.Log.{RunLog, Phase, Keeping}
+use Rattle.log_model.specs.Log.{RunLog, Phase, is_torn_in}
 use Rattle.log_model.specs.Slots.{Slots, Sitting, same_card, in_slot}
 use Rattle.log_model.specs.Causes.{device_of, RoseBy}
-use Rattle.log_model.specs.Course.{Told, Course, Visit, card_in, with_slot, went}
+use Rattle.log_model.specs.Course.{Told, Course, Visit, Before, visits, card_in, with_slot, went}
 use Rattle.history_model.specs.Minutes.{HistoryMinute}
-use Rattle.history_model.specs.Presence.{Start}
+use Rattle.history_model.specs.Presence.{Start, in_minute}
 use Rattle.card_image.specs.Own.{IsOwnValid}
 use Rattle.card_session.specs.declared.session.Kept.{Kept}
 use Rattle.joint_rule.specs.Rules.{Standing, In, Out, Torn}
@@ -29,14 +30,14 @@ use Rattle.run_crew.specs.declared.cards.Accepted.{Accepted}
 use Rattle.run_crew.specs.declared.cards.Cards.{Cards}
 use Rattle.run_crew.specs.declared.cabin.Cabin.{Cabin}
 use Rattle.run_crew.specs.Cards.{session_of, with_session}
-use Rattle.run_crew.specs.Cabin.{slot_with, left_from, torn_out}
+use Rattle.run_crew.specs.Cabin.{SitsNowhere, slot_with, left_from, torn_out}
 use Rattle.run_crew.proofs.Sessions.{same_self, same_is, session_set, session_apart}
 use Rattle.run_rule.specs.Found.{found_of}
 use Rattle.run_course.specs.Moments.{and_break}
 use Rattle.run_course.specs.Presence.{SitsAs, SlotsTell}
 use Rattle.run_course.specs.Within.{IsTornFrom}
 use Rattle.run_course.proofs.Within.{tear-tells}
-use Rattle.run_moments.specs.Reached.{IsTearAt}
+use Rattle.run_moments.specs.Reached.{moved_at, IsTearAt}
 use Rattle.run_moments.specs.Lines.{IsTornAt}
 use Rattle.run_moments.specs.Moment.{Moment}
 use Rattle.run_moments.specs.Telling.{IsMore, BrokeDown}
@@ -48,22 +49,19 @@ use Rattle.run_present.proofs.Presence.{step-leaves}
 use Rattle.run_recorded.specs.Origin.{Origin, start_at}
 use Rattle.run_keeping.specs.Keeping.{Fate, Still, Has, Fell, is_this, cabin_by, breaks_by, tear_of, session_at, card_in as present_of, IsFateOf}
 use Rattle.run_keeping.specs.Books.{standing_by}
-use Rattle.run_within.specs.Within.{Beginning, told_before, course_in}
-use Rattle.run_rounds.specs.Rounds.{keeping_of, AreBack, standing_card, and_breaks, Slate, OnlyTears, HasBrokenDown}
+use Rattle.run_within.specs.Within.{Beginning, told_before, course_in, IsLeaving, AreBackAt}
+use Rattle.run_within.specs.Recorded.{GoesOnIn}
+use Rattle.run_within.proofs.Back.{low-too}
+use Rattle.run_within.proofs.Moved.{not-leaving}
+use Rattle.run_within.proofs.Seats.{no-both, this-or, seat-tells, none-sits, sits-there, sits-back, which-slot, one-slot, emptied, empty-still, nowhere-none, nowhere-not, left-other, tells-still}
+use Rattle.run_within.proofs.Stays.{goes-taken, goes-still}
+use Rattle.run_rounds.specs.Rounds.{Point, Outset, moment_of, standing_card, and_breaks, Slate, OnlyTears, HasBrokenDown}
+use Rattle.run_rounds.proofs.Leaving.{unseated, nowhere-still, leaving-on, torn-apart, moves-still}
 
 -- ---- cases
 
 ext : (f g : Card → Standing) → ((c : Card) → f c ≡ g c) → f ≡ g
 ext f g same = λ i c. same c i
-
-pub no-both : {T : Type 0} (b : Bool) → b ≡ true → b ≡ false → T
-no-both {T} b x y = let clash : true ≡ false = sym x ∙ y in absurd (cc)
-
-this-or : (c d : Card) → (same_card c d ≡ true) ⊎ (same_card c d ≡ false)
-this-or A A = inl refl
-this-or B B = inl refl
-this-or A B = inr refl
-this-or B A = inr refl
 
 turned : (c d : Card) → same_card c d ≡ false → same_card d c ≡ false
 turned A A is = is
@@ -106,109 +104,66 @@ fallen-other B B now last is = no-both true refl is
 fallen-other A B now last is = refl
 fallen-other B A now last is = refl
 
--- a card that left says nothing of the other
-left-other : (c d : Card) (n : Option ℕ) (minute : ℕ) (left : Lefts) → same_card c d ≡ false → left_of (with_left minute (Some (record { card = c; newest = n })) left) d ≡ left_of left d
-left-other A A n minute left is = no-both true refl is
-left-other B B n minute left is = no-both true refl is
-left-other A B n minute left is = refl
-left-other B A n minute left is = refl
+-- one step behind another
+goes-both : (u : ℕ) (kept mid after : Slate_) (card : Card) → GoesOnIn u kept mid card → GoesOnIn u mid after card → GoesOnIn u kept after card
+goes-both u kept mid after card (inl x) (inl y) = inl ((λ sits_. y.0 (x.0 sits_)), y.1 ∙ x.1)
+goes-both u kept mid after card (inr left) (inl y) = inr (y.1 ∙ left)
+goes-both u kept mid after card h (inr left) = inr left
 
 -- ---- who sits
 
-seat-tells : (start : Start) (told : List Told) (past : List HistoryMinute) (left : List Card) (number from : ℕ) (slots : Slots) (k : Slate_) → SlotsTell start told past left number from slots k → (slot : Slot) →
-    SitsAs start past from k (seat_in k.seats slot) (in_slot slots slot)
-seat-tells start told past left number from slots k h Driver = h.driver
-seat-tells start told past left number from slots k h CoDriver = h.codriver
+some-none : {T : Type 0} (o : Option Seat) (x : Seat) → o ≡ Some x → o ≡ None → T
+some-none o x some none = let clash : None ≡ Some x = sym none ∙ some in absurd (cc)
 
--- a card that sits there accepted, by the slots, sits there by the log
-sits-there : (start : Start) (past : List HistoryMinute) (from : ℕ) (k : Slate_) (card : Card) (n : ℕ) (seat : Option Seat) (sitting : Option Sitting) → SitsAs start past from k seat sitting →
-    seat ≡ Some (record { card = card; newest = Some n }) → (u : ℕ) × (sitting ≡ sits card u)
-sits-there start past from k card n seat sitting h is = by sitting (subst (λ (o : Option Seat). SitsAs start past from k o sitting) is h)
+-- two cards do not leave one slot
+abbrev visit_by : Phase → Slot → Card → Visit
+visit_by at slot card = record { phase = at; slot = slot; card = card }
+
+two-leave : {T : Type 0} (c d : Card) → same_card c d ≡ false → (at : Phase) (slot : Slot) → visit_by at slot c ∷ [] ≡ visit_by at slot d ∷ [] → T
+two-leave c d ne at slot same = no-both (same_card c c) (same_self c) (ap (same_card c) (first-card (visit_by at slot c) (visit_by at slot d) same) ∙ ne)
   where
-    accepted : (x : Sitting) → (a : Option ℕ) → x.accepted ≡ a → (seat_card : card ≡ x.card) → SitsAs start past from k (Some (record { card = card; newest = Some n })) (Some (record { card = x.card; accepted = a })) → (u : ℕ) × (Some x ≡ sits card u)
-    accepted x None is_ same h = absurd h.1
-    accepted x (Some u) is_ same h = (u, ap (λ (o : Option ℕ). Some (record { card = x.card; accepted = o })) is_ ∙ ap (λ (c : Card). sits c u) (sym same))
-
-    by : (o : Option Sitting) → SitsAs start past from k (Some (record { card = card; newest = Some n })) o → (u : ℕ) × (o ≡ sits card u)
-    by None h = absurd h
-    by (Some x) h = accepted x x.accepted refl h.0 h
-
--- and who sits there by the log is that card by the slots
-sits-back : (start : Start) (past : List HistoryMinute) (from : ℕ) (k : Slate_) (card : Card) (u : ℕ) (seat : Option Seat) (sitting : Option Sitting) → SitsAs start past from k seat sitting → sitting ≡ sits card u → is_card seat card ≡ true
-sits-back start past from k card u seat sitting h is = by seat (subst (SitsAs start past from k seat) is h)
-  where
-    by : (o : Option Seat) → SitsAs start past from k o (sits card u) → is_card o card ≡ true
-    by None h = absurd h
-    by (Some x) h = ap (λ (c : Card). same_card c card) h.0 ∙ same_self card
-
--- the slot that a card sits in
-which-slot : (start : Start) (told : List Told) (past : List HistoryMinute) (left : List Card) (number from : ℕ) (slots : Slots) (k : Slate_) → SlotsTell start told past left number from slots k → (slot : Slot) (card : Card) →
-    is_card (seat_in k.seats slot) card ≡ true → slot_with k.seats card ≡ Some slot
-which-slot start told past left number from slots k h Driver card is = ap (λ (b : Bool). if b then Some Driver else (if is_card k.seats.codriver card then Some CoDriver else None)) is
-which-slot start told past left number from slots k h CoDriver card is = by (is_card k.seats.driver card) refl
-  where
-    by : (b : Bool) → is_card k.seats.driver card ≡ b → slot_with k.seats card ≡ Some CoDriver
-    by true first = no-both (is_card k.seats.codriver card) is (h.apart card first)
-    by false first = ap (λ (b : Bool). if b then Some Driver else (if is_card k.seats.codriver card then Some CoDriver else None)) first ∙ ap (λ (b : Bool). if b then Some CoDriver else None) is
-
--- a card sits in one slot
-one-slot : (start : Start) (told : List Told) (past : List HistoryMinute) (left : List Card) (number from : ℕ) (slots : Slots) (k : Slate_) → SlotsTell start told past left number from slots k → (slot other : Slot) (card : Card) →
-    is_card (seat_in k.seats slot) card ≡ true → is_card (seat_in k.seats other) card ≡ true → slot ≡ other
-one-slot start told past left number from slots k h Driver Driver card a b = refl
-one-slot start told past left number from slots k h CoDriver CoDriver card a b = refl
-one-slot start told past left number from slots k h Driver CoDriver card a b = no-both (is_card k.seats.codriver card) b (h.apart card a)
-one-slot start told past left number from slots k h CoDriver Driver card a b = no-both (is_card k.seats.codriver card) a (h.apart card b)
-
--- a slot that was emptied has none, and the other what it had
-emptied : (slots : Slots) (slot other : Slot) (x : Sitting) → in_slot (with_slot slots slot None) other ≡ Some x → (in_slot slots other ≡ Some x) × (slot ≡ other → ⊥)
-emptied slots Driver Driver x is = absurd (cc)
-emptied slots CoDriver CoDriver x is = absurd (cc)
-emptied slots Driver CoDriver x is = (is, λ same. absurd (cc))
-emptied slots CoDriver Driver x is = (is, λ same. absurd (cc))
+    first-card : (x y : Visit) → x ∷ [] ≡ y ∷ [] → x.card ≡ y.card
+    first-card x y same = let one : x ≡ y = cc in ap (λ (v : Visit). v.card) one
 
 sits-since : (k : Slate_) (minute : ℕ) (present : Present) (slot : Slot) (card : Card) → SitStill k minute present → present_of present slot ≡ Some card → SitsSince k slot minute (Some card)
 sits-since k minute present Driver card h is = subst (SitsSince k Driver minute) is h.driver
 sits-since k minute present CoDriver card h is = subst (SitsSince k CoDriver minute) is h.codriver
 
-pub low-too : (low m : ℕ) (o : Option ℕ) → low ≤ m → IfSome o (λ left. left ≤ low) → IfSome o (λ left. left ≤ m)
-low-too low m None le h = tt
-low-too low m (Some left) le h = omega (arith, le, h)
-
 if-both : {T : Type 0} (b : Bool) (t : T) → (if b then t else t) ≡ t
 if-both true t = refl
 if-both false t = refl
 
-module _ (o : Origin) (done : List TraceSecond) (s : TraceSecond) (b : Beginning) (low m from : ℕ) (past : List HistoryMinute) (first last : Device → ℕ) (slot : Slot) (log : RunLog) (z : Card → Standing) (cabin : Cabin)
-    (h : Slate o done s b low from past log z cabin first last) (next : from ≡ suc m) (le : low ≤ m) (few : s.number / 60 ≤ m + 4) where
+module _ (o : Origin) (done : List TraceSecond) (s : TraceSecond) (q : Point) (b : Beginning) (os : Outset) (m from : ℕ) (past : List HistoryMinute) (first last : Device → ℕ) (slot : Slot) (log : RunLog) (z : Card → Standing) (cabin : Cabin)
+    (h : Slate o done s q b os from past log z cabin first last) (next : from ≡ suc m) (le : os.low ≤ m) (few : s.number / 60 ≤ m + 4) where
   abbrev c : Course
-  c = course_in b done s Keeping log
+  c = course_in b done s q.at log
 
   abbrev told0 : List Told
   told0 = told_before b done
 
   abbrev log_by : Fate → RunLog
-  log_by fate = and_breaks log (breaks_by fate slot (keeping_of s))
+  log_by fate = and_breaks log (breaks_by fate slot (moment_of s q))
 
   -- what is had behind it
   pub record Behind (fate : Fate) (present : Option Card) : Type 0 where
-    pub slate : Slate o done s b low from past (log_by fate) (standing_card fate present m z) (cabin_by fate present s.number cabin) first last
-    pub same : OnlyTears c (course_in b done s Keeping (log_by fate))
-    pub torn : (card : Card) → fate ≡ Fell → present ≡ Some card → (v : Visit) × (v.card ≡ card) × Contains (course_in b done s Keeping (log_by fate)).torn v
+    pub slate : Slate o done s q b os from past (log_by fate) (standing_card fate present m z) (cabin_by fate present s.number cabin) first last
+    pub same : OnlyTears c (course_in b done s q.at (log_by fate))
+    pub torn : (card : Card) → fate ≡ Fell → present ≡ Some card → (v : Visit) × (v.card ≡ card) × Contains (course_in b done s q.at (log_by fate)).torn v
 
   log-same : and_breaks log [] ≡ log
   log-same = ap (λ (bs : List Break). record log { breaks = bs }) (append-nil log.breaks)
 
-  only-same : OnlyTears c (course_in b done s Keeping (and_breaks log []))
-  only-same = subst (λ (l : RunLog). OnlyTears c (course_in b done s Keeping l)) (sym log-same)
+  only-same : OnlyTears c (course_in b done s q.at (and_breaks log []))
+  only-same = subst (λ (l : RunLog). OnlyTears c (course_in b done s q.at l)) (sym log-same)
       (record { picks = refl; settled = refl; found = refl; entered = refl; out = record { torn = λ v at. at; pulled = λ v at. at } })
 
   -- NO CALL was made
   standing-same : (present : Option Card) → standing_card Still present m z ≡ z
   standing-same present = ext (standing_card Still present m z) z (λ d. if-both (is_this present d) (z d))
 
-  slate-still : (present : Option Card) → Slate o done s b low from past (and_breaks log []) (standing_card Still present m z) cabin first last
-  slate-still present = subst (λ (l : RunLog). Slate o done s b low from past l (standing_card Still present m z) cabin first last) (sym log-same)
-      (subst (λ (y : Card → Standing). Slate o done s b low from past log y cabin first last) (sym (standing-same present)) h)
+  slate-still : (present : Option Card) → Slate o done s q b os from past (and_breaks log []) (standing_card Still present m z) cabin first last
+  slate-still present = subst (λ (l : RunLog). Slate o done s q b os from past l (standing_card Still present m z) cabin first last) (sym log-same)
+      (subst (λ (y : Card → Standing). Slate o done s q b os from past log y cabin first last) (sym (standing-same present)) h)
 
   still-behind : (present : Option Card) → Behind Still present
   still-behind None = record { slate = slate-still None; same = only-same; torn = λ card is at. absurd (cc) }
@@ -272,8 +227,12 @@ module _ (o : Origin) (done : List TraceSecond) (s : TraceSecond) (b : Beginning
         (λ ne. let was_ = h.sessions d x good (sym (apart d ne) ∙ at) in (was_.0, as-before d ne ∙ was_.1))
         (this-or card d)
 
-    slate-has : Slate o done s b low from past log y after first last
+    so-leaves : (sl : Slot) (d : Card) → IsLeaving log (went b.run.log done).before s q.at os.low os.high cabin sl d → IsLeaving log (went b.run.log done).before s q.at os.low os.high after sl d
+    so-leaves sl d l = leaving-on log log (went b.run.log done).before s q.at os.low os.high cabin after sl d refl l.untorn l.empty l.nowhere refl l
+
+    slate-has : Slate o done s q b os from past log y after first last
     slate-has = record {
+      point = h.point;
       now = h.now;
       moment = h.moment;
       rise = h.rise;
@@ -282,18 +241,21 @@ module _ (o : Origin) (done : List TraceSecond) (s : TraceSecond) (b : Beginning
       present = step-leaves o.found z y told0 c c s.number from from cabin after h.present h.tells.newest h.tells.minute (omega arith) refl (record { torn = λ v at. at; pulled = λ v at. at })
           (λ d. ⊎_elim (λ stays. inl stays) (λ more. inr (inl more)) (each d)) (λ sl d u at. (at, each d));
       sessions = sessions;
-      back = λ d x. h.back d (before d x);
+      back = λ d x. ⊎_elim (λ early. inl early) (λ leaving. inr (leaving.0, so-leaves leaving.0 d leaving.1)) (h.back d (before d x));
+      leave = λ sl d old_ x. so-leaves sl d (h.leave sl d old_ (before d x));
+      had = λ d x. h.had d (before d x);
+      stays = h.stays;
     }
 
     has-behind : Behind (Has a clock) (Some card)
     has-behind = record {
-      slate = subst (λ (l : RunLog). Slate o done s b low from past l y after first last) (sym log-same) slate-has;
+      slate = subst (λ (l : RunLog). Slate o done s q b os from past l y after first last) (sym log-same) slate-has;
       same = only-same;
       torn = λ other is at. absurd (cc);
     }
 
   -- THE CARD IS TORN OUT
-  module _ (card : Card) (valid : IsOwnValid (found_of o.found card).image) (old : Accepted) (is : session_of cabin.cards card ≡ Some old) (p : Present) (there : present_in cabin.slots.past m ≡ Some p) (at : present_of p slot ≡ Some card)
+  module _ (card : Card) (valid : IsOwnValid (found_of o.found card).image) (old : Accepted) (is : session_of cabin.cards card ≡ Some old)
       (rose : RoseBy 1 (first (device_of card)) (last (device_of card))) where
     abbrev gone : Cards
     gone = with_session card None cabin.cards
@@ -302,31 +264,25 @@ module _ (o : Origin) (done : List TraceSecond) (s : TraceSecond) (b : Beginning
     out_ = torn_out card s.number cabin
 
     abbrev later : RunLog
-    later = and_break log (tear_of slot (keeping_of s))
+    later = and_break log (tear_of slot (moment_of s q))
 
     abbrev d_ : Course
-    d_ = course_in b done s Keeping later
+    d_ = course_in b done s q.at later
 
     abbrev x_ : Card → Standing
     x_ = standing_card Fell (Some card) m z
 
     abbrev visit : Visit
-    visit = record { phase = Keeping; slot = slot; card = card }
+    visit = record { phase = q.at; slot = slot; card = card }
+
+    abbrev bef : Before
+    bef = (went b.run.log done).before
 
     had : is_some (session_of cabin.cards card) ≡ true
     had = ap (λ (q : Option Accepted). is_some q) is
 
-    seat : (newest : ℕ) × (seat_in cabin.slots.seats slot ≡ Some (record { card = card; newest = Some newest })) × (newest < m)
-    seat = sits-since cabin.slots m p slot card (found_sits cabin.slots m p cabin.slots.past h.tells.newest.sit (sym there)) at (low-too low m (left_of cabin.slots.left card) le (h.back card had))
-
-    occupied : is_card (seat_in cabin.slots.seats slot) card ≡ true
-    occupied = ap (λ (q : Option Seat). is_card q card) seat.1 ∙ same_self card
-
-    sitting : (u : ℕ) × (in_slot c.slots slot ≡ sits card u)
-    sitting = sits-there (start_at o) past from cabin.slots card seat.0 (seat_in cabin.slots.seats slot) (in_slot c.slots slot) (seat-tells (start_at o) told0 past c.left s.number from c.slots cabin.slots h.tells slot) seat.1
-
-    tear-at : IsTearAt s Keeping slot true (tear_of slot (keeping_of s))
-    tear-at = (length s.actions, true, refl, refl, omega arith, λ late. refl)
+    tear-at : IsTearAt s q.at slot true (tear_of slot (moment_of s q))
+    tear-at = (q.begun, q.late, refl, h.point.phase, h.point.few, h.point.all)
 
     broke : BrokeDown card h.now (fallen card h.now last)
     broke = record {
@@ -334,35 +290,11 @@ module _ (o : Origin) (done : List TraceSecond) (s : TraceSecond) (b : Beginning
       broke = subst (λ (n : ℕ). RoseBy 1 n (fallen card h.now last (device_of card))) (sym (h.rests card had)) (subst (λ (n : ℕ). RoseBy 1 (first (device_of card)) n) (sym (fallen-own card h.now last)) rose);
     }
 
-    told-now : Moment b.run (went b.run.log done).before s Keeping later [] b.broken (fallen card h.now last) × IsTornAt s.number slot (visit ∷ []) c d_
-    told-now = card-torn b.run (went b.run.log done).before s Keeping log [] b.broken h.now (fallen card h.now last) h.moment slot (tear_of slot (keeping_of s)) tear-at
-        (who-sits log (went b.run.log done).before s Keeping slot (record { card = card; accepted = Some sitting.0 }) sitting.1) card
-        (ap (λ (q : Option Sitting). map {B = Visit} (λ (k : Card). record { phase = Keeping; slot = slot; card = k }) (card_in q)) sitting.1) broke
-
-    torn-now : IsTornAt s.number slot (visit ∷ []) c d_
-    torn-now = told-now.1
-
-    slots-are : out_.slots ≡ taken slot s.number cabin.slots
-    slots-are = ap (λ (q : Option Slot). left_from q s.number cabin.slots) (which-slot (start_at o) told0 past c.left s.number from c.slots cabin.slots h.tells slot card occupied)
+    moves : moved_at later bef s q.at ≡ moved_at log bef s q.at
+    moves = moves-still log bef s q.at slot (tear_of slot (moment_of s q)) tear-at h.moment.up_to
 
     was_t : (t : ℕ) × (z card ≡ In t old.session.minute)
     was_t = h.sessions card old valid is
-
-    torn-mine : IsTornOut s.number from z x_ d_ card
-    torn-mine = record {
-      time = was_t.0;
-      before = old.session.minute;
-      newest = m;
-      floor = m;
-      was = was_t.1;
-      is = ap (λ (b : Bool). if b then standing_by Fell m (z card) else z card) (same_self card) ∙ ap (standing_by Fell m) was_t.1;
-      low = inr (omega (arith, next));
-      from_ = omega (arith, next);
-      few = few;
-      out = visit;
-      card_is = refl;
-      told = inl (torn-now.new_ones visit (Contains-push [] visit));
-    }
 
     still-so : (d : Card) → same_card card d ≡ false → session_of gone d ≡ session_of cabin.cards d
     still-so d ne = session_apart card d None cabin.cards (turned card d ne)
@@ -383,51 +315,189 @@ module _ (o : Origin) (done : List TraceSecond) (s : TraceSecond) (b : Beginning
     had-before : (d : Card) → is_some (session_of gone d) ≡ true → is_some (session_of cabin.cards d) ≡ true
     had-before d x = ap (λ (q : Option Accepted). is_some q) (sym (still-so d (other-one d x))) ∙ x
 
-    who-stays : (sl : Slot) (d : Card) (u : ℕ) → in_slot d_.slots sl ≡ sits d u → (in_slot c.slots sl ≡ sits d u) × (StaysSo z x_ cabin.cards gone d ⊎ HasMore from z x_ gone d)
-    who-stays sl d u there_ =
-        let e = emptied c.slots slot sl (record { card = d; accepted = Some u }) (subst (λ (q : Slots). in_slot q sl ≡ sits d u) torn-now.is.slots there_) in
-        let here = sits-back (start_at o) past from cabin.slots d u (seat_in cabin.slots.seats sl) (in_slot c.slots sl) (seat-tells (start_at o) told0 past c.left s.number from c.slots cabin.slots h.tells sl) e.0 in (
-          e.0,
-          ⊎_elim
-              (λ same. absurd (e.1 (one-slot (start_at o) told0 past c.left s.number from c.slots cabin.slots h.tells slot sl card occupied
-              (subst (λ (k : Card). is_card (seat_in cabin.slots.seats sl) k ≡ true) (sym (same_is card d same)) here))))
-              (λ ne. inl (stays-so d ne))
-              (this-or card d),
-        )
+    -- what is had of the slots, whether it sat in one or was leaving one
+    record IsOut : Type 0 where
+      untorn : is_torn_in log s.number q.at slot ≡ false
+      out : (moved_at log bef s q.at).leaving slot ++ visits q.at slot c.slots ≡ visit ∷ []
+      tells : IsTornFrom slot c d_ → SlotsTell (start_at o) told0 past d_.left s.number from d_.slots out_.slots
+      who : IsTornFrom slot c d_ → (sl : Slot) (d : Card) (u : ℕ) → in_slot d_.slots sl ≡ sits d u → (in_slot c.slots sl ≡ sits d u) × (same_card card d ≡ false)
+      past_is : out_.slots.past ≡ cabin.slots.past
+      left_is : (d : Card) → same_card card d ≡ false → left_of out_.slots.left d ≡ left_of cabin.slots.left d
+      goes : (d : Card) → GoesOnIn s.number cabin.slots out_.slots d
+      leaving : (sl : Slot) (d : Card) → same_card card d ≡ false → IsLeaving log bef s q.at os.low os.high cabin sl d → IsLeaving later bef s q.at os.low os.high out_ sl d
 
-    left-is : (d : Card) → same_card card d ≡ false → left_of out_.slots.left d ≡ left_of cabin.slots.left d
-    left-is d ne = ap (λ (k : Slate_). left_of k.left d) slots-are ∙ ap (λ (q : Option Seat). left_of (with_left (s.number / 60) q cabin.slots.left) d) seat.1 ∙ left-other card d (Some seat.0) (s.number / 60) cabin.slots.left ne
+    -- behind it
+    module _ (g : IsOut) where
+      told-now : Moment b.run bef s q.at later q.waits b.broken (fallen card h.now last) × IsTornAt s.number slot (visit ∷ []) c d_
+      told-now = card-torn b.run bef s q.at log q.waits b.broken h.now (fallen card h.now last) h.moment slot (tear_of slot (moment_of s q)) tear-at g.untorn card g.out broke
 
-    out-now : StaysOut c d_
-    out-now = record { torn = torn-now.stays; pulled = λ v at_. subst (λ (vs : List Visit). Contains vs v) (sym torn-now.is.pulled) at_ }
+      torn-now : IsTornAt s.number slot (visit ∷ []) c d_
+      torn-now = told-now.1
 
-    slate-fell : Slate o done s b low from past later x_ out_ first last
-    slate-fell = record {
-      now = fallen card h.now last;
-      moment = told-now.0;
-      rise = fallen-rise card h.now last h.rise;
-      rests = λ d x. fallen-other card d h.now last (other-one d x) ∙ h.rests d (had-before d x);
-      tells = subst (λ (k : Slate_). SlotsTell (start_at o) told0 past d_.left s.number from d_.slots k) (sym slots-are)
-          (tear-tells (start_at o) told0 past s.number from slot c d_ cabin.slots h.tells torn-now.is);
-      present = step-leaves o.found z x_ told0 c d_ s.number from from cabin out_ h.present h.tells.newest h.tells.minute (omega arith) (ap (λ (k : Slate_). k.past) slots-are) out-now
-          (λ d. ⊎_elim (λ same. inr (inr (subst (λ (k : Card). IsTornOut s.number from z x_ d_ k) (same_is card d same) torn-mine))) (λ ne. inl (stays-so d ne)) (this-or card d))
-          who-stays;
-      sessions = λ d x good here.
-          let ne = other-one d (ap (λ (q : Option Accepted). is_some q) here) in
-          let was_ = h.sessions d x good (sym (still-so d ne) ∙ here) in
-          (was_.0, stands-so d ne ∙ was_.1);
-      back = λ d x. subst (λ (q : Option ℕ). IfSome q (λ left. left ≤ low)) (sym (left-is d (other-one d x))) (h.back d (had-before d x));
-    }
+      torn-mine : IsTornOut s.number from z x_ d_ card
+      torn-mine = record {
+        time = was_t.0;
+        before = old.session.minute;
+        newest = m;
+        floor = m;
+        was = was_t.1;
+        is = ap (λ (b : Bool). if b then standing_by Fell m (z card) else z card) (same_self card) ∙ ap (standing_by Fell m) was_t.1;
+        low = inr (omega (arith, next));
+        from_ = omega (arith, next);
+        few = few;
+        out = visit;
+        card_is = refl;
+        told = inl (torn-now.new_ones visit (Contains-push [] visit));
+      }
 
-    one-of : (k : Card) → Some card ≡ Some k → card ≡ k
-    one-of k same = cc
+      out-now : StaysOut c d_
+      out-now = record { torn = torn-now.stays; pulled = λ v at_. subst (λ (vs : List Visit). Contains vs v) (sym torn-now.is.pulled) at_ }
 
-    fell-behind : Behind Fell (Some card)
-    fell-behind = record {
-      slate = slate-fell;
-      same = record { picks = torn-now.is.picks; settled = torn-now.is.settled; found = torn-now.is.found; entered = torn-now.is.entered; out = out-now };
-      torn = λ k is_ same. (visit, one-of k same, torn-now.new_ones visit (Contains-push [] visit));
-    }
+      slate-fell : Slate o done s q b os from past later x_ out_ first last
+      slate-fell = record {
+        point = h.point;
+        now = fallen card h.now last;
+        moment = told-now.0;
+        rise = fallen-rise card h.now last h.rise;
+        rests = λ d x. fallen-other card d h.now last (other-one d x) ∙ h.rests d (had-before d x);
+        tells = g.tells torn-now.is;
+        present = step-leaves o.found z x_ told0 c d_ s.number from from cabin out_ h.present h.tells.newest h.tells.minute (omega arith) g.past_is out-now
+            (λ d. ⊎_elim (λ same. inr (inr (subst (λ (k : Card). IsTornOut s.number from z x_ d_ k) (same_is card d same) torn-mine))) (λ ne. inl (stays-so d ne)) (this-or card d))
+            (λ sl d u there_. let w = g.who torn-now.is sl d u there_ in (w.0, inl (stays-so d w.1)));
+        sessions = λ d x good here.
+            let ne = other-one d (ap (λ (q : Option Accepted). is_some q) here) in
+            let was_ = h.sessions d x good (sym (still-so d ne) ∙ here) in
+            (was_.0, stands-so d ne ∙ was_.1);
+        back = λ d x. ⊎_elim
+            (λ early. inl (subst (λ (n : Option ℕ). IfSome n (λ left. left ≤ os.low)) (sym (g.left_is d (other-one d x))) early))
+            (λ l. inr (l.0, g.leaving l.0 d (other-one d x) l.1))
+            (h.back d (had-before d x));
+        leave = λ sl d old_ x. g.leaving sl d (other-one d x) (h.leave sl d old_ (had-before d x));
+        had = λ d x. h.had d (had-before d x);
+        stays = λ d. goes-both s.number os.cabin.slots cabin.slots out_.slots d (h.stays d) (g.goes d);
+      }
+
+      one-of : (k : Card) → Some card ≡ Some k → card ≡ k
+      one-of k same = cc
+
+      fell-behind : Behind Fell (Some card)
+      fell-behind = record {
+        slate = slate-fell;
+        same = record { picks = torn-now.is.picks; settled = torn-now.is.settled; found = torn-now.is.found; entered = torn-now.is.entered; out = out-now };
+        torn = λ k is_ same. (visit, one-of k same, torn-now.new_ones visit (Contains-push [] visit));
+      }
+
+    -- IT SAT in that slot
+    module _ (p : Present) (there : present_in cabin.slots.past m ≡ Some p) (at : present_of p slot ≡ Some card) (early : IfSome (left_of cabin.slots.left card) (λ left. left ≤ os.low)) where
+      seat : (newest : ℕ) × (seat_in cabin.slots.seats slot ≡ Some (record { card = card; newest = Some newest })) × (newest < m)
+      seat = sits-since cabin.slots m p slot card (found_sits cabin.slots m p cabin.slots.past h.tells.newest.sit (sym there)) at (low-too os.low m (left_of cabin.slots.left card) le early)
+
+      occupied : is_card (seat_in cabin.slots.seats slot) card ≡ true
+      occupied = ap (λ (q : Option Seat). is_card q card) seat.1 ∙ same_self card
+
+      sitting : (u : ℕ) × (in_slot c.slots slot ≡ sits card u)
+      sitting = sits-there (start_at o) past from cabin.slots card seat.0 (seat_in cabin.slots.seats slot) (in_slot c.slots slot) (seat-tells (start_at o) told0 past c.left s.number from c.slots cabin.slots h.tells slot) seat.1
+
+      slots-are : out_.slots ≡ taken slot s.number cabin.slots
+      slots-are = ap (λ (q : Option Slot). left_from q s.number cabin.slots) (which-slot (start_at o) told0 past c.left s.number from c.slots cabin.slots h.tells slot card occupied)
+
+      who-stays : IsTornFrom slot c d_ → (sl : Slot) (d : Card) (u : ℕ) → in_slot d_.slots sl ≡ sits d u → (in_slot c.slots sl ≡ sits d u) × (same_card card d ≡ false)
+      who-stays torn sl d u there_ =
+          let e = emptied c.slots slot sl (record { card = d; accepted = Some u }) (subst (λ (q : Slots). in_slot q sl ≡ sits d u) torn.slots there_) in
+          let here = sits-back (start_at o) past from cabin.slots d u (seat_in cabin.slots.seats sl) (in_slot c.slots sl) (seat-tells (start_at o) told0 past c.left s.number from c.slots cabin.slots h.tells sl) e.0 in (
+            e.0,
+            ⊎_elim
+                (λ same. absurd (e.1 (one-slot (start_at o) told0 past c.left s.number from c.slots cabin.slots h.tells slot sl card occupied
+                (subst (λ (k : Card). is_card (seat_in cabin.slots.seats sl) k ≡ true) (sym (same_is card d same)) here))))
+                (λ ne. ne)
+                (this-or card d),
+          )
+
+      left-other_ : (d : Card) → same_card card d ≡ false → left_of out_.slots.left d ≡ left_of cabin.slots.left d
+      left-other_ d ne = ap (λ (k : Slate_). left_of k.left d) slots-are ∙ ap (λ (q : Option Seat). left_of (with_left (s.number / 60) q cabin.slots.left) d) seat.1 ∙ left-other card d (Some seat.0) (s.number / 60) cabin.slots.left ne
+
+      so-leaves_ : (sl : Slot) (d : Card) → same_card card d ≡ false → IsLeaving log bef s q.at os.low os.high cabin sl d → IsLeaving later bef s q.at os.low os.high out_ sl d
+      so-leaves_ sl d ne l =
+          let apart : slot ≡ sl → ⊥ = λ same. some-none (seat_in cabin.slots.seats sl) (record { card = card; newest = Some seat.0 }) (ap (seat_in cabin.slots.seats) (sym same) ∙ seat.1) l.empty in
+          leaving-on log later bef s q.at os.low os.high cabin out_ sl d moves (torn-apart log s q.at slot sl (tear_of slot (moment_of s q)) tear-at apart l.untorn)
+          (ap (λ (k : Slate_). seat_in k.seats sl) slots-are ∙ unseated cabin.slots.seats slot sl l.empty)
+          (subst (λ (k : Slate_). SitsNowhere k.seats d) (sym slots-are) (nowhere-still cabin.slots.seats slot d l.nowhere))
+          (ap (λ (k : Slate_). k.past) slots-are) l
+
+      sat : IsOut
+      sat = record {
+        untorn = who-sits log bef s q.at slot (record { card = card; accepted = Some sitting.0 }) sitting.1;
+        out = ap (λ (vs : List Visit). vs ++ visits q.at slot c.slots) (not-leaving log bef s q.at slot (record { card = card; accepted = Some sitting.0 }) sitting.1)
+            ∙ ap (λ (q_ : Option Sitting). map {B = Visit} (λ (k : Card). record { phase = q.at; slot = slot; card = k }) (card_in q_)) sitting.1;
+        tells = λ torn. subst (λ (k : Slate_). SlotsTell (start_at o) told0 past d_.left s.number from d_.slots k) (sym slots-are)
+            (tear-tells (start_at o) told0 past s.number from slot c d_ cabin.slots h.tells torn);
+        who = who-stays;
+        past_is = ap (λ (k : Slate_). k.past) slots-are;
+        left_is = left-other_;
+        goes = λ d. subst (λ (k : Slate_). GoesOnIn s.number cabin.slots k d) (sym slots-are) (goes-taken s.number slot cabin.slots d);
+        leaving = so-leaves_;
+      }
+
+    -- OR IT WAS LEAVING it
+    module _ (l : IsLeaving log bef s q.at os.low os.high cabin slot card) where
+      nobody : in_slot c.slots slot ≡ None
+      nobody = none-sits (start_at o) past from cabin.slots (seat_in cabin.slots.seats slot) (in_slot c.slots slot) (seat-tells (start_at o) told0 past c.left s.number from c.slots cabin.slots h.tells slot) l.empty
+
+      slots-stay : out_.slots ≡ cabin.slots
+      slots-stay = ap (λ (q : Option Slot). left_from q s.number cabin.slots) (nowhere-none cabin.slots.seats card l.nowhere)
+
+      course-stays : IsTornFrom slot c d_ → d_.slots ≡ c.slots
+      course-stays torn = torn.slots ∙ empty-still c.slots slot nobody
+
+      left-tells : IsTornFrom slot c d_ → SlotsTell (start_at o) told0 past d_.left s.number from d_.slots out_.slots
+      left-tells torn = subst (λ (k : Slate_). SlotsTell (start_at o) told0 past d_.left s.number from d_.slots k) (sym slots-stay)
+          (tells-still (start_at o) told0 past s.number from slot c d_ cabin.slots h.tells torn nobody)
+
+      who-is : IsTornFrom slot c d_ → (sl : Slot) (d : Card) (u : ℕ) → in_slot d_.slots sl ≡ sits d u → (in_slot c.slots sl ≡ sits d u) × (same_card card d ≡ false)
+      who-is torn sl d u there_ =
+          let here : in_slot c.slots sl ≡ sits d u = ap (λ (q : Slots). in_slot q sl) (sym (course-stays torn)) ∙ there_ in
+          let seated = sits-back (start_at o) past from cabin.slots d u (seat_in cabin.slots.seats sl) (in_slot c.slots sl) (seat-tells (start_at o) told0 past c.left s.number from c.slots cabin.slots h.tells sl) here in (
+            here,
+            ⊎_elim
+                (λ same. no-both (is_card (seat_in cabin.slots.seats sl) d) seated (subst (λ (k : Card). is_card (seat_in cabin.slots.seats sl) k ≡ false) (same_is card d same) (nowhere-not cabin.slots.seats card l.nowhere sl)))
+                (λ ne. ne)
+                (this-or card d),
+          )
+
+      so-goes : (sl : Slot) (d : Card) → same_card card d ≡ false → IsLeaving log bef s q.at os.low os.high cabin sl d → IsLeaving later bef s q.at os.low os.high out_ sl d
+      so-goes sl d ne k =
+          let apart : slot ≡ sl → ⊥ = λ same. two-leave card d ne q.at slot (sym l.leaves ∙ ap (moved_at log bef s q.at).leaving same ∙ k.leaves ∙ ap (λ (x : Slot). record { phase = q.at; slot = x; card = d } ∷ []) (sym same)) in
+          leaving-on log later bef s q.at os.low os.high cabin out_ sl d moves (torn-apart log s q.at slot sl (tear_of slot (moment_of s q)) tear-at apart k.untorn)
+          (ap (λ (x : Slate_). seat_in x.seats sl) slots-stay ∙ k.empty)
+          (subst (λ (x : Slate_). SitsNowhere x.seats d) (sym slots-stay) k.nowhere)
+          (ap (λ (x : Slate_). x.past) slots-stay) k
+
+      was-leaving : IsOut
+      was-leaving = record {
+        untorn = l.untorn;
+        out = ap (λ (vs : List Visit). vs ++ visits q.at slot c.slots) l.leaves
+            ∙ ap (λ (q_ : Option Sitting). visit ∷ map {B = Visit} (λ (k : Card). record { phase = q.at; slot = slot; card = k }) (card_in q_)) nobody;
+        tells = left-tells;
+        who = who-is;
+        past_is = ap (λ (k : Slate_). k.past) slots-stay;
+        left_is = λ d ne. ap (λ (k : Slate_). left_of k.left d) slots-stay;
+        goes = λ d. goes-still s.number cabin.slots out_.slots d slots-stay;
+        leaving = so-goes;
+      }
+
+    -- the slot that it was leaving is the one in which it was present
+    its-slot : (sl : Slot) → IsLeaving log bef s q.at os.low os.high cabin sl card → (p : Present) → present_in cabin.slots.past m ≡ Some p → present_of p slot ≡ Some card → sl ≡ slot
+    its-slot sl l p there at = by slot at
+      where
+        by : (at_ : Slot) → present_of p at_ ≡ Some card → sl ≡ at_
+        by Driver is_ = l.driver m p le there is_
+        by CoDriver is_ = l.codriver m p le there is_
+
+    pub out-behind : (p : Present) → present_in cabin.slots.past m ≡ Some p → present_of p slot ≡ Some card → Behind Fell (Some card)
+    out-behind p there at = ⊎_elim
+        (λ early. fell-behind (sat p there at early))
+        (λ leaving. fell-behind (was-leaving (subst (λ (sl : Slot). IsLeaving log bef s q.at os.low os.high cabin sl card) (its-slot leaving.0 leaving.1 p there at) leaving.1)))
+        (h.back card had)
 
   -- EACH FATE
   pub fate-behind : (fate : Fate) (present : Option Card) (kept : Kept) → (fate ≡ Still) ⊎ IsFateOf (session_at cabin.cards present) kept fate → kept.entry.minute ≡ m → (p : Present) → present_in cabin.slots.past m ≡ Some p →
@@ -448,4 +518,4 @@ module _ (o : Origin) (done : List TraceSecond) (s : TraceSecond) (b : Beginning
     where
       by : (q : Option Accepted) → session_of cabin.cards card ≡ q → IsFateOf q kept Fell → Behind Fell (Some card)
       by None none h_ = absurd h_
-      by (Some old) some h_ = fell-behind card (valid card refl) old some p there at (broken refl)
+      by (Some old) some h_ = out-behind card (valid card refl) old some (broken refl) p there at

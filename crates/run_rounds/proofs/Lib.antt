@@ -1,3 +1,4 @@
+pub mod Leaving
 pub mod Fates
 pub mod Round
 pub mod Found
@@ -7,4 +8,3 @@ pub mod Whole
 pub mod Cut
 pub mod Broken
 pub mod Kept
-pub mod Back

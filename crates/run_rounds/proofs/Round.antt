@@ -12,7 +12,7 @@ use Rattle.run_model.specs.declared.Device.{Device}
 use Rattle.run_model.specs.declared.Device.TheVariants.{Unit as Recorder}
 use Rattle.minute_model.specs.declared.Minute.{Minute}
 use Rattle.log_model.specs.declared.lines.Mark.{Mark}
-use Rattle.log_model.specs.Log.{RunLog, Keeping}
+use Rattle.log_model.specs.Log.{RunLog}
 use Rattle.log_model.specs.Slots.{same_card}
 use Rattle.log_model.specs.Causes.{device_of}
 use Rattle.log_model.specs.Course.{Told as Seconds, Course, Visit, went}
@@ -46,8 +46,9 @@ use Rattle.run_keeping.specs.Books.{standing_by, fate_of}
 use Rattle.run_keeping.specs.Decided.{decided_minute}
 use Rattle.run_keeping.proofs.Counts.{past-by}
 use Rattle.run_within.specs.Within.{Beginning, told_before, course_in}
-use Rattle.run_rounds.specs.Rounds.{keeping_of, standing_card, and_breaks, Slate, OnlyTears, HasBrokenDown}
-use Rattle.run_rounds.proofs.Fates.{no-both, fate-behind, Behind}
+use Rattle.run_rounds.specs.Rounds.{Point, Outset, moment_of, standing_card, and_breaks, Slate, OnlyTears, HasBrokenDown}
+use Rattle.run_within.proofs.Seats.{no-both}
+use Rattle.run_rounds.proofs.Fates.{fate-behind, Behind}
 
 ext : (f g : Card → Standing) → ((c : Card) → f c ≡ g c) → f ≡ g
 ext f g same = λ i c. same c i
@@ -133,8 +134,8 @@ mark-there fate present card a n minute marks has is =
     (subst (λ (o : Option Card). Contains (marks ++ marks_by (Has a n) o minute) (record { device = device_of card; minute = minute; clock = n })) (sym is)
     (Contains-push marks (record { device = device_of card; minute = minute; clock = n })))
 
-module _ (o : Origin) (done : List TraceSecond) (s : TraceSecond) (b : Beginning) (low : ℕ) (first last : Device → ℕ) (k : Keeper) (m : Minute) (t : Told) (log : RunLog) (z : Card → Standing) (new : List HistoryMinute)
-    (h : Slate o done s b low m.minute (b.run.book.sure ++ new) log z t.keeper.cabin first last) (same_past : t.keeper.cabin.slots.past ≡ k.cabin.slots.past) (over : m.minute < s.number / 60) where
+module _ (o : Origin) (done : List TraceSecond) (s : TraceSecond) (q : Point) (b : Beginning) (os : Outset) (first last : Device → ℕ) (k : Keeper) (m : Minute) (t : Told) (log : RunLog) (z : Card → Standing) (new : List HistoryMinute)
+    (h : Slate o done s q b os m.minute (b.run.book.sure ++ new) log z t.keeper.cabin first last) (same_past : t.keeper.cabin.slots.past ≡ k.cabin.slots.past) (over : m.minute < s.number / 60) where
   abbrev past : List HistoryMinute
   past = b.run.book.sure ++ new
 
@@ -142,7 +143,7 @@ module _ (o : Origin) (done : List TraceSecond) (s : TraceSecond) (b : Beginning
   told0 = told_before b done
 
   abbrev c : Course
-  c = course_in b done s Keeping log
+  c = course_in b done s q.at log
 
   abbrev p : Present
   p = present_at k.cabin m.minute
@@ -167,8 +168,9 @@ module _ (o : Origin) (done : List TraceSecond) (s : TraceSecond) (b : Beginning
   minute-is = ap (λ (q : Present). record { minute = m.minute; driver = record { act = m.driver; card = q.driver }; codriver = record { act = m.codriver; card = q.codriver } }) (sym present-is)
 
   -- the unit has it
-  unit-slate : Slate o done s b low (suc m.minute) (past ++ i ∷ []) log z cabin first last
+  unit-slate : Slate o done s q b os (suc m.minute) (past ++ i ∷ []) log z cabin first last
   unit-slate = record {
+    point = h.point;
     now = h.now;
     moment = h.moment;
     rise = h.rise;
@@ -178,21 +180,24 @@ module _ (o : Origin) (done : List TraceSecond) (s : TraceSecond) (b : Beginning
         (λ card. inl (refl, λ x. x)) (λ slot card u at. (at, inl (refl, λ x. x)));
     sessions = h.sessions;
     back = h.back;
+    leave = h.leave;
+    had = h.had;
+    stays = h.stays;
   }
 
   stands : (card : Card) → IsIn p card → StandsIn o.found z cabin.cards told0 c s.number m.minute card
   stands card in_ = h.present.ended m.minute p card (omega arith) there in_
 
-  module _ (round : Round) (failed : Bool) (le : low ≤ m.minute) (few : s.number / 60 ≤ m.minute + 4)
-      (is : IsRound (present_at k.cabin m.minute) (minute_of m k) (keeping_of s) failed t.keeper round) (two : AreTwo (present_at k.cabin m.minute).driver (present_at k.cabin m.minute).codriver)
+  module _ (round : Round) (failed : Bool) (le : os.low ≤ m.minute) (few : s.number / 60 ≤ m.minute + 4)
+      (is : IsRound (present_at k.cabin m.minute) (minute_of m k) (moment_of s q) failed t.keeper round) (two : AreTwo (present_at k.cabin m.minute).driver (present_at k.cabin m.minute).codriver)
       (driver_broken : HasBrokenDown round.driver (present_at k.cabin m.minute).driver first last) (codriver_broken : HasBrokenDown round.codriver (present_at k.cabin m.minute).codriver first last) where
     -- the driver's card, and the co-driver's
-    first-fate : Behind o done s b low m.minute (suc m.minute) (past ++ i ∷ []) first last Driver log z cabin unit-slate refl le few round.driver p.driver
-    first-fate = fate-behind o done s b low m.minute (suc m.minute) (past ++ i ∷ []) first last Driver log z cabin unit-slate refl le few round.driver p.driver (kept_in (minute_of m k) Driver) (inr is.driver) refl p there refl
+    first-fate : Behind o done s q b os m.minute (suc m.minute) (past ++ i ∷ []) first last Driver log z cabin unit-slate refl le few round.driver p.driver
+    first-fate = fate-behind o done s q b os m.minute (suc m.minute) (past ++ i ∷ []) first last Driver log z cabin unit-slate refl le few round.driver p.driver (kept_in (minute_of m k) Driver) (inr is.driver) refl p there refl
         (λ card e. (stands card (inl e)).valid) driver_broken
 
     abbrev log1 : RunLog
-    log1 = and_breaks log (breaks_by round.driver Driver (keeping_of s))
+    log1 = and_breaks log (breaks_by round.driver Driver (moment_of s q))
 
     abbrev z1 : Card → Standing
     z1 = standing_card round.driver p.driver m.minute z
@@ -206,15 +211,15 @@ module _ (o : Origin) (done : List TraceSecond) (s : TraceSecond) (b : Beginning
     there1 : present_in cabin1.slots.past m.minute ≡ Some p
     there1 = ap (λ (es : List Ended). present_in es m.minute) (past-by round.driver p.driver s.number cabin) ∙ there
 
-    second-fate : Behind o done s b low m.minute (suc m.minute) (past ++ i ∷ []) first last CoDriver log1 z1 cabin1 first-fate.slate refl le few round.codriver p.codriver
-    second-fate = fate-behind o done s b low m.minute (suc m.minute) (past ++ i ∷ []) first last CoDriver log1 z1 cabin1 first-fate.slate refl le few round.codriver p.codriver (kept_in (minute_of m k) CoDriver) second-is refl p there1 refl
+    second-fate : Behind o done s q b os m.minute (suc m.minute) (past ++ i ∷ []) first last CoDriver log1 z1 cabin1 first-fate.slate refl le few round.codriver p.codriver
+    second-fate = fate-behind o done s q b os m.minute (suc m.minute) (past ++ i ∷ []) first last CoDriver log1 z1 cabin1 first-fate.slate refl le few round.codriver p.codriver (kept_in (minute_of m k) CoDriver) second-is refl p there1 refl
         (λ card e. (stands card (inr e)).valid) codriver_broken
 
     abbrev log2 : RunLog
-    log2 = and_breaks log1 (breaks_by round.codriver CoDriver (keeping_of s))
+    log2 = and_breaks log1 (breaks_by round.codriver CoDriver (moment_of s q))
 
     abbrev c2 : Course
-    c2 = course_in b done s Keeping log2
+    c2 = course_in b done s q.at log2
 
     abbrev z2 : Card → Standing
     z2 = λ card. standing_by (fate_of p round card) m.minute (z card)
@@ -222,11 +227,11 @@ module _ (o : Origin) (done : List TraceSecond) (s : TraceSecond) (b : Beginning
     standings-are : standing_card round.codriver p.codriver m.minute z1 ≡ z2
     standings-are = ext (standing_card round.codriver p.codriver m.minute z1) z2 (λ card. stands-by (is_this p.driver card) (is_this p.codriver card) round.driver round.codriver m.minute (z card) (apart-both p.driver p.codriver two card))
 
-    pub round-slate : Slate o done s b low (suc m.minute) (past ++ i ∷ []) log2 z2 (cabin_after p s.number round cabin) first last
-    round-slate = subst (λ (y : Card → Standing). Slate o done s b low (suc m.minute) (past ++ i ∷ []) log2 y (cabin_after p s.number round cabin) first last) standings-are second-fate.slate
+    pub round-slate : Slate o done s q b os (suc m.minute) (past ++ i ∷ []) log2 z2 (cabin_after p s.number round cabin) first last
+    round-slate = subst (λ (y : Card → Standing). Slate o done s q b os (suc m.minute) (past ++ i ∷ []) log2 y (cabin_after p s.number round cabin) first last) standings-are second-fate.slate
 
     pub round-same : OnlyTears c c2
-    round-same = tears-on c (course_in b done s Keeping log1) c2 first-fate.same second-fate.same
+    round-same = tears-on c (course_in b done s q.at log1) c2 first-fate.same second-fate.same
 
     pub round-past : (cabin_after p s.number round cabin).slots.past ≡ k.cabin.slots.past
     round-past = past-by round.codriver p.codriver s.number cabin1 ∙ past-by round.driver p.driver s.number cabin ∙ same_past

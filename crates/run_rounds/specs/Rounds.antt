@@ -1,4 +1,4 @@
--- What the rounds of a keeping make of the record within a second (profile): of its values, told or not, and of unit and cards.
+-- What the rounds of a keeping make of the record at a moment of a second (profile): of its values, told or not, and of unit and cards.
 use Rattle.std.specs.Prelude.{◌≡◌, All, map, ◌⊎◌, ℕ, suc, ◌+◌, ◌*◌, ◌/◌, ◌<◌, ◌≤◌, Bool, true, false, Option, Some, None, IfSome, List, [], ◌∷◌, ◌++◌, Contains, length, is_some, if◌then◌else◌}
 use Rattle.activity_codec.specs.declared.values.Slot.{Slot}
 use Rattle.trace_model.specs.declared.Card.{Card}
@@ -9,14 +9,13 @@ use Rattle.minute_model.specs.declared.Minute.{Minute}
 use Rattle.minute_model.specs.Span.{Span, count_from, ungiven_of}
 use Rattle.log_model.specs.declared.lines.Break.{Break}
 use Rattle.log_model.specs.declared.lines.Mark.{Mark}
-use Rattle.log_model.specs.Log.{RunLog, Keeping}
+use Rattle.log_model.specs.Log.{RunLog, Phase, In, Keeping, phase_of}
 use Rattle.log_model.specs.Causes.{device_of, RoseBy}
 use Rattle.log_model.specs.Course.{Course, Visit, went}
 use Rattle.history_model.specs.Minutes.{HistoryMinute}
 use Rattle.joint_rule.specs.Rules.{Standing}
 use Rattle.unit_course.specs.Turn.{span_at}
 use Rattle.slot_machine.specs.declared.seats.Present.{Present}
-use Rattle.slot_machine.specs.Kept.{left_of}
 use Rattle.run_crew.specs.declared.cabin.Cabin.{Cabin}
 use Rattle.run_crew.specs.Cards.{session_of}
 use Rattle.run_rule.specs.Between.{Carried}
@@ -33,20 +32,40 @@ use Rattle.run_keeping.specs.Keeping.{Fate, Fell, is_this}
 use Rattle.run_keeping.specs.declared.keeper.Keeper.{Keeper}
 use Rattle.run_keeping.specs.Minutes.{Told, Round, Done, present_at}
 use Rattle.run_keeping.specs.Books.{standing_by}
-use Rattle.run_within.specs.Recorded.{Values}
-use Rattle.run_within.specs.Within.{Beginning, told_before, course_in}
+use Rattle.run_within.specs.Recorded.{Values, GoesOnIn}
+use Rattle.run_within.specs.Within.{Beginning, told_before, course_in, IsLeaving, AreBackAt, AreOld}
 
 -- what a run has by value, where keeper, marks and breaks are these
 abbrev pub told_values : Told → Values → Values
 told_values t v = record v { log = record v.log { breaks = t.breaks.items }; marks = t.marks.items; cabin = t.keeper.cabin }
 
--- the keeping of a second: its tears are told as late ones, with all actions begun
-abbrev pub keeping_of : TraceSecond → KeepingAt
-keeping_of s = record { second = s.number; begun = length s.actions; late = true }
+-- Where in a second minutes are kept: at this moment, with these cards waiting to be judged; the second is fed, or not; and so are tears told.
+pub record Point : Type 0 where
+  pub at : Phase
+  pub waits : List Visit
+  pub speed : Option ℕ
+  pub begun : ℕ
+  pub late : Bool
 
--- a card with a session left a slot last no later than in this minute
-abbrev pub AreBack : (low : ℕ) → Cabin → Type 0
-AreBack low cabin = (card : Card) → is_some (session_of cabin.cards card) ≡ true → IfSome (left_of cabin.slots.left card) (λ left. left ≤ low)
+-- the moment of their keeping
+abbrev pub moment_of : TraceSecond → Point → KeepingAt
+moment_of s q = record { second = s.number; begun = q.begun; late = q.late }
+
+-- Tears are told of that moment, and a second is fed in its keeping alone.
+pub record IsPoint (s : TraceSecond) (q : Point) : Type 0 where
+  pub phase : phase_of q.begun q.late ≡ q.at
+  pub few : q.begun ≤ length s.actions
+  pub all : q.late ≡ true → q.begun ≡ length s.actions
+  pub unfed : (q.at ≡ Keeping → ⊥) → q.speed ≡ None
+  pub feeds : q.at ≡ Keeping → q.speed ≡ Some s.speed
+
+-- the keeping of a second, behind all of its actions
+abbrev pub keeping_of : TraceSecond → Point
+keeping_of s = record { at = Keeping; waits = []; speed = Some s.speed; begun = length s.actions; late = true }
+
+-- a settling in its n-th action
+abbrev pub settling_at : ℕ → List Visit → Point
+settling_at n waits = record { at = In n; waits = waits; speed = None; begun = n; late = false }
 
 -- how the cards stand behind what became of the entry of the one that was present
 abbrev pub standing_card : Fate → Option Card → (minute : ℕ) → (Card → Standing) → Card → Standing
@@ -56,17 +75,29 @@ standing_card fate present minute standing c = if is_this present c then standin
 abbrev pub and_breaks : RunLog → List Break → RunLog
 and_breaks log more = record log { breaks = log.breaks ++ more }
 
--- SLOTS AND LOG in the keeping of a second, where the minutes before `from` are kept and the breakdowns will have risen from `first` to
--- `last`: the log tells of each card that was torn out, and so the slots have those that sit, and tell who was present and stands so.
-pub record Slate (o : Origin) (done : List TraceSecond) (s : TraceSecond) (b : Beginning) (low from : ℕ) (past : List HistoryMinute) (log : RunLog) (standing : Card → Standing) (cabin : Cabin) (first last : Device → ℕ) : Type 0 where
+-- what the slots and the log were before all rounds, and from which minute up to which minutes are to be kept
+pub record Outset : Type 0 where
+  pub log : RunLog
+  pub cabin : Cabin
+  pub low : ℕ
+  pub high : ℕ
+
+-- SLOTS AND LOG at a point of a second, where the minutes before `from` are kept and the breakdowns will have risen from `first` to `last`:
+-- the log tells of each card that was torn out, and so the slots have those that sit, and tell who was present and stands so.
+pub record Slate (o : Origin) (done : List TraceSecond) (s : TraceSecond) (q : Point) (b : Beginning) (os : Outset) (from : ℕ) (past : List HistoryMinute) (log : RunLog) (standing : Card → Standing) (cabin : Cabin) (first last : Device → ℕ) : Type 0 where
+  pub point : IsPoint s q
   pub now : Device → ℕ
-  pub moment : Moment b.run (went b.run.log done).before s Keeping log [] b.broken now
+  pub moment : Moment b.run (went b.run.log done).before s q.at log q.waits b.broken now
   pub rise : IsMore now last
   pub rests : (card : Card) → is_some (session_of cabin.cards card) ≡ true → now (device_of card) ≡ first (device_of card)
-  pub tells : SlotsTell (start_at o) (told_before b done) past (course_in b done s Keeping log).left s.number from (course_in b done s Keeping log).slots cabin.slots
-  pub present : PresentStand o.found standing (told_before b done) (course_in b done s Keeping log) s.number from cabin
+  pub tells : SlotsTell (start_at o) (told_before b done) past (course_in b done s q.at log).left s.number from (course_in b done s q.at log).slots cabin.slots
+  pub present : PresentStand o.found standing (told_before b done) (course_in b done s q.at log) s.number from cabin
   pub sessions : SessionsStand o.found standing cabin.cards
-  pub back : AreBack low cabin
+  pub back : AreBackAt log (went b.run.log done).before s q.at os.low os.high cabin
+  pub leave : (slot : Slot) (card : Card) → IsLeaving os.log (went b.run.log done).before s q.at os.low os.high os.cabin slot card → is_some (session_of cabin.cards card) ≡ true →
+      IsLeaving log (went b.run.log done).before s q.at os.low os.high cabin slot card
+  pub had : AreOld os.cabin.cards cabin.cards
+  pub stays : (card : Card) → GoesOnIn s.number os.cabin.slots cabin.slots card
 
 -- of a second's course nothing has changed but its slots, leavings and tears
 pub record OnlyTears (old new : Course) : Type 0 where
@@ -88,18 +119,19 @@ HaveBroken k (x ∷ xs) first last =
 
 -- HOW FAR A KEEPING HAS GONE, by value, where this was the keeper before it, these its marks and this the course: these minutes are kept,
 -- and these, each over as the second begins, are still to be kept; and so much is carried of unit and cards.
-pub record SoFar (o : Origin) (done : List TraceSecond) (s : TraceSecond) (b : Beginning) (low : ℕ) (first last : Device → ℕ) (k : Keeper) (sp : Span) (v : Values) (marks : List Mark) (old : Course) (brought : Card → List ℕ)
+pub record SoFar (o : Origin) (done : List TraceSecond) (s : TraceSecond) (q : Point) (b : Beginning) (os : Outset) (first last : Device → ℕ) (k : Keeper) (sp : Span) (v : Values) (marks : List Mark) (old : Course) (brought : Card → List ℕ)
     (t : Told) (w : Carried) (ds rest : List Minute) (new : List HistoryMinute) (from : ℕ) : Type 0 where
-  pub slate : Slate o done s b low from (b.run.book.sure ++ new) (told_values t v).log w.standing t.keeper.cabin first last
+  pub slate : Slate o done s q b os from (b.run.book.sure ++ new) (told_values t v).log w.standing t.keeper.cabin first last
   pub past : t.keeper.cabin.slots.past ≡ k.cabin.slots.past
-  pub decided : HasDecided (rule_of o) (start_at o) (told_before b done) b.run b.span (course_in b done s Keeping (told_values t v).log) (Some s.speed) sp ds rest new
+  pub decided : HasDecided (rule_of o) (start_at o) (told_before b done) b.run b.span (course_in b done s q.at (told_values t v).log) q.speed sp ds rest new
   pub numbers : map (λ (m : Minute). m.minute) rest ≡ count_from from (length rest)
   pub over : All (λ (m : Minute). m.minute < s.number / 60) rest
-  pub high : low ≤ from
+  pub ends : from + length rest ≡ os.high
+  pub high : os.low ≤ from
   pub to : from ≡ ungiven_of (span_at (rule_of o) b.run.next b.span) + length ds
   pub until : from + length rest ≡ ungiven_of sp
   pub stay : (mark : Mark) → Contains marks mark → Contains t.marks.items mark
-  pub same : OnlyTears old (course_in b done s Keeping (told_values t v).log)
+  pub same : OnlyTears old (course_in b done s q.at (told_values t v).log)
   pub due : w.due ≤ from
   pub book : w.book ≡ kept_all new b.run.book
   pub brought_is : w.brought ≡ brought

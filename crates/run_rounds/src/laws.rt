@@ -1,11 +1,16 @@
 ghost use Rattle.run_rule.specs.Between.{devices};
-ghost use Rattle.run_rounds.specs.Laws.{TheMinutesMayBeBooked, TheMinutesAreKept, TheKeepingFails, TheKeepingIsRecorded, TheyAreBackByNow, TheyAreBackLater, TheyStayBack};
+ghost use Rattle.run_rounds.specs.Laws.{TheMinutesMayBeBooked, TheMinutesAreOver, TheMinutesAreKept, TheyLeaveStill, TheKeepingFails, TheNoteFails, TheKeepingIsRecorded};
 
 use tach_media::{Chip, Medium};
 
-/// The minutes that are still to be kept in the keeping of a second may be booked.
+/// The minutes that are still to be kept at a point of a second may be booked.
 pub fn the_minutes_may_be_booked<M: Medium, C: Chip, D: Chip>(unit: &M, card_a: &C, card_b: &D)
     ensures { TheMinutesMayBeBooked (devices (M.state unit.now) (C.state card_a.now) (D.state card_b.now)) }
+{}
+
+/// In the keeping of a second they are over.
+pub fn the_minutes_are_over<M: Medium, C: Chip, D: Chip>(unit: &M, card_a: &C, card_b: &D)
+    ensures { TheMinutesAreOver (devices (M.state unit.now) (C.state card_a.now) (D.state card_b.now)) }
 {}
 
 /// Some of them are kept, and cards may be torn out.
@@ -20,6 +25,18 @@ pub fn the_minutes_are_kept<M: Medium, C: Chip, D: Chip, N: Medium, E: Chip, F: 
     ensures { TheMinutesAreKept (devices (M.state old_unit.now) (C.state old_a.now) (D.state old_b.now)) (devices (N.state unit.now) (E.state card_a.now) (F.state card_b.now)) }
 {}
 
+/// A card that leaves its slot leaves it still behind them.
+pub fn they_leave_still<M: Medium, C: Chip, D: Chip, N: Medium, E: Chip, F: Chip>(
+    old_unit: &M,
+    old_a: &C,
+    old_b: &D,
+    unit: &N,
+    card_a: &E,
+    card_b: &F,
+)
+    ensures { TheyLeaveStill (devices (M.state old_unit.now) (C.state old_a.now) (D.state old_b.now)) (devices (N.state unit.now) (E.state card_a.now) (F.state card_b.now)) }
+{}
+
 /// The unit fails in one of them.
 pub fn the_keeping_fails<M: Medium, C: Chip, D: Chip, N: Medium, E: Chip, F: Chip>(
     old_unit: &M,
@@ -32,6 +49,18 @@ pub fn the_keeping_fails<M: Medium, C: Chip, D: Chip, N: Medium, E: Chip, F: Chi
     ensures { TheKeepingFails (devices (M.state old_unit.now) (C.state old_a.now) (D.state old_b.now)) (devices (N.state unit.now) (E.state card_a.now) (F.state card_b.now)) }
 {}
 
+/// The unit fails in a note behind all of them.
+pub fn the_note_fails<M: Medium, C: Chip, D: Chip, N: Medium, E: Chip, F: Chip>(
+    old_unit: &M,
+    old_a: &C,
+    old_b: &D,
+    unit: &N,
+    card_a: &E,
+    card_b: &F,
+)
+    ensures { TheNoteFails (devices (M.state old_unit.now) (C.state old_a.now) (D.state old_b.now)) (devices (N.state unit.now) (E.state card_a.now) (F.state card_b.now)) }
+{}
+
 /// A keeping is recorded, as far as it came.
 pub fn the_keeping_is_recorded<M: Medium, C: Chip, D: Chip, N: Medium, E: Chip, F: Chip>(
     old_unit: &M,
@@ -42,26 +71,4 @@ pub fn the_keeping_is_recorded<M: Medium, C: Chip, D: Chip, N: Medium, E: Chip, 
     card_b: &F,
 )
     ensures { TheKeepingIsRecorded (devices (M.state old_unit.now) (C.state old_a.now) (D.state old_b.now)) (devices (N.state unit.now) (E.state card_a.now) (F.state card_b.now)) }
-{}
-
-/// The cards with sessions are back where all minutes before this one are kept.
-pub fn they_are_back_by_now()
-    ensures { TheyAreBackByNow }
-{}
-
-/// So they are later on.
-pub fn they_are_back_later()
-    ensures { TheyAreBackLater }
-{}
-
-/// And so they are behind a keeping.
-pub fn they_stay_back<M: Medium, C: Chip, D: Chip, N: Medium, E: Chip, F: Chip>(
-    old_unit: &M,
-    old_a: &C,
-    old_b: &D,
-    unit: &N,
-    card_a: &E,
-    card_b: &F,
-)
-    ensures { TheyStayBack (devices (M.state old_unit.now) (C.state old_a.now) (D.state old_b.now)) (devices (N.state unit.now) (E.state card_a.now) (F.state card_b.now)) }
 {}

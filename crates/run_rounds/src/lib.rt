@@ -4,6 +4,6 @@
 mod laws;
 
 pub use laws::{
-    the_keeping_fails, the_keeping_is_recorded, the_minutes_are_kept, the_minutes_may_be_booked,
-    they_are_back_by_now, they_are_back_later, they_stay_back,
+    the_keeping_fails, the_keeping_is_recorded, the_minutes_are_kept, the_minutes_are_over,
+    the_minutes_may_be_booked, the_note_fails, they_leave_still,
 };
