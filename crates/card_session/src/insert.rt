@@ -5,7 +5,7 @@ ghost use Rattle.activity_codec.specs.declared.values.Activity.TheVariants.{Rest
 ghost use Rattle.card_layout.specs.Application.{IsApplication};
 ghost use Rattle.card_layout.specs.Files.{place_of};
 ghost use Rattle.card_layout.specs.declared.files.Application.{Application};
-ghost use Rattle.tach_media.specs.Medium.{LeavesOnly, Reads, HasCause, IsPartlyWritten, IsSettled, last_count};
+ghost use Rattle.tach_media.specs.Medium.{LeavesOnly, Unchanged, Reads, HasCause, IsPartlyWritten, IsSettled, last_count};
 ghost use Rattle.card_model.specs.declared.lengths.TheConstants.{DAYS_MOST};
 ghost use Rattle.card_model.specs.Changes.{trimmed};
 ghost use Rattle.card_image.specs.Fields.{file, last_use_of, current_use, session_time, end_mark};
@@ -329,6 +329,7 @@ impl CardSession {
         ensures refused { IfErr result (λ fault. IfNotValid fault (λ fid place. Reads (M.state port.old) (M.state port.new) false)) }
         ensures refused_late { IfErr result (λ fault. IfTimeOverlap fault (λ stored at. Reads (M.state port.old) (M.state port.new) false)) }
         ensures moments { LeavesOnly (M.state port.old) (M.state port.new) (IsCardInserting app.now registration.now odometer.0 owed.now.items now.0) }
+        ensures in_time { LeavesOnly (M.state port.old) (M.state port.new) Unchanged ⊎ IfSome (M.state port.old).image (λ x. (card_view app.now x).stored ≤ now.0) }
         ensures settled { IsOk result → (M.state port.new).clock < last_count → IsSettled (M.state port.new) }
         ensures cause { HasCause (M.state port.old) (M.state port.new) (has_failed result) }
         ensures most { (M.state port.new).clock ≤ (M.state port.old).clock + (DAYS_MOST + 84) }

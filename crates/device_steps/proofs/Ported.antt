@@ -22,7 +22,7 @@ use Rattle.history_model.specs.Book.{Book}
 use Rattle.device_steps.specs.declared.entering.Entered.{Entered}
 use Rattle.device_steps.specs.declared.entering.NotEntered.{NotEntered}
 use Rattle.device_steps.specs.declared.entering.NotEntered.TheVariants.{UnitFailed, CardFailed, NotValid, TimeOverlap}
-use Rattle.device_steps.specs.Entering.{owed_on, IsRefused, IsEntering}
+use Rattle.device_steps.specs.Entering.{IsInTime, owed_on, IsRefused, IsEntering}
 use Rattle.device_steps.specs.OnCard.{IsOnItsCard}
 use Rattle.device_steps.specs.Rule.{Both}
 
@@ -110,6 +110,9 @@ module _ (a b : Application) (m n : GName) (X Y : State) where
     refused_ported : (r : Result Entered NotEntered) → IfErr r (IsRefused app now (port_state a (lent m X)) (port_state b (lent n Y))) → IfErr r (IsRefused app now X Y)
     refused_ported (Ok e) refused = tt
     refused_ported (Err f) refused = refused_port f refused
+
+    pub port_in_time : IsInTime app now (port_state a (lent m X)) (port_state b (lent n Y)) → IsInTime app now X Y
+    port_in_time is = ⊎_elim (λ only. inl (port_leaves same only)) (λ early. inr early) is
 
     pub port_enters : (r : Result Entered NotEntered) → IsEntering app registration odometer now U V (port_state a (lent m X)) (port_state b (lent n Y)) r → IsEntering app registration odometer now U V X Y r
     port_enters r enters = record {

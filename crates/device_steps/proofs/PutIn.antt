@@ -38,7 +38,7 @@ use Rattle.device_steps.proofs.Passed.{valid-days}
 use Rattle.device_steps.specs.declared.entering.Entered.{Entered}
 use Rattle.device_steps.specs.declared.entering.NotEntered.{NotEntered}
 use Rattle.device_steps.specs.declared.entering.NotEntered.TheVariants.{UnitFailed, CardFailed, NotValid as NotValidCard, TimeOverlap as LaterCard}
-use Rattle.device_steps.specs.Entering.{owed_on, of_card, IsRead, IsAccepted, IsRefused, IsEntering, IsInsertedWith, unit_failed, unit_called, card_failed}
+use Rattle.device_steps.specs.Entering.{IsInTime, owed_on, of_card, IsRead, IsAccepted, IsRefused, IsEntering, IsInsertedWith, unit_failed, unit_called, card_failed}
 
 -- how an insertion answers, and what is told of it
 abbrev pub refuses : InsertFault → Result Entered NotEntered
@@ -231,6 +231,9 @@ module _ (app : Application) (registration : Registration) (odometer now : ℕ) 
       by_fault : (r : Result Entered NotEntered) → IfErr r (IsRefused app now M Y) → IfErr r (IsRefused app now X Y)
       by_fault (Ok e) refused = tt
       by_fault (Err f) refused = refused_after app now X M Y f reads refused
+
+  pub in_time_after : (X M Y : State) → Reads X M false → IsInTime app now M Y → IsInTime app now X Y
+  in_time_after X M Y reads is = ⊎_elim (λ read. inl (goes_same reads.leaves read)) (λ early. inr (subst (λ (o : Option (List ℕ)). IfSome o (λ x. (card_view app x).stored ≤ now)) (reads.same refl) early)) is
 
   -- the unit failed
   pub enters_cut : (U V X : State) → X.works ≡ true → Reads U V true → IsEntering app registration odometer now U V X X (Err UnitFailed)

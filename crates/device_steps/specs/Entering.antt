@@ -89,6 +89,10 @@ IsRefused app now before after (NotValid fid place) = Reads before after false �
 IsRefused app now before after (TimeOverlap stored at) =
     Reads before after false × (at ≡ now) × (now < stored) × IfSome before.image (λ x. IsValid app x × (stored ≡ (card_view app x).stored))
 
+-- A card that was written told of no later time.
+abbrev pub IsInTime : Application → (now : ℕ) → (before after : State) → Type 0
+IsInTime app now before after = LeavesOnly before after Unchanged ⊎ IfSome before.image (λ x. (card_view app x).stored ≤ now)
+
 -- PUT IN: at each moment, too, what the card's images are by those of unit and card before.
 pub record IsEntering (app : Application) (registration : Registration) (odometer now : ℕ) (unit_old unit_new card_old card_new : State)
     (r : Result Entered NotEntered) : Type 0 where

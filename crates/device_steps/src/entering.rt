@@ -18,7 +18,7 @@ ghost use Rattle.unit_rule.specs.Rule.{Started};
 ghost use Rattle.unit_rule.specs.Marks.{Holds};
 ghost use Rattle.device_steps.specs.Rule.{Both, opened, card_seen, CardHolds};
 ghost use Rattle.device_steps.specs.OnCard.{Anything};
-ghost use Rattle.device_steps.specs.Entering.{of_card, unit_failed, IsEntering, IsInsertedWith, IsAsked};
+ghost use Rattle.device_steps.specs.Entering.{of_card, unit_failed, IsInTime, IsEntering, IsInsertedWith, IsAsked};
 
 use activity_codec::Owed;
 use card_commands::Port;
@@ -83,6 +83,7 @@ fn insert_by<C: Medium>(
     requires owed { AreOwed now.0 owed.items }
     ensures inserted { IsInsertedWith app.now registration.now odometer.0 now.0 owed.items look (C.state card.old) (C.state card.new) result }
     ensures leaves { LeavesOnly (C.state card.old) (C.state card.new) Anything }
+    ensures in_time { IsInTime app.now now.0 (C.state card.old) (C.state card.new) }
     ensures most { (C.state card.new).clock ≤ (C.state card.old).clock + (DAYS_MOST + 84) }
 {
     match CardSession::insert(card, app, now, registration, odometer, &owed) {
@@ -119,6 +120,7 @@ fn enter_as<M: Medium, C: Medium>(
     requires fits { odometer.0 < 2 ^ 24 }
     ensures enters { IsEntering app.now registration.now odometer.0 now.0 (M.state unit.old) (M.state unit.new) (C.state card.old) (C.state card.new) result }
     ensures leaves { LeavesOnly (C.state card.old) (C.state card.new) Anything }
+    ensures in_time { IsInTime app.now now.0 (C.state card.old) (C.state card.new) }
     ensures most { (C.state card.new).clock ≤ (C.state card.old).clock + (DAYS_MOST + 84) }
 {
     match journal.owed(unit, &look.number, look.session, look.newest_minute) {
@@ -147,6 +149,7 @@ fn enter_by<M: Medium, C: Medium>(
     requires fits { odometer.0 < 2 ^ 24 }
     ensures enters { IsEntering app.now registration.now odometer.0 now.0 (M.state unit.old) (M.state unit.new) (C.state card.old) (C.state card.new) result }
     ensures leaves { LeavesOnly (C.state card.old) (C.state card.new) Anything }
+    ensures in_time { IsInTime app.now now.0 (C.state card.old) (C.state card.new) }
     ensures most { (C.state card.new).clock ≤ (C.state card.old).clock + (DAYS_MOST + 84) }
 {
     match look(card, app) {
@@ -200,6 +203,7 @@ pub fn enter<M: Medium, C: Chip, D: Chip>(
     ensures unit { IsUnit (M.state unit.new) }
     ensures agrees { unit_failed result ≡ false → IfSome (M.state unit.new).image (Agrees journal.now) }
     ensures leaves { LeavesOnly (C.state card.old) (C.state card.new) Anything }
+    ensures in_time { IsInTime app now.0 (C.state card.old) (C.state card.new) }
     ensures port { IsPort app None (C.card card.new) (C.state card.new) }
     ensures long { length registration.now.0 ≡ 15 }
     ensures most { (C.state card.new).clock ≤ (C.state card.old).clock + (DAYS_MOST + 84) }

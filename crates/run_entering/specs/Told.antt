@@ -1,7 +1,7 @@
 -- What an acceptance leaves of what is carried, over devices that tell their images (profile).
-use Rattle.std.specs.Prelude.{List, ◌++◌, max, ◌≡◌, ◌⊎◌, ℕ, ◌/◌, ◌<◌, ◌≤◌, Bool, true, false, Option, Some, is_some, ◌∷◌, length, if◌then◌else◌}
+use Rattle.std.specs.Prelude.{List, ◌++◌, max, ◌≡◌, ◌⊎◌, ℕ, ◌/◌, ◌<◌, ◌≤◌, Bool, true, false, Option, Some, IfSome, is_some, ◌∷◌, length, if◌then◌else◌}
 use Rattle.trace_model.specs.declared.Card.{Card}
-use Rattle.tach_media.specs.Medium.{State, last_count}
+use Rattle.tach_media.specs.Medium.{State, LeavesOnly, Unchanged, last_count}
 use Rattle.tacho_types.specs.CardNumber.{card_number_bytes}
 use Rattle.card_image.specs.Own.{own_view, IsOwnValid}
 use Rattle.history_model.specs.Book.{Book}
@@ -163,6 +163,14 @@ MayHaveWritten Unasked = ⊥
 MayHaveWritten (Unnoted entered clock) = Unit {0}
 MayHaveWritten (Seated entered clock entry) = Unit {0}
 MayHaveWritten (Lost entered clock entry) = Unit {0}
+
+-- a card that was written told of no later time, as it was judged
+abbrev pub IsEarly : Entering → (before after : State) → Type 0
+IsEarly e before after = LeavesOnly before after Unchanged ⊎ IfSome before.image (λ x. (own_view x).stored ≤ e.at.second)
+
+-- and of one that entered an image tells so that a stop might have left before
+abbrev pub WasInTime : Entering → (before after : State) → Type 0
+WasInTime e before after = LeavesOnly before after Unchanged ⊎ IfSome before.image (λ x. (y : List ℕ) × before.may_leave y × ((own_view y).stored ≤ e.at.second))
 
 -- WHAT IS KNOWN BEHIND AN ENDING, of what was carried as the card was judged: what is carried, what was found of the cards, what a find tells;
 -- that the card is as it was, or was valid and may have been written; and of a valid one when it was last used.

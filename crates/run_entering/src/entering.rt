@@ -12,7 +12,7 @@ ghost use Rattle.run_keeping.specs.Keeping.{UnitReady, CardReady, HasItsRow};
 ghost use Rattle.card_layout.specs.declared.files.TheConstants.{LARGEST_IMAGE};
 ghost use Rattle.card_image.specs.Own.{own_sizes};
 ghost use Rattle.card_judge.specs.Judged.{TellsSizes};
-ghost use Rattle.run_entering.specs.Told.{BooksJudged, BooksEntered};
+ghost use Rattle.run_entering.specs.Told.{BooksJudged, BooksEntered, IsEarly, WasInTime};
 ghost use Rattle.card_session.specs.declared.words.TheConstants.{LATEST_MINUTE};
 ghost use Rattle.run_entering.specs.Entering.{Ending, Way, Unfit, Ahead, outcome_by, most_owed};
 ghost use Rattle.run_entering.specs.Noted.{HasNoted, IsOnUnit, IsComing, notes_by};
@@ -124,6 +124,7 @@ fn accept_by<M: Medium, C: Chip, D: Chip>(
     ensures clock { (M.state unit.old).clock ≤ (M.state unit.new).clock }
     ensures clock_card { (C.state card.old).clock ≤ (C.state card.new).clock }
     ensures more { (C.state card.old).breakdowns ≤ (C.state card.new).breakdowns }
+    ensures in_time { IsEarly entering (C.state card.old) (C.state card.new) }
 {
     let registration = keeper.memory.identity().registration;
     let now = TimeReal(entering.at.second);
@@ -198,6 +199,7 @@ pub fn accept<M: Medium, C: Chip, D: Chip>(
     ensures clock { (M.state unit.old).clock ≤ (M.state unit.new).clock }
     ensures clock_card { (C.state card.old).clock ≤ (C.state card.new).clock }
     ensures more { (C.state card.old).breakdowns ≤ (C.state card.new).breakdowns }
+    ensures in_time { WasInTime entering (C.state card.old) (C.state card.new) }
 {
     let Ok(sizes) = wake(card) else {
         keeper.cabin.measure(entering.which, Err(UNTOLD));

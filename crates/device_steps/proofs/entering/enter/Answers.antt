@@ -8,8 +8,8 @@ use Rattle.card_layout.specs.declared.files.Application.{Application}
 use Rattle.tach_media.specs.Medium.{State, LeavesOnly, lent}
 use Rattle.card_commands.specs.Ports.{port_state}
 use Rattle.card_session.specs.Inserting.{MayInsert}
-use Rattle.device_steps.specs.Entering.{IsEntering}
-use Rattle.device_steps.proofs.Ported.{may_insert_port, port_same, port_leaves, port_enters}
+use Rattle.device_steps.specs.Entering.{IsEntering, IsInTime}
+use Rattle.device_steps.proofs.Ported.{may_insert_port, port_same, port_leaves, port_enters, port_in_time}
 use Rattle.device_steps.proofs.entering.enter.Goals as goal
 
 pub enter_by-requires-clause-card : goal.enter_by-requires-clause-card
@@ -62,3 +62,15 @@ returns-clause-unit g c = unit-still (g.M.Medium.state c.args.unit.now) (g.M.Med
 
 pub returns-clause-agrees : goal.returns-clause-agrees
 returns-clause-agrees g c = λ well. agrees-still c.args.journal.now _ _ (c.enter_by.ensures.enters.unit.same well) c.requires.agrees
+
+pub returns-clause-in_time : goal.returns-clause-in_time
+returns-clause-in_time g c =
+    let name = c.resume-port.result.chip.ghost_name in
+    let after = c.enter_by.new.card.chip.ghost_name in
+    let X = g.C.Chip.state c.resume-port.result.chip.now in
+    let Y = g.C.Chip.state c.enter_by.new.card.chip.now in
+    let was : g.C.Chip.state c.resume-port.result.chip.now ≡ g.C.Chip.state c.args.card.now = search rules in
+    let same = port_same c.resume-port.result.application c.enter_by.new.card.application name after X Y c.enter_by.ensures.leaves in
+    let in_time = port_in_time c.resume-port.result.application c.enter_by.new.card.application name after X Y c.args.app c.args.registration.now c.args.odometer.0 c.args.now.0 (g.M.Medium.state c.args.unit.now) (g.M.Medium.state c.enter_by.new.unit) same c.enter_by.ensures.in_time in
+    let moved = subst (λ (s : State). IsInTime c.args.app c.args.now.0 s (g.C.Chip.state c.enter_by.new.card.chip.now)) was in_time in
+    search (rules, moved)

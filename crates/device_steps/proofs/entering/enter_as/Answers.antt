@@ -1,5 +1,6 @@
-use Rattle.std.proofs.Common.{◌≡◌, arith}
+use Rattle.std.proofs.Common.{◌≡◌, inl, arith}
 use Rattle.device_steps.proofs.PutIn.{owed_fit, enters_inserted, enters_cut}
+use Rattle.tach_media.specs.Medium.{Unchanged}
 use Rattle.tach_media.proofs.Runs.{starts}
 use Rattle.device_steps.specs.OnCard.{Anything}
 use Rattle.device_steps.proofs.entering.enter_as.Goals as goal
@@ -22,3 +23,6 @@ returns-in-Err-clause-enters g c =
 
 pub returns-in-Err-clause-leaves : goal.returns-in-Err-clause-leaves
 returns-in-Err-clause-leaves g c = starts (g.C.Medium.state c.args.card.now) Anything
+
+pub returns-in-Err-clause-in_time : goal.returns-in-Err-clause-in_time
+returns-in-Err-clause-in_time g c = inl (starts (g.C.Medium.state c.args.card.now) Unchanged)

@@ -1,10 +1,10 @@
 use Rattle.std.specs.Prelude.{Err}
-use Rattle.std.proofs.Common.{◌≡◌, refl, sym, subst, arith}
+use Rattle.std.proofs.Common.{◌≡◌, inl, refl, sym, subst, arith}
 use Rattle.card_session.proofs.InsertingUse.{insert_still}
 use Rattle.device_steps.specs.declared.entering.NotEntered.{NotEntered}
 use Rattle.device_steps.specs.Entering.{IsEntering}
 use Rattle.device_steps.proofs.EntryOwed.{worked}
-use Rattle.device_steps.proofs.PutIn.{enters_after, enters_refused}
+use Rattle.device_steps.proofs.PutIn.{enters_after, enters_refused, in_time_after}
 use Rattle.tach_media.proofs.Runs.{after_reads, from_reads}
 use Rattle.device_steps.proofs.entering.enter_by.Goals as goal
 
@@ -39,3 +39,9 @@ returns-in-Ok-clause-leaves g c = after_reads c.in-Ok.ensures.reads.leaves (c.in
 
 pub returns-in-Err-clause-leaves : goal.returns-in-Err-clause-leaves
 returns-in-Err-clause-leaves g c = from_reads c.in-Err.ensures.reads.leaves
+
+pub returns-in-Ok-clause-in_time : goal.returns-in-Ok-clause-in_time
+returns-in-Ok-clause-in_time g c = in_time_after c.args.app.now c.args.registration.now c.args.odometer.0 c.args.now.0 (g.C.Medium.state c.args.card.now) (g.C.Medium.state c.look.new.port) (g.C.Medium.state c.enter_as.new.card) c.in-Ok.ensures.reads c.enter_as.ensures.in_time
+
+pub returns-in-Err-clause-in_time : goal.returns-in-Err-clause-in_time
+returns-in-Err-clause-in_time g c = inl c.in-Err.ensures.reads.leaves

@@ -24,3 +24,9 @@ returns-in-Ok-clause-leaves g c = weaken {R = Anything} c.in-Ok.ensures.moments 
 
 pub returns-in-Err-clause-leaves : goal.returns-in-Err-clause-leaves
 returns-in-Err-clause-leaves g c = weaken {R = Anything} c.in-Err.ensures.moments (λ x y told k. tt)
+
+pub returns-in-Ok-clause-in_time : goal.returns-in-Ok-clause-in_time
+returns-in-Ok-clause-in_time g c = c.in-Ok.ensures.in_time
+
+pub returns-in-Err-clause-in_time : goal.returns-in-Err-clause-in_time
+returns-in-Err-clause-in_time g c = c.in-Err.ensures.in_time

@@ -16,6 +16,7 @@ use Rattle.run_entering.specs.declared.waking.TheConstants.{UNTOLD}
 use Rattle.run_entering.specs.Told.{BooksJudged, BooksEntered}
 use Rattle.run_entering.proofs.Carried.{noted-carried, found-fallen}
 use Rattle.run_entering.proofs.Booked.{torn-carried, still-bare, woken-may, woken-untouched, woken-timed, woken-known}
+use Rattle.run_entering.proofs.InTime.{woken-early}
 use Rattle.run_entering.proofs.Notes.{fault-noted}
 use Rattle.run_entering.proofs.Judged.{entered-judged, entered-unsized, entered-unread}
 use Rattle.run_entering.proofs.Seats.{unsized-ready}
@@ -143,3 +144,14 @@ returns-in-Ok-sizes-clause-more g c = let first = c.in-Ok.ensures.cause.breakdow
 
 pub returns-in-Err-clause-more : goal.returns-in-Err-clause-more
 returns-in-Err-clause-more g c = c.in-Ok.ensures.cause.breakdowns
+
+-- ---- a card that was written told of no later time
+
+pub returns-in_default-clause-in_time : goal.returns-in_default-clause-in_time
+returns-in_default-clause-in_time g c = inl c.wake.ensures.leaves
+
+pub returns-in-Ok-sizes-clause-in_time : goal.returns-in-Ok-sizes-clause-in_time
+returns-in-Ok-sizes-clause-in_time g c = woken-early c.args.entering (g.C.Chip.state c.args.card.now) (g.C.Chip.state c.wake.new.card) (g.C.Chip.state c.accept_by.new.card) (g.met.C.Chip.coherent c.wake.new.card) c.wake.ensures.leaves c.accept_by.ensures.in_time
+
+pub returns-in-Err-clause-in_time : goal.returns-in-Err-clause-in_time
+returns-in-Err-clause-in_time g c = inl c.wake.ensures.leaves

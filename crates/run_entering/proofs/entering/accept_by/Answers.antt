@@ -8,6 +8,7 @@ use Rattle.device_steps.specs.Entering.{IsEntering}
 use Rattle.run_entering.specs.Entering.{Fell, Unasked, Unfit, Ahead, taken_as}
 use Rattle.card_layout.proofs.Sizes.{largest_image}
 use Rattle.run_entering.proofs.Booked.{taken-known, unasked-known, fell-known, unfit-known, ahead-known}
+use Rattle.run_entering.proofs.InTime.{judged-early, taken-early}
 use Rattle.run_entering.proofs.Notes.{fault-noted}
 use Rattle.run_entering.proofs.Judged.{judged-taken, judged-unasked, judged-fell, judged-unfit, judged-ahead, unfit-told, ahead-told, ahead-noted}
 use Rattle.run_entering.proofs.entering.accept_by.Goals as goal
@@ -166,3 +167,20 @@ returns-in-Err-NotValid-clause-more g c = c.in-Err-NotValid.ensures.enters.cause
 
 pub returns-in-Err-TimeOverlap-clause-more : goal.returns-in-Err-TimeOverlap-clause-more
 returns-in-Err-TimeOverlap-clause-more g c = c.in-Err-TimeOverlap.ensures.enters.cause.breakdowns
+
+-- ---- a card that was written told of no later time
+
+pub returns-in-Ok-clause-in_time : goal.returns-in-Ok-clause-in_time
+returns-in-Ok-clause-in_time g c = taken-early c.args.app c.args.entering (g.C.Chip.state c.args.card.now) (g.C.Chip.state c.take_in.new.card) c.requires.sized c.in-Ok.ensures.enters.accepted.valid
+
+pub returns-in-Err-UnitFailed-clause-in_time : goal.returns-in-Err-UnitFailed-clause-in_time
+returns-in-Err-UnitFailed-clause-in_time g c = judged-early c.args.app c.args.entering (g.C.Chip.state c.args.card.now) (g.C.Chip.state c.enter.new.card) c.requires.sized c.enter.ensures.in_time
+
+pub returns-in-Err-CardFailed-clause-in_time : goal.returns-in-Err-CardFailed-clause-in_time
+returns-in-Err-CardFailed-clause-in_time g c = judged-early c.args.app c.args.entering (g.C.Chip.state c.args.card.now) (g.C.Chip.state c.enter.new.card) c.requires.sized c.enter.ensures.in_time
+
+pub returns-in-Err-NotValid-clause-in_time : goal.returns-in-Err-NotValid-clause-in_time
+returns-in-Err-NotValid-clause-in_time g c = judged-early c.args.app c.args.entering (g.C.Chip.state c.args.card.now) (g.C.Chip.state c.enter.new.card) c.requires.sized c.enter.ensures.in_time
+
+pub returns-in-Err-TimeOverlap-clause-in_time : goal.returns-in-Err-TimeOverlap-clause-in_time
+returns-in-Err-TimeOverlap-clause-in_time g c = judged-early c.args.app c.args.entering (g.C.Chip.state c.args.card.now) (g.C.Chip.state c.enter.new.card) c.requires.sized c.enter.ensures.in_time

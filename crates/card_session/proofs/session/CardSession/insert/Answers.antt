@@ -226,3 +226,21 @@ returns-clause-most g c = omega (arith, c.in_ok-judged.ensures.reads.clock, c.in
 
 pub returns-in_err-replayed-clause-most : goal.returns-in_err-replayed-clause-most
 returns-in_err-replayed-clause-most g c = omega (arith, c.in_ok-judged.ensures.reads.clock, c.in_err-replayed.ensures.most)
+
+-- ---- a card that was written told of no later time
+
+pub returns-in_err-judged-clause-in_time : goal.returns-in_err-judged-clause-in_time
+returns-in_err-judged-clause-in_time g c = inl c.in_err-judged.ensures.reads.leaves
+
+pub returns-then-stored-now-clause-in_time : goal.returns-then-stored-now-clause-in_time
+returns-then-stored-now-clause-in_time g c = inl c.in_ok-judged.ensures.reads.leaves
+
+pub returns-in_err-replayed-clause-in_time : goal.returns-in_err-replayed-clause-in_time
+returns-in_err-replayed-clause-in_time g c = inr (if_told (g.M.Medium.state c.args.port.now).image _ (λ x was.
+    let j = at_image (λ x. IsJudged c.args.app.now x c.in_ok-judged.judged) was c.in_ok-judged.ensures.judged in
+    omega (arith, c.stored-stored.ensures.stored c.args.app.now x j.known, c.if-stored-now.false)))
+
+pub returns-clause-in_time : goal.returns-clause-in_time
+returns-clause-in_time g c = inr (if_told (g.M.Medium.state c.args.port.now).image _ (λ x was.
+    let j = at_image (λ x. IsJudged c.args.app.now x c.in_ok-judged.judged) was c.in_ok-judged.ensures.judged in
+    omega (arith, c.stored-stored.ensures.stored c.args.app.now x j.known, c.if-stored-now.false)))

@@ -1,0 +1,4 @@
+pub mod Lines
+pub mod Seconds
+pub mod Dark
+pub mod Ends
