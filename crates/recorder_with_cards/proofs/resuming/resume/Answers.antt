@@ -418,4 +418,3 @@ returns-clause-recorded g c = λ room o origin done s supply v r may number give
     (c.accept_anew-2.ensures.recorded (omega (arith, room, few, few_too, none_waits, waits_none, t, same_room))) in
     let fine : is_err c.accept_anew-2.result ≡ false = search rules in
     c.note_gap.ensures.recorded o done s c.accept_anew-2.new.outcome (subst (λ (f : Bool). GoesOnOrCut f o done s (In 0) [] two c.accept_anew-2.new.outcome (devices V2 X2 Y2)) fine second)
-
