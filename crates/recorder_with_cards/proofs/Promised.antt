@@ -6,6 +6,8 @@ use Rattle.trace_model.specs.declared.Item.{Item}
 use Rattle.trace_model.specs.Trace.{TraceSecond, seconds_of}
 use Rattle.tach_media.specs.Medium.{State, IsCoherent}
 use Rattle.card_layout.specs.Application.{IsApplication}
+use Rattle.card_model.specs.Days.{AreDays}
+use Rattle.card_image.specs.Fields.{card_days}
 use Rattle.card_image.specs.Own.{own_view, own_sizes, own_number, IsOwnValid}
 use Rattle.card_times.specs.Times.{IsTimed}
 use Rattle.chip_model.specs.declared.command.CardState.{CardState}
@@ -103,7 +105,7 @@ found-by r done log f began h = record { unit = h.unit; image = image; start = s
     number A valid = h.number A valid
     number B valid = h.number B valid
 
-    days : (c : Card) → IsOwnValid (card_image (so_far r done log) c) → _
+    days : (c : Card) → IsOwnValid (card_image (so_far r done log) c) → AreDays 0 (card_days (own_sizes (card_image (so_far r done log) c)) (card_image (so_far r done log) c))
     days A valid = h.days A valid
     days B valid = h.days B valid
 
@@ -154,7 +156,7 @@ module _ (x a b : List ℕ) (start : ℕ) (began now : Devices) (opened : Opened
   is-origin = record { rule = refl; decodes = ready.decodes; unit = refl; image = ready.found.image; start = ready.found.start; number = ready.found.number }
 
   pub may-record : MayRecord x a b start
-  may-record = record { decodes = ready.decodes; later = ready.later; numbers = (ready.may (λ s is. absurd (let none : None {T = TraceSecond} ≡ Some s = is in cc))).numbers }
+  may-record = record { decodes = ready.decodes; later = ready.later; numbers = (ready.may (λ s is. absurd (let none : None ≡ Some s = is in cc))).numbers }
 
   pub is-found : IsFound (opened_with x a b) (found_in (opened_with x a b) began) began
   is-found = ready.found

@@ -104,7 +104,8 @@ fn act_item<M: Medium, C: Chip, D: Chip>(
         Item::Act(action) => act(
             run, *action, begun, has_power, speed, unit, card_a, card_b, outcome,
         ),
-        Item::Run { .. } | Item::Off { .. } => {}
+        Item::Run { .. } => {}
+        Item::Off { .. } => {}
     }
 }
 

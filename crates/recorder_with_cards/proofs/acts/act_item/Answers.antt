@@ -38,8 +38,10 @@ returns-in-Run-clause-recorded g c = λ power.
     let d : Devices = devices (g.M.Medium.state c.args.unit.now) (g.C.Chip.state c.args.card_a.now) (g.D.Chip.state c.args.card_b.now) in
     subst (λ (xs : List Action). RecordsActions xs c.args.begun c.args.speed c.args.run.now c.args.run.now c.args.outcome.now c.args.outcome.now d d) (sym (ap action_of c.in-Run.is)) (no-action c.args.begun c.args.speed c.args.run.now c.args.outcome.now d)
 
-pub returns-in-Run-clause-still : goal.returns-in-Run-clause-still
-returns-in-Run-clause-still g c = λ dark. (dark, refl, refl, refl)
+pub returns-in-Off-clause-recorded : goal.returns-in-Off-clause-recorded
+returns-in-Off-clause-recorded g c = λ power.
+    let d : Devices = devices (g.M.Medium.state c.args.unit.now) (g.C.Chip.state c.args.card_a.now) (g.D.Chip.state c.args.card_b.now) in
+    subst (λ (xs : List Action). RecordsActions xs c.args.begun c.args.speed c.args.run.now c.args.run.now c.args.outcome.now c.args.outcome.now d d) (sym (ap action_of c.in-Off.is)) (no-action c.args.begun c.args.speed c.args.run.now c.args.outcome.now d)
 
 pub returns-in-Act-clause-time : goal.returns-in-Act-clause-time
 returns-in-Act-clause-time g c = c.act.ensures.time

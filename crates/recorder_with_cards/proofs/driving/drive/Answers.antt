@@ -1,7 +1,8 @@
-use Rattle.std.proofs.Common.{rules, ◌≡◌, ◌∙◌, ℕ, ◌+◌, ◌-◌, ◌<◌, ◌≤◌, Bool, true, false, List, [], ◌∷◌, ◌++◌, length, refl, ap, sym, subst, arith}
+use Rattle.std.proofs.Common.{rules, ◌≡◌, ◌∙◌, ℕ, ◌+◌, ◌-◌, ◌%◌, ◌<◌, ◌≤◌, Bool, true, false, List, [], ◌∷◌, ◌++◌, length, refl, ap, sym, subst, arith}
 use Rattle.std.proofs.lemmas.List.{append-nil}
 use Rattle.trace_model.specs.declared.Action.{Action}
 use Rattle.trace_model.specs.Trace.{TraceSecond, driven}
+use Rattle.tach_media.specs.Medium.{State}
 use Rattle.safety_model.specs.Safe.{Devices}
 use Rattle.run_rule.specs.Between.{devices}
 use Rattle.run_keeping.proofs.DecidedBooked.{time-before}
@@ -165,9 +166,9 @@ returns-clause-recorded g c = λ many few.
     let passes = passes-dark r2 r3 p2 p3 1 c.args.speed c.number_of-begun.result still.0 turned in
     let is : r3 ≡ passed 1 c.number_of-begun.result old = passes.0 ∙ ap (passed 1 c.number_of-begun.result) (acted.0 ∙ kept.0) in
     let told : p3 ≡ record out { refused = with_lines (refused_dark old.next acts) out.refused } = passes.1 ∙ acted.1 ∙ ap (λ (x : Outcome). record x { refused = with_lines (refused_dark r1.next acts) x.refused }) kept.1 ∙ ap (λ (n : ℕ). record out { refused = with_lines (refused_dark n acts) out.refused }) begun_next in
-    subst (λ (x : g.M). RunRecorded o (done ++ driven 1 old.next c.args.speed acts) r3 p3 (devices (g.M.Medium.state x) (g.C.Chip.state c.turn.new.card_a) (g.D.Chip.state c.turn.new.card_b))) (sym (turn_still.0 ∙ still.1 ∙ kept.2))
-    (subst (λ (x : g.C). RunRecorded o (done ++ driven 1 old.next c.args.speed acts) r3 p3 (devices (g.M.Medium.state c.args.unit.now) (g.C.Chip.state x) (g.D.Chip.state c.turn.new.card_b))) (sym (turn_still.1 ∙ still.2 ∙ kept.3))
-    (subst (λ (x : g.D). RunRecorded o (done ++ driven 1 old.next c.args.speed acts) r3 p3 (devices (g.M.Medium.state c.args.unit.now) (g.C.Chip.state c.args.card_a.now) (g.D.Chip.state x))) (sym (turn_still.2 ∙ still.3 ∙ kept.4))
+    subst (λ (x : State). RunRecorded o (done ++ driven 1 old.next c.args.speed acts) r3 p3 (devices x (g.C.Chip.state c.turn.new.card_a) (g.D.Chip.state c.turn.new.card_b))) (sym (ap g.M.Medium.state (turn_still.0 ∙ still.1 ∙ kept.2)))
+    (subst (λ (x : State). RunRecorded o (done ++ driven 1 old.next c.args.speed acts) r3 p3 (devices (g.M.Medium.state c.args.unit.now) x (g.D.Chip.state c.turn.new.card_b))) (sym (ap g.C.Chip.state (turn_still.1 ∙ still.2 ∙ kept.3)))
+    (subst (λ (x : State). RunRecorded o (done ++ driven 1 old.next c.args.speed acts) r3 p3 (devices (g.M.Medium.state c.args.unit.now) (g.C.Chip.state c.args.card_a.now) x)) (sym (ap g.D.Chip.state (turn_still.2 ∙ still.3 ∙ kept.4)))
     (dark-run o done old out d0 r 1 c.args.speed c.number_of-begun.result acts one none minute r3 p3 is told)))) in
     let later : r3.next ≡ old.next + 1 = c.turn.ensures.next ∙ ap (λ (n : ℕ). n + 1) (acted_next ∙ begun_next) in
     run-then c.drive_on.result o done c.args.seconds old.next r3.next c.args.speed acts c.drive_on.new.run c.drive_on.new.outcome (devices (g.M.Medium.state c.drive_on.new.unit) (g.C.Chip.state c.drive_on.new.card_a) (g.D.Chip.state c.drive_on.new.card_b)) c.requires.some later

@@ -1,5 +1,6 @@
-use Rattle.std.proofs.Common.{rules, ◌≡◌, ◌∙◌, ℕ, ◌+◌, ◌-◌, ◌<◌, ◌≤◌, true, false, List, [], ◌∷◌, ◌++◌, length, refl, ap, sym, subst, arith}
+use Rattle.std.proofs.Common.{rules, ◌≡◌, ◌∙◌, ℕ, ◌+◌, ◌-◌, ◌%◌, ◌<◌, ◌≤◌, true, false, List, [], ◌∷◌, ◌++◌, length, refl, ap, sym, subst, arith}
 use Rattle.trace_model.specs.Trace.{TraceSecond, driven}
+use Rattle.tach_media.specs.Medium.{State}
 use Rattle.safety_model.specs.Safe.{Devices}
 use Rattle.run_rule.specs.Between.{devices}
 use Rattle.run_keeping.proofs.DecidedBooked.{time-before}
@@ -81,9 +82,9 @@ returns-clause-recorded g c = λ o done r time.
     let passes = passes-dark r1 r3 p1 p3 c.args.n c.args.speed 0 dark1 c.turn.ensures.turned in
     let is : r3 ≡ passed c.args.n 0 old = passes.0 ∙ ap (passed c.args.n 0) kept.0 in
     let told : p3 ≡ record out { refused = with_lines (refused_dark old.next []) out.refused } = passes.1 ∙ kept.1 ∙ none-refused out in
-    subst (λ (x : g.M). RunRecorded o (done ++ driven c.args.n old.next c.args.speed []) r3 p3 (devices (g.M.Medium.state x) (g.C.Chip.state c.turn.new.card_a) (g.D.Chip.state c.turn.new.card_b))) (sym (turn_still.0 ∙ kept.2))
-    (subst (λ (x : g.C). RunRecorded o (done ++ driven c.args.n old.next c.args.speed []) r3 p3 (devices (g.M.Medium.state c.args.unit.now) (g.C.Chip.state x) (g.D.Chip.state c.turn.new.card_b))) (sym (turn_still.1 ∙ kept.3))
-    (subst (λ (x : g.D). RunRecorded o (done ++ driven c.args.n old.next c.args.speed []) r3 p3 (devices (g.M.Medium.state c.args.unit.now) (g.C.Chip.state c.args.card_a.now) (g.D.Chip.state x))) (sym (turn_still.2 ∙ kept.4))
+    subst (λ (x : State). RunRecorded o (done ++ driven c.args.n old.next c.args.speed []) r3 p3 (devices x (g.C.Chip.state c.turn.new.card_a) (g.D.Chip.state c.turn.new.card_b))) (sym (ap g.M.Medium.state (turn_still.0 ∙ kept.2)))
+    (subst (λ (x : State). RunRecorded o (done ++ driven c.args.n old.next c.args.speed []) r3 p3 (devices (g.M.Medium.state c.args.unit.now) x (g.D.Chip.state c.turn.new.card_b))) (sym (ap g.C.Chip.state (turn_still.1 ∙ kept.3)))
+    (subst (λ (x : State). RunRecorded o (done ++ driven c.args.n old.next c.args.speed []) r3 p3 (devices (g.M.Medium.state c.args.unit.now) (g.C.Chip.state c.args.card_a.now) x)) (sym (ap g.D.Chip.state (turn_still.2 ∙ kept.4)))
     (dark-run o done old out d0 r c.args.n c.args.speed 0 [] c.requires.some none c.requires.minute r3 p3 is told))))
 
 pub returns-clause-time : goal.returns-clause-time
