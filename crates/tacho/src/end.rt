@@ -1,6 +1,6 @@
 //! How the top call ends.
-use run_outcome::Outcome;
 use run_model::Device;
+use run_outcome::Outcome;
 use std::alloc::Global;
 use tacho_types::FullCardNumber;
 use unit_download::Wire;

@@ -8,8 +8,8 @@ ghost use Rattle.tacho.specs.Outcomes.{count_line, mark_count, outcome_text};
 use arrayvec::ArrayVec;
 use itoa::Buffer;
 use log_model::Mark;
-use run_outcome::{Lines, Outcome};
 use run_model::Device;
+use run_outcome::{Lines, Outcome};
 
 /// The most bytes of the five lines: 29 of names, and in each line a space, at most 20 digits, and LF.
 pub const MOST: usize = 139;
