@@ -1,0 +1,4 @@
+mod devices;
+mod reading;
+mod rows;
+mod table;
