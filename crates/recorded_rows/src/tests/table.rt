@@ -142,8 +142,8 @@ fn stop_often(rt: &(impl Abort + AllocGlobal), left: Left) -> Result<(), Fail> {
     let alloc = rt.alloc();
     let text = first(alloc)?;
     let opening = calls_of(alloc, START)?;
-    for round in 0..12u64 {
-        let later = 5 * round;
+    for round in 0..8u64 {
+        let later = 7 * round;
         let stops = Stops {
             unit: stops(
                 alloc,
