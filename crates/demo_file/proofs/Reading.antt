@@ -1,5 +1,5 @@
 -- A unit file, read message by message.
-use Rattle.std.proofs.Common.{◌≡◌, ◌∙◌, ℕ, zero, suc, ◌+◌, ◌-◌, ◌≤◌, ◌<◌, List, [], ◌∷◌, ◌++◌, length, map, take, drop, refl, ap, sym, arith, All, length-append}
+use Rattle.std.proofs.Common.{◌≡◌, ◌∙◌, ℕ, suc, ◌+◌, ◌-◌, ◌≤◌, ◌<◌, List, [], ◌∷◌, ◌++◌, length, map, take, drop, refl, ap, sym, arith, All}
 use Rattle.std.proofs.Math.Seq.{take-length}
 use Rattle.std.proofs.lemmas.List.{length-drop, drop-drop}
 use Rattle.byte_fields.specs.Fields.{joined}
@@ -8,7 +8,7 @@ use Rattle.link_model.specs.declared.request.Request.TheVariants.{Overview as As
 use Rattle.message_model.specs.Messages.{Message, message_bytes, IsMessage, IsUnitFile}
 use Rattle.message_model.proofs.Reading.{one_way}
 use Rattle.unit_messages.specs.declared.reading.MessageRead.{MessageRead}
-use Rattle.unit_messages.specs.Reading.{BeginsWith, IsReadAs, BeginsNoMessage, request_of}
+use Rattle.unit_messages.specs.Reading.{IsReadAs, BeginsNoMessage, request_of}
 use Rattle.demo_file.specs.Measures.{days_in, day_count}
 
 -- all of what stands behind a place

@@ -1,19 +1,17 @@
 -- The messages of a unit's file have so many days as the unit tells.
-use Rattle.std.proofs.Common.{◌≡◌, ◌∙◌, ℕ, suc, ◌+◌, List, [], ◌∷◌, ◌++◌, length, map, refl, ap, sym, subst, arith}
+use Rattle.std.proofs.Common.{◌≡◌, ◌∙◌, ℕ, ◌+◌, List, [], ◌∷◌, ◌++◌, length, map, refl, ap, sym, subst, arith}
 use Rattle.std.specs.Prelude.{Option, Some, None, IfSome}
 use Rattle.std.specs.Io.KnownBytes.{Appends}
 use Rattle.byte_fields.specs.Fields.{IsBytes}
 use Rattle.tach_media.specs.Medium.{State, IsCoherent}
-use Rattle.unit_model.specs.declared.layout.TheConstants.{IMAGE_SIZE}
 use Rattle.unit_model.specs.Days.{StoredDay}
 use Rattle.unit_model.specs.Image.{IsUnit}
 use Rattle.unit_model.specs.Decoding.{Decodes}
 use Rattle.message_model.specs.Messages.{Message, DayMessage, ADay, AnEventList, ATechnical, IsUnitFile}
 use Rattle.message_model.specs.Sending.{sent_days, messages_of, unit_file, day_message_of, event_message_of, technical_message_of}
-use Rattle.downloader.specs.Talking.{IsUnitImage}
 use Rattle.downloader.proofs.ImageMessages.{file_good}
 use Rattle.demo_file.specs.declared.measuring.FileSize.{FileSize}
-use Rattle.demo_file.specs.Measures.{days_in, day_count, IsSizeOf}
+use Rattle.demo_file.specs.Measures.{day_count, IsSizeOf}
 
 days-of : (f : StoredDay → DayMessage) (ds : List StoredDay) (rest : List Message) → day_count (map (λ d. ADay (f d)) ds ++ rest) ≡ length ds + day_count rest
 days-of f [] rest = omega arith

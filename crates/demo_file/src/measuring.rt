@@ -12,7 +12,7 @@ ghost use Rattle.demo_file.specs.Measures.{IsSizeOf};
 
 use crate::counting::day_count;
 use downloader::Downloader;
-use tach_media::{MemSink, Medium};
+use tach_media::{Medium, MemSink};
 use unit_download::{DownloadFault, Unlisted, exchange_all};
 
 /// How many bytes a unit's file has, and how many messages of a day.

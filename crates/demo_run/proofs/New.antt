@@ -1,12 +1,12 @@
 -- A unit and a card that were made new: a run begins with their images alone.
-use Rattle.std.proofs.Common.{⊎_elim, ◌≡◌, ◌∙◌, ap, sym, subst, refl, ℕ, ◌+◌, ◌<◌, ◌≤◌, true, false, List, [], ◌++◌, length, drop, All, is_some, Option, None, Some, option_map, arith, append-nil}
+use Rattle.std.proofs.Common.{⊎_elim, ◌≡◌, ◌∙◌, ap, sym, refl, ℕ, ◌+◌, ◌<◌, ◌≤◌, true, List, [], ◌++◌, length, drop, All, is_some, Option, None, Some, option_map, arith, append-nil}
 use Rattle.std.proofs.lemmas.List.{drop_all}
 use Rattle.trace_model.specs.declared.Card.{Card}
 use Rattle.trace_model.specs.declared.Card.TheVariants.{A, B}
 use Rattle.trace_model.specs.declared.Item.{Item}
 use Rattle.run_model.specs.declared.Device.{Device}
 use Rattle.run_model.specs.declared.Device.TheVariants.{Unit as Recorder, CardA, CardB}
-use Rattle.tach_media.specs.Medium.{State, IsCoherent, IsSettled, last_count, put}
+use Rattle.tach_media.specs.Medium.{State, IsCoherent, IsSettled, put}
 use Rattle.safety_model.specs.Safe.{Devices, card_of, breakdowns_of}
 use Rattle.run_rule.specs.Opening.{BeginsAs}
 use Rattle.run_rule.specs.Between.{devices}

@@ -7,7 +7,6 @@ use Rattle.unit_memory.specs.declared.format.Identity.{Identity}
 use Rattle.safety_model.specs.Safe.{Devices}
 use Rattle.run_rule.specs.Opening.{BeginsAs}
 use Rattle.run_opening.specs.Opening.{faults_of}
-use Rattle.run_opening.specs.declared.fault.RunFault.{RunFault}
 use Rattle.run_opening.specs.declared.fault.RunFault.TheVariants.{MediumFault, BadUnit, ClockBack, SameCard}
 use Rattle.run_outcome.specs.declared.outcome.Outcome.{Outcome}
 use Rattle.recorder_with_cards.specs.Ends.{EndsTrace}

@@ -1,6 +1,6 @@
 -- How `demo` ends, by what its calls answered.
-use Rattle.std.proofs.Common.{◌≡◌, ◌∙◌, ◌≤◌, ◌<◌, ◌⊎◌, ℕ, inl, inr, ⊎_elim, refl, sym, subst, arith, true, false, Bool, List, [], ◌∷◌, ◌++◌, ◌+◌, ◌-◌, ◌*◌, length, Option, Some, None, length-append}
-use Rattle.std.specs.Prelude.{Result, Ok, Err, OnOk, IfErr, IfSome, IsErrOf}
+use Rattle.std.proofs.Common.{◌≡◌, ◌∙◌, ◌≤◌, ◌<◌, ◌⊎◌, ℕ, inl, inr, ⊎_elim, refl, sym, subst, arith, false, Bool, List, [], ◌∷◌, ◌-◌, ◌*◌, length, Option, Some, None, length-append}
+use Rattle.std.specs.Prelude.{Result, Ok, Err, OnOk, IfErr, IfSome}
 use Rattle.std.specs.List.{flat_map}
 use Rattle.std.specs.Io.KnownBytes.{Appends, Keeps}
 use Rattle.byte_fields.specs.Fields.{IsBytes}
@@ -15,7 +15,6 @@ use Rattle.unit_journal.specs.Reading.{ReadsIfAny}
 use Rattle.safety_model.specs.Safe.{Devices}
 use Rattle.run_rule.specs.Between.{devices}
 use Rattle.run_keeping.specs.Books.{HaveTime}
-use Rattle.run_opening.specs.declared.fault.RunFault.{RunFault}
 use Rattle.run_opening.specs.declared.fault.RunFault.TheVariants as run
 use Rattle.run_outcome.specs.declared.outcome.Outcome.{Outcome}
 use Rattle.unit_download.specs.declared.fault.DownloadFault.{DownloadFault}
@@ -32,15 +31,15 @@ use Rattle.demo_file.specs.declared.measuring.FileSize.{FileSize}
 use Rattle.demo_file.specs.Measures.{IsSizeOf}
 use Rattle.tacho.specs.declared.demo_command.TheConstants.{VEHICLE, CARD}
 use Rattle.tacho.specs.declared.end.Fault.{Fault}
-use Rattle.tacho.specs.declared.end.Fault.TheVariants.{Done, Usage, WriteFault, MediumFault, Memory, Changed, ReadFault}
+use Rattle.tacho.specs.declared.end.Fault.TheVariants.{WriteFault, MediumFault, Memory, Changed}
 use Rattle.tacho.specs.declared.forms.Form.TheVariants.{Demo}
 use Rattle.tacho.specs.End.{end_of, ended_by}
 use Rattle.tacho.specs.Outside.{Outside, memory_of}
 use Rattle.tacho.specs.Outcomes.{IsEmpty, IsRun}
-use Rattle.tacho.specs.CardsRecorded.{refusal_with_cards, devices_of}
+use Rattle.tacho.specs.CardsRecorded.{devices_of}
 use Rattle.tacho.specs.Formatting.{card_image, unit_image}
 use Rattle.tacho.specs.Program.{Ends, HasDemoCauses}
-use Rattle.tacho.specs.Demo.{demo_text, refusal_anew, refusal_of_file, IsDemoEnd, StartAnew, IsDemonstrated, TellsDemo, EndsDemo}
+use Rattle.tacho.specs.Demo.{demo_text, refusal_anew, refusal_of_file, IsDemoEnd, StartAnew, IsDemonstrated, EndsDemo}
 
 -- HOW MANY ITEMS a demonstration has
 parts-count : (xs : List ℕ) → length (flat_map part_of xs) ≡ 3 * length xs

@@ -23,7 +23,7 @@ use downloader::Downloader;
 use run_model::Device;
 use run_outcome::Outcome;
 use std::alloc::Global;
-use tach_media::{Chip, MemSink, Medium, Sink, Source, put_all};
+use tach_media::{Chip, Medium, MemSink, Sink, Source, put_all};
 use tacho_types::{Name36, Nation, Registration};
 use unit_download::DownloadFault;
 use unit_memory::Identity;
@@ -31,9 +31,7 @@ use unit_memory::Identity;
 /// The vehicle: `13 DEMO TACHODEMO00000001 90`.
 pub const VEHICLE: Identity = Identity {
     vin: *b"TACHODEMO00000001",
-    registration: Registration([
-        13, 1, 68, 69, 77, 79, 32, 32, 32, 32, 32, 32, 32, 32, 32,
-    ]),
+    registration: Registration([13, 1, 68, 69, 77, 79, 32, 32, 32, 32, 32, 32, 32, 32, 32]),
     limit: 90,
 };
 
@@ -42,12 +40,12 @@ pub const CARD: CardIdentity = CardIdentity {
     state: Nation(13),
     number: *b"DEMOA00000000001",
     surname: Name36([
-        1, 68, 69, 77, 79, 32, 32, 32, 32, 32, 32, 32, 32, 32, 32, 32, 32, 32,
-        32, 32, 32, 32, 32, 32, 32, 32, 32, 32, 32, 32, 32, 32, 32, 32, 32, 32,
+        1, 68, 69, 77, 79, 32, 32, 32, 32, 32, 32, 32, 32, 32, 32, 32, 32, 32, 32, 32, 32, 32, 32,
+        32, 32, 32, 32, 32, 32, 32, 32, 32, 32, 32, 32, 32,
     ]),
     first: Name36([
-        1, 65, 32, 32, 32, 32, 32, 32, 32, 32, 32, 32, 32, 32, 32, 32, 32, 32,
-        32, 32, 32, 32, 32, 32, 32, 32, 32, 32, 32, 32, 32, 32, 32, 32, 32, 32,
+        1, 65, 32, 32, 32, 32, 32, 32, 32, 32, 32, 32, 32, 32, 32, 32, 32, 32, 32, 32, 32, 32, 32,
+        32, 32, 32, 32, 32, 32, 32, 32, 32, 32, 32, 32, 32,
     ]),
 };
 

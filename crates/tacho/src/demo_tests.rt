@@ -7,9 +7,15 @@ use trace_model::Card;
 #[test]
 fn the_devices_are_those_of_the_words(rt: HostRuntime) -> Result<(), Fail> {
     let alloc = rt.alloc();
-    let words = words_of(alloc, &["format", "unit", "13", "DEMO", "TACHODEMO00000001", "90"])?;
+    let words = words_of(
+        alloc,
+        &["format", "unit", "13", "DEMO", "TACHODEMO00000001", "90"],
+    )?;
     assert!(rt; form_of(&words) == Some(Form::FormatUnit { identity: VEHICLE }));
-    let words = words_of(alloc, &["format", "a", "13", "DEMOA00000000001", "DEMO", "A"])?;
+    let words = words_of(
+        alloc,
+        &["format", "a", "13", "DEMOA00000000001", "DEMO", "A"],
+    )?;
     assert!(rt;
         form_of(&words)
             == Some(Form::FormatCard {

@@ -1,6 +1,7 @@
 //! The program: it hands its words and its streams to the top call, prints the fault's line on standard error, and ends
 //! with its status.
 #![tactic(auto)]
+
 ghost use Rattle.tach_media.specs.Medium.{IsUntouched};
 
 mod card_command;
@@ -61,7 +62,12 @@ fn waits(words: &Words) -> bool {
 }
 
 /// A device in a file of the working folder.
-fn file<'a>(rt: &'a HostRuntime, path: &'a str, size: u32, waits: bool) -> FileMedium<'a, HostRuntime>
+fn file<'a>(
+    rt: &'a HostRuntime,
+    path: &'a str,
+    size: u32,
+    waits: bool,
+) -> FileMedium<'a, HostRuntime>
     ensures { IsUntouched size (⟦<FileMedium<'a, HostRuntime> as Medium>⟧.state result) }
 {
     if waits {

@@ -202,7 +202,16 @@ fn perform_demo<S: Source, K: Sink, U: Medium, C: Chip>(
         (source.new ≡ source.old) (sink.new ≡ sink.old) (unit.new ≡ unit.old) (card_a.new ≡ card_a.old) (card_b.new ≡ card_b.old) }
 {
     let mut outcome = nothing(alloc);
-    let done = demo(alloc, seed, source, sink, unit, card_a, card_b, &mut outcome);
+    let done = demo(
+        alloc,
+        seed,
+        source,
+        sink,
+        unit,
+        card_a,
+        card_b,
+        &mut outcome,
+    );
     Ended::after(alloc, outcome, done)
 }
 

@@ -1,9 +1,7 @@
-use Rattle.std.proofs.Common.{◌≡◌, ◌∙◌, ℕ, ◌+◌, List, length, drop, refl, ap, sym, subst, arith}
+use Rattle.std.proofs.Common.{ℕ, List, length, ap, subst, arith}
 use Rattle.std.proofs.lemmas.List.{length-drop}
-use Rattle.message_model.specs.Messages.{Message}
 use Rattle.unit_messages.specs.Reading.{IsReadAs, BeginsNoMessage}
-use Rattle.demo_file.specs.Measures.{days_in}
-use Rattle.demo_file.proofs.Reading.{IsAt, rest-is, at-first, at-next, at-some, at-end, one-most}
+use Rattle.demo_file.proofs.Reading.{rest-is, at-first, at-next, at-some, at-end, one-most}
 use Rattle.demo_file.proofs.counting.day_count.Goals as goal
 
 pub loop-place-init : goal.loop-place-init

@@ -1,4 +1,3 @@
-use Rattle.std.proofs.Common.{refl}
 use Rattle.tacho.proofs.Demo.{demo-ends}
 use Rattle.tacho.proofs.top.perform_demo.Goals as goal
 
