@@ -1,5 +1,5 @@
 -- What a run with cards promises, over devices that began with one image each (profile).
-use Rattle.std.specs.Prelude.{◌≢◌, ◌<◌, ◌/◌, ℕ, List, [], All}
+use Rattle.std.specs.Prelude.{◌≢◌, ◌<◌, ◌≤◌, ◌/◌, ℕ, List, [], All}
 use Rattle.trace_model.specs.declared.Item.{Item}
 use Rattle.trace_model.specs.Trace.{TraceSecond, seconds_of}
 use Rattle.minute_model.specs.declared.Rule.TheVariants.{Original}
@@ -26,6 +26,12 @@ pub record BeginAs (unit card_a card_b : List ℕ) (began : Devices) : Type 0 wh
   pub of_b : BeginsAs card_b began.card_b
   pub bytes_a : All (λ n. n < 256) card_a
   pub bytes_b : All (λ n. n < 256) card_b
+
+-- no clock of a device has fallen
+pub record AreLater (old new : Devices) : Type 0 where
+  pub unit : old.unit.clock ≤ new.unit.clock
+  pub card_a : old.card_a.clock ≤ new.card_a.clock
+  pub card_b : old.card_b.clock ≤ new.card_b.clock
 
 -- a run on devices with these images, with these seconds and this log
 abbrev pub recorded_with : (unit card_a card_b : List ℕ) → List TraceSecond → RunLog → Recording

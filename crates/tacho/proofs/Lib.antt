@@ -15,3 +15,4 @@ pub mod Services
 pub mod LineServices
 pub mod Downloads
 pub mod CardEnds
+pub mod Demo

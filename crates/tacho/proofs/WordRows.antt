@@ -3,7 +3,7 @@ use Rattle.std.specs.Prelude.{◌≡◌, Some, None, [], ◌∷◌, ◌++◌, co
 use Rattle.trace_model.specs.declared.Card.TheVariants.{B}
 use Rattle.tacho.specs.declared.forms.Form.TheVariants.{Minutes, Serve, ServeHex, Download, View}
 use Rattle.tacho.specs.declared.forms.TheConstants.{PLATE}
-use Rattle.tacho.specs.Texts.{word_in}
+use Rattle.tacho.specs.Texts.{word_in, number_in}
 use Rattle.trace_model.specs.Names.{card_named}
 use Rattle.tacho.specs.Forms.{name_in, form_of}
 
@@ -54,3 +54,7 @@ dash-row = refl
 
 long-row : word_in 1 PLATE (codes "ABCDEFGHIJKLMN") ≡ None
 long-row = refl
+
+no-demo-row : form_of (codes "demo" ∷ codes "2147483648" ∷ []) ≡ None
+unfolding form_of number_in
+no-demo-row = refl

@@ -6,8 +6,8 @@ use Rattle.tacho_types.specs.declared.texts.Registration.{Registration}
 use Rattle.card_files.specs.declared.new_card.CardIdentity.{CardIdentity}
 use Rattle.unit_memory.specs.declared.format.Identity.{Identity}
 use Rattle.tacho.specs.declared.forms.Form.{Form}
-use Rattle.tacho.specs.declared.forms.Form.TheVariants.{Minutes, Record, FormatCard, FormatUnit, Serve, ServeHex, Download, View, CardFile}
-use Rattle.tacho.specs.declared.forms.TheConstants.{CARD_NUMBER, NAME, PLATE, VIN, NATION_MOST, LIMIT_LEAST, LIMIT_MOST, LAST_LEAST, LAST_MOST}
+use Rattle.tacho.specs.declared.forms.Form.TheVariants.{Minutes, Record, FormatCard, FormatUnit, Serve, ServeHex, Download, View, CardFile, Demo}
+use Rattle.tacho.specs.declared.forms.TheConstants.{CARD_NUMBER, NAME, PLATE, VIN, NATION_MOST, LIMIT_LEAST, LIMIT_MOST, LAST_LEAST, LAST_MOST, SEED_MOST}
 use Rattle.tacho_types.specs.Texts.{padded_text}
 use Rattle.tacho.specs.Texts.{word_in, number_in}
 
@@ -61,11 +61,18 @@ file_of letter = do
   card ← card_named letter
   Some (CardFile card)
 
--- `serve --hex`, of which the second word alone begins with `-`; `card` and what follows it
+-- a number from 0 to 2147483647
+abbrev pub demo_of : List ℕ → Option Form
+demo_of seed = do
+  seed ← number_in 0 SEED_MOST seed
+  Some (Demo seed)
+
+-- `serve --hex`, of which the second word alone begins with `-`; `card` and `demo`, and what follows them
 abbrev pub form_of_two : (command option : List ℕ) → Option Form
 form_of_two command option =
     if bytes_eq command (codes "serve") && bytes_eq option (codes "--hex") then Some ServeHex
-    else (if bytes_eq command (codes "card") then file_of option else None)
+    else (if bytes_eq command (codes "card") then file_of option
+    else (if bytes_eq command (codes "demo") then demo_of option else None))
 
 -- `unit N PLATE VIN LIMIT`
 abbrev pub unit_form : (nation plate vin limit : List ℕ) → Option Form

@@ -14,4 +14,5 @@ pub mod Serving
 pub mod Downloading
 pub mod View
 pub mod CardFile
+pub mod Demo
 pub mod Program

@@ -1,10 +1,10 @@
 -- THE PROGRAM: how its one call ends, and what it leaves untouched (profile). What each form promises stands in the form's own
--- file: Minutes, Recorded, Serving, Downloading, View, CardFile, Formatting.
-use Rattle.std.specs.Prelude.{◌≡◌, ◌↔◌, ◌≤◌, List, [], Option, Some, None, IfSome}
+-- file: Minutes, Recorded, Serving, Downloading, View, CardFile, Formatting, Demo.
+use Rattle.std.specs.Prelude.{◌≡◌, ◌↔◌, ◌⊎◌, ◌<◌, ◌≤◌, List, [], Option, Some, None, IfSome}
 use Rattle.tach_media.specs.Medium.{State, Rose}
 use Rattle.trace_model.specs.declared.Card.TheVariants.{A, B}
 use Rattle.run_model.specs.declared.Device.{Device}
-use Rattle.run_model.specs.declared.Device.TheVariants.{CardA, CardB}
+use Rattle.run_model.specs.declared.Device.TheVariants.{Unit as OfUnit, CardA, CardB}
 use Rattle.unit_model.specs.Image.{IsUnit}
 use Rattle.tacho.specs.declared.end.Fault.{Fault}
 use Rattle.tacho.specs.declared.end.Fault.TheVariants.{Done, Usage, ReadFault, WriteFault, MediumFault, BadCard}
@@ -12,7 +12,7 @@ use Rattle.tacho.specs.declared.end.Ended.{Ended}
 use Rattle.run_outcome.specs.declared.outcome.Outcome.{Outcome}
 use Rattle.unit_download.specs.declared.wire.Passed.{Passed}
 use Rattle.tacho.specs.declared.forms.Form.{Form}
-use Rattle.tacho.specs.declared.forms.Form.TheVariants.{Minutes, Record, FormatCard, FormatUnit, Serve, ServeHex, Download, View, CardFile}
+use Rattle.tacho.specs.declared.forms.Form.TheVariants.{Minutes, Record, FormatCard, FormatUnit, Serve, ServeHex, Download, View, CardFile, Demo}
 use Rattle.tacho.specs.End.{status_of, IsBeforeDevices}
 use Rattle.tacho.specs.Outside.{Outside, memory_of}
 use Rattle.tacho.specs.Minutes.{EndsMinutes}
@@ -23,6 +23,7 @@ use Rattle.tacho.specs.Downloading.{EndsDownload}
 use Rattle.tacho.specs.View.{EndsView}
 use Rattle.tacho.specs.Formatting.{IsCard, EndsIssue, EndsMaking}
 use Rattle.tacho.specs.CardFile.{EndsCard}
+use Rattle.tacho.specs.Demo.{EndsDemo}
 
 -- the devices have the sizes of a unit and of cards
 pub record AreDevices (unit card_a card_b : State) : Type 0 where
@@ -43,10 +44,12 @@ EndsForm Download old new ended = EndsDownload old new ended.wire ended.fault
 EndsForm (View last) old new ended = EndsView last old new ended.fault
 EndsForm (CardFile A) old new ended = EndsCard CardA old.card_a new.card_a old.sink new.sink ended.fault
 EndsForm (CardFile B) old new ended = EndsCard CardB old.card_b new.card_b old.sink new.sink ended.fault
+EndsForm (Demo seed) old new ended = EndsDemo seed old new ended.outcome ended.fault
 
--- but for `record` there is no outcome
+-- but for `record` and `demo` there is no outcome
 abbrev pub IsUnrecorded : Option Form → Outcome → Type 0
 IsUnrecorded (Some Record) outcome = Unit {0}
+IsUnrecorded (Some (Demo seed)) outcome = Unit {0}
 IsUnrecorded asked outcome = IsEmpty outcome
 
 -- but for `download` no frame passed
@@ -68,6 +71,7 @@ LeavesOthers (Some Download) source unit card_a card_b = source × card_a × car
 LeavesOthers (Some (View last)) source unit card_a card_b = unit × card_a × card_b
 LeavesOthers (Some (CardFile A)) source unit card_a card_b = source × unit × card_b
 LeavesOthers (Some (CardFile B)) source unit card_a card_b = source × unit × card_a
+LeavesOthers (Some (Demo seed)) source unit card_a card_b = source
 
 -- a stream or a device that is told to have failed has failed, and no count of a stream falls
 pub record HasCauses (old new : Outside) (fault : Fault) : Type 0 where
@@ -77,6 +81,17 @@ pub record HasCauses (old new : Outside) (fault : Fault) : Type 0 where
   pub reads : old.source.faults ≤ new.source.faults
   pub writes : old.sink.faults ≤ new.sink.faults
 
+-- The same of `demo`, but for a unit that failed in the download behind the run: of it this alone is said, that it has failed.
+pub record HasDemoCauses (old new : Outside) (fault : Fault) : Type 0 where
+  pub write_fault : fault ≡ WriteFault → Rose old.sink.faults new.sink.faults
+  pub medium_fault : (device : Device) → fault ≡ MediumFault device → Rose (memory_of device old).faults (memory_of device new).faults ⊎ ((device ≡ OfUnit) × (0 < new.unit.faults))
+  pub reads : old.source.faults ≤ new.source.faults
+  pub writes : old.sink.faults ≤ new.sink.faults
+
+abbrev pub CausesOf : Option Form → (old new : Outside) → Fault → Type 0
+CausesOf (Some (Demo seed)) old new fault = HasDemoCauses old new fault
+CausesOf asked old new fault = HasCauses old new fault
+
 -- HOW THE CALL ENDS, whose words ask for this form, or are in none.
 pub record Ends (asked : Option Form) (old new : Outside) (ended : Ended) : Type 0 where
   pub status : ended.status ≡ status_of ended.fault
@@ -85,15 +100,16 @@ pub record Ends (asked : Option Form) (old new : Outside) (ended : Ended) : Type
   pub form : IfSome asked (λ form. EndsForm form old new ended)
   pub unrecorded : IsUnrecorded asked ended.outcome
   pub unpassed : IsUnpassed asked ended.wire
-  pub causes : HasCauses old new ended.fault
+  pub causes : CausesOf asked old new ended.fault
 
 -- what reads all of its source before it uses a device or prints: each form but `serve`, `serve --hex`, `download`, `card a` and
--- `card b`, which write as they read
+-- `card b`, which write as they read, and `demo`, which reads none
 abbrev pub ReadsFirst : Option Form → Type 0
 ReadsFirst (Some Serve) = ⊥
 ReadsFirst (Some ServeHex) = ⊥
 ReadsFirst (Some Download) = ⊥
 ReadsFirst (Some (CardFile card)) = ⊥
+ReadsFirst (Some (Demo seed)) = ⊥
 ReadsFirst asked = Unit {0}
 
 -- `card a` or `card b` ends with the number of a field

@@ -3,7 +3,7 @@ ghost use Rattle.std.specs.Prelude.{◌≡◌, ◌∷◌, ◌+◌, ◌-◌, ◌�
 ghost use Rattle.std.specs.List.{list_all};
 ghost use Rattle.tacho_types.specs.Texts.{padded_text};
 ghost use Rattle.tacho.specs.Texts.{is_character, is_word, begins_with_dash, word_in, number_in};
-ghost use Rattle.tacho.specs.Forms.{name_in, card_in, registration_in, unit_in, form_of_one, form_of_two, file_of, view_of, form_of_three, format_of, form_of_six, form_of};
+ghost use Rattle.tacho.specs.Forms.{name_in, card_in, registration_in, unit_in, form_of_one, form_of_two, file_of, demo_of, view_of, form_of_three, format_of, form_of_six, form_of};
 
 use crate::words::Words;
 use card_files::CardIdentity;
@@ -39,6 +39,9 @@ pub const LAST_LEAST: u32 = 1;
 /// The greatest number of days that `view last N` takes: so many days a unit keeps.
 pub const LAST_MOST: u32 = 366;
 
+/// The greatest number that a demonstration is drawn from.
+pub const SEED_MOST: u32 = 2147483647;
+
 /// What the words of the command line ask for.
 #[derive(Clone, Copy, Debug, PartialEq, Eq)]
 pub enum Form {
@@ -60,6 +63,8 @@ pub enum Form {
     View { last: Option<u32> },
     /// `card a` and `card b`: the card's file is written.
     CardFile { card: Card },
+    /// `demo X`: a demonstration is recorded that is drawn from this number, from 0 to 2147483647.
+    Demo { seed: u32 },
 }
 
 /// What the words ask for, if they are in a form that is known. The test takes no memory.
@@ -113,6 +118,9 @@ fn form_of_two(command: &str, option: &str) -> Option<Form>
     if is_text(command, "card") {
         return file_of(option);
     }
+    if is_text(command, "demo") {
+        return demo_of(option);
+    }
     None
 }
 
@@ -124,6 +132,16 @@ fn file_of(which: &str) -> Option<Form>
         return None;
     };
     Some(Form::CardFile { card })
+}
+
+/// Which demonstration is asked for.
+fn demo_of(seed: &str) -> Option<Form>
+    ensures { result ≡ demo_of seed.now }
+{
+    let Some(seed) = number(seed, 0, SEED_MOST) else {
+        return None;
+    };
+    Some(Form::Demo { seed })
 }
 
 /// The form of three words.

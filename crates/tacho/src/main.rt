@@ -2,7 +2,10 @@
 //! with its status.
 #![tactic(auto)]
 
+ghost use Rattle.tach_media.specs.Medium.{IsUntouched};
+
 mod card_command;
+mod demo_command;
 mod download_command;
 mod end;
 mod format_command;
@@ -19,11 +22,12 @@ mod words;
 use card_commands::SimCard;
 use card_layout::LARGEST_IMAGE;
 use end::{Ended, Fault};
+use forms::{Form, form_of};
 use run_model::Device;
 use std::io::ErrorKind;
 use std::process::ExitCode;
 use std::{env, io, str};
-use tach_media::{FileMedium, StdSink, StdSource};
+use tach_media::{FileMedium, Medium, StdSink, StdSource};
 use tacho_types::{FullCardNumber, write_card_number};
 use top::{nothing, tacho};
 use unit_model::layout::IMAGE_SIZE;
@@ -49,18 +53,44 @@ fn words_of(rt: &HostRuntime) -> Result<Words, Fault> {
     Ok(words)
 }
 
+/// Whether each write waits for the disk: all do but those of a demonstration.
+fn waits(words: &Words) -> bool {
+    match form_of(words) {
+        Some(Form::Demo { .. }) => false,
+        _ => true,
+    }
+}
+
+/// A device in a file of the working folder.
+fn file<'a>(
+    rt: &'a HostRuntime,
+    path: &'a str,
+    size: u32,
+    waits: bool,
+) -> FileMedium<'a, HostRuntime>
+    ensures { IsUntouched size (⟦<FileMedium<'a, HostRuntime> as Medium>⟧.state result) }
+{
+    if waits {
+        return FileMedium::new(rt, path, size);
+    }
+    FileMedium::without_waiting(rt, path, size)
+}
+
 /// The top call over the program's streams, and over the unit and the cards in the working folder's files.
 fn run(rt: &HostRuntime) -> Ended {
     match words_of(rt) {
-        Ok(words) => tacho(
-            rt.alloc(),
-            &words,
-            &mut StdSource::new(rt.stdin()),
-            &mut StdSink::new(rt.stdout()),
-            &mut FileMedium::new(rt, "unit.img", IMAGE_SIZE),
-            &mut SimCard::new(FileMedium::new(rt, "card-a.img", LARGEST_IMAGE)),
-            &mut SimCard::new(FileMedium::new(rt, "card-b.img", LARGEST_IMAGE)),
-        ),
+        Ok(words) => {
+            let waits = waits(&words);
+            tacho(
+                rt.alloc(),
+                &words,
+                &mut StdSource::new(rt.stdin()),
+                &mut StdSink::new(rt.stdout()),
+                &mut file(rt, "unit.img", IMAGE_SIZE, waits),
+                &mut SimCard::new(file(rt, "card-a.img", LARGEST_IMAGE, waits)),
+                &mut SimCard::new(file(rt, "card-b.img", LARGEST_IMAGE, waits)),
+            )
+        }
         Err(fault) => Ended::of(rt.alloc(), nothing(rt.alloc()), fault),
     }
 }
@@ -107,6 +137,8 @@ fn main(rt: HostRuntime) -> ExitCode {
 
 #[cfg(test)]
 mod card_tests;
+#[cfg(test)]
+mod demo_tests;
 #[cfg(test)]
 mod download_tests;
 #[cfg(test)]

@@ -1,22 +1,28 @@
-//! What `record` prints of an outcome: five lines of counts.
+//! What `record` and `demo` print of an outcome: lines of counts.
 ghost use Rattle.std.specs.Prelude.{◌≡◌, ◌+◌, ◌≤◌, ◌++◌, length};
 ghost use Rattle.arrayvec.specs.ArrayVec.{array_vec_len};
 ghost use Rattle.run_model.specs.declared.Device.{Device as EachDevice};
 ghost use Rattle.safety_model.specs.Unit.{is_of};
 ghost use Rattle.tacho.specs.Outcomes.{count_line, mark_count, outcome_text};
+ghost use Rattle.tacho.specs.Demo.{demo_text};
 
 use arrayvec::ArrayVec;
+use demo_file::FileSize;
 use itoa::Buffer;
 use log_model::Mark;
 use run_model::Device;
 use run_outcome::{Lines, Outcome};
 
-/// The most bytes of the five lines: 29 of names, and in each line a space, at most 20 digits, and LF.
-pub const MOST: usize = 139;
+/// The most bytes of the seven lines: 37 of names, and in each line a space, at most 20 digits, and LF.
+pub const MOST: usize = 191;
+
+/// The most bytes of the first five.
+const FIVE: usize = 139;
 
 /// The five lines of an outcome. They take no memory.
 pub fn outcome_text(outcome: &Outcome) -> ArrayVec<u8, MOST>
-    ensures { result.items ≡ outcome_text outcome.now }
+    ensures items { result.items ≡ outcome_text outcome.now }
+    ensures few { array_vec_len result ≤ FIVE }
 {
     let marks = &outcome.marks;
     let mut text = ArrayVec::new();
@@ -25,6 +31,16 @@ pub fn outcome_text(outcome: &Outcome) -> ArrayVec<u8, MOST>
     add_line(&mut text, b"card-b", mark_count(marks, Device::CardB));
     add_line(&mut text, b"breaks", outcome.breaks.len());
     add_line(&mut text, b"refused", outcome.refused.len());
+    text
+}
+
+/// The seven lines of a demonstration: those of its outcome, and the size of its file.
+pub fn demo_text(outcome: &Outcome, size: FileSize) -> ArrayVec<u8, MOST>
+    ensures { result.items ≡ demo_text outcome.now size }
+{
+    let mut text = outcome_text(outcome);
+    add_line(&mut text, b"file", size.bytes);
+    add_line(&mut text, b"days", size.days);
     text
 }
 

@@ -82,7 +82,7 @@ fn refusal_on_unit(fault: UnitFault) -> Fault
 }
 
 /// The end where a device, the unit's image or the cards keep a trace from being recorded.
-fn refusal_with_cards(fault: RunFault) -> Fault
+pub fn refusal_with_cards(fault: RunFault) -> Fault
     ensures { result ≡ refusal_with_cards fault }
 {
     match fault {

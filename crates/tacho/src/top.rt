@@ -3,11 +3,12 @@ ghost use Rattle.std.specs.Prelude.{◌≡◌, Some};
 ghost use Rattle.tacho.specs.Forms.{form_of};
 ghost use Rattle.tacho.specs.Outside.{outside};
 ghost use Rattle.unit_model.specs.Image.{IsUnit};
-ghost use Rattle.tacho.specs.declared.forms.Form.TheVariants.{Record as FormOfRecord, CardFile as FormOfCard};
+ghost use Rattle.tacho.specs.declared.forms.Form.TheVariants.{Record as FormOfRecord, CardFile as FormOfCard, Demo as FormOfDemo};
 ghost use Rattle.tacho.specs.Outcomes.{IsEmpty, IsToldForUnit};
 ghost use Rattle.tacho.specs.Program.{AreDevices, Ends, Spares};
 
 use crate::card_command::card_end;
+use crate::demo_command::demo;
 use crate::download_command::download_end;
 use crate::end::{Ended, Fault};
 use crate::format_command::{format_card, make_unit};
@@ -35,6 +36,8 @@ use unit_download::{Wire, download};
 /// `download` downloads the unit, and writes its file, message by message, to the sink.
 /// `view` reads a unit file or a card file from the source, and writes the view text of its minutes or entries to the sink.
 /// `card a` and `card b` read the card by its commands, and write its card file to the sink.
+/// `demo X` makes the unit and card a new, records a demonstration on the unit and the cards, downloads the unit, and writes seven lines of
+/// counts to the sink.
 /// `format a` and `format b` issue the card anew, of the largest sizes, `format unit` makes the unit new; they write
 /// `formatted` to the sink. No other device is used than the form's.
 pub fn tacho<S: Source, K: Sink, U: Medium, C: Chip>(
@@ -124,6 +127,7 @@ fn perform<S: Source, K: Sink, U: Medium, C: Chip>(
         }
         Form::View { last } => Ended::after(alloc, nothing, print_view(alloc, last, source, sink)),
         Form::CardFile { card } => perform_card(alloc, card, source, sink, unit, card_a, card_b),
+        Form::Demo { seed } => perform_demo(alloc, seed, source, sink, unit, card_a, card_b),
     }
 }
 
@@ -178,6 +182,37 @@ fn perform_card<S: Source, K: Sink, U: Medium, C: Chip>(
             card_end(Device::CardB, write_card_file(card_b, sink)),
         ),
     }
+}
+
+/// Does what `demo` asks for; it uses the sink and the devices alone.
+fn perform_demo<S: Source, K: Sink, U: Medium, C: Chip>(
+    alloc: Global,
+    seed: u32,
+    source: &mut S,
+    sink: &mut K,
+    unit: &mut U,
+    card_a: &mut C,
+    card_b: &mut C,
+) -> Ended
+    requires { AreDevices (U.state unit.old) (C.state card_a.old) (C.state card_b.old) }
+    ensures ends { Ends (Some (FormOfDemo seed))
+        (outside S.left S.faults K.held K.faults U.state C.state C.card source.old sink.old unit.old card_a.old card_b.old)
+        (outside S.left S.faults K.held K.faults U.state C.state C.card source.new sink.new unit.new card_a.new card_b.new) result }
+    ensures spares { Spares (Some (FormOfDemo seed)) result.fault (IsToldForUnit (S.left source.old))
+        (source.new ≡ source.old) (sink.new ≡ sink.old) (unit.new ≡ unit.old) (card_a.new ≡ card_a.old) (card_b.new ≡ card_b.old) }
+{
+    let mut outcome = nothing(alloc);
+    let done = demo(
+        alloc,
+        seed,
+        source,
+        sink,
+        unit,
+        card_a,
+        card_b,
+        &mut outcome,
+    );
+    Ended::after(alloc, outcome, done)
 }
 
 /// An outcome without a line.

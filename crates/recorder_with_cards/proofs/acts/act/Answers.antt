@@ -6,6 +6,7 @@ use Rattle.recorder_with_cards.specs.Acting.{IsActed}
 use Rattle.run_rule.specs.Between.{devices}
 use Rattle.recorder_with_cards.proofs.ActsRecorded.{passed-over}
 use Rattle.recorder_with_cards.proofs.Allowed.{lit-refused}
+use Rattle.recorder_with_cards.proofs.Later.{later-same}
 use Rattle.recorder_with_cards.proofs.acts.act.Goals as goal
 
 pub returns-clause-none : goal.returns-clause-none
@@ -72,3 +73,12 @@ returns-then-not-is_lit-clause-time g c = λ h. h
 
 pub returns-clause-time : goal.returns-clause-time
 returns-clause-time g c = c.act_lit.ensures.time
+
+pub returns-then-not-has_power-clause-later : goal.returns-then-not-has_power-clause-later
+returns-then-not-has_power-clause-later g c = later-same (devices (g.M.Medium.state c.args.unit.now) (g.C.Chip.state c.args.card_a.now) (g.D.Chip.state c.args.card_b.now))
+
+pub returns-then-not-is_lit-clause-later : goal.returns-then-not-is_lit-clause-later
+returns-then-not-is_lit-clause-later g c = later-same (devices (g.M.Medium.state c.args.unit.now) (g.C.Chip.state c.args.card_a.now) (g.D.Chip.state c.args.card_b.now))
+
+pub returns-clause-later : goal.returns-clause-later
+returns-clause-later g c = c.act_lit.ensures.later

@@ -45,3 +45,6 @@ returns-in-Off-clause-recorded g c = λ power.
 
 pub returns-in-Act-clause-time : goal.returns-in-Act-clause-time
 returns-in-Act-clause-time g c = c.act.ensures.time
+
+pub returns-in-Act-clause-later : goal.returns-in-Act-clause-later
+returns-in-Act-clause-later g c = c.act.ensures.later

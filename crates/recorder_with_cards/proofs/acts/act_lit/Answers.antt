@@ -27,6 +27,7 @@ use Rattle.recorder_with_cards.specs.Acting.{put_count, moment_of, IsDone, IsAct
 use Rattle.recorder_with_cards.proofs.ActsRecorded.{as-lit, lit-in, cut-in, refused, cut, left}
 use Rattle.recorder_with_cards.proofs.Allowed.{fine-selected}
 use Rattle.recorder_with_cards.proofs.Rooms.{few-wait, room-cut}
+use Rattle.recorder_with_cards.proofs.Later.{later-same}
 use Rattle.recorder_with_cards.proofs.acts.act_lit.Goals as goal
 
 -- ---- the unit failed: power is lost
@@ -185,3 +186,12 @@ returns-then-is_err-clause-time g c = c.carry_out.ensures.time
 
 pub returns-else-is_err-clause-time : goal.returns-else-is_err-clause-time
 returns-else-is_err-clause-time g c = c.carry_out.ensures.time
+
+pub returns-in-Err-clause-later : goal.returns-in-Err-clause-later
+returns-in-Err-clause-later g c = later-same (devices (g.M.Medium.state c.args.unit.now) (g.C.Chip.state c.args.card_a.now) (g.D.Chip.state c.args.card_b.now))
+
+pub returns-then-is_err-clause-later : goal.returns-then-is_err-clause-later
+returns-then-is_err-clause-later g c = c.carry_out.ensures.later
+
+pub returns-else-is_err-clause-later : goal.returns-else-is_err-clause-later
+returns-else-is_err-clause-later g c = c.carry_out.ensures.later

@@ -21,6 +21,7 @@ use Rattle.recorder_with_cards.specs.Recorded.{actions_in, HasRun}
 use Rattle.recorder_with_cards.proofs.SecondsRecorded.{refused_dark, acted-dark, passes-dark, dark-run, by-power, run-then}
 use Rattle.recorder_with_cards.proofs.Rooms.{room-less}
 use Rattle.recorder_with_cards.proofs.Dark.{away-dark}
+use Rattle.recorder_with_cards.proofs.Later.{later-then}
 use Rattle.recorder_with_cards.proofs.driving.drive.Goals as goal
 
 pub begin_second-requires-clause-room : goal.begin_second-requires-clause-room
@@ -185,3 +186,11 @@ returns-in_err-has_power-clause-recorded g c = λ many few o done r time.
 
 pub returns-in_err-has_power-clause-time : goal.returns-in_err-has_power-clause-time
 returns-in_err-has_power-clause-time g c = time-before (devices (g.M.Medium.state c.args.unit.now) (g.C.Chip.state c.args.card_a.now) (g.D.Chip.state c.args.card_b.now)) (devices (g.M.Medium.state c.begin_second.new.unit) (g.C.Chip.state c.begin_second.new.card_a) (g.D.Chip.state c.begin_second.new.card_b)) c.in_err-has_power.ensures.clock c.in_err-has_power.ensures.clock_a c.in_err-has_power.ensures.clock_b
+
+pub returns-clause-later : goal.returns-clause-later
+returns-clause-later g c = later-then (devices (g.M.Medium.state c.args.unit.now) (g.C.Chip.state c.args.card_a.now) (g.D.Chip.state c.args.card_b.now)) (devices (g.M.Medium.state c.begin_second.new.unit) (g.C.Chip.state c.begin_second.new.card_a) (g.D.Chip.state c.begin_second.new.card_b)) (devices (g.M.Medium.state c.drive_on.new.unit) (g.C.Chip.state c.drive_on.new.card_a) (g.D.Chip.state c.drive_on.new.card_b)) (record { unit = c.in_ok-has_power.ensures.clock; card_a = c.in_ok-has_power.ensures.clock_a; card_b = c.in_ok-has_power.ensures.clock_b })
+    (later-then (devices (g.M.Medium.state c.begin_second.new.unit) (g.C.Chip.state c.begin_second.new.card_a) (g.D.Chip.state c.begin_second.new.card_b)) (devices (g.M.Medium.state c.act_all.new.unit) (g.C.Chip.state c.act_all.new.card_a) (g.D.Chip.state c.act_all.new.card_b)) (devices (g.M.Medium.state c.drive_on.new.unit) (g.C.Chip.state c.drive_on.new.card_a) (g.D.Chip.state c.drive_on.new.card_b)) c.act_all.ensures.later
+    (later-then (devices (g.M.Medium.state c.act_all.new.unit) (g.C.Chip.state c.act_all.new.card_a) (g.D.Chip.state c.act_all.new.card_b)) (devices (g.M.Medium.state c.turn.new.unit) (g.C.Chip.state c.turn.new.card_a) (g.D.Chip.state c.turn.new.card_b)) (devices (g.M.Medium.state c.drive_on.new.unit) (g.C.Chip.state c.drive_on.new.card_a) (g.D.Chip.state c.drive_on.new.card_b)) (record { unit = c.turn.ensures.clock; card_a = c.turn.ensures.clock_a; card_b = c.turn.ensures.clock_b }) c.drive_on.ensures.later))
+
+pub returns-in_err-has_power-clause-later : goal.returns-in_err-has_power-clause-later
+returns-in_err-has_power-clause-later g c = record { unit = c.in_err-has_power.ensures.clock; card_a = c.in_err-has_power.ensures.clock_a; card_b = c.in_err-has_power.ensures.clock_b }

@@ -8,6 +8,7 @@ use Rattle.recorder_with_cards.proofs.SecondsRecorded.{plain-parts}
 use Rattle.std.proofs.lemmas.Grind.{common_steps}
 use Rattle.run_acts.specs.Room.{cuts_from, HasRoom}
 use Rattle.recorder_with_cards.proofs.Rooms.{room-less}
+use Rattle.recorder_with_cards.proofs.Later.{later-same, later-then}
 use Rattle.recorder_with_cards.proofs.driving.drive_on.Goals as goal
 
 pub loop-left-init : goal.loop-left-init
@@ -22,6 +23,7 @@ loop-left-init g c = record {
       subst (λ (n : ℕ). RunRecorded o (done ++ driven n c.args.run.now.next c.args.speed []) c.args.run.now c.args.outcome.now d) (let e : 0 ≡ c.args.seconds - c.args.seconds = omega arith in e)
       (subst (λ (ss : List TraceSecond). RunRecorded o ss c.args.run.now c.args.outcome.now d) (sym (append-nil done)) r);
   time = λ h. h;
+  later = later-same (devices (g.M.Medium.state c.args.unit.now) (g.C.Chip.state c.args.card_a.now) (g.D.Chip.state c.args.card_b.now));
   unfound = c.requires.unfound;
 }
 
@@ -60,6 +62,7 @@ loop-left-preserved g c =
           ∙ ap (λ (m : ℕ). driven m c.args.run.now.next c.args.speed []) (let e : so + n ≡ c.args.seconds - (left - n) = omega (arith, few, most) in e)))
           (c.in_ok-step.ensures.recorded o (done ++ driven so c.args.run.now.next c.args.speed []) was time);
       time = λ h. v.time (c.in_ok-step.ensures.time h);
+      later = later-then (devices (g.M.Medium.state c.args.unit.now) (g.C.Chip.state c.args.card_a.now) (g.D.Chip.state c.args.card_b.now)) (devices (g.M.Medium.state c.loop-left.unit) (g.C.Chip.state c.loop-left.card_a) (g.D.Chip.state c.loop-left.card_b)) (devices (g.M.Medium.state c.step.new.unit) (g.C.Chip.state c.step.new.card_a) (g.D.Chip.state c.step.new.card_b)) v.later c.in_ok-step.ensures.later;
       unfound = e.unfound;
     }
 
@@ -106,3 +109,9 @@ returns-in_err-step-clause-recorded g c = λ o done r time.
 
 pub returns-in_err-step-clause-time : goal.returns-in_err-step-clause-time
 returns-in_err-step-clause-time g c = λ h. c.loop-left.invariant.time (c.in_err-step.ensures.time h)
+
+pub returns-clause-later : goal.returns-clause-later
+returns-clause-later g c = c.loop-left.invariant.later
+
+pub returns-in_err-step-clause-later : goal.returns-in_err-step-clause-later
+returns-in_err-step-clause-later g c = later-then (devices (g.M.Medium.state c.args.unit.now) (g.C.Chip.state c.args.card_a.now) (g.D.Chip.state c.args.card_b.now)) (devices (g.M.Medium.state c.loop-left.unit) (g.C.Chip.state c.loop-left.card_a) (g.D.Chip.state c.loop-left.card_b)) (devices (g.M.Medium.state c.step.new.unit) (g.C.Chip.state c.step.new.card_a) (g.D.Chip.state c.step.new.card_b)) c.loop-left.invariant.later c.in_err-step.ensures.later

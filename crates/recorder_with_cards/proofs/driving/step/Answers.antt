@@ -14,6 +14,7 @@ use Rattle.recorder_with_cards.proofs.SecondsRecorded.{refused_dark, none-refuse
 use Rattle.std.proofs.lemmas.Grind.{common_steps}
 use Rattle.run_acts.specs.Room.{cuts_from, cuts_within, HasRoom, HasRoomWithin}
 use Rattle.recorder_with_cards.proofs.Rooms.{room-less}
+use Rattle.recorder_with_cards.proofs.Later.{later-then}
 use Rattle.recorder_with_cards.proofs.driving.step.Goals as goal
 
 pub begin_second-requires-clause-room : goal.begin_second-requires-clause-room
@@ -97,3 +98,9 @@ returns-in_err-begin_second-clause-recorded g c = λ o done r time.
 
 pub returns-in_err-begin_second-clause-time : goal.returns-in_err-begin_second-clause-time
 returns-in_err-begin_second-clause-time g c = time-before (devices (g.M.Medium.state c.args.unit.now) (g.C.Chip.state c.args.card_a.now) (g.D.Chip.state c.args.card_b.now)) (devices (g.M.Medium.state c.begin_second.new.unit) (g.C.Chip.state c.begin_second.new.card_a) (g.D.Chip.state c.begin_second.new.card_b)) c.in_err-begin_second.ensures.clock c.in_err-begin_second.ensures.clock_a c.in_err-begin_second.ensures.clock_b
+
+pub returns-clause-later : goal.returns-clause-later
+returns-clause-later g c = later-then (devices (g.M.Medium.state c.args.unit.now) (g.C.Chip.state c.args.card_a.now) (g.D.Chip.state c.args.card_b.now)) (devices (g.M.Medium.state c.begin_second.new.unit) (g.C.Chip.state c.begin_second.new.card_a) (g.D.Chip.state c.begin_second.new.card_b)) (devices (g.M.Medium.state c.turn.new.unit) (g.C.Chip.state c.turn.new.card_a) (g.D.Chip.state c.turn.new.card_b)) (record { unit = c.in_ok-begin_second.ensures.clock; card_a = c.in_ok-begin_second.ensures.clock_a; card_b = c.in_ok-begin_second.ensures.clock_b }) (record { unit = c.turn.ensures.clock; card_a = c.turn.ensures.clock_a; card_b = c.turn.ensures.clock_b })
+
+pub returns-in_err-begin_second-clause-later : goal.returns-in_err-begin_second-clause-later
+returns-in_err-begin_second-clause-later g c = record { unit = c.in_err-begin_second.ensures.clock; card_a = c.in_err-begin_second.ensures.clock_a; card_b = c.in_err-begin_second.ensures.clock_b }

@@ -25,6 +25,7 @@ use Rattle.recorder_with_cards.specs.Items.{between, insertions_in}
 use Rattle.recorder_with_cards.proofs.Rooms.{room-less}
 use Rattle.recorder_with_cards.specs.Gone.{has_seconds, HasGone}
 use Rattle.recorder_with_cards.proofs.Dark.{cut-room, off-room, unfound-same}
+use Rattle.recorder_with_cards.proofs.Later.{later-same}
 use Rattle.recorder_with_cards.proofs.run.go_on.Goals as goal
 
 -- ---- an action waits
@@ -150,3 +151,12 @@ returns-in-Off-clause-time g c = λ h. h
 
 pub returns-in-Run-clause-time : goal.returns-in-Run-clause-time
 returns-in-Run-clause-time g c = c.drive.ensures.time
+
+pub returns-in-Act-clause-later : goal.returns-in-Act-clause-later
+returns-in-Act-clause-later g c = later-same (devices (g.M.Medium.state c.args.unit.now) (g.C.Chip.state c.args.card_a.now) (g.D.Chip.state c.args.card_b.now))
+
+pub returns-in-Off-clause-later : goal.returns-in-Off-clause-later
+returns-in-Off-clause-later g c = later-same (devices (g.M.Medium.state c.args.unit.now) (g.C.Chip.state c.args.card_a.now) (g.D.Chip.state c.args.card_b.now))
+
+pub returns-in-Run-clause-later : goal.returns-in-Run-clause-later
+returns-in-Run-clause-later g c = c.drive.ensures.later

@@ -43,6 +43,7 @@ use Rattle.recorder_with_cards.specs.Items.{insertions_in}
 use Rattle.recorder_with_cards.proofs.Rooms.{room-less}
 use Rattle.recorder_with_cards.proofs.Items.{each-at, insertions-left, waiting-most, room-behind}
 use Rattle.recorder_with_cards.proofs.Start.{if-err, none-yet, no-falls, no-seats, room-start}
+use Rattle.recorder_with_cards.proofs.Later.{later-then}
 use Rattle.recorder_with_cards.proofs.run.run_trace.Goals as goal
 
 -- ---- the opening
@@ -88,6 +89,7 @@ loop-i-init g c =
           (room-start run c.args.outcome.now c.args.trace.now.items c.new-run.ensures.power (no-falls run.keeper.cabin slots a_none b_none) (no-seats run.keeper.cabin slots) q.reserved);
       unfound = let none = c.new-run.ensures.unfound in omega (arith, none);
       waits = waits-none c.args.trace.now.items;
+      later = record { unit = (let same = c.judge.ensures.unit.clock in omega (arith, same)); card_a = (let same = c.judge.ensures.card_a.clock in omega (arith, same)); card_b = (let same = c.judge.ensures.card_b.clock in omega (arith, same)) };
       time = λ h.
           let u = c.judge.ensures.unit.clock in
           let p = c.judge.ensures.card_a.clock in
@@ -171,6 +173,7 @@ loop-i-preserved g c =
       unfound = e.unfound;
       waits = subst (λ (n : ℕ). Waits items n (i + 1)) (sym waits) (waits-more items i c.loop-i.first item c.get-item.ensures v.first c.requires.well.runs v.waits);
       time = λ h. v.time (f.time h);
+      later = later-then (devices (g.U.Medium.state c.args.unit.now) (g.C.Chip.state c.args.card_a.now) (g.C.Chip.state c.args.card_b.now)) (devices (g.U.Medium.state c.loop-i.unit) (g.C.Chip.state c.loop-i.card_a) (g.C.Chip.state c.loop-i.card_b)) (devices (g.U.Medium.state c.go_on.new.unit) (g.C.Chip.state c.go_on.new.card_a) (g.C.Chip.state c.go_on.new.card_b)) v.later f.later;
       told = v.told;
       recorded = λ x a b h time few.
           let began : Devices = devices (g.U.Medium.state c.args.unit.now) (g.C.Chip.state c.args.card_a.now) (g.C.Chip.state c.args.card_b.now) in
@@ -238,3 +241,12 @@ returns-in_err-go_on-clause-fault g c = λ x a b h time few.
     let first = v.first in
     let low : c.loop-i.i < length items = omega (arith, c.loop-i-test.true, c.len-i-end.ensures) in
     absurd (f.recorded many (origin_of x a b c.args.trace.now.start (devices (g.U.Medium.state c.args.unit.now) (g.C.Chip.state c.args.card_a.now) (g.C.Chip.state c.args.card_b.now))) (seconds_of c.args.trace.now.start (take c.loop-i.i items)) (omega (arith, many, few, low, first)) (v.recorded x a b h (f.time time) few) time)
+
+pub returns-clause-later : goal.returns-clause-later
+returns-clause-later g c = c.loop-i.invariant.later
+
+pub returns-in_err-go_on-clause-later : goal.returns-in_err-go_on-clause-later
+returns-in_err-go_on-clause-later g c = later-then (devices (g.U.Medium.state c.args.unit.now) (g.C.Chip.state c.args.card_a.now) (g.C.Chip.state c.args.card_b.now)) (devices (g.U.Medium.state c.loop-i.unit) (g.C.Chip.state c.loop-i.card_a) (g.C.Chip.state c.loop-i.card_b)) (devices (g.U.Medium.state c.go_on.new.unit) (g.C.Chip.state c.go_on.new.card_a) (g.C.Chip.state c.go_on.new.card_b)) c.loop-i.invariant.later c.in_err-go_on.ensures.later
+
+pub returns-in_err-opened-clause-later : goal.returns-in_err-opened-clause-later
+returns-in_err-opened-clause-later g c = record { unit = (let same = c.judge.ensures.unit.clock in omega (arith, same)); card_a = (let same = c.judge.ensures.card_a.clock in omega (arith, same)); card_b = (let same = c.judge.ensures.card_b.clock in omega (arith, same)) }

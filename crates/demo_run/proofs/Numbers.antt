@@ -1,0 +1,39 @@
+-- A run's promise goes by the clocks and the breakdowns of the devices as it began, and by nothing else of them.
+use Rattle.std.proofs.Common.{◌≡◌, ℕ, List, subst}
+use Rattle.trace_model.specs.declared.Card.{Card}
+use Rattle.trace_model.specs.declared.Item.{Item}
+use Rattle.run_model.specs.declared.Device.{Device}
+use Rattle.log_model.specs.Causes.{HasCauses}
+use Rattle.safety_model.specs.Recording.{Recording, history_of, lost_of}
+use Rattle.safety_model.specs.Unit.{UnitSafe}
+use Rattle.safety_model.specs.Cards.{CardSafe}
+use Rattle.safety_model.specs.Safe.{Devices, card_of, breakdowns_of, IsVerdict}
+use Rattle.unit_model.specs.Image.{recorded}
+use Rattle.run_outcome.specs.declared.outcome.Outcome.{Outcome}
+use Rattle.recorder_with_cards.specs.Ends.{recording_of, EndsTrace}
+
+module _ (x a b : List ℕ) (start : ℕ) (items : List Item) (out : Outcome) (p q now : Devices) (unit : p.unit.clock ≡ q.unit.clock) (cards : (c : Card) → (card_of p c).clock ≡ (card_of q c).clock) (broken : (device : Device) → breakdowns_of p device ≡ breakdowns_of q device) where
+  abbrev r : Recording
+  r = recording_of x a b start items out
+
+  abbrev Caused : ℕ → (Card → ℕ) → (Device → ℕ) → Type 0
+  Caused n k m = HasCauses (λ c u v. IsVerdict r (now.unit.left_since n) ((card_of now c).left_since (k c)) c u v) m (breakdowns_of now) r.trace r.log
+
+  pub ends-by : EndsTrace x a b start items out p now → EndsTrace x a b start items out q now
+  ends-by h = record {
+    may = h.may;
+    ends = record {
+      safe = record {
+        unit = subst (λ (n : ℕ). UnitSafe (recorded r.unit) (history_of r) (lost_of r) out.marks.items n now.unit) unit h.ends.safe.unit;
+        card = λ c. subst (λ (n : ℕ). CardSafe r c out.marks.items n (card_of now c)) (cards c) (h.ends.safe.card c);
+        both = h.ends.safe.both;
+      };
+      caused = record {
+        causes = subst (λ (m : Device → ℕ). Caused q.unit.clock (λ c. (card_of q c).clock) m) (λ i device. broken device i)
+            (subst (λ (k : Card → ℕ). Caused q.unit.clock k (breakdowns_of p)) (λ i c. cards c i)
+            (subst (λ (n : ℕ). Caused n (λ c. (card_of p c).clock) (breakdowns_of p)) unit h.ends.caused.causes));
+        complete = h.ends.caused.complete;
+      };
+      odometer = h.ends.odometer;
+    };
+  }

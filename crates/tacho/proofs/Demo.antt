@@ -1,0 +1,264 @@
+-- How `demo` ends, by what its calls answered.
+use Rattle.std.proofs.Common.{◌≡◌, ◌∙◌, ◌≤◌, ◌<◌, ◌⊎◌, ℕ, inl, inr, ⊎_elim, refl, sym, subst, arith, false, Bool, List, [], ◌∷◌, ◌-◌, ◌*◌, length, Option, Some, None, length-append}
+use Rattle.std.specs.Prelude.{Result, Ok, Err, OnOk, IfErr, IfSome}
+use Rattle.std.specs.List.{flat_map}
+use Rattle.std.specs.Io.KnownBytes.{Appends, Keeps}
+use Rattle.byte_fields.specs.Fields.{IsBytes}
+use Rattle.tach_media.specs.Medium.{State, Rose}
+use Rattle.tach_media.specs.Streams.{AppendsFront}
+use Rattle.run_model.specs.declared.Device.{Device}
+use Rattle.run_model.specs.declared.Device.TheVariants.{Unit as OfUnit, CardA, CardB}
+use Rattle.trace_model.specs.declared.Item.{Item}
+use Rattle.trace_model.specs.declared.Item.TheVariants.{Run}
+use Rattle.trace_model.specs.Trace.{total_seconds}
+use Rattle.unit_journal.specs.Reading.{ReadsIfAny}
+use Rattle.safety_model.specs.Safe.{Devices}
+use Rattle.run_rule.specs.Between.{devices}
+use Rattle.run_keeping.specs.Books.{HaveTime}
+use Rattle.run_opening.specs.declared.fault.RunFault.TheVariants as run
+use Rattle.run_outcome.specs.declared.outcome.Outcome.{Outcome}
+use Rattle.unit_download.specs.declared.fault.DownloadFault.{DownloadFault}
+use Rattle.unit_download.specs.declared.fault.DownloadFault.TheVariants as download
+use Rattle.unit_download.specs.Ending.{has_failed}
+use Rattle.demo_trace.specs.declared.trace.TheConstants.{PARTS, DAYS, DAY_SECONDS, FIRST_SECOND}
+use Rattle.demo_trace.specs.Demo.{starts, part_of, parts_of, day_of, days_of, demo_items}
+use Rattle.demo_trace.proofs.Groups.{length-starts}
+use Rattle.demo_run.specs.declared.anew.AnewFault.{AnewFault}
+use Rattle.demo_run.specs.declared.anew.AnewFault.TheVariants.{Unmade, Kept}
+use Rattle.demo_run.specs.Anew.{MayBeAnew, EndsAnew, IsFailed}
+use Rattle.demo_run.proofs.ReadAfter.{is-read, anew-read}
+use Rattle.demo_file.specs.declared.measuring.FileSize.{FileSize}
+use Rattle.demo_file.specs.Measures.{IsSizeOf}
+use Rattle.tacho.specs.declared.demo_command.TheConstants.{VEHICLE, CARD}
+use Rattle.tacho.specs.declared.end.Fault.{Fault}
+use Rattle.tacho.specs.declared.end.Fault.TheVariants.{WriteFault, MediumFault, Memory, Changed}
+use Rattle.tacho.specs.declared.forms.Form.TheVariants.{Demo}
+use Rattle.tacho.specs.End.{end_of, ended_by}
+use Rattle.tacho.specs.Outside.{Outside, memory_of}
+use Rattle.tacho.specs.Outcomes.{IsEmpty, IsRun}
+use Rattle.tacho.specs.CardsRecorded.{devices_of}
+use Rattle.tacho.specs.Formatting.{card_image, unit_image}
+use Rattle.tacho.specs.Program.{Ends, HasDemoCauses}
+use Rattle.tacho.specs.Demo.{demo_text, refusal_anew, refusal_of_file, IsDemoEnd, StartAnew, IsDemonstrated, EndsDemo}
+
+-- HOW MANY ITEMS a demonstration has
+parts-count : (xs : List ℕ) → length (flat_map part_of xs) ≡ 3 * length xs
+parts-count [] = refl
+parts-count (x ∷ xs) = omega (arith, parts-count xs, length-append (part_of x) (flat_map part_of xs))
+
+day-count : (x : ℕ) → length (day_of x) ≡ 25
+unfolding day_of parts_of
+day-count x = omega (arith, length-append (flat_map part_of (starts 3 PARTS x)) (Run (DAY_SECONDS - total_seconds (flat_map part_of (starts 3 PARTS x))) 0 ∷ []), parts-count (starts 3 PARTS x), length-starts 3 PARTS x)
+
+days-count : (xs : List ℕ) → length (flat_map day_of xs) ≡ 25 * length xs
+days-count [] = refl
+days-count (x ∷ xs) = omega (arith, days-count xs, day-count x, length-append (day_of x) (flat_map day_of xs))
+
+pub items-few : (x : ℕ) → length (demo_items x) ≤ 4294967295
+unfolding days_of
+items-few x = omega (arith, days-count (starts (3 * PARTS) DAYS x), length-starts (3 * PARTS) DAYS x)
+
+-- what is held stays so
+keeps-same : (held : Option (List ℕ)) → Keeps held held
+keeps-same None = tt
+keeps-same (Some bytes) = refl
+
+-- a refusal is an end of `demo`, but none at which all is done
+anew-ends : (fault : AnewFault) → IsDemoEnd (refusal_anew fault)
+anew-ends (Unmade device) = tt
+anew-ends (Kept (run.MediumFault device)) = tt
+anew-ends (Kept (run.BadUnit place)) = tt
+anew-ends (Kept (run.ClockBack kept second)) = tt
+anew-ends (Kept (run.SameCard number)) = tt
+
+anew-refused : (fault : AnewFault) → IsRun (refusal_anew fault) → ⊥
+anew-refused (Unmade device) is = is
+anew-refused (Kept (run.MediumFault device)) is = is
+anew-refused (Kept (run.BadUnit place)) is = is
+anew-refused (Kept (run.ClockBack kept second)) is = is
+anew-refused (Kept (run.SameCard number)) is = is
+
+anew-unchanged : (fault : AnewFault) → refusal_anew fault ≡ Changed → ⊥
+anew-unchanged (Unmade device) is = cc
+anew-unchanged (Kept (run.MediumFault device)) is = cc
+anew-unchanged (Kept (run.BadUnit place)) is = cc
+anew-unchanged (Kept (run.ClockBack kept second)) is = cc
+anew-unchanged (Kept (run.SameCard number)) is = cc
+
+file-ends : (fault : DownloadFault) → IsDemoEnd (refusal_of_file fault)
+file-ends download.Failed = tt
+file-ends (download.BadUnit place) = tt
+file-ends download.Changed = tt
+file-ends download.WriteFault = tt
+file-ends download.Memory = tt
+
+file-refused : (fault : DownloadFault) → IsRun (refusal_of_file fault) → ⊥
+file-refused download.Failed is = is
+file-refused (download.BadUnit place) is = is
+file-refused download.Changed is = is
+file-refused download.WriteFault is = is
+file-refused download.Memory is = is
+
+file-changed : (fault : DownloadFault) → refusal_of_file fault ≡ Changed → fault ≡ download.Changed
+file-changed download.Changed is = refl
+file-changed download.Failed is = absurd (cc)
+file-changed (download.BadUnit place) is = absurd (cc)
+file-changed download.WriteFault is = absurd (cc)
+file-changed download.Memory is = absurd (cc)
+
+-- what was read tells the image that was told before
+same-image : (old new : State) (failed : Bool) → failed ≡ false → ReadsIfAny old new failed → new.image ≡ old.image
+same-image old new failed fine reads = ⊎_elim (λ none. none.1.same) (λ some. some.same fine) reads
+
+-- THE DEVICES WERE NOT MADE NEW, or the trace was kept from being recorded
+pub demo-refused : (seed : ℕ) (old new : Outside) (outcome : Outcome) (fault : AnewFault) → new.sink.held ≡ old.sink.held → ((b : List ℕ) → StartAnew b old new → IsEmpty outcome) → EndsDemo seed old new outcome (refusal_anew fault)
+demo-refused seed old new outcome fault sink empty = record {
+  ends = anew-ends fault;
+  run = λ b starts is. absurd (anew-refused fault is);
+  put_down = λ b starts. inr (empty b starts);
+  printed = λ is. absurd (anew-refused fault (subst IsRun (sym is) tt));
+  front = λ is. absurd (anew-refused fault (subst IsRun (sym is) tt));
+  nothing = λ undone fine. subst (λ (held : Option (List ℕ)). Keeps old.sink.held held) (sym sink) (keeps-same old.sink.held);
+  changed = λ is. absurd (anew-unchanged fault is);
+}
+
+-- what was recorded, and then the unit was read
+recorded-so : (seed : ℕ) (old new : Outside) (outcome : Outcome) (unit : State) (failed : Bool) → ReadsIfAny unit new.unit failed
+    → ((b : List ℕ) → MayBeAnew b (devices_of old) → HaveTime (devices unit new.card_a.memory new.card_b.memory) → EndsAnew (unit_image VEHICLE) (card_image CARD) b FIRST_SECOND (demo_items seed) outcome (devices_of old) (devices unit new.card_a.memory new.card_b.memory))
+    → (b : List ℕ) → StartAnew b old new → IsDemonstrated seed b old new outcome
+recorded-so seed old new outcome unit failed reads recorded b starts =
+    let is = is-read unit new.unit failed reads in
+    anew-read (unit_image VEHICLE) (card_image CARD) b FIRST_SECOND (demo_items seed) outcome (devices_of old) unit new.unit new.card_a.memory new.card_b.memory is
+    (recorded b starts.may (record { unit = omega (arith, starts.clocks.unit, is.clock); card_a = starts.clocks.card_a; card_b = starts.clocks.card_b }))
+
+-- THE UNIT WAS NOT DOWNLOADED
+pub demo-unread : (seed : ℕ) (old new : Outside) (outcome : Outcome) (unit : State) (fault : DownloadFault) → new.sink.held ≡ old.sink.held → ReadsIfAny unit new.unit (has_failed {T = FileSize} (Err fault))
+    → ((b : List ℕ) → MayBeAnew b (devices_of old) → HaveTime (devices unit new.card_a.memory new.card_b.memory) → EndsAnew (unit_image VEHICLE) (card_image CARD) b FIRST_SECOND (demo_items seed) outcome (devices_of old) (devices unit new.card_a.memory new.card_b.memory))
+    → (fault ≡ download.Changed → IfSome unit.image (λ x. IsBytes x → ⊥))
+    → EndsDemo seed old new outcome (refusal_of_file fault)
+demo-unread seed old new outcome unit fault sink reads recorded changed = record {
+  ends = file-ends fault;
+  run = λ b starts is. absurd (file-refused fault is);
+  put_down = λ b starts. inl (recorded-so seed old new outcome unit (has_failed {T = FileSize} (Err fault)) reads recorded b starts);
+  printed = λ is. absurd (file-refused fault (subst IsRun (sym is) tt));
+  front = λ is. absurd (file-refused fault (subst IsRun (sym is) tt));
+  nothing = λ undone fine. subst (λ (held : Option (List ℕ)). Keeps old.sink.held held) (sym sink) (keeps-same old.sink.held);
+  changed = λ is.
+      let of = file-changed fault is in
+      let fine : has_failed {T = FileSize} (Err fault) ≡ false = subst (λ (f : DownloadFault). has_failed {T = FileSize} (Err f) ≡ false) (sym of) refl in
+      subst (λ (image : Option (List ℕ)). IfSome image (λ u. IsBytes u → ⊥)) (sym (same-image unit new.unit (has_failed {T = FileSize} (Err fault)) fine reads)) (changed of);
+}
+
+-- ALL IS DONE, and the seven lines were printed or the sink failed
+pub demo-done : {T : Type 0} (seed : ℕ) (old new : Outside) (outcome : Outcome) (unit : State) (size : FileSize) (r : Result T Fault) → ReadsIfAny unit new.unit false
+    → ((b : List ℕ) → MayBeAnew b (devices_of old) → HaveTime (devices unit new.card_a.memory new.card_b.memory) → EndsAnew (unit_image VEHICLE) (card_image CARD) b FIRST_SECOND (demo_items seed) outcome (devices_of old) (devices unit new.card_a.memory new.card_b.memory))
+    → IfSome unit.image (λ x. IsBytes x → IsSizeOf x size)
+    → OnOk r (Appends old.sink.held new.sink.held (demo_text outcome size))
+    → IfErr r (λ fault. (fault ≡ WriteFault) × AppendsFront old.sink.held new.sink.held (demo_text outcome size))
+    → EndsDemo seed old new outcome (end_of r)
+demo-done seed old new outcome unit size (Ok u) reads recorded measured appends front = record {
+  ends = tt;
+  run = λ b starts is. recorded-so seed old new outcome unit false reads recorded b starts;
+  put_down = λ b starts. inl (recorded-so seed old new outcome unit false reads recorded b starts);
+  printed = λ is. record { size = size; puts = appends; measured = subst (λ (image : Option (List ℕ)). IfSome image (λ x. IsBytes x → IsSizeOf x size)) (sym (same-image unit new.unit false refl reads)) measured };
+  front = λ is. absurd (cc);
+  nothing = λ undone fine. absurd (undone refl);
+  changed = λ is. absurd (cc);
+}
+demo-done seed old new outcome unit size (Err fault) reads recorded measured appends front =
+    subst (λ (f : Fault). EndsDemo seed old new outcome f) (sym front.0) (record {
+      ends = tt;
+      run = λ b starts is. recorded-so seed old new outcome unit false reads recorded b starts;
+      put_down = λ b starts. inl (recorded-so seed old new outcome unit false reads recorded b starts);
+      printed = λ is. absurd (cc);
+      front = λ is. record { size = size; puts = front.1; measured = subst (λ (image : Option (List ℕ)). IfSome image (λ x. IsBytes x → IsSizeOf x size)) (sym (same-image unit new.unit false refl reads)) measured };
+      nothing = λ undone fine. absurd (fine refl);
+      changed = λ is. absurd (cc);
+    })
+
+-- the cause of a failed download
+unread-cause : (old new : Outside) (unit : State) (fault : DownloadFault) (device : Device) → ReadsIfAny unit new.unit (has_failed {T = FileSize} (Err fault)) → refusal_of_file fault ≡ MediumFault device
+    → Rose (memory_of device old).faults (memory_of device new).faults ⊎ ((device ≡ OfUnit) × (0 < new.unit.faults))
+unread-cause old new unit download.Failed device reads is =
+    let same : OfUnit ≡ device = cc in
+    let rose : Rose unit.faults new.unit.faults = ⊎_elim (λ none. absurd (let e = none.0 in cc)) (λ some. some.cause.fault refl) reads in
+    inr (sym same, omega (arith, rose))
+unread-cause old new unit (download.BadUnit place) device reads is = absurd (cc)
+unread-cause old new unit download.Changed device reads is = absurd (cc)
+unread-cause old new unit download.WriteFault device reads is = absurd (cc)
+unread-cause old new unit download.Memory device reads is = absurd (cc)
+
+never-write : (fault : DownloadFault) → refusal_of_file fault ≡ WriteFault → ⊥
+never-write download.Failed is = cc
+never-write (download.BadUnit place) is = cc
+never-write download.Changed is = cc
+never-write download.WriteFault is = cc
+never-write download.Memory is = cc
+
+pub unread-causes : (old new : Outside) (unit : State) (fault : DownloadFault) → ReadsIfAny unit new.unit (has_failed {T = FileSize} (Err fault)) → old.source.faults ≤ new.source.faults → old.sink.faults ≤ new.sink.faults → HasDemoCauses old new (refusal_of_file fault)
+unread-causes old new unit fault reads source sink = record {
+  write_fault = λ is. absurd (never-write fault is);
+  medium_fault = λ device is. unread-cause old new unit fault device reads is;
+  reads = source;
+  writes = sink;
+}
+
+-- a device failed as it was made new, or in the opening
+anew-cause : (old new : Outside) (fault : AnewFault) → IsFailed fault (devices_of old) (devices_of new) → (device : Device) → refusal_anew fault ≡ MediumFault device → Rose (memory_of device old).faults (memory_of device new).faults
+anew-cause old new (Unmade OfUnit) failed device is = let same : OfUnit ≡ device = cc in subst (λ (d : Device). Rose (memory_of d old).faults (memory_of d new).faults) same failed
+anew-cause old new (Unmade CardA) failed device is = let same : CardA ≡ device = cc in subst (λ (d : Device). Rose (memory_of d old).faults (memory_of d new).faults) same failed
+anew-cause old new (Unmade CardB) failed device is = let same : CardB ≡ device = cc in subst (λ (d : Device). Rose (memory_of d old).faults (memory_of d new).faults) same failed
+anew-cause old new (Kept (run.MediumFault OfUnit)) failed device is = let same : OfUnit ≡ device = cc in subst (λ (d : Device). Rose (memory_of d old).faults (memory_of d new).faults) same failed
+anew-cause old new (Kept (run.MediumFault CardA)) failed device is = let same : CardA ≡ device = cc in subst (λ (d : Device). Rose (memory_of d old).faults (memory_of d new).faults) same failed
+anew-cause old new (Kept (run.MediumFault CardB)) failed device is = let same : CardB ≡ device = cc in subst (λ (d : Device). Rose (memory_of d old).faults (memory_of d new).faults) same failed
+anew-cause old new (Kept (run.BadUnit place)) failed device is = absurd (cc)
+anew-cause old new (Kept (run.ClockBack kept second)) failed device is = absurd (cc)
+anew-cause old new (Kept (run.SameCard number)) failed device is = absurd (cc)
+
+pub anew-causes : (old new : Outside) (fault : AnewFault) → IsFailed fault (devices_of old) (devices_of new) → old.source.faults ≤ new.source.faults → old.sink.faults ≤ new.sink.faults → HasDemoCauses old new (refusal_anew fault)
+anew-causes old new fault failed source sink = record {
+  write_fault = λ is. absurd (anew-refused fault (subst IsRun (sym is) tt));
+  medium_fault = λ device is. inl (anew-cause old new fault failed device is);
+  reads = source;
+  writes = sink;
+}
+
+-- there was no memory
+pub memory-causes : (old new : Outside) → old.source.faults ≤ new.source.faults → old.sink.faults ≤ new.sink.faults → HasDemoCauses old new Memory
+memory-causes old new source sink = record { write_fault = λ is. absurd (cc); medium_fault = λ device is. absurd (cc); reads = source; writes = sink }
+
+-- the lines were printed, or the sink failed
+pub printed-causes : {T : Type 0} (old new : Outside) (r : Result T Fault) → IfErr r (λ fault. fault ≡ WriteFault) → IfErr r (λ fault. Rose old.sink.faults new.sink.faults) → old.source.faults ≤ new.source.faults → old.sink.faults ≤ new.sink.faults → HasDemoCauses old new (end_of r)
+printed-causes old new (Ok u) write rose source sink = record { write_fault = λ is. absurd (cc); medium_fault = λ device is. absurd (cc); reads = source; writes = sink }
+printed-causes old new (Err fault) write rose source sink = record { write_fault = λ is. rose; medium_fault = λ device is. absurd (let bad : WriteFault ≡ MediumFault device = sym write ∙ is in cc); reads = source; writes = sink }
+
+-- the first of two facts of a fault
+pub first-of : {T : Type 0} (P Q : Fault → Type 0) (r : Result T Fault) → IfErr r (λ fault. P fault × Q fault) → IfErr r P
+first-of P Q (Ok u) h = tt
+first-of P Q (Err fault) h = h.0
+
+-- what was recorded is the demonstration
+pub as-demo : (seed : ℕ) (x a b : List ℕ) (start : ℕ) (items : List Item) (out : Outcome) (old now : Devices) → a ≡ card_image CARD → start ≡ FIRST_SECOND → items ≡ demo_items seed → EndsAnew x a b start items out old now → EndsAnew x (card_image CARD) b FIRST_SECOND (demo_items seed) out old now
+as-demo seed x a b start items out old now image first all h =
+    subst (λ (l : List Item). EndsAnew x (card_image CARD) b FIRST_SECOND l out old now) all
+    (subst (λ (n : ℕ). EndsAnew x (card_image CARD) b n items out old now) first
+    (subst (λ (l : List ℕ). EndsAnew x l b start items out old now) image h))
+
+-- so the call ends that was asked for it
+pub demo-ends : {T : Type 0} (seed : ℕ) (old new : Outside) (outcome : Outcome) (r : Result T Fault) → EndsDemo seed old new outcome (end_of r) → HasDemoCauses old new (end_of r) → Ends (Some (Demo seed)) old new (ended_by outcome (end_of r))
+demo-ends seed old new outcome (Ok u) ends causes = record {
+  status = refl;
+  usage = (λ is. absurd (cc), λ none. absurd (cc));
+  form = ends;
+  unrecorded = tt;
+  unpassed = refl;
+  causes = causes;
+}
+demo-ends seed old new outcome (Err fault) ends causes = record {
+  status = refl;
+  usage = (λ is. absurd (subst IsDemoEnd is ends.ends), λ none. absurd (cc));
+  form = ends;
+  unrecorded = tt;
+  unpassed = refl;
+  causes = causes;
+}

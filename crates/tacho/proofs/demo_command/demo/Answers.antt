@@ -1,0 +1,49 @@
+use Rattle.std.proofs.Common.{◌≡◌, ◌∙◌, ap, refl, sym, subst, arith}
+use Rattle.std.specs.Prelude.{Err, IfErr}
+use Rattle.tacho.specs.declared.end.Fault.TheVariants.{WriteFault}
+use Rattle.tacho.specs.Outcomes.{IsEmpty}
+use Rattle.tacho.proofs.Formats.{largest-size}
+use Rattle.tacho.proofs.Recordings.{reserved-empty}
+use Rattle.tacho.proofs.Demo.{items-few, demo-refused, demo-unread, demo-done, unread-causes, anew-causes, printed-causes, as-demo, first-of}
+use Rattle.tacho.proofs.demo_command.demo.Goals as goal
+
+pub run_anew-requires-clause-image : goal.run_anew-requires-clause-image
+run_anew-requires-clause-image g c = c.as_slice.ensures.len ∙ c.in-Ok-blank_card.ensures.size ∙ largest-size
+
+pub returns-in-Err-clause-ends : goal.returns-in-Err-clause-ends
+returns-in-Err-clause-ends g c =
+    let e = c.in-Err.ensures in
+    rw c.refusal_anew.ensures
+    (demo-refused c.args.seed _ _ c.run_anew.new.outcome c.in-Err.fault refl
+    (λ b starts. subst IsEmpty (sym (e.nothing b starts.may starts.clocks (rw c.in-Ok.ensures.items (items-few c.args.seed)))) (reserved-empty c.in-Ok.trace.items c.in-Ok-reserve.reserved c.in-Ok-reserve.ensures)))
+
+pub returns-in-Err-measure-clause-ends : goal.returns-in-Err-measure-clause-ends
+returns-in-Err-measure-clause-ends g c =
+    let e = c.in_default-run_anew.ensures in
+    let f = c.in-Err-measure.ensures in
+    rw c.refusal_of_file.ensures
+    (demo-unread c.args.seed _ _ c.run_anew.new.outcome (g.U.Medium.state c.run_anew.new.unit) c.in-Err-measure.fault refl f.unit
+    (λ b may time. as-demo c.args.seed _ c.as_slice.result.now b c.in-Ok.trace.start c.in-Ok.trace.items c.run_anew.new.outcome _ _ (c.as_slice.ensures.value ∙ c.in-Ok-blank_card.ensures.image) c.in-Ok.ensures.start c.in-Ok.ensures.items
+    (e.recorded b may time (rw c.in-Ok.ensures.items (items-few c.args.seed))))
+    (λ is. f.changed (ap Err is)))
+
+pub returns-in-Err-measure-clause-causes : goal.returns-in-Err-measure-clause-causes
+returns-in-Err-measure-clause-causes g c =
+    rw c.refusal_of_file.ensures (unread-causes _ _ (g.U.Medium.state c.run_anew.new.unit) c.in-Err-measure.fault c.in-Err-measure.ensures.unit (omega arith) (omega arith))
+
+pub returns-in-Err-clause-causes : goal.returns-in-Err-clause-causes
+returns-in-Err-clause-causes g c = rw c.refusal_anew.ensures (anew-causes _ _ c.in-Err.fault c.in-Err.ensures.failed (omega arith) (omega arith))
+
+pub returns-clause-causes : goal.returns-clause-causes
+returns-clause-causes g c =
+    let err : IfErr c.print_demo.result (λ fault. fault ≡ WriteFault) = first-of (λ fault. fault ≡ WriteFault) _ c.print_demo.result c.print_demo.ensures.err in
+    printed-causes _ _ c.print_demo.result err c.print_demo.ensures.cause (omega arith) c.print_demo.ensures.counts
+
+pub returns-clause-ends : goal.returns-clause-ends
+returns-clause-ends g c =
+    let e = c.in_default-run_anew.ensures in
+    let f = c.in-Ok-measure.ensures in
+    demo-done c.args.seed _ _ c.run_anew.new.outcome (g.U.Medium.state c.run_anew.new.unit) c.in-Ok-measure.size c.print_demo.result f.unit
+    (λ b may time. as-demo c.args.seed _ c.as_slice.result.now b c.in-Ok.trace.start c.in-Ok.trace.items c.run_anew.new.outcome _ _ (c.as_slice.ensures.value ∙ c.in-Ok-blank_card.ensures.image) c.in-Ok.ensures.start c.in-Ok.ensures.items
+    (e.recorded b may time (rw c.in-Ok.ensures.items (items-few c.args.seed))))
+    f.measured c.print_demo.ensures.ok c.print_demo.ensures.err

@@ -1,0 +1,81 @@
+-- How `demo` ends: a unit and a card are made new, a demonstration is recorded on them, and the unit is downloaded (profile).
+use Rattle.std.specs.Prelude.{◌≡◌, ◌⊎◌, ℕ, List, ◌++◌, codes, IfSome}
+use Rattle.std.specs.Io.KnownBytes.{Appends, Keeps}
+use Rattle.byte_fields.specs.Fields.{IsBytes}
+use Rattle.tach_media.specs.Medium.{State}
+use Rattle.tach_media.specs.Streams.{AppendsFront}
+use Rattle.run_model.specs.declared.Device.TheVariants.{Unit as OfUnit}
+use Rattle.run_keeping.specs.Books.{HaveTime}
+use Rattle.run_outcome.specs.declared.outcome.Outcome.{Outcome}
+use Rattle.unit_download.specs.declared.fault.DownloadFault.{DownloadFault}
+use Rattle.unit_download.specs.declared.fault.DownloadFault.TheVariants as download
+use Rattle.demo_trace.specs.declared.trace.TheConstants.{FIRST_SECOND}
+use Rattle.demo_trace.specs.Demo.{demo_items}
+use Rattle.demo_run.specs.declared.anew.AnewFault.{AnewFault}
+use Rattle.demo_run.specs.declared.anew.AnewFault.TheVariants.{Unmade, Kept}
+use Rattle.demo_run.specs.Anew.{MayBeAnew, EndsAnew}
+use Rattle.demo_file.specs.declared.measuring.FileSize.{FileSize}
+use Rattle.demo_file.specs.Measures.{IsSizeOf}
+use Rattle.tacho.specs.declared.demo_command.TheConstants.{VEHICLE, CARD}
+use Rattle.tacho.specs.declared.end.Fault.{Fault}
+use Rattle.tacho.specs.declared.end.Fault.TheVariants.{Done, Usage, BadTrace, TooLong, BadUnit, ReadFault, WriteFault, MediumFault, Memory, BadFile, BadCard, Changed}
+use Rattle.tacho.specs.Outside.{Outside}
+use Rattle.tacho.specs.Outcomes.{IsEmpty, IsRun, count_line, outcome_text}
+use Rattle.tacho.specs.CardsRecorded.{refusal_with_cards, devices_of}
+use Rattle.tacho.specs.Formatting.{card_image, unit_image}
+
+-- THE SEVEN LINES: those of the outcome, the bytes of the unit's file, and its messages of a day
+abbrev pub demo_text : Outcome → FileSize → List ℕ
+demo_text outcome size = outcome_text outcome ++ (count_line (codes "file") size.bytes ++ count_line (codes "days") size.days)
+
+-- the end where a device failed as it was made new, or the trace was kept from being recorded
+abbrev pub refusal_anew : AnewFault → Fault
+refusal_anew (Unmade device) = MediumFault device
+refusal_anew (Kept fault) = refusal_with_cards fault
+
+-- and where the unit was not downloaded; the file is in memory
+abbrev pub refusal_of_file : DownloadFault → Fault
+refusal_of_file download.Failed = MediumFault OfUnit
+refusal_of_file (download.BadUnit place) = BadUnit place
+refusal_of_file download.Changed = Changed
+refusal_of_file download.WriteFault = Memory
+refusal_of_file download.Memory = Memory
+
+-- how `demo` can end
+abbrev pub IsDemoEnd : Fault → Type 0
+IsDemoEnd Usage = ⊥
+IsDemoEnd (BadTrace n) = ⊥
+IsDemoEnd (TooLong n) = ⊥
+IsDemoEnd ReadFault = ⊥
+IsDemoEnd (BadFile place) = ⊥
+IsDemoEnd (BadCard field) = ⊥
+IsDemoEnd _ = Unit {0}
+
+-- unit and card a tell an image, card b started with this one alone, and no clock has come to its end
+pub record StartAnew (card_b : List ℕ) (old new : Outside) : Type 0 where
+  pub may : MayBeAnew card_b (devices_of old)
+  pub clocks : HaveTime (devices_of new)
+
+-- the demonstration was recorded on a new unit, a new card, and card b with this image
+abbrev pub IsDemonstrated : (seed : ℕ) → (card_b : List ℕ) → (old new : Outside) → Outcome → Type 0
+IsDemonstrated seed card_b old new outcome = EndsAnew (unit_image VEHICLE) (card_image CARD) card_b FIRST_SECOND (demo_items seed) outcome (devices_of old) (devices_of new)
+
+-- the seven lines went out, with the size of the unit's file, where the unit tells its image
+pub record TellsDemo (Puts : List ℕ → Type 0) (outcome : Outcome) (unit : State) : Type 0 where
+  pub size : FileSize
+  pub puts : Puts (demo_text outcome size)
+  pub measured : IfSome unit.image (λ u. IsBytes u → IsSizeOf u size)
+
+-- HOW `demo` ENDS.
+pub record EndsDemo (seed : ℕ) (old new : Outside) (outcome : Outcome) (fault : Fault) : Type 0 where
+  pub ends : IsDemoEnd fault
+  -- THE RUN, where all is done but for what is printed: the crash-safety theorem of a new unit, a new card, and card b.
+  pub run : (card_b : List ℕ) → StartAnew card_b old new → IsRun fault → IsDemonstrated seed card_b old new outcome
+  -- And however it ends, it was recorded so, or nothing is put down.
+  pub put_down : (card_b : List ℕ) → StartAnew card_b old new → IsDemonstrated seed card_b old new outcome ⊎ IsEmpty outcome
+  -- Done: exactly the seven lines were printed; at a write fault a front of them; and else nothing.
+  pub printed : fault ≡ Done → TellsDemo (Appends old.sink.held new.sink.held) outcome new.unit
+  pub front : fault ≡ WriteFault → TellsDemo (AppendsFront old.sink.held new.sink.held) outcome new.unit
+  pub nothing : (fault ≡ Done → ⊥) → (fault ≡ WriteFault → ⊥) → Keeps old.sink.held new.sink.held
+  -- No unit that tells its image, of bytes, gives no answer, or one that the loader refuses.
+  pub changed : fault ≡ Changed → IfSome new.unit.image (λ u. IsBytes u → ⊥)
