@@ -1,5 +1,5 @@
 -- What calls note on the unit, one call after another.
-use Rattle.std.proofs.Common.{◌≡◌, ◌∙◌, ◌⊎◌, inl, inr, ⊎_elim, ℕ, ◌+◌, Bool, true, false, not, nat_eq, Option, Some, None, IfSome, is_some, List, [], ◌∷◌, ◌++◌, length, filter, Contains, refl, ap, sym, subst, arith}
+use Rattle.std.proofs.Common.{◌≡◌, ◌∙◌, ◌⊎◌, inl, inr, ⊎_elim, ℕ, ◌+◌, Bool, true, false, cond, not, nat_eq, Option, Some, None, IfSome, is_some, List, [], ◌∷◌, ◌++◌, length, filter, Contains, refl, ap, sym, subst, arith}
 use Rattle.std.specs.List.{AllByRecursion}
 use Rattle.std.proofs.lemmas.Bool.Decides.{nat_tests}
 use Rattle.trace_model.specs.declared.Card.{Card}
@@ -63,7 +63,7 @@ sure-none log now kind sure (e ∷ es) h = by (nat_eq e.kind kind) refl (sure-no
   where
     by : (b : Bool) → nat_eq e.kind kind ≡ b → by_kind es kind ≡ [] → by_kind (e ∷ es) kind ≡ []
     by true is rest = let same : e.kind ≡ kind = grind (arith, nat_tests) in absurd (h.0 (subst (λ (k : ℕ). are_sure log (now k) ≡ true) (sym same) sure))
-    by false is rest = ap (λ (b : Bool). if b then e ∷ by_kind es kind else by_kind es kind) is ∙ rest
+    by false is rest = ap (λ (b : Bool). cond b (e ∷ by_kind es kind) (by_kind es kind)) is ∙ rest
 
 -- so nothing more is shown
 unsure-shown : (number : Card → List ℕ) (log : RunLog) (now : ℕ → List Event) (es : List Event) (x c : List ℕ) → AreUnsure log now es → ShowsMore number log now (by_kind es) x c → ShowsMore number log now none x c
@@ -85,14 +85,14 @@ quiet-noted U V A B C D same o long (e ∷ es) told c there = absurd told
 pub then-noted : (vs ws : List UnitEvent) (failed : Bool) (d e f : Devices) → NotesEvents vs false d e → NotesEvents ws failed e f → NotesEvents (vs ++ ws) failed d f
 then-noted vs ws failed d e f first later o long es told =
     let parts = split (number_in o) vs ws es told in
-    subst (λ (xs : List Event). NotesSo failed o xs d f) (sym parts.are) (by failed (first o long parts.first parts.first_told) (later o long parts.later parts.later_told))
+    subst (λ (xs : List Event). NotesSo failed o xs d f) (sym parts.are) (by parts.first parts.later failed (first o long parts.first parts.first_told) (later o long parts.later parts.later_told))
   where
-    by : {xs ys : List Event} (b : Bool) → NotesThese o xs d e → NotesSo b o ys e f → NotesSo b o (xs ++ ys) d f
-    by {xs} {ys} false one two c there =
+    by : (xs ys : List Event) (b : Bool) → NotesThese o xs d e → NotesSo b o ys e f → NotesSo b o (xs ++ ys) d f
+    by xs ys false one two = λ c there.
         let mid = two c there in
         let start = one mid.0 mid.1 in
         (start.0, start.1, λ log now. more-then (number_in o) log now xs ys start.0 mid.0 c (start.2 log now) (mid.2 log now))
-    by {xs} {ys} true one two log now unsure c there =
+    by xs ys true one two = λ log now unsure c there.
         let mid = two log now (unsure-back log now xs ys unsure) c there in
         let start = one mid.0 mid.1 in (
           start.0,
@@ -117,12 +117,12 @@ module _ (U V A B C D : State) (notes : List UnitNote) (whole : IsCoherent U) (b
   by-image (Some x) after c is tells = (x, refl)
 
   pub entered-noted : (failed : Bool) → HasNoted IsOnUnit IsComing notes failed U V → V.works ≡ not failed → NotesEvents (events_in notes) failed (devices U A B) (devices V C D)
-  entered-noted false h works o long es told c there =
+  entered-noted false h works o long es told = λ c there.
       let is : V.image ≡ Some c = behind.only c works there in
       let was = by-image U.image V.image c is h.moments.tells in
       let done = subst (λ (q : Option (List ℕ)). IfSome q (λ y. AreDone IsOnUnit notes was.0 y)) is (subst (λ (q : Option (List ℕ)). IfSome q (λ x. IfSome V.image (AreDone IsOnUnit notes x))) was.1 (h.whole refl)) in
       (was.0, whole.is_left was.0 was.1, λ log now. told-shown (number_in o) long log now notes es was.0 c (long-enough was.0 was.1) (tell-told (number_in o) notes es told) done)
-  entered-noted true h works o long es told log now unsure c there =
+  entered-noted true h works o long es told = λ log now unsure c there.
       ⊎_elim
       (λ was. (c, was, same-shown (number_in o) long log now c c refl))
       (λ moment. (moment.0, whole.is_left moment.0 moment.1, told-moment (number_in o) long log now notes es moment.0 c (tell-told (number_in o) notes es told) unsure moment.2))
