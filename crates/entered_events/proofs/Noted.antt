@@ -10,7 +10,8 @@ use Rattle.event_model.specs.Events.{Event}
 use Rattle.event_course.specs.Noted.{are_sure}
 use Rattle.event_course.specs.Shown.{all_kinds, first_on, count_on}
 use Rattle.side_model.specs.Tables.{table_in, AreNoted}
-use Rattle.unit_model.specs.Image.{IsUnit}
+use Rattle.unit_model.specs.declared.layout.TheConstants.{FIRST_OVER, OVER_COUNT}
+use Rattle.unit_model.specs.Image.{IsUnit, number_of}
 use Rattle.unit_notes.specs.declared.unit_event.UnitEvent.{UnitEvent}
 use Rattle.safety_model.specs.Safe.{Devices}
 use Rattle.run_rule.specs.Between.{devices}
@@ -69,8 +70,8 @@ sure-none log now kind sure (e ∷ es) h = by (nat_eq e.kind kind) refl (sure-no
 unsure-shown : (number : Card → List ℕ) (log : RunLog) (now : ℕ → List Event) (es : List Event) (x c : List ℕ) → AreUnsure log now es → ShowsMore number log now (by_kind es) x c → ShowsMore number log now none x c
 unsure-shown number log now es x c unsure h = record {
   tables = λ kind there sure. subst (λ (more : List Event). AreNoted number (table_in kind x) more (table_in kind c)) (sure-none log now kind sure es unsure) (h.tables kind there sure);
-  first_over = λ sure. h.first_over sure ∙ ap (λ (more : List Event). first_on _ more) (sure-none log now OVER_SPEEDING sure es unsure);
-  over_count = λ sure few. h.over_count sure few ∙ ap (λ (more : List Event). count_on _ more) (sure-none log now OVER_SPEEDING sure es unsure);
+  first_over = λ sure. h.first_over sure ∙ ap (λ (more : List Event). first_on (number_of x FIRST_OVER) more) (sure-none log now OVER_SPEEDING sure es unsure);
+  over_count = λ sure few. h.over_count sure few ∙ ap (λ (more : List Event). count_on (number_of x OVER_COUNT) more) (sure-none log now OVER_SPEEDING sure es unsure);
   begins = tt;
 }
 
