@@ -72,8 +72,8 @@ judged-noting e failed old new before after a U V X Y Z whole behind unit works 
     }
 
 -- no card is there: nothing is noted
-same-noted : (U A B : State) → NotesEvents [] false (devices U A B) (devices U A B)
-same-noted U A B = quiet-noted U U A B A B (λ c there. (c, there, record { tables = λ kind at. refl; first_over = refl; over_count = refl }))
+same-noted : (U X Y : State) → NotesEvents [] false (devices U X Y) (devices U X Y)
+same-noted U X Y = quiet-noted U U X Y X Y (λ c there. (c, there, record { tables = λ kind at. refl; first_over = refl; over_count = refl }))
 
-pub none-noting : (slot : Slot) (at : Moment) (speed : ℕ) (run : Run) (out : Outcome) (U A B : State) → NotesAnew None slot at speed false run run out out (devices U A B) (devices U A B)
-none-noting slot at speed run out U A B = (refl, refl, same-noted U A B)
+pub none-noting : (slot : Slot) (at : Moment) (speed : ℕ) (run : Run) (out : Outcome) (U X Y : State) → NotesAnew None slot at speed false run run out out (devices U X Y) (devices U X Y)
+none-noting slot at speed run out U X Y = (refl, refl, same-noted U X Y)
