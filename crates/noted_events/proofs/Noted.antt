@@ -16,7 +16,10 @@ use Rattle.unit_notes.specs.declared.unit_event.UnitEvent.{UnitEvent}
 use Rattle.safety_model.specs.Safe.{Devices}
 use Rattle.run_rule.specs.Between.{devices}
 use Rattle.run_events.specs.Shown.{by_kind, none, ShowsMore, AreNumbers, SaysNothing}
-use Rattle.run_events.proofs.Shows.{more-then, nothing-more}
+use Rattle.run_events.proofs.Shows.{more-then, nothing-more, nothing-but}
+use Rattle.run_events.proofs.Frames.{event-more, event-but}
+use Rattle.unit_notes.specs.Entries.{fault_bytes}
+use Rattle.unit_notes.specs.Noting.{IsEventNoted, IsNotingEvent}
 use Rattle.run_recorded.specs.Origin.{Origin}
 use Rattle.run_evented.specs.Evented.{number_in, NotesMore}
 use Rattle.run_evented.specs.Noting.{NotesThese}
@@ -88,3 +91,49 @@ pub cut-noted : (vs ws : List UnitEvent) (d e : Devices) → NotesEvents vs true
 cut-noted vs ws d e first o long es told log now unsure =
     let parts = split (number_in o) vs ws es told in
     first o long parts.first parts.first_told log now (unsure-front log now parts.first parts.later (subst (AreUnsure log now) parts.are unsure))
+
+-- the other devices do not matter
+pub noted-any : (vs : List UnitEvent) (failed : Bool) (d e f g : Devices) → d.unit ≡ f.unit → e.unit ≡ g.unit → NotesEvents vs failed d e → NotesEvents vs failed f g
+noted-any vs false d e f g first later h o long es told = λ c there.
+    let one = h o long es told c (subst (λ (U : State). U.may_leave c) (sym later) there) in
+    (one.0, subst (λ (U : State). U.may_leave one.0) first one.1, one.2)
+noted-any vs true d e f g first later h o long es told = λ log now unsure c there.
+    let one = h o long es told log now unsure c (subst (λ (U : State). U.may_leave c) (sym later) there) in
+    (one.0, subst (λ (U : State). U.may_leave one.0) first one.1, one.2)
+
+-- nothing was called
+same-says : (x : List ℕ) → SaysNothing x x
+same-says x = record { tables = λ kind there. refl; first_over = refl; over_count = refl }
+
+pub same-noted : (U A B : State) → NotesEvents [] false (devices U A B) (devices U A B)
+same-noted U A B = quiet-noted U U A B A B (λ c there. (c, there, same-says c))
+
+-- ---- one event
+
+module _ (U V A B C D : State) (whole : IsCoherent U) (behind : IsCoherent V) (unit : IsUnit U) (v : UnitEvent) where
+  sized-so : (x : List ℕ) → U.image ≡ Some x → length x ≡ 2485808
+  sized-so x is = let all = whole.sized x is in let size = unit.sized in let none_behind = unit.behind in omega (arith, all, size, none_behind)
+
+  told-image : (image after : Option (List ℕ)) (c : List ℕ) → after ≡ Some c → is_some after ≡ is_some image → (x : List ℕ) × (image ≡ Some x)
+  told-image None after c is tells = absurd (let bad : true ≡ false = sym (ap is_some is) ∙ tells in cc)
+  told-image (Some x) after c is tells = (x, refl)
+
+  pub one-noted : (failed : Bool) → (failed ≡ false → IfSome U.image (λ x. IfSome V.image (IsEventNoted v.kind (fault_bytes v) x))) → LeavesOnly U V (IsNotingEvent v.kind (fault_bytes v)) → V.works ≡ not failed →
+      NotesEvents (v ∷ []) failed (devices U A B) (devices V C D)
+  one-noted failed noted moments works o long [] told = absurd told
+  one-noted failed noted moments works o long (e ∷ f ∷ es) told = absurd told.1
+  one-noted false noted moments works o long (e ∷ []) told = λ c there.
+      let first = told.0 in
+      let is : V.image ≡ Some c = behind.only c works there in
+      let was = told-image U.image V.image c is moments.tells in
+      let done = subst (λ (q : Option (List ℕ)). IfSome q (λ y. IsEventNoted v.kind (fault_bytes v) was.0 y)) is (subst (λ (q : Option (List ℕ)). IfSome q (λ x. IfSome V.image (IsEventNoted v.kind (fault_bytes v) x))) was.1 (noted refl)) in (
+        was.0,
+        whole.is_left was.0 was.1,
+        λ log now. event-more (number_in o) long log now e first.there was.0 c (sized-so was.0 was.1) v first.other first.begin first.end first.is (subst (λ (k : ℕ). IsEventNoted k (fault_bytes v) was.0 c) first.is.kind done),
+      )
+  one-noted true noted moments works o long (e ∷ []) told = λ log now unsure c there.
+      let first = told.0 in
+      ⊎_elim
+      (λ was. (c, was, nothing-more (number_in o) log now c c (same-says c)))
+      (λ moment. (moment.0, whole.is_left moment.0 moment.1, nothing-but (number_in o) log now e.kind moment.0 c (event-but e.kind first.there (fault_bytes v) moment.0 c (subst (λ (k : ℕ). IsNotingEvent k (fault_bytes v) moment.0 c) first.is.kind moment.2)) unsure.0))
+      (moments.now c there)
