@@ -28,7 +28,7 @@ use Rattle.run_keeping.specs.declared.keeper.Keeper.{Keeper}
 use Rattle.run_keeping.specs.declared.keeper.Moment.{Moment}
 use Rattle.run_keeping.specs.Keeping.{Fate, Still, Has, Fell, has_fallen, cabin_by, IsBrought, IsNotingFault, IsFaultNoted}
 use Rattle.run_keeping.specs.Minutes.{Round, Told, Done, told_after, told_by, present_at}
-use Rattle.run_keeping.specs.Faults.{faults_by, round_faults, last_faults, faults_of, TellsFaults, TellsTo, NotesFaults}
+use Rattle.run_keeping.specs.Faults.{SaysTheSame, faults_by, round_faults, last_faults, faults_of, TellsFaults, TellsTo, NotesFaults}
 
 -- ---- nothing is said
 
@@ -37,6 +37,12 @@ same-events x = record { tables = λ kind there. refl; first_over = refl; over_c
 
 nothing-then : (x y c : List ℕ) → SaysNothing x y → SaysNothing y c → SaysNothing x c
 nothing-then x y c a b = record { tables = λ kind there. b.tables kind there ∙ a.tables kind there; first_over = b.first_over ∙ a.first_over; over_count = b.over_count ∙ a.over_count }
+
+the-same : (x : List ℕ) → SaysTheSame x x
+the-same x = (same-events x, refl)
+
+same-then : (x y c : List ℕ) → SaysTheSame x y → SaysTheSame y c → SaysTheSame x c
+same-then x y c a b = (nothing-then x y c a.0 b.0, b.1 ∙ a.1)
 
 but-of : (kind : ℕ) (x c : List ℕ) → SaysNothing x c → SaysNothingBut kind x c
 but-of kind x c a = record { tables = λ other there ne. a.tables other there; first_over = λ ne. a.first_over; over_count = λ ne. a.over_count }
@@ -60,17 +66,17 @@ noted-but front x c noted =
 
 -- ---- faults, one after another
 
-tells-first : (vs : List UnitEvent) (x y c : List ℕ) → SaysNothing x y → TellsFaults vs y c → TellsFaults vs x c
-tells-first [] x y c a h = nothing-then x y c a h
-tells-first (v ∷ vs) x y c a h = (h.0, h.1, nothing-then x y h.0 a h.2, h.3, h.4)
+tells-first : (vs : List UnitEvent) (x y c : List ℕ) → SaysTheSame x y → TellsFaults vs y c → TellsFaults vs x c
+tells-first [] x y c a h = same-then x y c a h
+tells-first (v ∷ vs) x y c a h = (h.0, h.1, same-then x y h.0 a h.2, h.3, h.4)
 
 pub tells-then : (vs ws : List UnitEvent) (x y c : List ℕ) → TellsFaults vs x y → TellsFaults ws y c → TellsFaults (vs ++ ws) x c
 tells-then [] ws x y c a h = tells-first ws x y c a h
 tells-then (v ∷ vs) ws x y c a h = (a.0, a.1, a.2, a.3, tells-then vs ws a.1 y c a.4 h)
 
 tells-but : (vs : List UnitEvent) (x c : List ℕ) → TellsFaults vs x c → SaysNothingBut CARD_FAULT x c
-tells-but [] x c h = but-of CARD_FAULT x c h
-tells-but (v ∷ vs) x c h = but-then CARD_FAULT x h.0 c (but-of CARD_FAULT x h.0 h.2) (but-then CARD_FAULT h.0 h.1 c (noted-but (fault_bytes v) h.0 h.1 h.3) (tells-but vs h.1 c h.4))
+tells-but [] x c h = but-of CARD_FAULT x c h.0
+tells-but (v ∷ vs) x c h = but-then CARD_FAULT x h.0 c (but-of CARD_FAULT x h.0 h.2.0) (but-then CARD_FAULT h.0 h.1 c (noted-but (fault_bytes v) h.0 h.1 h.3) (tells-but vs h.1 c h.4))
 
 both-none : (vs ws : List UnitEvent) → vs ++ ws ≡ [] → (vs ≡ []) × (ws ≡ [])
 both-none [] ws is = (refl, is)
@@ -90,27 +96,27 @@ notes-then vs ws true U V W a b = λ c at.
       (
         (λ none.
             let both = both-none vs ws none in
-            nothing-then x.0 y.0 c (subst (λ (us : List UnitEvent). TellsFaults us x.0 y.0) both.0 x.2) (y.2.0 both.1)),
+            nothing-then x.0 y.0 c (subst (λ (us : List UnitEvent). TellsFaults us x.0 y.0) both.0 x.2).0 (y.2.0 both.1)),
         but-then CARD_FAULT x.0 y.0 c (tells-but vs x.0 y.0 x.2) y.2.1,
       ),
     )
 
 -- A CALL of which no event is told
-says-to : (failed : Bool) (x c : List ℕ) → SaysNothing x c → TellsTo failed [] x c
+says-to : (failed : Bool) (x c : List ℕ) → SaysTheSame x c → TellsTo failed [] x c
 says-to false x c h = h
-says-to true x c h = ((λ none. h), but-of CARD_FAULT x c h)
+says-to true x c h = ((λ none. h.0), but-of CARD_FAULT x c h.0)
 
-pub notes-nothing : (failed : Bool) (U V : State) (R : List ℕ → List ℕ → Type 0) → IsCoherent U → LeavesOnly U V R → ((x c : List ℕ) → R x c → SaysNothing x c) → NotesFaults failed [] U V
-notes-nothing failed U V R whole run none = λ c at. ⊎_elim
-    (λ old. (c, old, says-to failed c c (same-events c)))
-    (λ new. (new.0, whole.is_left new.0 new.1, says-to failed new.0 c (none new.0 c new.2)))
+pub notes-nothing : (failed : Bool) (U V : State) (R : List ℕ → List ℕ → Type 0) → IsCoherent U → IsCoherent V → LeavesOnly U V R → ((x c : List ℕ) → R x c → SaysNothing x c) → NotesFaults failed [] U V
+notes-nothing failed U V R whole behind run none = λ c at. ⊎_elim
+    (λ old. (c, old, says-to failed c c (the-same c)))
+    (λ new. (new.0, whole.is_left new.0 new.1, says-to failed new.0 c (none new.0 c new.2, let late = behind.left_sized c at in let early = whole.sized new.0 new.1 in let a = run.size in let b = run.behind in omega (arith, late, early, a, b))))
     (run.now c at)
 
 pub notes-none : (failed : Bool) (U : State) → NotesFaults failed [] U U
-notes-none failed U = λ c at. (c, at, says-to failed c c (same-events c))
+notes-none failed U = λ c at. (c, at, says-to failed c c (the-same c))
 
 pub notes-failed : (U V : State) → NotesFaults false [] U V → NotesFaults true [] U V
-notes-failed U V h = λ c at. let x = h c at in (x.0, x.1, ((λ none. x.2), but-of CARD_FAULT x.0 c x.2))
+notes-failed U V h = λ c at. let x = h c at in (x.0, x.1, ((λ none. x.2.0), but-of CARD_FAULT x.0 c x.2.0))
 
 pub putting-nothing : (number : List ℕ) (e : Entry) (x c : List ℕ) → IsPutting number e x c → SaysNothing x c
 putting-nothing number e x c h = between-nothing OWED.place OWED.size x c h.outside (omega arith) (omega arith)
@@ -131,13 +137,13 @@ now-in U V R whole run works c at = by U.image refl
 
 pub fate-notes : (fate : Fate) (failed : Bool) (second : ℕ) (cabin : Cabin) (U V : State) → IsCoherent U → IsCoherent V → LeavesOnly U V (IsNotingFault fate second (crew_of cabin)) → V.works ≡ not failed →
     (failed ≡ true → has_fallen fate ≡ true) → (failed ≡ false → IfSome U.image (λ x. IfSome V.image (IsFaultNoted fate second (crew_of cabin) x))) → NotesFaults failed (faults_by fate second cabin) U V
-fate-notes Still failed second cabin U V u v run works only noted = notes-nothing failed U V (IsNotingFault Still second (crew_of cabin)) u run (λ x c r. absurd r)
-fate-notes (Has a n) failed second cabin U V u v run works only noted = notes-nothing failed U V (IsNotingFault (Has a n) second (crew_of cabin)) u run (λ x c r. absurd r)
+fate-notes Still failed second cabin U V u v run works only noted = notes-nothing failed U V (IsNotingFault Still second (crew_of cabin)) u v run (λ x c r. absurd r)
+fate-notes (Has a n) failed second cabin U V u v run works only noted = notes-nothing failed U V (IsNotingFault (Has a n) second (crew_of cabin)) u v run (λ x c r. absurd r)
 fate-notes Fell false second cabin U V u v run works only noted = λ c at.
     let n = now-in U V (IsNotingFault Fell second (crew_of cabin)) v run works c at in
     let one : IfSome V.image (IsFaultNoted Fell second (crew_of cabin) n.0) = subst (λ (q : Option (List ℕ)). IfSome q (λ x. IfSome V.image (IsFaultNoted Fell second (crew_of cabin) x))) n.1 (noted refl) in
     let is : IsFaultNoted Fell second (crew_of cabin) n.0 c = subst (λ (q : Option (List ℕ)). IfSome q (IsFaultNoted Fell second (crew_of cabin) n.0)) n.2 one in
-    (n.0, u.is_left n.0 n.1, (n.0, c, same-events n.0, is, same-events c))
+    (n.0, u.is_left n.0 n.1, (n.0, c, the-same n.0, is, the-same c))
 fate-notes Fell true second cabin U V u v run works only noted = λ c at. ⊎_elim
     (λ old. (c, old, ((λ none. absurd (cc)), but-of CARD_FAULT c c (same-events c))))
     (λ new. (new.0, u.is_left new.0 new.1, ((λ none. absurd (cc)), event-but CARD_FAULT fault-kind _ new.0 c new.2)))

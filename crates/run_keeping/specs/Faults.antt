@@ -1,5 +1,5 @@
 -- The faults that the keeping of minutes notes on the unit, of cards that were torn out (profile).
-use Rattle.std.specs.Prelude.{◌≡◌, ℕ, Bool, true, false, Option, Some, None, List, [], ◌∷◌, ◌++◌}
+use Rattle.std.specs.Prelude.{◌≡◌, ℕ, Bool, true, false, Option, Some, None, List, [], ◌∷◌, ◌++◌, length}
 use Rattle.tach_media.specs.Medium.{State}
 use Rattle.event_model.specs.declared.kinds.TheConstants.{CARD_FAULT}
 use Rattle.unit_notes.specs.declared.unit_event.UnitEvent.{UnitEvent}
@@ -44,10 +44,14 @@ abbrev pub faults_to : Keeper → Moment → Reach → Told → List UnitEvent
 faults_to k at (Whole xs) t = faults_of k at xs t
 faults_to k at (Short xs m round) t = faults_of k at xs t ++ last_faults (present_at k.cabin m.minute) at round (told_by k at xs t).keeper.cabin
 
+-- an image is as long as another, and says the same of events
+abbrev pub SaysTheSame : (x c : List ℕ) → Type 0
+SaysTheSame x c = SaysNothing x c × (length c ≡ length x)
+
 -- AN IMAGE TELLS OF THESE FAULTS more than another, which were noted one after another, and else says the same of events.
 abbrev pub TellsFaults : List UnitEvent → (x c : List ℕ) → Type 0
-TellsFaults [] x c = SaysNothing x c
-TellsFaults (v ∷ vs) x c = (y : List ℕ) × (z : List ℕ) × SaysNothing x y × IsEventNoted CARD_FAULT (fault_bytes v) y z × TellsFaults vs z c
+TellsFaults [] x c = SaysTheSame x c
+TellsFaults (v ∷ vs) x c = (y : List ℕ) × (z : List ℕ) × SaysTheSame x y × IsEventNoted CARD_FAULT (fault_bytes v) y z × TellsFaults vs z c
 
 -- or the unit failed, and a fault may be noted or not: without one the image says the same of events
 abbrev pub TellsTo : (failed : Bool) → List UnitEvent → (x c : List ℕ) → Type 0

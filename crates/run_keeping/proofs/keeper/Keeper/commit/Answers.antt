@@ -130,7 +130,7 @@ returns-in_err-commit-clause-quiet g c =
     let n = c.args.minute.now.odometer.0 in
     subst (λ (b : Bool). NotesFaults b [] U V) failed
     (notes-then [] [] true U U1 V c.in_ok-owe_to.ensures.quiet (notes-then [] [] true U1 U2 V c.in_ok-owe_to-2.ensures.quiet
-    (notes-nothing true U2 V (IsKeeping km n) (g.met.M.Medium.coherent c.owe_to-2.new.unit) c.in_err-commit.ensures.moments (λ x y h. keeping-nothing km n x y h))))
+    (notes-nothing true U2 V (IsKeeping km n) (g.met.M.Medium.coherent c.owe_to-2.new.unit) (g.met.M.Medium.coherent c.commit.new.unit) c.in_err-commit.ensures.moments (λ x y h. keeping-nothing km n x y h))))
 
 pub returns-clause-quiet : goal.returns-clause-quiet
 returns-clause-quiet g c =
@@ -141,4 +141,4 @@ returns-clause-quiet g c =
     let km = kept_minute c.args.minute.now in
     let n = c.args.minute.now.odometer.0 in
     notes-then [] [] false U U1 V c.in_ok-owe_to.ensures.quiet (notes-then [] [] false U1 U2 V c.in_ok-owe_to-2.ensures.quiet
-    (notes-nothing false U2 V (IsKeeping km n) (g.met.M.Medium.coherent c.owe_to-2.new.unit) c.in_ok-commit.ensures.moments (λ x y h. keeping-nothing km n x y h)))
+    (notes-nothing false U2 V (IsKeeping km n) (g.met.M.Medium.coherent c.owe_to-2.new.unit) (g.met.M.Medium.coherent c.commit.new.unit) c.in_ok-commit.ensures.moments (λ x y h. keeping-nothing km n x y h)))

@@ -23,11 +23,11 @@ returns-in-B-clause-booked g c =
 pub returns-in-A-clause-quiet : goal.returns-in-A-clause-quiet
 returns-in-A-clause-quiet g c =
     let number = card_number_bytes c.number_or_zeros-number.result in
-    notes-nothing _ (g.M.Medium.state c.args.unit.now) (g.M.Medium.state c.owe.new.unit) (IsPutting number c.args.entry.now) (g.met.M.Medium.coherent c.args.unit.now) c.owe.ensures.moments
+    notes-nothing _ (g.M.Medium.state c.args.unit.now) (g.M.Medium.state c.owe.new.unit) (IsPutting number c.args.entry.now) (g.met.M.Medium.coherent c.args.unit.now) (g.met.M.Medium.coherent c.owe.new.unit) c.owe.ensures.moments
     (λ x y h. putting-nothing number c.args.entry.now x y h)
 
 pub returns-in-B-clause-quiet : goal.returns-in-B-clause-quiet
 returns-in-B-clause-quiet g c =
     let number = card_number_bytes c.number_or_zeros-number.result in
-    notes-nothing _ (g.M.Medium.state c.args.unit.now) (g.M.Medium.state c.owe-in-B.new.unit) (IsPutting number c.args.entry.now) (g.met.M.Medium.coherent c.args.unit.now) c.owe-in-B.ensures.moments
+    notes-nothing _ (g.M.Medium.state c.args.unit.now) (g.M.Medium.state c.owe-in-B.new.unit) (IsPutting number c.args.entry.now) (g.met.M.Medium.coherent c.args.unit.now) (g.met.M.Medium.coherent c.owe-in-B.new.unit) c.owe-in-B.ensures.moments
     (λ x y h. putting-nothing number c.args.entry.now x y h)
