@@ -15,3 +15,13 @@ pub mod Pulled
 pub mod More
 pub mod Counted
 pub mod Acted
+pub mod CutOff
+pub mod Read
+pub mod Resumed
+pub mod GoingOn
+pub mod Inserted
+pub mod Judged
+pub mod ActsRecorded
+pub mod Waiting
+pub mod SecondsRecorded
+pub mod Promised

@@ -43,6 +43,15 @@ act-rooms run o k actions lit few h =
     let m = h.marks in
     record { marks = omega (arith, f, w, d, m, few); breaks = omega (arith, f, b); finds = omega (arith, f, d, fi) }
 
+-- and for the marks of what a card that is put in was owed
+pub put-room : (run : Run) (o : Outcome) (k actions : ℕ) → run.power ≡ Lit → run.minutes.owing ≤ run.next / 60 → HasRoomWithin run o 1 0 k actions → length o.marks.items + 3 * run.minutes.owing + MOST_OWED ≤ o.marks.room
+put-room run o k actions lit few h =
+    let w = ap (λ (q : Power). waiting q run.minutes.owing) lit in
+    let f = ap (λ (q : Power). cuts_within q run.next) lit in
+    let d = ap (λ (q : Power). finds_due (is_lit q) run.keeper.cabin) lit in
+    let m = h.marks in
+    omega (arith, f, w, d, m, few)
+
 module _ (old new : Run) (before after : Outcome) (k : ℕ) (next : new.next ≡ old.next) (lit : old.power ≡ Lit) (takes : Takes k k 0 old new before after) where
   -- it goes on
   pub room-on : new.power ≡ Lit → old.minutes.owing ≤ old.next / 60 → new.minutes.owing ≤ new.next / 60 → (left offs insertions actions : ℕ) → HasRoomWithin old before (1 + left) offs (k + insertions) (1 + actions) → HasRoomWithin new after (1 + left) offs insertions actions

@@ -117,3 +117,12 @@ abbrev pub AreActed : (has_power : Bool) → (speed number : ℕ) → List Item 
 AreActed has_power speed number [] old new before after = (new ≡ old) × (after ≡ before)
 AreActed has_power speed number (item ∷ items) old new before after = (mid : Run) × (told : Outcome)
     × IsItemActed item has_power (is_lit old.power) (min (number + 1) largest_number) speed old mid before told × AreActed has_power speed (number + 1) items mid new told after
+
+-- no device is called: it is refused, or a selection, or a card is pulled out
+abbrev pub CallsNone : Option SlotFault → Action → Type 0
+CallsNone None (Select slot pick) = Unit {0}
+CallsNone None (Insert slot card) = ⊥
+CallsNone None (Withdraw slot) = ⊥
+CallsNone None (Tear slot) = Unit {0}
+CallsNone None (Place slot ending country region) = ⊥
+CallsNone (Some fault) action = Unit {0}

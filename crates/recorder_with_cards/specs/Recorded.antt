@@ -1,23 +1,17 @@
--- What is recorded of a run with cards, as the functions of its loop say it; and what it promises at its end (profile).
-use Rattle.std.specs.Prelude.{◌≡◌, ◌≤◌, ◌<◌, ◌/◌, ℕ, Bool, true, false, Result, Ok, Err, List, [], ◌∷◌, ◌++◌, length, flat_map}
+-- What is recorded of a run with cards, as the functions of its loop say it (profile).
+use Rattle.std.specs.Prelude.{◌≡◌, ◌+◌, ◌≤◌, ℕ, Bool, true, false, Result, Ok, Err, List, [], ◌∷◌, ◌++◌, length, flat_map}
 use Rattle.trace_model.specs.declared.Action.{Action}
 use Rattle.trace_model.specs.declared.Item.{Item}
 use Rattle.trace_model.specs.declared.Item.TheVariants.{Run as Driven, Off, Act}
-use Rattle.trace_model.specs.Trace.{TraceSecond, driven, seconds_at, seconds_of}
-use Rattle.minute_model.specs.declared.Rule.TheVariants.{Original}
-use Rattle.unit_model.specs.Image.{last_kept}
-use Rattle.safety_model.specs.Recording.{Recording}
-use Rattle.safety_model.specs.Safe.{Devices, MayBegin}
-use Rattle.run_recorded.specs.Ends.{EndsRun}
+use Rattle.trace_model.specs.Trace.{TraceSecond, driven, seconds_at}
+use Rattle.safety_model.specs.Safe.{Devices}
 use Rattle.run_recorded.specs.Origin.{Origin}
 use Rattle.run_keeping.specs.Books.{HaveTime}
-use Rattle.run_opening.specs.Begun.{Begin}
-use Rattle.run_opening.specs.Begun as opening
 use Rattle.run_opening.specs.declared.fault.RunFault.{RunFault}
 use Rattle.run_outcome.specs.declared.outcome.Outcome.{Outcome}
 use Rattle.run_acts.specs.declared.run.Run.{Run}
 use Rattle.run_acts.specs.Going.{largest_number}
-use Rattle.run_acts.specs.Recording.{log_of, RunRecorded, InSecond, IsNow}
+use Rattle.run_acts.specs.Recording.{RunRecorded, InSecond, IsNow}
 
 -- an item's action, where it is one
 abbrev pub action_of : Item → List Action
@@ -60,23 +54,3 @@ RecordsSeconds result seconds speed actions old new before after d e = (o : Orig
 -- AN ITEM, where these actions wait for their second, so few that a line of the outcome can tell their number
 abbrev pub RecordsItem : Result (Unit {0}) RunFault → Item → List Action → (old new : Run) → (before after : Outcome) → (d e : Devices) → Type 0
 RecordsItem result item waiting old new before after d e = (o : Origin) (done : List TraceSecond) → length waiting ≤ largest_number → RunRecorded o done old before d → HaveTime e → HasRun result o (done ++ seconds_at old.next waiting item) new after e
-
--- ---- a whole run
-
--- the recording of a trace on devices with these images, where the run told this
-abbrev pub recording_of : (unit card_a card_b : List ℕ) → (start : ℕ) → List Item → Outcome → Recording
-recording_of unit card_a card_b start items out =
-    record { rule = Original; unit = unit; card_a = card_a; card_b = card_b; trace = seconds_of start items; log = log_of out }
-
--- A TRACE MAY BE TOLD OF THESE DEVICES: each began with its image alone, no count of writes comes to its end, and the number of actions of each
--- second can be told.
-pub record IsTold (unit card_a card_b : List ℕ) (start : ℕ) (items : List Item) (out : Outcome) (began now : Devices) : Type 0 where
-  pub begin : Begin (recording_of unit card_a card_b start items out) began
-  pub time : HaveTime now
-  pub few : length items ≤ largest_number
-
--- WHAT A RUN PROMISES THAT IS RECORDED: it could begin, and all of the crash-safety theorem.
-pub record EndsTrace (r : Recording) (start : ℕ) (out : Outcome) (began now : Devices) : Type 0 where
-  pub may : MayBegin r
-  pub later : last_kept r.unit < start / 60
-  pub ends : EndsRun r out.marks.items began now

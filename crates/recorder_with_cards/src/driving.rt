@@ -1,8 +1,11 @@
 //! Seconds at one speed.
-ghost use Rattle.std.specs.Prelude.{◌≡◌, ℕ, ◌+◌, ◌-◌, ◌%◌, ◌<◌, ◌≤◌, OnOk, length};
-ghost use Rattle.run_acts.specs.Going.{end_of_seconds, IsGoing};
+ghost use Rattle.std.specs.Prelude.{◌≡◌, ℕ, ◌+◌, ◌-◌, ◌%◌, ◌<◌, ◌≤◌, [], OnOk, length};
+ghost use Rattle.run_rule.specs.Between.{devices};
+ghost use Rattle.run_keeping.specs.Books.{HaveTime};
+ghost use Rattle.run_acts.specs.Going.{largest_number, end_of_seconds, IsGoing};
 ghost use Rattle.run_acts.specs.Room.{HasRoom};
-ghost use Rattle.recorder_with_cards.specs.Items.{insertions_in};
+ghost use Rattle.recorder_with_cards.specs.Items.{between, insertions_in};
+ghost use Rattle.recorder_with_cards.specs.Recorded.{actions_in, RecordsSeconds};
 ghost use Rattle.recorder_with_cards.specs.Gone.{HasGone};
 
 use crate::acts::{act_all, number_of};
@@ -33,6 +36,8 @@ pub(crate) fn drive<M: Medium, C: Chip, D: Chip>(
     requires last { to ≤ length items.now }
     requires room { HasRoom run.old outcome.old seconds 0 (insertions_in from to items.now) (to - from) }
     requires unfound { run.old.unfound ≤ length outcome.old.breaks.items }
+    ensures recorded { length (actions_in (between from to items.now)) ≡ to - from → to - from ≤ largest_number → RecordsSeconds result seconds speed (actions_in (between from to items.now)) run.old run.new outcome.old outcome.new (devices (M.state unit.old) (C.state card_a.old) (D.state card_b.old)) (devices (M.state unit.new) (C.state card_a.new) (D.state card_b.new)) }
+    ensures time { HaveTime (devices (M.state unit.new) (C.state card_a.new) (D.state card_b.new)) → HaveTime (devices (M.state unit.old) (C.state card_a.old) (D.state card_b.old)) }
     ensures gone { HasGone result seconds run.old run.new outcome.new (M.state unit.new) (C.card card_a.new) (D.card card_b.new) (C.state card_a.new) (D.state card_b.new) }
     ensures room { (left offs insertions actions : ℕ) → HasRoom run.old outcome.old (seconds + left) offs (insertions_in from to items.now + insertions) (to - from + actions) → OnOk result (HasRoom run.new outcome.new left offs insertions actions) }
 {
@@ -59,6 +64,8 @@ fn drive_on<M: Medium, C: Chip, D: Chip>(
     requires small { run.old.next + seconds ≤ end_of_seconds }
     requires room { HasRoom run.old outcome.old seconds 0 0 0 }
     requires unfound { run.old.unfound ≤ length outcome.old.breaks.items }
+    ensures recorded { RecordsSeconds result seconds speed [] run.old run.new outcome.old outcome.new (devices (M.state unit.old) (C.state card_a.old) (D.state card_b.old)) (devices (M.state unit.new) (C.state card_a.new) (D.state card_b.new)) }
+    ensures time { HaveTime (devices (M.state unit.new) (C.state card_a.new) (D.state card_b.new)) → HaveTime (devices (M.state unit.old) (C.state card_a.old) (D.state card_b.old)) }
     ensures gone { HasGone result seconds run.old run.new outcome.new (M.state unit.new) (C.card card_a.new) (D.card card_b.new) (C.state card_a.new) (D.state card_b.new) }
     ensures room { (left offs insertions actions : ℕ) → HasRoom run.old outcome.old (seconds + left) offs insertions actions → OnOk result (HasRoom run.new outcome.new left offs insertions actions) }
 {
@@ -87,6 +94,8 @@ fn step<M: Medium, C: Chip, D: Chip>(
     requires small { run.old.next + n ≤ end_of_seconds }
     requires room { HasRoom run.old outcome.old n 0 0 0 }
     requires unfound { run.old.unfound ≤ length outcome.old.breaks.items }
+    ensures recorded { RecordsSeconds result n speed [] run.old run.new outcome.old outcome.new (devices (M.state unit.old) (C.state card_a.old) (D.state card_b.old)) (devices (M.state unit.new) (C.state card_a.new) (D.state card_b.new)) }
+    ensures time { HaveTime (devices (M.state unit.new) (C.state card_a.new) (D.state card_b.new)) → HaveTime (devices (M.state unit.old) (C.state card_a.old) (D.state card_b.old)) }
     ensures gone { HasGone result n run.old run.new outcome.new (M.state unit.new) (C.card card_a.new) (D.card card_b.new) (C.state card_a.new) (D.state card_b.new) }
     ensures room { (left offs insertions actions : ℕ) → HasRoom run.old outcome.old (n + left) offs insertions actions → OnOk result (HasRoom run.new outcome.new left offs insertions actions) }
 {

@@ -8,6 +8,10 @@ ghost use Rattle.run_acts.specs.Power.{is_lit, has_power, minute_over};
 ghost use Rattle.run_acts.specs.Going.{end_of_seconds, IsHeld, IsLit, IsAt, IsGoing, IsWithin, IsFoundLater};
 ghost use Rattle.run_acts.specs.Room.{HasRoom, HasRoomWithin, falls_of, bare_seats};
 ghost use Rattle.recorder_with_cards.specs.Waking.{IsAwake, TakesUp, TakesAwake};
+ghost use Rattle.recorder_with_cards.specs.Woken.{ResumesSo, WakesSo};
+ghost use Rattle.recorder_with_cards.specs.Recorded.{BeginsSecond};
+ghost use Rattle.run_outcome.specs.declared.outcome.TheConstants.{MOST_OWED};
+ghost use Rattle.run_rule.specs.Between.{devices};
 
 use crate::accepting::accept_anew;
 use activity_codec::Slot;
@@ -44,6 +48,10 @@ pub(crate) fn begin_second<M: Medium, C: Chip, D: Chip>(
     ensures room { (left offs insertions actions : ℕ) → HasRoom run.old outcome.old (1 + left) offs insertions actions → OnOk result (HasRoomWithin run.new outcome.new (1 + left) offs insertions actions) }
     ensures unfound { OnOk result (run.new.unfound ≤ length outcome.new.breaks.items) }
     ensures unit { IsUnit (M.state unit.new) }
+    ensures recorded { BeginsSecond result speed run.old run.new outcome.old outcome.new (devices (M.state unit.old) (C.state card_a.old) (D.state card_b.old)) (devices (M.state unit.new) (C.state card_a.new) (D.state card_b.new)) }
+    ensures clock { (M.state unit.old).clock ≤ (M.state unit.new).clock }
+    ensures clock_a { (C.state card_a.old).clock ≤ (C.state card_a.new).clock }
+    ensures clock_b { (D.state card_b.old).clock ≤ (D.state card_b.new).clock }
     ensures refused { outcome.new.refused ≡ outcome.old.refused }
 {
     if !run.has_power() {
@@ -78,6 +86,10 @@ fn power_on<M: Medium, C: Chip, D: Chip>(
     ensures takes { TakesAwake run.old run.new outcome.old outcome.new }
     ensures unfound { OnOk result (run.new.unfound ≤ length outcome.new.breaks.items) }
     ensures unit { IsUnit (M.state unit.new) }
+    ensures recorded { length outcome.old.marks.items + MOST_OWED * bare_seats run.old.keeper.cabin.slots.seats ≤ outcome.old.marks.room → WakesSo result speed run.old run.new outcome.old outcome.new (devices (M.state unit.old) (C.state card_a.old) (D.state card_b.old)) (devices (M.state unit.new) (C.state card_a.new) (D.state card_b.new)) }
+    ensures clock { (M.state unit.old).clock ≤ (M.state unit.new).clock }
+    ensures clock_a { (C.state card_a.old).clock ≤ (C.state card_a.new).clock }
+    ensures clock_b { (D.state card_b.old).clock ≤ (D.state card_b.new).clock }
     ensures refused { outcome.new.refused ≡ outcome.old.refused }
 {
     match load(unit) {
@@ -113,6 +125,10 @@ fn found<M: Medium, C: Chip, D: Chip>(
     ensures takes { TakesAwake run.old run.new outcome.old outcome.new }
     ensures unfound { OnOk result (run.new.unfound ≤ length outcome.new.breaks.items) }
     ensures unit { IsUnit (M.state unit.new) }
+    ensures recorded { length outcome.old.marks.items + MOST_OWED * bare_seats run.old.keeper.cabin.slots.seats ≤ outcome.old.marks.room → WakesSo result speed run.old run.new outcome.old outcome.new (devices (M.state unit.old) (C.state card_a.old) (D.state card_b.old)) (devices (M.state unit.new) (C.state card_a.new) (D.state card_b.new)) }
+    ensures clock { (M.state unit.old).clock ≤ (M.state unit.new).clock }
+    ensures clock_a { (C.state card_a.old).clock ≤ (C.state card_a.new).clock }
+    ensures clock_b { (D.state card_b.old).clock ≤ (D.state card_b.new).clock }
     ensures refused { outcome.new.refused ≡ outcome.old.refused }
 {
     let kept = journal.last_kept();
@@ -150,6 +166,10 @@ fn resume<M: Medium, C: Chip, D: Chip>(
     ensures going { OnOk result (IsLit (run.new.next / 60) run.new (M.state unit.new) (C.card card_a.new) (D.card card_b.new) (C.state card_a.new) (D.state card_b.new)) }
     ensures takes { TakesUp run.old run.new outcome.old outcome.new }
     ensures more { length outcome.old.breaks.items ≤ length outcome.new.breaks.items }
+    ensures recorded { length outcome.old.marks.items + MOST_OWED * bare_seats run.old.keeper.cabin.slots.seats ≤ outcome.old.marks.room → ResumesSo journal.kept (is_err result) run.old run.new outcome.old outcome.new (devices (M.state unit.old) (C.state card_a.old) (D.state card_b.old)) (devices (M.state unit.new) (C.state card_a.new) (D.state card_b.new)) }
+    ensures clock { (M.state unit.old).clock ≤ (M.state unit.new).clock }
+    ensures clock_a { (C.state card_a.old).clock ≤ (C.state card_a.new).clock }
+    ensures clock_b { (D.state card_b.old).clock ≤ (D.state card_b.new).clock }
     ensures refused { outcome.new.refused ≡ outcome.old.refused }
     ensures cause { HasCause (M.state unit.old) (M.state unit.new) (is_err result) }
 {

@@ -1,14 +1,18 @@
 //! A run: the seconds of a trace, one after another.
-ghost use Rattle.std.specs.Prelude.{◌≡◌, ℕ, ◌+◌, ◌-◌, ◌<◌, ◌≤◌, ◌^◌, OnOk, IfErr, length, true, false};
+ghost use Rattle.std.specs.Prelude.{◌≡◌, ℕ, ◌+◌, ◌-◌, ◌<◌, ◌≤◌, ◌^◌, List, OnOk, IfErr, length, true, false};
 ghost use Rattle.trace_model.specs.Trace.{item_seconds};
 ghost use Rattle.trace_text.specs.Trace.{IsWellFormed};
 ghost use Rattle.trace_text.specs.Line.{InRange};
 ghost use Rattle.card_layout.specs.declared.files.TheConstants.{LARGEST_IMAGE};
 ghost use Rattle.unit_model.specs.Image.{IsUnit};
 ghost use Rattle.run_outcome.specs.Room.{off_count, IsReserved};
-ghost use Rattle.run_acts.specs.Going.{end_of_seconds, IsGoing};
+ghost use Rattle.run_rule.specs.Between.{devices};
+ghost use Rattle.run_keeping.specs.Books.{HaveTime};
+ghost use Rattle.run_acts.specs.Going.{largest_number, end_of_seconds, IsGoing};
 ghost use Rattle.run_acts.specs.Room.{HasRoom};
-ghost use Rattle.recorder_with_cards.specs.Items.{insertions_in};
+ghost use Rattle.recorder_with_cards.specs.Items.{between, insertions_in};
+ghost use Rattle.recorder_with_cards.specs.Recorded.{actions_in, RecordsItem};
+ghost use Rattle.recorder_with_cards.specs.Ends.{BeginAs, EndsTrace, MayRecord, IsKeptFrom};
 ghost use Rattle.recorder_with_cards.specs.Gone.{first_waiting, has_seconds, HasGone, IsRefusedBy};
 
 use crate::driving::drive;
@@ -38,6 +42,13 @@ pub fn run_trace<U: Medium, C: Chip>(
     requires unit { IsUnit (U.state unit.old) }
     requires card_a { LARGEST_IMAGE ≤ (C.state card_a.old).size }
     requires card_b { LARGEST_IMAGE ≤ (C.state card_b.old).size }
+    // THE CRASH-SAFETY THEOREM: over devices that began with these images alone all is recorded that a run promises.
+    ensures recorded { (x a b : List ℕ) → BeginAs x a b (devices (U.state unit.old) (C.state card_a.old) (C.state card_b.old)) → HaveTime (devices (U.state unit.new) (C.state card_a.new) (C.state card_b.new)) → length trace.now.items ≤ largest_number
+        → OnOk result (EndsTrace x a b trace.now.start trace.now.items outcome.new (devices (U.state unit.old) (C.state card_a.old) (C.state card_b.old)) (devices (U.state unit.new) (C.state card_a.new) (C.state card_b.new))) }
+    // A run that is recorded could begin, and what keeps one from being recorded is in these images, or a call has failed in the opening.
+    ensures begun { (x a b : List ℕ) → BeginAs x a b (devices (U.state unit.old) (C.state card_a.old) (C.state card_b.old)) → OnOk result (MayRecord x a b trace.now.start) }
+    ensures fault { (x a b : List ℕ) → BeginAs x a b (devices (U.state unit.old) (C.state card_a.old) (C.state card_b.old)) → HaveTime (devices (U.state unit.new) (C.state card_a.new) (C.state card_b.new)) → length trace.now.items ≤ largest_number
+        → IfErr result (λ fault. IsKeptFrom x a b trace.now.start (devices (U.state unit.old) (C.state card_a.old) (C.state card_b.old)) (devices (U.state unit.new) (C.state card_a.new) (C.state card_b.new)) fault × (outcome.new ≡ outcome.old)) }
     ensures refused { IfErr result (IsRefusedBy trace.now.start outcome.old outcome.new (U.state unit.old) (U.state unit.new) (C.state card_a.old) (C.state card_a.new) (C.state card_b.old) (C.state card_b.new)) }
     ensures unit { IsUnit (U.state unit.new) }
 {
@@ -92,6 +103,8 @@ fn go_on<M: Medium, C: Chip, D: Chip>(
     requires room { HasRoom run.old outcome.old (item_seconds item) (off_count item) (insertions_in from to items.now) (to - from) }
     requires going { IsGoing run.old (M.state unit.old) (C.card card_a.old) (D.card card_b.old) (C.state card_a.old) (D.state card_b.old) }
     requires unfound { run.old.unfound ≤ length outcome.old.breaks.items }
+    ensures recorded { length (actions_in (between from to items.now)) ≡ to - from → RecordsItem result item (actions_in (between from to items.now)) run.old run.new outcome.old outcome.new (devices (M.state unit.old) (C.state card_a.old) (D.state card_b.old)) (devices (M.state unit.new) (C.state card_a.new) (D.state card_b.new)) }
+    ensures time { HaveTime (devices (M.state unit.new) (C.state card_a.new) (D.state card_b.new)) → HaveTime (devices (M.state unit.old) (C.state card_a.old) (D.state card_b.old)) }
     ensures gone { HasGone result (item_seconds item) run.old run.new outcome.new (M.state unit.new) (C.card card_a.new) (D.card card_b.new) (C.state card_a.new) (D.state card_b.new) }
     ensures idle { OnOk result (has_seconds item ≡ false → (run.new ≡ run.old) × (outcome.new ≡ outcome.old)) }
     ensures room { (left offs insertions actions : ℕ) → HasRoom run.old outcome.old (item_seconds item + left) (off_count item + offs) (insertions_in from to items.now + insertions) (to - from + actions) → OnOk result (has_seconds item ≡ true → HasRoom run.new outcome.new left offs insertions actions) }

@@ -1,6 +1,11 @@
-use Rattle.std.proofs.Common.{◌∙◌, ℕ, sym, subst}
-use Rattle.slot_machine.specs.Calls.{seat_in}
+use Rattle.std.proofs.Common.{◌≡◌, ◌∙◌, ℕ, ◌+◌, ◌*◌, ◌≤◌, Option, Some, sym, subst, arith}
+use Rattle.std.specs.Prelude.{is_err}
+use Rattle.trace_model.specs.declared.Card.{Card}
+use Rattle.safety_model.specs.Safe.{Devices}
+use Rattle.run_rule.specs.Between.{devices}
+use Rattle.slot_machine.specs.Calls.{seat_in, card_in}
 use Rattle.run_acts.specs.Room.{Takes}
+use Rattle.recorder_with_cards.specs.Judged.{JudgesAnew}
 use Rattle.recorder_with_cards.proofs.Goes.{bare-one}
 use Rattle.recorder_with_cards.proofs.accepting.accept_anew.Goals as goal
 
@@ -8,3 +13,15 @@ pub returns-clause-takes : goal.returns-clause-takes
 returns-clause-takes g c =
     let one = bare-one (seat_in c.args.run.now.keeper.cabin.slots.seats c.args.slot) c.in-Some.card (sym c.card.ensures ∙ c.in-Some.is) c.requires.bare in
     subst (λ (n : ℕ). Takes n 0 0 c.args.run.now c.accept_in.new.run c.args.outcome.now c.accept_in.new.outcome) (sym one) c.accept_in.ensures.takes
+
+-- ---- WHAT IS RECORDED
+
+pub returns-clause-recorded : goal.returns-clause-recorded
+returns-clause-recorded g c = λ room.
+    let seat = seat_in c.args.run.now.keeper.cabin.slots.seats c.args.slot in
+    let is : card_in seat ≡ Some c.in-Some.card = sym c.card.ensures ∙ c.in-Some.is in
+    let one = bare-one seat c.in-Some.card is c.requires.bare in
+    let d : Devices = devices (g.M.Medium.state c.args.unit.now) (g.C.Chip.state c.args.card_a.now) (g.D.Chip.state c.args.card_b.now) in
+    let e : Devices = devices (g.M.Medium.state c.accept_in.new.unit) (g.C.Chip.state c.accept_in.new.card_a) (g.D.Chip.state c.accept_in.new.card_b) in
+    subst (λ (q : Option Card). JudgesAnew q c.args.slot c.args.at (is_err c.accept_in.result) c.args.run.now c.accept_in.new.run c.args.outcome.now c.accept_in.new.outcome d e) (sym is)
+    (c.accept_in.ensures.recorded (omega (arith, room, one)))

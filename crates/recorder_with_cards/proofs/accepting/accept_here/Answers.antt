@@ -1,4 +1,4 @@
-use Rattle.std.proofs.Common.{rules, ◌≡◌, ◌∙◌, ⊎_elim, ℕ, ◌+◌, ◌*◌, ◌/◌, ◌<◌, ◌≤◌, Option, Some, None, IfSome, is_some, true, List, length, refl, ap, sym, subst, arith, length-append}
+use Rattle.std.proofs.Common.{rules, ◌≡◌, ◌∙◌, ⊎_elim, ℕ, ◌+◌, ◌*◌, ◌/◌, ◌<◌, ◌≤◌, Bool, true, Option, Some, None, IfSome, is_some, List, length, refl, ap, sym, subst, arith, length-append}
 use Rattle.tach_media.proofs.Runs.{on_ok, ok_gives}
 use Rattle.trace_model.specs.declared.Card.{Card}
 use Rattle.joint_rule.specs.Views.{other}
@@ -18,6 +18,14 @@ use Rattle.run_acts.proofs.Kept.{owing-sum}
 use Rattle.recorder_with_cards.specs.Accepting.{HasEntry}
 use Rattle.recorder_with_cards.proofs.Comes.{comes-of}
 use Rattle.recorder_with_cards.proofs.Goes.{card-or-other, others-session, both-at, other-at, mine-at, both-ready, other-ready, some-gives, entry-more, rows-went, ended-went, few-finds}
+use Rattle.std.specs.Prelude.{is_err}
+use Rattle.tach_media.specs.Medium.{State}
+use Rattle.run_told.specs.Told.{arranged}
+use Rattle.run_entered.specs.Entered.{MayJudge, HasGone, AreSound}
+use Rattle.run_entered.proofs.Whole.{entered-recorded}
+use Rattle.run_acts.specs.declared.run.Run.{Run}
+use Rattle.recorder_with_cards.proofs.Judged.{mine-time, found-by, judged-by}
+use Rattle.recorder_with_cards.proofs.NoSession.{seat-answers}
 use Rattle.recorder_with_cards.proofs.accepting.accept_here.Goals as goal
 
 pub returns-clause-beside : goal.returns-clause-beside
@@ -110,3 +118,44 @@ returns-clause-takes g c =
 
 pub returns-clause-refused : goal.returns-clause-refused
 returns-clause-refused g c = ap (λ (p : Outcome). p.refused) c.accept-answer.ensures.entered.1.left.outcome
+
+-- ---- WHAT IS RECORDED
+
+pub returns-clause-recorded : goal.returns-clause-recorded
+returns-clause-recorded g c = λ room o done s n waits fewer at next time.
+    let run = c.args.run.now in
+    let e = c.args.entering in
+    let h = c.requires.going in
+    let w = c.accept-answer.ensures.entered in
+    let U : State = g.M.Medium.state c.args.unit.now in
+    let V : State = g.M.Medium.state c.accept-answer.new.unit in
+    let X : State = g.C.Chip.state c.args.card.now in
+    let Z : State = g.C.Chip.state c.accept-answer.new.card in
+    let Y : State = g.D.Chip.state c.args.others.now in
+    let new : Run = record run { keeper = c.accept-answer.new.keeper; noted = c.accept-answer.new.noted } in
+    let failed : Bool = is_err c.accept-answer.result in
+    let sits = seat-answers (ungiven_of h.span) run.keeper.cabin e.slot e.which h.cabin c.requires.seat in
+    let may : MayJudge o done s n waits fewer e run.keeper c.args.outcome.now run.unfound run.next run.begun run.minutes U X Y next.goes.within = record {
+      origin = found-by o next.goes.origin;
+      moment = at;
+      last = let second = c.requires.at in let small = c.requires.small in omega (arith, second, small);
+      next_ = next.next;
+      none = next.none;
+      order = next.order;
+      ready = h.ready.unit_ready;
+      seat = c.requires.seat;
+      elsewhere = sits.0;
+      bare = sits.1;
+      room = room;
+    } in
+    let gone : HasGone e failed run.keeper c.accept-answer.new.keeper run.noted c.accept-answer.new.noted c.args.outcome.now c.accept-answer.new.outcome U V X Z Y w.0 =
+    record { entered = w.1; books = w.2; cause = c.accept-answer.ensures.cause; more = c.accept-answer.ensures.more; in_time = c.accept-answer.ensures.in_time } in
+    let sound : AreSound U V X Z = record {
+      time = mine-time e.which V Z Y time;
+      unit_before = g.met.M.Medium.coherent c.args.unit.now;
+      unit_behind = g.met.M.Medium.coherent c.accept-answer.new.unit;
+      card_before = g.met.C.Chip.coherent c.args.card.now;
+      card_behind = g.met.C.Chip.coherent c.accept-answer.new.card;
+    } in
+    judged-by failed o done s n waits fewer run new c.args.outcome.now c.accept-answer.new.outcome (arranged e.which U X Y) (arranged e.which V Z Y) next.goes c.requires.lit (ap (λ (q : Keeper). q.odometer) w.1.left.keeper)
+    (entered-recorded o done s n waits fewer e run.keeper c.args.outcome.now run.unfound run.next run.begun run.minutes U X Y next.goes.within may failed c.accept-answer.new.keeper run.noted c.accept-answer.new.noted c.accept-answer.new.outcome V Z sound w.0 gone)

@@ -1,8 +1,10 @@
-use Rattle.std.proofs.Common.{◌≡◌, ◌∙◌, Bool, true, false, refl, ap, sym, subst}
+use Rattle.std.proofs.Common.{◌≡◌, ◌∙◌, Bool, true, false, length, refl, ap, sym, subst}
 use Rattle.log_model.specs.declared.lines.Refused.{Refused}
 use Rattle.run_outcome.specs.Lines.{Listed}
 use Rattle.run_acts.specs.Power.{is_lit}
 use Rattle.recorder_with_cards.specs.Acting.{IsActed}
+use Rattle.run_rule.specs.Between.{devices}
+use Rattle.recorder_with_cards.proofs.ActsRecorded.{passed-over}
 use Rattle.recorder_with_cards.proofs.Allowed.{lit-refused}
 use Rattle.recorder_with_cards.proofs.acts.act.Goals as goal
 
@@ -35,3 +37,38 @@ returns-clause-acted g c =
     let lit : is_lit run.power ≡ true = sym c.is_lit.ensures ∙ c.if-not-is_lit.false in
     subst (λ (b : Bool). IsActed b (is_lit run.power) c.args.action c.args.begun c.args.speed run c.act_lit.new.run o c.act_lit.new.outcome) (sym c.if-not-has_power.false)
     (subst (λ (l : Bool). IsActed true l c.args.action c.args.begun c.args.speed run c.act_lit.new.run o c.act_lit.new.outcome) (sym lit) c.act_lit.ensures.acted)
+
+-- ---- which devices are called
+
+pub returns-then-not-has_power-clause-still : goal.returns-then-not-has_power-clause-still
+returns-then-not-has_power-clause-still g c = λ none. (refl, refl, refl)
+
+pub returns-then-not-is_lit-clause-still : goal.returns-then-not-is_lit-clause-still
+returns-then-not-is_lit-clause-still g c = λ none. (refl, refl, refl)
+
+pub returns-clause-still : goal.returns-clause-still
+returns-clause-still g c = λ none.
+    let lit : is_lit c.args.run.now.power ≡ true = sym c.is_lit.ensures ∙ c.if-not-is_lit.false in
+    c.act_lit.ensures.still (none c.if-not-has_power.false lit)
+
+-- ---- what is recorded
+
+pub returns-then-not-has_power-clause-recorded : goal.returns-then-not-has_power-clause-recorded
+returns-then-not-has_power-clause-recorded g c = λ power. absurd (let no : false ≡ true = sym c.if-not-has_power.true ∙ power in cc)
+
+pub returns-then-not-is_lit-clause-recorded : goal.returns-then-not-is_lit-clause-recorded
+returns-then-not-is_lit-clause-recorded g c = λ power o done s now front rest are begun in_ time.
+    let dark : is_lit c.args.run.now.power ≡ false = sym c.is_lit.ensures ∙ c.if-not-is_lit.true in
+    passed-over o done s c.args.run.now c.args.outcome.now (devices (g.M.Medium.state c.args.unit.now) (g.C.Chip.state c.args.card_a.now) (g.D.Chip.state c.args.card_b.now)) (length front) c.args.begun dark in_
+
+pub returns-clause-recorded : goal.returns-clause-recorded
+returns-clause-recorded g c = λ power. c.act_lit.ensures.recorded
+
+pub returns-then-not-has_power-clause-time : goal.returns-then-not-has_power-clause-time
+returns-then-not-has_power-clause-time g c = λ h. h
+
+pub returns-then-not-is_lit-clause-time : goal.returns-then-not-is_lit-clause-time
+returns-then-not-is_lit-clause-time g c = λ h. h
+
+pub returns-clause-time : goal.returns-clause-time
+returns-clause-time g c = c.act_lit.ensures.time

@@ -1,9 +1,14 @@
-use Rattle.std.proofs.Common.{◌≡◌, ◌∙◌, ℕ, ◌+◌, ap, sym, subst}
+use Rattle.std.proofs.Common.{◌≡◌, ◌∙◌, ℕ, ◌+◌, List, true, false, refl, ap, sym, subst}
 use Rattle.run_outcome.specs.Room.{insertion_count}
 use Rattle.run_acts.specs.Room.{HasRoomWithin}
+use Rattle.trace_model.specs.declared.Action.{Action}
 use Rattle.trace_model.specs.declared.Item.{Item}
 use Rattle.run_acts.specs.Power.{is_lit}
 use Rattle.recorder_with_cards.specs.Acting.{IsItemActed}
+use Rattle.run_rule.specs.Between.{devices}
+use Rattle.safety_model.specs.Safe.{Devices}
+use Rattle.recorder_with_cards.specs.Recorded.{action_of, RecordsActions}
+use Rattle.recorder_with_cards.proofs.ActsRecorded.{no-action}
 use Rattle.recorder_with_cards.proofs.Allowed.{count-is}
 use Rattle.recorder_with_cards.proofs.acts.act_item.Goals as goal
 
@@ -16,3 +21,27 @@ pub returns-in-Act-clause-acted : goal.returns-in-Act-clause-acted
 returns-in-Act-clause-acted g c =
     let run = c.args.run.now in
     subst (λ (i : Item). IsItemActed i c.args.has_power (is_lit run.power) c.args.begun c.args.speed run c.act.new.run c.args.outcome.now c.act.new.outcome) (sym c.in-Act.is) c.act.ensures.acted
+
+-- ---- what is recorded
+
+pub returns-in-Act-clause-recorded : goal.returns-in-Act-clause-recorded
+returns-in-Act-clause-recorded g c = λ power.
+    subst (λ (xs : List Action). RecordsActions xs c.args.begun c.args.speed c.args.run.now c.act.new.run c.args.outcome.now c.act.new.outcome (devices (g.M.Medium.state c.args.unit.now) (g.C.Chip.state c.args.card_a.now) (g.D.Chip.state c.args.card_b.now)) (devices (g.M.Medium.state c.act.new.unit) (g.C.Chip.state c.act.new.card_a) (g.D.Chip.state c.act.new.card_b))) (sym (ap action_of c.in-Act.is)) (c.act.ensures.recorded power)
+
+pub returns-in-Act-clause-still : goal.returns-in-Act-clause-still
+returns-in-Act-clause-still g c = λ dark.
+    let same = c.act.ensures.still (λ power lit. absurd (let no : false ≡ true = sym dark ∙ lit in cc)) in
+    (c.act.ensures.dark dark, same.0, same.1, same.2)
+
+pub returns-in-Run-clause-recorded : goal.returns-in-Run-clause-recorded
+returns-in-Run-clause-recorded g c = λ power.
+    let d : Devices = devices (g.M.Medium.state c.args.unit.now) (g.C.Chip.state c.args.card_a.now) (g.D.Chip.state c.args.card_b.now) in
+    subst (λ (xs : List Action). RecordsActions xs c.args.begun c.args.speed c.args.run.now c.args.run.now c.args.outcome.now c.args.outcome.now d d) (sym (ap action_of c.in-Run.is)) (no-action c.args.begun c.args.speed c.args.run.now c.args.outcome.now d)
+
+pub returns-in-Off-clause-recorded : goal.returns-in-Off-clause-recorded
+returns-in-Off-clause-recorded g c = λ power.
+    let d : Devices = devices (g.M.Medium.state c.args.unit.now) (g.C.Chip.state c.args.card_a.now) (g.D.Chip.state c.args.card_b.now) in
+    subst (λ (xs : List Action). RecordsActions xs c.args.begun c.args.speed c.args.run.now c.args.run.now c.args.outcome.now c.args.outcome.now d d) (sym (ap action_of c.in-Off.is)) (no-action c.args.begun c.args.speed c.args.run.now c.args.outcome.now d)
+
+pub returns-in-Act-clause-time : goal.returns-in-Act-clause-time
+returns-in-Act-clause-time g c = c.act.ensures.time

@@ -1,7 +1,10 @@
-use Rattle.std.proofs.Common.{rules, ◌≡◌, ◌∙◌, ℕ, ◌+◌, ◌/◌, ◌<◌, ◌≤◌, ◌∷◌, [], Bool, true, false, Option, None, length, refl, ap, sym, subst, arith}
+use Rattle.std.proofs.Common.{rules, ◌≡◌, ◌∙◌, ℕ, ◌+◌, ◌/◌, ◌<◌, ◌≤◌, ◌∷◌, [], ◌++◌, List, Bool, true, false, Option, None, length, refl, ap, sym, subst, arith}
 use Rattle.std.proofs.lemmas.Grind.{common_steps}
-use Rattle.std.specs.Prelude.{is_err}
+use Rattle.std.specs.Prelude.{is_err, suc}
 use Rattle.tach_media.proofs.Runs.{ok_gives}
+use Rattle.trace_model.specs.declared.Action.{Action}
+use Rattle.trace_model.specs.Trace.{TraceSecond}
+use Rattle.log_model.specs.Log.{In}
 use Rattle.log_model.specs.declared.lines.Break.{Break}
 use Rattle.log_model.specs.declared.lines.Refused.{Refused}
 use Rattle.log_model.specs.declared.lines.SlotFault.{SlotFault}
@@ -10,14 +13,18 @@ use Rattle.slot_machine.specs.Calls.{logged}
 use Rattle.run_outcome.specs.declared.outcome.Outcome.{Outcome}
 use Rattle.run_outcome.specs.Lines.{Listed, cut_at}
 use Rattle.run_keeping.proofs.Counts.{lines-length}
+use Rattle.run_rule.specs.Between.{devices}
+use Rattle.safety_model.specs.Safe.{Devices}
 use Rattle.run_acts.specs.declared.run.Run.{Run}
 use Rattle.run_acts.specs.declared.run.Power.{Power}
 use Rattle.run_acts.specs.Power.{is_lit}
+use Rattle.run_acts.specs.Recording.{InSecond, RunWithin, GoesOnOrCut}
 use Rattle.run_acts.specs.Going.{IsAt}
 use Rattle.run_acts.specs.Room.{falls_of}
 use Rattle.run_acts.proofs.Standing.{cut-at}
 use Rattle.run_acts.proofs.Torn.{cut-falls}
-use Rattle.recorder_with_cards.specs.Acting.{put_count, moment_of, IsDone, IsActedBy}
+use Rattle.recorder_with_cards.specs.Acting.{put_count, moment_of, IsDone, IsActedBy, CallsNone}
+use Rattle.recorder_with_cards.proofs.ActsRecorded.{as-lit, lit-in, cut-in, refused, cut, left}
 use Rattle.recorder_with_cards.proofs.Allowed.{fine-selected}
 use Rattle.recorder_with_cards.proofs.Rooms.{few-wait, room-cut}
 use Rattle.recorder_with_cards.proofs.acts.act_lit.Goals as goal
@@ -106,3 +113,75 @@ returns-else-is_err-clause-acted g c =
       run = refl;
       outcome = refl;
     })
+
+-- ---- which devices are called
+
+pub returns-in-Err-clause-still : goal.returns-in-Err-clause-still
+returns-in-Err-clause-still g c = λ none. (refl, refl, refl)
+
+pub returns-then-is_err-clause-still : goal.returns-then-is_err-clause-still
+returns-then-is_err-clause-still g c =
+    let allowed : refusal (logged c.args.run.now.keeper.cabin.slots.seats) c.args.speed c.args.action ≡ None = first_of (search rules, grind (arith, common_steps)) in λ none.
+    c.carry_out.ensures.still (subst (λ (r : Option SlotFault). CallsNone r c.args.action) allowed none)
+
+pub returns-else-is_err-clause-still : goal.returns-else-is_err-clause-still
+returns-else-is_err-clause-still g c =
+    let allowed : refusal (logged c.args.run.now.keeper.cabin.slots.seats) c.args.speed c.args.action ≡ None = first_of (search rules, grind (arith, common_steps)) in λ none.
+    c.carry_out.ensures.still (subst (λ (r : Option SlotFault). CallsNone r c.args.action) allowed none)
+
+-- ---- what is recorded
+
+pub returns-in-Err-clause-recorded : goal.returns-in-Err-clause-recorded
+returns-in-Err-clause-recorded g c = λ o done s now front rest are begun in_ time.
+    let here : suc (length front) ≡ c.args.begun = omega (arith, begun) in
+    let run = c.args.run.now in
+    let out = c.args.outcome.now in
+    let d : Devices = devices (g.M.Medium.state c.args.unit.now) (g.C.Chip.state c.args.card_a.now) (g.D.Chip.state c.args.card_b.now) in
+    let told : Outcome = record out { refused = c.refuse.new.refused } in
+    let h = as-lit o done s run out d (length front) (ap is_lit c.requires.lit) in_ in
+    lit-in o done s run told d c.args.begun
+    (subst (λ (n : ℕ). RunWithin o done s (In n) [] [] run told d) here
+    (refused o done s c.args.speed run out d now front c.args.action rest are h c.in-Err.fault (sym c.in-Err.ensures) told (ap (λ (l : Listed Refused). record out { refused = l }) c.refuse.ensures)))
+
+pub returns-then-is_err-clause-recorded : goal.returns-then-is_err-clause-recorded
+returns-then-is_err-clause-recorded g c =
+    let allowed : refusal (logged c.args.run.now.keeper.cabin.slots.seats) c.args.speed c.args.action ≡ None = first_of (search rules, grind (arith, common_steps)) in
+    λ o done s now front rest are begun in_ time.
+    let run = c.args.run.now in
+    let out = c.args.outcome.now in
+    let mid : Run = c.carry_out.new.run in
+    let told : Outcome = c.carry_out.new.outcome in
+    let d : Devices = devices (g.M.Medium.state c.args.unit.now) (g.C.Chip.state c.args.card_a.now) (g.D.Chip.state c.args.card_b.now) in
+    let e : Devices = devices (g.M.Medium.state c.carry_out.new.unit) (g.C.Chip.state c.carry_out.new.card_a) (g.D.Chip.state c.carry_out.new.card_b) in
+    let failed : is_err c.carry_out.result ≡ true = sym c.is_err.ensures.value ∙ c.if-is_err.true in
+    let here : c.args.begun ≡ suc (length front) = omega (arith, begun) in
+    let h = as-lit o done s run out d (length front) (ap is_lit c.requires.lit) in_ in
+    let fails = subst (λ (b : Bool). GoesOnOrCut b o done s (In c.args.begun) [] mid told e) failed (c.carry_out.ensures.recorded o done s now front rest are here allowed h time) in
+    let after : Outcome = record told { breaks = c.cut.new.breaks } in
+    cut-in o done s c.cut.new.self after e c.args.begun
+    (cut o done s c.args.begun rest mid c.cut.new.self told after e h.origin (now.number ∙ sym c.carry_out.ensures.stays.next) (left front rest c.args.action s here are) fails c.cut.ensures.run (ap (λ (l : Listed Break). record told { breaks = l }) c.cut.ensures.breaks))
+
+pub returns-else-is_err-clause-recorded : goal.returns-else-is_err-clause-recorded
+returns-else-is_err-clause-recorded g c =
+    let allowed : refusal (logged c.args.run.now.keeper.cabin.slots.seats) c.args.speed c.args.action ≡ None = first_of (search rules, grind (arith, common_steps)) in
+    λ o done s now front rest are begun in_ time.
+    let run = c.args.run.now in
+    let out = c.args.outcome.now in
+    let mid : Run = c.carry_out.new.run in
+    let told : Outcome = c.carry_out.new.outcome in
+    let d : Devices = devices (g.M.Medium.state c.args.unit.now) (g.C.Chip.state c.args.card_a.now) (g.D.Chip.state c.args.card_b.now) in
+    let e : Devices = devices (g.M.Medium.state c.carry_out.new.unit) (g.C.Chip.state c.carry_out.new.card_a) (g.D.Chip.state c.carry_out.new.card_b) in
+    let well : is_err c.carry_out.result ≡ false = sym c.is_err.ensures.value ∙ c.if-is_err.false in
+    let here : c.args.begun ≡ suc (length front) = omega (arith, begun) in
+    let h = as-lit o done s run out d (length front) (ap is_lit c.requires.lit) in_ in
+    lit-in o done s mid told e c.args.begun
+    (subst (λ (b : Bool). GoesOnOrCut b o done s (In c.args.begun) [] mid told e) well (c.carry_out.ensures.recorded o done s now front rest are here allowed h time))
+
+pub returns-in-Err-clause-time : goal.returns-in-Err-clause-time
+returns-in-Err-clause-time g c = λ h. h
+
+pub returns-then-is_err-clause-time : goal.returns-then-is_err-clause-time
+returns-then-is_err-clause-time g c = c.carry_out.ensures.time
+
+pub returns-else-is_err-clause-time : goal.returns-else-is_err-clause-time
+returns-else-is_err-clause-time g c = c.carry_out.ensures.time

@@ -1,8 +1,8 @@
-use Rattle.std.proofs.Common.{◌≡◌, ◌∙◌, ℕ, ◌/◌, ◌≤◌, false, Option, Some, None, refl, ap, sym, subst, arith}
-use Rattle.std.specs.Prelude.{is_err}
+use Rattle.std.proofs.Common.{◌≡◌, ◌∙◌, ℕ, ◌/◌, ◌≤◌, true, false, List, [], length, Option, Some, None, refl, ap, sym, subst, arith}
+use Rattle.std.specs.Prelude.{is_err, suc}
 use Rattle.trace_model.specs.declared.Card.{Card}
 use Rattle.trace_model.specs.declared.Action.{Action}
-use Rattle.trace_model.specs.declared.Action.TheVariants.{Insert, Withdraw, Tear, Place}
+use Rattle.trace_model.specs.declared.Action.TheVariants.{Select, Insert, Withdraw, Tear, Place}
 use Rattle.log_model.specs.Slots.{refusal}
 use Rattle.log_model.specs.declared.lines.Break.{Break}
 use Rattle.slot_machine.specs.Calls.{logged, seat_in, card_in}
@@ -15,7 +15,17 @@ use Rattle.run_acts.specs.Power.{is_lit}
 use Rattle.run_acts.specs.Going.{IsHeld, IsLit}
 use Rattle.run_acts.specs.Room.{Takes}
 use Rattle.run_acts.specs.Acting.{pulled_run}
-use Rattle.recorder_with_cards.specs.Acting.{put_count, StaysIn, moment_of, IsDone}
+use Rattle.recorder_with_cards.specs.Acting.{put_count, StaysIn, moment_of, IsDone, CallsNone}
+use Rattle.recorder_with_cards.proofs.ActsRecorded.{selected}
+use Rattle.recorder_with_cards.proofs.Rooms.{few-wait, put-room}
+use Rattle.run_acts.proofs.Pulled.{pulled-recorded}
+use Rattle.run_acts.specs.Acting.{pulled_breaks}
+use Rattle.run_acts.specs.Recording.{RunWithin, RecordsAction}
+use Rattle.run_keeping.proofs.DecidedBooked.{time-before}
+use Rattle.run_keeping.specs.Keeping.{with_lines}
+use Rattle.run_rule.specs.Between.{devices}
+use Rattle.safety_model.specs.Safe.{Devices}
+use Rattle.log_model.specs.Log.{In}
 use Rattle.recorder_with_cards.proofs.Allowed.{insert-elsewhere}
 use Rattle.recorder_with_cards.proofs.Picked.{picked-going}
 use Rattle.recorder_with_cards.proofs.Pulled.{pulled-stays, pulled-held, pulled-going, pulled-takes}
@@ -110,3 +120,95 @@ returns-in-Place-clause-done g c =
     let placed = c.note_place.ensures.placed in
     subst (λ (a : Action). IsDone a (moment_of c.args.begun run) c.args.speed (is_err c.note_place.result) run c.note_place.new.run o after) (sym c.in-Place.is)
     (subst (λ (m : Moment). IsDone (Place c.in-Place.slot c.in-Place.ending c.in-Place.country c.in-Place.region) m c.args.speed (is_err c.note_place.result) run c.note_place.new.run o after) c.moment-at.ensures (placed.0, placed.1, refl))
+
+-- ---- which devices are called
+
+pub returns-in-Insert-clause-still : goal.returns-in-Insert-clause-still
+returns-in-Insert-clause-still g c = λ none. absurd (subst (CallsNone None) c.in-Insert.is none)
+
+pub returns-in-Withdraw-clause-still : goal.returns-in-Withdraw-clause-still
+returns-in-Withdraw-clause-still g c = λ none. absurd (subst (CallsNone None) c.in-Withdraw.is none)
+
+pub returns-in-Place-clause-still : goal.returns-in-Place-clause-still
+returns-in-Place-clause-still g c = λ none. absurd (subst (CallsNone None) c.in-Place.is none)
+
+pub returns-in-Select-clause-still : goal.returns-in-Select-clause-still
+returns-in-Select-clause-still g c = λ none. (refl, refl, refl)
+
+pub returns-in-Tear-clause-still : goal.returns-in-Tear-clause-still
+returns-in-Tear-clause-still g c = λ none. (refl, refl, refl)
+
+-- ---- what is recorded
+
+pub returns-in-Select-clause-recorded : goal.returns-in-Select-clause-recorded
+returns-in-Select-clause-recorded g c = λ o done s now front rest are begun allowed h time.
+    let run = c.args.run.now in
+    let out = c.args.outcome.now in
+    let new : Run = record run { minutes = c.select.new.self } in
+    let d : Devices = devices (g.M.Medium.state c.args.unit.now) (g.C.Chip.state c.args.card_a.now) (g.D.Chip.state c.args.card_b.now) in
+    subst (λ (n : ℕ). RunWithin o done s (In n) [] [] new out d) (sym begun)
+    (selected o done s c.args.speed run out d now front c.args.action rest are h c.in-Select.slot c.in-Select.pick c.in-Select.is allowed new (refl, c.select.ensures.picked))
+
+pub returns-in-Tear-clause-recorded : goal.returns-in-Tear-clause-recorded
+returns-in-Tear-clause-recorded g c =
+    let run = c.args.run.now in
+    let o = c.args.outcome.now in
+    let d : Devices = devices (g.M.Medium.state c.args.unit.now) (g.C.Chip.state c.args.card_a.now) (g.D.Chip.state c.args.card_b.now) in
+    let lit = c.requires.going.lit (ap is_lit c.requires.lit) in
+    let card = card_in (seat_in run.keeper.cabin.slots.seats c.in-Tear.slot) in
+    let told : c.pull.new.breaks ≡ with_lines (pulled_breaks card c.in-Tear.slot (moment_of c.args.begun run)) o.breaks = c.pull.ensures.breaks ∙ ap (λ (m : Moment). with_lines (pulled_breaks card c.in-Tear.slot m) o.breaks) c.moment-at.ensures in
+    let is : c.pull.new.run ≡ pulled_run card run.next run = c.pull.ensures.run ∙ ap (λ (m : Moment). pulled_run card m.second run) c.moment-at.ensures in
+    subst (λ (a : Action). RecordsAction a c.args.begun c.args.speed false run c.pull.new.run o (record o { breaks = c.pull.new.breaks }) d d) (sym c.in-Tear.is)
+    (subst (λ (r : Run). RecordsAction (Tear c.in-Tear.slot) c.args.begun c.args.speed false run r o (record o { breaks = c.pull.new.breaks }) d d) (sym is)
+    (subst (λ (l : Listed Break). RecordsAction (Tear c.in-Tear.slot) c.args.begun c.args.speed false run (pulled_run card run.next run) o (record o { breaks = l }) d d) (sym told)
+    (pulled-recorded d c.in-Tear.slot c.args.begun c.args.speed run o _ lit.cabin)))
+
+pub returns-in-Insert-clause-recorded : goal.returns-in-Insert-clause-recorded
+returns-in-Insert-clause-recorded g c =
+    let run = c.args.run.now in
+    let o = c.args.outcome.now in
+    let d : Devices = devices (g.M.Medium.state c.args.unit.now) (g.C.Chip.state c.args.card_a.now) (g.D.Chip.state c.args.card_b.now) in
+    let e : Devices = devices (g.M.Medium.state c.insert.new.unit) (g.C.Chip.state c.insert.new.card_a) (g.D.Chip.state c.insert.new.card_b) in
+    let late = ap (λ (m : Moment). m.late) c.moment-at.ensures in
+    let lit = c.requires.going.lit (ap is_lit c.requires.lit) in
+    let room = put-room run o (put_count c.args.action) 0 c.requires.lit (few-wait (run.next / 60) run lit) c.requires.room in
+    subst (λ (a : Action). RecordsAction a c.args.begun c.args.speed (is_err c.insert.result) run c.insert.new.run o c.insert.new.outcome d e) (sym c.in-Insert.is)
+    (subst (λ (n : ℕ). RecordsAction (Insert c.in-Insert.slot c.in-Insert.card) n c.args.speed (is_err c.insert.result) run c.insert.new.run o c.insert.new.outcome d e) (ap (λ (m : Moment). m.begun) c.moment-at.ensures)
+    (c.insert.ensures.recorded late room))
+
+pub returns-in-Withdraw-clause-recorded : goal.returns-in-Withdraw-clause-recorded
+returns-in-Withdraw-clause-recorded g c =
+    let run = c.args.run.now in
+    let o = c.args.outcome.now in
+    let d : Devices = devices (g.M.Medium.state c.args.unit.now) (g.C.Chip.state c.args.card_a.now) (g.D.Chip.state c.args.card_b.now) in
+    let e : Devices = devices (g.M.Medium.state c.withdraw.new.unit) (g.C.Chip.state c.withdraw.new.card_a) (g.D.Chip.state c.withdraw.new.card_b) in
+    let late = ap (λ (m : Moment). m.late) c.moment-at.ensures in
+    subst (λ (a : Action). RecordsAction a c.args.begun c.args.speed (is_err c.withdraw.result) run c.withdraw.new.run o c.withdraw.new.outcome d e) (sym c.in-Withdraw.is)
+    (subst (λ (n : ℕ). RecordsAction (Withdraw c.in-Withdraw.slot) n c.args.speed (is_err c.withdraw.result) run c.withdraw.new.run o c.withdraw.new.outcome d e) (ap (λ (m : Moment). m.begun) c.moment-at.ensures)
+    (c.withdraw.ensures.recorded late c.args.speed))
+
+pub returns-in-Place-clause-recorded : goal.returns-in-Place-clause-recorded
+returns-in-Place-clause-recorded g c =
+    let run = c.args.run.now in
+    let o = c.args.outcome.now in
+    let d : Devices = devices (g.M.Medium.state c.args.unit.now) (g.C.Chip.state c.args.card_a.now) (g.D.Chip.state c.args.card_b.now) in
+    let e : Devices = devices (g.M.Medium.state c.note_place.new.unit) (g.C.Chip.state c.note_place.new.card_a) (g.D.Chip.state c.note_place.new.card_b) in
+    let late = ap (λ (m : Moment). m.late) c.moment-at.ensures in
+    subst (λ (a : Action). RecordsAction a c.args.begun c.args.speed (is_err c.note_place.result) run c.note_place.new.run o (record o { breaks = c.note_place.new.breaks }) d e) (sym c.in-Place.is)
+    (subst (λ (n : ℕ). RecordsAction (Place c.in-Place.slot c.in-Place.ending c.in-Place.country c.in-Place.region) n c.args.speed (is_err c.note_place.result) run c.note_place.new.run o (record o { breaks = c.note_place.new.breaks }) d e) (ap (λ (m : Moment). m.begun) c.moment-at.ensures)
+    (c.note_place.ensures.recorded late c.in-Place.ending c.in-Place.country c.in-Place.region c.args.speed o refl))
+
+pub returns-in-Insert-clause-time : goal.returns-in-Insert-clause-time
+returns-in-Insert-clause-time g c = time-before (devices (g.M.Medium.state c.args.unit.now) (g.C.Chip.state c.args.card_a.now) (g.D.Chip.state c.args.card_b.now)) (devices (g.M.Medium.state c.insert.new.unit) (g.C.Chip.state c.insert.new.card_a) (g.D.Chip.state c.insert.new.card_b)) c.insert.ensures.clock c.insert.ensures.clock_a c.insert.ensures.clock_b
+
+pub returns-in-Withdraw-clause-time : goal.returns-in-Withdraw-clause-time
+returns-in-Withdraw-clause-time g c = time-before (devices (g.M.Medium.state c.args.unit.now) (g.C.Chip.state c.args.card_a.now) (g.D.Chip.state c.args.card_b.now)) (devices (g.M.Medium.state c.withdraw.new.unit) (g.C.Chip.state c.withdraw.new.card_a) (g.D.Chip.state c.withdraw.new.card_b)) c.withdraw.ensures.clock c.withdraw.ensures.clock_a c.withdraw.ensures.clock_b
+
+pub returns-in-Place-clause-time : goal.returns-in-Place-clause-time
+returns-in-Place-clause-time g c = time-before (devices (g.M.Medium.state c.args.unit.now) (g.C.Chip.state c.args.card_a.now) (g.D.Chip.state c.args.card_b.now)) (devices (g.M.Medium.state c.note_place.new.unit) (g.C.Chip.state c.note_place.new.card_a) (g.D.Chip.state c.note_place.new.card_b)) c.note_place.ensures.clock c.note_place.ensures.clock_a c.note_place.ensures.clock_b
+
+pub returns-in-Select-clause-time : goal.returns-in-Select-clause-time
+returns-in-Select-clause-time g c = λ h. h
+
+pub returns-in-Tear-clause-time : goal.returns-in-Tear-clause-time
+returns-in-Tear-clause-time g c = λ h. h

@@ -1,4 +1,10 @@
-use Rattle.std.proofs.Common.{rules, ◌≡◌, ◌∙◌, ℕ, ◌+◌, ◌-◌, ◌<◌, ◌≤◌, length, refl, arith}
+use Rattle.std.proofs.Common.{rules, ◌≡◌, ◌∙◌, ℕ, ◌+◌, ◌-◌, ◌<◌, ◌≤◌, List, [], ◌++◌, length, refl, ap, sym, subst, arith, append_assoc}
+use Rattle.std.proofs.lemmas.List.{append-nil}
+use Rattle.trace_model.specs.Trace.{TraceSecond, driven}
+use Rattle.safety_model.specs.Safe.{Devices}
+use Rattle.run_rule.specs.Between.{devices}
+use Rattle.run_acts.specs.Recording.{RunRecorded}
+use Rattle.recorder_with_cards.proofs.SecondsRecorded.{plain-parts}
 use Rattle.std.proofs.lemmas.Grind.{common_steps}
 use Rattle.run_acts.specs.Room.{cuts_from, HasRoom}
 use Rattle.recorder_with_cards.proofs.Rooms.{room-less}
@@ -10,6 +16,12 @@ loop-left-init g c = record {
   next = refl;
   enough = c.requires.room;
   room = λ left offs insertions actions h. h;
+  few = omega arith;
+  recorded = λ o done r time.
+      let d : Devices = devices (g.M.Medium.state c.args.unit.now) (g.C.Chip.state c.args.card_a.now) (g.D.Chip.state c.args.card_b.now) in
+      subst (λ (n : ℕ). RunRecorded o (done ++ driven n c.args.run.now.next c.args.speed []) c.args.run.now c.args.outcome.now d) (let e : 0 ≡ c.args.seconds - c.args.seconds = omega arith in e)
+      (subst (λ (ss : List TraceSecond). RunRecorded o ss c.args.run.now c.args.outcome.now d) (sym (append-nil done)) r);
+  time = λ h. h;
   unfound = c.requires.unfound;
 }
 
@@ -34,6 +46,20 @@ loop-left-preserved g c =
       room = λ more offs insertions actions h.
           room (left - n + more) offs insertions actions
           (room-less cuts_from c.loop-left.run c.loop-left.outcome (left + more) (n + (left - n + more)) offs offs insertions insertions actions actions (omega (arith, most)) (omega arith) (omega arith) (omega arith) (v.room more offs insertions actions h));
+      few = let few = v.few in omega (arith, few);
+      recorded = λ o done r time.
+          let so : ℕ = c.args.seconds - left in
+          let was = v.recorded o done r (c.in_ok-step.ensures.time time) in
+          let few = v.few in
+          let start = v.next in
+          let here : c.loop-left.run.next ≡ c.args.run.now.next + so = omega (arith, start, few) in
+          let e : Devices = devices (g.M.Medium.state c.step.new.unit) (g.C.Chip.state c.step.new.card_a) (g.D.Chip.state c.step.new.card_b) in
+          subst (λ (ss : List TraceSecond). RunRecorded o ss c.step.new.run c.step.new.outcome e)
+          (append_assoc done (driven so c.args.run.now.next c.args.speed []) (driven n c.loop-left.run.next c.args.speed [])
+          ∙ ap (λ (ss : List TraceSecond). done ++ ss) (ap (λ (m : ℕ). driven so c.args.run.now.next c.args.speed [] ++ driven n m c.args.speed []) here ∙ sym (plain-parts so n c.args.run.now.next c.args.speed)
+          ∙ ap (λ (m : ℕ). driven m c.args.run.now.next c.args.speed []) (let e : so + n ≡ c.args.seconds - (left - n) = omega (arith, few, most) in e)))
+          (c.in_ok-step.ensures.recorded o (done ++ driven so c.args.run.now.next c.args.speed []) was time);
+      time = λ h. v.time (c.in_ok-step.ensures.time h);
       unfound = e.unfound;
     }
 
@@ -61,3 +87,22 @@ returns-in_err-step-clause-gone g c = record {
   unfound = first_of (search rules, grind (arith, common_steps));
   is_unit = c.in_err-step.ensures.gone.is_unit;
 }
+
+-- ---- what is recorded
+
+pub returns-clause-recorded : goal.returns-clause-recorded
+returns-clause-recorded g c = λ o done r time.
+    let none = c.loop-left-test.false in
+    subst (λ (n : ℕ). RunRecorded o (done ++ driven n c.args.run.now.next c.args.speed []) c.loop-left.run c.loop-left.outcome (devices (g.M.Medium.state c.loop-left.unit) (g.C.Chip.state c.loop-left.card_a) (g.D.Chip.state c.loop-left.card_b))) (let e : c.args.seconds - c.loop-left.left ≡ c.args.seconds = omega (arith, none) in e)
+    (c.loop-left.invariant.recorded o done r time)
+
+pub returns-clause-time : goal.returns-clause-time
+returns-clause-time g c = c.loop-left.invariant.time
+
+pub returns-in_err-step-clause-recorded : goal.returns-in_err-step-clause-recorded
+returns-in_err-step-clause-recorded g c = λ o done r time.
+    let was = c.loop-left.invariant.recorded o done r (c.in_err-step.ensures.time time) in
+    absurd (c.in_err-step.ensures.recorded o (done ++ driven (c.args.seconds - c.loop-left.left) c.args.run.now.next c.args.speed []) was time)
+
+pub returns-in_err-step-clause-time : goal.returns-in_err-step-clause-time
+returns-in_err-step-clause-time g c = λ h. c.loop-left.invariant.time (c.in_err-step.ensures.time h)

@@ -1,4 +1,9 @@
-use Rattle.std.proofs.Common.{◌≡◌, ℕ, ◌+◌, ◌≤◌, length}
+use Rattle.std.proofs.Common.{◌≡◌, ℕ, ◌+◌, ◌-◌, ◌≤◌, List, [], ◌++◌, length}
+use Rattle.trace_model.specs.Trace.{TraceSecond, driven}
+use Rattle.run_rule.specs.Between.{devices}
+use Rattle.run_recorded.specs.Origin.{Origin}
+use Rattle.run_keeping.specs.Books.{HaveTime}
+use Rattle.run_acts.specs.Recording.{RunRecorded}
 use Rattle.run_acts.specs.Going.{IsGoing}
 use Rattle.run_acts.specs.Room.{HasRoom}
 use Rattle.recorder_with_cards.proofs.driving.drive_on.Given as goal
@@ -9,6 +14,9 @@ invariant-loop-left g l = record {
   next : l.run.next + l.left ≡ l.fn.run.next + l.seconds;
   enough : HasRoom l.run l.outcome l.left 0 0 0;
   room : (left offs insertions actions : ℕ) → HasRoom l.fn.run l.fn.outcome (l.seconds + left) offs insertions actions → HasRoom l.run l.outcome (l.left + left) offs insertions actions;
+  few : l.left ≤ l.seconds;
+  recorded : (o : Origin) (done : List TraceSecond) → RunRecorded o done l.fn.run l.fn.outcome (devices (g.M.Medium.state l.fn.unit) (g.C.Chip.state l.fn.card_a) (g.D.Chip.state l.fn.card_b)) → HaveTime (devices (g.M.Medium.state l.unit) (g.C.Chip.state l.card_a) (g.D.Chip.state l.card_b)) → RunRecorded o (done ++ driven (l.seconds - l.left) l.fn.run.next l.speed []) l.run l.outcome (devices (g.M.Medium.state l.unit) (g.C.Chip.state l.card_a) (g.D.Chip.state l.card_b));
+  time : HaveTime (devices (g.M.Medium.state l.unit) (g.C.Chip.state l.card_a) (g.D.Chip.state l.card_b)) → HaveTime (devices (g.M.Medium.state l.fn.unit) (g.C.Chip.state l.fn.card_a) (g.D.Chip.state l.fn.card_b));
   unfound : l.run.unfound ≤ length l.outcome.breaks.items;
 }
 

@@ -1,4 +1,4 @@
-use Rattle.std.proofs.Common.{rules, ◌≡◌, ◌∙◌, inl, inr, ℕ, ◌+◌, ◌*◌, ◌/◌, ◌≤◌, false, None, refl, ap, sym, subst, arith}
+use Rattle.std.proofs.Common.{rules, ◌≡◌, ◌∙◌, inl, inr, ℕ, ◌+◌, ◌*◌, ◌/◌, ◌≤◌, Bool, true, false, None, [], length, refl, ap, sym, subst, arith}
 use Rattle.tach_media.proofs.Runs.{cause_after}
 use Rattle.minute_model.specs.Span.{ungiven_of}
 use Rattle.run_crew.specs.declared.cabin.Cabin.{Cabin}
@@ -9,6 +9,18 @@ use Rattle.run_acts.specs.Room.{Takes}
 use Rattle.slot_machine.specs.Calls.{seat_in}
 use Rattle.run_acts.specs.Acting.{IsSettled, IsBareIn}
 use Rattle.recorder_with_cards.proofs.Puts.{put-held, put-going, put-takes, put-then, put-bare, put-falls, seat-put}
+use Rattle.std.specs.Prelude.{is_err}
+use Rattle.log_model.specs.Log.{In}
+use Rattle.safety_model.specs.Safe.{Devices}
+use Rattle.run_rule.specs.Between.{devices}
+use Rattle.run_outcome.specs.declared.outcome.Outcome.{Outcome}
+use Rattle.run_keeping.proofs.DecidedBooked.{time-before}
+use Rattle.run_acts.specs.declared.run.Run.{Run}
+use Rattle.run_acts.specs.declared.run.Power.{Power}
+use Rattle.run_acts.specs.Room.{waiting}
+use Rattle.run_acts.specs.Recording.{GoesOnOrCut}
+use Rattle.run_acts.specs.Settling.{RecordsSettling}
+use Rattle.recorder_with_cards.proofs.Inserted.{unsettled, inserted}
 use Rattle.recorder_with_cards.proofs.inserting.insert.Goals as goal
 
 pub settle-requires-clause-held : goal.settle-requires-clause-held
@@ -73,3 +85,45 @@ accept_in-requires-clause-breaks g c =
     let room = c.settle.ensures.takes.rooms.1 in let f = put-falls c.args.slot c.args.card c.args.run.now.keeper.cabin c.requires.empty in
     let had = c.requires.breaks in
     omega (arith, t, room, f, had)
+
+-- ---- WHAT IS RECORDED
+
+pub returns-in_err-settle-clause-recorded : goal.returns-in_err-settle-clause-recorded
+returns-in_err-settle-clause-recorded g c = λ late room o done s now front rest actions begun allowed within time.
+    let run = c.args.run.now in
+    let out = c.args.outcome.now in
+    let h = c.requires.going in
+    let mid : Run = c.settle.new.run in
+    let told : Outcome = c.settle.new.outcome in
+    let d : Devices = devices (g.M.Medium.state c.args.unit.now) (g.C.Chip.state c.args.card_a.now) (g.D.Chip.state c.args.card_b.now) in
+    let e : Devices = devices (g.M.Medium.state c.settle.new.unit) (g.C.Chip.state c.settle.new.card_a) (g.D.Chip.state c.settle.new.card_b) in
+    let r = c.in_err-settle.ensures.recorded in
+    let settles = subst (λ (b : Cabin). IsSettled c.args.at true (with_cabin b run) mid out told) c.put_in.ensures.kept c.in_err-settle.ensures.settled in
+    let records = subst (λ (b : Cabin). RecordsSettling r.0 c.args.at true (with_cabin b run) mid out told d e) c.put_in.ensures.kept r.2 in
+    let fails = unsettled c.args.slot c.args.card c.args.at c.args.speed run out d o done s now front rest actions c.requires.at begun late allowed within mid told true settles r.0 r.1 e records time refl in
+    let failed : true ≡ is_err c.from_residual.result = search rules in
+    subst (λ (f : Bool). GoesOnOrCut f o done s (In c.args.at.begun) [] mid told e) failed fails
+
+pub returns-clause-recorded : goal.returns-clause-recorded
+returns-clause-recorded g c = λ late room o done s now front rest actions begun allowed within time.
+    let run = c.args.run.now in
+    let out = c.args.outcome.now in
+    let h = c.requires.going in
+    let mid : Run = c.settle.new.run in
+    let told : Outcome = c.settle.new.outcome in
+    let d : Devices = devices (g.M.Medium.state c.args.unit.now) (g.C.Chip.state c.args.card_a.now) (g.D.Chip.state c.args.card_b.now) in
+    let e : Devices = devices (g.M.Medium.state c.settle.new.unit) (g.C.Chip.state c.settle.new.card_a) (g.D.Chip.state c.settle.new.card_b) in
+    let last : Devices = devices (g.M.Medium.state c.accept_in.new.unit) (g.C.Chip.state c.accept_in.new.card_a) (g.D.Chip.state c.accept_in.new.card_b) in
+    let r = c.in_ok-settle.ensures.recorded in
+    let stands = subst (λ (b : Cabin). Stands (ungiven_of h.span) None b) c.put_in.ensures.kept (c.put_in.ensures.stands (ungiven_of h.span) h.cabin) in
+    let bare = subst (λ (b : Cabin). IsBareIn b c.args.slot) (sym c.put_in.ensures.kept) (put-bare c.args.slot c.args.card run.keeper.cabin (ungiven_of h.span) stands) in
+    let seat = (c.in_ok-settle.ensures.bare c.args.slot bare).0 ∙ ap (λ (b : Cabin). seat_in b.slots.seats c.args.slot) c.put_in.ensures.kept ∙ seat-put c.args.slot c.args.card run.keeper.cabin in
+    let settles = subst (λ (b : Cabin). IsSettled c.args.at false (with_cabin b run) mid out told) c.put_in.ensures.kept c.in_ok-settle.ensures.settled in
+    let records = subst (λ (b : Cabin). RecordsSettling r.0 c.args.at false (with_cabin b run) mid out told d e) c.put_in.ensures.kept r.2 in
+    let t = (subst (λ (b : Cabin). Takes 0 0 0 (with_cabin b run) mid out told) c.put_in.ensures.kept c.settle.ensures.takes) in
+    let marks = t.marks in
+    let rooms = t.rooms.0 in
+    let was = ap (λ (p : Power). waiting p run.minutes.owing) c.requires.lit in
+    inserted c.args.slot c.args.card c.args.at c.args.speed run out d o done s now front rest actions c.requires.at begun late allowed within mid told false settles r.0 r.1 e records
+    (time-before e last c.accept_in.ensures.clock c.accept_in.ensures.clock_a c.accept_in.ensures.clock_b time) refl seat (is_err c.accept_in.result) c.accept_in.new.run c.accept_in.new.outcome last
+    (c.accept_in.ensures.recorded (omega (arith, room, marks, rooms, was))) time

@@ -8,6 +8,10 @@ use Rattle.run_acts.specs.Going.{IsWithin}
 use Rattle.run_acts.specs.Room.{HasRoomWithin}
 use Rattle.run_acts.proofs.Standing.{lit-is, begun-at, still-dark}
 use Rattle.recorder_with_cards.proofs.AwakeRooms.{room-over, room-away, room-awake}
+use Rattle.tach_media.specs.Medium.{State}
+use Rattle.run_rule.specs.Between.{devices}
+use Rattle.run_acts.specs.Recording.{InSecondBy, InSecond}
+use Rattle.recorder_with_cards.proofs.GoingOn.{marks-due, second-on}
 use Rattle.recorder_with_cards.proofs.resuming.begin_second.Goals as goal
 
 away-dark : (p : Power) (next : ℕ) → has_power p next ≡ false → is_lit p ≡ false
@@ -71,3 +75,35 @@ pub returns-in_err-power_on-clause-lit : goal.returns-in_err-power_on-clause-lit
 returns-in_err-power_on-clause-lit g c = λ lit.
     let dark : is_lit c.args.run.now.power ≡ false = sym c.is_lit.ensures ∙ c.if-is_lit.false in
     absurd (let bad : false ≡ true = sym dark ∙ lit in cc)
+
+-- ---- WHAT IS RECORDED
+
+pub returns-then-not-has_power-clause-recorded : goal.returns-then-not-has_power-clause-recorded
+returns-then-not-has_power-clause-recorded g c = λ o done s now rec time. rec
+
+pub returns-then-is_lit-clause-recorded : goal.returns-then-is_lit-clause-recorded
+returns-then-is_lit-clause-recorded g c = λ o done s now rec time.
+    let run = c.args.run.now in
+    let out = c.args.outcome.now in
+    let U : State = g.M.Medium.state c.args.unit.now in
+    let X : State = g.C.Chip.state c.args.card_a.now in
+    let Y : State = g.D.Chip.state c.args.card_b.now in
+    let yes : is_lit run.power ≡ true = sym c.is_lit.ensures ∙ c.if-is_lit.true in
+    let lit : run.power ≡ Lit = lit-is run.power yes in
+    let on = second-on o rec.origin done s run out (devices U X Y) U (g.C.Chip.card c.args.card_a.now) (g.D.Chip.card c.args.card_b.now) X Y lit now.number now.given c.requires.going.low (c.requires.going.lit yes) rec in
+    subst (λ (r : Run). InSecond o done s 0 r out (devices U X Y)) (sym c.end_minute.ensures.run)
+    (subst (λ (b : Bool). InSecondBy b o done s 0 (minute_over run) out (devices U X Y)) (sym (ap is_lit on.lit)) on)
+
+pub returns-in_err-power_on-clause-recorded : goal.returns-in_err-power_on-clause-recorded
+returns-in_err-power_on-clause-recorded g c = λ o done s now rec time.
+    let run = c.args.run.now in
+    let dark : is_lit run.power ≡ false = sym c.is_lit.ensures ∙ c.if-is_lit.false in
+    let has : has_power run.power run.next ≡ true = sym c.has_power.ensures ∙ c.if-not-has_power.false in
+    absurd (c.in_err-power_on.ensures.recorded (marks-due run c.args.outcome.now dark has c.requires.room) o done s now rec has time)
+
+pub returns-clause-recorded : goal.returns-clause-recorded
+returns-clause-recorded g c = λ o done s now rec time.
+    let run = c.args.run.now in
+    let dark : is_lit run.power ≡ false = sym c.is_lit.ensures ∙ c.if-is_lit.false in
+    let has : has_power run.power run.next ≡ true = sym c.has_power.ensures ∙ c.if-not-has_power.false in
+    c.in_ok-power_on.ensures.recorded (marks-due run c.args.outcome.now dark has c.requires.room) o done s now rec has time

@@ -1,4 +1,7 @@
-use Rattle.std.proofs.Common.{◌≡◌, ◌∙◌, ℕ, ◌+◌, ◌/◌, ◌<◌, ◌≤◌, true, length, refl, ap, sym, subst, arith}
+use Rattle.std.proofs.Common.{◌≡◌, ◌∙◌, ℕ, ◌+◌, ◌*◌, ◌/◌, ◌<◌, ◌≤◌, Bool, true, false, List, [], length, refl, ap, sym, subst, arith}
+use Rattle.std.specs.Prelude.{is_err}
+use Rattle.tach_media.specs.Medium.{State}
+use Rattle.tach_media.proofs.Runs.{ok_gives}
 use Rattle.log_model.specs.declared.lines.Break.TheVariants.{Cut}
 use Rattle.run_outcome.specs.Lines.{Listed, cut_at}
 use Rattle.log_model.specs.declared.lines.Break.{Break}
@@ -7,6 +10,17 @@ use Rattle.run_acts.specs.declared.run.Run.{Run}
 use Rattle.run_acts.specs.Going.{IsAt}
 use Rattle.run_acts.proofs.Standing.{cut-at}
 use Rattle.recorder_with_cards.proofs.Taken.{up-room, up-awake, up-lost}
+use Rattle.log_model.specs.Log.{In}
+use Rattle.unit_journal.specs.Image.{IsFoundBy}
+use Rattle.safety_model.specs.Safe.{Devices}
+use Rattle.run_rule.specs.Between.{devices}
+use Rattle.run_within.specs.Powering.{read_values}
+use Rattle.run_acts.specs.declared.run.Power.TheVariants.{Lit}
+use Rattle.run_acts.specs.Power.{is_lit}
+use Rattle.run_acts.specs.Room.{bare_seats}
+use Rattle.run_acts.specs.Recording.{values_of, InSecondBy, GoesOnOrCut}
+use Rattle.recorder_with_cards.proofs.ActsRecorded.{cut-in, cut}
+use Rattle.recorder_with_cards.proofs.Read.{may-of, unit-tells, image-of, at-image, kept-early, learned}
 use Rattle.recorder_with_cards.proofs.resuming.found.Goals as goal
 
 pub cut-requires-clause-room : goal.cut-requires-clause-room
@@ -33,3 +47,59 @@ returns-then-is_err-clause-going g c =
     let small = c.requires.going.small in
     subst (λ (r : Run). IsAt (r.next / 60) r (g.M.Medium.state c.resume.new.unit) (g.C.Chip.card c.resume.new.card_a) (g.D.Chip.card c.resume.new.card_b) (g.C.Chip.state c.resume.new.card_a) (g.D.Chip.state c.resume.new.card_b)) (sym c.cut.ensures.run)
     (cut-at new (new.next / 60) (new.next / 60) new.next (omega (arith, low, same)) (omega (arith, small, same)) held held.minute (omega arith))
+
+-- ---- WHAT IS RECORDED
+
+pub returns-in_err-judge_clock-clause-recorded : goal.returns-in_err-judge_clock-clause-recorded
+returns-in_err-judge_clock-clause-recorded g c = λ room o done s now rec has time.
+    let run = c.args.run.now in
+    let out = c.args.outcome.now in
+    let U : State = g.M.Medium.state c.args.unit.now in
+    let X : State = g.C.Chip.state c.args.card_a.now in
+    let Y : State = g.D.Chip.state c.args.card_b.now in
+    let may = may-of run.power rec.supply run.next rec.powers c.requires.dark has in
+    let image = image-of U.image (unit-tells o done rec.supply (values_of run out) (devices U X Y) rec.recorded may) in
+    let early = kept-early o done rec.supply (values_of run out) (devices U X Y) rec.recorded may image.0 ((g.met.M.Medium.coherent c.args.unit.now).is_left image.0 image.1) in
+    let is = (at-image (IsFoundBy c.args.journal) U.image image.0 image.1 c.requires.loaded.found).kept in
+    let kept = c.last_kept-kept.ensures.kept in
+    let next = ap (λ (r : Run). r.next) c.learn.ensures.run in
+    let back = c.in_err-judge_clock.ensures.back.1 in
+    absurd (omega (arith, early, is, kept, next, back))
+
+pub returns-then-is_err-clause-recorded : goal.returns-then-is_err-clause-recorded
+returns-then-is_err-clause-recorded g c = λ room o done s now rec has time.
+    let run = c.args.run.now in
+    let out = c.args.outcome.now in
+    let U : State = g.M.Medium.state c.args.unit.now in
+    let X : State = g.C.Chip.state c.args.card_a.now in
+    let Y : State = g.D.Chip.state c.args.card_b.now in
+    let may = may-of run.power rec.supply run.next rec.powers c.requires.dark has in
+    let mid : Run = c.resume.new.run in
+    let e : Devices = devices (g.M.Medium.state c.resume.new.unit) (g.C.Chip.state c.resume.new.card_a) (g.D.Chip.state c.resume.new.card_b) in
+    let kept = c.last_kept-kept.ensures.kept in
+    let values = learned run c.learn.new.self out c.learn.new.breaks c.last_kept-kept.result c.learn.ensures.run c.learn.ensures.breaks c.learn.ensures.same ∙ ap (λ (k : ℕ). read_values k (values_of run out)) kept in
+    let same = ap (λ (r : Run). bare_seats r.keeper.cabin.slots.seats) c.learn.ensures.run in
+    let next : mid.next ≡ run.next = c.resume.ensures.next ∙ ap (λ (r : Run). r.next) c.learn.ensures.run in
+    let resumed = c.resume.ensures.recorded (omega (arith, room, same)) o rec.origin done s rec.supply (values_of run out) rec.recorded may now.number now.given values time in
+    let cut = cut o done s 0 s.actions mid c.cut.new.self c.resume.new.outcome (record c.resume.new.outcome { breaks = c.cut.new.breaks }) e rec.origin (now.number ∙ sym next) ([], refl, refl)
+    (subst (λ (f : Bool). GoesOnOrCut f o done s (In 0) [] mid c.resume.new.outcome e) (sym c.is_err.ensures.value ∙ c.if-is_err.true) resumed) c.cut.ensures.run (ap (λ (l : Listed Break). record c.resume.new.outcome { breaks = l }) c.cut.ensures.breaks) in
+    cut-in o done s c.cut.new.self (record c.resume.new.outcome { breaks = c.cut.new.breaks }) e 0 cut
+
+pub returns-clause-recorded : goal.returns-clause-recorded
+returns-clause-recorded g c = λ room o done s now rec has time.
+    let run = c.args.run.now in
+    let out = c.args.outcome.now in
+    let U : State = g.M.Medium.state c.args.unit.now in
+    let X : State = g.C.Chip.state c.args.card_a.now in
+    let Y : State = g.D.Chip.state c.args.card_b.now in
+    let may = may-of run.power rec.supply run.next rec.powers c.requires.dark has in
+    let mid : Run = c.resume.new.run in
+    let e : Devices = devices (g.M.Medium.state c.resume.new.unit) (g.C.Chip.state c.resume.new.card_a) (g.D.Chip.state c.resume.new.card_b) in
+    let kept = c.last_kept-kept.ensures.kept in
+    let values = learned run c.learn.new.self out c.learn.new.breaks c.last_kept-kept.result c.learn.ensures.run c.learn.ensures.breaks c.learn.ensures.same ∙ ap (λ (k : ℕ). read_values k (values_of run out)) kept in
+    let same = ap (λ (r : Run). bare_seats r.keeper.cabin.slots.seats) c.learn.ensures.run in
+    let next : mid.next ≡ run.next = c.resume.ensures.next ∙ ap (λ (r : Run). r.next) c.learn.ensures.run in
+    let resumed = c.resume.ensures.recorded (omega (arith, room, same)) o rec.origin done s rec.supply (values_of run out) rec.recorded may now.number now.given values time in
+    let well : is_err c.resume.result ≡ false = sym c.is_err.ensures.value ∙ c.if-is_err.false in
+    let lit : mid.power ≡ Lit = ok_gives c.resume.result c.resume.ensures.power well in
+    subst (λ (b : Bool). InSecondBy b o done s 0 mid c.resume.new.outcome e) (sym (ap is_lit lit)) (subst (λ (f : Bool). GoesOnOrCut f o done s (In 0) [] mid c.resume.new.outcome e) well resumed)

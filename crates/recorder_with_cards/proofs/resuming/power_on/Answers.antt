@@ -1,4 +1,16 @@
-use Rattle.std.proofs.Common.{◌≡◌, ℕ, ◌/◌, ◌≤◌, sym, subst, arith}
+use Rattle.std.proofs.Common.{◌≡◌, ◌∙◌, ℕ, ◌/◌, ◌≤◌, Bool, true, false, Option, Some, List, ap, sym, subst, arith}
+use Rattle.tach_media.specs.Medium.{State}
+use Rattle.log_model.specs.declared.lines.Break.{Break}
+use Rattle.unit_model.specs.Decoding.{first_bad_place}
+use Rattle.safety_model.specs.Safe.{Devices}
+use Rattle.run_rule.specs.Between.{devices}
+use Rattle.run_outcome.specs.Lines.{Listed}
+use Rattle.run_within.proofs.Calls.{not-read}
+use Rattle.run_within.proofs.Reading.{reading-fails}
+use Rattle.run_acts.specs.Power.{is_lit, cut_run}
+use Rattle.run_acts.specs.Recording.{values_of, InSecond}
+use Rattle.recorder_with_cards.proofs.CutOff.{cut-as}
+use Rattle.recorder_with_cards.proofs.Read.{may-of, read-on, unit-tells, unit-decodes, not-bad, image-of, at-image}
 use Rattle.run_acts.specs.declared.run.Run.{Run}
 use Rattle.run_acts.specs.Going.{IsAt}
 use Rattle.run_acts.proofs.Standing.{cut-at}
@@ -11,3 +23,59 @@ returns-in-Err-Failed-clause-going g c =
     subst (λ (r : Run). IsAt (r.next / 60) r (g.M.Medium.state c.load.new.unit) (g.C.Chip.card c.args.card_a.now) (g.D.Chip.card c.args.card_b.now) (g.C.Chip.state c.args.card_a.now) (g.D.Chip.state c.args.card_b.now)) (sym c.cut.ensures.run)
     (cut-at run (run.next / 60) (run.next / 60) run.next c.requires.going.low c.requires.going.small
     (record { is_unit = c.load.ensures.unit h.is_unit; odometer = h.odometer; minute = h.minute; card_a = h.card_a; card_b = h.card_b; stand = h.stand }) h.minute (omega arith))
+
+-- ---- WHAT IS RECORDED
+
+pub returns-in-Ok-clause-recorded : goal.returns-in-Ok-clause-recorded
+returns-in-Ok-clause-recorded g c = λ room o done s now rec has time.
+    let run = c.args.run.now in
+    let out = c.args.outcome.now in
+    let U : State = g.M.Medium.state c.args.unit.now in
+    let V : State = g.M.Medium.state c.load.new.unit in
+    let X : State = g.C.Chip.state c.args.card_a.now in
+    let Y : State = g.D.Chip.state c.args.card_b.now in
+    let whole = g.met.M.Medium.coherent c.args.unit.now in
+    let may = may-of run.power rec.supply run.next rec.powers c.requires.dark has in
+    let read = read-on o done rec.supply (values_of run out) (devices U X Y) rec.recorded may V whole c.load.ensures.leaves c.load.ensures.cause.breakdowns in
+    c.found.ensures.recorded room o done s now (record {
+      origin = rec.origin;
+      supply = rec.supply;
+      powers = rec.powers;
+      recorded = read;
+      odometer = λ lit. absurd (let bad : false ≡ true = sym c.requires.dark ∙ ap is_lit lit in cc);
+    }) has time
+
+pub returns-in-Err-BadUnit-clause-recorded : goal.returns-in-Err-BadUnit-clause-recorded
+returns-in-Err-BadUnit-clause-recorded g c = λ room o done s now rec has time.
+    let run = c.args.run.now in
+    let out = c.args.outcome.now in
+    let U : State = g.M.Medium.state c.args.unit.now in
+    let V : State = g.M.Medium.state c.load.new.unit in
+    let X : State = g.C.Chip.state c.args.card_a.now in
+    let Y : State = g.D.Chip.state c.args.card_b.now in
+    let whole = g.met.M.Medium.coherent c.args.unit.now in
+    let may = may-of run.power rec.supply run.next rec.powers c.requires.dark has in
+    let read = read-on o done rec.supply (values_of run out) (devices U X Y) rec.recorded may V whole c.load.ensures.leaves c.load.ensures.cause.breakdowns in
+    let after = g.met.M.Medium.coherent c.load.new.unit in
+    let image = image-of V.image (unit-tells o done rec.supply (values_of run out) (devices V X Y) read may) in
+    let decodes = unit-decodes o done rec.supply (values_of run out) (devices V X Y) read may after image.0 (after.is_left image.0 image.1) in
+    let bad = rw c.in-Err-BadUnit.field-0-is at c.in-Err-BadUnit.ensures.bad in
+    absurd (not-bad image.0 c.in-Err-BadUnit.place decodes (at-image (λ (x : List ℕ). first_bad_place x ≡ Some c.in-Err-BadUnit.place) V.image image.0 image.1 bad))
+
+pub returns-in-Err-Failed-clause-recorded : goal.returns-in-Err-Failed-clause-recorded
+returns-in-Err-Failed-clause-recorded g c = λ room o done s now rec has time.
+    let run = c.args.run.now in
+    let out = c.args.outcome.now in
+    let U : State = g.M.Medium.state c.args.unit.now in
+    let V : State = g.M.Medium.state c.load.new.unit in
+    let X : State = g.C.Chip.state c.args.card_a.now in
+    let Y : State = g.D.Chip.state c.args.card_b.now in
+    let whole = g.met.M.Medium.coherent c.args.unit.now in
+    let may = may-of run.power rec.supply run.next rec.powers c.requires.dark has in
+    let d : Devices = devices U X Y in
+    let e : Devices = devices V X Y in
+    let cause = rw c.in-Err-Failed.field-0-is at c.in-Err-Failed.ensures.cause in
+    let lost = reading-fails d e o done s rec.supply (values_of run out) rec.recorded may now.number now.given (not-read o done rec.supply (values_of run out) d rec.recorded may V whole c.load.ensures.leaves cause) in
+    let cut = cut-as e o done s 0 run out rec.origin now.number lost in
+    subst (λ (r : Run). InSecond o done s 0 r (record out { breaks = c.cut.new.breaks }) e) (sym c.cut.ensures.run)
+    (subst (λ (l : Listed Break). InSecond o done s 0 (cut_run run.next run) (record out { breaks = l }) e) (sym c.cut.ensures.breaks) cut)

@@ -1,4 +1,4 @@
-use Rattle.std.proofs.Common.{rules, ◌≡◌, ◌∙◌, inl, inr, ℕ, ◌+◌, ◌-◌, ◌*◌, ◌/◌, ◌<◌, ◌≤◌, Bool, true, false, None, length, refl, ap, sym, subst, arith}
+use Rattle.std.proofs.Common.{rules, ◌≡◌, ◌∙◌, inl, inr, ℕ, ◌+◌, ◌-◌, ◌*◌, ◌/◌, ◌<◌, ◌≤◌, Bool, true, false, Option, None, [], ◌∷◌, length, refl, ap, sym, subst, arith}
 use Rattle.std.specs.Prelude.{is_err}
 use Rattle.tach_media.specs.Medium.{HasCause}
 use Rattle.tach_media.proofs.Runs.{on_ok, ok_gives, cause_after}
@@ -20,6 +20,17 @@ use Rattle.run_outcome.specs.declared.outcome.Outcome.{Outcome}
 use Rattle.run_acts.specs.Room.{Takes}
 use Rattle.recorder_with_cards.proofs.Taken.{takes-then, takes-breaks, awake-takes, takes-nothing, anew-more}
 use Rattle.slot_machine.specs.Calls.{seat_in, card_in}
+use Rattle.tach_media.specs.Medium.{State}
+use Rattle.log_model.specs.Log.{In}
+use Rattle.slot_machine.specs.declared.seats.Seat.{Seat}
+use Rattle.run_rule.specs.Between.{devices}
+use Rattle.run_keeping.proofs.DecidedBooked.{time-before}
+use Rattle.run_within.specs.Recorded.{Values}
+use Rattle.run_acts.specs.declared.run.Power.{Power}
+use Rattle.run_acts.specs.Room.{waiting}
+use Rattle.run_acts.specs.Recording.{GoesOnOrCut}
+use Rattle.recorder_with_cards.specs.Judged.{moment_in}
+use Rattle.recorder_with_cards.proofs.Resumed.{RunWaking, waiting_in, at-once, wholes-of, kept-of, same-devices, awake, unmended, driver-judged, codriver-judged}
 use Rattle.recorder_with_cards.proofs.resuming.resume.Goals as goal
 
 pub accept_anew-requires-clause-held : goal.accept_anew-requires-clause-held
@@ -215,3 +226,195 @@ pub returns-clause-none : goal.returns-clause-none
 returns-clause-none g c = on_ok c.note_gap.result (λ well.
     ap (λ (r : Run). r.minutes.owing) c.note_gap.ensures.only ∙ ap (λ (r : Run). r.minutes.owing) c.accept_anew-2.ensures.only ∙ ap (λ (r : Run). r.minutes.owing) c.accept_anew.ensures.only
     ∙ begun-none c.begin_span.new.self.minutes c.args.run.now.next c.begin_span.ensures.begun.minutes)
+
+-- ---- WHAT IS RECORDED
+
+pub returns-in_err-mend-clause-recorded : goal.returns-in_err-mend-clause-recorded
+returns-in_err-mend-clause-recorded g c = λ room o origin done s supply v r may number given values time.
+    let U : State = g.M.Medium.state c.args.unit.now in
+    let X : State = g.C.Chip.state c.args.card_a.now in
+    let Y : State = g.D.Chip.state c.args.card_b.now in
+    let W : State = g.M.Medium.state c.mend.new.unit in
+    let bad = c.in_err-mend.ensures in
+    let loaded = c.requires.loaded in
+    let failed : true ≡ is_err c.from_residual.result = search rules in
+    subst (λ (f : Bool). GoesOnOrCut f o done s (In 0) [] c.args.run.now c.args.outcome.now (devices W X Y)) failed
+    (unmended o origin done s supply v U X Y r may number given (g.met.M.Medium.coherent c.args.unit.now) (wholes-of U X Y (g.met.C.Chip.coherent c.args.card_a.now) (g.met.D.Chip.coherent c.args.card_b.now)) loaded.works c.args.journal (kept-of c.args.journal U.image loaded.found)
+    W true c.mend.ensures.moments c.mend.ensures.tells bad.cause c.mend.ensures.holds bad.first bad.second c.args.run.now c.args.outcome.now values refl)
+
+pub returns-in_err-accept_anew-clause-recorded : goal.returns-in_err-accept_anew-clause-recorded
+returns-in_err-accept_anew-clause-recorded g c = λ room o origin done s supply v r may number given values time.
+    let run = c.args.run.now in
+    let mid : Run = c.begin_span.new.self in
+    let begun = c.begin_span.ensures.begun in
+    let U : State = g.M.Medium.state c.args.unit.now in
+    let X : State = g.C.Chip.state c.args.card_a.now in
+    let Y : State = g.D.Chip.state c.args.card_b.now in
+    let W : State = g.M.Medium.state c.mend.new.unit in
+    let ok = c.in_ok-mend.ensures in
+    let loaded = c.requires.loaded in
+    let woke = awake o origin done s supply v U X Y r may number given (g.met.M.Medium.coherent c.args.unit.now) (wholes-of U X Y (g.met.C.Chip.coherent c.args.card_a.now) (g.met.D.Chip.coherent c.args.card_b.now)) loaded.works c.args.journal (kept-of c.args.journal U.image loaded.found)
+    W false c.mend.ensures.moments c.mend.ensures.tells ok.cause c.mend.ensures.holds ok.first ok.second run c.args.outcome.now values refl c.mend.new.journal ok.agrees mid begun (g.met.M.Medium.coherent c.mend.new.unit) in
+    let dark = c.requires.going.dark c.requires.dark in
+    let cards = run.keeper.cabin.cards in
+    let cabin = ap (λ (k : Keeper). k.cabin) begun.keeper in
+    let bare = subst (λ (b : Cabin). IsBare b.slots.seats.driver) (sym cabin) (dark-bare 0 cards run.keeper.cabin.slots.seats.driver dark.bare (dark.stands 0).driver) in
+    let few = ap (λ (b : Cabin). bare_count b.slots.seats.driver) cabin in
+    let now : c.moment-at.result ≡ moment_in s 0 = c.moment-at.ensures ∙ ap (λ (m : ℕ). record { second = m; begun = 0; late = false }) (begun.next ∙ ap (λ (x : Values). x.next) values ∙ sym number) in
+    let one : Run = c.accept_anew.new.run in
+    let V1 : State = g.M.Medium.state c.accept_anew.new.unit in
+    let X1 : State = g.C.Chip.state c.accept_anew.new.card_a in
+    let Y1 : State = g.D.Chip.state c.accept_anew.new.card_b in
+    let first = driver-judged o done s woke.0 (card_in mid.keeper.cabin.slots.seats.driver) (waiting_in CoDriver (card_in mid.keeper.cabin.slots.seats.codriver)) mid c.args.outcome.now (devices W X Y) woke.1
+    (at-once CoDriver (card_in mid.keeper.cabin.slots.seats.codriver)) refl bare c.moment-at.result now c.args.speed (is_err c.accept_anew.result) one c.accept_anew.new.outcome c.accept_anew.ensures.accepted (devices V1 X1 Y1)
+    (λ none P. same-devices P g.M.Medium.state g.C.Chip.state g.D.Chip.state c.mend.new.unit c.accept_anew.new.unit c.args.card_a.now c.accept_anew.new.card_a c.args.card_b.now c.accept_anew.new.card_b (c.accept_anew.ensures.still none)) time
+    (c.accept_anew.ensures.recorded (omega (arith, room, few))) in
+    let fails : is_err c.accept_anew.result ≡ true = search rules in
+    let failed : true ≡ is_err c.from_residual-in_err-accept_anew.result = search rules in
+    subst (λ (f : Bool). GoesOnOrCut f o done s (In 0) [] one c.accept_anew.new.outcome (devices V1 X1 Y1)) failed (first.1 fails)
+
+pub returns-in_err-accept_anew-2-clause-recorded : goal.returns-in_err-accept_anew-2-clause-recorded
+returns-in_err-accept_anew-2-clause-recorded g c = λ room o origin done s supply v r may number given values time.
+    let run = c.args.run.now in
+    let mid : Run = c.begin_span.new.self in
+    let begun = c.begin_span.ensures.begun in
+    let U : State = g.M.Medium.state c.args.unit.now in
+    let X : State = g.C.Chip.state c.args.card_a.now in
+    let Y : State = g.D.Chip.state c.args.card_b.now in
+    let W : State = g.M.Medium.state c.mend.new.unit in
+    let ok = c.in_ok-mend.ensures in
+    let loaded = c.requires.loaded in
+    let woke = awake o origin done s supply v U X Y r may number given (g.met.M.Medium.coherent c.args.unit.now) (wholes-of U X Y (g.met.C.Chip.coherent c.args.card_a.now) (g.met.D.Chip.coherent c.args.card_b.now)) loaded.works c.args.journal (kept-of c.args.journal U.image loaded.found)
+    W false c.mend.ensures.moments c.mend.ensures.tells ok.cause c.mend.ensures.holds ok.first ok.second run c.args.outcome.now values refl c.mend.new.journal ok.agrees mid begun (g.met.M.Medium.coherent c.mend.new.unit) in
+    let dark = c.requires.going.dark c.requires.dark in
+    let cards = run.keeper.cabin.cards in
+    let cabin = ap (λ (k : Keeper). k.cabin) begun.keeper in
+    let bare = subst (λ (b : Cabin). IsBare b.slots.seats.driver) (sym cabin) (dark-bare 0 cards run.keeper.cabin.slots.seats.driver dark.bare (dark.stands 0).driver) in
+    let few = ap (λ (b : Cabin). bare_count b.slots.seats.driver) cabin in
+    let now : c.moment-at.result ≡ moment_in s 0 = c.moment-at.ensures ∙ ap (λ (m : ℕ). record { second = m; begun = 0; late = false }) (begun.next ∙ ap (λ (x : Values). x.next) values ∙ sym number) in
+    let one : Run = c.accept_anew.new.run in
+    let V1 : State = g.M.Medium.state c.accept_anew.new.unit in
+    let X1 : State = g.C.Chip.state c.accept_anew.new.card_a in
+    let Y1 : State = g.D.Chip.state c.accept_anew.new.card_b in
+    let first = driver-judged o done s woke.0 (card_in mid.keeper.cabin.slots.seats.driver) (waiting_in CoDriver (card_in mid.keeper.cabin.slots.seats.codriver)) mid c.args.outcome.now (devices W X Y) woke.1
+    (at-once CoDriver (card_in mid.keeper.cabin.slots.seats.codriver)) refl bare c.moment-at.result now c.args.speed (is_err c.accept_anew.result) one c.accept_anew.new.outcome c.accept_anew.ensures.accepted (devices V1 X1 Y1)
+    (λ none P. same-devices P g.M.Medium.state g.C.Chip.state g.D.Chip.state c.mend.new.unit c.accept_anew.new.unit c.args.card_a.now c.accept_anew.new.card_a c.args.card_b.now c.accept_anew.new.card_b (c.accept_anew.ensures.still none)) (time-before (devices V1 X1 Y1) (devices (g.M.Medium.state c.accept_anew-2.new.unit) (g.C.Chip.state c.accept_anew-2.new.card_a) (g.D.Chip.state c.accept_anew-2.new.card_b)) c.accept_anew-2.ensures.clock c.accept_anew-2.ensures.clock_a c.accept_anew-2.ensures.clock_b time)
+    (c.accept_anew.ensures.recorded (omega (arith, room, few))) in
+    let well : is_err c.accept_anew.result ≡ false = search rules in
+    let two : Run = c.accept_anew-2.new.run in
+    let V2 : State = g.M.Medium.state c.accept_anew-2.new.unit in
+    let X2 : State = g.C.Chip.state c.accept_anew-2.new.card_a in
+    let Y2 : State = g.D.Chip.state c.accept_anew-2.new.card_b in
+    let beside : seat_in one.keeper.cabin.slots.seats CoDriver ≡ seat_in mid.keeper.cabin.slots.seats CoDriver = c.accept_anew.ensures.beside in
+    let bare_too = subst IsBare (sym (beside ∙ ap (λ (b : Cabin). b.slots.seats.codriver) cabin)) (dark-bare 0 cards run.keeper.cabin.slots.seats.codriver dark.bare (dark.stands 0).codriver) in
+    let few_too = ap bare_count (beside ∙ ap (λ (b : Cabin). b.slots.seats.codriver) cabin) in
+    let none_waits = begun-none mid.minutes run.next begun.minutes in
+    let waits_none = ap (λ (p : Power). waiting p mid.minutes.owing) begun.power in
+    let t = c.accept_anew.ensures.takes.marks in
+    let same_room = c.accept_anew.ensures.takes.rooms.0 in
+    let second = codriver-judged o done s woke.0 (card_in one.keeper.cabin.slots.seats.codriver) one c.accept_anew.new.outcome (devices V1 X1 Y1)
+    (subst (λ (seat : Option Seat). RunWaking o done s woke.0 (waiting_in CoDriver (card_in seat)) (CoDriver ∷ []) one c.accept_anew.new.outcome (devices V1 X1 Y1)) (sym beside) (first.0 well))
+    refl bare_too c.moment-at.result now c.args.speed (is_err c.accept_anew-2.result) two c.accept_anew-2.new.outcome c.accept_anew-2.ensures.accepted (devices V2 X2 Y2)
+    (λ none P. same-devices P g.M.Medium.state g.C.Chip.state g.D.Chip.state c.accept_anew.new.unit c.accept_anew-2.new.unit c.accept_anew.new.card_a c.accept_anew-2.new.card_a c.accept_anew.new.card_b c.accept_anew-2.new.card_b (c.accept_anew-2.ensures.still none)) time
+    (c.accept_anew-2.ensures.recorded (omega (arith, room, few, few_too, none_waits, waits_none, t, same_room))) in
+    let fails : is_err c.accept_anew-2.result ≡ true = search rules in
+    let failed : true ≡ is_err c.from_residual-in_err-accept_anew-2.result = search rules in
+    subst (λ (f : Bool). GoesOnOrCut f o done s (In 0) [] two c.accept_anew-2.new.outcome (devices V2 X2 Y2)) (fails ∙ failed) second
+
+pub returns-then-is_first-clause-recorded : goal.returns-then-is_first-clause-recorded
+returns-then-is_first-clause-recorded g c = λ room o origin done s supply v r may number given values time.
+    let run = c.args.run.now in
+    let mid : Run = c.begin_span.new.self in
+    let begun = c.begin_span.ensures.begun in
+    let U : State = g.M.Medium.state c.args.unit.now in
+    let X : State = g.C.Chip.state c.args.card_a.now in
+    let Y : State = g.D.Chip.state c.args.card_b.now in
+    let W : State = g.M.Medium.state c.mend.new.unit in
+    let ok = c.in_ok-mend.ensures in
+    let loaded = c.requires.loaded in
+    let woke = awake o origin done s supply v U X Y r may number given (g.met.M.Medium.coherent c.args.unit.now) (wholes-of U X Y (g.met.C.Chip.coherent c.args.card_a.now) (g.met.D.Chip.coherent c.args.card_b.now)) loaded.works c.args.journal (kept-of c.args.journal U.image loaded.found)
+    W false c.mend.ensures.moments c.mend.ensures.tells ok.cause c.mend.ensures.holds ok.first ok.second run c.args.outcome.now values refl c.mend.new.journal ok.agrees mid begun (g.met.M.Medium.coherent c.mend.new.unit) in
+    let dark = c.requires.going.dark c.requires.dark in
+    let cards = run.keeper.cabin.cards in
+    let cabin = ap (λ (k : Keeper). k.cabin) begun.keeper in
+    let bare = subst (λ (b : Cabin). IsBare b.slots.seats.driver) (sym cabin) (dark-bare 0 cards run.keeper.cabin.slots.seats.driver dark.bare (dark.stands 0).driver) in
+    let few = ap (λ (b : Cabin). bare_count b.slots.seats.driver) cabin in
+    let now : c.moment-at.result ≡ moment_in s 0 = c.moment-at.ensures ∙ ap (λ (m : ℕ). record { second = m; begun = 0; late = false }) (begun.next ∙ ap (λ (x : Values). x.next) values ∙ sym number) in
+    let one : Run = c.accept_anew.new.run in
+    let V1 : State = g.M.Medium.state c.accept_anew.new.unit in
+    let X1 : State = g.C.Chip.state c.accept_anew.new.card_a in
+    let Y1 : State = g.D.Chip.state c.accept_anew.new.card_b in
+    let first = driver-judged o done s woke.0 (card_in mid.keeper.cabin.slots.seats.driver) (waiting_in CoDriver (card_in mid.keeper.cabin.slots.seats.codriver)) mid c.args.outcome.now (devices W X Y) woke.1
+    (at-once CoDriver (card_in mid.keeper.cabin.slots.seats.codriver)) refl bare c.moment-at.result now c.args.speed (is_err c.accept_anew.result) one c.accept_anew.new.outcome c.accept_anew.ensures.accepted (devices V1 X1 Y1)
+    (λ none P. same-devices P g.M.Medium.state g.C.Chip.state g.D.Chip.state c.mend.new.unit c.accept_anew.new.unit c.args.card_a.now c.accept_anew.new.card_a c.args.card_b.now c.accept_anew.new.card_b (c.accept_anew.ensures.still none)) (time-before (devices V1 X1 Y1) (devices (g.M.Medium.state c.accept_anew-2.new.unit) (g.C.Chip.state c.accept_anew-2.new.card_a) (g.D.Chip.state c.accept_anew-2.new.card_b)) c.accept_anew-2.ensures.clock c.accept_anew-2.ensures.clock_a c.accept_anew-2.ensures.clock_b time)
+    (c.accept_anew.ensures.recorded (omega (arith, room, few))) in
+    let well : is_err c.accept_anew.result ≡ false = search rules in
+    let two : Run = c.accept_anew-2.new.run in
+    let V2 : State = g.M.Medium.state c.accept_anew-2.new.unit in
+    let X2 : State = g.C.Chip.state c.accept_anew-2.new.card_a in
+    let Y2 : State = g.D.Chip.state c.accept_anew-2.new.card_b in
+    let beside : seat_in one.keeper.cabin.slots.seats CoDriver ≡ seat_in mid.keeper.cabin.slots.seats CoDriver = c.accept_anew.ensures.beside in
+    let bare_too = subst IsBare (sym (beside ∙ ap (λ (b : Cabin). b.slots.seats.codriver) cabin)) (dark-bare 0 cards run.keeper.cabin.slots.seats.codriver dark.bare (dark.stands 0).codriver) in
+    let few_too = ap bare_count (beside ∙ ap (λ (b : Cabin). b.slots.seats.codriver) cabin) in
+    let none_waits = begun-none mid.minutes run.next begun.minutes in
+    let waits_none = ap (λ (p : Power). waiting p mid.minutes.owing) begun.power in
+    let t = c.accept_anew.ensures.takes.marks in
+    let same_room = c.accept_anew.ensures.takes.rooms.0 in
+    let second = codriver-judged o done s woke.0 (card_in one.keeper.cabin.slots.seats.codriver) one c.accept_anew.new.outcome (devices V1 X1 Y1)
+    (subst (λ (seat : Option Seat). RunWaking o done s woke.0 (waiting_in CoDriver (card_in seat)) (CoDriver ∷ []) one c.accept_anew.new.outcome (devices V1 X1 Y1)) (sym beside) (first.0 well))
+    refl bare_too c.moment-at.result now c.args.speed (is_err c.accept_anew-2.result) two c.accept_anew-2.new.outcome c.accept_anew-2.ensures.accepted (devices V2 X2 Y2)
+    (λ none P. same-devices P g.M.Medium.state g.C.Chip.state g.D.Chip.state c.accept_anew.new.unit c.accept_anew-2.new.unit c.accept_anew.new.card_a c.accept_anew-2.new.card_a c.accept_anew.new.card_b c.accept_anew-2.new.card_b (c.accept_anew-2.ensures.still none)) time
+    (c.accept_anew-2.ensures.recorded (omega (arith, room, few, few_too, none_waits, waits_none, t, same_room))) in
+    let fine : is_err c.accept_anew-2.result ≡ false = search rules in
+    subst (λ (f : Bool). GoesOnOrCut f o done s (In 0) [] two c.accept_anew-2.new.outcome (devices V2 X2 Y2)) fine second
+
+pub returns-clause-recorded : goal.returns-clause-recorded
+returns-clause-recorded g c = λ room o origin done s supply v r may number given values time.
+    let V3 : State = g.M.Medium.state c.note_gap.new.unit in
+    let X3 : State = g.C.Chip.state c.note_gap.new.card_a in
+    let Y3 : State = g.D.Chip.state c.note_gap.new.card_b in
+    let V2 : State = g.M.Medium.state c.accept_anew-2.new.unit in
+    let X2 : State = g.C.Chip.state c.accept_anew-2.new.card_a in
+    let Y2 : State = g.D.Chip.state c.accept_anew-2.new.card_b in
+    let time_two = time-before (devices V2 X2 Y2) (devices V3 X3 Y3) c.note_gap.ensures.clock c.note_gap.ensures.clock_a c.note_gap.ensures.clock_b time in
+    let run = c.args.run.now in
+    let mid : Run = c.begin_span.new.self in
+    let begun = c.begin_span.ensures.begun in
+    let U : State = g.M.Medium.state c.args.unit.now in
+    let X : State = g.C.Chip.state c.args.card_a.now in
+    let Y : State = g.D.Chip.state c.args.card_b.now in
+    let W : State = g.M.Medium.state c.mend.new.unit in
+    let ok = c.in_ok-mend.ensures in
+    let loaded = c.requires.loaded in
+    let woke = awake o origin done s supply v U X Y r may number given (g.met.M.Medium.coherent c.args.unit.now) (wholes-of U X Y (g.met.C.Chip.coherent c.args.card_a.now) (g.met.D.Chip.coherent c.args.card_b.now)) loaded.works c.args.journal (kept-of c.args.journal U.image loaded.found)
+    W false c.mend.ensures.moments c.mend.ensures.tells ok.cause c.mend.ensures.holds ok.first ok.second run c.args.outcome.now values refl c.mend.new.journal ok.agrees mid begun (g.met.M.Medium.coherent c.mend.new.unit) in
+    let dark = c.requires.going.dark c.requires.dark in
+    let cards = run.keeper.cabin.cards in
+    let cabin = ap (λ (k : Keeper). k.cabin) begun.keeper in
+    let bare = subst (λ (b : Cabin). IsBare b.slots.seats.driver) (sym cabin) (dark-bare 0 cards run.keeper.cabin.slots.seats.driver dark.bare (dark.stands 0).driver) in
+    let few = ap (λ (b : Cabin). bare_count b.slots.seats.driver) cabin in
+    let now : c.moment-at.result ≡ moment_in s 0 = c.moment-at.ensures ∙ ap (λ (m : ℕ). record { second = m; begun = 0; late = false }) (begun.next ∙ ap (λ (x : Values). x.next) values ∙ sym number) in
+    let one : Run = c.accept_anew.new.run in
+    let V1 : State = g.M.Medium.state c.accept_anew.new.unit in
+    let X1 : State = g.C.Chip.state c.accept_anew.new.card_a in
+    let Y1 : State = g.D.Chip.state c.accept_anew.new.card_b in
+    let first = driver-judged o done s woke.0 (card_in mid.keeper.cabin.slots.seats.driver) (waiting_in CoDriver (card_in mid.keeper.cabin.slots.seats.codriver)) mid c.args.outcome.now (devices W X Y) woke.1
+    (at-once CoDriver (card_in mid.keeper.cabin.slots.seats.codriver)) refl bare c.moment-at.result now c.args.speed (is_err c.accept_anew.result) one c.accept_anew.new.outcome c.accept_anew.ensures.accepted (devices V1 X1 Y1)
+    (λ none P. same-devices P g.M.Medium.state g.C.Chip.state g.D.Chip.state c.mend.new.unit c.accept_anew.new.unit c.args.card_a.now c.accept_anew.new.card_a c.args.card_b.now c.accept_anew.new.card_b (c.accept_anew.ensures.still none)) (time-before (devices V1 X1 Y1) (devices (g.M.Medium.state c.accept_anew-2.new.unit) (g.C.Chip.state c.accept_anew-2.new.card_a) (g.D.Chip.state c.accept_anew-2.new.card_b)) c.accept_anew-2.ensures.clock c.accept_anew-2.ensures.clock_a c.accept_anew-2.ensures.clock_b time_two)
+    (c.accept_anew.ensures.recorded (omega (arith, room, few))) in
+    let well : is_err c.accept_anew.result ≡ false = search rules in
+    let two : Run = c.accept_anew-2.new.run in
+    let beside : seat_in one.keeper.cabin.slots.seats CoDriver ≡ seat_in mid.keeper.cabin.slots.seats CoDriver = c.accept_anew.ensures.beside in
+    let bare_too = subst IsBare (sym (beside ∙ ap (λ (b : Cabin). b.slots.seats.codriver) cabin)) (dark-bare 0 cards run.keeper.cabin.slots.seats.codriver dark.bare (dark.stands 0).codriver) in
+    let few_too = ap bare_count (beside ∙ ap (λ (b : Cabin). b.slots.seats.codriver) cabin) in
+    let none_waits = begun-none mid.minutes run.next begun.minutes in
+    let waits_none = ap (λ (p : Power). waiting p mid.minutes.owing) begun.power in
+    let t = c.accept_anew.ensures.takes.marks in
+    let same_room = c.accept_anew.ensures.takes.rooms.0 in
+    let second = codriver-judged o done s woke.0 (card_in one.keeper.cabin.slots.seats.codriver) one c.accept_anew.new.outcome (devices V1 X1 Y1)
+    (subst (λ (seat : Option Seat). RunWaking o done s woke.0 (waiting_in CoDriver (card_in seat)) (CoDriver ∷ []) one c.accept_anew.new.outcome (devices V1 X1 Y1)) (sym beside) (first.0 well))
+    refl bare_too c.moment-at.result now c.args.speed (is_err c.accept_anew-2.result) two c.accept_anew-2.new.outcome c.accept_anew-2.ensures.accepted (devices V2 X2 Y2)
+    (λ none P. same-devices P g.M.Medium.state g.C.Chip.state g.D.Chip.state c.accept_anew.new.unit c.accept_anew-2.new.unit c.accept_anew.new.card_a c.accept_anew-2.new.card_a c.accept_anew.new.card_b c.accept_anew-2.new.card_b (c.accept_anew-2.ensures.still none)) time_two
+    (c.accept_anew-2.ensures.recorded (omega (arith, room, few, few_too, none_waits, waits_none, t, same_room))) in
+    let fine : is_err c.accept_anew-2.result ≡ false = search rules in
+    c.note_gap.ensures.recorded o done s c.accept_anew-2.new.outcome (subst (λ (f : Bool). GoesOnOrCut f o done s (In 0) [] two c.accept_anew-2.new.outcome (devices V2 X2 Y2)) fine second)

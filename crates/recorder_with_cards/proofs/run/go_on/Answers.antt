@@ -1,4 +1,13 @@
-use Rattle.std.proofs.Common.{◌≡◌, ◌∙◌, ℕ, ◌+◌, ◌-◌, ◌<◌, ◌≤◌, Bool, true, false, length, refl, ap, sym, subst, arith}
+use Rattle.std.proofs.Common.{◌≡◌, ◌∙◌, ℕ, ◌+◌, ◌-◌, ◌<◌, ◌≤◌, Bool, true, false, List, ◌++◌, length, refl, ap, sym, subst, arith}
+use Rattle.std.proofs.lemmas.List.{append-nil}
+use Rattle.trace_model.specs.declared.Action.{Action}
+use Rattle.trace_model.specs.Trace.{TraceSecond, seconds_at}
+use Rattle.safety_model.specs.Safe.{Devices}
+use Rattle.run_rule.specs.Between.{devices}
+use Rattle.run_acts.specs.Recording.{RunRecorded}
+use Rattle.run_outcome.specs.declared.outcome.Outcome.{Outcome}
+use Rattle.recorder_with_cards.specs.Recorded.{actions_in, HasRun}
+use Rattle.recorder_with_cards.proofs.SecondsRecorded.{off-seconds}
 use Rattle.tach_media.proofs.Runs.{on_ok, ok_gives}
 use Rattle.trace_model.specs.declared.Item.{Item}
 use Rattle.trace_model.specs.Trace.{item_seconds}
@@ -12,7 +21,7 @@ use Rattle.run_acts.specs.Power.{is_lit, off_cut, off_run}
 use Rattle.run_acts.specs.Going.{IsGoing}
 use Rattle.run_acts.specs.Room.{cuts_from, HasRoom}
 use Rattle.run_acts.proofs.Standing.{off-at}
-use Rattle.recorder_with_cards.specs.Items.{insertions_in}
+use Rattle.recorder_with_cards.specs.Items.{between, insertions_in}
 use Rattle.recorder_with_cards.proofs.Rooms.{room-less}
 use Rattle.recorder_with_cards.specs.Gone.{has_seconds, HasGone}
 use Rattle.recorder_with_cards.proofs.Dark.{cut-room, off-room, unfound-same}
@@ -109,3 +118,35 @@ returns-in-Run-clause-room g c = λ left offs insertions actions h.
     let here = subst (λ (i : Item). HasRoom run o (item_seconds i + left) (off_count i + offs) (k + insertions) (a + actions)) c.in-Run.is h in
     on_ok c.drive.result (λ well some. ok_gives c.drive.result (c.drive.ensures.room left offs insertions actions
     (room-less cuts_from run o (c.in-Run.seconds + left) (c.in-Run.seconds + left) (0 + offs) offs (k + insertions) (k + insertions) (a + actions) (a + actions) (omega arith) (omega arith) (omega arith) (omega arith) here)) well)
+
+-- ---- what is recorded
+
+pub returns-in-Act-clause-recorded : goal.returns-in-Act-clause-recorded
+returns-in-Act-clause-recorded g c = λ many o done few r time.
+    let d : Devices = devices (g.M.Medium.state c.args.unit.now) (g.C.Chip.state c.args.card_a.now) (g.D.Chip.state c.args.card_b.now) in
+    let acts : List Action = actions_in (between c.args.from c.args.to c.args.items.now) in
+    subst (λ (i : Item). RunRecorded o (done ++ seconds_at c.args.run.now.next acts i) c.args.run.now c.args.outcome.now d) (sym c.in-Act.is)
+    (subst (λ (ss : List TraceSecond). RunRecorded o ss c.args.run.now c.args.outcome.now d) (sym (append-nil done)) r)
+
+pub returns-in-Off-clause-recorded : goal.returns-in-Off-clause-recorded
+returns-in-Off-clause-recorded g c = λ many o done few r time.
+    let d : Devices = devices (g.M.Medium.state c.args.unit.now) (g.C.Chip.state c.args.card_a.now) (g.D.Chip.state c.args.card_b.now) in
+    let acts : List Action = actions_in (between c.args.from c.args.to c.args.items.now) in
+    let out : Outcome = record c.args.outcome.now { breaks = c.off.new.breaks } in
+    subst (λ (i : Item). RunRecorded o (done ++ seconds_at c.args.run.now.next acts i) c.off.new.self out d) (sym c.in-Off.is)
+    (off-seconds o done c.args.run.now c.args.outcome.now d r c.in-Off.seconds (subst InRange c.in-Off.is c.requires.item).0 c.off.new.breaks c.off.ensures.breaks c.off.new.self c.off.ensures.run)
+
+pub returns-in-Run-clause-recorded : goal.returns-in-Run-clause-recorded
+returns-in-Run-clause-recorded g c = λ many o done few r time.
+    let acts : List Action = actions_in (between c.args.from c.args.to c.args.items.now) in
+    subst (λ (i : Item). HasRun c.drive.result o (done ++ seconds_at c.args.run.now.next acts i) c.drive.new.run c.drive.new.outcome (devices (g.M.Medium.state c.drive.new.unit) (g.C.Chip.state c.drive.new.card_a) (g.D.Chip.state c.drive.new.card_b))) (sym c.in-Run.is)
+    (c.drive.ensures.recorded many (omega (arith, few, many)) o done r time)
+
+pub returns-in-Act-clause-time : goal.returns-in-Act-clause-time
+returns-in-Act-clause-time g c = λ h. h
+
+pub returns-in-Off-clause-time : goal.returns-in-Off-clause-time
+returns-in-Off-clause-time g c = λ h. h
+
+pub returns-in-Run-clause-time : goal.returns-in-Run-clause-time
+returns-in-Run-clause-time g c = c.drive.ensures.time

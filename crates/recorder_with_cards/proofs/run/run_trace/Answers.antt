@@ -1,4 +1,28 @@
-use Rattle.std.proofs.Common.{rules, ◌≡◌, ◌∙◌, inl, inr, ℕ, ◌+◌, ◌-◌, ◌/◌, ◌<◌, ◌≤◌, Bool, true, false, None, length, drop, refl, ap, sym, subst, arith}
+use Rattle.std.proofs.Common.{rules, ◌≡◌, ◌∙◌, inl, inr, ℕ, ◌+◌, ◌-◌, ◌/◌, ◌<◌, ◌≤◌, Bool, true, false, None, List, [], length, take, drop, refl, ap, sym, subst, arith}
+use Rattle.std.proofs.lemmas.List.{take_all}
+use Rattle.trace_model.specs.declared.Item.{Item}
+use Rattle.trace_model.specs.Trace.{TraceSecond, seconds_of, number_after}
+use Rattle.run_acts.specs.Going.{largest_number}
+use Rattle.tach_media.specs.Medium.{IsCoherent}
+use Rattle.chip_model.specs.declared.command.CardState.{CardState}
+use Rattle.log_model.specs.declared.lines.Mark.{Mark}
+use Rattle.log_model.specs.declared.lines.Break.{Break}
+use Rattle.log_model.specs.declared.lines.Find.{Find}
+use Rattle.log_model.specs.declared.lines.Refused.{Refused}
+use Rattle.run_outcome.specs.Lines.{Listed}
+use Rattle.safety_model.specs.Safe.{Devices, card_of}
+use Rattle.safety_model.specs.Recording.{card_image}
+use Rattle.std.proofs.Common.{All}
+use Rattle.run_crew.specs.Cards.{known_of as known_in}
+use Rattle.run_opening.specs.Begun.{known_of, IsReady}
+use Rattle.run_opening.specs.Begun.{IsRefusedBy as IsRefusedAs}
+use Rattle.run_opening.specs.Cards.{IsFoundOn}
+use Rattle.run_acts.specs.Recording.{RunRecorded}
+use Rattle.recorder_with_cards.specs.Ends.{BeginAs, opened_with, origin_of}
+use Rattle.recorder_with_cards.specs.Recorded.{actions_in}
+use Rattle.recorder_with_cards.specs.Items.{between}
+use Rattle.recorder_with_cards.proofs.Waiting.{Waits, waits-none, waits-more, seconds-none, seconds-more, total-parts}
+use Rattle.recorder_with_cards.proofs.Promised.{both, more-devices, chip_of, begins-with, promised, may-record, is-found, starts-recorded}
 use Rattle.std.specs.Prelude.{IfErr}
 use Rattle.std.proofs.lemmas.Grind.{common_steps}
 use Rattle.trace_model.specs.declared.Card.{Card}
@@ -38,8 +62,8 @@ loop-i-init g c =
     let keeper = c.new-run.ensures.keeper in
     let next = c.new-run.ensures.next in
     let dark : is_lit run.power ≡ false = ap is_lit c.new-run.ensures.power in
-    let a : run.keeper.cabin.cards.a.accepted ≡ None = ap (λ (k : Keeper). k.cabin.cards.a.accepted) keeper ∙ e.found_a.none in
-    let b : run.keeper.cabin.cards.b.accepted ≡ None = ap (λ (k : Keeper). k.cabin.cards.b.accepted) keeper ∙ e.found_b.none in
+    let a_none : run.keeper.cabin.cards.a.accepted ≡ None = ap (λ (k : Keeper). k.cabin.cards.a.accepted) keeper ∙ e.found_a.none in
+    let b_none : run.keeper.cabin.cards.b.accepted ≡ None = ap (λ (k : Keeper). k.cabin.cards.b.accepted) keeper ∙ e.found_b.none in
     let slots = ap (λ (k : Keeper). k.cabin.slots) keeper in
     record {
       first = omega arith;
@@ -56,13 +80,48 @@ loop-i-init g c =
               (record { port = e.found_b.port; size = let same = c.judge.ensures.card_b.leaves.size in let size = q.card_b in omega (arith, same, size) });
           stand = (0, None, c.new-run.ensures.stands 0);
         };
-        dark = λ no. record { stands = c.new-run.ensures.stands; bare = none-yet run.keeper.cabin.cards a b };
+        dark = λ no. record { stands = c.new-run.ensures.stands; bare = none-yet run.keeper.cabin.cards a_none b_none };
         lit = λ yes. absurd (let bad : false ≡ true = sym dark ∙ yes in cc);
       };
       next = ap (λ (n : ℕ). n + total_seconds c.args.trace.now.items) next;
       room = subst (λ (n : ℕ). HasRoom run c.args.outcome.now (total_seconds c.args.trace.now.items) (offs c.args.trace.now.items) (insertions c.args.trace.now.items) n) (let whole : length c.args.trace.now.items ≡ length c.args.trace.now.items - 0 = omega arith in whole)
-          (room-start run c.args.outcome.now c.args.trace.now.items c.new-run.ensures.power (no-falls run.keeper.cabin slots a b) (no-seats run.keeper.cabin slots) q.reserved);
+          (room-start run c.args.outcome.now c.args.trace.now.items c.new-run.ensures.power (no-falls run.keeper.cabin slots a_none b_none) (no-seats run.keeper.cabin slots) q.reserved);
       unfound = let none = c.new-run.ensures.unfound in omega (arith, none);
+      waits = waits-none c.args.trace.now.items;
+      time = λ h.
+          let u = c.judge.ensures.unit.clock in
+          let p = c.judge.ensures.card_a.clock in
+          let q = c.judge.ensures.card_b.clock in
+          record { unit = omega (arith, h.unit, u); card_a = omega (arith, h.card_a, p); card_b = omega (arith, h.card_b, q) };
+      told = λ x a b h.
+          let began : Devices = devices (g.U.Medium.state c.args.unit.now) (g.C.Chip.state c.args.card_a.now) (g.C.Chip.state c.args.card_b.now) in
+          let now : Devices = devices (g.U.Medium.state c.judge.new.unit) (g.C.Chip.state c.judge.new.card_a) (g.C.Chip.state c.judge.new.card_b) in
+          let ready : IsReady (opened_with x a b) c.args.trace.now.start c.in_ok-opened.opened began now = e.begins (opened_with x a b) (begins-with x a b [] (record { breaks = []; refused = []; finds = [] }) began h) in
+          (may-record x a b c.args.trace.now.start began now c.in_ok-opened.opened ready, is-found x a b c.args.trace.now.start began now c.in_ok-opened.opened ready);
+      recorded = λ x a b h time few.
+          let began : Devices = devices (g.U.Medium.state c.args.unit.now) (g.C.Chip.state c.args.card_a.now) (g.C.Chip.state c.args.card_b.now) in
+          let now : Devices = devices (g.U.Medium.state c.judge.new.unit) (g.C.Chip.state c.judge.new.card_a) (g.C.Chip.state c.judge.new.card_b) in
+          let start : ℕ = c.args.trace.now.start in
+          let opened = c.in_ok-opened.opened in
+          let ready : IsReady (opened_with x a b) start opened began now = e.begins (opened_with x a b) (begins-with x a b [] (record { breaks = []; refused = []; finds = [] }) began h) in
+          let chips = chip_of (g.C.Chip.card c.judge.new.card_a) (g.C.Chip.card c.judge.new.card_b) in
+          let low = c.new-run.ensures.odometer in
+          let same_odometer = ap (λ (k : Keeper). k.odometer) keeper in
+          subst (λ (ss : List TraceSecond). RunRecorded (origin_of x a b start began) ss run c.args.outcome.now now) (sym (seconds-none start))
+          (starts-recorded x a b start began now opened ready
+          (both (λ k. IsCoherent (card_of now k)) (g.met.C.Chip.coherent c.judge.new.card_a) (g.met.C.Chip.coherent c.judge.new.card_b))
+          (g.met.U.Medium.coherent c.judge.new.unit)
+          chips
+          (both (λ k. IsFoundOn (known_of opened k) (chips k) (card_of now k)) e.found_a e.found_b)
+          (both (λ k. All (λ n. n < 256) (card_image (opened_with x a b) k)) h.bytes_a h.bytes_b)
+          (both (λ k. (card_of now k).clock ≡ (card_of began k).clock) c.judge.ensures.card_a.clock c.judge.ensures.card_b.clock)
+          (more-devices (g.U.Medium.state c.args.unit.now) (g.U.Medium.state c.judge.new.unit) (g.C.Chip.state c.args.card_a.now) (g.C.Chip.state c.judge.new.card_a) (g.C.Chip.state c.args.card_b.now) (g.C.Chip.state c.judge.new.card_b)
+          c.judge.ensures.unit.breakdowns c.judge.ensures.card_a.breakdowns c.judge.ensures.card_b.breakdowns)
+          (omega (arith, low, same_odometer))
+          run c.args.outcome.now c.new-run.ensures.power next c.new-run.ensures.begun c.new-run.ensures.unfound slots
+          (both (λ k. known_in run.keeper.cabin.cards k ≡ known_of opened k) (ap (λ (k : Keeper). k.cabin.cards.a) keeper) (ap (λ (k : Keeper). k.cabin.cards.b) keeper))
+          (none-yet run.keeper.cabin.cards a_none b_none)
+          (ap (λ (l : Listed Break). l.items) q.reserved.breaks) (ap (λ (l : Listed Refused). l.items) q.reserved.refused) (ap (λ (l : Listed Find). l.items) q.reserved.finds) (ap (λ (l : Listed Mark). l.items) q.reserved.marks));
     }
 
 -- ---- an item
@@ -110,6 +169,24 @@ loop-i-preserved g c =
           (subst (λ (n : ℕ). HasRoom c.loop-i.run c.loop-i.outcome (total_seconds (drop i items)) n (insertions (drop c.loop-i.first items)) (length items - c.loop-i.first)) o v.room))
           f.idle f.room);
       unfound = e.unfound;
+      waits = subst (λ (n : ℕ). Waits items n (i + 1)) (sym waits) (waits-more items i c.loop-i.first item c.get-item.ensures v.first c.requires.well.runs v.waits);
+      time = λ h. v.time (f.time h);
+      told = v.told;
+      recorded = λ x a b h time few.
+          let began : Devices = devices (g.U.Medium.state c.args.unit.now) (g.C.Chip.state c.args.card_a.now) (g.C.Chip.state c.args.card_b.now) in
+          let now : Devices = devices (g.U.Medium.state c.go_on.new.unit) (g.C.Chip.state c.go_on.new.card_a) (g.C.Chip.state c.go_on.new.card_b) in
+          let start : ℕ = c.args.trace.now.start in
+          let o = origin_of x a b start began in
+          let many = v.waits.count in
+          let first = v.first in
+          let little : length (actions_in (between c.loop-i.first i items)) ≤ largest_number = omega (arith, many, few, low, first) in
+          let parts = total-parts items i in
+          let at = v.next in
+          let here : number_after start (take i items) ≡ c.loop-i.run.next = omega (arith, parts, at) in
+          let was = v.recorded x a b h (f.time time) few in
+          subst (λ (ss : List TraceSecond). RunRecorded o ss c.go_on.new.run c.go_on.new.outcome now)
+          (sym (seconds-more start items i c.loop-i.first item c.loop-i.run.next c.get-item.ensures here v.waits))
+          (f.recorded many o (seconds_of start (take i items)) little was time);
     }
 
 -- ---- a unit that is read anew
@@ -124,3 +201,40 @@ returns-in_err-go_on-clause-unit g c = c.in_err-go_on.ensures.gone.is_unit
 
 pub returns-clause-unit : goal.returns-clause-unit
 returns-clause-unit g c = c.loop-i.invariant.going.held.is_unit
+
+-- ---- what is promised
+
+pub returns-clause-recorded : goal.returns-clause-recorded
+returns-clause-recorded g c = λ x a b h time few.
+    let v = c.loop-i.invariant in
+    let items = c.args.trace.now.items in
+    let began : Devices = devices (g.U.Medium.state c.args.unit.now) (g.C.Chip.state c.args.card_a.now) (g.C.Chip.state c.args.card_b.now) in
+    let now : Devices = devices (g.U.Medium.state c.loop-i.unit) (g.C.Chip.state c.loop-i.card_a) (g.C.Chip.state c.loop-i.card_b) in
+    let start : ℕ = c.args.trace.now.start in
+    let whole = take_all c.loop-i.i items (omega (arith, c.loop-i-test.false, c.len-i-end.ensures)) in
+    let told = v.told x a b h in
+    promised x a b start items began now c.loop-i.run c.loop-i.outcome
+    (subst (λ (is : List Item). RunRecorded (origin_of x a b start began) (seconds_of start is) c.loop-i.run c.loop-i.outcome now) whole (v.recorded x a b h time few))
+    (g.met.U.Medium.coherent c.loop-i.unit) (both (λ k. IsCoherent (card_of now k)) (g.met.C.Chip.coherent c.loop-i.card_a) (g.met.C.Chip.coherent c.loop-i.card_b)) told.0 told.1
+
+pub returns-clause-begun : goal.returns-clause-begun
+returns-clause-begun g c = λ x a b h. (c.loop-i.invariant.told x a b h).0
+
+-- ---- or what kept it from being recorded
+
+pub returns-in_err-opened-clause-fault : goal.returns-in_err-opened-clause-fault
+returns-in_err-opened-clause-fault g c = λ x a b h time few.
+    let began : Devices = devices (g.U.Medium.state c.args.unit.now) (g.C.Chip.state c.args.card_a.now) (g.C.Chip.state c.args.card_b.now) in
+    let why = c.in_err-opened.ensures.begins (opened_with x a b) (begins-with x a b [] (record { breaks = []; refused = []; finds = [] }) began h) in
+    let cause : IfErr c.from_residual.result (IsRefusedAs (opened_with x a b) c.args.trace.now.start began (devices (g.U.Medium.state c.judge.new.unit) (g.C.Chip.state c.judge.new.card_a) (g.C.Chip.state c.judge.new.card_b))) = first_of (search rules, grind (arith, common_steps)) in
+    if-err c.from_residual.result (λ fault is. (record { cause = is; same_unit = c.judge.ensures.unit; same_a = c.judge.ensures.card_a; same_b = c.judge.ensures.card_b }, refl)) cause
+
+pub returns-in_err-go_on-clause-fault : goal.returns-in_err-go_on-clause-fault
+returns-in_err-go_on-clause-fault g c = λ x a b h time few.
+    let v = c.loop-i.invariant in
+    let items = c.args.trace.now.items in
+    let f = c.in_err-go_on.ensures in
+    let many = v.waits.count in
+    let first = v.first in
+    let low : c.loop-i.i < length items = omega (arith, c.loop-i-test.true, c.len-i-end.ensures) in
+    absurd (f.recorded many (origin_of x a b c.args.trace.now.start (devices (g.U.Medium.state c.args.unit.now) (g.C.Chip.state c.args.card_a.now) (g.C.Chip.state c.args.card_b.now))) (seconds_of c.args.trace.now.start (take c.loop-i.i items)) (omega (arith, many, few, low, first)) (v.recorded x a b h (f.time time) few) time)

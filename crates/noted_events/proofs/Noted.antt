@@ -1,0 +1,90 @@
+-- What calls note on the unit, one call after another.
+use Rattle.std.proofs.Common.{◌≡◌, ◌∙◌, ◌⊎◌, inl, inr, ⊎_elim, ℕ, ◌+◌, Bool, true, false, cond, not, nat_eq, Option, Some, None, IfSome, is_some, List, [], ◌∷◌, ◌++◌, length, filter, Contains, refl, ap, sym, subst, arith}
+use Rattle.std.specs.List.{AllByRecursion}
+use Rattle.std.proofs.lemmas.Bool.Decides.{nat_tests}
+use Rattle.trace_model.specs.declared.Card.{Card}
+use Rattle.tach_media.specs.Medium.{State, IsCoherent, LeavesOnly}
+use Rattle.log_model.specs.Log.{RunLog}
+use Rattle.event_model.specs.declared.kinds.TheConstants.{OVER_SPEEDING}
+use Rattle.event_model.specs.Events.{Event}
+use Rattle.event_course.specs.Noted.{are_sure}
+use Rattle.event_course.specs.Shown.{all_kinds, first_on, count_on}
+use Rattle.side_model.specs.Tables.{table_in, AreNoted}
+use Rattle.unit_model.specs.declared.layout.TheConstants.{FIRST_OVER, OVER_COUNT}
+use Rattle.unit_model.specs.Image.{IsUnit, number_of}
+use Rattle.unit_notes.specs.declared.unit_event.UnitEvent.{UnitEvent}
+use Rattle.safety_model.specs.Safe.{Devices}
+use Rattle.run_rule.specs.Between.{devices}
+use Rattle.run_events.specs.Shown.{by_kind, none, ShowsMore, AreNumbers, SaysNothing}
+use Rattle.run_events.proofs.Shows.{more-then, nothing-more}
+use Rattle.run_recorded.specs.Origin.{Origin}
+use Rattle.run_evented.specs.Evented.{number_in, NotesMore}
+use Rattle.run_evented.specs.Noting.{NotesThese}
+use Rattle.noted_events.specs.Noted.{IsTold, AreUnsure, AreTold, IsSplit, NotesSo, NotesEvents}
+
+-- ---- lists of events
+
+pub split : (number : Card → List ℕ) (vs ws : List UnitEvent) (es : List Event) → AreTold number (vs ++ ws) es → IsSplit number vs ws es
+split number [] ws es h = record { first = []; later = es; are = refl; first_told = tt; later_told = h }
+split number (v ∷ vs) ws [] h = absurd h
+split number (v ∷ vs) ws (e ∷ es) h =
+    let rest = split number vs ws es h.1 in
+    record { first = e ∷ rest.first; later = rest.later; are = ap (λ (xs : List Event). e ∷ xs) rest.are; first_told = (h.0, rest.first_told); later_told = rest.later_told }
+
+unsure-front : (log : RunLog) (now : ℕ → List Event) (xs ys : List Event) → AreUnsure log now (xs ++ ys) → AreUnsure log now xs
+unsure-front log now [] ys h = tt
+unsure-front log now (x ∷ xs) ys h = (h.0, unsure-front log now xs ys h.1)
+
+unsure-back : (log : RunLog) (now : ℕ → List Event) (xs ys : List Event) → AreUnsure log now (xs ++ ys) → AreUnsure log now ys
+unsure-back log now [] ys h = h
+unsure-back log now (x ∷ xs) ys h = unsure-back log now xs ys h.1
+
+-- of a type that is sure there is none among them
+sure-none : (log : RunLog) (now : ℕ → List Event) (kind : ℕ) → are_sure log (now kind) ≡ true → (es : List Event) → AreUnsure log now es → by_kind es kind ≡ []
+sure-none log now kind sure [] h = refl
+sure-none log now kind sure (e ∷ es) h = by (nat_eq e.kind kind) refl (sure-none log now kind sure es h.1)
+  where
+    by : (b : Bool) → nat_eq e.kind kind ≡ b → by_kind es kind ≡ [] → by_kind (e ∷ es) kind ≡ []
+    by true is rest = let same : e.kind ≡ kind = grind (arith, nat_tests) in absurd (h.0 (subst (λ (k : ℕ). are_sure log (now k) ≡ true) (sym same) sure))
+    by false is rest = ap (λ (b : Bool). cond b (e ∷ by_kind es kind) (by_kind es kind)) is ∙ rest
+
+-- so nothing more is shown
+unsure-shown : (number : Card → List ℕ) (log : RunLog) (now : ℕ → List Event) (es : List Event) (x c : List ℕ) → AreUnsure log now es → ShowsMore number log now (by_kind es) x c → ShowsMore number log now none x c
+unsure-shown number log now es x c unsure h = record {
+  tables = λ kind there sure. subst (λ (more : List Event). AreNoted number (table_in kind x) more (table_in kind c)) (sure-none log now kind sure es unsure) (h.tables kind there sure);
+  first_over = λ sure. h.first_over sure ∙ ap (λ (more : List Event). first_on (number_of x FIRST_OVER) more) (sure-none log now OVER_SPEEDING sure es unsure);
+  over_count = λ sure few. h.over_count sure few ∙ ap (λ (more : List Event). count_on (number_of x OVER_COUNT) more) (sure-none log now OVER_SPEEDING sure es unsure);
+  begins = tt;
+}
+
+-- ---- calls
+
+-- nothing is noted where the images say the same
+pub quiet-noted : (U V A B C D : State) → ((c : List ℕ) → V.may_leave c → (x : List ℕ) × U.may_leave x × SaysNothing x c) → NotesEvents [] false (devices U A B) (devices V C D)
+quiet-noted U V A B C D same o long [] told c there = let one = same c there in (one.0, one.1, λ log now. nothing-more (number_in o) log now one.0 c one.2)
+quiet-noted U V A B C D same o long (e ∷ es) told c there = absurd told
+
+-- one call after another
+pub then-noted : (vs ws : List UnitEvent) (failed : Bool) (d e f : Devices) → NotesEvents vs false d e → NotesEvents ws failed e f → NotesEvents (vs ++ ws) failed d f
+then-noted vs ws failed d e f first later o long es told =
+    let parts = split (number_in o) vs ws es told in
+    subst (λ (xs : List Event). NotesSo failed o xs d f) (sym parts.are) (by parts.first parts.later failed (first o long parts.first parts.first_told) (later o long parts.later parts.later_told))
+  where
+    by : (xs ys : List Event) (b : Bool) → NotesThese o xs d e → NotesSo b o ys e f → NotesSo b o (xs ++ ys) d f
+    by xs ys false one two = λ c there.
+        let mid = two c there in
+        let start = one mid.0 mid.1 in
+        (start.0, start.1, λ log now. more-then (number_in o) log now xs ys start.0 mid.0 c (start.2 log now) (mid.2 log now))
+    by xs ys true one two = λ log now unsure c there.
+        let mid = two log now (unsure-back log now xs ys unsure) c there in
+        let start = one mid.0 mid.1 in (
+          start.0,
+          start.1,
+          more-then (number_in o) log now [] [] start.0 mid.0 c (unsure-shown (number_in o) log now xs start.0 mid.0 (unsure-front log now xs ys unsure) (start.2 log now)) mid.2,
+        )
+
+-- it failed before others came
+pub cut-noted : (vs ws : List UnitEvent) (d e : Devices) → NotesEvents vs true d e → NotesEvents (vs ++ ws) true d e
+cut-noted vs ws d e first o long es told log now unsure =
+    let parts = split (number_in o) vs ws es told in
+    first o long parts.first parts.first_told log now (unsure-front log now parts.first parts.later (subst (AreUnsure log now) parts.are unsure))

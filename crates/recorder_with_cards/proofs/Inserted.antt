@@ -1,0 +1,132 @@
+-- A card is put into a slot: the minutes before are kept, and then it is judged.
+use Rattle.std.proofs.Common.{◌≡◌, ◌∙◌, inr, ℕ, suc, ◌+◌, ◌/◌, ◌≤◌, Bool, true, false, Some, None, List, [], ◌∷◌, ◌++◌, length, refl, ap, sym, subst, arith, append-nil, append_assoc, length-append}
+use Rattle.std.specs.List.{AllByRecursion}
+use Rattle.activity_codec.specs.declared.values.Slot.{Slot}
+use Rattle.activity_codec.specs.declared.values.Slot.TheVariants.{Driver, CoDriver}
+use Rattle.trace_model.specs.declared.Card.{Card}
+use Rattle.trace_model.specs.declared.Action.{Action}
+use Rattle.trace_model.specs.declared.Action.TheVariants.{Insert}
+use Rattle.trace_model.specs.Trace.{TraceSecond}
+use Rattle.minute_model.specs.declared.Minute.{Minute}
+use Rattle.minute_model.specs.Span.{Span, settled, decided_in}
+use Rattle.minute_rules.specs.Kept.{StandsFor}
+use Rattle.log_model.specs.declared.lines.Break.{Break}
+use Rattle.log_model.specs.Log.{In}
+use Rattle.log_model.specs.Slots.{refusal}
+use Rattle.log_model.specs.Course.{Visit}
+use Rattle.unit_model.specs.Image.{odometer_at}
+use Rattle.unit_rule.specs.Odometer.{odometer_after}
+use Rattle.safety_model.specs.Safe.{Devices}
+use Rattle.slot_machine.specs.Calls.{seat_in, logged}
+use Rattle.run_moments.specs.Reached.{IsTearAt}
+use Rattle.run_moments.specs.Moment.{entering_by}
+use Rattle.run_outcome.specs.Lines.{Listed}
+use Rattle.run_outcome.specs.declared.outcome.Outcome.{Outcome}
+use Rattle.run_recorded.specs.Origin.{Origin}
+use Rattle.run_keeping.specs.declared.keeper.Moment.{Moment}
+use Rattle.run_keeping.specs.Books.{HaveTime}
+use Rattle.run_keeping.specs.Keeping.{Fate, Still, Has, Fell, breaks_by, tear_of}
+use Rattle.run_keeping.specs.Minutes.{Told, AreKept, none, more}
+use Rattle.run_within.specs.Within.{Beginning, course_in}
+use Rattle.run_within.specs.Taking.{IsPut, AreTearsAt, MayBeJudged}
+use Rattle.run_within.proofs.Putting.{card-put, entered-next}
+use Rattle.run_acts.specs.declared.run.Run.{Run}
+use Rattle.run_acts.specs.Acting.{IsSettled, told_of}
+use Rattle.run_acts.specs.Recording.{log_of, values_of, RunWithin, RunFails, GoesOnOrCut, IsNow}
+use Rattle.run_acts.specs.Settling.{settled_run, RecordsSettling, SettlesTo, IsSettledIn}
+use Rattle.recorder_with_cards.specs.Accepting.{put_run}
+use Rattle.recorder_with_cards.specs.Judged.{moment_in, RunNext, JudgesSo}
+use Rattle.recorder_with_cards.proofs.ActsRecorded.{refuses}
+use Rattle.recorder_with_cards.proofs.Resumed.{judged-goes}
+
+-- ---- the lines of a settling tell of tears at its moment
+
+tears-both : (s : TraceSecond) (n : ℕ) (xs ys : List Break) → AreTearsAt s (In n) xs → AreTearsAt s (In n) ys → AreTearsAt s (In n) (xs ++ ys)
+tears-both s n [] ys first second = second
+tears-both s n (x ∷ xs) ys first second = (first.0, tears-both s n xs ys first.1 second)
+
+tears-by : (s : TraceSecond) (n : ℕ) (at : Moment) → at ≡ moment_in s n → n ≤ length s.actions → (fate : Fate) (slot : Slot) → AreTearsAt s (In n) (breaks_by fate slot at)
+tears-by s n at now le Still slot = tt
+tears-by s n at now le (Has accepted clock) slot = tt
+tears-by s n at now le Fell slot = ((slot, true, (n, false, ap (λ (m : Moment). tear_of slot m) now, refl, le, λ late. absurd (let bad : false ≡ true = late in cc))), tt)
+
+tears-kept : (s : TraceSecond) (n : ℕ) (at : Moment) → at ≡ moment_in s n → n ≤ length s.actions → (ms : List Minute) (t u : Told) → AreKept at ms t u →
+    (lines : List Break) × (u.breaks.items ≡ t.breaks.items ++ lines) × AreTearsAt s (In n) lines
+tears-kept s n at now le ms t u (none v) = ([], sym (append-nil v.breaks.items), tt)
+tears-kept s n at now le ms t u (more m front round v mid kept is) =
+    let before = tears-kept s n at now le front v mid kept in
+    let driver : List Break = breaks_by round.driver Driver at in
+    let codriver : List Break = breaks_by round.codriver CoDriver at in (
+      (before.0 ++ driver) ++ codriver,
+      ap (λ (xs : List Break). (xs ++ driver) ++ codriver) before.1 ∙ ap (λ (xs : List Break). xs ++ codriver) (append_assoc v.breaks.items before.0 driver) ∙ append_assoc v.breaks.items (before.0 ++ driver) codriver,
+      tears-both s n (before.0 ++ driver) codriver (tears-both s n before.0 driver before.2 (tears-by s n at now le round.driver Driver)) (tears-by s n at now le round.codriver CoDriver),
+    )
+
+-- ---- A CARD IS PUT IN
+
+module _ (slot : Slot) (card : Card) (at : Moment) (speed : ℕ) (old : Run) (before : Outcome) (d : Devices) (o : Origin) (done : List TraceSecond) (s : TraceSecond) (now : IsNow s speed old) (front rest : List Action) (actions : s.actions ≡ front ++ Insert slot card ∷ rest)
+    (second : at.second ≡ old.next) (begun : at.begun ≡ suc (length front)) (late : at.late ≡ false) (allowed : refusal (logged old.keeper.cabin.slots.seats) speed (Insert slot card) ≡ None) (h : RunWithin o done s (In (length front)) [] [] old before d) where
+  abbrev n : ℕ
+  n = length front
+
+  at-is : at ≡ moment_in s (suc n)
+  at-is =
+      ap (λ (x : ℕ). record { second = x; begun = at.begun; late = at.late }) (second ∙ sym now.number)
+      ∙ ap (λ (x : ℕ). record { second = s.number; begun = x; late = at.late }) begun
+      ∙ ap (λ (x : Bool). record { second = s.number; begun = suc n; late = x }) late
+
+  within-actions : suc n ≤ length s.actions
+  within-actions = let all = ap (λ (xs : List Action). length xs) actions in let long = length-append front (Insert slot card ∷ rest) in omega (arith, all, long)
+
+  -- these minutes are to be kept then
+  module _ (mid : Run) (told : Outcome) (failed : Bool) (settles : IsSettled at failed (put_run slot card old) mid before told) (decided : List Minute) (given : (span : Span) → StandsFor old.minutes span → decided_in (settled span) ≡ decided_in span ++ decided) where
+    pub put : IsPut o done s (values_of old before) d front slot card mid.minutes decided h.within
+    put = card-put d o done s (values_of old before) front slot card rest actions h.within (refuses o done s speed old before d now front (Insert slot card) rest actions h None allowed)
+        mid.minutes (settles.minutes h.within.sp h.within.minutes) decided (given h.within.sp h.within.minutes)
+
+    abbrev waits : List Visit
+    waits = entering_by n (Insert slot card)
+
+    abbrev pub waiting : RunWithin o done s (In (suc n)) waits decided (settled_run mid.minutes (put_run slot card old)) before d
+    waiting = record {
+      origin = h.origin;
+      lit = h.lit;
+      within = put.goes.within;
+      odometer = h.odometer ∙ ap (λ (b : Beginning). odometer_after (odometer_at o.recording.unit) b.travel.before) (sym put.goes.began);
+    }
+
+    module _ (e : Devices) (records : RecordsSettling decided at failed (put_run slot card old) mid before told d e) (time : HaveTime e) where
+      kept : SettlesTo failed o done s (In (suc n)) waits waiting.within.b waiting.within.from (waiting.within.from + length decided) (put_run slot card old) mid before told e
+      kept = records o done s (suc n) waits at-is waiting time
+
+      -- the unit failed as they were kept
+      pub unsettled : failed ≡ true → RunFails o done s (In at.begun) mid told e
+      unsettled fails =
+          let cut = subst (λ (f : Bool). SettlesTo f o done s (In (suc n)) waits waiting.within.b waiting.within.from (waiting.within.from + length decided) (put_run slot card old) mid before told e) fails kept in
+          subst (λ (m : ℕ). RunFails o done s (In m) mid told e) (sym begun) (record { waits = waits; cabin = mid.keeper.cabin; same = refl; within = cut })
+
+      -- or they are kept, and the card is judged
+      module _ (well : failed ≡ false) (seat : seat_in mid.keeper.cabin.slots.seats slot ≡ Some (record { card = card; newest = None })) where
+        abbrev on : IsSettledIn o done s (In (suc n)) waits waiting.within.b waiting.within.from (waiting.within.from + length decided) (put_run slot card old) mid before told e
+        on = subst (λ (f : Bool). SettlesTo f o done s (In (suc n)) waits waiting.within.b waiting.within.from (waiting.within.from + length decided) (put_run slot card old) mid before told e) well kept
+
+        lines : (added : List Break) × (told.breaks.items ≡ before.breaks.items ++ added) × AreTearsAt s (In (suc n)) added
+        lines =
+            let all = subst (λ (f : Bool). IsSettled at f (put_run slot card old) mid before told) well settles in
+            tears-kept s (suc n) at at-is within-actions all.decided (told_of (put_run slot card old) before) (told_of mid told) all.kept
+
+        log-is : log_of told ≡ record (log_of before) { breaks = before.breaks.items ++ lines.0 }
+        log-is =
+            ap (λ (q : Outcome). record (log_of told) { refused = q.refused.items; finds = q.finds.items }) settles.outcome
+            ∙ ap (λ (xs : List Break). record (log_of before) { breaks = xs }) lines.1
+
+        judged : MayBeJudged o done s (In (suc n)) waits (values_of mid told) e on.goes.within slot card
+        judged = entered-next d e o done s (values_of old before) front slot card mid.minutes decided h.within put (values_of mid told) on.goes.within on.began on.from lines.0 log-is lines.2 seat
+
+        abbrev next : RunNext o done s (suc n) waits [] mid told e slot card
+        next = record { goes = on.goes; next = judged.next; none = judged.none slot; order = λ is_driver. inr (judged.none CoDriver) }
+
+        pub inserted : (judged_failed : Bool) (new : Run) (after : Outcome) (later : Devices) → JudgesSo slot card at judged_failed mid new told after e later → HaveTime later → GoesOnOrCut judged_failed o done s (In at.begun) [] new after later
+        inserted judged_failed new after later judges end =
+            subst (λ (m : ℕ). GoesOnOrCut judged_failed o done s (In m) [] new after later) (sym begun)
+            (judged-goes judged_failed o done s (suc n) waits mid new told after e later on.goes (judges o done s (suc n) waits [] at-is next end))

@@ -1,0 +1,241 @@
+-- What a run promises, from what was recorded of it; and that nothing is recorded as it begins.
+use Rattle.std.proofs.Common.{◌≡◌, ◌∙◌, inl, ℕ, ◌+◌, ◌-◌, ◌/◌, ◌<◌, ◌≤◌, true, false, Option, Some, None, IfSome, is_some, Result, Ok, List, [], ◌++◌, All, refl, ap, sym, subst, arith}
+use Rattle.trace_model.specs.declared.Card.{Card}
+use Rattle.trace_model.specs.declared.Card.TheVariants.{A, B}
+use Rattle.trace_model.specs.declared.Item.{Item}
+use Rattle.trace_model.specs.Trace.{TraceSecond, seconds_of}
+use Rattle.tach_media.specs.Medium.{State, IsCoherent}
+use Rattle.card_layout.specs.Application.{IsApplication}
+use Rattle.card_model.specs.Days.{AreDays}
+use Rattle.card_image.specs.Fields.{card_days}
+use Rattle.card_image.specs.Own.{own_view, own_sizes, own_number, IsOwnValid}
+use Rattle.card_times.specs.Times.{IsTimed}
+use Rattle.chip_model.specs.declared.command.CardState.{CardState}
+use Rattle.tacho_types.specs.declared.card_number.FullCardNumber.{FullCardNumber}
+use Rattle.tacho_types.specs.CardNumber.{card_number_bytes, card_number_of}
+use Rattle.log_model.specs.Log.{RunLog}
+use Rattle.run_model.specs.declared.Device.{Device}
+use Rattle.run_model.specs.declared.Device.TheVariants.{Unit as Recorder, CardA, CardB}
+use Rattle.history_model.specs.Book.{not_begun}
+use Rattle.joint_rule.specs.Rules.{Out}
+use Rattle.unit_course.specs.Followed.{Supply, Lit as IsLit, Due as IsDue, Lost as IsLost}
+use Rattle.unit_course.specs.Legs.{not_travelled}
+use Rattle.unit_model.specs.declared.layout.TheConstants.{HIGHEST_ODOMETER}
+use Rattle.unit_model.specs.Image.{last_kept, odometer_at}
+use Rattle.unit_model.specs.Decoding.{Decodes}
+use Rattle.unit_rule.specs.Odometer.{HasTravelled}
+use Rattle.unit_rule.proofs.Travelling.{travelled-opened}
+use Rattle.unit_journal.specs.Image.{IsFoundBy}
+use Rattle.safety_model.specs.Recording.{Recording, card_image, brought}
+use Rattle.safety_model.specs.Safe.{Devices, card_of, breakdowns_of, MayBegin}
+use Rattle.slot_machine.specs.Kept.{nothing_yet}
+use Rattle.run_crew.specs.declared.cards.Known.{Known}
+use Rattle.run_crew.specs.declared.cards.Cards.{Cards}
+use Rattle.run_crew.specs.declared.cabin.Cabin.{Cabin}
+use Rattle.run_crew.specs.Cards.{known_of as known_in, session_of}
+use Rattle.run_rule.specs.Found.{Found, found_of}
+use Rattle.run_rule.specs.Between.{Carried, IsCarried, IsFound, devices}
+use Rattle.run_rule.specs.Opening.{BeginsAs, carried_first}
+use Rattle.run_rule.proofs.End.{lit-carried}
+use Rattle.run_brought.specs.Accounts.{so_far}
+use Rattle.run_moments.specs.Telling.{IsMore}
+use Rattle.run_told.specs.Told.{AreFoundCards, IsHeldDark, IsPowerless}
+use Rattle.run_told.proofs.Opened.{opened-wait, opened-powerless}
+use Rattle.run_recorded.specs.Origin.{Origin}
+use Rattle.run_recorded.specs.Ends.{recording_by, EndsRun}
+use Rattle.run_recorded.specs.Seconds.{empty_log}
+use Rattle.run_recorded.proofs.Ends.{ends-run}
+use Rattle.run_within.specs.Recorded.{Values, progress, carried, AreThere, IsHeldBy, Recorded}
+use Rattle.run_within.specs.Going.{MayStart}
+use Rattle.run_within.proofs.Going.{begun-recorded}
+use Rattle.run_opening.specs.Begun.{Begin, found_in, known_of, IsReady}
+use Rattle.run_opening.specs.Begun.{IsRefusedBy as IsRefusedAs}
+use Rattle.run_opening.specs.Cards.{IsTold, IsFoundOn, number_by}
+use Rattle.run_opening.specs.Opening.{IsAsItWas}
+use Rattle.run_opening.specs.declared.opening.Opened.{Opened}
+use Rattle.run_opening.specs.declared.fault.RunFault.{RunFault}
+use Rattle.run_opening.proofs.Told.{valid-known}
+use Rattle.run_outcome.specs.declared.outcome.Outcome.{Outcome}
+use Rattle.run_acts.specs.declared.run.Run.{Run}
+use Rattle.run_acts.specs.declared.run.Power.{Power}
+use Rattle.run_acts.specs.declared.run.Power.TheVariants.{Lit, Due, Lost}
+use Rattle.run_acts.specs.Recording.{values_of, IsOrigin, Supplies, RunRecorded}
+use Rattle.recorder_with_cards.specs.Ends.{BeginAs, recorded_with, recording_of, opened_with, origin_of, MayRecord, EndsTrace}
+use Rattle.recorder_with_cards.proofs.Waiting.{first-second}
+
+-- what holds of either card
+pub both : (P : Card → Type 0) → P A → P B → (c : Card) → P c
+both P first second A = first
+both P first second B = second
+
+-- breakdowns do not go back
+pub more-devices : (U V X Y Z W : State) → U.breakdowns ≤ V.breakdowns → X.breakdowns ≤ Y.breakdowns → Z.breakdowns ≤ W.breakdowns → IsMore (breakdowns_of (devices U X Z)) (breakdowns_of (devices V Y W))
+more-devices U V X Y Z W unit a b Recorder = unit
+more-devices U V X Y Z W unit a b CardA = a
+more-devices U V X Y Z W unit a b CardB = b
+
+-- of two chips that of a card
+abbrev pub chip_of : CardState → CardState → Card → CardState
+chip_of a b A = a
+chip_of a b B = b
+
+-- ---- the images
+
+-- each device begins with its image, by whatever is told of the run
+pub begins-with : (x a b : List ℕ) (trace : List TraceSecond) (log : RunLog) (began : Devices) → BeginAs x a b began → Begin (recorded_with x a b trace log) began
+begins-with x a b trace log began h = record { unit = h.of_unit; card = each }
+  where
+    each : (c : Card) → BeginsAs (card_image (recorded_with x a b trace log) c) (card_of began c)
+    each A = h.of_a
+    each B = h.of_b
+
+-- what was found is so whatever the run told since
+found-by : (r : Recording) (done : List TraceSecond) (log : RunLog) (f : Found) (began : Devices) → IsFound r f began → IsFound (so_far r done log) f began
+found-by r done log f began h = record { unit = h.unit; image = image; start = start; clock = h.clock; number = number; days = days }
+  where
+    image : (c : Card) → (found_of f c).image ≡ card_image (so_far r done log) c
+    image A = h.image A
+    image B = h.image B
+
+    start : (c : Card) → (found_of f c).start ≡ brought (so_far r done log) c
+    start A = h.start A
+    start B = h.start B
+
+    number : (c : Card) → IsOwnValid (card_image (so_far r done log) c) → (found_of f c).number ≡ own_number (card_image (so_far r done log) c)
+    number A valid = h.number A valid
+    number B valid = h.number B valid
+
+    days : (c : Card) → IsOwnValid (card_image (so_far r done log) c) → AreDays 0 (card_days (own_sizes (card_image (so_far r done log) c)) (card_image (so_far r done log) c))
+    days A valid = h.days A valid
+    days B valid = h.days B valid
+
+-- ---- at the end
+
+module _ (x a b : List ℕ) (start : ℕ) (items : List Item) (began now : Devices) where
+  abbrev r0 : Recording
+  r0 = opened_with x a b
+
+  abbrev o : Origin
+  o = origin_of x a b start began
+
+  is-carried : (done : List TraceSecond) (v : Values) (w : Carried) (supply : Supply) → IsHeldBy o done supply v w now → IsCarried o.found w now
+  is-carried done v w (IsLit span) held = lit-carried o.found w now held.powered.lit
+  is-carried done v w IsDue held = held.powerless.carried
+  is-carried done v w IsLost held = held.powerless.carried
+
+  ends-so : (done : List TraceSecond) (supply : Supply) (v : Values) → Recorded o done supply v now → IsCoherent now.unit → ((c : Card) → IsCoherent (card_of now c)) → IsFound r0 (found_in r0 began) began → Decodes x →
+      EndsRun (recorded_with x a b done v.log) v.marks began now
+  ends-so done supply v h unit_whole card_whole found decodes =
+      ends-run o done (progress v supply h.book) h.travel v.marks (carried v h.due h.book h.standing h.brought) began now h.recorded (found-by r0 done v.log (found_in r0 began) began found)
+      (is-carried done v (carried v h.due h.book h.standing h.brought) supply h.held) refl refl h.beside unit_whole card_whole decodes refl
+
+  pub promised : (run : Run) (out : Outcome) → RunRecorded o (seconds_of start items) run out now → IsCoherent now.unit → ((c : Card) → IsCoherent (card_of now c)) → MayRecord x a b start → IsFound r0 (found_in r0 began) began →
+      EndsTrace x a b start items out began now
+  promised run out h unit_whole card_whole may found = record {
+    may = record {
+      decodes = may.decodes;
+      clock = λ s is. let number = first-second start items s is in let later = may.later in omega (arith, number, later);
+      numbers = may.numbers;
+    };
+    ends = ends-so (seconds_of start items) h.supply (values_of run out) h.recorded unit_whole card_whole found may.decodes;
+  }
+
+-- ---- as the run begins
+
+module _ (x a b : List ℕ) (start : ℕ) (began now : Devices) (opened : Opened) (ready : IsReady (opened_with x a b) start opened began now) where
+  abbrev first-r : Recording
+  first-r = opened_with x a b
+
+  abbrev first-o : Origin
+  first-o = origin_of x a b start began
+
+  abbrev f : Found
+  f = found_in (opened_with x a b) began
+
+  pub is-origin : IsOrigin first-o
+  is-origin = record { rule = refl; decodes = ready.decodes; unit = refl; image = ready.found.image; start = ready.found.start; number = ready.found.number }
+
+  pub may-record : MayRecord x a b start
+  may-record = record { decodes = ready.decodes; later = ready.later; numbers = (ready.may (λ s is. absurd (let none : None ≡ Some s = is in cc))).numbers }
+
+  pub is-found : IsFound (opened_with x a b) (found_in (opened_with x a b) began) began
+  is-found = ready.found
+
+  module _ (whole : (c : Card) → IsCoherent (card_of now c)) (unit_whole : IsCoherent now.unit) (on : Card → CardState) (found_on : (c : Card) → IsFoundOn (known_of opened c) (on c) (card_of now c)) (bytes : (c : Card) → All (λ n. n < 256) (card_image (opened_with x a b) c))
+      (clock : (c : Card) → (card_of now c).clock ≡ (card_of began c).clock) (more : IsMore (breakdowns_of began) (breakdowns_of now)) (low : opened.unit.journal.odometer ≤ HIGHEST_ODOMETER) where
+    sizes : (c : Card) → IsOwnValid (card_image (opened_with x a b) c) → IsApplication (own_sizes (card_image (opened_with x a b) c))
+    sizes c valid = ((found_on c).port (own_sizes (card_image (opened_with x a b) c)) (valid-known (card_image (opened_with x a b) c) (known_of opened c) (ready.told c) valid)).good
+
+    told : (c : Card) → IsOwnValid (card_image (opened_with x a b) c) → is_some (known_of opened c).number ≡ true
+    told c valid = ap (λ (o : Option FullCardNumber). is_some o) ((ready.told c).number ∙ ap (λ o. number_by o (card_number_of (own_number (card_image (opened_with x a b) c)))) valid)
+
+    valid-as : (c : Card) → IsOwnValid (found_of f c).image → IsOwnValid (card_image (opened_with x a b) c)
+    valid-as c valid = subst IsOwnValid (ready.found.image c) valid
+
+    -- cards as they were opened
+    module _ (cards : Cards) (same : (c : Card) → known_in cards c ≡ known_of opened c) where
+      found-cards : AreFoundCards f cards
+      found-cards = record {
+        two = ready.two;
+        named = λ c valid. subst (λ (k : Known). IfSome k.number (λ n. card_number_bytes n ≡ (found_of f c).number)) (sym (same c)) (ready.named c);
+        told = λ c valid. ap (λ (k : Known). is_some k.number) (same c) ∙ told c (valid-as c valid);
+        sizes = λ c valid. subst (λ (i : List ℕ). IsApplication (own_sizes i)) (sym (ready.found.image c)) (sizes c (valid-as c valid));
+        entries = λ c valid. entries c;
+      }
+        where
+          entries : (c : Card) → (found_of f c).start.entries ≡ (own_view (found_of f c).image).held.entries
+          entries A = refl
+          entries B = refl
+
+    only : (c : Card) (y : List ℕ) → (card_of now c).left_since (found_of f c).began y → y ≡ card_image (opened_with x a b) c
+    only c y left = (ready.begins.card c).only y (subst (λ (n : ℕ). (card_of now c).left_since n y) (ready.found.clock c ∙ sym (clock c)) left)
+
+    untouched : (c : Card) (y : List ℕ) → (card_of now c).left_since (found_of f c).began y → y ≡ (found_of f c).image
+    untouched c y left = only c y left ∙ sym (ready.found.image c)
+
+    there : AreThere f now
+    there = record {
+      unit = ap is_some ready.begins.unit.tells;
+      cards = λ c. ap is_some (ready.begins.card c).tells;
+      clocks = λ c. let one = ready.found.clock c in let two = clock c in omega (arith, one, two);
+      timed = λ c valid y left. subst (λ (z : List ℕ). IsTimed (found_of f c).image z) (sym (untouched c y left)) (inl refl);
+    }
+
+    waits : (c : Card) → IsOwnValid (found_of f c).image → IsHeldDark (found_of f c) c not_begun Out (card_of now c)
+    waits c valid =
+        let v = valid-as c valid in
+        opened-wait f c x (card_image (opened_with x a b) c) (card_of now c) (whole c) (ready.begins.card c) (ready.looked c v) v (sizes c v) (ready.found.number c v) (bytes c)
+
+    first-powerless : IsPowerless f (carried_first (start / 60)) now
+    first-powerless = opened-powerless f (start / 60) now (ready.carried (start / 60) ready.later) waits
+
+    travels : HasTravelled (odometer_at x) not_begun not_travelled now.unit
+    travels =
+        let is = ready.journal.odometer in
+        travelled-opened (odometer_at x) now.unit x refl (let le : odometer_at x ≤ HIGHEST_ODOMETER = omega (arith, is, low) in le)
+        (λ y left. ready.begins.unit.only y (unit_whole.counts_now now.unit.clock y (omega arith) left))
+
+    pub starts-recorded : (run : Run) (out : Outcome) → run.power ≡ Due → run.next ≡ start → run.begun ≡ 0 → run.unfound ≡ 0 → run.keeper.cabin.slots ≡ nothing_yet → ((c : Card) → known_in run.keeper.cabin.cards c ≡ known_of opened c) →
+        ((c : Card) → session_of run.keeper.cabin.cards c ≡ None) → out.breaks.items ≡ [] → out.refused.items ≡ [] → out.finds.items ≡ [] → out.marks.items ≡ [] → RunRecorded first-o [] run out now
+    starts-recorded run out due next begun unfound slots same bare breaks refused finds marks = record {
+      origin = is-origin;
+      supply = IsDue;
+      powers = subst (λ (p : Power). Supplies p IsDue) (sym due) tt;
+      recorded = begun-recorded now first-o (values_of run out) (record {
+        early = ready.later;
+        log = ap (λ bs. record { breaks = bs; refused = out.refused.items; finds = out.finds.items }) breaks ∙ ap (λ rs. record { breaks = []; refused = rs; finds = out.finds.items }) refused ∙ ap (λ fs. record { breaks = []; refused = []; finds = fs }) finds;
+        marks = marks;
+        slots = slots;
+        bare = bare;
+        unfound = unfound;
+        next = next;
+        begun = begun;
+        breakdowns = more;
+        powerless = first-powerless;
+        found = found-cards run.keeper.cabin.cards same;
+        there = there;
+        untouched = untouched;
+        travels = travels;
+      });
+      odometer = λ lit. absurd (let bad : Due ≡ Lit = sym due ∙ lit in cc);
+    }

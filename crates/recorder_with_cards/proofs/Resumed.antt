@@ -1,0 +1,345 @@
+-- Power is back: the unit was read and mended, a span begins, and the cards in the slots are judged one after the other.
+use Rattle.std.proofs.Common.{◌≡◌, ◌∙◌, inr, ⊎_elim, ℕ, ◌+◌, ◌*◌, ◌/◌, ◌≤◌, min, Bool, true, false, Option, Some, None, IfSome, is_some, List, [], ◌∷◌, ◌++◌, Contains, map, length, refl, ap, sym, subst, arith, append-nil}
+use Rattle.std.specs.List.{AllByRecursion}
+use Rattle.std.proofs.lemmas.List.Elements.{Contains-push, Contains-push_cases, Contains-append_left}
+use Rattle.std.proofs.lemmas.List.Sums.{fold-append}
+use Rattle.activity_codec.specs.declared.values.Slot.{Slot}
+use Rattle.activity_codec.specs.declared.values.Slot.TheVariants.{Driver, CoDriver}
+use Rattle.trace_model.specs.declared.Card.{Card}
+use Rattle.trace_model.specs.declared.Card.TheVariants.{A, B}
+use Rattle.trace_model.specs.Trace.{TraceSecond}
+use Rattle.tach_media.specs.Medium.{State, IsCoherent, LeavesOnly, Unchanged, HasCause}
+use Rattle.tach_media.proofs.Runs.{starts}
+use Rattle.minute_model.specs.declared.Rule.{Rule}
+use Rattle.minute_model.specs.declared.Rule.TheVariants.{Original}
+use Rattle.minute_rules.specs.Kept.{StandsFor}
+use Rattle.log_model.specs.declared.lines.Find.{Find}
+use Rattle.log_model.specs.declared.lines.Mark.{Mark}
+use Rattle.log_model.specs.declared.lines.Verdict.TheVariants as verdict
+use Rattle.log_model.specs.Log.{RunLog, In, found_in}
+use Rattle.log_model.specs.Slots.{Slots, Sitting}
+use Rattle.log_model.specs.Course.{Visit, fresh, visits, card_in as card_of_sitting}
+use Rattle.history_model.specs.Minutes.{HistoryMinute}
+use Rattle.history_model.specs.Presence.{Start}
+use Rattle.history_model.specs.Book.{Book, found}
+use Rattle.joint_rule.specs.Rules.{Standing}
+use Rattle.unit_model.specs.declared.layout.TheConstants.{HIGHEST_ODOMETER}
+use Rattle.unit_model.specs.Image.{last_kept, odometer_at}
+use Rattle.unit_journal.specs.declared.notes.Notes.{Notes}
+use Rattle.unit_journal.specs.Image.{Agrees, IsFoundBy}
+use Rattle.unit_journal.specs.Mends.{IsMending}
+use Rattle.unit_course.specs.Followed.{Supply, MayPower}
+use Rattle.unit_course.specs.Legs.{Travel, resumed}
+use Rattle.unit_course.specs.Turn.{span_at}
+use Rattle.unit_rule.specs.Rule.{Started}
+use Rattle.unit_rule.specs.Marks.{Holds}
+use Rattle.unit_rule.specs.Odometer.{odometer_by, odometer_after, ShowsOdometer, HasTravelled}
+use Rattle.unit_rule.proofs.Travelling.{odometer-sum}
+use Rattle.device_steps.specs.Rule.{Both, CardRests, IsTakenUp}
+use Rattle.safety_model.specs.Safe.{Devices, card_of}
+use Rattle.slot_machine.specs.declared.seats.Seat.{Seat}
+use Rattle.slot_machine.specs.Calls.{Seats, seat_in, card_in}
+use Rattle.slot_machine.specs.Kept.{Kept}
+use Rattle.run_crew.specs.declared.cabin.Cabin.{Cabin}
+use Rattle.run_rule.specs.Between.{devices}
+use Rattle.run_course.specs.Moments.{and_find}
+use Rattle.run_course.specs.Presence.{SitsAs, SlotsTell}
+use Rattle.run_outcome.specs.declared.outcome.Outcome.{Outcome}
+use Rattle.run_recorded.specs.Origin.{Origin, rule_of, start_at, first_of}
+use Rattle.run_keeping.specs.declared.keeper.Keeper.{Keeper}
+use Rattle.run_keeping.specs.declared.keeper.Moment.{Moment}
+use Rattle.run_keeping.specs.Books.{HaveTime}
+use Rattle.run_entering.specs.declared.lines.Entering.{Entering}
+use Rattle.run_entering.specs.Entering.{Ending, Unfit, Ahead, Fell, Unasked, Unnoted, Seated, Lost, ending_of, find_of, finds_by}
+use Rattle.run_within.specs.Recorded.{Values, carried, slots_of, IsOff, Recorded}
+use Rattle.run_within.specs.Within.{Beginning, Within, CutWithin}
+use Rattle.run_within.specs.Powering.{read_values, begun_values, begun_again, IsBack, IsOnlyRead}
+use Rattle.run_within.specs.Waking.{IsWaking, both_slots}
+use Rattle.run_within.proofs.Powering.{off-of, power-wakes, mending-fails}
+use Rattle.run_within.proofs.Calls.{is-back, only-read}
+use Rattle.run_within.proofs.Waking.{but-first, next-waking, find-other}
+use Rattle.run_acts.specs.declared.run.Run.{Run}
+use Rattle.run_acts.specs.declared.run.Power.TheVariants.{Lit}
+use Rattle.run_acts.specs.Power.{IsSpanBegun}
+use Rattle.run_acts.specs.Recording.{IsOrigin, log_of, values_of, RunWithin, GoesOnOrCut}
+use Rattle.recorder_with_cards.specs.Accepting.{IsBare, IsAccepted, IsAnew}
+use Rattle.recorder_with_cards.specs.Judged.{moment_in, RunNext, RunBehind, JudgedTo, JudgesSo, JudgesAnew}
+use Rattle.recorder_with_cards.proofs.Read.{unit-tells, image-of, at-image}
+
+-- ---- a run at its power-on
+
+-- power begins with a second that begins so, and these cards wait, of those in these slots nothing was found yet
+pub record RunWaking (o : Origin) (done : List TraceSecond) (s : TraceSecond) (b : Beginning) (waits : List Visit) (untold : List Slot) (run : Run) (out : Outcome) (d : Devices) : Type 0 where
+  pub origin : IsOrigin o
+  pub lit : run.power ≡ Lit
+  pub waking : IsWaking o done s b (values_of run out) d waits untold
+  pub odometer : run.keeper.odometer ≡ odometer_after (odometer_at o.recording.unit) b.travel.before
+
+abbrev pub within-of : (o : Origin) (done : List TraceSecond) (s : TraceSecond) (b : Beginning) (waits : List Visit) (untold : List Slot) (run : Run) (out : Outcome) (d : Devices) → RunWaking o done s b waits untold run out d → RunWithin o done s (In 0) waits [] run out d
+within-of o done s b waits untold run out d w = record {
+  origin = w.origin;
+  lit = w.lit;
+  within = w.waking.within;
+  odometer = w.odometer ∙ ap (λ (x : Beginning). odometer_after (odometer_at o.recording.unit) x.travel.before) (sym w.waking.began);
+}
+
+-- ---- who waits
+
+-- the card of a slot, where there is one
+abbrev pub waiting_in : Slot → Option Card → List Visit
+waiting_in slot None = []
+waiting_in slot (Some card) = record { phase = In 0; slot = slot; card = card } ∷ []
+
+visit-of : (start : Start) (past : List HistoryMinute) (from : ℕ) (k : Kept) (slot : Slot) (seat : Option Seat) (x : Option Sitting) → SitsAs start past from k seat x →
+    map (λ card. record { phase = In 0; slot = slot; card = card }) (card_of_sitting x) ≡ waiting_in slot (card_in seat)
+visit-of start past from k slot None None h = refl
+visit-of start past from k slot None (Some y) h = absurd h
+visit-of start past from k slot (Some seat) None h = absurd h
+visit-of start past from k slot (Some seat) (Some y) h = ap (λ (card : Card). record { phase = In 0; slot = slot; card = card } ∷ []) (sym h.0)
+
+pub entered-are : (start : Start) (past : List HistoryMinute) (from : ℕ) (k : Kept) (slots : Slots) → SitsAs start past from k k.seats.driver slots.driver → SitsAs start past from k k.seats.codriver slots.codriver →
+    (fresh true slots).entered ≡ waiting_in Driver (card_in k.seats.driver) ++ waiting_in CoDriver (card_in k.seats.codriver)
+entered-are start past from k slots driver codriver =
+    ap (λ (xs : List Visit). xs ++ visits (In 0) CoDriver slots) (visit-of start past from k Driver k.seats.driver slots.driver driver)
+    ∙ ap (λ (xs : List Visit). waiting_in Driver (card_in k.seats.driver) ++ xs) (visit-of start past from k CoDriver k.seats.codriver slots.codriver codriver)
+
+pub at-once : (slot : Slot) (card : Option Card) → AllByRecursion (λ (x : Visit). x.phase ≡ In 0) (waiting_in slot card)
+at-once slot None = tt
+at-once slot (Some card) = (refl, tt)
+
+-- ---- of the calls
+
+pub wholes-of : (U X Y : State) → IsCoherent X → IsCoherent Y → (c : Card) → IsCoherent (card_of (devices U X Y) c)
+wholes-of U X Y a b A = a
+wholes-of U X Y a b B = b
+
+pub kept-of : (j : Notes) (image : Option (List ℕ)) → IfSome image (IsFoundBy j) → IfSome image (λ x. last_kept x ≡ j.kept)
+kept-of j None h = tt
+kept-of j (Some x) h = h.kept
+
+-- nothing was called
+pub same-devices : {M C D : Type 0} (P : Devices → Type 0) (unit : M → State) (first : C → State) (second : D → State) (m n : M) (a b : C) (x y : D) → (n ≡ m) × (b ≡ a) × (y ≡ x) → P (devices (unit m) (first a) (second x)) → P (devices (unit n) (first b) (second y))
+same-devices P unit first second m n a b x y same h =
+    subst (λ z. P (devices (unit z) (first b) (second y))) (sym same.0)
+    (subst (λ z. P (devices (unit m) (first z) (second y))) (sym same.1)
+    (subst (λ z. P (devices (unit m) (first a) (second z))) (sym same.2) h))
+
+-- ---- the odometer that is found
+
+rests : (a : ℕ) → a ≤ HIGHEST_ODOMETER → odometer_by a 0 ≡ a
+rests a low = omega (arith, low)
+
+shown-so : (start : ℕ) (legs : List ℕ) → start ≤ HIGHEST_ODOMETER → odometer_after start (legs ++ 0 ∷ []) ≡ odometer_after start legs
+shown-so start legs low =
+    let most : odometer_after start legs ≤ HIGHEST_ODOMETER = (let is = odometer-sum start legs low in omega (arith, is)) in
+    fold-append odometer_by start legs (0 ∷ []) ∙ rests (odometer_after start legs) most
+
+pub odometer-found : (start : ℕ) (b : Book) (leg : ℕ) (g : Travel) (unit : State) (x : List ℕ) → HasTravelled start b (resumed leg g) unit → unit.may_leave x → odometer_at x ≡ odometer_after start (resumed leg g).before
+odometer-found start b leg g unit x h there =
+    let shown : ShowsOdometer start b (resumed leg g) x = h.now x there in
+    let none : shown.leg ≡ 0 = ⊎_elim (λ is. is) (λ some. absurd (let bad : None ≡ Some shown.leg = some in cc)) shown.side in
+    shown.is ∙ ap (λ (n : ℕ). odometer_after start ((resumed leg g).before ++ n ∷ [])) none ∙ shown-so start (resumed leg g).before h.begins
+
+-- ---- THE UNIT WAS READ, and is mended
+
+module _ (o : Origin) (origin : IsOrigin o) (done : List TraceSecond) (s : TraceSecond) (supply : Supply) (v : Values) (U X Y : State) (r : Recorded o done supply v (devices U X Y)) (may : MayPower supply v.next) (number : s.number ≡ v.next) (given : s.has_power ≡ true)
+    (whole : IsCoherent U) (wholes : (c : Card) → IsCoherent (card_of (devices U X Y) c)) (works : U.works ≡ true) (j : Notes) (found_so : IfSome U.image (λ x. last_kept x ≡ j.kept))
+    (W : State) (failed : Bool) (mends : LeavesOnly U W (IsMending j)) (tells : is_some W.image ≡ is_some U.image) (cause : HasCause U W failed)
+    (holds : (st : Started) (due : ℕ) (b : Book) (marks : List Mark) → Holds st due b marks U → Holds st due b marks W)
+    (taken_a : (q : Both) (c : Card) (b : Book) (z : Standing) → CardRests q c b z U X → IsTakenUp q c b z failed W X)
+    (taken_b : (q : Both) (c : Card) (b : Book) (z : Standing) → CardRests q c b z U Y → IsTakenUp q c b z failed W Y)
+    (old : Run) (out : Outcome) (values : values_of old out ≡ read_values j.kept v) where
+  abbrev d : Devices
+  d = devices U X Y
+
+  abbrev e : Devices
+  e = devices W X Y
+
+  has-image : (x : List ℕ) × (U.image ≡ Some x)
+  has-image = image-of U.image (unit-tells o done supply v d r may)
+
+  kept-is : last_kept has-image.0 ≡ j.kept
+  kept-is = at-image (λ (x : List ℕ). last_kept x ≡ j.kept) U.image has-image.0 has-image.1 found_so
+
+  first : o.found.unit.first ≡ first_of o
+  first = ap (λ (u : Started). u.first) origin.unit
+
+  as-read : (P : ℕ → Type 0) → P (last_kept has-image.0) → P j.kept
+  as-read P = subst P kept-is
+
+  -- it was mended, and a span has begun
+  module _ (well : failed ≡ false) (journal : Notes) (agrees : IfSome W.image (Agrees journal)) (new : Run) (begun : IsSpanBegun old new journal) (after : IsCoherent W) where
+    next : old.next ≡ v.next
+    next = ap (λ (x : Values). x.next) values
+
+    span : StandsFor new.minutes (span_at (rule_of o) v.next [])
+    span = subst (λ (rule : Rule). StandsFor new.minutes (span_at rule v.next [])) (sym origin.rule) (subst (λ (n : ℕ). StandsFor new.minutes (span_at Original n [])) next begun.minutes)
+
+    back : IsBack o done supply v d r (last_kept has-image.0) new.minutes e
+    back = is-back o done supply v d r may U whole (starts U Unchanged) whole wholes works has-image.0 has-image.1 refl first j W failed mends tells cause holds taken_a taken_b well new.minutes span
+
+    abbrev b : Beginning
+    b = begun_again o done supply v d r (last_kept has-image.0) back.leg e
+
+    cabin : new.keeper.cabin ≡ old.keeper.cabin
+    cabin = ap (λ (k : Keeper). k.cabin) begun.keeper
+
+    became : values_of new out ≡ record (values_of old out) { minutes = new.minutes }
+    became =
+        ap (λ (c : Cabin). record (values_of new out) { cabin = c }) cabin
+        ∙ ap (λ (n : ℕ). record (values_of new out) { cabin = old.keeper.cabin; unfound = n }) begun.unfound
+        ∙ ap (λ (n : ℕ). record (values_of new out) { cabin = old.keeper.cabin; unfound = old.unfound; next = n }) begun.next
+        ∙ ap (λ (n : ℕ). record (values_of new out) { cabin = old.keeper.cabin; unfound = old.unfound; next = old.next; begun = n }) begun.begun
+
+    are-begun : values_of new out ≡ begun_values (last_kept has-image.0) new.minutes v
+    are-begun = became ∙ ap (λ (x : Values). record x { minutes = new.minutes }) (values ∙ ap (λ (k : ℕ). read_values k v) (sym kept-is))
+
+    off : IsOff o done v (carried v r.due r.book r.standing r.brought) d
+    off = off-of o done supply v (carried v r.due r.book r.standing r.brought) d may r.held
+
+    kept-cabin : v.cabin ≡ new.keeper.cabin
+    kept-cabin = sym (ap (λ (x : Values). x.cabin) values) ∙ sym cabin
+
+    waits : (fresh true (slots_of v done)).entered ≡ waiting_in Driver (card_in new.keeper.cabin.slots.seats.driver) ++ waiting_in CoDriver (card_in new.keeper.cabin.slots.seats.codriver)
+    waits =
+        entered-are (start_at o) r.book.sure (v.next / 60) v.cabin.slots (slots_of v done) off.tells.driver off.tells.codriver
+        ∙ ap (λ (c : Cabin). waiting_in Driver (card_in c.slots.seats.driver) ++ waiting_in CoDriver (card_in c.slots.seats.codriver)) kept-cabin
+
+    wakes : IsWaking o done s b (values_of new out) e (waiting_in Driver (card_in new.keeper.cabin.slots.seats.driver) ++ waiting_in CoDriver (card_in new.keeper.cabin.slots.seats.codriver)) both_slots
+    wakes =
+        subst (λ (xs : List Visit). IsWaking o done s b (values_of new out) e xs both_slots) waits
+        (subst (λ (x : Values). IsWaking o done s b x e (fresh true (slots_of v done)).entered both_slots) (sym are-begun)
+        (power-wakes d e o done s supply v r may number given (last_kept has-image.0) new.minutes back))
+
+    image-behind : (y : List ℕ) × (W.image ≡ Some y)
+    image-behind = image-of W.image (tells ∙ ap is_some has-image.1)
+
+    odometer : new.keeper.odometer ≡ odometer_after (odometer_at o.recording.unit) b.travel.before
+    odometer =
+        ap (λ (k : Keeper). k.odometer) begun.keeper
+        ∙ sym (at-image (Agrees journal) W.image image-behind.0 image-behind.1 agrees).odometer
+        ∙ odometer-found (odometer_at o.recording.unit) (found (last_kept has-image.0) r.book) back.leg r.travel W image-behind.0 back.travels (after.is_left image-behind.0 image-behind.1)
+
+    pub awake : (begins : Beginning) × RunWaking o done s begins (waiting_in Driver (card_in new.keeper.cabin.slots.seats.driver) ++ waiting_in CoDriver (card_in new.keeper.cabin.slots.seats.codriver)) both_slots new out (devices W X Y)
+    awake = (b, record { origin = origin; lit = begun.power; waking = wakes; odometer = odometer })
+
+  -- its mending failed
+  pub unmended : failed ≡ true → GoesOnOrCut true o done s (In 0) [] old out (devices W X Y)
+  unmended fails =
+      let read : IsOnlyRead o done supply v d r (last_kept has-image.0) e =
+      only-read o done supply v d r may U whole (starts U Unchanged) whole wholes works has-image.0 has-image.1 refl first j W failed mends tells cause holds taken_a taken_b fails in
+      let cut : CutWithin o done s (In 0) (fresh true (slots_of v done)).entered None (read_values (last_kept has-image.0) v) e =
+      mending-fails d e o done s supply v r may number given (last_kept has-image.0) read in
+      record {
+        waits = (fresh true (slots_of v done)).entered;
+        cabin = old.keeper.cabin;
+        same = refl;
+        within = subst (λ (x : Values). CutWithin o done s (In 0) (fresh true (slots_of v done)).entered None x e) (ap (λ (k : ℕ). read_values k v) kept-is ∙ sym values) cut;
+      }
+
+-- ---- A CARD IS JUDGED that waits
+
+-- where it was the last that waited
+pub judged-goes : (failed : Bool) (o : Origin) (done : List TraceSecond) (s : TraceSecond) (n : ℕ) (who : List Visit) (old new : Run) (before after : Outcome) (d e : Devices) (x : RunWithin o done s (In n) who [] old before d) →
+    JudgedTo failed o done s n who [] old new before after d e x → GoesOnOrCut failed o done s (In n) [] new after e
+judged-goes false o done s n who old new before after d e x h = h.goes
+judged-goes true o done s n who old new before after d e x h = h
+
+driver-too : Contains both_slots Driver
+driver-too = Contains-append_left (Driver ∷ []) (CoDriver ∷ []) Driver (Contains-push [] Driver)
+
+codriver-too : Contains both_slots CoDriver
+codriver-too = Contains-push (Driver ∷ []) CoDriver
+
+the-codriver : (slot : Slot) → Contains (CoDriver ∷ []) slot → CoDriver ≡ slot
+the-codriver slot there = ⊎_elim (λ none. absurd (omega (arith, none.1))) (λ (same : CoDriver ≡ slot). same) (Contains-push_cases [] CoDriver slot there)
+
+one-of-both : (slot : Slot) → Contains (CoDriver ∷ []) slot → Contains both_slots slot
+one-of-both slot there = subst (λ (sl : Slot). Contains both_slots sl) (the-codriver slot there) codriver-too
+
+-- of the co-driver's card nothing is found behind a find of the driver's
+same-finds : (log later : RunLog) (u : ℕ) → later.finds ≡ log.finds → found_in later u (In 0) CoDriver ≡ found_in log u (In 0) CoDriver
+unfolding found_in
+same-finds log later u same = ap (λ (fs : List Find). found_in (record log { finds = fs }) u (In 0) CoDriver) same
+
+found-still : (ending : Ending) (n : Entering) (log later : RunLog) (u : ℕ) → n.slot ≡ Driver → later.finds ≡ log.finds ++ finds_by ending n → found_in later u (In 0) CoDriver ≡ found_in log u (In 0) CoDriver
+found-still (Unfit fid place) n log later u driver is = let f : Find = find_of n (verdict.NotValid fid place) in same-finds (and_find log f) later u is ∙ find-other log f u (In 0) driver
+found-still (Ahead stored) n log later u driver is = let f : Find = find_of n (verdict.TimeOverlap stored n.at.second) in same-finds (and_find log f) later u is ∙ find-other log f u (In 0) driver
+found-still Fell n log later u driver is = same-finds log later u (is ∙ append-nil log.finds)
+found-still Unasked n log later u driver is = same-finds log later u (is ∙ append-nil log.finds)
+found-still (Unnoted entered clock) n log later u driver is = let f : Find = find_of n (verdict.Accepted entered.replayed) in same-finds (and_find log f) later u is ∙ find-other log f u (In 0) driver
+found-still (Seated entered clock entry) n log later u driver is = let f : Find = find_of n (verdict.Accepted entered.replayed) in same-finds (and_find log f) later u is ∙ find-other log f u (In 0) driver
+found-still (Lost entered clock entry) n log later u driver is = let f : Find = find_of n (verdict.Accepted entered.replayed) in same-finds (and_find log f) later u is ∙ find-other log f u (In 0) driver
+
+bare-is : (seat : Option Seat) (card : Card) → card_in seat ≡ Some card → IsBare seat → seat ≡ Some (record { card = card; newest = None })
+bare-is None card is bare = absurd (cc)
+bare-is (Some seat) card is bare =
+    let own : seat.card ≡ card = cc in
+    ap (λ (c : Card). Some (record { card = c; newest = seat.newest })) own ∙ ap (λ (n : Option ℕ). Some (record { card = card; newest = n })) bare
+
+module _ (o : Origin) (done : List TraceSecond) (s : TraceSecond) (b : Beginning) (waits : List Visit) (untold : List Slot) (old : Run) (before : Outcome) (d : Devices) (w : RunWaking o done s b waits untold old before d) (new : Run) (after : Outcome) (e : Devices) where
+  -- the second goes on at its power-on
+  behind-on : (fewer : List Visit) (left : List Slot) → RunBehind o done s 0 waits fewer old new before after d e (within-of o done s b waits untold old before d w) → ((slot : Slot) → Contains left slot → found_in (log_of after) s.number (In 0) slot ≡ []) →
+      RunWaking o done s b fewer left new after e
+  behind-on fewer left on none =
+      let began : on.goes.within.b ≡ b = on.began ∙ w.waking.began in
+      record {
+        origin = w.origin;
+        lit = on.goes.lit;
+        waking = record { within = on.goes.within; began = began; starts = w.waking.starts; is_now = on.from ∙ w.waking.is_now; none = none };
+        odometer = on.goes.odometer ∙ ap (λ (x : Beginning). odometer_after (odometer_at o.recording.unit) x.travel.before) began;
+      }
+
+-- the driver's
+pub driver-judged : (o : Origin) (done : List TraceSecond) (s : TraceSecond) (b : Beginning) (card : Option Card) (rest : List Visit) (old : Run) (before : Outcome) (d : Devices) → RunWaking o done s b (waiting_in Driver card ++ rest) both_slots old before d →
+    AllByRecursion (λ (x : Visit). x.phase ≡ In 0) rest → card_in old.keeper.cabin.slots.seats.driver ≡ card → IsBare old.keeper.cabin.slots.seats.driver → (at : Moment) → at ≡ moment_in s 0 → (speed : ℕ) (failed : Bool) (new : Run) (after : Outcome) →
+    IsAnew card Driver at speed old new before after → (e : Devices) → (card ≡ None → (P : Devices → Type 0) → P d → P e) → HaveTime e →
+    JudgesAnew card Driver at failed old new before after d e → (failed ≡ false → RunWaking o done s b rest (CoDriver ∷ []) new after e) × (failed ≡ true → GoesOnOrCut true o done s (In 0) [] new after e)
+driver-judged o done s b None rest old before d w once is bare at now speed failed new after anew e still time judges = (
+  λ well. still refl (λ (x : Devices). RunWaking o done s b rest (CoDriver ∷ []) new after x)
+      (subst (λ (r : Run). RunWaking o done s b rest (CoDriver ∷ []) r after d) (sym anew.0)
+      (subst (λ (q : Outcome). RunWaking o done s b rest (CoDriver ∷ []) old q d) (sym anew.1)
+      (record {
+        origin = w.origin;
+        lit = w.lit;
+        waking = record { within = w.waking.within; began = w.waking.began; starts = w.waking.starts; is_now = w.waking.is_now; none = λ slot there. w.waking.none slot (one-of-both slot there) };
+        odometer = w.odometer;
+      }))),
+  λ fails. absurd (let bad : true ≡ false = sym fails ∙ judges in cc),
+)
+driver-judged o done s b (Some card) rest old before d w once is bare at now speed failed new after anew e still time judges =
+    let waits : List Visit = waiting_in Driver (Some card) ++ rest in
+    let next : RunNext o done s 0 waits rest old before d Driver card = record {
+      goes = within-of o done s b waits both_slots old before d w;
+      next = next-waking o done s b (values_of old before) d waits both_slots w.waking Driver card rest (bare-is old.keeper.cabin.slots.seats.driver card is bare) (but-first (In 0) Driver card rest) once;
+      none = w.waking.none Driver driver-too;
+      order = λ is_driver. inr (w.waking.none CoDriver codriver-too);
+    } in
+    let judged : JudgedTo failed o done s 0 waits rest old new before after d e next.goes = judges o done s 0 waits rest now next time in
+    let finds = ap (λ (q : Outcome). q.finds.items) anew.2.left.outcome in
+    let none : found_in (log_of after) s.number (In 0) CoDriver ≡ [] =
+    found-still (ending_of anew.2.way) anew.0 (log_of before) (log_of after) s.number anew.1.slot_is finds ∙ w.waking.none CoDriver codriver-too in (
+      λ well. behind-on o done s b waits both_slots old before d w new after e rest (CoDriver ∷ []) (subst (λ (f : Bool). JudgedTo f o done s 0 waits rest old new before after d e next.goes) well judged)
+          (λ slot there. subst (λ (sl : Slot). found_in (log_of after) s.number (In 0) sl ≡ []) (the-codriver slot there) none),
+      λ fails. subst (λ (f : Bool). JudgedTo f o done s 0 waits rest old new before after d e next.goes) fails judged,
+    )
+
+-- the co-driver's
+pub codriver-judged : (o : Origin) (done : List TraceSecond) (s : TraceSecond) (b : Beginning) (card : Option Card) (old : Run) (before : Outcome) (d : Devices) → RunWaking o done s b (waiting_in CoDriver card) (CoDriver ∷ []) old before d →
+    card_in old.keeper.cabin.slots.seats.codriver ≡ card → IsBare old.keeper.cabin.slots.seats.codriver → (at : Moment) → at ≡ moment_in s 0 → (speed : ℕ) (failed : Bool) (new : Run) (after : Outcome) →
+    IsAnew card CoDriver at speed old new before after → (e : Devices) → (card ≡ None → (P : Devices → Type 0) → P d → P e) → HaveTime e →
+    JudgesAnew card CoDriver at failed old new before after d e → GoesOnOrCut failed o done s (In 0) [] new after e
+codriver-judged o done s b None old before d w is bare at now speed failed new after anew e still time judges =
+    subst (λ (f : Bool). GoesOnOrCut f o done s (In 0) [] new after e) (sym judges)
+    (still refl (λ (x : Devices). RunWithin o done s (In 0) [] [] new after x)
+    (subst (λ (r : Run). RunWithin o done s (In 0) [] [] r after d) (sym anew.0)
+    (subst (λ (q : Outcome). RunWithin o done s (In 0) [] [] old q d) (sym anew.1) (within-of o done s b [] (CoDriver ∷ []) old before d w))))
+codriver-judged o done s b (Some card) old before d w is bare at now speed failed new after anew e still time judges =
+    let waits : List Visit = waiting_in CoDriver (Some card) in
+    let next : RunNext o done s 0 waits [] old before d CoDriver card = record {
+      goes = within-of o done s b waits (CoDriver ∷ []) old before d w;
+      next = next-waking o done s b (values_of old before) d waits (CoDriver ∷ []) w.waking CoDriver card [] (bare-is old.keeper.cabin.slots.seats.codriver card is bare) (but-first (In 0) CoDriver card []) tt;
+      none = w.waking.none CoDriver (Contains-push [] CoDriver);
+      order = λ is_driver. absurd (let bad : CoDriver ≡ Driver = is_driver in cc);
+    } in
+    judged-goes failed o done s 0 waits old new before after d e next.goes (judges o done s 0 waits [] now next time)

@@ -1,0 +1,6 @@
+pub mod Lines
+pub mod Seconds
+pub mod Dark
+pub mod Ends
+pub mod Whole
+pub mod Noting

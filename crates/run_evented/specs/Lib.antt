@@ -1,0 +1,2 @@
+pub mod Evented
+pub mod Noting
