@@ -125,8 +125,8 @@ returns-clause-noted g c =
     let W = g.M.Medium.state c.turn.new.unit in
     let failed : Bool = is_err c.turn.result in
     keeping-then c.args.decided.now c.args.n c.args.speed c.args.at failed c.args.run.now (record c.args.run.now { keeper = c.keep_all.new.self; watch = c.turn.new.self }) c.args.outcome.now
-    (record c.args.outcome.now { marks = c.keep_all.new.marks; breaks = c.keep_all.new.breaks }) (g.M.Medium.state c.args.unit.now) V W was.0 was.1 (g.met.M.Medium.coherent c.keep_all.new.unit) was.3
-    (subst (λ (crew : Crew). IsWatched failed c.args.run.now.watch c.turn.new.self c.args.run.now.next c.args.n c.args.speed crew V W) c.crew-crew.ensures w)
+    (record c.args.outcome.now { marks = c.keep_all.new.marks; breaks = c.keep_all.new.breaks }) (g.M.Medium.state c.args.unit.now) V W was.0 was.1 (g.met.M.Medium.coherent c.keep_all.new.unit) (g.met.M.Medium.coherent c.turn.new.unit) was.3
+    (subst (λ (crew : Crew). IsWatched failed c.args.run.now.watch c.turn.new.self c.args.run.now.next c.args.n c.args.speed crew V W) c.crew-crew.ensures w) c.turn.ensures.cause.works
 
 pub returns-in_err-keep_all-clause-noted : goal.returns-in_err-keep_all-clause-noted
 returns-in_err-keep_all-clause-noted g c =
