@@ -34,11 +34,11 @@ split number (v ∷ vs) ws (e ∷ es) h =
     let rest = split number vs ws es h.1 in
     record { first = e ∷ rest.first; later = rest.later; are = ap (λ (xs : List Event). e ∷ xs) rest.are; first_told = (h.0, rest.first_told); later_told = rest.later_told }
 
-unsure-front : (log : RunLog) (now : ℕ → List Event) (xs ys : List Event) → AreUnsure log now (xs ++ ys) → AreUnsure log now xs
+pub unsure-front : (log : RunLog) (now : ℕ → List Event) (xs ys : List Event) → AreUnsure log now (xs ++ ys) → AreUnsure log now xs
 unsure-front log now [] ys h = tt
 unsure-front log now (x ∷ xs) ys h = (h.0, unsure-front log now xs ys h.1)
 
-unsure-back : (log : RunLog) (now : ℕ → List Event) (xs ys : List Event) → AreUnsure log now (xs ++ ys) → AreUnsure log now ys
+pub unsure-back : (log : RunLog) (now : ℕ → List Event) (xs ys : List Event) → AreUnsure log now (xs ++ ys) → AreUnsure log now ys
 unsure-back log now [] ys h = h
 unsure-back log now (x ∷ xs) ys h = unsure-back log now xs ys h.1
 
@@ -52,7 +52,7 @@ sure-none log now kind sure (e ∷ es) h = by (nat_eq e.kind kind) refl (sure-no
     by false is rest = ap (λ (b : Bool). cond b (e ∷ by_kind es kind) (by_kind es kind)) is ∙ rest
 
 -- so nothing more is shown
-unsure-shown : (number : Card → List ℕ) (log : RunLog) (now : ℕ → List Event) (es : List Event) (x c : List ℕ) → AreUnsure log now es → ShowsMore number log now (by_kind es) x c → ShowsMore number log now none x c
+pub unsure-shown : (number : Card → List ℕ) (log : RunLog) (now : ℕ → List Event) (es : List Event) (x c : List ℕ) → AreUnsure log now es → ShowsMore number log now (by_kind es) x c → ShowsMore number log now none x c
 unsure-shown number log now es x c unsure h = record {
   tables = λ kind there sure. subst (λ (more : List Event). AreNoted number (table_in kind x) more (table_in kind c)) (sure-none log now kind sure es unsure) (h.tables kind there sure);
   first_over = λ sure. h.first_over sure ∙ ap (λ (more : List Event). first_on (number_of x FIRST_OVER) more) (sure-none log now OVER_SPEEDING sure es unsure);
@@ -67,24 +67,25 @@ pub quiet-noted : (U V A B C D : State) → ((c : List ℕ) → V.may_leave c �
 quiet-noted U V A B C D same o long [] told c there = let one = same c there in (one.0, one.1, λ log now. nothing-more (number_in o) log now one.0 c one.2)
 quiet-noted U V A B C D same o long (e ∷ es) told c there = absurd told
 
+-- some events, and then others
+pub so-then : (o : Origin) (failed : Bool) (xs ys : List Event) (d e f : Devices) → NotesThese o xs d e → NotesSo failed o ys e f → NotesSo failed o (xs ++ ys) d f
+so-then o false xs ys d e f one two = λ c there.
+    let mid = two c there in
+    let start = one mid.0 mid.1 in
+    (start.0, start.1, λ log now. more-then (number_in o) log now xs ys start.0 mid.0 c (start.2 log now) (mid.2 log now))
+so-then o true xs ys d e f one two = λ log now unsure c there.
+    let mid = two log now (unsure-back log now xs ys unsure) c there in
+    let start = one mid.0 mid.1 in (
+      start.0,
+      start.1,
+      more-then (number_in o) log now [] [] start.0 mid.0 c (unsure-shown (number_in o) log now xs start.0 mid.0 (unsure-front log now xs ys unsure) (start.2 log now)) mid.2,
+    )
+
 -- one call after another
 pub then-noted : (vs ws : List UnitEvent) (failed : Bool) (d e f : Devices) → NotesEvents vs false d e → NotesEvents ws failed e f → NotesEvents (vs ++ ws) failed d f
 then-noted vs ws failed d e f first later o long es told =
     let parts = split (number_in o) vs ws es told in
-    subst (λ (xs : List Event). NotesSo failed o xs d f) (sym parts.are) (by parts.first parts.later failed (first o long parts.first parts.first_told) (later o long parts.later parts.later_told))
-  where
-    by : (xs ys : List Event) (b : Bool) → NotesThese o xs d e → NotesSo b o ys e f → NotesSo b o (xs ++ ys) d f
-    by xs ys false one two = λ c there.
-        let mid = two c there in
-        let start = one mid.0 mid.1 in
-        (start.0, start.1, λ log now. more-then (number_in o) log now xs ys start.0 mid.0 c (start.2 log now) (mid.2 log now))
-    by xs ys true one two = λ log now unsure c there.
-        let mid = two log now (unsure-back log now xs ys unsure) c there in
-        let start = one mid.0 mid.1 in (
-          start.0,
-          start.1,
-          more-then (number_in o) log now [] [] start.0 mid.0 c (unsure-shown (number_in o) log now xs start.0 mid.0 (unsure-front log now xs ys unsure) (start.2 log now)) mid.2,
-        )
+    subst (λ (xs : List Event). NotesSo failed o xs d f) (sym parts.are) (so-then o failed parts.first parts.later d e f (first o long parts.first parts.first_told) (later o long parts.later parts.later_told))
 
 -- it failed before others came
 pub cut-noted : (vs ws : List UnitEvent) (d e : Devices) → NotesEvents vs true d e → NotesEvents (vs ++ ws) true d e
