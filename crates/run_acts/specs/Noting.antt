@@ -82,7 +82,7 @@ AreGapEvents (Some span) at failed old new breaks after NoGap vs = ⊥
 AreGapEvents (Some span) at failed old new breaks after UnitFailed vs = IsGapNoted (Some span) at failed old new breaks after UnitFailed × (vs ≡ gap_event span old ∷ [])
 AreGapEvents (Some span) at failed old new breaks after DriverFell vs = IsGapNoted (Some span) at failed old new breaks after DriverFell × (vs ≡ gap_event span old ∷ fall_events true old.next new)
 AreGapEvents (Some span) at failed old new breaks after (BothSlots driver codriver) vs =
-    (n : AreNotedIn at old new breaks after driver codriver) × (vs ≡ gap_event span old ∷ (fall_events driver old.next n.between ++ fall_events codriver old.next new))
+    (n : AreNotedIn at old new breaks after driver codriver) × (failed ≡ true → codriver ≡ true) × (vs ≡ gap_event span old ∷ (fall_events driver old.next n.between ++ fall_events codriver old.next new))
 
 -- ---- of unit and cards
 
