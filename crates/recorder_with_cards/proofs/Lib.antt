@@ -25,3 +25,4 @@ pub mod ActsRecorded
 pub mod Waiting
 pub mod SecondsRecorded
 pub mod Promised
+pub mod WakeNoted
