@@ -1,5 +1,5 @@
 -- What a run notes on its unit of the events and faults of a card that is judged, and as power is back (Annex IB, section III.12; the moments: profile).
-use Rattle.std.specs.Prelude.{◌≡◌, ℕ, ◌<◌, Bool, true, false, Option, Some, None, List, [], ◌++◌, length}
+use Rattle.std.specs.Prelude.{◌≡◌, ℕ, ◌<◌, Bool, true, false, Option, Some, None, List, [], ◌∷◌, ◌++◌, ◌⊎◌, length}
 use Rattle.activity_codec.specs.declared.values.Slot.{Slot}
 use Rattle.activity_codec.specs.declared.values.Slot.TheVariants.{Driver, CoDriver}
 use Rattle.event_model.specs.Spans.{gap_of}
@@ -16,7 +16,10 @@ use Rattle.run_entering.specs.Noted.{notes_by}
 use Rattle.entered_events.specs.Noted.{events_in}
 use Rattle.noted_events.specs.Noted.{NotesEvents}
 use Rattle.run_acts.specs.declared.run.Run.{Run}
-use Rattle.run_acts.specs.Power.{IsSpanBegun}
+use Rattle.unit_course.specs.Lines.{found_from}
+use Rattle.run_outcome.specs.Lines.{cut_at}
+use Rattle.run_keeping.specs.Keeping.{with_lines}
+use Rattle.run_acts.specs.Power.{IsSpanBegun, cut_run}
 use Rattle.run_acts.specs.Acting.{now_moment}
 use Rattle.run_acts.specs.Noting.{GapReach, AreGapEvents}
 use Rattle.recorder_with_cards.specs.Accepting.{IsAccepted, IsEnteringNow}
@@ -97,3 +100,32 @@ pub record NotesWaking (kept speed : ℕ) (failed : Bool) (old new : Run) (befor
   pub events : List UnitEvent
   pub are : AreWakingEvents reach kept speed failed old new before after events
   pub notes : NotesEvents events failed d later
+
+-- what was read of the unit: its last-kept minute, which tells of the cuts before
+abbrev pub read_run : Run → Outcome → Run
+read_run run before = record run { unfound = length before.breaks.items }
+
+abbrev pub read_outcome : (kept : ℕ) → Run → Outcome → Outcome
+read_outcome kept run before = record before { breaks = record { items = found_from run.unfound kept before.breaks.items; room = before.breaks.room } }
+
+-- power is back, or was lost at once
+abbrev pub EndsWaking : (failed : Bool) → (woken new : Run) → (out after : Outcome) → Type 0
+EndsWaking false woken new out after = (new ≡ woken) × (after ≡ out)
+EndsWaking true woken new out after = (new ≡ cut_run woken.next woken) × (after ≡ record out { breaks = with_lines (cut_at woken.next true 0 ∷ []) out.breaks })
+
+-- A UNIT THAT WAS READ: the run behind it, and what is noted
+pub record NotesFound (kept speed : ℕ) (old new : Run) (before after : Outcome) (d later : Devices) : Type 0 where
+  pub failed : Bool
+  pub woken : Run
+  pub out : Outcome
+  pub waking : NotesWaking kept speed failed (read_run old before) woken (read_outcome kept old before) out d later
+  pub ends : EndsWaking failed woken new out after
+
+-- or the reading failed, and power is lost
+pub record NotesUnread (old new : Run) (before after : Outcome) (d later : Devices) : Type 0 where
+  pub ends : EndsWaking true old new before after
+  pub notes : NotesEvents [] true d later
+
+-- A POWER-ON
+abbrev pub NotesPowerOn : (speed : ℕ) → (old new : Run) → (before after : Outcome) → (d later : Devices) → Type 0
+NotesPowerOn speed old new before after d later = ((kept : ℕ) × NotesFound kept speed old new before after d later) ⊎ NotesUnread old new before after d later

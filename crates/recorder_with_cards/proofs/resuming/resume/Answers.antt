@@ -37,7 +37,7 @@ use Rattle.noted_events.proofs.Noted.{then-noted}
 use Rattle.run_acts.specs.Acting.{now_moment}
 use Rattle.run_acts.specs.Noting.{AreGapEvents}
 use Rattle.recorder_with_cards.specs.Noting.{Unmended, AtDriver, AtCoDriver, NoneBefore, AtGap, HasBegunSpan}
-use Rattle.recorder_with_cards.proofs.WakeNoted.{mended-noted, driver-these, both-these}
+use Rattle.recorder_with_cards.proofs.WakeNoted.{mended-noted, driver-these, both-these, is-none, is-some}
 use Rattle.recorder_with_cards.proofs.resuming.resume.Goals as goal
 
 pub accept_anew-requires-clause-held : goal.accept_anew-requires-clause-held
@@ -517,7 +517,7 @@ returns-then-is_first-clause-noted g c =
     record {
       reach = NoneBefore mid;
       events = both.0;
-      are = (begun, refl, grind (arith, none), both.1);
+      are = (begun, refl, is-none (length c.args.outcome.now.breaks.items) none, both.1);
       notes = subst (λ (q : Bool). NotesEvents both.0 q D0 D2) fine both.2;
     }
 
@@ -549,7 +549,7 @@ returns-clause-noted g c =
     record {
       reach = AtGap mid gap.0;
       events = both.0 ++ gap.1;
-      are = (begun, grind (arith, some), record {
+      are = (begun, is-some (length c.args.outcome.now.breaks.items) some, record {
         two = two;
         told = c.accept_anew-2.new.outcome;
         judged = both.0;
