@@ -23,9 +23,14 @@ use Rattle.log_model.specs.declared.lines.Break.{Break}
 use Rattle.unit_course.specs.Lines.{found_from}
 use Rattle.run_outcome.specs.Lines.{Listed}
 use Rattle.run_outcome.specs.declared.outcome.Outcome.{Outcome}
+use Rattle.unit_model.specs.Image.{IsUnit}
+use Rattle.run_keeping.specs.Faults.{faults_to}
+use Rattle.kept_events.proofs.Kept.{faults-are, faults-noted}
+use Rattle.run_acts.specs.Faults.{NotesSettling}
+use Rattle.run_acts.specs.Turning.{told_of}
 use Rattle.run_acts.specs.declared.run.Run.{Run}
 use Rattle.run_acts.specs.Acting.{now_moment}
-use Rattle.recorder_with_cards.specs.Noting.{judged_events, NotesAnew, JudgesThese, JudgesDriver, JudgesBoth, NotesWaking, NotesFound, read_run, read_outcome}
+use Rattle.recorder_with_cards.specs.Noting.{judged_events, NotesAnew, JudgesThese, JudgesDriver, JudgesBoth, NotesWaking, NotesFound, read_run, read_outcome, SettlesThese}
 
 -- images that say the same are cut
 quiet-cut : (U V A B : State) → ((c : List ℕ) → V.may_leave c → (x : List ℕ) × U.may_leave x × SaysNothing x c) → NotesEvents [] true (devices U A B) (devices V A B)
@@ -106,3 +111,11 @@ not-none n is = grind (arith, nat_tests, is)
 
 pub is-some : (n : ℕ) → (n == 0) ≡ false → 0 < n
 is-some n is = let some = not-none n is in omega (arith, some)
+
+-- ---- minutes are settled
+
+pub settles-these : (at : Moment) (failed : Bool) (old new : Run) (before after : Outcome) (U V A B C D : State) → IsCoherent U → IsUnit U → NotesSettling at failed old new before after U V →
+    (vs : List UnitEvent) × SettlesThese at failed old new before after vs × NotesEvents vs failed (devices U A B) (devices V C D)
+settles-these at failed old new before after U V A B C D whole unit n =
+    let vs = faults_to old.keeper at n.2 (told_of old before) in
+    (vs, (n.0, n.1, n.2, n.3, refl), faults-noted vs failed U V A B C D whole unit (faults-are old.keeper at n.2 (told_of old before)) n.4)

@@ -3,6 +3,12 @@ use Rattle.std.specs.Prelude.{◌≡◌, ℕ, ◌<◌, Bool, true, false, Option
 use Rattle.activity_codec.specs.declared.values.Slot.{Slot}
 use Rattle.activity_codec.specs.declared.values.Slot.TheVariants.{Driver, CoDriver}
 use Rattle.event_model.specs.Spans.{gap_of}
+use Rattle.minute_model.specs.declared.Minute.{Minute}
+use Rattle.minute_model.specs.Span.{Span, settled, decided_in}
+use Rattle.minute_rules.specs.Kept.{StandsFor}
+use Rattle.run_keeping.specs.Minutes.{Reach, IsReach}
+use Rattle.run_keeping.specs.Faults.{faults_to}
+use Rattle.run_acts.specs.Turning.{told_of}
 use Rattle.slot_machine.specs.Calls.{seat_in, card_in}
 use Rattle.unit_journal.specs.declared.notes.Notes.{Notes}
 use Rattle.trace_model.specs.declared.Card.{Card}
@@ -22,7 +28,7 @@ use Rattle.run_keeping.specs.Keeping.{with_lines}
 use Rattle.run_acts.specs.Power.{IsSpanBegun, cut_run}
 use Rattle.run_acts.specs.Acting.{now_moment}
 use Rattle.run_acts.specs.Noting.{GapReach, AreGapEvents}
-use Rattle.recorder_with_cards.specs.Accepting.{IsAccepted, IsEnteringNow}
+use Rattle.recorder_with_cards.specs.Accepting.{IsAccepted, IsEnteringNow, put_run}
 
 -- the events and faults of a card that entered in this way
 abbrev pub judged_events : Way → Entering → Run → List UnitEvent
@@ -129,3 +135,26 @@ pub record NotesUnread (old new : Run) (before after : Outcome) (d later : Devic
 -- A POWER-ON
 abbrev pub NotesPowerOn : (speed : ℕ) → (old new : Run) → (before after : Outcome) → (d later : Devices) → Type 0
 NotesPowerOn speed old new before after d later = ((kept : ℕ) × NotesFound kept speed old new before after d later) ⊎ NotesUnread old new before after d later
+
+-- ---- a card is put in
+
+-- the faults of the minutes that are settled
+abbrev pub SettlesThese : Moment → (failed : Bool) → (old new : Run) → (before after : Outcome) → List UnitEvent → Type 0
+SettlesThese at failed old new before after vs = (decided : List Minute) × ((span : Span) → StandsFor old.minutes span → decided_in (settled span) ≡ decided_in span ++ decided)
+    × (reach : Reach) × IsReach decided at failed (told_of old before) (told_of new after) reach × (vs ≡ faults_to old.keeper at reach (told_of old before))
+
+-- and then those of the card
+pub record SettlesThenJudges (slot : Slot) (card : Card) (at : Moment) (speed : ℕ) (old new : Run) (before after : Outcome) (vs : List UnitEvent) : Type 0 where
+  pub between : Run
+  pub told : Outcome
+  pub faults : List UnitEvent
+  pub judged : List UnitEvent
+  pub settles : SettlesThese at false old between before told faults
+  pub judges : JudgesThese (Some card) slot at speed between new told after judged
+  pub are : vs ≡ faults ++ judged
+
+-- A CARD WAS PUT INTO A SLOT: so it is noted; or the unit failed as the minutes before were kept.
+pub record NotesInserting (slot : Slot) (card : Card) (at : Moment) (speed : ℕ) (failed : Bool) (old new : Run) (before after : Outcome) (d later : Devices) : Type 0 where
+  pub events : List UnitEvent
+  pub are : ((failed ≡ true) × SettlesThese at true (put_run slot card old) new before after events) ⊎ SettlesThenJudges slot card at speed (put_run slot card old) new before after events
+  pub notes : NotesEvents events failed d later
