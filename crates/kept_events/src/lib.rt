@@ -1,0 +1,6 @@
+//! What the keeping of minutes notes on a unit, as events of a run (Annex IB, section III.12). Laws alone.
+#![tactic(auto)]
+
+mod laws;
+
+pub use laws::keepings_note_faults;
