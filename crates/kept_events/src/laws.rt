@@ -3,8 +3,19 @@ ghost use Rattle.run_keeping.specs.declared.keeper.Moment.{Moment};
 ghost use Rattle.run_keeping.specs.Minutes.{Reach, Told};
 ghost use Rattle.run_keeping.specs.Faults.{faults_to};
 ghost use Rattle.kept_events.specs.Kept.{AreFaults};
+ghost use Rattle.kept_events.specs.Crews.{CardsAreNamed, CardsAreNamedBehind};
 
 /// As far as a keeping came, what it notes are faults of cards.
 pub fn keepings_note_faults()
     ensures { (k : Keeper) (at : Moment) (reach : Reach) (t : Told) → AreFaults (faults_to k at reach t) }
+{}
+
+/// The numbers that the slots give are those of the accepted cards that the run has in them.
+pub fn the_cards_of_a_moment_are_named()
+    ensures { CardsAreNamed }
+{}
+
+/// So they are behind a tear.
+pub fn the_cards_behind_a_tear_are_named()
+    ensures { CardsAreNamedBehind }
 {}

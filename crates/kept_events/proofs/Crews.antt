@@ -1,0 +1,113 @@
+-- The numbers of the cards in the slots.
+use Rattle.std.proofs.Common.{◌≡◌, ◌∙◌, ℕ, Bool, true, false, cond, Option, Some, None, List, refl, ap, sym, subst}
+use Rattle.std.specs.Prelude.{is_some, option_map}
+use Rattle.activity_codec.specs.declared.values.Slot.{Slot}
+use Rattle.activity_codec.specs.declared.values.Slot.TheVariants.{Driver, CoDriver}
+use Rattle.trace_model.specs.declared.Card.{Card}
+use Rattle.trace_model.specs.declared.Card.TheVariants.{A, B}
+use Rattle.tacho_types.specs.CardNumber.{card_number_bytes}
+use Rattle.tacho_types.specs.declared.card_number.FullCardNumber.{FullCardNumber}
+use Rattle.log_model.specs.Slots.{Slots, Sitting, same_card}
+use Rattle.log_model.specs.Course.{Told}
+use Rattle.history_model.specs.Minutes.{HistoryMinute}
+use Rattle.history_model.specs.Presence.{Start}
+use Rattle.event_model.specs.Events as events
+use Rattle.side_model.specs.Tables.{number_or_none}
+use Rattle.slot_machine.specs.declared.seats.Seat.{Seat}
+use Rattle.slot_machine.specs.Calls.{Seats, seat_in, is_card}
+use Rattle.slot_machine.specs.Kept.{Kept}
+use Rattle.run_course.specs.Presence.{SlotsTell, SitsAs, IsNewest}
+use Rattle.run_crew.specs.declared.cabin.Cabin.{Cabin}
+use Rattle.run_crew.specs.declared.cards.Accepted.{Accepted}
+use Rattle.run_crew.specs.declared.cards.Cards.{Cards}
+use Rattle.run_crew.specs.Cards.{known_of, session_of, with_session, accepted_number}
+use Rattle.run_crew.specs.Cabin.{Stands, AnswersTo, SeatAnswers, number_of_seat, slot_with, left_from, torn_out, crew_of}
+use Rattle.run_notes.specs.Entries.{number_or_no_card, IsCrewOf}
+use Rattle.kept_events.specs.Crews.{AreKnownBy}
+
+-- ---- one card
+
+no-number : (cards : Cards) (c : Card) → session_of cards c ≡ None → accepted_number (known_of cards c) ≡ None
+no-number cards A is = ap (λ (q : Option Accepted). cond (is_some q) cards.a.number None) is
+no-number cards B is = ap (λ (q : Option Accepted). cond (is_some q) cards.b.number None) is
+
+its-number : (cards : Cards) (c : Card) (x : Accepted) → session_of cards c ≡ Some x → accepted_number (known_of cards c) ≡ (known_of cards c).number
+its-number cards A x is = ap (λ (q : Option Accepted). cond (is_some q) cards.a.number None) is
+its-number cards B x is = ap (λ (q : Option Accepted). cond (is_some q) cards.b.number None) is
+
+-- ---- one slot
+
+module _ (number : Card → List ℕ) (cards : Cards) (known : AreKnownBy number cards) (start : Start) (past : List HistoryMinute) (from low : ℕ) (kept : Kept) where
+  abbrev IsNamed : Option Seat → Option Sitting → Type 0
+  IsNamed seat sitting = card_number_bytes (number_or_no_card (number_of_seat cards seat)) ≡ number_or_none number (events.accepted_card sitting)
+
+  both-named : (seat : Seat) (sitting : Sitting) → seat.card ≡ sitting.card → (n : Option ℕ) (a : Option ℕ) → sitting.accepted ≡ a → (x : Option Accepted) → session_of cards seat.card ≡ x → IsNewest start past from kept seat.card n a → AnswersTo low n x → IsNamed (Some seat) (Some sitting)
+  both-named seat sitting card None None a None x new answers =
+      ap (λ (q : Option FullCardNumber). card_number_bytes (number_or_no_card q)) (no-number cards seat.card x)
+      ∙ sym (ap (λ (q : Option ℕ). number_or_none number (option_map {T = ℕ} {U = Card} (λ u. sitting.card) q)) a)
+  both-named seat sitting card None None a (Some s) x new answers = absurd answers
+  both-named seat sitting card None (Some u) a s x new answers = absurd new
+  both-named seat sitting card (Some n) None a s x new answers = absurd new
+  both-named seat sitting card (Some n) (Some u) a None x new answers = absurd answers
+  both-named seat sitting card (Some n) (Some u) a (Some s) x new answers =
+      ap (λ (q : Option FullCardNumber). card_number_bytes (number_or_no_card q)) (its-number cards seat.card s x) ∙ known seat.card (ap (λ (q : Option Accepted). is_some q) x) ∙ ap number card
+      ∙ sym (ap (λ (q : Option ℕ). number_or_none number (option_map {T = ℕ} {U = Card} (λ u. sitting.card) q)) a)
+
+  seat-named : (seat : Option Seat) (sitting : Option Sitting) → SitsAs start past from kept seat sitting → SeatAnswers low cards seat → IsNamed seat sitting
+  seat-named None None sits answers = refl
+  seat-named None (Some sitting) sits answers = absurd sits
+  seat-named (Some seat) None sits answers = absurd sits
+  seat-named (Some seat) (Some sitting) sits answers = both-named seat sitting sits.0 seat.newest sitting.accepted refl (session_of cards seat.card) refl sits.1 answers
+
+-- ---- both
+
+pub cards-named : (number : Card → List ℕ) (start : Start) (told : List Told) (past : List HistoryMinute) (left : List Card) (u from low : ℕ) (leaving : Option Card) (slots : Slots) (cabin : Cabin) →
+    Stands low leaving cabin → SlotsTell start told past left u from slots cabin.slots → AreKnownBy number cabin.cards → IsCrewOf number (events.crew_of slots) (crew_of cabin)
+cards-named number start told past left u from low leaving slots cabin stands tells known = record {
+  driver = seat-named number cabin.cards known start past from low cabin.slots cabin.slots.seats.driver slots.driver tells.driver stands.driver;
+  codriver = seat-named number cabin.cards known start past from low cabin.slots cabin.slots.seats.codriver slots.codriver tells.codriver stands.codriver;
+}
+
+-- ---- behind a tear
+
+other-card : (cards : Cards) (card c : Card) → same_card c card ≡ false → accepted_number (known_of (with_session card None cards) c) ≡ accepted_number (known_of cards c)
+other-card cards A A is = absurd (cc)
+other-card cards A B is = refl
+other-card cards B A is = refl
+other-card cards B B is = absurd (cc)
+
+other-seat : (cards : Cards) (card : Card) (seat : Option Seat) → is_card seat card ≡ false → number_of_seat (with_session card None cards) seat ≡ number_of_seat cards seat
+other-seat cards card None is = refl
+other-seat cards card (Some seat) is = other-card cards card seat.card is
+
+in-driver : (seats : Seats) (card : Card) → is_card seats.driver card ≡ true → slot_with seats card ≡ Some Driver
+in-driver seats card is = ap (λ (b : Bool). cond b (Some Driver) (cond (is_card seats.codriver card) (Some CoDriver) None)) is
+
+in-codriver : (seats : Seats) (card : Card) → is_card seats.driver card ≡ false → is_card seats.codriver card ≡ true → slot_with seats card ≡ Some CoDriver
+in-codriver seats card first is = ap (λ (b : Bool). cond b (Some Driver) (cond (is_card seats.codriver card) (Some CoDriver) None)) first ∙ ap (λ (b : Bool). cond b (Some CoDriver) None) is
+
+not-both : (seats : Seats) (card : Card) → ((c : Card) → is_card seats.driver c ≡ true → is_card seats.codriver c ≡ false) → is_card seats.codriver card ≡ true → is_card seats.driver card ≡ false
+not-both seats card apart there = by (is_card seats.driver card) refl
+  where
+    by : (b : Bool) → is_card seats.driver card ≡ b → is_card seats.driver card ≡ false
+    by false is = is
+    by true is = let clash : true ≡ false = sym there ∙ apart card is in absurd (cc)
+
+pub torn-named : (number : Card → List ℕ) (start : Start) (told : List Told) (past : List HistoryMinute) (left : List Card) (u from low : ℕ) (leaving : Option Card) (slots : Slots) (cabin : Cabin) →
+    Stands low leaving cabin → SlotsTell start told past left u from slots cabin.slots → AreKnownBy number cabin.cards → (slot : Slot) (card : Card) → is_card (seat_in cabin.slots.seats slot) card ≡ true → (second : ℕ) →
+    IsCrewOf number (events.with_card slot None (events.crew_of slots)) (crew_of (torn_out card second cabin))
+torn-named number start told past left u from low leaving slots cabin stands tells known Driver card there second =
+    let was = cards-named number start told past left u from low leaving slots cabin stands tells known in
+    let at = in-driver cabin.slots.seats card there in
+    let gone : Cabin = record { slots = left_from (Some Driver) second cabin.slots; cards = with_session card None cabin.cards } in
+    let is : IsCrewOf number (events.with_card Driver None (events.crew_of slots)) (crew_of gone) =
+    record { driver = refl; codriver = ap (λ (q : Option FullCardNumber). card_number_bytes (number_or_no_card q)) (other-seat cabin.cards card cabin.slots.seats.codriver (tells.apart card there)) ∙ was.codriver } in
+    subst (λ (q : Option Slot). IsCrewOf number (events.with_card Driver None (events.crew_of slots)) (crew_of (record { slots = left_from q second cabin.slots; cards = with_session card None cabin.cards }))) (sym at) is
+torn-named number start told past left u from low leaving slots cabin stands tells known CoDriver card there second =
+    let was = cards-named number start told past left u from low leaving slots cabin stands tells known in
+    let none = not-both cabin.slots.seats card tells.apart there in
+    let at = in-codriver cabin.slots.seats card none there in
+    let gone : Cabin = record { slots = left_from (Some CoDriver) second cabin.slots; cards = with_session card None cabin.cards } in
+    let is : IsCrewOf number (events.with_card CoDriver None (events.crew_of slots)) (crew_of gone) =
+    record { driver = ap (λ (q : Option FullCardNumber). card_number_bytes (number_or_no_card q)) (other-seat cabin.cards card cabin.slots.seats.driver none) ∙ was.driver; codriver = refl } in
+    subst (λ (q : Option Slot). IsCrewOf number (events.with_card CoDriver None (events.crew_of slots)) (crew_of (record { slots = left_from q second cabin.slots; cards = with_session card None cabin.cards }))) (sym at) is

@@ -1,0 +1,32 @@
+-- The numbers of the cards in the slots, by what a run tells of these (profile).
+use Rattle.std.specs.Prelude.{◌≡◌, ℕ, true, None, Option, List, is_some}
+use Rattle.activity_codec.specs.declared.values.Slot.{Slot}
+use Rattle.trace_model.specs.declared.Card.{Card}
+use Rattle.tacho_types.specs.CardNumber.{card_number_bytes}
+use Rattle.log_model.specs.Slots.{Slots}
+use Rattle.log_model.specs.Course.{Told}
+use Rattle.history_model.specs.Minutes.{HistoryMinute}
+use Rattle.history_model.specs.Presence.{Start}
+use Rattle.event_model.specs.Events as events
+use Rattle.run_course.specs.Presence.{SlotsTell}
+use Rattle.slot_machine.specs.Calls.{seat_in, is_card}
+use Rattle.run_crew.specs.declared.cabin.Cabin.{Cabin}
+use Rattle.run_crew.specs.declared.cards.Cards.{Cards}
+use Rattle.run_crew.specs.Cards.{known_of, session_of}
+use Rattle.run_crew.specs.Cabin.{Stands, torn_out, crew_of}
+use Rattle.run_notes.specs.Entries.{number_or_no_card, IsCrewOf}
+
+-- each card that has a session is known by its number
+abbrev pub AreKnownBy : (Card → List ℕ) → Cards → Type 0
+AreKnownBy number cards = (c : Card) → is_some (session_of cards c) ≡ true → card_number_bytes (number_or_no_card (known_of cards c).number) ≡ number c
+
+-- THE CARDS OF A MOMENT ARE NAMED: the numbers that the slots give are those of the accepted cards that the run has in them.
+abbrev pub CardsAreNamed : Type 0
+CardsAreNamed = (number : Card → List ℕ) (start : Start) (told : List Told) (past : List HistoryMinute) (left : List Card) (u from low : ℕ) (leaving : Option Card) (slots : Slots) (cabin : Cabin) →
+    Stands low leaving cabin → SlotsTell start told past left u from slots cabin.slots → AreKnownBy number cabin.cards → IsCrewOf number (events.crew_of slots) (crew_of cabin)
+
+-- So they are behind the tear of the card of a slot, without that.
+abbrev pub CardsAreNamedBehind : Type 0
+CardsAreNamedBehind = (number : Card → List ℕ) (start : Start) (told : List Told) (past : List HistoryMinute) (left : List Card) (u from low : ℕ) (leaving : Option Card) (slots : Slots) (cabin : Cabin) →
+    Stands low leaving cabin → SlotsTell start told past left u from slots cabin.slots → AreKnownBy number cabin.cards → (slot : Slot) (card : Card) → is_card (seat_in cabin.slots.seats slot) card ≡ true → (second : ℕ) →
+    IsCrewOf number (events.with_card slot None (events.crew_of slots)) (crew_of (torn_out card second cabin))
