@@ -1,5 +1,5 @@
 -- The numbers of the cards in the slots.
-use Rattle.std.proofs.Common.{◌≡◌, ◌∙◌, ℕ, Bool, true, false, cond, Option, Some, None, List, refl, ap, sym, subst}
+use Rattle.std.proofs.Common.{◌≡◌, ◌∙◌, ℕ, ◌^◌, ◌<◌, Bool, true, false, cond, Option, Some, None, IfSome, List, refl, ap, sym, subst, arith}
 use Rattle.std.specs.Prelude.{is_some, option_map}
 use Rattle.activity_codec.specs.declared.values.Slot.{Slot}
 use Rattle.activity_codec.specs.declared.values.Slot.TheVariants.{Driver, CoDriver}
@@ -11,7 +11,15 @@ use Rattle.log_model.specs.Slots.{Slots, Sitting, same_card}
 use Rattle.log_model.specs.Course.{Told}
 use Rattle.history_model.specs.Minutes.{HistoryMinute}
 use Rattle.history_model.specs.Presence.{Start}
+use Rattle.event_model.specs.declared.kinds.TheConstants.{CARD_FAULT}
 use Rattle.event_model.specs.Events as events
+use Rattle.event_model.specs.Events.{noted_with}
+use Rattle.card_image.specs.Own.{IsOwnValid}
+use Rattle.run_rule.specs.Found.{Found, found_of}
+use Rattle.run_told.specs.Told.{AreFoundCards}
+use Rattle.run_keeping.specs.Keeping.{Fate, Still, Has, Fell}
+use Rattle.run_keeping.specs.Faults.{fault_entry, faults_by}
+use Rattle.noted_events.specs.Noted.{IsTold, AreTold}
 use Rattle.side_model.specs.Tables.{number_or_none}
 use Rattle.slot_machine.specs.declared.seats.Seat.{Seat}
 use Rattle.slot_machine.specs.Calls.{Seats, seat_in, is_card}
@@ -23,7 +31,8 @@ use Rattle.run_crew.specs.declared.cards.Cards.{Cards}
 use Rattle.run_crew.specs.Cards.{known_of, session_of, with_session, accepted_number}
 use Rattle.run_crew.specs.Cabin.{Stands, AnswersTo, SeatAnswers, number_of_seat, slot_with, left_from, torn_out, crew_of}
 use Rattle.run_notes.specs.Entries.{number_or_no_card, IsCrewOf}
-use Rattle.kept_events.specs.Crews.{AreKnownBy}
+use Rattle.run_crew.specs.declared.cards.Crew.{Crew}
+use Rattle.kept_events.specs.Crews.{AreKnownBy, fault_events}
 
 -- ---- one card
 
@@ -111,3 +120,39 @@ torn-named number start told past left u from low leaving slots cabin stands tel
     let is : IsCrewOf number (events.with_card CoDriver None (events.crew_of slots)) (crew_of gone) =
     record { driver = ap (λ (q : Option FullCardNumber). card_number_bytes (number_or_no_card q)) (other-seat cabin.cards card cabin.slots.seats.driver none) ∙ was.driver; codriver = refl } in
     subst (λ (q : Option Slot). IsCrewOf number (events.with_card CoDriver None (events.crew_of slots)) (crew_of (record { slots = left_from q second cabin.slots; cards = with_session card None cabin.cards }))) (sym at) is
+
+-- ---- who has a session
+
+pub sessions-known : (f : Found) (number : Card → List ℕ) (cards : Cards) → AreFoundCards f cards → ((c : Card) → is_some (session_of cards c) ≡ true → IsOwnValid (found_of f c).image) →
+    ((c : Card) → IsOwnValid (found_of f c).image → (found_of f c).number ≡ number c) → AreKnownBy number cards
+sessions-known f number cards found valid same c has = by (known_of cards c).number (found.named c (valid c has)) (found.told c (valid c has)) ∙ same c (valid c has)
+  where
+    by : (q : Option FullCardNumber) → IfSome q (λ n. card_number_bytes n ≡ (found_of f c).number) → is_some q ≡ true → card_number_bytes (number_or_no_card q) ≡ (found_of f c).number
+    by None named told = absurd (cc)
+    by (Some n) named told = named
+
+-- ---- a fault
+
+fault-told : (number : Card → List ℕ) (second : ℕ) (crew : events.Crew) (numbers : Crew) → second < 2 ^ 32 → IsCrewOf number crew numbers → IsTold number (noted_with CARD_FAULT second second crew) (fault_entry second numbers)
+fault-told number second crew numbers low named = record {
+  is = record {
+    kind = refl;
+    purpose = refl;
+    begin = refl;
+    end = refl;
+    driver_begin = named.driver;
+    codriver_begin = named.codriver;
+    driver_end = named.driver;
+    codriver_end = named.codriver;
+    average = refl;
+  };
+  there = (7, omega arith, refl);
+  other = λ is. absurd (omega (arith, is));
+  begin = low;
+  end = low;
+}
+
+pub faults-told : (number : Card → List ℕ) (fate : Fate) (second : ℕ) (cabin : Cabin) (crew : events.Crew) → second < 2 ^ 32 → IsCrewOf number crew (crew_of cabin) → AreTold number (faults_by fate second cabin) (fault_events fate second crew)
+faults-told number Still second cabin crew low named = tt
+faults-told number (Has accepted clock) second cabin crew low named = tt
+faults-told number Fell second cabin crew low named = (fault-told number second crew (crew_of cabin) low named, tt)

@@ -3,7 +3,7 @@ ghost use Rattle.run_keeping.specs.declared.keeper.Moment.{Moment};
 ghost use Rattle.run_keeping.specs.Minutes.{Reach, Told};
 ghost use Rattle.run_keeping.specs.Faults.{faults_to};
 ghost use Rattle.kept_events.specs.Kept.{AreFaults};
-ghost use Rattle.kept_events.specs.Crews.{CardsAreNamed, CardsAreNamedBehind};
+ghost use Rattle.kept_events.specs.Crews.{CardsAreNamed, CardsAreNamedBehind, SessionsAreKnown, FaultsAreTold};
 
 /// As far as a keeping came, what it notes are faults of cards.
 pub fn keepings_note_faults()
@@ -18,4 +18,14 @@ pub fn the_cards_of_a_moment_are_named()
 /// So they are behind a tear.
 pub fn the_cards_behind_a_tear_are_named()
     ensures { CardsAreNamedBehind }
+{}
+
+/// Each card that has a session is known by its number.
+pub fn who_has_a_session_is_known()
+    ensures { SessionsAreKnown }
+{}
+
+/// What is noted as the card of an entry is torn out tells its fault, with the cards that are left.
+pub fn faults_of_entries_are_told()
+    ensures { FaultsAreTold }
 {}
