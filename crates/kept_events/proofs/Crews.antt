@@ -1,5 +1,5 @@
 -- The numbers of the cards in the slots.
-use Rattle.std.proofs.Common.{◌≡◌, ◌∙◌, ℕ, ◌^◌, ◌<◌, Bool, true, false, cond, Option, Some, None, IfSome, List, refl, ap, sym, subst, arith}
+use Rattle.std.proofs.Common.{◌≡◌, ◌∙◌, ◌⊎◌, inl, inr, ℕ, ◌^◌, ◌<◌, Bool, true, false, cond, Option, Some, None, IfSome, List, refl, ap, sym, subst, arith}
 use Rattle.std.specs.Prelude.{is_some, option_map}
 use Rattle.activity_codec.specs.declared.values.Slot.{Slot}
 use Rattle.activity_codec.specs.declared.values.Slot.TheVariants.{Driver, CoDriver}
@@ -32,7 +32,8 @@ use Rattle.run_crew.specs.Cards.{known_of, session_of, with_session, accepted_nu
 use Rattle.run_crew.specs.Cabin.{Stands, AnswersTo, SeatAnswers, number_of_seat, slot_with, left_from, torn_out, crew_of}
 use Rattle.run_notes.specs.Entries.{number_or_no_card, IsCrewOf}
 use Rattle.run_crew.specs.declared.cards.Crew.{Crew}
-use Rattle.kept_events.specs.Crews.{AreKnownBy, fault_events}
+use Rattle.event_crews.specs.Watched.{named}
+use Rattle.kept_events.specs.Crews.{AreKnownBy, AreKnownAs, fault_events}
 
 -- ---- one card
 
@@ -44,38 +45,62 @@ its-number : (cards : Cards) (c : Card) (x : Accepted) → session_of cards c �
 its-number cards A x is = ap (λ (q : Option Accepted). cond (is_some q) cards.a.number None) is
 its-number cards B x is = ap (λ (q : Option Accepted). cond (is_some q) cards.b.number None) is
 
--- ---- one slot
+-- ---- one slot: no accepted card sits there, by both; or this one, and it has a session
 
-module _ (number : Card → List ℕ) (cards : Cards) (known : AreKnownBy number cards) (start : Start) (past : List HistoryMinute) (from low : ℕ) (kept : Kept) where
-  abbrev IsNamed : Option Seat → Option Sitting → Type 0
-  IsNamed seat sitting = card_number_bytes (number_or_no_card (number_of_seat cards seat)) ≡ number_or_none number (events.accepted_card sitting)
+abbrev SeatIs : Cards → Option Seat → Option Sitting → Type 0
+SeatIs cards seat sitting = ((number_of_seat cards seat ≡ None) × (events.accepted_card sitting ≡ None))
+    ⊎ ((c : Card) × (is_some (session_of cards c) ≡ true) × (number_of_seat cards seat ≡ (known_of cards c).number) × (events.accepted_card sitting ≡ Some c))
 
-  both-named : (seat : Seat) (sitting : Sitting) → seat.card ≡ sitting.card → (n : Option ℕ) (a : Option ℕ) → sitting.accepted ≡ a → (x : Option Accepted) → session_of cards seat.card ≡ x → IsNewest start past from kept seat.card n a → AnswersTo low n x → IsNamed (Some seat) (Some sitting)
-  both-named seat sitting card None None a None x new answers =
-      ap (λ (q : Option FullCardNumber). card_number_bytes (number_or_no_card q)) (no-number cards seat.card x)
-      ∙ sym (ap (λ (q : Option ℕ). number_or_none number (option_map {T = ℕ} {U = Card} (λ u. sitting.card) q)) a)
-  both-named seat sitting card None None a (Some s) x new answers = absurd answers
-  both-named seat sitting card None (Some u) a s x new answers = absurd new
-  both-named seat sitting card (Some n) None a s x new answers = absurd new
-  both-named seat sitting card (Some n) (Some u) a None x new answers = absurd answers
-  both-named seat sitting card (Some n) (Some u) a (Some s) x new answers =
-      ap (λ (q : Option FullCardNumber). card_number_bytes (number_or_no_card q)) (its-number cards seat.card s x) ∙ known seat.card (ap (λ (q : Option Accepted). is_some q) x) ∙ ap number card
-      ∙ sym (ap (λ (q : Option ℕ). number_or_none number (option_map {T = ℕ} {U = Card} (λ u. sitting.card) q)) a)
+module _ (cards : Cards) (start : Start) (past : List HistoryMinute) (from low : ℕ) (kept : Kept) where
+  accepted-is : (sitting : Sitting) (a : Option ℕ) → sitting.accepted ≡ a → events.accepted_card (Some sitting) ≡ option_map {T = ℕ} {U = Card} (λ u. sitting.card) a
+  accepted-is sitting a is = ap (λ (q : Option ℕ). option_map {T = ℕ} {U = Card} (λ u. sitting.card) q) is
 
-  seat-named : (seat : Option Seat) (sitting : Option Sitting) → SitsAs start past from kept seat sitting → SeatAnswers low cards seat → IsNamed seat sitting
-  seat-named None None sits answers = refl
-  seat-named None (Some sitting) sits answers = absurd sits
-  seat-named (Some seat) None sits answers = absurd sits
-  seat-named (Some seat) (Some sitting) sits answers = both-named seat sitting sits.0 seat.newest sitting.accepted refl (session_of cards seat.card) refl sits.1 answers
+  both-are : (seat : Seat) (sitting : Sitting) → seat.card ≡ sitting.card → (n : Option ℕ) (a : Option ℕ) → sitting.accepted ≡ a → (x : Option Accepted) → session_of cards seat.card ≡ x → IsNewest start past from kept seat.card n a → AnswersTo low n x → SeatIs cards (Some seat) (Some sitting)
+  both-are seat sitting card None None a None x new answers = inl (no-number cards seat.card x, accepted-is sitting None a)
+  both-are seat sitting card None None a (Some s) x new answers = absurd answers
+  both-are seat sitting card None (Some u) a s x new answers = absurd new
+  both-are seat sitting card (Some n) None a s x new answers = absurd new
+  both-are seat sitting card (Some n) (Some u) a None x new answers = absurd answers
+  both-are seat sitting card (Some n) (Some u) a (Some s) x new answers =
+      inr (seat.card, ap (λ (q : Option Accepted). is_some q) x, its-number cards seat.card s x, accepted-is sitting (Some u) a ∙ ap (λ (c : Card). Some c) (sym card))
+
+  seat-is : (seat : Option Seat) (sitting : Option Sitting) → SitsAs start past from kept seat sitting → SeatAnswers low cards seat → SeatIs cards seat sitting
+  seat-is None None sits answers = inl (refl, refl)
+  seat-is None (Some sitting) sits answers = absurd sits
+  seat-is (Some seat) None sits answers = absurd sits
+  seat-is (Some seat) (Some sitting) sits answers = both-are seat sitting sits.0 seat.newest sitting.accepted refl (session_of cards seat.card) refl sits.1 answers
+
+seat-named : (number : Card → List ℕ) (cards : Cards) → AreKnownBy number cards → (seat : Option Seat) (sitting : Option Sitting) → SeatIs cards seat sitting → card_number_bytes (number_or_no_card (number_of_seat cards seat)) ≡ number_or_none number (events.accepted_card sitting)
+seat-named number cards known seat sitting (inl is) = ap (λ (q : Option FullCardNumber). card_number_bytes (number_or_no_card q)) is.0 ∙ sym (ap (λ (q : Option Card). number_or_none number q) is.1)
+seat-named number cards known seat sitting (inr is) = ap (λ (q : Option FullCardNumber). card_number_bytes (number_or_no_card q)) is.2 ∙ known is.0 is.1 ∙ sym (ap (λ (q : Option Card). number_or_none number q) is.3)
+
+seat-as : (number : Card → FullCardNumber) (cards : Cards) → AreKnownAs number cards → (seat : Option Seat) (sitting : Option Sitting) → SeatIs cards seat sitting → number_of_seat cards seat ≡ option_map {T = Card} {U = FullCardNumber} number (events.accepted_card sitting)
+seat-as number cards known seat sitting (inl is) = is.0 ∙ sym (ap (λ (q : Option Card). option_map {T = Card} {U = FullCardNumber} number q) is.1)
+seat-as number cards known seat sitting (inr is) = is.2 ∙ known is.0 is.1 ∙ sym (ap (λ (q : Option Card). option_map {T = Card} {U = FullCardNumber} number q) is.3)
 
 -- ---- both
+
+module _ (start : Start) (told : List Told) (past : List HistoryMinute) (left : List Card) (u from low : ℕ) (leaving : Option Card) (slots : Slots) (cabin : Cabin) (stands : Stands low leaving cabin) (tells : SlotsTell start told past left u from slots cabin.slots) where
+  first-is : SeatIs cabin.cards cabin.slots.seats.driver slots.driver
+  first-is = seat-is cabin.cards start past from low cabin.slots cabin.slots.seats.driver slots.driver tells.driver stands.driver
+
+  second-is : SeatIs cabin.cards cabin.slots.seats.codriver slots.codriver
+  second-is = seat-is cabin.cards start past from low cabin.slots cabin.slots.seats.codriver slots.codriver tells.codriver stands.codriver
 
 pub cards-named : (number : Card → List ℕ) (start : Start) (told : List Told) (past : List HistoryMinute) (left : List Card) (u from low : ℕ) (leaving : Option Card) (slots : Slots) (cabin : Cabin) →
     Stands low leaving cabin → SlotsTell start told past left u from slots cabin.slots → AreKnownBy number cabin.cards → IsCrewOf number (events.crew_of slots) (crew_of cabin)
 cards-named number start told past left u from low leaving slots cabin stands tells known = record {
-  driver = seat-named number cabin.cards known start past from low cabin.slots cabin.slots.seats.driver slots.driver tells.driver stands.driver;
-  codriver = seat-named number cabin.cards known start past from low cabin.slots cabin.slots.seats.codriver slots.codriver tells.codriver stands.codriver;
+  driver = seat-named number cabin.cards known cabin.slots.seats.driver slots.driver (first-is start told past left u from low leaving slots cabin stands tells);
+  codriver = seat-named number cabin.cards known cabin.slots.seats.codriver slots.codriver (second-is start told past left u from low leaving slots cabin stands tells);
 }
+
+pub crew-named : (number : Card → FullCardNumber) (start : Start) (told : List Told) (past : List HistoryMinute) (left : List Card) (u from low : ℕ) (leaving : Option Card) (slots : Slots) (cabin : Cabin) →
+    Stands low leaving cabin → SlotsTell start told past left u from slots cabin.slots → AreKnownAs number cabin.cards → crew_of cabin ≡ named number (events.crew_of slots)
+crew-named number start told past left u from low leaving slots cabin stands tells known =
+    let first = seat-as number cabin.cards known cabin.slots.seats.driver slots.driver (first-is start told past left u from low leaving slots cabin stands tells) in
+    let second = seat-as number cabin.cards known cabin.slots.seats.codriver slots.codriver (second-is start told past left u from low leaving slots cabin stands tells) in
+    ap (λ (q : Option FullCardNumber). record { driver = q; codriver = (crew_of cabin).codriver }) first
+    ∙ ap (λ (q : Option FullCardNumber). record { driver = (named number (events.crew_of slots)).driver; codriver = q }) second
 
 -- ---- behind a tear
 

@@ -1,8 +1,10 @@
 -- The numbers of the cards in the slots, by what a run tells of these (profile).
-use Rattle.std.specs.Prelude.{◌≡◌, ℕ, ◌^◌, ◌<◌, true, None, Option, List, [], ◌∷◌, is_some}
+use Rattle.std.specs.Prelude.{◌≡◌, ℕ, ◌^◌, ◌<◌, true, None, Some, Option, List, [], ◌∷◌, is_some}
 use Rattle.activity_codec.specs.declared.values.Slot.{Slot}
 use Rattle.trace_model.specs.declared.Card.{Card}
 use Rattle.tacho_types.specs.CardNumber.{card_number_bytes}
+use Rattle.tacho_types.specs.declared.card_number.FullCardNumber.{FullCardNumber}
+use Rattle.event_crews.specs.Watched.{named}
 use Rattle.log_model.specs.Slots.{Slots}
 use Rattle.log_model.specs.Course.{Told}
 use Rattle.history_model.specs.Minutes.{HistoryMinute}
@@ -32,6 +34,14 @@ AreKnownBy number cards = (c : Card) → is_some (session_of cards c) ≡ true �
 abbrev pub CardsAreNamed : Type 0
 CardsAreNamed = (number : Card → List ℕ) (start : Start) (told : List Told) (past : List HistoryMinute) (left : List Card) (u from low : ℕ) (leaving : Option Card) (slots : Slots) (cabin : Cabin) →
     Stands low leaving cabin → SlotsTell start told past left u from slots cabin.slots → AreKnownBy number cabin.cards → IsCrewOf number (events.crew_of slots) (crew_of cabin)
+
+-- Where each card that has a session is known by this number, the crew are these cards.
+abbrev pub AreKnownAs : (Card → FullCardNumber) → Cards → Type 0
+AreKnownAs number cards = (c : Card) → is_some (session_of cards c) ≡ true → (known_of cards c).number ≡ Some (number c)
+
+abbrev pub CrewIsNamed : Type 0
+CrewIsNamed = (number : Card → FullCardNumber) (start : Start) (told : List Told) (past : List HistoryMinute) (left : List Card) (u from low : ℕ) (leaving : Option Card) (slots : Slots) (cabin : Cabin) →
+    Stands low leaving cabin → SlotsTell start told past left u from slots cabin.slots → AreKnownAs number cabin.cards → crew_of cabin ≡ named number (events.crew_of slots)
 
 -- So they are behind the tear of the card of a slot, without that.
 abbrev pub CardsAreNamedBehind : Type 0

@@ -3,7 +3,7 @@ ghost use Rattle.run_keeping.specs.declared.keeper.Moment.{Moment};
 ghost use Rattle.run_keeping.specs.Minutes.{Reach, Told};
 ghost use Rattle.run_keeping.specs.Faults.{faults_to};
 ghost use Rattle.kept_events.specs.Kept.{AreFaults};
-ghost use Rattle.kept_events.specs.Crews.{CardsAreNamed, CardsAreNamedBehind, SessionsAreKnown, FaultsAreTold};
+ghost use Rattle.kept_events.specs.Crews.{CardsAreNamed, CardsAreNamedBehind, CrewIsNamed, SessionsAreKnown, FaultsAreTold};
 
 /// As far as a keeping came, what it notes are faults of cards.
 pub fn keepings_note_faults()
@@ -15,7 +15,12 @@ pub fn the_cards_of_a_moment_are_named()
     ensures { CardsAreNamed }
 {}
 
-/// So they are behind a tear.
+/// And the crew are these cards.
+pub fn the_crew_of_a_moment_is_named()
+    ensures { CrewIsNamed }
+{}
+
+/// So the numbers are behind a tear.
 pub fn the_cards_behind_a_tear_are_named()
     ensures { CardsAreNamedBehind }
 {}
