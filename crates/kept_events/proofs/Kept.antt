@@ -1,40 +1,43 @@
 -- The faults of a keeping, and what has ended with a second, noted on the unit: what each image shows.
 use Rattle.std.proofs.Common.{◌≡◌, ◌∙◌, ◌⊎◌, inl, inr, ⊎_elim, ℕ, ◌+◌, Bool, true, false, not, Option, Some, None, IfSome, is_some, List, [], ◌∷◌, ◌++◌, length, Contains, refl, ap, sym, subst, arith}
+use Rattle.std.specs.Prelude.{option_to_list}
 use Rattle.std.specs.List.{AllByRecursion}
 use Rattle.trace_model.specs.declared.Card.{Card}
 use Rattle.tach_media.specs.Medium.{State, IsCoherent, LeavesOnly}
 use Rattle.log_model.specs.Log.{RunLog}
 use Rattle.unit_model.specs.Image.{IsUnit}
 use Rattle.event_model.specs.declared.kinds.TheConstants.{DRIVING_WITHOUT_CARD, OVER_SPEEDING, CARD_FAULT}
-use Rattle.event_model.specs.Events.{Event}
+use Rattle.event_model.specs.Events.{Event, Seen}
+use Rattle.tacho_types.specs.declared.card_number.FullCardNumber.{FullCardNumber}
 use Rattle.event_course.specs.Noted.{are_sure}
-use Rattle.event_course.specs.Shown.{all_kinds}
-use Rattle.event_notes.proofs.Frames.{others-same, numbers-same}
 use Rattle.unit_notes.specs.declared.unit_event.UnitEvent.{UnitEvent}
-use Rattle.unit_notes.specs.Entries.{fault_bytes, over_bytes}
-use Rattle.unit_notes.specs.Noting.{IsEventNoted, IsNotingEvent}
+use Rattle.unit_notes.specs.Entries.{fault_bytes}
+use Rattle.unit_notes.specs.Noting.{IsEventNoted}
 use Rattle.run_rule.specs.Between.{devices}
 use Rattle.run_crew.specs.declared.cabin.Cabin.{Cabin}
 use Rattle.run_crew.specs.declared.cards.Crew.{Crew}
 use Rattle.run_events.specs.Shown.{by_kind, none, ShowsMore, AreNumbers, SaysNothing, SaysNothingBut}
 use Rattle.run_events.proofs.Shows.{more-then, nothing-more, nothing-but}
-use Rattle.run_events.proofs.Frames.{all-apart, event-more, over-more, event-but, over-but}
+use Rattle.run_events.specs.Seconds.{bares_by, overs_by}
+use Rattle.run_events.proofs.Frames.{event-more}
 use Rattle.run_recorded.specs.Origin.{Origin}
 use Rattle.run_evented.specs.Evented.{number_in}
 use Rattle.run_notes.specs.declared.watch.Ended.{Ended}
 use Rattle.run_notes.specs.declared.watch.Watch.{Watch}
-use Rattle.run_notes.specs.Entries.{number_or_no_card, entry_of}
 use Rattle.run_notes.specs.Watching.{BareWith, OverWith, bare_ended, over_ended}
-use Rattle.run_notes.specs.Noting.{IsBareNoted, IsNotingBare, IsFastNoted, IsNotingFast, AreNoted, AreNotedAfter, AreBeingNoted, IsWatched}
+use Rattle.run_notes.specs.Noting.{AreNoted, AreBeingNoted, IsWatched}
+use Rattle.event_crews.specs.Watched.{number_bytes, ArePairs, IsBareOf, IsFastOf}
+use Rattle.event_crews.specs.Turned.{AreEnded, AreLow}
+use Rattle.event_crews.proofs.Turned.{turn-shown, turn-moment}
 use Rattle.slot_machine.specs.declared.seats.Present.{Present}
 use Rattle.run_keeping.specs.declared.keeper.Keeper.{Keeper}
 use Rattle.run_keeping.specs.declared.keeper.Moment.{Moment}
 use Rattle.run_keeping.specs.Keeping.{Fate, Still, Has, Fell, cabin_by}
 use Rattle.run_keeping.specs.Minutes.{Round, Told, Done, Reach, Whole, Short, cabin_after, told_after, told_by, present_at}
 use Rattle.run_keeping.specs.Faults.{faults_by, round_faults, last_faults, faults_of, faults_to, TellsFaults, NotesFaults}
-use Rattle.noted_events.specs.Noted.{IsTold, AreUnsure, AreTold, NotesSo, NotesEvents}
+use Rattle.noted_events.specs.Noted.{AreUnsure, AreTold, NotesSo, NotesEvents}
 use Rattle.noted_events.proofs.Noted.{unsure-front, unsure-back, unsure-shown}
-use Rattle.kept_events.specs.Kept.{AreFaults, IsBareOf, IsFastOf, AreEnded, NotesEnds}
+use Rattle.kept_events.specs.Kept.{AreFaults, AreNumbered, NotesEnds}
 
 -- ---- what a keeping notes are faults
 
@@ -75,11 +78,6 @@ as-long U whole unit x at = let all = whole.left_sized x at in let size = unit.s
 same-events : (x y : List ℕ) → y ≡ x → SaysNothing x y
 same-events x y is = subst (λ (c : List ℕ). SaysNothing x c) (sym is) (record { tables = λ kind there. refl; first_over = refl; over_count = refl })
 
-noted-but : (kind : ℕ) → Contains all_kinds kind → (front x y : List ℕ) → IsEventNoted kind front x y → SaysNothingBut kind x y
-noted-but kind there front x y noted =
-    let numbers = numbers-same kind (all-apart kind there) x y noted.outside in
-    record { tables = λ other at ne. others-same kind (all-apart kind there) x y noted.outside other at ne; first_over = λ ne. numbers.0; over_count = λ ne. numbers.1 }
-
 -- ---- faults
 
 module _ (number : Card → List ℕ) (long : AreNumbers number) (log : RunLog) (now : ℕ → List Event) where
@@ -114,72 +112,39 @@ faults-noted vs true U V A B C D whole unit are h o long es told = λ log now un
 
 -- ---- what has ended
 
-bare-there : Contains all_kinds DRIVING_WITHOUT_CARD
-bare-there = (2, omega arith, refl)
+-- functions that agree are one
+fun-same : {X : Type 0} (f g : Card → X) → ((c : Card) → f c ≡ g c) → f ≡ g
+fun-same f g h = λ i. λ c. h c i
 
-module _ (number : Card → List ℕ) (long : AreNumbers number) (log : RunLog) (now : ℕ → List Event) where
-  bare-shown : (b : Option BareWith) (es : List Event) (x c : List ℕ) → length x ≡ 2485808 → IsBareOf number b es → IsBareNoted b x c → ShowsMore number log now (by_kind es) x c
-  bare-shown None es x c sized is noted = subst (λ (q : List Event). ShowsMore number log now (by_kind q) x c) (sym is) (nothing-more number log now x c (same-events x c noted))
-  bare-shown (Some b) es x c sized is noted =
-      let told = is.2 in
-      let v : UnitEvent = entry_of DRIVING_WITHOUT_CARD b.span.begin b.span.end b.begin b.end in
-      subst (λ (q : List Event). ShowsMore number log now (by_kind q) x c) (sym is.1)
-      (event-more number long log now is.0 told.there x c sized v told.other told.begin told.end told.is (subst (λ (k : ℕ). IsEventNoted k (fault_bytes v) x c) told.is.kind noted))
+module _ (o : Origin) (long : AreNumbers (number_in o)) (number : Card → FullCardNumber) (named : AreNumbered o number) (log : RunLog) (now : ℕ → List Event) (limit : ℕ) (span new : List Seen) (ended : Ended) (are : AreEnded number limit span new ended) (low : AreLow span)
+    (lows : AreLow new) where
+  abbrev es : List Event
+  es = bares_by span new ++ overs_by limit span new
 
-  bare-long : (b : Option BareWith) (x c : List ℕ) → IsBareNoted b x c → length x ≡ 2485808 → length c ≡ 2485808
-  bare-long None x c noted sized = ap length noted ∙ sized
-  bare-long (Some b) x c noted sized = noted.outside.same_length ∙ sized
+  same-numbers : number_in o ≡ number_bytes number
+  same-numbers = fun-same (number_in o) (number_bytes number) named
 
-  -- of a type of which nothing is sure
-  bare-unsure : (b : Option BareWith) (es : List Event) (x c : List ℕ) → IsBareOf number b es → AreUnsure log now es → IsBareNoted b x c → ShowsMore number log now none x c
-  bare-unsure None es x c is unsure noted = nothing-more number log now x c (same-events x c noted)
-  bare-unsure (Some b) es x c is unsure noted =
-      let told = is.2 in
-      let v : UnitEvent = entry_of DRIVING_WITHOUT_CARD b.span.begin b.span.end b.begin b.end in
-      let un = subst (AreUnsure log now) is.1 unsure in
-      nothing-but number log now is.0.kind x c (subst (λ (k : ℕ). SaysNothingBut k x c) told.is.kind (noted-but DRIVING_WITHOUT_CARD bare-there (fault_bytes v) x c noted)) un.0
+  as-many : AreNumbers (number_bytes number)
+  as-many = subst AreNumbers same-numbers long
 
-  bare-moment : (b : Option BareWith) (es : List Event) (x c : List ℕ) → IsBareOf number b es → AreUnsure log now es → IsNotingBare b x c → ShowsMore number log now none x c
-  bare-moment None es x c is unsure noting = nothing-more number log now x c (same-events x c noting)
-  bare-moment (Some b) es x c is unsure noting =
-      let told = is.2 in
-      let v : UnitEvent = entry_of DRIVING_WITHOUT_CARD b.span.begin b.span.end b.begin b.end in
-      let un = subst (AreUnsure log now) is.1 unsure in
-      nothing-but number log now is.0.kind x c (subst (λ (k : ℕ). SaysNothingBut k x c) told.is.kind (event-but DRIVING_WITHOUT_CARD bare-there (fault_bytes v) x c noting)) un.0
+  ended-shown : (x c : List ℕ) → length x ≡ 2485808 → AreNoted ended x c → ShowsMore (number_in o) log now (by_kind es) x c
+  ended-shown x c sized noted = subst (λ (f : Card → List ℕ). ShowsMore f log now (by_kind es) x c) (sym same-numbers) (turn-shown number as-many log now limit span new ended are low lows x c sized noted)
 
-  fast-there : (e : Event) → e.kind ≡ OVER_SPEEDING → Contains all_kinds e.kind
-  fast-there e is = subst (λ (k : ℕ). Contains all_kinds k) (sym is) (5, omega arith, refl)
+  bares-unsure : (bares : List Event) (q : Option BareWith) → ArePairs (IsBareOf number) bares (option_to_list q) → AreUnsure log now bares → (bares ≡ []) ⊎ (are_sure log (now DRIVING_WITHOUT_CARD) ≡ true → ⊥)
+  bares-unsure [] q pairs un = inl refl
+  bares-unsure (e ∷ bares) None pairs un = absurd pairs
+  bares-unsure (e ∷ bares) (Some b) pairs un = inr (subst (λ (k : ℕ). are_sure log (now k) ≡ true → ⊥) (sym pairs.0.kind) un.0)
 
-  fast-shown : (f : Option OverWith) (es : List Event) (x c : List ℕ) → length x ≡ 2485808 → IsFastOf number f es → IsFastNoted f x c → ShowsMore number log now (by_kind es) x c
-  fast-shown None es x c sized is noted = subst (λ (q : List Event). ShowsMore number log now (by_kind q) x c) (sym is) (nothing-more number log now x c (same-events x c noted))
-  fast-shown (Some f) es x c sized is noted =
-      let told = is.2 in
-      subst (λ (q : List Event). ShowsMore number log now (by_kind q) x c) (sym is.1)
-      (over-more number long log now is.0 (fast-there is.0 told.is.kind) x c sized f.over (number_or_no_card f.begin.driver) told.some told.begin told.end told.is noted)
+  overs-unsure : (overs : List Event) (q : Option OverWith) → ArePairs (IsFastOf number) overs (option_to_list q) → AreUnsure log now overs → (overs ≡ []) ⊎ (are_sure log (now OVER_SPEEDING) ≡ true → ⊥)
+  overs-unsure [] q pairs un = inl refl
+  overs-unsure (e ∷ overs) None pairs un = absurd pairs
+  overs-unsure (e ∷ overs) (Some f) pairs un = inr (subst (λ (k : ℕ). are_sure log (now k) ≡ true → ⊥) pairs.0.kind un.0)
 
-  fast-moment : (f : Option OverWith) (es : List Event) (x c : List ℕ) → length x ≡ 2485808 → IsFastOf number f es → AreUnsure log now es → IsNotingFast f x c → ShowsMore number log now none x c
-  fast-moment None es x c sized is unsure noting = nothing-more number log now x c (same-events x c noting)
-  fast-moment (Some f) es x c sized is unsure noting =
-      let told = is.2 in
-      let un = subst (AreUnsure log now) is.1 unsure in
-      nothing-but number log now is.0.kind x c
-      (subst (λ (k : ℕ). SaysNothingBut k x c) (sym told.is.kind) (over-but f.over.begin (over_bytes f.over (number_or_no_card f.begin.driver)) x c sized noting)) un.0
-
-  ended-shown : (ended : Ended) (es : List Event) (x c : List ℕ) → length x ≡ 2485808 → AreEnded number ended es → AreNoted ended x c → ShowsMore number log now (by_kind es) x c
-  ended-shown ended es x c sized are noted =
-      subst (λ (q : List Event). ShowsMore number log now (by_kind q) x c) (sym are.are)
-      (more-then number log now are.bares are.overs x noted.between c (bare-shown (bare_ended ended) are.bares x noted.between sized are.bare noted.bare)
-      (fast-shown (over_ended ended) are.overs noted.between c (bare-long (bare_ended ended) x noted.between noted.bare sized) are.over noted.over))
-
-  ended-moment : (ended : Ended) (es : List Event) (x c : List ℕ) → length x ≡ 2485808 → AreEnded number ended es → AreUnsure log now es → AreBeingNoted ended x c → ShowsMore number log now none x c
-  ended-moment ended es x c sized are unsure (inl moment) =
-      bare-moment (bare_ended ended) are.bares x c are.bare (unsure-front log now are.bares are.overs (subst (AreUnsure log now) are.are unsure)) moment
-  ended-moment ended es x c sized are unsure (inr moment) =
-      let parts = subst (AreUnsure log now) are.are unsure in
-      let front = unsure-front log now are.bares are.overs parts in
-      let back = unsure-back log now are.bares are.overs parts in
-      more-then number log now [] [] x moment.between c (bare-unsure (bare_ended ended) are.bares x moment.between are.bare front moment.bare)
-      (fast-moment (over_ended ended) are.overs moment.between c (bare-long (bare_ended ended) x moment.between moment.bare sized) are.over back moment.over)
+  ended-moment : (x c : List ℕ) → length x ≡ 2485808 → AreUnsure log now es → AreBeingNoted ended x c → ShowsMore (number_in o) log now none x c
+  ended-moment x c sized unsure moment =
+      let bares = bares-unsure (bares_by span new) (bare_ended ended) are.bares (unsure-front log now (bares_by span new) (overs_by limit span new) unsure) in
+      let overs = overs-unsure (overs_by limit span new) (over_ended ended) are.overs (unsure-back log now (bares_by span new) (overs_by limit span new) unsure) in
+      subst (λ (f : Card → List ℕ). ShowsMore f log now none x c) (sym same-numbers) (turn-moment number as-many log now limit span new ended are low lows x c sized (bares, overs) moment)
 
 module _ (old new : Watch) (first n speed : ℕ) (crew : Crew) (U V A B C D : State) (whole : IsCoherent U) (behind : IsCoherent V) (unit : IsUnit U) where
   by-image : (image after : Option (List ℕ)) (c : List ℕ) → after ≡ Some c → is_some after ≡ is_some image → (x : List ℕ) × (image ≡ Some x)
@@ -187,18 +152,18 @@ module _ (old new : Watch) (first n speed : ℕ) (crew : Crew) (U V A B C D : St
   by-image (Some x) after c is tells = (x, refl)
 
   pub ends-noted : (failed : Bool) (w : IsWatched failed old new first n speed crew U V) → V.works ≡ not failed → NotesEnds w.ended failed (devices U A B) (devices V C D)
-  ends-noted false w works o long es are = λ c at.
+  ends-noted false w works o long number named limit span seen are low lows = λ c at.
       let is : V.image ≡ Some c = behind.only c works at in
       let was = by-image U.image V.image c is w.moments.tells in
       let one : IfSome V.image (AreNoted w.ended was.0) = subst (λ (q : Option (List ℕ)). IfSome q (λ x. IfSome V.image (AreNoted w.ended x))) was.1 (w.noted refl) in
       let done : AreNoted w.ended was.0 c = subst (λ (q : Option (List ℕ)). IfSome q (AreNoted w.ended was.0)) is one in
       let left : U.may_leave was.0 = whole.is_left was.0 was.1 in
-      (was.0, left, λ log now. ended-shown (number_in o) long log now w.ended es was.0 c (as-long U whole unit was.0 left) are done)
-  ends-noted true w works o long es are = λ log now unsure c at. ⊎_elim
+      (was.0, left, λ log now. ended-shown o long number named log now limit span seen w.ended are low lows was.0 c (as-long U whole unit was.0 left) done)
+  ends-noted true w works o long number named limit span seen are low lows = λ log now unsure c at. ⊎_elim
       (λ old_one. (c, old_one, nothing-more (number_in o) log now c c (same-events c c refl)))
       (λ moment.
       let left : U.may_leave moment.0 = whole.is_left moment.0 moment.1 in
-      (moment.0, left, ended-moment (number_in o) long log now w.ended es moment.0 c (as-long U whole unit moment.0 left) are unsure moment.2))
+      (moment.0, left, ended-moment o long number named log now limit span seen w.ended are low lows moment.0 c (as-long U whole unit moment.0 left) unsure moment.2))
       (w.moments.now c at)
 
 -- ---- the faults of a turn's keeping, and then what has ended
@@ -207,28 +172,31 @@ tells-long : (vs : List UnitEvent) (x c : List ℕ) → TellsFaults vs x c → l
 tells-long [] x c h sized = h.1 ∙ sized
 tells-long (v ∷ vs) x c h sized = tells-long vs h.1 c h.4 (h.3.outside.same_length ∙ h.2.1 ∙ sized)
 
-module _ (vs : List UnitEvent) (ended : Ended) (U V A B C D : State) (whole : IsCoherent U) (unit : IsUnit U) (are : AreFaults vs) (o : Origin) (long : AreNumbers (number_in o)) (faults es : List Event) (told : AreTold (number_in o) vs faults)
-    (ends : AreEnded (number_in o) ended es) where
-  pub turn-noted : ((c : List ℕ) → V.may_leave c → (x : List ℕ) × U.may_leave x × (y : List ℕ) × TellsFaults vs x y × AreNoted ended y c) → NotesSo false o (faults ++ es) (devices U A B) (devices V C D)
+module _ (vs : List UnitEvent) (ended : Ended) (U V A B C D : State) (whole : IsCoherent U) (unit : IsUnit U) (are : AreFaults vs) (o : Origin) (long : AreNumbers (number_in o)) (faults : List Event) (told : AreTold (number_in o) vs faults)
+    (number : Card → FullCardNumber) (named : AreNumbered o number) (limit : ℕ) (span new : List Seen) (ends : AreEnded number limit span new ended) (low : AreLow span) (lows : AreLow new) where
+  abbrev brought : List Event
+  brought = bares_by span new ++ overs_by limit span new
+
+  pub turn-noted : ((c : List ℕ) → V.may_leave c → (x : List ℕ) × U.may_leave x × (y : List ℕ) × TellsFaults vs x y × AreNoted ended y c) → NotesSo false o (faults ++ brought) (devices U A B) (devices V C D)
   turn-noted noted = λ c at.
       let h = noted c at in
       let sized : length h.0 ≡ 2485808 = as-long U whole unit h.0 h.1 in (
         h.0,
         h.1,
-        λ log now. more-then (number_in o) log now faults es h.0 h.2 c (faults-shown (number_in o) long log now vs faults h.0 h.2 sized are told h.3)
-            (ended-shown (number_in o) long log now ended es h.2 c (tells-long vs h.0 h.2 h.3 sized) ends h.4),
+        λ log now. more-then (number_in o) log now faults brought h.0 h.2 c (faults-shown (number_in o) long log now vs faults h.0 h.2 sized are told h.3)
+            (ended-shown o long number named log now limit span new ended ends low lows h.2 c (tells-long vs h.0 h.2 h.3 sized) h.4),
       )
 
-  pub turn-cut : ((c : List ℕ) → V.may_leave c → (x : List ℕ) × U.may_leave x × (y : List ℕ) × TellsFaults vs x y × ((c ≡ y) ⊎ AreBeingNoted ended y c)) → NotesSo true o (faults ++ es) (devices U A B) (devices V C D)
+  pub turn-cut : ((c : List ℕ) → V.may_leave c → (x : List ℕ) × U.may_leave x × (y : List ℕ) × TellsFaults vs x y × ((c ≡ y) ⊎ AreBeingNoted ended y c)) → NotesSo true o (faults ++ brought) (devices U A B) (devices V C D)
   turn-cut noted = λ log now unsure c at.
       let h = noted c at in
       let sized : length h.0 ≡ 2485808 = as-long U whole unit h.0 h.1 in (
         h.0,
         h.1,
         more-then (number_in o) log now [] [] h.0 h.2 c
-            (unsure-shown (number_in o) log now faults h.0 h.2 (unsure-front log now faults es unsure) (faults-shown (number_in o) long log now vs faults h.0 h.2 sized are told h.3))
+            (unsure-shown (number_in o) log now faults h.0 h.2 (unsure-front log now faults brought unsure) (faults-shown (number_in o) long log now vs faults h.0 h.2 sized are told h.3))
             (⊎_elim
             (λ same. nothing-more (number_in o) log now h.2 c (same-events h.2 c same))
-            (λ moment. ended-moment (number_in o) long log now ended es h.2 c (tells-long vs h.0 h.2 h.3 sized) ends (unsure-back log now faults es unsure) moment)
+            (λ moment. ended-moment o long number named log now limit span new ended ends low lows h.2 c (tells-long vs h.0 h.2 h.3 sized) (unsure-back log now faults brought unsure) moment)
             h.4),
       )

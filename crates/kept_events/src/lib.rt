@@ -3,4 +3,7 @@
 
 mod laws;
 
-pub use laws::keepings_note_faults;
+pub use laws::{
+    faults_of_entries_are_told, keepings_note_faults, the_cards_behind_a_tear_are_named,
+    the_cards_of_a_moment_are_named, the_crew_of_a_moment_is_named, who_has_a_session_is_known,
+};
