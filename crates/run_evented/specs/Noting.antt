@@ -21,7 +21,7 @@ use Rattle.run_course.specs.Followed.{Progress, Followed}
 use Rattle.run_course.specs.Seconds.{next_told}
 use Rattle.run_moments.specs.Moment.{Moment}
 use Rattle.run_moments.specs.Telling.{IsMore, begun_by, IsLeft}
-use Rattle.run_events.specs.Shown.{by_kind, none, HasNoted, ShowsMore}
+use Rattle.run_events.specs.Shown.{by_kind, none, ShowsEvents, ShowsMore}
 use Rattle.run_events.specs.Seconds.{seen_next}
 use Rattle.run_events.specs.Gaps.{HasGaps}
 use Rattle.run_events.specs.Choice.{IsTornIn, IsPlainFrom}
@@ -46,6 +46,10 @@ is_told Ended kind = true
 abbrev pub AreOpen : Origin → RunLog → List TraceSecond → TraceSecond → (own : ℕ → Visit → ℕ) → Devices → Type 0
 AreOpen o log done s own d = (f : Visit × Verdict) → Contains (seen_next log done s).told.course.found f → is_accepting f.1 ≡ true → (x : List ℕ) × images_in o d f.0.card x × (session_in x ≡ own s.number f.0)
 
+-- an image shows these events more than one before it, whatever is sure
+abbrev pub ShowsThese : Origin → List Event → (x c : List ℕ) → Type 0
+ShowsThese o es x c = (log : RunLog) (now : ℕ → List Event) → ShowsMore (number_in o) log now (by_kind es) x c
+
 -- WITHIN A SECOND that began so, by its log so far: these events more were noted in it, which every image of the unit shows behind those of the
 -- seconds before.
 pub record EventedIn (o : Origin) (done : List TraceSecond) (s : TraceSecond) (p : Progress) (stage : Stage) (log : RunLog) (d : Devices) : Type 0 where
@@ -60,14 +64,14 @@ pub record EventedIn (o : Origin) (done : List TraceSecond) (s : TraceSecond) (p
   pub here : Tearing
   pub own : ℕ → Visit → ℕ
   pub more : List Event
-  pub noted : HasNoted (number_in o) o.recording.unit p.log (λ kind. events_of kind (limit_in o) sessions tearing p.log done ++ by_kind more kind) d.unit
+  pub noted : (c : List ℕ) → d.unit.may_leave c → (x : List ℕ) × ShowsEvents (number_in o) o.recording.unit p.log (λ kind. events_of kind (limit_in o) sessions tearing p.log done) x × ShowsThese o more x c
   pub told : (kind : ℕ) → Contains all_kinds kind → is_told stage kind ≡ true → by_kind more kind ≡ brought_now o log done s here own kind
   pub untold : (kind : ℕ) → Contains all_kinds kind → is_told stage kind ≡ false → by_kind more kind ≡ []
   pub open_now : AreOpen o log done s own d
 
--- a call notes these events, whatever is sure
+-- calls note these events
 abbrev pub NotesThese : Origin → List Event → (d e : Devices) → Type 0
-NotesThese o es d e = (log : RunLog) (now : ℕ → List Event) (c : List ℕ) → e.unit.may_leave c → (x : List ℕ) × d.unit.may_leave x × ShowsMore (number_in o) log now (by_kind es) x c
+NotesThese o es d e = (c : List ℕ) → e.unit.may_leave c → (x : List ℕ) × d.unit.may_leave x × ShowsThese o es x c
 
 -- A STEP IS NOTED: a line is told, or none, and what no log tells is chosen further; it brings these events of the types that are noted as they
 -- come, and they are noted.
