@@ -4,3 +4,4 @@ pub mod Dark
 pub mod Ends
 pub mod Whole
 pub mod Noting
+pub mod Fronts
