@@ -1,1 +1,2 @@
 pub mod Evented
+pub mod Going
