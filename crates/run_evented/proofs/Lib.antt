@@ -2,5 +2,5 @@ pub mod Lines
 pub mod Seconds
 pub mod Dark
 pub mod Ends
-pub mod Going
+pub mod Unlit
 pub mod Owing

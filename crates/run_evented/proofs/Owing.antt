@@ -1,5 +1,5 @@
 -- Events of seconds that have gone by which are noted later, once those seconds are fed.
-use Rattle.std.proofs.Common.{◌≡◌, inl, inr, ⊎_elim, ℕ, zero, suc, ◌+◌, ◌≤◌, true, false, List, [], ◌∷◌, ◌++◌, All, Contains, length, take, refl, ap, sym, subst, ◌∙◌, arith, append_assoc, append-nil}
+use Rattle.std.proofs.Common.{◌≡◌, ⊎_elim, ℕ, zero, suc, ◌+◌, ◌≤◌, true, List, [], ◌∷◌, ◌++◌, All, Contains, refl, ap, sym, subst, ◌∙◌, arith, append_assoc, append-nil}
 use Rattle.std.specs.List.{AllByRecursion}
 use Rattle.std.proofs.lemmas.List.{same_from_push}
 use Rattle.std.proofs.lemmas.List.Elements.{All-nil, All-cons, Contains-push_cases, Contains-append_cases}
@@ -14,13 +14,11 @@ use Rattle.event_model.specs.Events.{Event, Seen, AreTorn, number_of, seen_of, s
 use Rattle.event_course.specs.Noted.{Leads}
 use Rattle.event_course.proofs.Failing.{leads-stay, leads-more, leads-then}
 use Rattle.unit_course.specs.Followed.{Supply, Lit}
-use Rattle.unit_course.proofs.Parts.{driven-length}
 use Rattle.safety_model.specs.Safe.{Devices}
 use Rattle.run_course.specs.Followed.{Progress, Followed}
 use Rattle.run_course.specs.Quiet.{quiet_second, quiet_seconds}
 use Rattle.run_course.proofs.Quiet.{quiet-are-told}
 use Rattle.run_moments.proofs.Reached.{push-each}
-use Rattle.run_events.specs.Shown.{none}
 use Rattle.run_events.specs.Seconds.{last_of, quiet_events, IsIdle, IsQuiet, seen_next}
 use Rattle.run_events.specs.Gaps.{HasGaps}
 use Rattle.run_events.proofs.Gaps.{goes-on}
@@ -30,8 +28,8 @@ use Rattle.run_events.proofs.Quiet.{quiet-brings, torn-idle}
 use Rattle.run_events.proofs.Shows.{noted-then}
 use Rattle.run_recorded.specs.Origin.{Origin, rule_of, start_at, first_of}
 use Rattle.run_evented.specs.Evented.{number_in, limit_in}
-use Rattle.run_evented.specs.Going.{Owing, NothingIsOwed, OwedEventsAreNoted, AreQuiet, OwesMore, QuietSecondsOweMore}
-use Rattle.run_evented.proofs.Going.{plain-last, behind-more}
+use Rattle.run_evented.specs.Going.{NothingIsOwed, OwedEventsAreNoted, QuietSecondsOweMore}
+use Rattle.run_evented.proofs.Unlit.{plain-last, behind-more}
 
 pub nothing-owed : (d : Devices) → NothingIsOwed d
 nothing-owed d o done log unfound next supply v = record {

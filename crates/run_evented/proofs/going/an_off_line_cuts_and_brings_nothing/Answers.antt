@@ -1,5 +1,5 @@
 use Rattle.run_rule.specs.Between.{devices}
-use Rattle.run_evented.proofs.Going.{off-line_cuts}
+use Rattle.run_evented.proofs.Unlit.{off-line_cuts}
 use Rattle.run_evented.proofs.going.an_off_line_cuts_and_brings_nothing.Goals as goal
 
 pub returns : goal.returns

@@ -1,5 +1,5 @@
 use Rattle.run_rule.specs.Between.{devices}
-use Rattle.run_evented.proofs.Going.{dark-seconds}
+use Rattle.run_evented.proofs.Unlit.{dark-seconds}
 use Rattle.run_evented.proofs.going.dark_seconds_bring_nothing.Goals as goal
 
 pub returns : goal.returns

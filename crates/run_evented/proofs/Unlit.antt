@@ -5,9 +5,9 @@ use Rattle.trace_model.specs.Trace.{TraceSecond, driven, dark}
 use Rattle.log_model.specs.declared.lines.Refused.{Refused}
 use Rattle.log_model.specs.Log.{RunLog}
 use Rattle.log_model.specs.Spans.{AreInOrder}
-use Rattle.log_model.specs.Course.{Told, Went, Before, second_told, went}
+use Rattle.log_model.specs.Course.{Went, Before, second_told, went}
 use Rattle.unit_course.specs.Lines.{cut_at}
-use Rattle.unit_course.specs.Followed.{Supply, Lit, Due, Lost, IsDark}
+use Rattle.unit_course.specs.Followed.{Supply, Due, Lost, IsDark}
 use Rattle.unit_course.proofs.Parts.{order-behind, driven-order, driven-length, dark-order, dark-length}
 use Rattle.safety_model.specs.Safe.{Devices}
 use Rattle.run_course.specs.Moments.{and_break}
