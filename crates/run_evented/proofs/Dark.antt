@@ -1,6 +1,6 @@
 -- Seconds that bring no event: a power-on that fails, a second without power, a cut behind all of a second; and the start and the end of a run.
-use Rattle.std.proofs.Common.{◌≡◌, ◌⊎◌, inl, inr, ⊎_elim, ℕ, zero, suc, ◌+◌, ◌-◌, ◌<◌, ◌≤◌, Bool, true, false, cond, not, ◌&&◌, ◌||◌, nat_eq, Option, Some, None, is_some, List, [], ◌∷◌, ◌++◌, All, Contains, length, take, map, refl, ap, sym, subst, ◌∙◌, arith, append-nil}
-use Rattle.std.specs.List.{AllByRecursion, list_any}
+use Rattle.std.proofs.Common.{◌≡◌, ⊎_elim, ℕ, suc, Bool, true, false, ◌&&◌, ◌||◌, nat_eq, Option, Some, None, List, [], ◌∷◌, ◌++◌, All, Contains, take, map, refl, ap, sym, subst, ◌∙◌, arith, append-nil}
+use Rattle.std.specs.List.{list_any}
 use Rattle.std.proofs.lemmas.Bool.Decides.{nat_tests}
 use Rattle.std.proofs.lemmas.List.Elements.{Contains-push_cases}
 use Rattle.std.proofs.lemmas.List.Folds.{list_any-append}
@@ -8,38 +8,30 @@ use Rattle.activity_codec.specs.declared.values.Slot.{Slot}
 use Rattle.activity_codec.specs.declared.values.Slot.TheVariants.{Driver, CoDriver}
 use Rattle.activity_codec.specs.Activity.{same_slot}
 use Rattle.trace_model.specs.declared.Card.{Card}
-use Rattle.trace_model.specs.declared.Action.{Action}
 use Rattle.trace_model.specs.Trace.{TraceSecond}
 use Rattle.log_model.specs.declared.lines.Verdict.{Verdict}
 use Rattle.log_model.specs.declared.lines.Break.{Break}
-use Rattle.log_model.specs.Log.{RunLog, Phase, In, same_phase, kept_after, is_accepting}
+use Rattle.log_model.specs.Log.{RunLog, In, same_phase, kept_after}
 use Rattle.log_model.specs.Same.{SameAt}
 use Rattle.log_model.specs.Slots.{Slots, Sitting}
-use Rattle.log_model.specs.Spans.{AreInOrder}
-use Rattle.log_model.specs.Course.{Told, Visit, Course, Went, Before, visits, card_in, fresh, cut_told, has_power, second_told, went}
-use Rattle.event_model.specs.Events.{Event, Seen, Tearing, AreTorn, number_of, seen_of, torn_at, accepted_at, entered_at}
-use Rattle.side_model.specs.Events.{AreSessions}
+use Rattle.log_model.specs.Course.{Told, Visit, Went, Before, visits, card_in, fresh, has_power, second_told, went}
+use Rattle.event_model.specs.Events.{Seen, number_of, torn_at, entered_at}
 use Rattle.side_model.specs.Done.{has_failed_in}
 use Rattle.event_course.specs.Noted.{StayFailed}
 use Rattle.event_course.proofs.Failing.{failed-here}
 use Rattle.unit_course.specs.Lines.{log_of, cut_at}
 use Rattle.unit_course.specs.Followed.{Supply, Lit, Due, Lost, MayPower, MayFail, IsDark, cuts_from}
-use Rattle.unit_model.specs.declared.layout.TheConstants.{OVER_COUNT}
-use Rattle.unit_model.specs.Image as image
 use Rattle.safety_model.specs.Safe.{Devices}
 use Rattle.run_course.specs.Moments.{and_break}
-use Rattle.run_course.specs.Followed.{Progress, Followed}
 use Rattle.run_course.specs.Seconds.{GoesOnBy, next_told}
-use Rattle.run_course.specs.Within.{not_begun}
 use Rattle.run_course.proofs.Logs.{all-before, refused-at, went-refused}
 use Rattle.run_course.proofs.Told.{told-lit}
 use Rattle.log_model.proofs.Growth.{went-more}
-use Rattle.run_moments.specs.Telling.{IsMore}
 use Rattle.run_moments.proofs.Failing.{power-on_cut}
 use Rattle.run_events.specs.Shown.{SaysNothing}
-use Rattle.run_events.specs.Seconds.{IsIdle, IsDarkSeen, seen_next}
-use Rattle.run_events.specs.Gaps.{HasGaps, TellsMore}
-use Rattle.run_events.specs.Choice.{IsTornIn, IsPlainFrom, plain}
+use Rattle.run_events.specs.Seconds.{seen_next}
+use Rattle.run_events.specs.Gaps.{TellsMore}
+use Rattle.run_events.specs.Choice.{IsTornIn, plain}
 use Rattle.run_events.specs.Running.{HasEvents}
 use Rattle.run_events.proofs.Gaps.{fails, stays-dark}
 use Rattle.run_events.proofs.Growing.{seen-more}
@@ -47,9 +39,8 @@ use Rattle.run_events.proofs.Quiet.{dark-shown}
 use Rattle.run_events.proofs.Running.{lines-shown}
 use Rattle.run_events.proofs.Later.{told-number}
 use Rattle.run_events.proofs.Shows.{nothing-more}
-use Rattle.run_recorded.specs.Origin.{Origin, rule_of, start_at, first_of}
-use Rattle.run_recorded.specs.Beside.{HaveLeftMore}
-use Rattle.run_evented.specs.Evented.{number_in, limit_in, session_in, images_in, Evented, EventedBy, events_now, IsChosen, APowerOnIsBroken, ADarkSecondBringsNothing}
+use Rattle.run_recorded.specs.Origin.{rule_of, start_at, first_of}
+use Rattle.run_evented.specs.Evented.{number_in, limit_in, events_now, IsChosen, APowerOnIsBroken, ADarkSecondBringsNothing}
 use Rattle.run_evented.proofs.Lines.{untold-now, same-before, front-same, number-next, low-cuts}
 use Rattle.run_evented.proofs.Seconds.{broken-on}
 

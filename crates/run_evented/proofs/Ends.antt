@@ -1,43 +1,37 @@
 -- The last second turns out to be a cut's; and the start and the end of a run.
-use Rattle.std.proofs.Common.{◌≡◌, ◌⊎◌, inl, inr, ⊎_elim, ℕ, zero, suc, ◌+◌, ◌-◌, ◌<◌, ◌≤◌, Bool, true, false, cond, not, ◌&&◌, ◌||◌, nat_eq, Option, Some, None, is_some, List, [], ◌∷◌, ◌++◌, All, Contains, length, take, map, refl, ap, sym, subst, ◌∙◌, arith, append-nil}
+use Rattle.std.proofs.Common.{◌≡◌, ⊎_elim, ℕ, ◌+◌, ◌-◌, ◌<◌, ◌≤◌, Bool, true, false, cond, not, ◌&&◌, ◌||◌, nat_eq, Option, Some, None, is_some, List, [], ◌∷◌, ◌++◌, All, Contains, length, take, refl, ap, sym, subst, ◌∙◌, arith, append-nil}
 use Rattle.std.specs.Prelude.{◌==◌}
 use Rattle.std.specs.List.{AllByRecursion}
 use Rattle.std.proofs.lemmas.Bool.Decides.{nat_tests}
 use Rattle.std.proofs.lemmas.List.Elements.{Contains-push_cases, Contains-append_left, Contains-push}
-use Rattle.activity_codec.specs.declared.values.Slot.{Slot}
 use Rattle.trace_model.specs.declared.Card.{Card}
-use Rattle.trace_model.specs.declared.Action.{Action}
 use Rattle.trace_model.specs.Trace.{TraceSecond}
 use Rattle.card_image.specs.Own.{own_number}
 use Rattle.log_model.specs.declared.lines.Break.{Break}
 use Rattle.log_model.specs.declared.lines.Break.TheVariants.{Cut, Tear}
 use Rattle.log_model.specs.declared.lines.Verdict.{Verdict}
-use Rattle.log_model.specs.Log.{RunLog, Phase, cut_of, cut_in, is_torn_in, found_in, kept_after, is_accepting}
+use Rattle.log_model.specs.Log.{RunLog, cut_in, is_torn_in, kept_after}
 use Rattle.log_model.specs.Causes.{second_of}
 use Rattle.log_model.specs.Same.{SameAt}
 use Rattle.log_model.specs.Spans.{AreInOrder}
-use Rattle.log_model.specs.Course.{Told, Visit, Went, Before, has_power, second_told, went}
+use Rattle.log_model.specs.Course.{Told, Visit, Went, has_power, second_told, went}
 use Rattle.log_model.proofs.Growth.{went-more}
 use Rattle.event_model.specs.declared.kinds.TheConstants.{DRIVING_WITHOUT_CARD, OVER_SPEEDING, POWER_INTERRUPTION, CARD_FAULT}
-use Rattle.event_model.specs.Events.{Event, Seen, Tearing, AreTorn, number_of, seen_of, seen_by, events_of}
-use Rattle.side_model.specs.Events.{AreSessions}
-use Rattle.side_model.specs.Done.{has_failed_in}
+use Rattle.event_model.specs.Events.{Event, Seen, Tearing, AreTorn, number_of, seen_of, events_of}
 use Rattle.unit_course.specs.Lines.{log_of, cut_at, tells_cut}
-use Rattle.unit_course.specs.Followed.{Supply, Lit, Due, Lost, cuts_from}
-use Rattle.unit_model.specs.declared.layout.TheConstants.{SPEED_LIMIT, OVER_COUNT}
+use Rattle.unit_course.specs.Followed.{Supply, Lit, Lost}
+use Rattle.unit_model.specs.declared.layout.TheConstants.{SPEED_LIMIT}
 use Rattle.unit_model.specs.Image as image
-use Rattle.event_course.specs.Noted.{are_sure, Leads, StayFailed}
-use Rattle.event_course.specs.Shown.{all_kinds}
-use Rattle.safety_model.specs.Recording.{Recording, card_image}
+use Rattle.event_course.specs.Noted.{StayFailed}
+use Rattle.safety_model.specs.Recording.{card_image}
 use Rattle.safety_model.specs.Safe.{Devices, card_of}
-use Rattle.run_rule.specs.Found.{found_of}
 use Rattle.run_course.specs.Moments.{and_break}
 use Rattle.run_course.specs.Followed.{Progress, Followed, IsBreakBefore, HadActions}
 use Rattle.run_course.specs.Seconds.{next_told}
 use Rattle.run_course.proofs.Lookups.{cut-by, cut-first, cut-nothing, break-more}
 use Rattle.run_course.proofs.Logs.{other-number, all-before, same-at, kept-later, front-later, went-later}
 use Rattle.run_course.proofs.Told.{told-lit}
-use Rattle.run_events.specs.Shown.{none, ShowsEvents}
+use Rattle.run_events.specs.Shown.{none}
 use Rattle.run_events.specs.Seconds.{seen_next}
 use Rattle.run_events.specs.Running.{HasEvents, IsCutOff}
 use Rattle.run_events.specs.Choice.{plain}
@@ -47,7 +41,7 @@ use Rattle.run_events.proofs.Later.{told-number}
 use Rattle.run_events.proofs.Offs.{seen-off, off-shown, off-gaps}
 use Rattle.run_events.proofs.Shows.{noted-begins, noted-then, nothing-more}
 use Rattle.run_recorded.specs.Origin.{Origin, rule_of, start_at, first_of}
-use Rattle.run_evented.specs.Evented.{number_in, limit_in, session_in, images_in, Evented, EventedBy, NothingIsNoted, AnOffCutBringsNothing, ShowsEventsOf, EventsAreShown}
+use Rattle.run_evented.specs.Evented.{number_in, limit_in, Evented, NothingIsNoted, AnOffCutBringsNothing, EventsAreShown}
 use Rattle.run_evented.proofs.Lines.{untold-now}
 use Rattle.run_evented.proofs.Dark.{says-same, nothing-in}
 

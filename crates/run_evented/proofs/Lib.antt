@@ -3,4 +3,6 @@ pub mod Seconds
 pub mod Dark
 pub mod Ends
 pub mod Unlit
-pub mod Owing
+pub mod Quiet
+pub mod Whole
+pub mod Noting

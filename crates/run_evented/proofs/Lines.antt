@@ -1,7 +1,7 @@
 -- One second more by a log: what its lines leave of the seconds before, and how it went.
-use Rattle.std.proofs.Common.{◌≡◌, ◌⊎◌, inl, inr, ⊎_elim, ℕ, zero, suc, ◌+◌, ◌-◌, ◌<◌, ◌≤◌, Bool, true, false, cond, ◌&&◌, ◌||◌, nat_eq, Option, Some, None, is_some, List, [], ◌∷◌, ◌++◌, All, Contains, length, take, fold, refl, ap, sym, subst, ◌∙◌, arith, append_assoc}
+use Rattle.std.proofs.Common.{◌≡◌, ⊎_elim, ℕ, ◌+◌, ◌<◌, ◌≤◌, Bool, true, false, cond, ◌||◌, nat_eq, Option, Some, None, is_some, List, [], ◌∷◌, ◌++◌, All, Contains, length, take, fold, refl, ap, sym, subst, ◌∙◌, arith, append_assoc}
 use Rattle.std.specs.Prelude.{unwrap_or}
-use Rattle.std.specs.List.{AllByRecursion, list_any}
+use Rattle.std.specs.List.{AllByRecursion}
 use Rattle.std.proofs.lemmas.Bool.Decides.{nat_tests}
 use Rattle.std.proofs.lemmas.List.Folds.{list_any-append}
 use Rattle.std.proofs.lemmas.List.Elements.{Contains-push_cases}
@@ -13,14 +13,14 @@ use Rattle.log_model.specs.Log.{RunLog, cut_of, kept_by, kept_after, is_acceptin
 use Rattle.log_model.specs.Causes.{is_cut}
 use Rattle.log_model.specs.Same.{SameAt}
 use Rattle.log_model.specs.Spans.{AreInOrder}
-use Rattle.log_model.specs.Course.{Told, Visit, not_begun, second_told, went}
-use Rattle.event_model.specs.Events.{Seen, Watched, number_of, last_number, seen_by, watched_on, seen_of}
+use Rattle.log_model.specs.Course.{Told, Visit, not_begun, went}
+use Rattle.event_model.specs.Events.{Seen, Watched, number_of, seen_by, watched_on, seen_of}
 use Rattle.side_model.specs.Events.{AreSessions}
 use Rattle.unit_course.specs.Lines.{log_of, cut_at, tells_cut}
-use Rattle.unit_course.specs.Followed.{Supply, cuts_from}
+use Rattle.unit_course.specs.Followed.{cuts_from}
 use Rattle.event_course.specs.Noted.{StayFailed}
 use Rattle.event_course.proofs.Failing.{kept-added}
-use Rattle.safety_model.specs.Safe.{Devices, card_of}
+use Rattle.safety_model.specs.Safe.{Devices}
 use Rattle.run_course.specs.Followed.{Progress, Followed, IsBreakBefore, AreBefore}
 use Rattle.run_course.specs.Seconds.{GoesOnBy, next_told}
 use Rattle.run_course.proofs.Logs.{other-number, all-before, same-at, kept-later, front-later, tells-none, breaks-front}
@@ -28,7 +28,7 @@ use Rattle.run_course.proofs.Steps.{cuts-bound, now-told}
 use Rattle.run_moments.proofs.Reached.{push-each}
 use Rattle.run_events.specs.Seconds.{seen_next}
 use Rattle.run_events.specs.Gaps.{IsUntold, TellsMore}
-use Rattle.run_events.specs.Choice.{told_at, AreEarlier}
+use Rattle.run_events.specs.Choice.{AreEarlier}
 use Rattle.run_events.proofs.Gaps.{stay-later}
 use Rattle.run_events.proofs.Later.{told-number}
 use Rattle.run_recorded.specs.Origin.{Origin, rule_of, start_at, first_of}

@@ -1,56 +1,41 @@
 -- The events that are carried between two seconds, over each kind of second.
-use Rattle.std.proofs.Common.{◌≡◌, ◌⊎◌, inl, inr, ⊎_elim, ℕ, zero, suc, ◌+◌, ◌-◌, ◌<◌, ◌≤◌, Bool, true, false, cond, not, ◌&&◌, ◌||◌, nat_eq, Option, Some, None, is_some, List, [], ◌∷◌, ◌++◌, All, Contains, length, take, map, refl, ap, sym, subst, ◌∙◌, arith, append-nil, append_assoc}
-use Rattle.std.specs.List.{AllByRecursion, list_any}
+use Rattle.std.proofs.Common.{◌≡◌, ℕ, suc, true, List, [], ◌∷◌, ◌++◌, All, Contains, take, refl, ap, sym, subst, ◌∙◌, append_assoc}
 use Rattle.std.proofs.lemmas.List.Elements.{All-nil, All-cons}
-use Rattle.activity_codec.specs.declared.values.Slot.{Slot}
-use Rattle.activity_codec.specs.declared.values.Slot.TheVariants.{Driver, CoDriver}
-use Rattle.activity_codec.specs.Activity.{same_slot}
-use Rattle.trace_model.specs.declared.Card.{Card}
-use Rattle.trace_model.specs.declared.Action.{Action}
 use Rattle.trace_model.specs.Trace.{TraceSecond}
 use Rattle.run_model.specs.declared.Device.{Device}
 use Rattle.log_model.specs.declared.lines.Break.{Break}
-use Rattle.log_model.specs.declared.lines.Verdict.{Verdict}
-use Rattle.log_model.specs.Log.{RunLog, Phase, In, Keeping, same_phase, is_accepting}
+use Rattle.log_model.specs.Log.{RunLog, Phase}
 use Rattle.log_model.specs.Causes.{second_of}
 use Rattle.log_model.specs.Same.{SameAt}
-use Rattle.log_model.specs.Slots.{Slots, Sitting}
-use Rattle.log_model.specs.Spans.{AreInOrder}
-use Rattle.log_model.specs.Course.{Told, Visit, Course, Went, visits, card_in, fresh, cut_told, went}
-use Rattle.event_model.specs.Events.{Event, Seen, Tearing, AreTorn, number_of, seen_of, seen_spans, torn_at, entered_at}
+use Rattle.log_model.specs.Course.{Told, Visit, Went, went}
+use Rattle.event_model.specs.Events.{Event, Seen, Tearing, seen_of, seen_spans}
 use Rattle.side_model.specs.Events.{AreSessions}
 use Rattle.side_model.specs.Done.{has_failed_in}
-use Rattle.unit_course.specs.Lines.{cut_at, found_from}
-use Rattle.unit_course.specs.Followed.{Supply, Lit, Due, Lost, MayPower, MayFail, IsDark, cuts_from}
+use Rattle.unit_course.specs.Lines.{cut_at}
+use Rattle.unit_course.specs.Followed.{Supply, Lit, Due, Lost, MayPower, IsDark, cuts_from}
 use Rattle.event_course.specs.Shown.{all_kinds}
-use Rattle.unit_course.specs.Turn.{begins_with}
-use Rattle.event_course.specs.Noted.{StayFailed}
 use Rattle.event_course.proofs.Failing.{failed-found, failed-here}
 use Rattle.safety_model.specs.Safe.{Devices}
 use Rattle.run_course.specs.Moments.{and_break}
 use Rattle.run_course.specs.Followed.{Progress, Followed}
 use Rattle.run_course.specs.Seconds.{GoesOnBy, next_told}
-use Rattle.run_course.specs.Within.{not_begun}
 use Rattle.run_course.proofs.Logs.{all-before, same-found, went-found, kept-found}
 use Rattle.run_moments.specs.Moment.{Moment, goes_on}
-use Rattle.run_moments.specs.Telling.{IsMore, begun_by, IsLeft, told_with}
+use Rattle.run_moments.specs.Telling.{begun_by}
 use Rattle.run_moments.proofs.Reached.{push-each}
 use Rattle.run_moments.proofs.Telling.{second-ends_told, cut-ends_told}
-use Rattle.run_moments.proofs.Failing.{power-on_cut}
-use Rattle.run_events.specs.Shown.{by_kind, none, ShowsMore}
+use Rattle.run_events.specs.Shown.{by_kind, none}
 use Rattle.run_events.specs.Seconds.{IsBehind, seen_next}
 use Rattle.run_events.specs.Gaps.{IsUntold, HasGaps, TellsMore}
-use Rattle.run_events.specs.Choice.{chosen, IsTornIn, IsPlainFrom}
-use Rattle.run_events.specs.Running.{HasEvents}
-use Rattle.run_events.proofs.Gaps.{is-found, goes-on, breaks-off, fails}
+use Rattle.run_events.specs.Choice.{IsPlainFrom}
+use Rattle.run_events.proofs.Gaps.{is-found, goes-on, breaks-off}
 use Rattle.run_events.proofs.Ordered.{behind}
 use Rattle.run_events.proofs.Quiet.{plain-behind}
 use Rattle.run_events.proofs.Running.{lines-shown, second-shown, failed-shown}
-use Rattle.run_events.proofs.Shows.{nothing-more}
 use Rattle.run_recorded.specs.Origin.{Origin, rule_of, start_at, first_of}
 use Rattle.run_recorded.specs.Beside.{HaveLeftMore}
 use Rattle.run_recorded.specs.Seconds.{found_again}
-use Rattle.run_evented.specs.Evented.{number_in, limit_in, session_in, images_in, Evented, EventedBy, NotesNothing, NotesMore, EventsStay, EventsAreFound, tearing_now, sessions_now, events_now, brought_now, IsChosen, ASecondIsNoted, ASecondIsBroken, APowerOnIsBroken}
+use Rattle.run_evented.specs.Evented.{number_in, limit_in, session_in, images_in, Evented, EventedBy, NotesMore, EventsStay, EventsAreFound, tearing_now, sessions_now, events_now, brought_now, IsChosen, ASecondIsNoted, ASecondIsBroken}
 use Rattle.run_evented.proofs.Lines.{untold-now, same-before, tells-so, front-same, early-before, number-next, sessions-on, low-cuts}
 
 -- CALLS of which no event is told

@@ -1,6 +1,6 @@
 -- The events and faults that a run with cards has noted on its unit by now (Annex IB, section III.12; the moments: profile): what is carried of
 -- them BETWEEN TWO SECONDS, and over each kind of second.
-use Rattle.std.specs.Prelude.{◌≡◌, ℕ, suc, ◌+◌, ◌-◌, ◌%◌, ◌≤◌, min, true, false, None, List, [], ◌∷◌, ◌++◌, length, Contains, nat_eq, if◌then◌else◌}
+use Rattle.std.specs.Prelude.{◌≡◌, ℕ, suc, ◌+◌, ◌-◌, ◌≤◌, min, true, false, List, [], ◌∷◌, ◌++◌, length, Contains, nat_eq, if◌then◌else◌}
 use Rattle.trace_model.specs.declared.Card.{Card}
 use Rattle.trace_model.specs.declared.Action.{Action}
 use Rattle.trace_model.specs.Trace.{TraceSecond}
@@ -14,7 +14,7 @@ use Rattle.log_model.specs.Causes.{RoseBy}
 use Rattle.log_model.specs.Course.{Told, Visit, went}
 use Rattle.log_model.specs.Spans.{AreInOrder}
 use Rattle.event_model.specs.declared.kinds.TheConstants.{OVER_SPEEDING}
-use Rattle.event_model.specs.Events.{Event, Seen, Tearing, AreTorn, seen_of, seen_spans, events_of}
+use Rattle.event_model.specs.Events.{Event, Tearing, AreTorn, seen_of, seen_spans, events_of}
 use Rattle.side_model.specs.Events.{AreSessions}
 use Rattle.side_model.specs.Tables.{table_in, AreNoted}
 use Rattle.unit_model.specs.declared.layout.TheConstants.{SPEED_LIMIT, FIRST_OVER, OVER_COUNT}
@@ -22,7 +22,7 @@ use Rattle.unit_model.specs.Image.{number_of}
 use Rattle.unit_course.specs.Lines.{cut_at}
 use Rattle.unit_course.specs.Followed.{Supply, Lit, Lost, MayPower, IsDark}
 use Rattle.safety_model.specs.Recording.{Recording, card_image, told_of}
-use Rattle.safety_model.specs.Safe.{Devices, card_of, breakdowns_of}
+use Rattle.safety_model.specs.Safe.{Devices, card_of}
 use Rattle.safety_model.specs.Side.{told_kinds, events_in, are_sure, first_begin}
 use Rattle.event_course.specs.Shown.{all_kinds}
 use Rattle.run_rule.specs.Found.{found_of}

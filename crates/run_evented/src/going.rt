@@ -1,5 +1,5 @@
 ghost use Rattle.run_rule.specs.Between.{devices};
-ghost use Rattle.run_evented.specs.Going.{DarkSecondsBringNothing, AnOffLineBringsNothing, AnOffLineCutsAndBringsNothing, NothingIsOwed, OwedEventsAreNoted, QuietSecondsOweMore};
+ghost use Rattle.run_evented.specs.Going.{DarkSecondsBringNothing, AnOffLineBringsNothing, AnOffLineCutsAndBringsNothing, QuietSecondsBringNothing, SecondsAlikeEndNothing};
 
 use tach_media::{Chip, Medium};
 
@@ -22,24 +22,12 @@ pub fn an_off_line_cuts_and_brings_nothing<M: Medium, C: Chip, D: Chip>(
     ensures { AnOffLineCutsAndBringsNothing (devices (M.state unit.now) (C.state card_a.now) (D.state card_b.now)) }
 {}
 
-/// Where all events are noted none is owed.
-pub fn nothing_is_owed<M: Medium, C: Chip, D: Chip>(unit: &M, card_a: &C, card_b: &D)
-    ensures { NothingIsOwed (devices (M.state unit.now) (C.state card_a.now) (D.state card_b.now)) }
+/// Seconds with power in which nothing happens bring none where nothing ends with them;
+pub fn quiet_seconds_bring_nothing<M: Medium, C: Chip, D: Chip>(unit: &M, card_a: &C, card_b: &D)
+    ensures { QuietSecondsBringNothing (devices (M.state unit.now) (C.state card_a.now) (D.state card_b.now)) }
 {}
 
-/// Seconds with power in which nothing happens end what they end, which is owed then.
-pub fn quiet_seconds_owe_more<M: Medium, C: Chip, D: Chip>(unit: &M, card_a: &C, card_b: &D)
-    ensures { QuietSecondsOweMore (devices (M.state unit.now) (C.state card_a.now) (D.state card_b.now)) }
-{}
-
-/// Once what was owed is noted, all events are.
-pub fn owed_events_are_noted<M: Medium, C: Chip, D: Chip, N: Medium, E: Chip, F: Chip>(
-    old_unit: &M,
-    old_a: &C,
-    old_b: &D,
-    unit: &N,
-    card_a: &E,
-    card_b: &F,
-)
-    ensures { OwedEventsAreNoted (devices (M.state old_unit.now) (C.state old_a.now) (D.state old_b.now)) (devices (N.state unit.now) (E.state card_a.now) (F.state card_b.now)) }
+/// and nothing does where they are alike, and so is the second before them.
+pub fn seconds_alike_end_nothing()
+    ensures { SecondsAlikeEndNothing }
 {}

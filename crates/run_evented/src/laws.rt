@@ -1,5 +1,6 @@
 ghost use Rattle.run_rule.specs.Between.{devices};
 ghost use Rattle.run_evented.specs.Evented.{EventsStay, EventsAreFound, ASecondIsNoted, ASecondIsBroken, APowerOnIsBroken, ADarkSecondBringsNothing, AnOffCutBringsNothing, NothingIsNoted, EventsAreShown};
+ghost use Rattle.run_evented.specs.Noting.{AStepIsNoted, AStageIsDone, TheSecondBegins, TheSecondIsNoted, TheSecondIsCut};
 
 use tach_media::{Chip, Medium};
 
@@ -88,4 +89,50 @@ pub fn events_are_shown<M: Medium, C: Chip, D: Chip, N: Medium, E: Chip, F: Chip
     card_b: &F,
 )
     ensures { EventsAreShown (devices (M.state old_unit.now) (C.state old_a.now) (D.state old_b.now)) (devices (N.state unit.now) (E.state card_a.now) (F.state card_b.now)) }
+{}
+
+/// A step of a second is noted.
+pub fn a_step_is_noted<M: Medium, C: Chip, D: Chip, N: Medium, E: Chip, F: Chip>(
+    old_unit: &M,
+    old_a: &C,
+    old_b: &D,
+    unit: &N,
+    card_a: &E,
+    card_b: &F,
+)
+    ensures { AStepIsNoted (devices (M.state old_unit.now) (C.state old_a.now) (D.state old_b.now)) (devices (N.state unit.now) (E.state card_a.now) (F.state card_b.now)) }
+{}
+
+/// A stage of a second is done, and what was put off is noted.
+pub fn a_stage_is_done<M: Medium, C: Chip, D: Chip, N: Medium, E: Chip, F: Chip>(
+    old_unit: &M,
+    old_a: &C,
+    old_b: &D,
+    unit: &N,
+    card_a: &E,
+    card_b: &F,
+)
+    ensures { AStageIsDone (devices (M.state old_unit.now) (C.state old_a.now) (D.state old_b.now)) (devices (N.state unit.now) (E.state card_a.now) (F.state card_b.now)) }
+{}
+
+/// The unit fails in a second, at any stage.
+pub fn the_second_is_cut<M: Medium, C: Chip, D: Chip, N: Medium, E: Chip, F: Chip>(
+    old_unit: &M,
+    old_a: &C,
+    old_b: &D,
+    unit: &N,
+    card_a: &E,
+    card_b: &F,
+)
+    ensures { TheSecondIsCut (devices (M.state old_unit.now) (C.state old_a.now) (D.state old_b.now)) (devices (N.state unit.now) (E.state card_a.now) (F.state card_b.now)) }
+{}
+
+/// A second begins, and nothing is noted in it.
+pub fn the_second_begins<M: Medium, C: Chip, D: Chip>(unit: &M, card_a: &C, card_b: &D)
+    ensures { TheSecondBegins (devices (M.state unit.now) (C.state card_a.now) (D.state card_b.now)) }
+{}
+
+/// A second ends, and all that it brings is noted.
+pub fn the_second_is_noted<M: Medium, C: Chip, D: Chip>(unit: &M, card_a: &C, card_b: &D)
+    ensures { TheSecondIsNoted (devices (M.state unit.now) (C.state card_a.now) (D.state card_b.now)) }
 {}

@@ -1,7 +1,8 @@
--- Events of seconds that have gone by which are noted later, once those seconds are fed.
-use Rattle.std.proofs.Common.{◌≡◌, ⊎_elim, ℕ, zero, suc, ◌+◌, ◌≤◌, true, List, [], ◌∷◌, ◌++◌, All, Contains, refl, ap, sym, subst, ◌∙◌, arith, append_assoc, append-nil}
-use Rattle.std.specs.List.{AllByRecursion}
-use Rattle.std.proofs.lemmas.List.{same_from_push}
+-- Seconds with power in which nothing happens bring no event.
+use Rattle.std.proofs.Common.{◌≡◌, ⊎_elim, ℕ, zero, suc, ◌+◌, ◌≤◌, Bool, true, false, cond, Option, None, List, [], ◌∷◌, ◌++◌, All, Contains, refl, ap, sym, subst, ◌∙◌, arith, append_assoc, append-nil}
+use Rattle.std.specs.List.{AllByRecursion, cons_option, filter_map}
+use Rattle.std.proofs.lemmas.List.{same_from_push, append_cancel_left}
+use Rattle.std.proofs.lemmas.List.Sums.{fold-append}
 use Rattle.std.proofs.lemmas.List.Elements.{All-nil, All-cons, Contains-push_cases, Contains-append_cases}
 use Rattle.trace_model.specs.Trace.{TraceSecond, driven}
 use Rattle.log_model.specs.declared.lines.Verdict.{Verdict}
@@ -10,52 +11,25 @@ use Rattle.log_model.specs.Same.{SameAt}
 use Rattle.log_model.specs.Slots.{Slots}
 use Rattle.log_model.specs.Course.{Told, Visit, Went, second_told, went}
 use Rattle.log_model.proofs.Growth.{went-more}
-use Rattle.event_model.specs.Events.{Event, Seen, AreTorn, number_of, seen_of, seen_spans, events_of}
-use Rattle.event_course.specs.Noted.{Leads}
-use Rattle.event_course.proofs.Failing.{leads-stay, leads-more, leads-then}
+use Rattle.event_model.specs.Runs.{run_with, last_run, runs_behind}
+use Rattle.event_model.specs.Events.{Event, Seen, number_of, seen_of, seen_spans, is_bare, bare_event, over_event}
 use Rattle.unit_course.specs.Followed.{Supply, Lit}
 use Rattle.safety_model.specs.Safe.{Devices}
 use Rattle.run_course.specs.Followed.{Progress, Followed}
 use Rattle.run_course.specs.Quiet.{quiet_second, quiet_seconds}
 use Rattle.run_course.proofs.Quiet.{quiet-are-told}
 use Rattle.run_moments.proofs.Reached.{push-each}
-use Rattle.run_events.specs.Seconds.{last_of, quiet_events, IsIdle, IsQuiet, seen_next}
+use Rattle.run_events.specs.Seconds.{last_of, bares_by, overs_by, is_fast, IsQuiet, seen_next}
 use Rattle.run_events.specs.Gaps.{HasGaps}
 use Rattle.run_events.proofs.Gaps.{goes-on}
 use Rattle.run_events.proofs.Growing.{seen-more}
 use Rattle.run_events.proofs.Later.{told-number}
-use Rattle.run_events.proofs.Quiet.{quiet-brings, torn-idle}
-use Rattle.run_events.proofs.Shows.{noted-then}
+use Rattle.run_events.proofs.Quiet.{quiet-shown}
 use Rattle.run_recorded.specs.Origin.{Origin, rule_of, start_at, first_of}
 use Rattle.run_evented.specs.Evented.{number_in, limit_in}
-use Rattle.run_evented.specs.Going.{NothingIsOwed, OwedEventsAreNoted, QuietSecondsOweMore}
+use Rattle.run_evented.specs.Going.{QuietSecondsBringNothing, SecondsAlikeEndNothing}
+use Rattle.run_evented.proofs.Dark.{says-same}
 use Rattle.run_evented.proofs.Unlit.{plain-last, behind-more}
-
-pub nothing-owed : (d : Devices) → NothingIsOwed d
-nothing-owed d o done log unfound next supply v = record {
-  tearing = v.tearing;
-  sessions = v.sessions;
-  plain = v.plain;
-  torn = v.events.torn;
-  shown = λ kind. events_of kind (limit_in o) v.sessions v.tearing log done;
-  noted = v.events.noted;
-  leads = λ kind. leads-stay log log (events_of kind (limit_in o) v.sessions v.tearing log done) (λ u is. is);
-  gaps = v.gaps;
-  found_open = v.found_open;
-}
-
-pub owed-noted : (d e : Devices) → OwedEventsAreNoted d e
-owed-noted d e o done log unfound next supply owed v left each = record {
-  tearing = v.tearing;
-  sessions = v.sessions;
-  plain = v.plain;
-  events = record {
-    torn = v.torn;
-    noted = noted-then (number_in o) o.recording.unit log log v.shown owed (λ kind. events_of kind (limit_in o) v.sessions v.tearing log done) {U = d.unit} {V = e.unit} v.noted v.leads each;
-  };
-  gaps = v.gaps;
-  found_open = λ t x among found accepts. let was = v.found_open t x among found accepts in (was.0, left.card x.0.card was.0 was.1, was.2);
-}
 
 -- ---- quiet seconds
 
@@ -75,10 +49,6 @@ quiet-found (suc n) number speed slots t there = ⊎_elim
 all-same : (log : RunLog) (ss : List TraceSecond) → All (λ (s : TraceSecond). SameAt log log s.number) ss
 all-same log [] = All-nil (λ (s : TraceSecond). SameAt log log s.number)
 all-same log (s ∷ ss) = All-cons (λ (s : TraceSecond). SameAt log log s.number) s ss (record { cut = refl; torn = λ p slot. refl; found = λ p slot. refl }) (all-same log ss)
-
-idle-of : (xs : List Seen) → AllByRecursion IsQuiet xs → AllByRecursion IsIdle xs
-idle-of [] all = tt
-idle-of (x ∷ xs) all = (all.0.idle, idle-of xs all.1)
 
 module _ (o : Origin) (done : List TraceSecond) (p : Progress) (f : Followed (rule_of o) (start_at o) o.from (first_of o) done p) (t : Told) (span : List Told) (is : p.supply ≡ Lit (t ∷ span)) (speed : ℕ) where
   abbrev log : RunLog
@@ -147,34 +117,56 @@ module _ (o : Origin) (done : List TraceSecond) (p : Progress) (f : Followed (ru
             u.gaps (ap (λ (y : Told). y.lit) told) (ap (λ (y : Told). y.starts) told));
       }
 
-pub quiet-owe : (d : Devices) → QuietSecondsOweMore d
-quiet-owe d o done p f t span is owed v n speed =
+pub quiet-brings_nothing : (d : Devices) → QuietSecondsBringNothing d
+quiet-brings_nothing d o done p f v t span is n speed seen q =
     let log : RunLog = p.log in
     let more : List TraceSecond = driven (suc n) p.next speed [] in
     let slots : Slots = (went p.log done).before.slots in
     let u = up-to o done p f t span is speed v.gaps (suc n) in
-    let brought : (kind : ℕ) → events_of kind (limit_in o) v.sessions v.tearing log (done ++ more) ≡ events_of kind (limit_in o) v.sessions v.tearing log done ++ quiet_events kind (limit_in o) (last_of (seen_spans (seen_of log done))) u.seen =
-    λ kind. quiet-brings kind (limit_in o) v.sessions v.tearing log done more u.seen u.are u.quiet in
+    let same : seen ≡ u.seen = append_cancel_left (seen_of log done) seen u.seen (sym q.are ∙ u.are) in
     record {
-      quiet = record { seen = u.seen; are = u.are; quiet = u.quiet };
-      owing = record {
-        tearing = v.tearing;
-        sessions = v.sessions;
-        plain = λ m le slot. v.plain m (omega (arith, le)) slot;
-        torn = subst (AreTorn v.tearing) (sym u.are) (torn-idle v.tearing p.next (seen_of log done) u.seen v.plain v.torn u.from (idle-of u.seen u.quiet));
-        shown = v.shown;
-        noted = v.noted;
-        leads = λ kind. leads-then log log log (v.shown kind) (events_of kind (limit_in o) v.sessions v.tearing log done) (events_of kind (limit_in o) v.sessions v.tearing log (done ++ more)) (owed kind)
-            (quiet_events kind (limit_in o) (last_of (seen_spans (seen_of log done))) u.seen) (v.leads kind)
-            (subst (λ (es : List Event). Leads log (events_of kind (limit_in o) v.sessions v.tearing log done) (quiet_events kind (limit_in o) (last_of (seen_spans (seen_of log done))) u.seen) log es) (sym (brought kind))
-            (leads-more log log (events_of kind (limit_in o) v.sessions v.tearing log done) (quiet_events kind (limit_in o) (last_of (seen_spans (seen_of log done))) u.seen) (λ m is_. is_)));
-        gaps = u.gaps;
-        found_open = λ y x among found accepts. ⊎_elim
-            (λ old. v.found_open y x old found accepts)
-            (λ new.
-            let gone : Contains {X = Visit × Verdict} [] x = subst (λ (fs : List (Visit × Verdict)). Contains fs x) (quiet-found (suc n) p.next speed slots y new) found in
-            absurd (omega (arith, gone.1)))
-            (Contains-append_cases (went log done).told (quiet_seconds (suc n) p.next speed slots) y
-            (subst (λ (w : Went). Contains w.told y) (quiet-are-told (rule_of o) (start_at o) o.from (first_of o) done p f t span is (suc n) speed) among));
-      };
+      tearing = v.tearing;
+      sessions = v.sessions;
+      plain = λ m le slot. v.plain m (omega (arith, le)) slot;
+      events = quiet-shown (number_in o) o.recording.unit (limit_in o) log done more u.seen u.are p.next v.tearing v.sessions v.plain u.from {U = d.unit} v.events {V = d.unit} u.quiet
+          (ap (bares_by (last_of (seen_spans (seen_of log done)))) (sym same) ∙ q.bares) (ap (overs_by (limit_in o) (last_of (seen_spans (seen_of log done)))) (sym same) ∙ q.overs) (λ c left. (c, left, says-same c));
+      gaps = u.gaps;
+      found_open = λ y x among found accepts. ⊎_elim
+          (λ old. v.found_open y x old found accepts)
+          (λ new.
+          let gone : Contains {X = Visit × Verdict} [] x = subst (λ (fs : List (Visit × Verdict)). Contains fs x) (quiet-found (suc n) p.next speed slots y new) found in
+          absurd (omega (arith, gone.1)))
+          (Contains-append_cases (went log done).told (quiet_seconds (suc n) p.next speed slots) y
+          (subst (λ (w : Went). Contains w.told y) (quiet-are-told (rule_of o) (start_at o) o.from (first_of o) done p f t span is (suc n) speed) among));
     }
+
+-- ---- nothing ends
+
+module _ (passes : Seen → Bool) (event : List Seen → Option Event) (empty : event [] ≡ None) where
+  -- seconds that pass go on a run
+  passing : (run xs : List Seen) → AllByRecursion (λ (x : Seen). passes x ≡ true) xs → filter_map event (runs_behind passes run xs) ≡ []
+  passing run [] all = refl
+  passing run (x ∷ xs) all =
+      ap (λ (b : Bool). filter_map event (cond b [] (run ∷ []) ++ runs_behind passes (run_with passes run x) xs)) all.0 ∙ passing (run_with passes run x) xs all.1
+
+  -- others end none where there is none
+  failing : (xs : List Seen) → AllByRecursion (λ (x : Seen). passes x ≡ false) xs → filter_map event (runs_behind passes [] xs) ≡ []
+  failing [] all = refl
+  failing (x ∷ xs) all =
+      ap (λ (b : Bool). filter_map event (cond b [] ([] ∷ []) ++ runs_behind passes (cond b ([] ++ x ∷ []) []) xs)) all.0
+      ∙ ap (λ (e : Option Event). cons_option e (filter_map event (runs_behind passes [] xs))) empty
+      ∙ failing xs all.1
+
+  no-run : (front : List Seen) (y : Seen) → passes y ≡ false → last_run passes (front ++ y ∷ []) ≡ []
+  no-run front y is = fold-append (run_with passes) [] front (y ∷ []) ∙ ap (λ (b : Bool). cond b (last_run passes front ++ y ∷ []) []) is
+
+  alike : (front : List Seen) (y : Seen) (xs : List Seen) (b : Bool) → AllByRecursion (λ (x : Seen). passes x ≡ b) xs → (passes y ≡ true → b ≡ true) → filter_map event (runs_behind passes (last_run passes (front ++ y ∷ [])) xs) ≡ []
+  alike front y xs true all goes = passing (last_run passes (front ++ y ∷ [])) xs all
+  alike front y xs false all goes = ap (λ (run : List Seen). filter_map event (runs_behind passes run xs)) (no-run front y (other (passes y) goes)) ∙ failing xs all
+    where
+      other : (b : Bool) → (b ≡ true → false ≡ true) → b ≡ false
+      other true never = absurd (let wrong : false ≡ true = never refl in cc)
+      other false never = refl
+
+pub ends-nothing : SecondsAlikeEndNothing
+ends-nothing limit front y xs bare fast bares was_bare fasts was_fast = (alike is_bare bare_event refl front y xs bare bares was_bare, alike (is_fast limit) over_event refl front y xs fast fasts was_fast)
