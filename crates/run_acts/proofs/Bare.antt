@@ -57,17 +57,17 @@ had None kept h = absurd h
 had (Some a) kept h = refl
 
 -- sessions: none comes
-gone : (c card : Card) (cards : Cards) → session_of cards c ≡ None → session_of (with_session card None cards) c ≡ None
+pub gone : (c card : Card) (cards : Cards) → session_of cards c ≡ None → session_of (with_session card None cards) c ≡ None
 gone A A cards h = refl
 gone A B cards h = h
 gone B A cards h = h
 gone B B cards h = refl
 
-has-one : (o : Option Accepted) (kept : Kept) (a : Accepted) (clock : ℕ) → IsFateOf o kept (Has a clock) → is_some o ≡ true
+pub has-one : (o : Option Accepted) (kept : Kept) (a : Accepted) (clock : ℕ) → IsFateOf o kept (Has a clock) → is_some o ≡ true
 has-one None kept a clock h = absurd h
 has-one (Some b) kept a clock h = refl
 
-stays-none : (c card : Card) (cards : Cards) (a : Accepted) → session_of cards c ≡ None → is_some (session_of cards card) ≡ true → session_of (with_session card (Some a) cards) c ≡ None
+pub stays-none : (c card : Card) (cards : Cards) (a : Accepted) → session_of cards c ≡ None → is_some (session_of cards card) ≡ true → session_of (with_session card (Some a) cards) c ≡ None
 stays-none A A cards a h some = absurd (let e = ap is_some h in let bad : true ≡ false = sym some ∙ e in cc)
 stays-none A B cards a h some = h
 stays-none B A cards a h some = h

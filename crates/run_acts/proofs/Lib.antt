@@ -12,3 +12,14 @@ pub mod Torn
 pub mod Turned
 pub mod Room
 pub mod TurnBooked
+pub mod Apart
+pub mod NoneComes
+pub mod Asked
+pub mod NotedOn
+pub mod NoteRecorded
+pub mod Pulled
+pub mod Closed
+pub mod WithdrawnRecorded
+pub mod GoesOn
+pub mod SettledRecorded
+pub mod TurnRecorded

@@ -1,6 +1,7 @@
 -- What a turn leaves of unit and cards: the minutes that are kept, and the note behind them.
 use Rattle.std.proofs.Common.{◌≡◌, ◌<◌, ◌≤◌, Bool, true, false, not, List, refl, arith}
 use Rattle.std.specs.Prelude.{map}
+use Rattle.trace_model.specs.declared.Card.TheVariants.{A, B}
 use Rattle.tach_media.specs.Medium.{State, IsCoherent, LeavesOnly}
 use Rattle.minute_model.specs.declared.Minute.{Minute}
 use Rattle.unit_notes.specs.Journal.{LeavesJournal}
@@ -12,7 +13,7 @@ use Rattle.run_told.proofs.Noted.{noted-powered, noted-powerless}
 use Rattle.run_told.proofs.Travelled.{travelled-noted}
 use Rattle.run_keeping.specs.declared.keeper.Moment.{Moment}
 use Rattle.run_keeping.specs.Minutes.{Done, Reach, Whole, Short, Told, IsReach}
-use Rattle.run_keeping.specs.Books.{AreBooked, HaveTime}
+use Rattle.run_keeping.specs.Books.{AreBooked, HaveTime, AreTimedOn}
 use Rattle.run_keeping.specs.Decided.{BooksAll, carried_by}
 use Rattle.run_acts.specs.Booked.{IsTurnReach, BooksTurn}
 
@@ -34,6 +35,11 @@ module _ (decided : List Minute) (at : Moment) (t u : Told) (d : Devices) (U V X
     early = booked.early;
   }
 
+  -- no card is touched by the note
+  cards-same : (f : Found) → AreTimedOn f d (devices U X Y) → AreTimedOn f d (devices V X Y)
+  cards-same f timed A = timed A
+  cards-same f timed B = timed B
+
   pub turn-noted : (reach : Reach) → IsReach decided at false t u reach → BooksAll decided false reach t u d (devices U X Y) → (failed : Bool) → V.works ≡ not failed
       → (r : Reach) × IsTurnReach decided at failed t u r × BooksTurn decided failed r t u d (devices V X Y)
   turn-noted (Short xs m round) is books failed works = absurd is
@@ -42,14 +48,17 @@ module _ (decided : List Minute) (at : Moment) (t u : Told) (d : Devices) (U V X
     is,
     λ f w start g may gone stored time.
         let booked = books f w start g may gone stored (earlier time) in
-        (noted-booked f (carried_by t.keeper xs w) booked.0 works, travelled-noted start (carried_by t.keeper xs w).book (all_travelled (map (λ (x : Done). x.minute) xs) g) booked.1 whole run),
+        ((noted-booked f (carried_by t.keeper xs w) booked.0.0 works, travelled-noted start (carried_by t.keeper xs w).book (all_travelled (map (λ (x : Done). x.minute) xs) g) booked.0.1 whole run), cards-same f booked.1),
   )
   turn-noted (Whole xs) is books true works = (
     Whole xs,
     is,
     λ f w start g may gone stored time.
         let booked = books f w start g may gone stored (earlier time) in (
-          noted-powerless f (carried_by t.keeper xs w) u.keeper.cabin.cards U V X Y booked.0.found whole booked.0.powered run,
-          travelled-noted start (carried_by t.keeper xs w).book (all_travelled (map (λ (x : Done). x.minute) xs) g) booked.1 whole run,
+          (
+            noted-powerless f (carried_by t.keeper xs w) u.keeper.cabin.cards U V X Y booked.0.0.found whole booked.0.0.powered run,
+            travelled-noted start (carried_by t.keeper xs w).book (all_travelled (map (λ (x : Done). x.minute) xs) g) booked.0.1 whole run,
+          ),
+          cards-same f booked.1,
         ),
   )

@@ -40,11 +40,11 @@ use Rattle.run_acts.specs.Acting.{Closing, Bare, Closed, Fell, closed_cabin, IsC
 use Rattle.run_acts.specs.Behind.{carried_closed, IsPoweredOrOff, IsWithdrawnTo, BooksWithdrawn}
 
 -- a note on the unit, whichever card a call is about
-noted-here : (c : Card) (f : Found) (w : Carried) (cards : Cards) (U V X Y : State) → AreFoundCards f cards → IsCoherent U → IsPowered f w cards (arranged c U X Y) → LeavesOnly U V LeavesJournal → V.works ≡ true → IsPowered f w cards (arranged c V X Y)
+pub noted-here : (c : Card) (f : Found) (w : Carried) (cards : Cards) (U V X Y : State) → AreFoundCards f cards → IsCoherent U → IsPowered f w cards (arranged c U X Y) → LeavesOnly U V LeavesJournal → V.works ≡ true → IsPowered f w cards (arranged c V X Y)
 noted-here A f w cards U V X Y found whole p run works = noted-powered f w cards U V X Y found whole p run works
 noted-here B f w cards U V X Y found whole p run works = noted-powered f w cards U V Y X found whole p run works
 
-noted-cut : (c : Card) (f : Found) (w : Carried) (cards : Cards) (U V X Y : State) → AreFoundCards f cards → IsCoherent U → IsPowered f w cards (arranged c U X Y) → LeavesOnly U V LeavesJournal → IsPowerless f w (arranged c V X Y)
+pub noted-cut : (c : Card) (f : Found) (w : Carried) (cards : Cards) (U V X Y : State) → AreFoundCards f cards → IsCoherent U → IsPowered f w cards (arranged c U X Y) → LeavesOnly U V LeavesJournal → IsPowerless f w (arranged c V X Y)
 noted-cut A f w cards U V X Y found whole p run = noted-powerless f w cards U V X Y found whole p run
 noted-cut B f w cards U V X Y found whole p run = noted-powerless f w cards U V Y X found whole p run
 
@@ -147,7 +147,7 @@ module _ {C : Type 0} (state : C → State) (f : Found) (w : Carried) (c : Card)
 
 -- ---- behind the minutes that were kept first
 
-time-before : (c : Card) (U V X Y Z : State) → U.clock ≤ V.clock → X.clock ≤ Y.clock → HaveTime (arranged c V Y Z) → HaveTime (arranged c U X Z)
+pub time-before : (c : Card) (U V X Y Z : State) → U.clock ≤ V.clock → X.clock ≤ Y.clock → HaveTime (arranged c V Y Z) → HaveTime (arranged c U X Z)
 time-before A U V X Y Z unit card time = let u = time.unit in let a = time.card_a in record { unit = omega (arith, unit, u); card_a = omega (arith, card, a); card_b = time.card_b }
 time-before B U V X Y Z unit card time = let u = time.unit in let b = time.card_b in record { unit = omega (arith, unit, u); card_a = time.card_a; card_b = omega (arith, card, b) }
 

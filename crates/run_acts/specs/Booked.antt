@@ -11,9 +11,10 @@ use Rattle.run_outcome.specs.declared.outcome.Outcome.{Outcome}
 use Rattle.run_keeping.specs.declared.keeper.Keeper.{Keeper}
 use Rattle.run_keeping.specs.declared.keeper.Moment.{Moment}
 use Rattle.run_keeping.specs.Minutes.{Done, Reach, Whole, Short, Told, IsReach}
-use Rattle.run_keeping.specs.Books.{AreBooked, HaveTime}
+use Rattle.run_keeping.specs.Books.{AreBooked, HaveTime, AreTimedOn}
 use Rattle.run_keeping.specs.Decided.{MayBookAll, EndsAll, carried_by}
 use Rattle.run_acts.specs.declared.run.Run.{Run}
+use Rattle.run_acts.specs.Devices.{DevicesGoOn}
 use Rattle.run_acts.specs.Turning.{IsLitTurn, late_moment, told_of}
 
 -- HOW FAR A TURN CAME with the minutes that it decides: all are kept, whether the note behind them failed or not; or the unit failed in one.
@@ -31,10 +32,12 @@ IsTurnBooked f start w k failed (Short xs m round) g u e = EndsAll f start w k f
 -- A TURN'S MINUTES WERE TO BE KEPT, and it came so far: so they are booked.
 abbrev pub BooksTurn : List Minute → (failed : Bool) → Reach → (t u : Told) → (d e : Devices) → Type 0
 BooksTurn decided failed reach t u d e = (f : Found) (w : Carried) (start : ℕ) (g : Travel) → MayBookAll f w decided t d → HasTravelled start w.book g d.unit → t.keeper.odometer ≡ odometer_after start g.before → HaveTime e
-    → IsTurnBooked f start w t.keeper failed reach g u e
+    → IsTurnBooked f start w t.keeper failed reach g u e × AreTimedOn f d e
 
--- N SECONDS WITH POWER, booked: by how they went, and how far their minutes came
+-- N SECONDS WITH POWER, booked: by how they went, and how far their minutes came; and unit and cards go on
 abbrev pub IsBookedTurn : (n speed begun : ℕ) → (old new : Run) → (before after : Outcome) → (d e : Devices) → Type 0
 IsBookedTurn n speed begun old new before after d e = (turn : IsLitTurn n speed begun old new before after) × (reach : Reach)
     × IsTurnReach turn.decided (late_moment old.next n begun) turn.failed (told_of turn.fed before) (told_of turn.between turn.told) reach
     × BooksTurn turn.decided turn.failed reach (told_of turn.fed before) (told_of turn.between turn.told) d e
+    × DevicesGoOn turn.failed old.keeper.cabin.cards turn.between.keeper.cabin.cards d e
+    × (turn.between.keeper.odometer ≡ old.keeper.odometer)

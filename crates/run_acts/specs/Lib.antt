@@ -6,3 +6,6 @@ pub mod Room
 pub mod Turning
 pub mod Booked
 pub mod Recording
+pub mod Noting
+pub mod Settling
+pub mod Devices

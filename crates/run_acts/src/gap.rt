@@ -2,9 +2,15 @@
 ghost use Rattle.std.specs.Prelude.{◌≡◌, ◌≢◌, ℕ, ◌+◌, ◌/◌, ◌<◌, ◌≤◌, Bool, true, Option, Some, None, Ok, IfSome, OnOk, length, is_err, is_some};
 ghost use Rattle.trace_model.specs.declared.Card.{Card};
 ghost use Rattle.tach_media.specs.Medium.{LeavesOnly, HasCause, HasBroken};
+ghost use Rattle.card_session.specs.Sessions.{IsValue};
+ghost use Rattle.device_steps.specs.CardNotes.{IsNote};
+ghost use Rattle.event_model.specs.Spans.{gap_of};
 ghost use Rattle.event_model.specs.declared.kinds.TheConstants.{POWER_INTERRUPTION};
 ghost use Rattle.unit_model.specs.Image.{IsUnit};
 ghost use Rattle.slot_machine.specs.Calls.{seat_in, card_in};
+ghost use Rattle.log_model.specs.Log.{In};
+ghost use Rattle.unit_notes.specs.Journal.{LeavesJournal};
+ghost use Rattle.run_rule.specs.Between.{devices};
 ghost use Rattle.run_crew.specs.Cards.{known_of, session_of};
 ghost use Rattle.run_crew.specs.Cabin.{Stands};
 ghost use Rattle.run_keeping.specs.Keeping.{UnitReady, CardReady, HasItsRow};
@@ -12,6 +18,7 @@ ghost use Rattle.run_acts.specs.declared.run.Power.TheVariants.{Lit};
 ghost use Rattle.run_acts.specs.Going.{first_second, end_of_seconds, IsHeld, IsLit};
 ghost use Rattle.run_acts.specs.Room.{falls_of};
 ghost use Rattle.run_acts.specs.Acting.{IsNotedOn, IsNotedIn, falls_by, now_moment};
+ghost use Rattle.run_acts.specs.Noting.{GapReach, IsGapNoted, IsNoteRecorded};
 
 use crate::run::Run;
 use activity_codec::Slot;
@@ -45,12 +52,17 @@ pub fn note_gap<M: Medium, C: Chip, D: Chip>(
     requires going { IsLit (run.old.next / 60) run.old (M.state unit.old) (C.card card_a.old) (D.card card_b.old) (C.state card_a.old) (D.state card_b.old) }
     requires kept { kept < run.old.next / 60 }
     requires breaks { length breaks.old.items + falls_of run.old.keeper.cabin ≤ breaks.old.room }
+    ensures noted { (reach : GapReach) × IsGapNoted (gap_of kept run.old.next) (now_moment run.old) (is_err result) run.old run.new breaks.old breaks.new reach }
+    ensures recorded { IsNoteRecorded (In 0) (is_err result) run.old run.new breaks.old breaks.new (devices (M.state unit.old) (C.state card_a.old) (D.state card_b.old)) (devices (M.state unit.new) (C.state card_a.new) (D.state card_b.new)) }
     ensures only { run.new ≡ record run.old { keeper = run.new.keeper } }
     ensures held { IsHeld (run.new.next / 60) run.new (M.state unit.new) (C.card card_a.new) (D.card card_b.new) (C.state card_a.new) (D.state card_b.new) }
     ensures going { OnOk result (IsLit (run.new.next / 60) run.new (M.state unit.new) (C.card card_a.new) (D.card card_b.new) (C.state card_a.new) (D.state card_b.new)) }
     ensures room { (breaks.new.room ≡ breaks.old.room) × (length breaks.new.items + falls_of run.new.keeper.cabin ≤ length breaks.old.items + falls_of run.old.keeper.cabin) }
     ensures more { length breaks.old.items ≤ length breaks.new.items }
     ensures cause { HasCause (M.state unit.old) (M.state unit.new) (is_err result) }
+    ensures clock { (M.state unit.old).clock ≤ (M.state unit.new).clock }
+    ensures clock_a { (C.state card_a.old).clock ≤ (C.state card_a.new).clock }
+    ensures clock_b { (D.state card_b.old).clock ≤ (D.state card_b.new).clock }
 {
     let Some(span) = power_gap(kept, run.next) else {
         return Ok(());
@@ -78,13 +90,17 @@ fn note_in<M: Medium, C: Chip, D: Chip>(
     requires kind { event.now.kind ≡ POWER_INTERRUPTION }
     requires begin { event.now.begin.0 ≢ 0 }
     requires breaks { length breaks.old.items + falls_of run.old.keeper.cabin ≤ breaks.old.room }
-    ensures noted { (fell : Bool) × IsNotedIn (card_in (seat_in run.old.keeper.cabin.slots.seats slot)) slot (now_moment run.old) run.old run.new breaks.old breaks.new fell }
+    ensures noted { (fell : Bool) × IsNotedIn (card_in (seat_in run.old.keeper.cabin.slots.seats slot)) slot (now_moment run.old) run.old run.new breaks.old breaks.new fell × (is_err result ≡ true → fell ≡ true) }
+    ensures recorded { IsNoteRecorded (In 0) (is_err result) run.old run.new breaks.old breaks.new (devices (M.state unit.old) (C.state card_a.old) (D.state card_b.old)) (devices (M.state unit.new) (C.state card_a.new) (D.state card_b.new)) }
     ensures only { run.new ≡ record run.old { keeper = run.new.keeper } }
     ensures held { IsHeld (run.new.next / 60) run.new (M.state unit.new) (C.card card_a.new) (D.card card_b.new) (C.state card_a.new) (D.state card_b.new) }
     ensures going { OnOk result (IsLit (run.new.next / 60) run.new (M.state unit.new) (C.card card_a.new) (D.card card_b.new) (C.state card_a.new) (D.state card_b.new)) }
     ensures room { (breaks.new.room ≡ breaks.old.room) × (length breaks.new.items + falls_of run.new.keeper.cabin ≤ length breaks.old.items + falls_of run.old.keeper.cabin) }
     ensures more { length breaks.old.items ≤ length breaks.new.items }
     ensures cause { HasCause (M.state unit.old) (M.state unit.new) (is_err result) }
+    ensures clock { (M.state unit.old).clock ≤ (M.state unit.new).clock }
+    ensures clock_a { (C.state card_a.old).clock ≤ (C.state card_a.new).clock }
+    ensures clock_b { (D.state card_b.old).clock ≤ (D.state card_b.new).clock }
 {
     let Some(card) = run.keeper.cabin.slots.card(slot) else {
         return Ok(());
@@ -116,22 +132,30 @@ fn note_on<M: Medium, C: Chip>(
     requires kind { event.now.kind ≡ POWER_INTERRUPTION }
     requires begin { event.now.begin.0 ≢ 0 }
     requires room { length breaks.old.items < breaks.old.room }
-    ensures noted { (fell : Bool) × IsNotedOn which slot (now_moment run.old) run.old run.new breaks.old breaks.new fell × HasBroken (C.state card.old) (C.state card.new) (falls_by fell) }
+    ensures noted { (fell : Bool) × IsNotedOn which slot (now_moment run.old) run.old run.new breaks.old breaks.new fell × HasBroken (C.state card.old) (C.state card.new) (falls_by fell) × HasCause (C.state card.old) (C.state card.new) fell × (is_err result ≡ true → fell ≡ true) }
+    ensures journal { LeavesOnly (M.state unit.old) (M.state unit.new) LeavesJournal }
+    ensures moments { IfSome (session_of run.old.keeper.cabin.cards which) (λ a. LeavesOnly (C.state card.old) (C.state card.new) (IsNote a.session.application)) }
+    ensures value { IfSome (session_of run.old.keeper.cabin.cards which) (λ a. IsValue a.session) }
     ensures unit { IsUnit (M.state unit.new) }
     ensures ready { OnOk result (UnitReady run.new.keeper (M.state unit.new)) }
     ensures rows { (c : Card) → HasItsRow run.old.keeper.cabin.cards (M.state unit.old) c → OnOk result (HasItsRow run.new.keeper.cabin.cards (M.state unit.new) c) }
     ensures stands { (from : ℕ) (leaving : Option Card) → Stands from leaving run.old.keeper.cabin → Stands from leaving run.new.keeper.cabin }
     ensures card { CardReady (known_of run.new.keeper.cabin.cards which) (C.card card.new) (C.state card.new) }
     ensures size { (C.state card.new).size ≡ (C.state card.old).size }
+    ensures clock_card { (C.state card.old).clock ≤ (C.state card.new).clock }
     ensures cause { HasCause (M.state unit.old) (M.state unit.new) (is_err result) }
 {
     let Ok(app) = run.keeper.cabin.cards.of(which).sizes else {
         return Ok(());
     };
+    let Some(accepted) = run.keeper.cabin.cards.take(which) else {
+        return Ok(());
+    };
     let at = run.moment(0);
     let noted = on_card(event, &run.keeper.memory.identity().registration);
-    match note_event_on(card, app, &noted) {
-        Ok(()) => Ok(()),
-        Err(_) => run.keeper.tear(which, slot, at, unit, breaks),
+    if note_event_on(card, app, &noted).is_err() {
+        return run.keeper.tear(which, slot, at, unit, breaks);
     }
+    run.keeper.cabin.cards.set_session(which, Some(accepted));
+    Ok(())
 }

@@ -12,6 +12,10 @@ ghost use Rattle.run_crew.specs.Cards.{known_of, session_of};
 ghost use Rattle.run_crew.specs.Cabin.{Stands};
 ghost use Rattle.run_keeping.specs.Keeping.{UnitReady, CardReady, HasItsRow, tears_of};
 ghost use Rattle.run_keeping.specs.Minutes.{odometer_by};
+ghost use Rattle.run_rule.specs.Between.{devices};
+ghost use Rattle.card_session.specs.Sessions.{IsValue};
+ghost use Rattle.device_steps.specs.CardNotes.{IsNote};
+ghost use Rattle.run_acts.specs.Noting.{IsPlaceRecorded};
 ghost use Rattle.run_acts.specs.declared.run.Power.TheVariants.{Lit};
 ghost use Rattle.run_acts.specs.Going.{first_second, end_of_seconds, IsHeld, IsLit};
 ghost use Rattle.run_acts.specs.Room.{falls_of};
@@ -71,12 +75,16 @@ pub fn note_place<M: Medium, C: Chip, D: Chip>(
     requires odometer { entry.now.odometer.0 ≤ HIGHEST_ODOMETER }
     requires breaks { length breaks.old.items + falls_of run.old.keeper.cabin ≤ breaks.old.room }
     ensures placed { (fell : Bool) × IsPlaced (card_in (seat_in run.old.keeper.cabin.slots.seats slot)) slot at run.old run.new breaks.old breaks.new fell }
+    ensures recorded { IsPlaceRecorded slot at (is_err result) run.old run.new breaks.old breaks.new (devices (M.state unit.old) (C.state card_a.old) (D.state card_b.old)) (devices (M.state unit.new) (C.state card_a.new) (D.state card_b.new)) }
     ensures only { run.new ≡ record run.old { keeper = run.new.keeper } }
     ensures held { IsHeld (run.new.next / 60) run.new (M.state unit.new) (C.card card_a.new) (D.card card_b.new) (C.state card_a.new) (D.state card_b.new) }
     ensures going { OnOk result (IsLit (run.new.next / 60) run.new (M.state unit.new) (C.card card_a.new) (D.card card_b.new) (C.state card_a.new) (D.state card_b.new)) }
     ensures room { (breaks.new.room ≡ breaks.old.room) × (length breaks.new.items + falls_of run.new.keeper.cabin ≤ length breaks.old.items + falls_of run.old.keeper.cabin) }
     ensures more { length breaks.old.items ≤ length breaks.new.items }
     ensures cause { HasCause (M.state unit.old) (M.state unit.new) (is_err result) }
+    ensures clock { (M.state unit.old).clock ≤ (M.state unit.new).clock }
+    ensures clock_a { (C.state card_a.old).clock ≤ (C.state card_a.new).clock }
+    ensures clock_b { (D.state card_b.old).clock ≤ (D.state card_b.new).clock }
 {
     let Some(card) = run.keeper.cabin.slots.card(slot) else {
         return Ok(());
@@ -110,20 +118,28 @@ fn note_place_in<M: Medium, C: Chip>(
     requires time { entry.now.time.0 ≢ 0 }
     requires odometer { entry.now.odometer.0 < 2 ^ 24 }
     requires room { length breaks.old.items < breaks.old.room }
-    ensures noted { (fell : Bool) × IsNotedOn which slot at run.old run.new breaks.old breaks.new fell × HasBroken (C.state card.old) (C.state card.new) (falls_by fell) }
+    ensures noted { (fell : Bool) × IsNotedOn which slot at run.old run.new breaks.old breaks.new fell × HasBroken (C.state card.old) (C.state card.new) (falls_by fell) × HasCause (C.state card.old) (C.state card.new) fell }
+    ensures journal { LeavesOnly (M.state unit.old) (M.state unit.new) LeavesJournal }
+    ensures moments { IfSome (session_of run.old.keeper.cabin.cards which) (λ a. LeavesOnly (C.state card.old) (C.state card.new) (IsNote a.session.application)) }
+    ensures value { IfSome (session_of run.old.keeper.cabin.cards which) (λ a. IsValue a.session) }
     ensures unit { IsUnit (M.state unit.new) }
     ensures ready { OnOk result (UnitReady run.new.keeper (M.state unit.new)) }
     ensures rows { (c : Card) → HasItsRow run.old.keeper.cabin.cards (M.state unit.old) c → OnOk result (HasItsRow run.new.keeper.cabin.cards (M.state unit.new) c) }
     ensures stands { (from : ℕ) (leaving : Option Card) → Stands from leaving run.old.keeper.cabin → Stands from leaving run.new.keeper.cabin }
     ensures card { CardReady (known_of run.new.keeper.cabin.cards which) (C.card card.new) (C.state card.new) }
     ensures size { (C.state card.new).size ≡ (C.state card.old).size }
+    ensures clock_card { (C.state card.old).clock ≤ (C.state card.new).clock }
     ensures cause { HasCause (M.state unit.old) (M.state unit.new) (is_err result) }
 {
     let Ok(app) = run.keeper.cabin.cards.of(which).sizes else {
         return Ok(());
     };
-    match note_place_on(card, app, entry) {
-        Ok(()) => Ok(()),
-        Err(_) => run.keeper.tear(which, slot, at, unit, breaks),
+    let Some(accepted) = run.keeper.cabin.cards.take(which) else {
+        return Ok(());
+    };
+    if note_place_on(card, app, entry).is_err() {
+        return run.keeper.tear(which, slot, at, unit, breaks);
     }
+    run.keeper.cabin.cards.set_session(which, Some(accepted));
+    Ok(())
 }

@@ -15,6 +15,7 @@ ghost use Rattle.run_rule.specs.Between.{devices};
 ghost use Rattle.run_keeping.specs.Minutes.{Reach, IsReach};
 ghost use Rattle.run_keeping.specs.Decided.{BooksAll};
 ghost use Rattle.run_acts.specs.Acting.{IsSettled, IsBareIn, told_of};
+ghost use Rattle.run_acts.specs.Settling.{RecordsSettling};
 
 use crate::run::Run;
 use run_keeping::Moment;
@@ -46,6 +47,11 @@ pub fn settle<M: Medium, C: Chip, D: Chip>(
     ensures booked { (decided : List Minute) × (reach : Reach) × ((span : Span) → StandsFor run.old.minutes span → decided_in (settled span) ≡ decided_in span ++ decided)
         × IsReach decided at (is_err result) (told_of run.old outcome.old) (told_of run.new outcome.new) reach
         × BooksAll decided (is_err result) reach (told_of run.old outcome.old) (told_of run.new outcome.new) (devices (M.state unit.old) (C.state card_a.old) (D.state card_b.old)) (devices (M.state unit.new) (C.state card_a.new) (D.state card_b.new)) }
+    ensures recorded { (decided : List Minute) × ((span : Span) → StandsFor run.old.minutes span → decided_in (settled span) ≡ decided_in span ++ decided)
+        × RecordsSettling decided at (is_err result) run.old run.new outcome.old outcome.new (devices (M.state unit.old) (C.state card_a.old) (D.state card_b.old)) (devices (M.state unit.new) (C.state card_a.new) (D.state card_b.new)) }
+    ensures clock { (M.state unit.old).clock ≤ (M.state unit.new).clock }
+    ensures clock_a { (C.state card_a.old).clock ≤ (C.state card_a.new).clock }
+    ensures clock_b { (D.state card_b.old).clock ≤ (D.state card_b.new).clock }
     ensures none { run.new.minutes.owing ≡ 0 }
     ensures held { IsHeld (run.new.next / 60) run.new (M.state unit.new) (C.card card_a.new) (D.card card_b.new) (C.state card_a.new) (D.state card_b.new) }
     ensures going { (leaving : Option Card) → IsGoingOn leaving (run.old.next / 60) run.old (M.state unit.old) (C.card card_a.old) (D.card card_b.old) (C.state card_a.old) (D.state card_b.old)

@@ -15,6 +15,8 @@ ghost use Rattle.run_acts.specs.Going.{end_of_seconds, IsWithin, IsGoing};
 ghost use Rattle.run_acts.specs.Room.{HasRoom, HasRoomWithin};
 ghost use Rattle.run_acts.specs.Turning.{IsKeptInTurn, IsLitTurn, IsTurnOf, told_of};
 ghost use Rattle.run_acts.specs.Booked.{IsTurnReach, BooksTurn, IsBookedTurn};
+ghost use Rattle.run_acts.specs.Devices.{DevicesGoOn};
+ghost use Rattle.run_acts.specs.Recording.{RecordsTurn};
 ghost use Rattle.run_keeping.specs.Minutes.{Reach};
 ghost use Rattle.run_acts.specs.declared.run.Run.{Run};
 ghost use Rattle.run_rule.specs.Between.{devices};
@@ -45,6 +47,10 @@ pub fn turn<M: Medium, C: Chip, D: Chip>(
     ensures turned { IsTurnOf (is_lit run.old.power) n speed begun run.old run.new outcome.old outcome.new }
     ensures booked { is_lit run.old.power ≡ true → (between : Run) × IsBookedTurn n speed begun run.old between outcome.old outcome.new (devices (M.state unit.old) (C.state card_a.old) (D.state card_b.old)) (devices (M.state unit.new) (C.state card_a.new) (D.state card_b.new))
         × (run.new ≡ passed n begun between) }
+    ensures recorded { RecordsTurn n speed begun run.old run.new outcome.old outcome.new (devices (M.state unit.old) (C.state card_a.old) (D.state card_b.old)) (devices (M.state unit.new) (C.state card_a.new) (D.state card_b.new)) }
+    ensures clock { (M.state unit.old).clock ≤ (M.state unit.new).clock }
+    ensures clock_a { (C.state card_a.old).clock ≤ (C.state card_a.new).clock }
+    ensures clock_b { (D.state card_b.old).clock ≤ (D.state card_b.new).clock }
     ensures dark { is_lit run.old.power ≡ false → (unit.new ≡ unit.old) × (card_a.new ≡ card_a.old) × (card_b.new ≡ card_b.old) }
     ensures going { IsGoing run.new (M.state unit.new) (C.card card_a.new) (D.card card_b.new) (C.state card_a.new) (D.state card_b.new) }
     ensures next { run.new.next ≡ run.old.next + n }
@@ -81,6 +87,9 @@ fn lit_turn<M: Medium, C: Chip, D: Chip>(
     requires room { HasRoomWithin run.old outcome.old n 0 0 0 }
     ensures turned { IsLitTurn n speed begun run.old run.new outcome.old outcome.new }
     ensures booked { IsBookedTurn n speed begun run.old run.new outcome.old outcome.new (devices (M.state unit.old) (C.state card_a.old) (D.state card_b.old)) (devices (M.state unit.new) (C.state card_a.new) (D.state card_b.new)) }
+    ensures clock { (M.state unit.old).clock ≤ (M.state unit.new).clock }
+    ensures clock_a { (C.state card_a.old).clock ≤ (C.state card_a.new).clock }
+    ensures clock_b { (D.state card_b.old).clock ≤ (D.state card_b.new).clock }
     ensures going { IsGoing (passed n begun run.new) (M.state unit.new) (C.card card_a.new) (D.card card_b.new) (C.state card_a.new) (D.state card_b.new) }
     ensures next { run.new.next ≡ run.old.next }
     ensures unfound { run.new.unfound ≡ run.old.unfound }
@@ -142,6 +151,7 @@ fn keep_turn<M: Medium, C: Chip, D: Chip>(
     ensures kept { IsKeptInTurn decided.now n speed at (is_err result) run.old run.new outcome.old outcome.new }
     ensures booked { (reach : Reach) × IsTurnReach decided.now at (is_err result) (told_of run.old outcome.old) (told_of run.new outcome.new) reach
         × BooksTurn decided.now (is_err result) reach (told_of run.old outcome.old) (told_of run.new outcome.new) (devices (M.state unit.old) (C.state card_a.old) (D.state card_b.old)) (devices (M.state unit.new) (C.state card_a.new) (D.state card_b.new)) }
+    ensures devices { DevicesGoOn (is_err result) run.old.keeper.cabin.cards run.new.keeper.cabin.cards (devices (M.state unit.old) (C.state card_a.old) (D.state card_b.old)) (devices (M.state unit.new) (C.state card_a.new) (D.state card_b.new)) }
     ensures unit { IsUnit (M.state unit.new) }
     ensures ready { OnOk result (IsReady run.new.keeper (M.state unit.new) (C.card card_a.new) (D.card card_b.new) (C.state card_a.new) (D.state card_b.new)) }
     ensures rows { (card : Card) → HasItsRow run.old.keeper.cabin.cards (M.state unit.old) card → OnOk result (HasItsRow run.new.keeper.cabin.cards (M.state unit.new) card) }

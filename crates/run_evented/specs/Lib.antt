@@ -1,2 +1,3 @@
 pub mod Evented
+pub mod Going
 pub mod Noting

@@ -6,6 +6,17 @@ use Rattle.event_model.specs.declared.entries.Span.{Span}
 use Rattle.event_model.specs.Spans.{gap_of}
 use Rattle.unit_notes.specs.declared.unit_event.UnitEvent.{UnitEvent}
 use Rattle.run_keeping.proofs.Seats.{sessions-none}
+use Rattle.activity_codec.specs.declared.values.Slot.TheVariants.{Driver, CoDriver}
+use Rattle.slot_machine.specs.Calls.{seat_in, card_in}
+use Rattle.run_keeping.specs.declared.keeper.Moment.{Moment}
+use Rattle.run_acts.specs.declared.run.Run.{Run}
+use Rattle.run_acts.specs.Acting.{IsNotedIn, now_moment}
+use Rattle.run_acts.specs.Noting.{NoGap, UnitFailed, DriverFell, BothSlots, IsGapNoted}
+use Rattle.std.specs.Prelude.{[]}
+use Rattle.log_model.specs.Log.{In}
+use Rattle.run_rule.specs.Between.{devices}
+use Rattle.run_acts.specs.Recording.{GoesOnOrCut}
+use Rattle.run_acts.proofs.NoteRecorded.{unit-recorded}
 use Rattle.run_acts.proofs.Kept.{moved-going}
 use Rattle.run_acts.proofs.Noted.{noted-ready, noted-row}
 use Rattle.run_acts.proofs.gap.note_gap.Goals as goal
@@ -43,3 +54,95 @@ note_in-requires-2-clause-begin g c = λ none.
     let there : gap_of c.args.kept c.args.run.now.next ≡ Some c.in-Some.span = cc in
     let at : c.card_gap-event.result.begin.0 ≡ c.in-Some.span.begin = ap (λ (e : UnitEvent). e.begin.0) c.card_gap-event.ensures in
     gap-begins c.args.kept c.args.run.now.next c.in-Some.span there (sym at ∙ none)
+
+-- ---- how far it came
+
+none-there : (o : Option Span) → ((span : Span) → o ≡ Some span → ⊥) → o ≡ None
+none-there None never = refl
+none-there (Some span) never = absurd (never span refl)
+
+pub returns-in_default-clause-noted : goal.returns-in_default-clause-noted
+returns-in_default-clause-noted g c =
+    let run = c.args.run.now in
+    let none : gap_of c.args.kept run.next ≡ None = sym c.power_gap.ensures ∙ none-there c.power_gap.result c.in_default.not-Some in (
+      NoGap,
+      subst (λ (o : Option Span). IsGapNoted o (now_moment run) false run run c.args.breaks.now c.args.breaks.now NoGap) (sym none) (refl, refl, refl),
+    )
+
+pub returns-in_err-note_event-clause-noted : goal.returns-in_err-note_event-clause-noted
+returns-in_err-note_event-clause-noted g c =
+    let run = c.args.run.now in
+    let there : gap_of c.args.kept run.next ≡ Some c.in-Some.span = cc in
+    let failed : true ≡ is_err c.from_residual.result = search rules in (
+      UnitFailed,
+      subst (λ (o : Option Span). IsGapNoted o (now_moment run) (is_err c.from_residual.result) run run c.args.breaks.now c.args.breaks.now UnitFailed) (sym there) (sym failed, refl, refl),
+    )
+
+pub returns-in_err-note_in-clause-noted : goal.returns-in_err-note_in-clause-noted
+returns-in_err-note_in-clause-noted g c =
+    let run = c.args.run.now in
+    let there : gap_of c.args.kept run.next ≡ Some c.in-Some.span = cc in
+    let failed : true ≡ is_err c.from_residual-in_err-note_in.result = search rules in
+    let n = c.in_err-note_in.ensures.noted in (
+      DriverFell,
+      subst (λ (o : Option Span). IsGapNoted o (now_moment run) (is_err c.from_residual-in_err-note_in.result) run c.note_in.new.run c.args.breaks.now c.note_in.new.breaks DriverFell) (sym there) (
+        sym failed,
+        subst (λ (fell : Bool). IsNotedIn (card_in (seat_in run.keeper.cabin.slots.seats Driver)) Driver (now_moment run) run c.note_in.new.run c.args.breaks.now c.note_in.new.breaks fell) (n.2 refl) n.1,
+      ),
+    )
+
+pub returns-clause-noted : goal.returns-clause-noted
+returns-clause-noted g c =
+    let run = c.args.run.now in
+    let between : Run = c.note_in.new.run in
+    let there : gap_of c.args.kept run.next ≡ Some c.in-Some.span = cc in
+    let one = c.in_ok-note_in.ensures.noted in
+    let two = c.note_in-2.ensures.noted in
+    let next : between.next ≡ run.next = ap (λ (r : Run). r.next) c.in_ok-note_in.ensures.only in
+    let same : now_moment between ≡ now_moment run = ap (λ (n : ℕ). record { second = n; begun = 0; late = false }) next in (
+      BothSlots one.0 two.0,
+      subst (λ (o : Option Span). IsGapNoted o (now_moment run) (is_err c.note_in-2.result) run c.note_in-2.new.run c.args.breaks.now c.note_in-2.new.breaks (BothSlots one.0 two.0)) (sym there) (
+        record {
+          between = between;
+          told = c.note_in.new.breaks;
+          first = one.1;
+          second = subst (λ (m : Moment). IsNotedIn (card_in (seat_in between.keeper.cabin.slots.seats CoDriver)) CoDriver m between c.note_in-2.new.run c.note_in.new.breaks c.note_in-2.new.breaks two.0) same two.1;
+        },
+        two.2,
+      ),
+    )
+
+-- ---- what is recorded
+
+pub returns-in_err-note_event-clause-recorded : goal.returns-in_err-note_event-clause-recorded
+returns-in_err-note_event-clause-recorded g c = λ o done s out w.
+    let run = c.args.run.now in
+    let lit = c.requires.going in
+    let V = g.M.Medium.state c.note_event.new.unit in
+    let X = g.C.Chip.state c.args.card_a.now in
+    let Y = g.D.Chip.state c.args.card_b.now in
+    let failed : true ≡ is_err c.from_residual.result = search rules in
+    subst (λ (q : Bool). GoesOnOrCut q o done s (In 0) [] run (record out { breaks = c.args.breaks.now }) (devices V X Y)) failed
+    (unit-recorded o done s 0 run (record out { breaks = c.args.breaks.now }) (g.M.Medium.state c.args.unit.now) V X Y (g.met.M.Medium.coherent c.args.unit.now) c.note_event.ensures.journal lit.span lit.stands lit.next w true c.in_err-note_event.ensures.cause)
+
+pub returns-in_err-note_in-clause-recorded : goal.returns-in_err-note_in-clause-recorded
+returns-in_err-note_in-clause-recorded g c = λ o done s out w.
+    let run = c.args.run.now in
+    let lit = c.requires.going in
+    let V = g.M.Medium.state c.note_event.new.unit in
+    let X = g.C.Chip.state c.args.card_a.now in
+    let Y = g.D.Chip.state c.args.card_b.now in
+    let E = devices (g.M.Medium.state c.note_in.new.unit) (g.C.Chip.state c.note_in.new.card_a) (g.D.Chip.state c.note_in.new.card_b) in
+    let failed : true ≡ is_err c.from_residual-in_err-note_in.result = search rules in
+    let w1 = unit-recorded o done s 0 run (record out { breaks = c.args.breaks.now }) (g.M.Medium.state c.args.unit.now) V X Y (g.met.M.Medium.coherent c.args.unit.now) c.note_event.ensures.journal lit.span lit.stands lit.next w false c.in_ok-note_event.ensures.cause in
+    subst (λ (q : Bool). GoesOnOrCut q o done s (In 0) [] c.note_in.new.run (record out { breaks = c.note_in.new.breaks }) E) failed (c.in_err-note_in.ensures.recorded o done s out w1)
+
+pub returns-clause-recorded : goal.returns-clause-recorded
+returns-clause-recorded g c = λ o done s out w.
+    let run = c.args.run.now in
+    let lit = c.requires.going in
+    let V = g.M.Medium.state c.note_event.new.unit in
+    let X = g.C.Chip.state c.args.card_a.now in
+    let Y = g.D.Chip.state c.args.card_b.now in
+    let w1 = unit-recorded o done s 0 run (record out { breaks = c.args.breaks.now }) (g.M.Medium.state c.args.unit.now) V X Y (g.met.M.Medium.coherent c.args.unit.now) c.note_event.ensures.journal lit.span lit.stands lit.next w false c.in_ok-note_event.ensures.cause in
+    c.note_in-2.ensures.recorded o done s out (c.in_ok-note_in.ensures.recorded o done s out w1)

@@ -21,6 +21,8 @@ use Rattle.run_keeping.specs.declared.keeper.Moment.{Moment}
 use Rattle.run_keeping.proofs.Fates.{no-lines}
 use Rattle.run_acts.specs.Acting.{noted_breaks, now_moment, IsNotedIn}
 use Rattle.run_acts.proofs.Cabins.{keeper-only, cabin-going, cabin-held, ready-same, at-same, noted_cabin, noted-is, noted-past, noted-minute, noted-sessions, noted-falls, noted-a, noted-b, numbered-session}
+use Rattle.std.specs.Prelude.{is_err}
+use Rattle.run_acts.proofs.NoteRecorded.{noted-some}
 use Rattle.run_acts.proofs.gap.note_in.Goals as goal
 
 -- ---- card a
@@ -162,3 +164,29 @@ returns-in-B-clause-more g c =
     let n = c.note_on-in-B.ensures.noted in
     let length_is : length c.note_on-in-B.new.breaks.items ≡ length c.args.breaks.now.items + length (noted_breaks n.0 c.args.slot (now_moment c.args.run.now)) = ap (λ (l : Listed Break). length l.items) n.1.told ∙ lines-length (noted_breaks n.0 c.args.slot (now_moment c.args.run.now)) c.args.breaks.now in
     omega (arith, length_is)
+
+pub returns-in-A-clause-recorded : goal.returns-in-A-clause-recorded
+returns-in-A-clause-recorded g c =
+    let run = c.args.run.now in
+    let e = c.note_on.ensures in
+    let n = e.noted in
+    let lit = c.requires.going in
+    let there : card_in (seat_in run.keeper.cabin.slots.seats c.args.slot) ≡ Some A = cc in
+    let told : number_of_seat run.keeper.cabin.cards (seat_in run.keeper.cabin.slots.seats c.args.slot) ≡ Some c.in-Some-number_in.field-0 = cc in
+    let some = numbered-session run.keeper.cabin.cards (seat_in run.keeper.cabin.slots.seats c.args.slot) A c.in-Some-number_in.field-0 there told in
+    noted-some A c.args.slot (now_moment run) run c.args.breaks.now (g.M.Medium.state c.args.unit.now) (g.M.Medium.state c.note_on.new.unit) (g.C.Chip.state c.args.card_a.now) (g.C.Chip.state c.note_on.new.card) (g.D.Chip.state c.args.card_b.now)
+    (g.met.M.Medium.coherent c.args.unit.now) (g.met.C.Chip.coherent c.args.card_a.now) (g.met.C.Chip.coherent c.note_on.new.card) c.requires.held.card_a.size some e.value there refl refl lit.span lit.stands lit.next lit.cabin e.moments e.journal
+    (is_err c.note_on.result) e.cause c.note_on.new.run c.note_on.new.breaks n.0 n.1 n.2 n.3
+
+pub returns-in-B-clause-recorded : goal.returns-in-B-clause-recorded
+returns-in-B-clause-recorded g c =
+    let run = c.args.run.now in
+    let e = c.note_on-in-B.ensures in
+    let n = e.noted in
+    let lit = c.requires.going in
+    let there : card_in (seat_in run.keeper.cabin.slots.seats c.args.slot) ≡ Some B = cc in
+    let told : number_of_seat run.keeper.cabin.cards (seat_in run.keeper.cabin.slots.seats c.args.slot) ≡ Some c.in-Some-number_in.field-0 = cc in
+    let some = numbered-session run.keeper.cabin.cards (seat_in run.keeper.cabin.slots.seats c.args.slot) B c.in-Some-number_in.field-0 there told in
+    noted-some B c.args.slot (now_moment run) run c.args.breaks.now (g.M.Medium.state c.args.unit.now) (g.M.Medium.state c.note_on-in-B.new.unit) (g.D.Chip.state c.args.card_b.now) (g.D.Chip.state c.note_on-in-B.new.card) (g.C.Chip.state c.args.card_a.now)
+    (g.met.M.Medium.coherent c.args.unit.now) (g.met.D.Chip.coherent c.args.card_b.now) (g.met.D.Chip.coherent c.note_on-in-B.new.card) c.requires.held.card_b.size some e.value there refl refl lit.span lit.stands lit.next lit.cabin e.moments e.journal
+    (is_err c.note_on-in-B.result) e.cause c.note_on-in-B.new.run c.note_on-in-B.new.breaks n.0 n.1 n.2 n.3

@@ -1,4 +1,4 @@
-use Rattle.std.proofs.Common.{◌≡◌, ◌∙◌, ℕ, ◌+◌, ◌-◌, ◌/◌, ◌≤◌, Bool, true, Option, Some, None, is_some, length, refl, ap, sym, subst, arith}
+use Rattle.std.proofs.Common.{rules, ◌≡◌, ◌∙◌, ℕ, ◌+◌, ◌-◌, ◌/◌, ◌≤◌, Bool, true, false, Option, Some, None, is_some, length, refl, ap, sym, subst, arith}
 use Rattle.trace_model.specs.declared.Card.TheVariants.{A, B}
 use Rattle.tach_media.proofs.Runs.{on_ok, ok_gives, cause_after}
 use Rattle.minute_model.specs.Span.{ungiven_of}
@@ -17,6 +17,20 @@ use Rattle.run_acts.specs.Room.{falls_of}
 use Rattle.run_acts.proofs.Noted.{noted-ready, noted-row}
 use Rattle.run_acts.specs.Acting.{noted_breaks}
 use Rattle.run_acts.proofs.Cabins.{keeper-only, cabin-going, cabin-held, ready-same, at-same, noted_cabin, noted-is, noted-past, noted-minute, noted-sessions, noted-falls, noted-a, noted-b, numbered-session}
+use Rattle.std.specs.Prelude.{is_err, suc, List, [], ◌∷◌, ◌++◌}
+use Rattle.activity_codec.specs.declared.values.Slot.{Slot}
+use Rattle.trace_model.specs.declared.Action.{Action}
+use Rattle.trace_model.specs.declared.Action.TheVariants.{Place}
+use Rattle.trace_model.specs.Trace.{TraceSecond}
+use Rattle.log_model.specs.Log.{In}
+use Rattle.log_model.specs.Slots.{refusal}
+use Rattle.safety_model.specs.Safe.{Devices}
+use Rattle.slot_machine.specs.Calls.{logged}
+use Rattle.run_rule.specs.Between.{devices}
+use Rattle.run_outcome.specs.declared.outcome.Outcome.{Outcome}
+use Rattle.run_recorded.specs.Origin.{Origin}
+use Rattle.run_acts.specs.Recording.{RunWithin, GoesOnOrCut, IsNow}
+use Rattle.run_acts.proofs.NoteRecorded.{noted-some, place-told, unit-recorded}
 use Rattle.run_acts.proofs.placing.note_place.Goals as goal
 
 pub note_place_in-requires-clause-ready : goal.note_place_in-requires-clause-ready
@@ -170,3 +184,75 @@ returns-in-B-clause-more g c =
     let n = c.note_place_in-in-B.ensures.noted in
     let length_is : length c.note_place_in-in-B.new.breaks.items ≡ length c.args.breaks.now.items + length (noted_breaks n.0 c.args.slot c.args.at) = ap (λ (l : Listed Break). length l.items) n.1.told ∙ lines-length (noted_breaks n.0 c.args.slot c.args.at) c.args.breaks.now in
     omega (arith, length_is)
+
+-- ---- what is recorded
+
+place-first : (o : Origin) (done : List TraceSecond) (s : TraceSecond) (slot : Slot) (ending : Bool) (country region begun speed : ℕ) (run : Run) (before : Outcome) (breaks : Listed Break) (d : Devices) → before.breaks ≡ breaks → IsNow s speed run → (front rest : List Action) → s.actions ≡ front ++ Place slot ending country region ∷ rest →
+    begun ≡ suc (length front) → refusal (logged run.keeper.cabin.slots.seats) speed (Place slot ending country region) ≡ None → RunWithin o done s (In (length front)) [] [] run before d → RunWithin o done s (In begun) [] [] run (record before { breaks = breaks }) d
+place-first o done s slot ending country region begun speed run before breaks d is now front rest are n allowed w =
+    subst (λ (l : Listed Break). RunWithin o done s (In begun) [] [] run (record before { breaks = l }) d) is (place-told o done s slot ending country region begun speed run before d now front rest are n allowed w)
+
+pub returns-in_default-clause-recorded : goal.returns-in_default-clause-recorded
+returns-in_default-clause-recorded g c = λ late ending country region speed before is o done s now front rest are n allowed w time.
+    place-first o done s c.args.slot ending country region c.args.at.begun speed c.args.run.now before c.args.breaks.now (devices (g.M.Medium.state c.args.unit.now) (g.C.Chip.state c.args.card_a.now) (g.D.Chip.state c.args.card_b.now)) is now front rest are n allowed w
+
+pub returns-in_default-number_in-clause-recorded : goal.returns-in_default-number_in-clause-recorded
+returns-in_default-number_in-clause-recorded g c = λ late ending country region speed before is o done s now front rest are n allowed w time.
+    place-first o done s c.args.slot ending country region c.args.at.begun speed c.args.run.now before c.args.breaks.now (devices (g.M.Medium.state c.args.unit.now) (g.C.Chip.state c.args.card_a.now) (g.D.Chip.state c.args.card_b.now)) is now front rest are n allowed w
+
+pub returns-in_err-note_place-clause-recorded : goal.returns-in_err-note_place-clause-recorded
+returns-in_err-note_place-clause-recorded g c = λ late ending country region speed before is o done s now front rest are n allowed w time.
+    let run = c.args.run.now in
+    let lit = c.requires.going in
+    let U = g.M.Medium.state c.args.unit.now in
+    let V = g.M.Medium.state c.note_place.new.unit in
+    let A0 = g.C.Chip.state c.args.card_a.now in
+    let B0 = g.D.Chip.state c.args.card_b.now in
+    let failed : true ≡ is_err c.from_residual.result = search rules in
+    let w1 = place-first o done s c.args.slot ending country region c.args.at.begun speed run before c.args.breaks.now (devices U A0 B0) is now front rest are n allowed w in
+    subst (λ (q : Bool). GoesOnOrCut q o done s (In c.args.at.begun) [] run (record before { breaks = c.args.breaks.now }) (devices V A0 B0)) failed
+    (unit-recorded o done s c.args.at.begun run (record before { breaks = c.args.breaks.now }) U V A0 B0 (g.met.M.Medium.coherent c.args.unit.now) c.note_place.ensures.journal lit.span lit.stands lit.next w1 true c.in_err-note_place.ensures.cause)
+
+pub returns-in-A-clause-recorded : goal.returns-in-A-clause-recorded
+returns-in-A-clause-recorded g c = λ late ending country region speed before is o done s now front rest are n allowed w time.
+    let run = c.args.run.now in
+    let e = c.note_place_in.ensures in
+    let k = e.noted in
+    let lit = c.requires.going in
+    let U = g.M.Medium.state c.args.unit.now in
+    let V = g.M.Medium.state c.note_place.new.unit in
+    let A0 = g.C.Chip.state c.args.card_a.now in
+    let B0 = g.D.Chip.state c.args.card_b.now in
+    let there : card_in (seat_in run.keeper.cabin.slots.seats c.args.slot) ≡ Some A = cc in
+    let told : number_of_seat run.keeper.cabin.cards (seat_in run.keeper.cabin.slots.seats c.args.slot) ≡ Some c.in-Some-number_in.number = cc in
+    let some = numbered-session run.keeper.cabin.cards (seat_in run.keeper.cabin.slots.seats c.args.slot) A c.in-Some-number_in.number there told in
+    let w1 = place-first o done s c.args.slot ending country region c.args.at.begun speed run before c.args.breaks.now (devices U A0 B0) is now front rest are n allowed w in
+    let w2 = unit-recorded o done s c.args.at.begun run (record before { breaks = c.args.breaks.now }) U V A0 B0 (g.met.M.Medium.coherent c.args.unit.now) c.note_place.ensures.journal lit.span lit.stands lit.next w1 false c.in_ok-note_place.ensures.cause in
+    noted-some A c.args.slot c.args.at run c.args.breaks.now V (g.M.Medium.state c.note_place_in.new.unit) (g.C.Chip.state c.args.card_a.now) (g.C.Chip.state c.note_place_in.new.card) (g.D.Chip.state c.args.card_b.now)
+    (g.met.M.Medium.coherent c.note_place.new.unit) (g.met.C.Chip.coherent c.args.card_a.now) (g.met.C.Chip.coherent c.note_place_in.new.card) c.requires.held.card_a.size some e.value there c.requires.at late lit.span lit.stands lit.next lit.cabin e.moments e.journal
+    (is_err c.note_place_in.result) e.cause c.note_place_in.new.run c.note_place_in.new.breaks k.0 k.1 k.2 k.3 o done s before w2
+
+pub returns-in-B-clause-recorded : goal.returns-in-B-clause-recorded
+returns-in-B-clause-recorded g c = λ late ending country region speed before is o done s now front rest are n allowed w time.
+    let run = c.args.run.now in
+    let e = c.note_place_in-in-B.ensures in
+    let k = e.noted in
+    let lit = c.requires.going in
+    let U = g.M.Medium.state c.args.unit.now in
+    let V = g.M.Medium.state c.note_place.new.unit in
+    let A0 = g.C.Chip.state c.args.card_a.now in
+    let B0 = g.D.Chip.state c.args.card_b.now in
+    let there : card_in (seat_in run.keeper.cabin.slots.seats c.args.slot) ≡ Some B = cc in
+    let told : number_of_seat run.keeper.cabin.cards (seat_in run.keeper.cabin.slots.seats c.args.slot) ≡ Some c.in-Some-number_in.number = cc in
+    let some = numbered-session run.keeper.cabin.cards (seat_in run.keeper.cabin.slots.seats c.args.slot) B c.in-Some-number_in.number there told in
+    let w1 = place-first o done s c.args.slot ending country region c.args.at.begun speed run before c.args.breaks.now (devices U A0 B0) is now front rest are n allowed w in
+    let w2 = unit-recorded o done s c.args.at.begun run (record before { breaks = c.args.breaks.now }) U V A0 B0 (g.met.M.Medium.coherent c.args.unit.now) c.note_place.ensures.journal lit.span lit.stands lit.next w1 false c.in_ok-note_place.ensures.cause in
+    noted-some B c.args.slot c.args.at run c.args.breaks.now V (g.M.Medium.state c.note_place_in-in-B.new.unit) (g.D.Chip.state c.args.card_b.now) (g.D.Chip.state c.note_place_in-in-B.new.card) (g.C.Chip.state c.args.card_a.now)
+    (g.met.M.Medium.coherent c.note_place.new.unit) (g.met.D.Chip.coherent c.args.card_b.now) (g.met.D.Chip.coherent c.note_place_in-in-B.new.card) c.requires.held.card_b.size some e.value there c.requires.at late lit.span lit.stands lit.next lit.cabin e.moments e.journal
+    (is_err c.note_place_in-in-B.result) e.cause c.note_place_in-in-B.new.run c.note_place_in-in-B.new.breaks k.0 k.1 k.2 k.3 o done s before w2
+
+pub returns-in-A-clause-clock_a : goal.returns-in-A-clause-clock_a
+returns-in-A-clause-clock_a g c = c.note_place_in.ensures.clock_card
+
+pub returns-in-B-clause-clock_b : goal.returns-in-B-clause-clock_b
+returns-in-B-clause-clock_b g c = c.note_place_in-in-B.ensures.clock_card

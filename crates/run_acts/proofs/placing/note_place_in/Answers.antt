@@ -1,8 +1,126 @@
-use Rattle.std.proofs.Common.{◌≡◌, Ok}
-use Rattle.run_crew.specs.Cards.{known_of}
+use Rattle.std.proofs.Common.{◌≡◌, ◌∙◌, inr, ℕ, Bool, true, false, Some, None, refl, ap, sym, subst}
+use Rattle.std.specs.Prelude.{Ok, is_err, List, [], ◌∷◌, ◌/◌, ◌≤◌}
+use Rattle.tach_media.specs.Medium.{HasCause}
+use Rattle.tach_media.proofs.Runs.{weaken}
+use Rattle.unit_notes.specs.Journal.{LeavesJournal}
+use Rattle.run_crew.specs.declared.cards.Known.{Known}
+use Rattle.run_crew.specs.declared.cards.Cards.{Cards}
+use Rattle.run_crew.specs.declared.cabin.Cabin.{Cabin}
+use Rattle.run_crew.specs.Cards.{known_of, session_of, with_session}
+use Rattle.run_crew.specs.Cabin.{Stands, torn_out}
+use Rattle.run_keeping.specs.declared.keeper.Keeper.{Keeper}
+use Rattle.run_keeping.specs.declared.keeper.Moment.{Moment}
+use Rattle.run_keeping.specs.Keeping.{CardReady, HasItsRow, UnitReady, tear_of, with_lines}
+use Rattle.run_keeping.proofs.Sessions.{number-set, torn-stands}
+use Rattle.run_keeping.proofs.CardBooked.{no-session, none-there}
+use Rattle.run_keeping.proofs.Fates.{no-lines}
+use Rattle.run_acts.proofs.Apart.{not-both, session-back, torn-apart, noted-sizes, ready-again, session-works, fell-broken, well-broken}
 use Rattle.run_acts.proofs.placing.note_place_in.Goals as goal
 
 pub note_place_on-requires-clause-port : goal.note_place_on-requires-clause-port
 note_place_on-requires-clause-port g c =
     let is : (known_of c.args.run.now.keeper.cabin.cards c.args.which).sizes ≡ Ok c.in-Ok.app = cc in
     c.requires.card.port c.in-Ok.app is
+
+-- ---- it has a session, and so sizes
+
+pub returns-in_default : goal.returns-in_default
+returns-in_default g c =
+    let cards = c.args.run.now.keeper.cabin.cards in
+    let gone = no-session c.args.which cards (g.C.Chip.card c.args.card.now) (g.C.Chip.state c.args.card.now) c.requires.card (λ app is. c.in_default.not-Ok app (ap (λ (q : Known). q.sizes) c.of.ensures ∙ is)) in
+    absurd (not-both (session_of cards c.args.which) c.requires.session gone)
+
+pub returns-in_default-take : goal.returns-in_default-take
+returns-in_default-take g c =
+    let cards = c.args.run.now.keeper.cabin.cards in
+    let gone : session_of cards c.args.which ≡ None = sym c.take.ensures.taken ∙ none-there c.take.result c.in_default-take.not-Some in
+    absurd (not-both (session_of cards c.args.which) c.requires.session gone)
+
+-- ---- the call failed
+
+pub returns-then-is_err-clause-noted : goal.returns-then-is_err-clause-noted
+returns-then-is_err-clause-noted g c =
+    let run = c.args.run.now in
+    let X = g.C.Chip.state c.args.card.now in
+    let Y = g.C.Chip.state c.note_place_on.new.card in
+    let bad : is_err c.note_place_on.result ≡ true = sym c.is_err.ensures.value ∙ c.if-is_err.true in
+    let cause = subst (λ (b : Bool). HasCause X Y b) bad c.note_place_on.ensures.cause in
+    let keeper =
+    c.tear.ensures.keeper ∙ ap (λ (b : Cabin). record run.keeper { cabin = b }) (torn-apart c.args.which c.args.at.second run.keeper.cabin c.take.new.self c.take.ensures.left) in (
+      true,
+      record {
+        run = ap (λ (k : Keeper). record run { keeper = k }) keeper;
+        told = c.tear.ensures.told;
+      },
+      fell-broken X Y (session-works c.args.which run.keeper.cabin.cards (g.C.Chip.card c.args.card.now) X c.requires.card c.requires.session) cause,
+      cause,
+    )
+
+pub returns-then-is_err-clause-moments : goal.returns-then-is_err-clause-moments
+returns-then-is_err-clause-moments g c =
+    let cards = c.args.run.now.keeper.cabin.cards in
+    let is : (known_of cards c.args.which).sizes ≡ Ok c.in-Ok.app = cc in
+    noted-sizes c.args.which cards c.in-Ok.app (g.C.Chip.card c.args.card.now) (g.C.Chip.state c.args.card.now) (g.C.Chip.state c.note_place_on.new.card) c.requires.card is (weaken c.note_place_on.ensures.moments (λ x n told note. inr (c.args.entry.now, note)))
+
+pub returns-then-is_err-clause-rows : goal.returns-then-is_err-clause-rows
+returns-then-is_err-clause-rows g c = λ card h.
+    let cards = c.args.run.now.keeper.cabin.cards in
+    c.tear.ensures.rows card (record { number = h.number; told = ap (λ (q : Cards). (known_of q card).number) c.take.ensures.left ∙ number-set c.args.which card None cards ∙ h.told; row = h.row })
+
+pub returns-then-is_err-clause-stands : goal.returns-then-is_err-clause-stands
+returns-then-is_err-clause-stands g c = λ from leaving h.
+    let run = c.args.run.now in
+    let cabin =
+    ap (λ (k : Keeper). k.cabin) c.tear.ensures.keeper ∙ torn-apart c.args.which c.args.at.second run.keeper.cabin c.take.new.self c.take.ensures.left in
+    subst (λ (b : Cabin). Stands from leaving b) (sym cabin)
+    (torn-stands run.keeper.cabin c.args.which c.args.at.second from leaving c.requires.minute h)
+
+-- ---- it is noted
+
+pub returns-clause-noted : goal.returns-clause-noted
+returns-clause-noted g c =
+    let run = c.args.run.now in
+    let X = g.C.Chip.state c.args.card.now in
+    let Y = g.C.Chip.state c.note_place_on.new.card in
+    let well : is_err c.note_place_on.result ≡ false = sym c.is_err.ensures.value ∙ c.if-is_err.false in
+    let cause = subst (λ (b : Bool). HasCause X Y b) well c.note_place_on.ensures.cause in
+    let cards = c.set_session.ensures ∙ ap (λ (q : Cards). with_session c.args.which (Some c.in-Some.accepted) q) c.take.ensures.left ∙ session-back c.args.which c.in-Some.accepted run.keeper.cabin.cards (sym c.in-Some.ensures.taken) in (
+      false,
+      record {
+        run = ap (λ (q : Cards). record run { keeper = record run.keeper { cabin = record run.keeper.cabin { cards = q } } }) cards;
+        told = no-lines c.args.breaks.now;
+      },
+      well-broken X Y cause,
+      cause,
+    )
+
+pub returns-clause-moments : goal.returns-clause-moments
+returns-clause-moments g c =
+    let cards = c.args.run.now.keeper.cabin.cards in
+    let is : (known_of cards c.args.which).sizes ≡ Ok c.in-Ok.app = cc in
+    noted-sizes c.args.which cards c.in-Ok.app (g.C.Chip.card c.args.card.now) (g.C.Chip.state c.args.card.now) (g.C.Chip.state c.note_place_on.new.card) c.requires.card is (weaken c.note_place_on.ensures.moments (λ x n told note. inr (c.args.entry.now, note)))
+
+pub returns-clause-rows : goal.returns-clause-rows
+returns-clause-rows g c = λ card h.
+    let run = c.args.run.now in
+    let cards = c.set_session.ensures ∙ ap (λ (q : Cards). with_session c.args.which (Some c.in-Some.accepted) q) c.take.ensures.left ∙ session-back c.args.which c.in-Some.accepted run.keeper.cabin.cards (sym c.in-Some.ensures.taken) in
+    subst (λ (q : Cards). HasItsRow q (g.M.Medium.state c.args.unit.now) card) (sym cards) h
+
+pub returns-clause-stands : goal.returns-clause-stands
+returns-clause-stands g c = λ from leaving h.
+    let run = c.args.run.now in
+    let cards = c.set_session.ensures ∙ ap (λ (q : Cards). with_session c.args.which (Some c.in-Some.accepted) q) c.take.ensures.left ∙ session-back c.args.which c.in-Some.accepted run.keeper.cabin.cards (sym c.in-Some.ensures.taken) in
+    subst (λ (q : Cards). Stands from leaving (record run.keeper.cabin { cards = q })) (sym cards) h
+
+pub returns-clause-card : goal.returns-clause-card
+returns-clause-card g c =
+    let run = c.args.run.now in
+    let next = g.C.Chip.card c.note_place_on.new.card in
+    let X = g.C.Chip.state c.args.card.now in
+    let Y = g.C.Chip.state c.note_place_on.new.card in
+    let well : is_err c.note_place_on.result ≡ false = sym c.is_err.ensures.value ∙ c.if-is_err.false in
+    let cause = subst (λ (b : Bool). HasCause X Y b) well c.note_place_on.ensures.cause in
+    let is : (known_of run.keeper.cabin.cards c.args.which).sizes ≡ Ok c.in-Ok.app = cc in
+    let cards = c.set_session.ensures ∙ ap (λ (q : Cards). with_session c.args.which (Some c.in-Some.accepted) q) c.take.ensures.left ∙ session-back c.args.which c.in-Some.accepted run.keeper.cabin.cards (sym c.in-Some.ensures.taken) in
+    subst (λ (q : Cards). CardReady (known_of q c.args.which) next Y) (sym cards)
+    (ready-again (known_of run.keeper.cabin.cards c.args.which) c.in-Ok.app (g.C.Chip.card c.args.card.now) next X Y c.requires.card is c.note_place_on.ensures.port cause.works)

@@ -9,6 +9,8 @@ use Rattle.run_rule.specs.Between.{devices}
 use Rattle.run_keeping.specs.Minutes.{Reach}
 use Rattle.run_acts.specs.Turning.{IsKeptInTurn, told_of}
 use Rattle.run_acts.specs.Booked.{IsTurnReach, BooksTurn}
+use Rattle.run_acts.specs.Devices.{DevicesGoOn}
+use Rattle.run_acts.proofs.GoesOn.{same-left, noted-devices}
 use Rattle.run_acts.proofs.TurnBooked.{turn-cut, turn-noted}
 use Rattle.run_acts.proofs.turning.keep_turn.Goals as goal
 
@@ -77,3 +79,36 @@ returns-in_err-keep_all-clause-booked g c =
     let d = devices (g.M.Medium.state c.args.unit.now) (g.C.Chip.state c.args.card_a.now) (g.D.Chip.state c.args.card_b.now) in
     let e = devices (g.M.Medium.state c.keep_all.new.unit) (g.C.Chip.state c.keep_all.new.card_a) (g.D.Chip.state c.keep_all.new.card_b) in
     subst (λ (f : Bool). (reach : Reach) × IsTurnReach c.args.decided.now c.args.at f t u reach × BooksTurn c.args.decided.now f reach t u d e) failed (turn-cut c.args.decided.now c.args.at t u d e was.0 was.1 was.2)
+
+-- ---- the devices
+
+pub returns-clause-devices : goal.returns-clause-devices
+returns-clause-devices g c =
+    let k = c.in_ok-keep_all.ensures in
+    noted-devices (is_err c.turn.result) c.args.run.now.keeper.cabin.cards c.keep_all.new.self.cabin.cards
+    (devices (g.M.Medium.state c.args.unit.now) (g.C.Chip.state c.args.card_a.now) (g.D.Chip.state c.args.card_b.now)) (g.M.Medium.state c.keep_all.new.unit) (g.M.Medium.state c.turn.new.unit) (g.C.Chip.state c.keep_all.new.card_a) (g.D.Chip.state c.keep_all.new.card_b)
+    (record {
+      cause = k.cause;
+      keeps = k.unit_keeps;
+      tells = k.tells;
+      clock = k.clock;
+      card_a = record { keeps = k.a_keeps; clock = k.clock_a; tells = k.tells_a; more = k.more_a; broken = k.a_broken; bare = λ none. same-left (g.C.Chip.state c.args.card_a.now) (g.C.Chip.state c.keep_all.new.card_a) (ap g.C.Chip.state (k.a_bare none)) };
+      card_b = record { keeps = k.b_keeps; clock = k.clock_b; tells = k.tells_b; more = k.more_b; broken = k.b_broken; bare = λ none. same-left (g.D.Chip.state c.args.card_b.now) (g.D.Chip.state c.keep_all.new.card_b) (ap g.D.Chip.state (k.b_bare none)) };
+    })
+    c.turn.ensures.journal c.turn.ensures.cause
+
+pub returns-in_err-keep_all-clause-devices : goal.returns-in_err-keep_all-clause-devices
+returns-in_err-keep_all-clause-devices g c =
+    let k = c.in_err-keep_all.ensures in
+    let failed : true ≡ is_err c.from_residual.result = search rules in
+    subst (λ (f : Bool). DevicesGoOn f c.args.run.now.keeper.cabin.cards c.keep_all.new.self.cabin.cards
+    (devices (g.M.Medium.state c.args.unit.now) (g.C.Chip.state c.args.card_a.now) (g.D.Chip.state c.args.card_b.now))
+    (devices (g.M.Medium.state c.keep_all.new.unit) (g.C.Chip.state c.keep_all.new.card_a) (g.D.Chip.state c.keep_all.new.card_b))) failed
+    (record {
+      cause = k.cause;
+      keeps = k.unit_keeps;
+      tells = k.tells;
+      clock = k.clock;
+      card_a = record { keeps = k.a_keeps; clock = k.clock_a; tells = k.tells_a; more = k.more_a; broken = k.a_broken; bare = λ none. same-left (g.C.Chip.state c.args.card_a.now) (g.C.Chip.state c.keep_all.new.card_a) (ap g.C.Chip.state (k.a_bare none)) };
+      card_b = record { keeps = k.b_keeps; clock = k.clock_b; tells = k.tells_b; more = k.more_b; broken = k.b_broken; bare = λ none. same-left (g.D.Chip.state c.args.card_b.now) (g.D.Chip.state c.keep_all.new.card_b) (ap g.D.Chip.state (k.b_bare none)) };
+    })

@@ -110,6 +110,8 @@ returns-then-is_err-clause-booked g c =
       b.0,
       b.1,
       b.2,
+      rw bad at e.devices,
+      e.same.1,
     )
 
 pub returns-then-is_err-clause-turned : goal.returns-then-is_err-clause-turned
@@ -227,6 +229,8 @@ returns-else-is_err-clause-booked g c =
       b.0,
       b.1,
       b.2,
+      rw well at e.devices,
+      e.same.1,
     )
 
 pub returns-else-is_err-clause-turned : goal.returns-else-is_err-clause-turned
@@ -298,3 +302,23 @@ returns-else-is_err-clause-room g c =
     room-lit run (passed n c.args.begun kt.new.run) c.args.outcome.now kt.new.outcome n (length items) next c.requires.some c.requires.minute u later c.requires.lit power s
     (owing-sum run.minutes lit.span lit.stands ∙ ap (λ (m : ℕ). m / 60) lit.next)
     (ap (λ (m : Minutes). later + m.owing) minutes ∙ owing-sum c.feed-decided.new.minutes (fed_many lit.span speed n) (c.feed-decided.ensures.fed lit.span lit.stands) ∙ ap (λ (m : ℕ). m / 60) (turn-end run lit speed n ∙ sym next)) count
+
+-- ---- clocks
+
+pub returns-then-is_err-clause-clock : goal.returns-then-is_err-clause-clock
+returns-then-is_err-clause-clock g c = c.keep_turn-kept.ensures.devices.clock
+
+pub returns-then-is_err-clause-clock_a : goal.returns-then-is_err-clause-clock_a
+returns-then-is_err-clause-clock_a g c = c.keep_turn-kept.ensures.devices.card_a.clock
+
+pub returns-then-is_err-clause-clock_b : goal.returns-then-is_err-clause-clock_b
+returns-then-is_err-clause-clock_b g c = c.keep_turn-kept.ensures.devices.card_b.clock
+
+pub returns-else-is_err-clause-clock : goal.returns-else-is_err-clause-clock
+returns-else-is_err-clause-clock g c = c.keep_turn-kept.ensures.devices.clock
+
+pub returns-else-is_err-clause-clock_a : goal.returns-else-is_err-clause-clock_a
+returns-else-is_err-clause-clock_a g c = c.keep_turn-kept.ensures.devices.card_a.clock
+
+pub returns-else-is_err-clause-clock_b : goal.returns-else-is_err-clause-clock_b
+returns-else-is_err-clause-clock_b g c = c.keep_turn-kept.ensures.devices.card_b.clock

@@ -1,4 +1,7 @@
-use Rattle.std.proofs.Common.{◌≡◌, ◌∙◌, ℕ, ◌+◌, ◌-◌, ◌/◌, ◌≤◌, Bool, true, false, refl, ap, sym, subst, arith}
+use Rattle.std.proofs.Common.{◌≡◌, ◌∙◌, ℕ, ◌+◌, ◌-◌, ◌/◌, ◌≤◌, ◌<◌, Bool, true, false, Option, Some, List, [], ◌∷◌, ◌++◌, length, refl, ap, sym, subst, arith}
+use Rattle.trace_model.specs.Trace.{driven}
+use Rattle.log_model.specs.Log.{In}
+use Rattle.run_rule.specs.Between.{devices}
 use Rattle.run_outcome.specs.declared.outcome.Outcome.{Outcome}
 use Rattle.run_acts.specs.declared.run.Run.{Run}
 use Rattle.run_acts.specs.Power.{is_lit, passed}
@@ -6,6 +9,8 @@ use Rattle.run_acts.specs.Going.{IsGoing}
 use Rattle.run_acts.specs.Room.{HasRoom}
 use Rattle.run_acts.proofs.Standing.{lit-is, passed-at}
 use Rattle.run_acts.specs.Turning.{IsTurnOf}
+use Rattle.run_acts.specs.Recording.{InSecondBy, RunWithin, RunCut, RunRecorded}
+use Rattle.run_acts.proofs.TurnRecorded.{turn-lit, turn-dark}
 use Rattle.run_acts.proofs.Room.{room-dark}
 use Rattle.run_acts.proofs.turning.turn.Goals as goal
 
@@ -51,3 +56,28 @@ returns-clause-booked g c = λ lit. (c.lit_turn.new.run, c.lit_turn.ensures.book
 
 pub returns-clause-dark : goal.returns-clause-dark
 returns-clause-dark g c = λ dark. let lit : is_lit c.args.run.now.power ≡ true = sym c.is_lit.ensures ∙ c.if-not-is_lit.false in absurd (cc)
+
+-- ---- what is recorded
+
+pub returns-then-not-is_lit-clause-recorded : goal.returns-then-not-is_lit-clause-recorded
+returns-then-not-is_lit-clause-recorded g c = λ o done s now actions none within time.
+    let run = c.args.run.now in
+    let before = c.args.outcome.now in
+    let d = devices (g.M.Medium.state c.args.unit.now) (g.C.Chip.state c.args.card_a.now) (g.D.Chip.state c.args.card_b.now) in
+    let dark : is_lit run.power ≡ false = sym c.is_lit.ensures ∙ c.if-not-is_lit.true in
+    let r : RunCut o done s run before d = subst (λ (b : Bool). InSecondBy b o done s c.args.begun run before d) dark within in
+    subst (λ (x : Run). RunRecorded o (done ++ s ∷ driven (c.args.n - 1) (s.number + 1) c.args.speed []) x before d) (sym c.pass.ensures)
+    (turn-dark c.args.n c.args.speed c.args.begun run before d c.requires.some c.requires.minute o done s now actions (λ more. none (omega (arith, more))) r)
+
+pub returns-clause-recorded : goal.returns-clause-recorded
+returns-clause-recorded g c = λ o done s now actions none within time.
+    let run = c.args.run.now in
+    let before = c.args.outcome.now in
+    let d = devices (g.M.Medium.state c.args.unit.now) (g.C.Chip.state c.args.card_a.now) (g.D.Chip.state c.args.card_b.now) in
+    let e = devices (g.M.Medium.state c.lit_turn.new.unit) (g.C.Chip.state c.lit_turn.new.card_a) (g.D.Chip.state c.lit_turn.new.card_b) in
+    let lit : is_lit run.power ≡ true = sym c.is_lit.ensures ∙ c.if-not-is_lit.false in
+    let r : RunWithin o done s (In c.args.begun) [] [] run before d = subst (λ (b : Bool). InSecondBy b o done s c.args.begun run before d) lit within in
+    let there : RunWithin o done s (In (length s.actions)) [] [] run before d = subst (λ (k : ℕ). RunWithin o done s (In k) [] [] run before d) (sym actions) r in
+    subst (λ (x : Run). RunRecorded o (done ++ s ∷ driven (c.args.n - 1) (s.number + 1) c.args.speed []) x c.lit_turn.new.outcome e) (sym c.pass-2.ensures)
+    (turn-lit c.args.n c.args.speed c.args.begun run c.lit_turn.new.run before c.lit_turn.new.outcome d e (c.requires.going.lit lit) r.lit c.requires.some c.requires.minute c.requires.small c.lit_turn.ensures.booked
+    o done s now actions (λ more. none (omega (arith, more))) there time)

@@ -30,6 +30,14 @@ use Rattle.run_acts.proofs.Withdrawn.{withdrawn-cut, withdrawn-closed}
 use Rattle.run_acts.specs.Acting.{Closing, told_of, IsSettled, IsWithdrawn, closed_cabin, closed_breaks, left_run}
 use Rattle.run_acts.proofs.Leaving.{left-going, left-held, left-falls, closed-past, closed-minute, closed-sessions, closed-falls, closed-a, closed-b}
 use Rattle.run_acts.proofs.Cabins.{cabin-only, cabin-going, cabin-held, ready-same, at-same}
+use Rattle.std.specs.Prelude.{suc, []}
+use Rattle.log_model.specs.Log.{In}
+use Rattle.run_acts.specs.Acting.{IsClosed}
+use Rattle.run_acts.specs.Recording.{RunFails, GoesOnOrCut}
+use Rattle.run_acts.specs.Settling.{RecordsSettling}
+use Rattle.run_acts.proofs.Asked.{withdraws-one}
+use Rattle.run_acts.proofs.Withdrawn.{time-before}
+use Rattle.run_acts.proofs.WithdrawnRecorded.{acting_at, moment-is, settling-cut, closing-recorded}
 use Rattle.run_acts.proofs.withdrawing.withdraw.Goals as goal
 
 -- ---- it has left its slot
@@ -439,3 +447,91 @@ returns-in-B-clause-booked g c = λ card there.
       withdrawn-closed g.D.Chip.state B c.args.at.second U1 V (g.C.Chip.state c.settle.new.card_a) c.settle.new.card_b c.close-in-B.new.card (g.met.M.Medium.coherent c.settle.new.unit) (g.met.D.Chip.coherent c.settle.new.card_b) c.settle.ensures.held.card_b.size
           c.close-in-B.ensures.journal (is_err c.close-in-B.result) c.close-in-B.ensures.cause.works n.0 b.0 c.args.at t v (told_of c.close-in-B.new.run after) D c.close-in-B.ensures.left c.close-in-B.ensures.bare n.1.is (ap (λ (r : Run). r.keeper.cabin.cards) n.1.run) refl b.1 b.3 b.4,
     ))
+
+-- ---- what is recorded
+
+none-there : (o : Option Card) → ((card : Card) → o ≡ Some card → ⊥) → o ≡ None
+none-there None never = refl
+none-there (Some card) never = absurd (never card refl)
+
+pub returns-in_default-clause-recorded : goal.returns-in_default-clause-recorded
+returns-in_default-clause-recorded g c = λ late speed o done s now front rest are n allowed w time.
+    let seats = c.args.run.now.keeper.cabin.slots.seats in
+    let none : card_in (seat_in seats c.args.slot) ≡ None = sym c.card.ensures ∙ none-there c.card.result c.in_default.not-Some in
+    absurd (withdraws-one seats c.args.slot speed allowed none)
+
+here-settled : (decided : List Minute) (failed : Bool) (slot : Slot) (at here : Moment) (run between : Run) (before told : Outcome) (left : Cabin) (d e : Devices) → left ≡ with_slot_left slot at.second run.keeper.cabin → at ≡ here →
+    RecordsSettling decided at failed (with_cabin left run) between before told d e → RecordsSettling decided here failed (left_run slot here.second run) between before told d e
+here-settled decided failed slot at here run between before told left d e is moment records =
+    subst (λ (m : Moment). RecordsSettling decided m failed (left_run slot m.second run) between before told d e) moment
+    (subst (λ (b : Cabin). RecordsSettling decided at failed (with_cabin b run) between before told d e) is records)
+
+pub returns-in_err-settle-clause-recorded : goal.returns-in_err-settle-clause-recorded
+returns-in_err-settle-clause-recorded g c = λ late speed o done s now front rest are n allowed w time.
+    let run = c.args.run.now in
+    let there : card_in (seat_in run.keeper.cabin.slots.seats c.args.slot) ≡ Some c.in-Some.card = cc in
+    let D = devices (g.M.Medium.state c.args.unit.now) (g.C.Chip.state c.args.card_a.now) (g.D.Chip.state c.args.card_b.now) in
+    let E = devices (g.M.Medium.state c.settle.new.unit) (g.C.Chip.state c.settle.new.card_a) (g.D.Chip.state c.settle.new.card_b) in
+    let failed : true ≡ is_err c.from_residual.result = search rules in
+    let moment = moment-is c.args.at s.number (suc (length front)) (c.requires.at ∙ sym now.number) n late in
+    let r = c.in_err-settle.ensures.recorded in
+    subst (λ (q : Bool). GoesOnOrCut q o done s (In c.args.at.begun) [] c.settle.new.run c.settle.new.outcome E) failed
+    (subst (λ (q : ℕ). RunFails o done s (In q) c.settle.new.run c.settle.new.outcome E) (sym n)
+    (settling-cut o done s front rest c.args.slot are speed now.speed_is c.in-Some.card run c.settle.new.run c.args.outcome.now c.settle.new.outcome D w there allowed (c.in_err-settle.ensures.settled.minutes w.within.sp w.within.minutes) r.0 (r.1 w.within.sp w.within.minutes) E
+    (here-settled r.0 true c.args.slot c.args.at (acting_at s.number (suc (length front))) run c.settle.new.run c.args.outcome.now c.settle.new.outcome c.leave.new.self D E c.leave.ensures.kept moment r.2) time))
+
+pub returns-in-A-clause-recorded : goal.returns-in-A-clause-recorded
+returns-in-A-clause-recorded g c = λ late speed o done s now front rest are n allowed w time.
+    let run = c.args.run.now in
+    let second : ℕ = c.args.at.second in
+    let there : card_in (seat_in run.keeper.cabin.slots.seats c.args.slot) ≡ Some A = cc in
+    let D = devices (g.M.Medium.state c.args.unit.now) (g.C.Chip.state c.args.card_a.now) (g.D.Chip.state c.args.card_b.now) in
+    let between : Run = c.settle.new.run in
+    let told : Outcome = c.settle.new.outcome in
+    let U1 = g.M.Medium.state c.settle.new.unit in
+    let V = g.M.Medium.state c.close.new.unit in
+    let X = g.C.Chip.state c.settle.new.card_a in
+    let Y = g.C.Chip.state c.close.new.card in
+    let Z = g.D.Chip.state c.settle.new.card_b in
+    let left_ = subst (λ (b : Cabin). IsGoingOn (Some A) (run.next / 60) (with_cabin b run) (g.M.Medium.state c.args.unit.now) (g.C.Chip.card c.args.card_a.now) (g.D.Chip.card c.args.card_b.now) (g.C.Chip.state c.args.card_a.now) (g.D.Chip.state c.args.card_b.now)) (sym c.leave.ensures.kept)
+    (left-going c.args.slot A second run (run.next / 60) c.requires.going (λ from h. subst (λ (b : Cabin). Stands from (Some A) b) c.leave.ensures.kept (c.leave.ensures.stands from A there h))) in
+    let going = c.in_ok-settle.ensures.going (Some A) left_ in
+    let moment = moment-is c.args.at s.number (suc (length front)) (c.requires.at ∙ sym now.number) n late in
+    let r = c.in_ok-settle.ensures.recorded in
+    let e = c.close.ensures in
+    let k = e.closed in
+    let unit_later = e.journal.later in
+    subst (λ (q : ℕ). GoesOnOrCut (is_err c.close.result) o done s (In q) [] c.close.new.run (record told { breaks = c.close.new.breaks }) (devices V Y Z)) (sym n)
+    (closing-recorded o done s front rest c.args.slot are speed now.speed_is A run between c.args.outcome.now told D w there allowed (c.in_ok-settle.ensures.settled.minutes w.within.sp w.within.minutes) r.0 (r.1 w.within.sp w.within.minutes)
+    g.C.Chip.state U1 V Z c.settle.new.card_a c.close.new.card (g.met.M.Medium.coherent c.settle.new.unit) (g.met.C.Chip.coherent c.settle.new.card_a) c.settle.ensures.held.card_a.size e.left e.bare e.journal (is_err c.close.result) e.cause e.more going.span going.stands going.next
+    (here-settled r.0 false c.args.slot c.args.at (acting_at s.number (suc (length front))) run between c.args.outcome.now told c.leave.new.self D (devices U1 X Z) c.leave.ensures.kept moment r.2)
+    (time-before A U1 V X Y Z unit_later e.clock_card time) c.args.at c.in_ok-settle.ensures.settled.decided (told_of (with_cabin c.leave.new.self run) c.args.outcome.now) c.in_ok-settle.ensures.settled.kept (ap (λ (b : Cabin). session_of b.cards A) c.leave.ensures.kept)
+    c.close.new.run c.close.new.breaks k.0 (subst (λ (m : Moment). IsClosed A c.args.slot m between c.close.new.run told.breaks c.close.new.breaks k.0) moment k.1) k.2)
+
+pub returns-in-B-clause-recorded : goal.returns-in-B-clause-recorded
+returns-in-B-clause-recorded g c = λ late speed o done s now front rest are n allowed w time.
+    let run = c.args.run.now in
+    let second : ℕ = c.args.at.second in
+    let there : card_in (seat_in run.keeper.cabin.slots.seats c.args.slot) ≡ Some B = cc in
+    let D = devices (g.M.Medium.state c.args.unit.now) (g.C.Chip.state c.args.card_a.now) (g.D.Chip.state c.args.card_b.now) in
+    let between : Run = c.settle.new.run in
+    let told : Outcome = c.settle.new.outcome in
+    let U1 = g.M.Medium.state c.settle.new.unit in
+    let V = g.M.Medium.state c.close-in-B.new.unit in
+    let X = g.D.Chip.state c.settle.new.card_b in
+    let Y = g.D.Chip.state c.close-in-B.new.card in
+    let Z = g.C.Chip.state c.settle.new.card_a in
+    let left_ = subst (λ (b : Cabin). IsGoingOn (Some B) (run.next / 60) (with_cabin b run) (g.M.Medium.state c.args.unit.now) (g.C.Chip.card c.args.card_a.now) (g.D.Chip.card c.args.card_b.now) (g.C.Chip.state c.args.card_a.now) (g.D.Chip.state c.args.card_b.now)) (sym c.leave.ensures.kept)
+    (left-going c.args.slot B second run (run.next / 60) c.requires.going (λ from h. subst (λ (b : Cabin). Stands from (Some B) b) c.leave.ensures.kept (c.leave.ensures.stands from B there h))) in
+    let going = c.in_ok-settle.ensures.going (Some B) left_ in
+    let moment = moment-is c.args.at s.number (suc (length front)) (c.requires.at ∙ sym now.number) n late in
+    let r = c.in_ok-settle.ensures.recorded in
+    let e = c.close-in-B.ensures in
+    let k = e.closed in
+    let unit_later = e.journal.later in
+    subst (λ (q : ℕ). GoesOnOrCut (is_err c.close-in-B.result) o done s (In q) [] c.close-in-B.new.run (record told { breaks = c.close-in-B.new.breaks }) (devices V Z Y)) (sym n)
+    (closing-recorded o done s front rest c.args.slot are speed now.speed_is B run between c.args.outcome.now told D w there allowed (c.in_ok-settle.ensures.settled.minutes w.within.sp w.within.minutes) r.0 (r.1 w.within.sp w.within.minutes)
+    g.D.Chip.state U1 V Z c.settle.new.card_b c.close-in-B.new.card (g.met.M.Medium.coherent c.settle.new.unit) (g.met.D.Chip.coherent c.settle.new.card_b) c.settle.ensures.held.card_b.size e.left e.bare e.journal (is_err c.close-in-B.result) e.cause e.more going.span going.stands going.next
+    (here-settled r.0 false c.args.slot c.args.at (acting_at s.number (suc (length front))) run between c.args.outcome.now told c.leave.new.self D (devices U1 Z X) c.leave.ensures.kept moment r.2)
+    (time-before B U1 V X Y Z unit_later e.clock_card time) c.args.at c.in_ok-settle.ensures.settled.decided (told_of (with_cabin c.leave.new.self run) c.args.outcome.now) c.in_ok-settle.ensures.settled.kept (ap (λ (b : Cabin). session_of b.cards B) c.leave.ensures.kept)
+    c.close-in-B.new.run c.close-in-B.new.breaks k.0 (subst (λ (m : Moment). IsClosed B c.args.slot m between c.close-in-B.new.run told.breaks c.close-in-B.new.breaks k.0) moment k.1) k.2)

@@ -1,0 +1,178 @@
+-- The session of a card that has left its slot is closed, behind the minutes that its leaving decides: what is recorded.
+use Rattle.std.proofs.Common.{◌≡◌, ◌∙◌, ◌⊎◌, ℕ, ◌+◌, ◌/◌, ◌≤◌, Bool, true, false, not, Option, Some, None, List, [], ◌∷◌, is_some, refl, ap, sym, subst, arith}
+use Rattle.std.specs.Prelude.{IfSome}
+use Rattle.activity_codec.specs.declared.values.Activity.{Activity}
+use Rattle.activity_codec.specs.declared.values.Slot.{Slot}
+use Rattle.trace_model.specs.declared.Card.{Card}
+use Rattle.trace_model.specs.Trace.{TraceSecond}
+use Rattle.run_model.specs.declared.Device.TheVariants.{Unit as Recorder}
+use Rattle.tach_media.specs.Medium.{State, IsCoherent, LeavesOnly, HasCause, HasBroken}
+use Rattle.tach_media.proofs.Runs.{if_told, at_image, weaken}
+use Rattle.card_layout.specs.declared.files.Application.{Application}
+use Rattle.card_layout.specs.declared.files.TheConstants.{LARGEST_IMAGE}
+use Rattle.card_layout.specs.Application.{IsApplication}
+use Rattle.card_layout.specs.Files.{image_size_of}
+use Rattle.card_layout.proofs.Sizes.{largest_image}
+use Rattle.card_image.specs.Own.{own_sizes, IsOwnValid}
+use Rattle.card_session.specs.Sessions.{IsSession}
+use Rattle.card_session.specs.Cards.{IsCardClosing}
+use Rattle.card_times.specs.Times.{AreTimedSince}
+use Rattle.card_times.proofs.Calls.{closing-timed}
+use Rattle.minute_model.specs.Span.{Span, end_of}
+use Rattle.minute_rules.specs.Kept.{StandsFor}
+use Rattle.log_model.specs.declared.lines.Break.{Break}
+use Rattle.log_model.specs.declared.lines.Break.TheVariants.{Tear}
+use Rattle.log_model.specs.Log.{In, phase_of}
+use Rattle.log_model.specs.Causes.{RoseBy}
+use Rattle.log_model.specs.Course.{went}
+use Rattle.unit_notes.specs.Journal.{LeavesJournal}
+use Rattle.unit_model.specs.Image.{odometer_at}
+use Rattle.unit_rule.specs.Odometer.{HasTravelled}
+use Rattle.unit_course.specs.Legs.{all_travelled}
+use Rattle.safety_model.specs.Safe.{Devices, breakdowns_of}
+use Rattle.run_crew.specs.declared.cards.Accepted.{Accepted}
+use Rattle.run_crew.specs.declared.cards.Cards.{Cards}
+use Rattle.run_crew.specs.declared.cabin.Cabin.{Cabin}
+use Rattle.run_crew.specs.Cards.{session_of, with_session}
+use Rattle.run_crew.specs.Cabin.{torn_out, with_session_of}
+use Rattle.run_rule.specs.Found.{Found, found_of}
+use Rattle.run_rule.specs.Between.{Carried}
+use Rattle.run_course.specs.Seconds.{kept_all}
+use Rattle.run_told.specs.Told.{AreFoundCards, IsOn, IsPowered, arranged}
+use Rattle.run_told.proofs.Parts.{CardLit, parts-of}
+use Rattle.run_told.proofs.Travelled.{travelled-noted}
+use Rattle.run_moments.specs.Reached.{IsTearAt}
+use Rattle.run_outcome.specs.Lines.{Listed}
+use Rattle.run_outcome.specs.declared.outcome.Outcome.{Outcome}
+use Rattle.run_keeping.specs.declared.keeper.Moment.{Moment}
+use Rattle.run_keeping.specs.Keeping.{tear_of, with_lines}
+use Rattle.run_keeping.proofs.Fates.{no-lines}
+use Rattle.run_keeping.proofs.CardBooked.{session-unset}
+use Rattle.run_recorded.specs.Origin.{Origin}
+use Rattle.run_within.specs.Recorded.{Values, carried}
+use Rattle.run_within.specs.Within.{IsLeaving, GoesOnSo, GoesOn, CutWithin}
+use Rattle.run_within.specs.Taking.{IsCalledLeaving, closed_values, fallen_values}
+use Rattle.run_within.proofs.Closing.{session-closed, closing-fails, leaving-torn, leaving-tear_fails}
+use Rattle.run_acts.specs.declared.run.Run.{Run}
+use Rattle.run_acts.specs.Power.{with_cabin}
+use Rattle.run_acts.specs.Acting.{Closing, Bare, Closed, Fell, closed_cabin, closed_breaks, closed_falls, IsClosingOf, IsClosed}
+use Rattle.run_acts.specs.Behind.{IsPoweredOrOff, carried_closed}
+use Rattle.run_acts.specs.Recording.{log_of, values_of, RunWithin, GoesOnOrCut}
+use Rattle.run_acts.proofs.Withdrawn.{closed-any}
+use Rattle.run_acts.proofs.NoteRecorded.{run-on, card-goes, unit-any, unit-of, to-unit, card-rose, rose-by, rose-on}
+
+-- when a card was last used, behind the closing of its session
+closed-timed : (f : Found) (w : Carried) (cards : Cards) (c : Card) (U X Y Z : State) → AreFoundCards f cards → IsCoherent X → LARGEST_IMAGE ≤ X.size → (a : Accepted) (act : Activity) → session_of cards c ≡ Some a → IsPowered f w cards (arranged c U X Z) →
+    LeavesOnly X Y (λ i n. IsSession a.session i → IsCardClosing a.session act i n) → IsOwnValid (found_of f c).image → AreTimedSince (found_of f c).image (found_of f c).began X → AreTimedSince (found_of f c).image (found_of f c).began Y
+closed-timed f w cards c U X Y Z found whole size a act has p run valid h =
+    let one : CardLit f w.book (w.standing c) (w.brought c) (Some a) c U X = subst (λ (o : Option Accepted). CardLit f w.book (w.standing c) (w.brought c) o c U X) has ((parts-of f w cards c U X Z p).mine valid) in
+    let on : IsOn (found_of f c) one.goes.has (w.standing c) a.session X = one.goes.goes in
+    let sound : IsApplication a.session.application = subst IsApplication (sym on.sizes) (found.sizes c valid) in
+    let fits = largest_image a.session.application sound in
+    closing-timed (found_of f c).image (found_of f c).began X Y one.rule.dark.later whole h a.session act sound (omega (arith, fits, size))
+    (if_told X.image (λ (x : List ℕ). own_sizes x ≡ a.session.application) (λ x is. (one.held.now x (whole.is_left x is)).0 ∙ sym on.sizes))
+    (weaken run (λ x n told closes. closes (at_image (IsSession a.session) told on.session)))
+
+module _ {C : Type 0} (state : C → State) (c : Card) (slot : Slot) (at : Moment) (run : Run) (told : Outcome) (U V Z : State) (x y : C) (unit_whole : IsCoherent U) (whole : IsCoherent (state x)) (size : LARGEST_IMAGE ≤ (state x).size)
+    (left : IfSome (session_of run.keeper.cabin.cards c) (λ s. (act : Activity) × LeavesOnly (state x) (state y) (λ i n. IsSession s.session i → IsCardClosing s.session act i n))) (still : session_of run.keeper.cabin.cards c ≡ None → y ≡ x)
+    (unit : LeavesOnly U V LeavesJournal) (failed : Bool) (cause : HasCause U V failed) (more : (state x).breakdowns ≤ (state y).breakdowns) (span : Span) (stands : StandsFor run.minutes span) (ends : end_of span ≡ run.next)
+    (o : Origin) (done : List TraceSecond) (s : TraceSecond) (n : ℕ) (moment : at ≡ record { second = s.number; begun = n; late = false }) (w : RunWithin o done s (In n) [] [] run told (arranged c U (state x) Z)) (from : w.within.from ≡ s.number / 60)
+    (leaving : is_some (session_of run.keeper.cabin.cards c) ≡ true → IsLeaving (log_of told) (went w.within.b.run.log done).before s (In n) (s.number / 60) (s.number / 60) run.keeper.cabin slot c) where
+  abbrev d : Devices
+  d = arranged c U (state x) Z
+
+  abbrev e : Devices
+  e = arranged c V (state y) Z
+
+  abbrev v : Values
+  v = values_of run told
+
+  abbrev carries : Carried
+  carries = carried v w.within.due (kept_all w.within.new w.within.b.run.book) w.within.standing w.within.brought
+
+  began : o.found.unit.began ≤ U.clock
+  began = ((parts-of o.found carries run.keeper.cabin.cards c U (state x) Z w.within.powered).unit.unit.unit_holds [] []).later
+
+  travels : HasTravelled (odometer_at o.recording.unit) carries.book (all_travelled w.within.ds w.within.b.travel) e.unit
+  travels = to-unit c V (state y) Z (λ (u : State). HasTravelled (odometer_at o.recording.unit) carries.book (all_travelled w.within.ds w.within.b.travel) u)
+      (travelled-noted (odometer_at o.recording.unit) carries.book (all_travelled w.within.ds w.within.b.travel)
+      (unit-of c U (state x) Z (λ (u : State). HasTravelled (odometer_at o.recording.unit) carries.book (all_travelled w.within.ds w.within.b.travel) u) w.within.travels) unit_whole unit)
+
+  broke : failed ≡ true → RoseBy 1 (w.within.b.broken Recorder) (breakdowns_of e Recorder)
+  broke bad = to-unit c V (state y) Z (λ (u : State). RoseBy 1 (w.within.b.broken Recorder) u.breakdowns)
+      (rose-on (w.within.b.broken Recorder) U.breakdowns V.breakdowns (unit-of c U (state x) Z (λ (u : State). w.within.b.broken Recorder ≤ u.breakdowns) w.within.moment.unit)
+      (rose-by U.breakdowns V.breakdowns (cause.breaks (parts-of o.found carries run.keeper.cabin.cards c U (state x) Z w.within.powered).unit.works bad)))
+
+  second : at.second ≡ s.number
+  second = ap (λ (m : Moment). m.second) moment
+
+  -- it has a session
+  module _ (a : Accepted) (has : session_of run.keeper.cabin.cards c ≡ Some a) where
+    closes : (act : Activity) × LeavesOnly (state x) (state y) (λ i n. IsSession a.session i → IsCardClosing a.session act i n)
+    closes = subst (λ (o : Option Accepted). IfSome o (λ s. (act : Activity) × LeavesOnly (state x) (state y) (λ i n. IsSession s.session i → IsCardClosing s.session act i n))) has left
+
+    goes : GoesOnSo o run.keeper.cabin.cards d e
+    goes = card-goes o run.keeper.cabin.cards c U V (state x) (state y) Z began w.within.there (ap is_some has) unit closes.1 cause.breakdowns more
+        (λ valid. closed-timed o.found carries run.keeper.cabin.cards c U (state x) (state y) Z w.within.found whole size a closes.0 has w.within.powered closes.1 valid)
+
+    called : IsCalledLeaving o done s (In n) v d e w.within slot c
+    called = record { low = s.number / 60; leaving = leaving (ap is_some has); is_now = from; goes = goes; travels = travels }
+
+    -- it is closed
+    closed : (b : Bool) → failed ≡ b → IsPoweredOrOff b o.found (carried_closed Closed c carries) (with_session c None run.keeper.cabin.cards) e → GoesOnOrCut b o done s (In n) [] (with_cabin (with_session_of c None run.keeper.cabin) run) told e
+    closed false is powered = run-on o done s (In n) (In n) [] [] [] [] run (with_cabin (with_session_of c None run.keeper.cabin) run) told told d e w.within.from w refl refl (session-closed d e o done s (In n) v w.within slot c called powered)
+    closed true is powerless = record {
+      waits = [];
+      cabin = with_session_of c None run.keeper.cabin;
+      same = refl;
+      within = closing-fails d e o done s (In n) v w.within slot c called powerless (broke is) (λ keeping. cc);
+    }
+
+    -- or the card fell
+    tear-here : IsTearAt s (In n) slot true (tear_of slot at)
+    tear-here = (
+      n,
+      false,
+      ap (tear_of slot) moment,
+      refl,
+      w.within.moment.is,
+      λ late. absurd (cc),
+    )
+
+    fell : HasBroken (state x) (state y) 1 → (b : Bool) → failed ≡ b → IsPoweredOrOff b o.found (carried_closed Fell c carries) (with_session c None (with_session c None run.keeper.cabin.cards)) e →
+        GoesOnOrCut b o done s (In n) [] (with_cabin (torn_out c at.second (with_session_of c None run.keeper.cabin)) run) (record told { breaks = with_lines (tear_of slot at ∷ []) told.breaks }) e
+    fell broken false is powered = run-on o done s (In n) (In n) [] [] [] [] run (with_cabin (torn_out c at.second (with_session_of c None run.keeper.cabin)) run) told (record told { breaks = with_lines (tear_of slot at ∷ []) told.breaks }) d e w.within.from w refl refl
+        (subst (λ (u : ℕ). GoesOn o done s (In n) [] None [] (fallen_values (tear_of slot at) c u v) e w.within.b w.within.from) (sym second)
+        (leaving-torn d e o done s (In n) v w.within slot c called (tear_of slot at) tear-here (record { more = goes.breakdowns; broke = card-rose c U V (state x) (state y) Z (rose-by (state x).breakdowns (state y).breakdowns broken.breakdowns) }) powered))
+    fell broken true is powerless = record {
+      waits = [];
+      cabin = torn_out c at.second (with_session_of c None run.keeper.cabin);
+      same = refl;
+      within = subst (λ (u : ℕ). CutWithin o done s (In n) [] None (fallen_values (tear_of slot at) c u v) e) (sym second)
+          (leaving-tear_fails d e o done s (In n) v w.within slot c called (tear_of slot at) tear-here (record { more = goes.breakdowns; broke = card-rose c U V (state x) (state y) Z (rose-by (state x).breakdowns (state y).breakdowns broken.breakdowns) })
+          powerless (broke is) (λ keeping. cc));
+    }
+
+  -- SO IT IS RECORDED, whatever became of it
+  pub closed-recorded : (new : Run) (after : Listed Break) (closing : Closing) → IsClosed c slot at run new told.breaks after closing → HasBroken (state x) (state y) (closed_falls closing) → GoesOnOrCut failed o done s (In n) [] new (record told { breaks = after }) (arranged c V (state y) Z)
+  closed-recorded new after closing is broken =
+      subst (λ (r : Run). GoesOnOrCut failed o done s (In n) [] r (record told { breaks = after }) e) (sym is.run)
+      (subst (λ (l : Listed Break). GoesOnOrCut failed o done s (In n) [] (with_cabin (closed_cabin closing c at.second run.keeper.cabin) run) (record told { breaks = l }) e) (sym is.told)
+      (by (session_of run.keeper.cabin.cards c) refl closing is.is broken))
+    where
+      powered : (closing : Closing) → IsClosingOf (session_of run.keeper.cabin.cards c) closing → IsPoweredOrOff failed o.found (carried_closed closing c carries) (closed_cabin closing c at.second run.keeper.cabin).cards e
+      powered closing how = closed-any state o.found carries c at.second run.keeper.cabin U V Z x y w.within.found unit_whole whole size w.within.powered left still unit failed cause.works closing how
+
+      by : (q : Option Accepted) → session_of run.keeper.cabin.cards c ≡ q → (closing : Closing) → IsClosingOf (session_of run.keeper.cabin.cards c) closing → HasBroken (state x) (state y) (closed_falls closing) →
+          GoesOnOrCut failed o done s (In n) [] (with_cabin (closed_cabin closing c at.second run.keeper.cabin) run) (record told { breaks = with_lines (closed_breaks closing slot at) told.breaks }) e
+      by None has Bare how broke_ =
+          subst (λ (q : Cards). GoesOnOrCut failed o done s (In n) [] (with_cabin (record run.keeper.cabin { cards = q }) run) (record told { breaks = with_lines [] told.breaks }) e) (sym (session-unset c run.keeper.cabin.cards has))
+          (subst (λ (l : Listed Break). GoesOnOrCut failed o done s (In n) [] run (record told { breaks = l }) e) (no-lines told.breaks)
+          (subst (λ (z : C). GoesOnOrCut failed o done s (In n) [] run told (arranged c V (state z) Z)) (sym (still has)) (unit-any c o done s n run told U V (state x) Z unit_whole unit span stands ends w failed cause)))
+      by None has Closed how broke_ = absurd (subst (λ (q : Option Accepted). IsClosingOf q Closed) has how)
+      by None has Fell how broke_ = absurd (subst (λ (q : Option Accepted). IsClosingOf q Fell) has how)
+      by (Some a) has Bare how broke_ = absurd (subst (λ (q : Option Accepted). IsClosingOf q Bare) has how)
+      by (Some a) has Closed how broke_ =
+          subst (λ (l : Listed Break). GoesOnOrCut failed o done s (In n) [] (with_cabin (with_session_of c None run.keeper.cabin) run) (record told { breaks = l }) e) (no-lines told.breaks)
+          (closed a has failed refl (powered Closed how))
+      by (Some a) has Fell how broke_ = fell a has broke_ failed refl (powered Fell how)

@@ -1,0 +1,402 @@
+-- A note at a moment of a second: what is recorded behind it.
+use Rattle.std.proofs.Common.{◌≡◌, ◌∙◌, ◌⊎◌, inl, inr, ⊎_elim, ℕ, suc, ◌+◌, ◌/◌, ◌<◌, ◌≤◌, Bool, true, false, not, Option, Some, None, List, [], ◌∷◌, ◌++◌, is_some, length, refl, ap, sym, subst, arith}
+use Rattle.std.specs.Prelude.{min, IfSome}
+use Rattle.std.proofs.lemmas.Bool.{cases_lt}
+use Rattle.trace_model.specs.declared.Card.{Card}
+use Rattle.trace_model.specs.declared.Card.TheVariants.{A, B}
+use Rattle.trace_model.specs.declared.Action.{Action}
+use Rattle.trace_model.specs.declared.Action.TheVariants.{Place}
+use Rattle.trace_model.specs.Trace.{TraceSecond}
+use Rattle.run_model.specs.declared.Device.{Device}
+use Rattle.run_model.specs.declared.Device.TheVariants.{Unit as Recorder, CardA, CardB}
+use Rattle.activity_codec.specs.declared.values.Slot.{Slot}
+use Rattle.tach_media.specs.Medium.{State, IsCoherent, LeavesOnly, HasCause, HasBroken, Rose, last_count}
+use Rattle.card_layout.specs.declared.files.TheConstants.{LARGEST_IMAGE}
+use Rattle.card_session.specs.Sessions.{IsValue}
+use Rattle.card_image.specs.Own.{IsOwnValid}
+use Rattle.card_times.specs.Times.{AreTimedSince}
+use Rattle.minute_model.specs.declared.Minute.{Minute}
+use Rattle.minute_model.specs.Span.{Span, end_of, ungiven_of}
+use Rattle.minute_model.proofs.Counted.{ungiven-most}
+use Rattle.minute_rules.specs.Kept.{Kept, StandsFor}
+use Rattle.log_model.specs.declared.lines.Break.{Break}
+use Rattle.log_model.specs.declared.lines.Break.TheVariants.{Tear}
+use Rattle.log_model.specs.Log.{Phase, In, Keeping, phase_of}
+use Rattle.log_model.specs.Causes.{RoseBy, device_of}
+use Rattle.log_model.specs.Course.{Visit}
+use Rattle.unit_notes.specs.Journal.{LeavesJournal}
+use Rattle.unit_model.specs.Image.{odometer_at}
+use Rattle.unit_rule.specs.Odometer.{odometer_after, HasTravelled}
+use Rattle.unit_course.specs.Legs.{all_travelled}
+use Rattle.safety_model.specs.Safe.{Devices, card_of, breakdowns_of}
+use Rattle.log_model.specs.Slots.{refusal}
+use Rattle.slot_machine.specs.Calls.{seat_in, card_in, logged}
+use Rattle.device_steps.specs.CardNotes.{IsNote}
+use Rattle.run_crew.specs.declared.cards.Accepted.{Accepted}
+use Rattle.run_crew.specs.declared.cards.Cards.{Cards}
+use Rattle.run_crew.specs.Cards.{session_of, with_session}
+use Rattle.run_crew.specs.Cabin.{Stands, torn_out}
+use Rattle.run_rule.specs.Found.{found_of}
+use Rattle.run_rule.specs.Cards.{IsUntouched}
+use Rattle.run_rule.specs.Between.{Carried, devices}
+use Rattle.run_course.specs.Seconds.{kept_all}
+use Rattle.run_told.specs.Told.{arranged, with_standing}
+use Rattle.run_told.proofs.Parts.{parts-of}
+use Rattle.run_told.proofs.Noted.{noted-powered, noted-powerless}
+use Rattle.run_told.proofs.Travelled.{travelled-noted}
+use Rattle.run_outcome.specs.Lines.{Listed}
+use Rattle.run_outcome.specs.declared.outcome.Outcome.{Outcome}
+use Rattle.run_recorded.specs.Origin.{Origin}
+use Rattle.run_keeping.specs.declared.keeper.Moment.{Moment}
+use Rattle.run_keeping.specs.Keeping.{tear_of, with_lines}
+use Rattle.run_keeping.proofs.Fates.{no-lines}
+use Rattle.run_within.specs.Recorded.{Values, AreThere, carried}
+use Rattle.run_within.specs.Within.{Beginning, GoesOnSo, Within, CutWithin, GoesOn}
+use Rattle.run_within.specs.Judging.{torn_values}
+use Rattle.run_within.specs.Taking.{fallen, IsCalledSeated}
+use Rattle.run_within.proofs.Steps.{call-recorded, failure-recorded}
+use Rattle.run_within.proofs.Acting.{place-recorded}
+use Rattle.run_within.proofs.Seated.{seated-torn, seated-tear_fails}
+use Rattle.run_acts.specs.declared.run.Run.{Run}
+use Rattle.run_acts.specs.Power.{with_cabin}
+use Rattle.run_acts.specs.Acting.{IsNotedOn, falls_by}
+use Rattle.run_acts.specs.Behind.{IsPoweredOrOff}
+use Rattle.run_acts.specs.Recording.{values_of, RunWithin, RunFails, GoesOnOrCut, IsNow}
+use Rattle.run_acts.specs.Noting.{carried_noted, IsNoteRecorded}
+use Rattle.run_acts.proofs.Cabins.{noted_cabin}
+use Rattle.run_acts.proofs.Apart.{some-one}
+use Rattle.run_acts.proofs.Asked.{allowed-in}
+use Rattle.run_acts.proofs.NotedOn.{noted-books, noted-timed}
+
+-- ---- the devices
+
+pub rose-by : (before now : ℕ) → Rose before now → RoseBy 1 before now
+rose-by before now rose = ⊎_elim (λ less. inr (omega (arith, rose, less))) (λ all. inl all) (cases_lt now (before + 1))
+
+pub rose-on : (first before now : ℕ) → first ≤ before → RoseBy 1 before now → RoseBy 1 first now
+rose-on first before now le (inl low) = inl (omega (arith, le, low))
+rose-on first before now le (inr top) = inr top
+
+module _ (o : Origin) (cards : Cards) {R : List ℕ → List ℕ → Type 0} where
+  -- a call on the unit
+  pub unit-goes : (U V X Y : State) → o.found.unit.began ≤ U.clock → LeavesOnly U V R → U.breakdowns ≤ V.breakdowns → GoesOnSo o cards (devices U X Y) (devices V X Y)
+  unit-goes U V X Y began unit more = record {
+    breakdowns = breakdowns;
+    left = record { unit = λ x h. unit.keeps o.found.unit.began x began h; card = left };
+    there = λ t. record { unit = unit.tells ∙ t.unit; cards = told t; clocks = clocks t; timed = used t };
+    untouched = untouched;
+  }
+    where
+      used : AreThere o.found (devices U X Y) → (k : Card) → IsOwnValid (found_of o.found k).image → AreTimedSince (found_of o.found k).image (found_of o.found k).began (card_of (devices V X Y) k)
+      used t A = t.timed A
+      used t B = t.timed B
+
+      breakdowns : (device : Device) → breakdowns_of (devices U X Y) device ≤ breakdowns_of (devices V X Y) device
+      breakdowns Recorder = more
+      breakdowns CardA = omega arith
+      breakdowns CardB = omega arith
+
+      left : (k : Card) (x : List ℕ) → (card_of (devices U X Y) k).left_since (found_of o.found k).began x → (card_of (devices V X Y) k).left_since (found_of o.found k).began x
+      left A x h = h
+      left B x h = h
+
+      told : AreThere o.found (devices U X Y) → (k : Card) → is_some (card_of (devices V X Y) k).image ≡ true
+      told t A = t.cards A
+      told t B = t.cards B
+
+      clocks : AreThere o.found (devices U X Y) → (k : Card) → (found_of o.found k).began ≤ (card_of (devices V X Y) k).clock
+      clocks t A = t.clocks A
+      clocks t B = t.clocks B
+
+      untouched : (k : Card) → IsUntouched (found_of o.found k) (card_of (devices U X Y) k) → IsUntouched (found_of o.found k) (card_of (devices V X Y) k) ⊎ (is_some (session_of cards k) ≡ true)
+      untouched A h = inl h
+      untouched B h = inl h
+
+module _ (o : Origin) (cards : Cards) {R S : List ℕ → List ℕ → Type 0} where
+  -- on a card with a session, and behind it on the unit
+  pub card-goes : (c : Card) (U V X Y Z : State) → o.found.unit.began ≤ U.clock → AreThere o.found (arranged c U X Z) → is_some (session_of cards c) ≡ true → LeavesOnly U V R → LeavesOnly X Y S → U.breakdowns ≤ V.breakdowns → X.breakdowns ≤ Y.breakdowns
+      → (IsOwnValid (found_of o.found c).image → AreTimedSince (found_of o.found c).image (found_of o.found c).began X → AreTimedSince (found_of o.found c).image (found_of o.found c).began Y)
+      → GoesOnSo o cards (arranged c U X Z) (arranged c V Y Z)
+  card-goes A U V X Y Z began there some unit card unit_more card_more times = record {
+    breakdowns = breakdowns;
+    left = record { unit = λ x h. unit.keeps o.found.unit.began x began h; card = left };
+    there = λ t. record { unit = unit.tells ∙ t.unit; cards = told t; clocks = clocks t; timed = used t };
+    untouched = untouched;
+  }
+    where
+      used : AreThere o.found (devices U X Z) → (k : Card) → IsOwnValid (found_of o.found k).image → AreTimedSince (found_of o.found k).image (found_of o.found k).began (card_of (devices V Y Z) k)
+      used t A = λ valid. times valid (t.timed A valid)
+      used t B = t.timed B
+
+      breakdowns : (device : Device) → breakdowns_of (devices U X Z) device ≤ breakdowns_of (devices V Y Z) device
+      breakdowns Recorder = unit_more
+      breakdowns CardA = card_more
+      breakdowns CardB = omega arith
+
+      left : (k : Card) (x : List ℕ) → (card_of (devices U X Z) k).left_since (found_of o.found k).began x → (card_of (devices V Y Z) k).left_since (found_of o.found k).began x
+      left A x h = card.keeps o.found.card_a.began x (there.clocks A) h
+      left B x h = h
+
+      told : AreThere o.found (devices U X Z) → (k : Card) → is_some (card_of (devices V Y Z) k).image ≡ true
+      told t A = card.tells ∙ t.cards A
+      told t B = t.cards B
+
+      clocks : AreThere o.found (devices U X Z) → (k : Card) → (found_of o.found k).began ≤ (card_of (devices V Y Z) k).clock
+      clocks t A = let was = t.clocks A in let later = card.later in omega (arith, was, later)
+      clocks t B = t.clocks B
+
+      untouched : (k : Card) → IsUntouched (found_of o.found k) (card_of (devices U X Z) k) → IsUntouched (found_of o.found k) (card_of (devices V Y Z) k) ⊎ (is_some (session_of cards k) ≡ true)
+      untouched A h = inr some
+      untouched B h = inl h
+  card-goes B U V X Y Z began there some unit card unit_more card_more times = record {
+    breakdowns = breakdowns;
+    left = record { unit = λ x h. unit.keeps o.found.unit.began x began h; card = left };
+    there = λ t. record { unit = unit.tells ∙ t.unit; cards = told t; clocks = clocks t; timed = used t };
+    untouched = untouched;
+  }
+    where
+      used : AreThere o.found (devices U Z X) → (k : Card) → IsOwnValid (found_of o.found k).image → AreTimedSince (found_of o.found k).image (found_of o.found k).began (card_of (devices V Z Y) k)
+      used t A = t.timed A
+      used t B = λ valid. times valid (t.timed B valid)
+
+      breakdowns : (device : Device) → breakdowns_of (devices U Z X) device ≤ breakdowns_of (devices V Z Y) device
+      breakdowns Recorder = unit_more
+      breakdowns CardA = omega arith
+      breakdowns CardB = card_more
+
+      left : (k : Card) (x : List ℕ) → (card_of (devices U Z X) k).left_since (found_of o.found k).began x → (card_of (devices V Z Y) k).left_since (found_of o.found k).began x
+      left A x h = h
+      left B x h = card.keeps o.found.card_b.began x (there.clocks B) h
+
+      told : AreThere o.found (devices U Z X) → (k : Card) → is_some (card_of (devices V Z Y) k).image ≡ true
+      told t A = t.cards A
+      told t B = card.tells ∙ t.cards B
+
+      clocks : AreThere o.found (devices U Z X) → (k : Card) → (found_of o.found k).began ≤ (card_of (devices V Z Y) k).clock
+      clocks t A = t.clocks A
+      clocks t B = let was = t.clocks B in let later = card.later in omega (arith, was, later)
+
+      untouched : (k : Card) → IsUntouched (found_of o.found k) (card_of (devices U Z X) k) → IsUntouched (found_of o.found k) (card_of (devices V Z Y) k) ⊎ (is_some (session_of cards k) ≡ true)
+      untouched A h = inl h
+      untouched B h = inr some
+
+-- ---- the record by value
+
+-- THE RUN GOES ON, where the record does
+pub run-on : (o : Origin) (done : List TraceSecond) (s : TraceSecond) (at next : Phase) (waits fewer : List Visit) (rest more : List Minute) (run new : Run) (out after : Outcome) (d e : Devices) (first : ℕ) → (w : RunWithin o done s at waits rest run out d) →
+    new.power ≡ run.power → new.keeper.odometer ≡ run.keeper.odometer → GoesOn o done s next fewer None more (values_of new after) e w.within.b first → RunWithin o done s next fewer more new after e
+run-on o done s at next waits fewer rest more run new out after d e first w power odometer g = record {
+  origin = w.origin;
+  lit = power ∙ w.lit;
+  within = g.within;
+  odometer = odometer ∙ w.odometer ∙ ap (λ (b : Beginning). odometer_after (odometer_at o.recording.unit) b.travel.before) (sym g.began);
+}
+
+-- The first minute that is still to be kept is no later than this one, and one of the last five.
+module _ (o : Origin) (done : List TraceSecond) (s : TraceSecond) (at : Phase) (waits : List Visit) (run : Run) (out : Outcome) (d : Devices) (w : Within o done s at waits None [] (values_of run out) d) (span : Span) (stands : StandsFor run.minutes span) (ends : end_of span ≡ run.next) where
+  pub number : s.number ≡ run.next
+  number = w.moment.number ∙ sym w.next
+
+  same-end : end_of w.sp ≡ end_of span
+  same-end = sym (ap (λ (k : Kept). k.next) w.minutes.kept) ∙ ap (λ (k : Kept). k.next) stands.kept
+
+  pub from-low : w.from ≤ s.number / 60
+  from-low = let most = ungiven-most w.sp w.minutes.settled in let to = w.until in let n = number in let e = same-end in omega (arith, most, to, n, e, ends)
+
+  pub from-few : run.next / 60 ≤ ungiven_of span + 4 → s.number / 60 ≤ w.from + 4
+  from-few few =
+      let mine = ungiven-most w.sp w.minutes.settled in
+      let theirs = ungiven-most span stands.settled in
+      let owing = sym (ap (λ (k : Kept). k.owing) w.minutes.kept) ∙ ap (λ (k : Kept). k.owing) stands.kept in
+      let to = w.until in let n = number in let e = same-end in
+      omega (arith, mine, theirs, owing, to, n, e, ends, few)
+
+-- ---- A NOTE ON THE UNIT
+
+module _ (o : Origin) (done : List TraceSecond) (s : TraceSecond) (n : ℕ) (run : Run) (out : Outcome) (U V X Y : State) (whole : IsCoherent U) (unit : LeavesOnly U V LeavesJournal) (span : Span) (stands : StandsFor run.minutes span) (ends : end_of span ≡ run.next)
+    (w : RunWithin o done s (In n) [] [] run out (devices U X Y)) where
+  abbrev noted-carries : Carried
+  noted-carries = carried (values_of run out) w.within.due (kept_all w.within.new w.within.b.run.book) w.within.standing w.within.brought
+
+  unit-began : o.found.unit.began ≤ U.clock
+  unit-began = (w.within.powered.lit.unit.unit_holds [] []).later
+
+  pub unit-recorded : (failed : Bool) → HasCause U V failed → GoesOnOrCut failed o done s (In n) [] run out (devices V X Y)
+  unit-recorded false cause = run-on o done s (In n) (In n) [] [] [] [] run run out out (devices U X Y) (devices V X Y) w.within.from w refl refl
+      (call-recorded (devices U X Y) (devices V X Y) o done s (In n) [] None [] (values_of run out) w.within (record {
+        goes = unit-goes o run.keeper.cabin.cards U V X Y unit-began unit cause.breakdowns;
+        powered = noted-powered o.found noted-carries run.keeper.cabin.cards U V X Y w.within.found whole w.within.powered unit cause.works;
+        travels = travelled-noted (odometer_at o.recording.unit) noted-carries.book (all_travelled w.within.ds w.within.b.travel) w.within.travels whole unit;
+      }))
+  unit-recorded true cause = record {
+    waits = [];
+    cabin = run.keeper.cabin;
+    same = refl;
+    within = failure-recorded (devices U X Y) (devices V X Y) o done s (In n) [] None [] (values_of run out) w.within (record {
+      goes = unit-goes o run.keeper.cabin.cards U V X Y unit-began unit cause.breakdowns;
+      broke = rose-on (w.within.b.broken Recorder) U.breakdowns V.breakdowns w.within.moment.unit (rose-by U.breakdowns V.breakdowns (cause.breaks w.within.powered.lit.works refl));
+      unfed = λ _. refl;
+      feeds = λ keeping. absurd (cc);
+      lost = None;
+      others = [];
+      parts = refl;
+      due = w.within.due;
+      due_later = omega arith;
+      due_late = let late = w.within.late in let low = from-low o done s (In n) [] run out (devices U X Y) w.within span stands ends in omega (arith, late, low);
+      low = from-low o done s (In n) [] run out (devices U X Y) w.within span stands ends;
+      standing = w.within.standing;
+      powerless = noted-powerless o.found noted-carries run.keeper.cabin.cards U V X Y w.within.found whole w.within.powered unit;
+      travels = travelled-noted (odometer_at o.recording.unit) noted-carries.book (all_travelled w.within.ds w.within.b.travel) w.within.travels whole unit;
+    });
+  }
+
+-- ---- A NOTE ON A CARD, and where that failed its tear, which is noted on the unit
+
+-- the unit among three devices
+pub unit-of : (c : Card) (U X Z : State) (P : State → Type 0) → P (arranged c U X Z).unit → P U
+unit-of A U X Z P h = h
+unit-of B U X Z P h = h
+
+pub to-unit : (c : Card) (U X Z : State) (P : State → Type 0) → P U → P (arranged c U X Z).unit
+to-unit A U X Z P h = h
+to-unit B U X Z P h = h
+
+-- and the card
+pub card-rose : (c : Card) (U V X Y Z : State) → RoseBy 1 X.breakdowns Y.breakdowns → RoseBy 1 (breakdowns_of (arranged c U X Z) (device_of c)) (breakdowns_of (arranged c V Y Z) (device_of c))
+card-rose A U V X Y Z rose = rose
+card-rose B U V X Y Z rose = rose
+
+module _ (c : Card) (slot : Slot) (at : Moment) (run : Run) (breaks : Listed Break) (U V X Y Z : State) (unit_whole : IsCoherent U) (whole : IsCoherent X) (later : IsCoherent Y) (size : LARGEST_IMAGE ≤ X.size) (a : Accepted) (value : IsValue a.session)
+    (has : session_of run.keeper.cabin.cards c ≡ Some a) (seat : card_in (seat_in run.keeper.cabin.slots.seats slot) ≡ Some c) (second : at.second ≡ run.next) (late : at.late ≡ false) (span : Span) (stands : StandsFor run.minutes span) (ends : end_of span ≡ run.next) (cabin : Stands (ungiven_of span) None run.keeper.cabin)
+    (card : LeavesOnly X Y (IsNote a.session.application)) (unit : LeavesOnly U V LeavesJournal) (failed : Bool) (cause : HasCause U V failed) where
+  abbrev d : Devices
+  d = arranged c U X Z
+
+  abbrev e : Devices
+  e = arranged c V Y Z
+
+  module _ (o : Origin) (done : List TraceSecond) (s : TraceSecond) (out : Outcome) (w : RunWithin o done s (In at.begun) [] [] run (record out { breaks = breaks }) d) where
+    abbrev v : Values
+    v = values_of run (record out { breaks = breaks })
+
+    abbrev carries : Carried
+    carries = carried v w.within.due (kept_all w.within.new w.within.b.run.book) w.within.standing w.within.brought
+
+    began : o.found.unit.began ≤ U.clock
+    began = ((parts-of o.found carries run.keeper.cabin.cards c U X Z w.within.powered).unit.unit.unit_holds [] []).later
+
+    goes : X.breakdowns ≤ Y.breakdowns → GoesOnSo o run.keeper.cabin.cards d e
+    goes more = card-goes o run.keeper.cabin.cards c U V X Y Z began w.within.there (ap is_some has) unit card cause.breakdowns more
+        (λ valid. noted-timed o.found carries run.keeper.cabin.cards run.keeper.cabin.cards c U X Y Z w.within.found unit_whole whole later size a value has w.within.powered card valid)
+
+    travels : HasTravelled (odometer_at o.recording.unit) carries.book (all_travelled w.within.ds w.within.b.travel) e.unit
+    travels = to-unit c V Y Z (λ (u : State). HasTravelled (odometer_at o.recording.unit) carries.book (all_travelled w.within.ds w.within.b.travel) u)
+        (travelled-noted (odometer_at o.recording.unit) carries.book (all_travelled w.within.ds w.within.b.travel)
+        (unit-of c U X Z (λ (u : State). HasTravelled (odometer_at o.recording.unit) carries.book (all_travelled w.within.ds w.within.b.travel) u) w.within.travels) unit_whole unit)
+
+    broke : failed ≡ true → RoseBy 1 (w.within.b.broken Recorder) (breakdowns_of e Recorder)
+    broke bad = to-unit c V Y Z (λ (u : State). RoseBy 1 (w.within.b.broken Recorder) u.breakdowns)
+        (rose-on (w.within.b.broken Recorder) U.breakdowns V.breakdowns (unit-of c U X Z (λ (u : State). w.within.b.broken Recorder ≤ u.breakdowns) w.within.moment.unit)
+        (rose-by U.breakdowns V.breakdowns (cause.breaks (parts-of o.found carries run.keeper.cabin.cards c U X Z w.within.powered).unit.works bad)))
+
+    low : w.within.from ≤ s.number / 60
+    low = from-low o done s (In at.begun) [] run (record out { breaks = breaks }) d w.within span stands ends
+
+    here : at.second ≡ s.number
+    here = second ∙ sym (number o done s (In at.begun) [] run (record out { breaks = breaks }) d w.within span stands ends)
+
+    books : (fell : Bool) → HasCause X Y fell → (floor : ℕ) → IsPoweredOrOff failed o.found (carried_noted fell c floor carries) (noted_cabin fell c at.second run).cards e
+    books fell on_card floor = noted-books c at.second run U V X Y Z unit_whole whole later size a value has card unit failed cause.works fell on_card o.found carries floor w.within.found w.within.powered
+
+    -- it is there
+    still : HasCause X Y false → (b : Bool) → failed ≡ b → IsPoweredOrOff b o.found carries run.keeper.cabin.cards e → GoesOnOrCut b o done s (In at.begun) [] run (record out { breaks = breaks }) e
+    still on_card false is powered = run-on o done s (In at.begun) (In at.begun) [] [] [] [] run run (record out { breaks = breaks }) (record out { breaks = breaks }) d e w.within.from w refl refl
+        (call-recorded d e o done s (In at.begun) [] None [] v w.within (record { goes = goes on_card.breakdowns; powered = powered; travels = travels }))
+    still on_card true is powerless = record {
+      waits = [];
+      cabin = run.keeper.cabin;
+      same = refl;
+      within = failure-recorded d e o done s (In at.begun) [] None [] v w.within (record {
+        goes = goes on_card.breakdowns;
+        broke = broke is;
+        unfed = λ _. refl;
+        feeds = λ keeping. absurd (cc);
+        lost = None;
+        others = [];
+        parts = refl;
+        due = w.within.due;
+        due_later = omega arith;
+        due_late = let due = w.within.late in let from = low in omega (arith, due, from);
+        low = low;
+        standing = w.within.standing;
+        powerless = powerless;
+        travels = travels;
+      });
+    }
+
+    -- or the card fell
+    called : HasCause X Y true → HasBroken X Y 1 → IsCalledSeated o done s (In at.begun) v d e w.within slot c (tear_of slot at)
+    called on_card broken = record {
+      sits_ = seat;
+      session = ap is_some has;
+      low = ungiven_of span;
+      stands = cabin;
+      here = (at.begun, at.late, ap (λ (n : ℕ). Tear n slot true at.begun at.late) here, ap (λ (l : Bool). phase_of at.begun l) late, w.within.moment.is, λ yes. absurd (cc));
+      broke = record { more = (goes on_card.breakdowns).breakdowns; broke = card-rose c U V X Y Z (rose-by X.breakdowns Y.breakdowns broken.breakdowns) };
+      goes = goes on_card.breakdowns;
+      travels = travels;
+    }
+
+    fell : HasCause X Y true → HasBroken X Y 1 → (b : Bool) → failed ≡ b → IsPoweredOrOff b o.found (with_standing c (fallen w.within.from (w.within.standing c)) carries) (with_session c None run.keeper.cabin.cards) e
+        → GoesOnOrCut b o done s (In at.begun) [] (with_cabin (torn_out c at.second run.keeper.cabin) run) (record out { breaks = with_lines (tear_of slot at ∷ []) breaks }) e
+    fell on_card broken false is powered = run-on o done s (In at.begun) (In at.begun) [] [] [] [] run (with_cabin (torn_out c at.second run.keeper.cabin) run) (record out { breaks = breaks }) (record out { breaks = with_lines (tear_of slot at ∷ []) breaks }) d e w.within.from w refl refl
+        (subst (λ (n : ℕ). GoesOn o done s (In at.begun) [] None [] (torn_values (tear_of slot at) (torn_out c n run.keeper.cabin) v) e w.within.b w.within.from) (sym here)
+        (seated-torn d e o done s (In at.begun) v w.within slot c (tear_of slot at) (called on_card broken) powered))
+    fell on_card broken true is powerless = record {
+      waits = [];
+      cabin = torn_out c at.second run.keeper.cabin;
+      same = refl;
+      within = subst (λ (n : ℕ). CutWithin o done s (In at.begun) [] None (torn_values (tear_of slot at) (torn_out c n run.keeper.cabin) v) e) (sym here)
+          (seated-tear_fails d e o done s (In at.begun) v w.within slot c (tear_of slot at) (called on_card broken) powerless (broke is) (λ keeping. cc));
+    }
+
+    -- so a note that went so is recorded
+    noted : (fell_ : Bool) (new : Run) (after : Listed Break) → IsNotedOn c slot at run new breaks after fell_ → HasBroken X Y (falls_by fell_) → HasCause X Y fell_ → GoesOnOrCut failed o done s (In at.begun) [] new (record out { breaks = after }) e
+    noted false new after is broken on_card =
+        let same : breaks ≡ after = no-lines breaks ∙ sym is.told in
+        subst (λ (r : Run). GoesOnOrCut failed o done s (In at.begun) [] r (record out { breaks = after }) e) (sym is.run)
+        (subst (λ (l : Listed Break). GoesOnOrCut failed o done s (In at.begun) [] run (record out { breaks = l }) e) same (still on_card failed refl (books false on_card 0)))
+    noted true new after is broken on_card =
+        subst (λ (r : Run). GoesOnOrCut failed o done s (In at.begun) [] r (record out { breaks = after }) e) (sym is.run)
+        (subst (λ (l : Listed Break). GoesOnOrCut failed o done s (In at.begun) [] (with_cabin (torn_out c at.second run.keeper.cabin) run) (record out { breaks = l }) e) (sym is.told)
+        (fell on_card broken failed refl (books true on_card w.within.from)))
+
+  pub note-recorded : (new : Run) (after : Listed Break) (fell : Bool) → IsNotedOn c slot at run new breaks after fell → HasBroken X Y (falls_by fell) → HasCause X Y fell → IsNoteRecorded (In at.begun) failed run new breaks after (arranged c U X Z) (arranged c V Y Z)
+  note-recorded new after fell is broken on_card = λ o done s out w. noted o done s out w fell new after is broken on_card
+
+-- the same of a card of which only that it has a session is known
+pub noted-some : (c : Card) (slot : Slot) (at : Moment) (run : Run) (breaks : Listed Break) (U V X Y Z : State) → IsCoherent U → IsCoherent X → IsCoherent Y → LARGEST_IMAGE ≤ X.size → is_some (session_of run.keeper.cabin.cards c) ≡ true →
+    IfSome (session_of run.keeper.cabin.cards c) (λ a. IsValue a.session) → card_in (seat_in run.keeper.cabin.slots.seats slot) ≡ Some c → at.second ≡ run.next → at.late ≡ false →
+    (span : Span) → StandsFor run.minutes span → end_of span ≡ run.next → Stands (ungiven_of span) None run.keeper.cabin →
+    IfSome (session_of run.keeper.cabin.cards c) (λ a. LeavesOnly X Y (IsNote a.session.application)) → LeavesOnly U V LeavesJournal → (failed : Bool) → HasCause U V failed →
+    (new : Run) (after : Listed Break) (fell : Bool) → IsNotedOn c slot at run new breaks after fell → HasBroken X Y (falls_by fell) → HasCause X Y fell → IsNoteRecorded (In at.begun) failed run new breaks after (arranged c U X Z) (arranged c V Y Z)
+noted-some c slot at run breaks U V X Y Z unit_whole whole later size some value seat second late span stands ends cabin card unit failed cause new after fell is broken on_card =
+    let one = some-one (session_of run.keeper.cabin.cards c) some in
+    note-recorded c slot at run breaks U V X Y Z unit_whole whole later size one.0 (subst (λ (o : Option Accepted). IfSome o (λ a. IsValue a.session)) one.1 value) one.1 seat second late span stands ends cabin
+    (subst (λ (o : Option Accepted). IfSome o (λ a. LeavesOnly X Y (IsNote a.session.application))) one.1 card) unit failed cause new after fell is broken on_card
+
+-- ---- A PLACE IS TOLD OF
+
+pub place-told : (o : Origin) (done : List TraceSecond) (s : TraceSecond) (slot : Slot) (ending : Bool) (country region begun speed : ℕ) (run : Run) (out : Outcome) (d : Devices) → IsNow s speed run → (front rest : List Action) → s.actions ≡ front ++ Place slot ending country region ∷ rest → begun ≡ suc (length front) →
+    refusal (logged run.keeper.cabin.slots.seats) speed (Place slot ending country region) ≡ None → RunWithin o done s (In (length front)) [] [] run out d → RunWithin o done s (In begun) [] [] run out d
+place-told o done s slot ending country region begun speed run out d now front rest are n allowed w =
+    subst (λ (k : ℕ). RunWithin o done s (In k) [] [] run out d) (sym n)
+    (run-on o done s (In (length front)) (In (suc (length front))) [] [] [] [] run run out out d d w.within.from w refl refl
+    (place-recorded d o done s (values_of run out) front slot ending country region rest are w.within
+    (allowed-in o done s (In (length front)) [] None [] (values_of run out) d w.within speed (Place slot ending country region) now.speed_is allowed)))
+
+-- a note on the unit, whichever card a call is about
+pub unit-any : (c : Card) (o : Origin) (done : List TraceSecond) (s : TraceSecond) (n : ℕ) (run : Run) (out : Outcome) (U V X Z : State) → IsCoherent U → LeavesOnly U V LeavesJournal → (span : Span) → StandsFor run.minutes span → end_of span ≡ run.next →
+    RunWithin o done s (In n) [] [] run out (arranged c U X Z) → (failed : Bool) → HasCause U V failed → GoesOnOrCut failed o done s (In n) [] run out (arranged c V X Z)
+unit-any A o done s n run out U V X Z whole unit span stands ends w failed cause = unit-recorded o done s n run out U V X Z whole unit span stands ends w failed cause
+unit-any B o done s n run out U V X Z whole unit span stands ends w failed cause = unit-recorded o done s n run out U V Z X whole unit span stands ends w failed cause

@@ -1,0 +1,96 @@
+-- A card is withdrawn: what is recorded, behind the minutes that its leaving decides and the closing of its session.
+use Rattle.std.proofs.Common.{◌≡◌, ◌∙◌, ℕ, suc, ◌+◌, ◌/◌, ◌≤◌, Bool, true, false, Option, Some, None, List, [], ◌∷◌, ◌++◌, length, is_some, refl, ap, sym, subst}
+use Rattle.std.specs.Prelude.{IfSome}
+use Rattle.activity_codec.specs.declared.values.Activity.{Activity}
+use Rattle.activity_codec.specs.declared.values.Slot.{Slot}
+use Rattle.trace_model.specs.declared.Card.{Card}
+use Rattle.trace_model.specs.declared.Action.{Action}
+use Rattle.trace_model.specs.declared.Action.TheVariants.{Withdraw}
+use Rattle.trace_model.specs.Trace.{TraceSecond}
+use Rattle.tach_media.specs.Medium.{State, IsCoherent, LeavesOnly, HasCause, HasBroken}
+use Rattle.card_layout.specs.declared.files.TheConstants.{LARGEST_IMAGE}
+use Rattle.card_session.specs.Sessions.{IsSession}
+use Rattle.card_session.specs.Cards.{IsCardClosing}
+use Rattle.minute_model.specs.declared.Minute.{Minute}
+use Rattle.minute_model.specs.Span.{Span, settled, decided_in, end_of}
+use Rattle.minute_rules.specs.Kept.{StandsFor}
+use Rattle.log_model.specs.declared.lines.Break.{Break}
+use Rattle.log_model.specs.Log.{In}
+use Rattle.log_model.specs.Slots.{refusal}
+use Rattle.log_model.specs.Course.{went}
+use Rattle.unit_model.specs.Image.{odometer_at}
+use Rattle.unit_rule.specs.Odometer.{odometer_after}
+use Rattle.unit_notes.specs.Journal.{LeavesJournal}
+use Rattle.safety_model.specs.Safe.{Devices}
+use Rattle.slot_machine.specs.Calls.{seat_in, card_in, logged}
+use Rattle.run_crew.specs.declared.cards.Accepted.{Accepted}
+use Rattle.run_crew.specs.Cards.{session_of}
+use Rattle.run_told.specs.Told.{arranged}
+use Rattle.run_outcome.specs.Lines.{Listed}
+use Rattle.run_outcome.specs.declared.outcome.Outcome.{Outcome}
+use Rattle.run_keeping.specs.declared.keeper.Moment.{Moment}
+use Rattle.run_keeping.specs.Minutes.{Told, AreKept}
+use Rattle.run_keeping.specs.Books.{HaveTime}
+use Rattle.run_recorded.specs.Origin.{Origin}
+use Rattle.run_within.specs.Recorded.{Values}
+use Rattle.run_within.specs.Within.{Beginning, IsLeaving, CutWithin}
+use Rattle.run_within.specs.Taking.{IsLeft}
+use Rattle.run_within.proofs.Leaving.{card-leaves}
+use Rattle.run_acts.specs.declared.run.Run.{Run}
+use Rattle.run_acts.specs.Acting.{Closing, IsClosed, closed_falls, told_of, left_run}
+use Rattle.run_acts.specs.Recording.{log_of, values_of, RunWithin, RunFails, GoesOnOrCut, IsNow, RecordsAction}
+use Rattle.run_acts.specs.Settling.{settled_run, IsSettledIn, RecordsSettling}
+use Rattle.run_acts.proofs.Apart.{not-both}
+use Rattle.run_acts.proofs.Asked.{allowed-in}
+use Rattle.run_acts.proofs.NoneComes.{none-comes}
+use Rattle.run_acts.proofs.Closed.{closed-recorded}
+
+-- the moment of an action
+abbrev pub acting_at : ℕ → ℕ → Moment
+acting_at second begun = record { second = second; begun = begun; late = false }
+
+pub moment-is : (at : Moment) (second begun : ℕ) → at.second ≡ second → at.begun ≡ begun → at.late ≡ false → at ≡ acting_at second begun
+moment-is at second begun u n l =
+    ap (λ (x : ℕ). record { second = x; begun = at.begun; late = at.late }) u ∙ ap (λ (x : ℕ). record { second = second; begun = x; late = at.late }) n ∙ ap (λ (x : Bool). record { second = second; begun = begun; late = x }) l
+
+-- ---- in a second, at its action
+
+module _ (o : Origin) (done : List TraceSecond) (s : TraceSecond) (front rest : List Action) (slot : Slot) (are : s.actions ≡ front ++ Withdraw slot ∷ rest) (speed : ℕ) (now : s.speed ≡ speed) (c : Card) (run between : Run) (before told : Outcome) (d : Devices)
+    (w : RunWithin o done s (In (length front)) [] [] run before d) (seat : card_in (seat_in run.keeper.cabin.slots.seats slot) ≡ Some c) (allowed : refusal (logged run.keeper.cabin.slots.seats) speed (Withdraw slot) ≡ None)
+    (stands : StandsFor between.minutes (settled w.within.sp)) (decided : List Minute) (given : decided_in (settled w.within.sp) ≡ decided_in w.within.sp ++ decided) where
+  abbrev v : Values
+  v = values_of run before
+
+  left : IsLeft o done s v d front slot c between.minutes decided w.within
+  left = card-leaves d o done s v front slot c rest are w.within (allowed-in o done s (In (length front)) [] None [] v d w.within speed (Withdraw slot) now allowed) seat between.minutes stands decided given
+
+  abbrev gone : RunWithin o done s (In (suc (length front))) [] decided (settled_run between.minutes (left_run slot s.number run)) before d
+  gone = record {
+    origin = w.origin;
+    lit = w.lit;
+    within = left.goes.within;
+    odometer = w.odometer ∙ ap (λ (b : Beginning). odometer_after (odometer_at o.recording.unit) b.travel.before) (sym left.goes.began);
+  }
+
+  -- the unit failed in the keeping
+  pub settling-cut : (e : Devices) → RecordsSettling decided (acting_at s.number (suc (length front))) true (left_run slot s.number run) between before told d e → HaveTime e → RunFails o done s (In (suc (length front))) between told e
+  settling-cut e records time = record { waits = []; cabin = between.keeper.cabin; same = refl; within = records o done s (suc (length front)) [] refl gone time }
+
+  -- or they are kept, and its session is closed
+  pub closing-recorded : {C : Type 0} (state : C → State) (U V Z : State) (x y : C) → IsCoherent U → IsCoherent (state x) → LARGEST_IMAGE ≤ (state x).size →
+      IfSome (session_of between.keeper.cabin.cards c) (λ s. (act : Activity) × LeavesOnly (state x) (state y) (λ i n. IsSession s.session i → IsCardClosing s.session act i n)) → (session_of between.keeper.cabin.cards c ≡ None → y ≡ x) →
+      LeavesOnly U V LeavesJournal → (failed : Bool) → HasCause U V failed → (state x).breakdowns ≤ (state y).breakdowns → (span : Span) → StandsFor between.minutes span → end_of span ≡ between.next →
+      RecordsSettling decided (acting_at s.number (suc (length front))) false (left_run slot s.number run) between before told d (arranged c U (state x) Z) → HaveTime (arranged c U (state x) Z) →
+      (at : Moment) (ms : List Minute) (t : Told) → AreKept at ms t (told_of between told) → session_of t.keeper.cabin.cards c ≡ session_of run.keeper.cabin.cards c →
+      (new : Run) (after : Listed Break) (closing : Closing) → IsClosed c slot (acting_at s.number (suc (length front))) between new told.breaks after closing → HasBroken (state x) (state y) (closed_falls closing) →
+      GoesOnOrCut failed o done s (In (suc (length front))) [] new (record told { breaks = after }) (arranged c V (state y) Z)
+  closing-recorded state U V Z x y unit_whole whole size closes still unit failed cause rise span stands_ ends records time at ms t kept same new after closing is broken =
+      let kept_all : IsSettledIn o done s (In (suc (length front))) [] gone.within.b gone.within.from (gone.within.from + length decided) (left_run slot s.number run) between before told (arranged c U (state x) Z) =
+      records o done s (suc (length front)) [] refl gone time in
+      closed-recorded state c slot (acting_at s.number (suc (length front))) between told U V Z x y unit_whole whole size closes still unit failed cause rise span stands_ ends o done s (suc (length front)) refl kept_all.goes kept_all.from
+      (λ some. subst (λ (b : Beginning). IsLeaving (log_of told) (went b.run.log done).before s (In (suc (length front))) (s.number / 60) (s.number / 60) between.keeper.cabin slot c) (sym kept_all.began)
+      (kept_all.leave slot c (left.leaving (had (session_of run.keeper.cabin.cards c) refl some)) some)) new after closing is broken
+    where
+      had : (q : Option Accepted) → session_of run.keeper.cabin.cards c ≡ q → is_some (session_of between.keeper.cabin.cards c) ≡ true → is_some (session_of run.keeper.cabin.cards c) ≡ true
+      had None is some = absurd (not-both (session_of between.keeper.cabin.cards c) some (none-comes c at ms t (told_of between told) kept (same ∙ is)))
+      had (Some a) is some = ap is_some is

@@ -1,0 +1,82 @@
+-- What a note on the unit and then on accepted cards leaves, by value, of unit and cards, and of the record of a run (profile).
+use Rattle.std.specs.Prelude.{◌≡◌, ℕ, Bool, true, false, Option, Some, None, List, []}
+use Rattle.activity_codec.specs.declared.values.Slot.{Slot}
+use Rattle.activity_codec.specs.declared.values.Slot.TheVariants.{Driver, CoDriver}
+use Rattle.trace_model.specs.declared.Card.{Card}
+use Rattle.trace_model.specs.declared.Action.TheVariants.{Place}
+use Rattle.trace_model.specs.Trace.{TraceSecond}
+use Rattle.event_model.specs.declared.entries.Span.{Span}
+use Rattle.log_model.specs.declared.lines.Break.{Break}
+use Rattle.log_model.specs.Log.{Phase}
+use Rattle.safety_model.specs.Safe.{Devices}
+use Rattle.slot_machine.specs.Calls.{seat_in, card_in}
+use Rattle.run_crew.specs.declared.cards.Cards.{Cards}
+use Rattle.run_rule.specs.Found.{Found}
+use Rattle.run_rule.specs.Between.{Carried}
+use Rattle.run_told.specs.Told.{AreFoundCards, IsPowered, with_standing}
+use Rattle.run_outcome.specs.Lines.{Listed}
+use Rattle.run_outcome.specs.declared.outcome.Outcome.{Outcome}
+use Rattle.run_keeping.specs.declared.keeper.Moment.{Moment}
+use Rattle.run_recorded.specs.Origin.{Origin}
+use Rattle.run_within.specs.Taking.{fallen}
+use Rattle.run_acts.specs.declared.run.Run.{Run}
+use Rattle.run_acts.specs.Acting.{IsNotedIn}
+use Rattle.run_acts.specs.Behind.{IsPoweredOrOff}
+use Rattle.run_acts.specs.Recording.{RunWithin, GoesOnOrCut, RecordsAction}
+
+-- ---- by value
+
+-- HOW FAR THE NOTE OF AN INTERRUPTION CAME: there was none to be noted; the unit failed in its note; or behind the tear of the driver slot's
+-- card; or it came to both slots, and this became of their cards.
+pub data GapReach : Type 0 where
+  NoGap : GapReach
+  UnitFailed : GapReach
+  DriverFell : GapReach
+  BothSlots : (driver codriver : Bool) → GapReach
+
+-- it is noted on the card of the driver slot, and then on that of the co-driver slot; each may have fallen
+pub record AreNotedIn (at : Moment) (old new : Run) (breaks after : Listed Break) (driver codriver : Bool) : Type 0 where
+  pub between : Run
+  pub told : Listed Break
+  pub first : IsNotedIn (card_in (seat_in old.keeper.cabin.slots.seats Driver)) Driver at old between breaks told driver
+  pub second : IsNotedIn (card_in (seat_in between.keeper.cabin.slots.seats CoDriver)) CoDriver at between new told after codriver
+
+-- AN INTERRUPTION, if there was one, IS NOTED so far
+abbrev pub IsGapNoted : Option Span → Moment → (failed : Bool) → (old new : Run) → (breaks after : Listed Break) → GapReach → Type 0
+IsGapNoted None at failed old new breaks after NoGap = (failed ≡ false) × (new ≡ old) × (after ≡ breaks)
+IsGapNoted None at failed old new breaks after UnitFailed = ⊥
+IsGapNoted None at failed old new breaks after DriverFell = ⊥
+IsGapNoted None at failed old new breaks after (BothSlots driver codriver) = ⊥
+IsGapNoted (Some span) at failed old new breaks after NoGap = ⊥
+IsGapNoted (Some span) at failed old new breaks after UnitFailed = (failed ≡ true) × (new ≡ old) × (after ≡ breaks)
+IsGapNoted (Some span) at failed old new breaks after DriverFell = (failed ≡ true) × IsNotedIn (card_in (seat_in old.keeper.cabin.slots.seats Driver)) Driver at old new breaks after true
+IsGapNoted (Some span) at failed old new breaks after (BothSlots driver codriver) = AreNotedIn at old new breaks after driver codriver × (failed ≡ true → codriver ≡ true)
+
+-- ---- of unit and cards
+
+-- what is carried behind a note on a card, which may have fallen
+abbrev pub carried_noted : (fell : Bool) → Card → (floor : ℕ) → Carried → Carried
+carried_noted false card floor w = w
+carried_noted true card floor w = with_standing card (fallen floor (w.standing card)) w
+
+-- IT IS NOTED ON A CARD with a session: unit and cards are as the book says, and a card that fell stands as one that is torn out; or the unit
+-- failed behind that.
+abbrev pub BooksNoted : Card → (failed fell : Bool) → (cards after : Cards) → (d e : Devices) → Type 0
+BooksNoted card failed fell cards after d e = (f : Found) (w : Carried) (floor : ℕ) → AreFoundCards f cards → IsPowered f w cards d → IsPoweredOrOff failed f (carried_noted fell card floor w) after e
+
+-- or on that of a slot, where there is one
+abbrev pub BooksNotedIn : Option Card → (failed fell : Bool) → (cards after : Cards) → (d e : Devices) → Type 0
+BooksNotedIn None failed fell cards after d e = (f : Found) (w : Carried) → AreFoundCards f cards → IsPowered f w cards d → IsPoweredOrOff failed f w after e
+BooksNotedIn (Some card) failed fell cards after d e = BooksNoted card failed fell cards after d e
+
+-- ---- of the record
+
+-- A NOTE IS RECORDED at a moment of a second at which no card waits: the second goes on at that moment, or power is about to be cut.
+abbrev pub IsNoteRecorded : Phase → (failed : Bool) → (old new : Run) → (breaks after : Listed Break) → (d e : Devices) → Type 0
+IsNoteRecorded at failed old new breaks after d e = (o : Origin) (done : List TraceSecond) (s : TraceSecond) (out : Outcome) → RunWithin o done s at [] [] old (record out { breaks = breaks }) d →
+    GoesOnOrCut failed o done s at [] new (record out { breaks = after }) e
+
+-- A PLACE IS NOTED, an action of that second: it is told of before.
+abbrev pub IsPlaceRecorded : Slot → Moment → (failed : Bool) → (old new : Run) → (breaks after : Listed Break) → (d e : Devices) → Type 0
+IsPlaceRecorded slot at failed old new breaks after d e = at.late ≡ false → (ending : Bool) (country region speed : ℕ) (before : Outcome) → before.breaks ≡ breaks →
+    RecordsAction (Place slot ending country region) at.begun speed failed old new before (record before { breaks = after }) d e
