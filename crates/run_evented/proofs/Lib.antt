@@ -7,3 +7,4 @@ pub mod Quiet
 pub mod Whole
 pub mod Noting
 pub mod Fronts
+pub mod Parts

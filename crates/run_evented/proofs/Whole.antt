@@ -24,7 +24,7 @@ then a b c x y = record { torn = y.torn ∙ x.torn; found = y.found ∙ x.found 
 told-acts_ : (c d : Course) → d ≡ c → IsTold c d
 told-acts_ c d is = record { torn = ap (λ (x : Course). x.torn) is; found = ap (λ (x : Course). x.found) is }
 
-answered-told : (n : ℕ) (o : Option SlotFault) (a : Action) (c : Course) → IsTold c (answered n o a c)
+pub answered-told : (n : ℕ) (o : Option SlotFault) (a : Action) (c : Course) → IsTold c (answered n o a c)
 answered-told n (Some r) a c = record { torn = refl; found = refl }
 answered-told n None (Select slot pick) c = record { torn = refl; found = refl }
 answered-told n None (Insert slot card) c = record { torn = refl; found = refl }
