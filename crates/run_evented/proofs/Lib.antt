@@ -8,3 +8,4 @@ pub mod Whole
 pub mod Noting
 pub mod Fronts
 pub mod Parts
+pub mod Brought
