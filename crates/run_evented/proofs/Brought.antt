@@ -19,6 +19,7 @@ use Rattle.run_course.proofs.Moments.{later-lines}
 use Rattle.run_moments.specs.Reached.{IsBehind, IsMoment, IsUpTo, course_with, moved_with, begun_at, moved_at, course_at}
 use Rattle.run_events.specs.Seconds.{faults_by, found_by}
 use Rattle.run_events.proofs.Later.{told-number}
+use Rattle.run_evented.specs.Bringing.{ChoiceBefore}
 use Rattle.run_evented.proofs.Whole.{whole-told}
 use Rattle.run_evented.proofs.Fronts.{IsFormer, turn-front, DifferAt, old-faults, old-found}
 use Rattle.run_evented.proofs.Parts.{outs, finds, both-torn, both-found, all-outs, all-finds, leaving-at, AreFormer, begun-former}
@@ -39,11 +40,6 @@ pub record SameBefore (log later : RunLog) (u : ℕ) (at : Phase) : Type 0 where
   pub up_later : IsUpTo later u at
   pub torn : (m : ℕ) (slot : Slot) → IsBehind (In m) at → is_torn_in later u (In m) slot ≡ is_torn_in log u (In m) slot
   pub found : (m : ℕ) (slot : Slot) → IsBehind (In m) at → found_in later u (In m) slot ≡ found_in log u (In m) slot
-
--- two choices differ at this moment alone
-pub record ChoiceBefore (t t' : Tearing) (u : ℕ) (at : Phase) : Type 0 where
-  pub by_gap : same_phase at (In 0) ≡ false → (slot : Slot) → t'.by_gap u slot ≡ t.by_gap u slot
-  pub driver_first : (m : ℕ) → same_phase at (In (suc m)) ≡ false → t'.driver_first u (suc m) ≡ t.driver_first u (suc m)
 
 module _ (log later : RunLog) (before : Before) (s : TraceSecond) (at : Phase) (power : has_power before s ≡ true) (is : IsMoment s at) (b : SameBefore log later s.number at) where
   abbrev x : Seen
