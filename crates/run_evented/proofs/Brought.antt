@@ -114,16 +114,13 @@ module _ (log later : RunLog) (before : Before) (s : TraceSecond) (at : Phase) (
     number-y : number_of y ≡ s.number
     number-y = told-number later before s
 
-    pub differ : DifferAt at start.torn start.found t t' x y
+    pub differ : DifferAt at start.torn start.found (outs log s.number at moves Driver start ++ outs log s.number at moves CoDriver start) (outs later s.number at moves Driver start ++ outs later s.number at moves CoDriver start)
+        (finds log s.number at moves Driver start ++ finds log s.number at moves CoDriver start) (finds later s.number at moves Driver start ++ finds later s.number at moves CoDriver start) t t' x y
     differ = record {
       number = number-y ∙ sym number-x;
       speed = told-speed later before s power ∙ sym (told-speed log before s power);
-      xs = outs log s.number at moves Driver start ++ outs log s.number at moves CoDriver start;
-      ys = outs later s.number at moves Driver start ++ outs later s.number at moves CoDriver start;
       torn_x = torn-now;
       torn_y = torn-later;
-      fs = finds log s.number at moves Driver start ++ finds log s.number at moves CoDriver start;
-      gs = finds later s.number at moves Driver start ++ finds later s.number at moves CoDriver start;
       found_x = found-now;
       found_y = found-later;
       xs_here = all-outs log s.number at moves (leaving-at log before s at) start;
@@ -139,7 +136,7 @@ module _ (log later : RunLog) (before : Before) (s : TraceSecond) (at : Phase) (
     }
 
 -- ---- MORE OF A TYPE, by what this moment tells
-module _ (at : Phase) (front : List Visit) (found : List (Visit × Verdict)) (t t' : Tearing) (x y : Seen) (d : DifferAt at front found t t' x y) (log later : RunLog) where
+module _ (at : Phase) (front : List Visit) (found : List (Visit × Verdict)) (xs ys : List Visit) (fs gs : List (Visit × Verdict)) (t t' : Tearing) (x y : Seen) (d : DifferAt at front found xs ys fs gs t t' x y) (log later : RunLog) where
   faults-parts : (u : Tearing) (l : RunLog) (z : Seen) (vs : List Visit) → z.told.course.torn ≡ front ++ vs → AllByRecursion (λ (v : Visit). v.phase ≡ at) vs →
       faults_by u l z ≡ map (fault_of u l z) (torn_in_turn u z front) ++ map (fault_of u l z) (torn_in_turn u z vs)
   faults-parts u l z vs are here =
@@ -147,23 +144,23 @@ module _ (at : Phase) (front : List Visit) (found : List (Visit × Verdict)) (t 
       ∙ ap (map (fault_of u l z)) (turn-front u z at front vs d.torn_before here)
       ∙ map-append (fault_of u l z) (torn_in_turn u z front) (torn_in_turn u z vs)
 
-  pub faults-then : (more : List Event) → map (fault_of t' later y) (torn_in_turn t' y d.ys) ≡ map (fault_of t log x) (torn_in_turn t x d.xs) ++ more → faults_by t' later y ≡ faults_by t log x ++ more
+  pub faults-then : (more : List Event) → map (fault_of t' later y) (torn_in_turn t' y ys) ≡ map (fault_of t log x) (torn_in_turn t x xs) ++ more → faults_by t' later y ≡ faults_by t log x ++ more
   faults-then more are =
       let old : List Event = map (fault_of t log x) (torn_in_turn t x front) in
-      faults-parts t' later y d.ys d.torn_y d.ys_here
-      ∙ (λ i. old-faults at front found t t' x y d log later i ++ are i)
-      ∙ sym (append_assoc old (map (fault_of t log x) (torn_in_turn t x d.xs)) more)
-      ∙ ap (λ (es : List Event). es ++ more) (sym (faults-parts t log x d.xs d.torn_x d.xs_here))
+      faults-parts t' later y ys d.torn_y d.ys_here
+      ∙ (λ i. old-faults at front found xs ys fs gs t t' x y d log later i ++ are i)
+      ∙ sym (append_assoc old (map (fault_of t log x) (torn_in_turn t x xs)) more)
+      ∙ ap (λ (es : List Event). es ++ more) (sym (faults-parts t log x xs d.torn_x d.xs_here))
 
   abbrev events_in : (kind : ℕ) (own : ℕ → Visit → ℕ) (u : Tearing) (z : Seen) → Visit × Verdict → List Event
   events_in kind own u z f = found_events kind (own (number_of z) f.0) u z f.0 f.1
 
   pub found-then : (kind : ℕ) (own own' : ℕ → Visit → ℕ) → ((v : Visit) → IsFormer at v → own' (number_of y) v ≡ own (number_of x) v) → (more : List Event) →
-      flat_map (events_in kind own' t' y) d.gs ≡ flat_map (events_in kind own t x) d.fs ++ more → found_by kind own' t' y ≡ found_by kind own t x ++ more
+      flat_map (events_in kind own' t' y) gs ≡ flat_map (events_in kind own t x) fs ++ more → found_by kind own' t' y ≡ found_by kind own t x ++ more
   found-then kind own own' same more are =
       let old : List Event = flat_map (events_in kind own t x) found in
       ap (flat_map (events_in kind own' t' y)) d.found_y
-      ∙ flat_map-append (events_in kind own' t' y) found d.gs
-      ∙ (λ i. old-found at front found t t' x y d kind own own' same found d.found_before i ++ are i)
-      ∙ sym (append_assoc old (flat_map (events_in kind own t x) d.fs) more)
-      ∙ ap (λ (es : List Event). es ++ more) (sym (ap (flat_map (events_in kind own t x)) d.found_x ∙ flat_map-append (events_in kind own t x) found d.fs))
+      ∙ flat_map-append (events_in kind own' t' y) found gs
+      ∙ (λ i. old-found at front found xs ys fs gs t t' x y d kind own own' same found d.found_before i ++ are i)
+      ∙ sym (append_assoc old (flat_map (events_in kind own t x) fs) more)
+      ∙ ap (λ (es : List Event). es ++ more) (sym (ap (flat_map (events_in kind own t x)) d.found_x ∙ flat_map-append (events_in kind own t x) found fs))

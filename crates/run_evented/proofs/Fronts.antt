@@ -84,15 +84,11 @@ accepted-front p slot at front fs all other =
     filter-append (accepted_here p slot) front fs ∙ ap (λ (xs : List (Visit × Verdict)). filter (accepted_here p slot) front ++ xs) (filter-other p slot at fs all other) ∙ append-none (filter (accepted_here p slot) front)
 
 -- ---- THE SAME SECOND, by two logs that differ at a moment alone
-pub record DifferAt (at : Phase) (front : List Visit) (found : List (Visit × Verdict)) (t t' : Tearing) (x y : Seen) : Type 0 where
+pub record DifferAt (at : Phase) (front : List Visit) (found : List (Visit × Verdict)) (xs ys : List Visit) (fs gs : List (Visit × Verdict)) (t t' : Tearing) (x y : Seen) : Type 0 where
   pub number : number_of y ≡ number_of x
   pub speed : y.told.second.speed ≡ x.told.second.speed
-  pub xs : List Visit
-  pub ys : List Visit
   pub torn_x : x.told.course.torn ≡ front ++ xs
   pub torn_y : y.told.course.torn ≡ front ++ ys
-  pub fs : List (Visit × Verdict)
-  pub gs : List (Visit × Verdict)
   pub found_x : x.told.course.found ≡ found ++ fs
   pub found_y : y.told.course.found ≡ found ++ gs
   pub xs_here : AllByRecursion (λ (v : Visit). v.phase ≡ at) xs
@@ -106,7 +102,7 @@ pub record DifferAt (at : Phase) (front : List Visit) (found : List (Visit × Ve
   pub by_gap : same_phase at (In 0) ≡ false → (slot : Slot) → t'.by_gap (number_of y) slot ≡ t.by_gap (number_of x) slot
   pub driver_first : (m : ℕ) → same_phase at (In (suc m)) ≡ false → t'.driver_first (number_of y) (suc m) ≡ t.driver_first (number_of x) (suc m)
 
-module _ (at : Phase) (front : List Visit) (found : List (Visit × Verdict)) (t t' : Tearing) (x y : Seen) (d : DifferAt at front found t t' x y) where
+module _ (at : Phase) (front : List Visit) (found : List (Visit × Verdict)) (xs ys : List Visit) (fs gs : List (Visit × Verdict)) (t t' : Tearing) (x y : Seen) (d : DifferAt at front found xs ys fs gs t t' x y) where
   other-way : (m : ℕ) → IsBehind (In m) at → same_phase at (In m) ≡ false
   other-way m behind = go at m behind
     where
@@ -116,13 +112,13 @@ module _ (at : Phase) (front : List Visit) (found : List (Visit × Verdict)) (t 
 
   pub torn-same : (p : Phase) (slot : Slot) → same_phase at p ≡ false → torn_at y p slot ≡ torn_at x p slot
   torn-same p slot other =
-      ap (list_any (λ (v : Visit). same_phase v.phase p && same_slot v.slot slot)) d.torn_y ∙ torn-front p slot at front d.ys d.ys_here other
-      ∙ sym (ap (list_any (λ (v : Visit). same_phase v.phase p && same_slot v.slot slot)) d.torn_x ∙ torn-front p slot at front d.xs d.xs_here other)
+      ap (list_any (λ (v : Visit). same_phase v.phase p && same_slot v.slot slot)) d.torn_y ∙ torn-front p slot at front ys d.ys_here other
+      ∙ sym (ap (list_any (λ (v : Visit). same_phase v.phase p && same_slot v.slot slot)) d.torn_x ∙ torn-front p slot at front xs d.xs_here other)
 
   pub accepted-same : (p : Phase) (slot : Slot) → same_phase at p ≡ false → accepted_at y p slot ≡ accepted_at x p slot
   accepted-same p slot other =
-      ap (λ (fs : List (Visit × Verdict)). first_card (filter (accepted_here p slot) fs)) d.found_y ∙ ap first_card (accepted-front p slot at found d.gs d.gs_here other)
-      ∙ sym (ap (λ (fs : List (Visit × Verdict)). first_card (filter (accepted_here p slot) fs)) d.found_x ∙ ap first_card (accepted-front p slot at found d.fs d.fs_here other))
+      ap (λ (fs : List (Visit × Verdict)). first_card (filter (accepted_here p slot) fs)) d.found_y ∙ ap first_card (accepted-front p slot at found gs d.gs_here other)
+      ∙ sym (ap (λ (fs : List (Visit × Verdict)). first_card (filter (accepted_here p slot) fs)) d.found_x ∙ ap first_card (accepted-front p slot at found fs d.fs_here other))
 
   pub stands-same : (slot : Slot) → same_phase at (In 0) ≡ false → standing t' y slot ≡ standing t x slot
   stands-same slot other = λ i. cond (torn-same (In 0) slot other i && not (d.by_gap other slot i)) None (accepted-same (In 0) slot other i)
@@ -198,8 +194,8 @@ module _ (at : Phase) (front : List Visit) (found : List (Visit × Verdict)) (t 
       cond (kind == INSERTION_WHILE_DRIVING && nat_lt 0 (d.speed i)) (noted_with kind (d.number i) (d.number i) (crew (Some v.card) i) ∷ [])
       (cond (kind == SESSION_NOT_CLOSED && nat_lt 0 session) (noted_with kind session (d.number i) (crew (Some v.card) i) ∷ []) [])
 
-  pub old-found : (kind : ℕ) (own own' : ℕ → Visit → ℕ) → ((v : Visit) → IsFormer at v → own' (number_of y) v ≡ own (number_of x) v) → (fs : List (Visit × Verdict)) → AllByRecursion (λ (f : Visit × Verdict). IsFormer at f.0) fs →
-      flat_map (λ (f : Visit × Verdict). found_events kind (own' (number_of y) f.0) t' y f.0 f.1) fs ≡ flat_map (λ (f : Visit × Verdict). found_events kind (own (number_of x) f.0) t x f.0 f.1) fs
+  pub old-found : (kind : ℕ) (own own' : ℕ → Visit → ℕ) → ((v : Visit) → IsFormer at v → own' (number_of y) v ≡ own (number_of x) v) → (es : List (Visit × Verdict)) → AllByRecursion (λ (f : Visit × Verdict). IsFormer at f.0) es →
+      flat_map (λ (f : Visit × Verdict). found_events kind (own' (number_of y) f.0) t' y f.0 f.1) es ≡ flat_map (λ (f : Visit × Verdict). found_events kind (own (number_of x) f.0) t x f.0 f.1) es
   old-found kind own own' same [] all = refl
-  old-found kind own own' same (f ∷ fs) all = λ i.
-      (ap (λ (n : ℕ). found_events kind n t' y f.0 f.1) (same f.0 all.0) ∙ events-as kind (own (number_of x) f.0) f.0 f.1 (crew-same f.0 all.0)) i ++ old-found kind own own' same fs all.1 i
+  old-found kind own own' same (f ∷ es) all = λ i.
+      (ap (λ (n : ℕ). found_events kind n t' y f.0 f.1) (same f.0 all.0) ∙ events-as kind (own (number_of x) f.0) f.0 f.1 (crew-same f.0 all.0)) i ++ old-found kind own own' same es all.1 i

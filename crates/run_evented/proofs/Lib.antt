@@ -9,3 +9,5 @@ pub mod Noting
 pub mod Fronts
 pub mod Parts
 pub mod Brought
+pub mod Tearing
+pub mod Bringing

@@ -45,13 +45,13 @@ pick-slot false true x y z base ex ey ez = ey
 pick-slot false false x y z base ex ey ez = ez
 
 module _ (log : RunLog) (u : ℕ) (p : Phase) (moved : Moved) where
-  abbrev judged : Slot → Course → Course
+  abbrev pub judged : Slot → Course → Course
   judged slot c = record c { found = c.found ++ finds log u p moved slot c }
 
-  abbrev torn_so : Slot → Course → Course
+  abbrev pub torn_so : Slot → Course → Course
   torn_so slot c = record (leaves slot (judged slot c)) { torn = c.torn ++ (moved.leaving slot ++ visits p slot c.slots) }
 
-  abbrev accepted_so : Slot → Course → Course
+  abbrev pub accepted_so : Slot → Course → Course
   accepted_so slot c = record (judged slot c) {
     slots = with_slot c.slots slot (option_map {T = Sitting} {U = Sitting} (λ x. record x { accepted = Some u }) (in_slot c.slots slot));
   }
@@ -64,7 +64,7 @@ module _ (log : RunLog) (u : ℕ) (p : Phase) (moved : Moved) where
   slot-found slot c =
       pick-found (is_torn_in log u p slot) (list_any is_accepting (found_now log u p moved slot)) (torn_so slot c) (accepted_so slot c) (judged slot c) (c.found ++ finds log u p moved slot c) refl refl refl
 
-  slot-other : (c : Course) → (slot_told log u p moved Driver c).slots.codriver ≡ c.slots.codriver
+  pub slot-other : (c : Course) → (slot_told log u p moved Driver c).slots.codriver ≡ c.slots.codriver
   slot-other c =
       pick-slot (is_torn_in log u p Driver) (list_any is_accepting (found_now log u p moved Driver)) (torn_so Driver c) (accepted_so Driver c) (judged Driver c) c.slots.codriver refl refl refl
 

@@ -10,7 +10,7 @@ pub use going::{
 };
 pub use laws::{
     a_dark_second_brings_nothing, a_power_on_is_broken, a_second_is_broken, a_second_is_noted,
-    a_stage_is_done, a_step_is_noted, an_off_cut_brings_nothing, events_are_found,
-    events_are_shown, events_stay, nothing_is_noted, the_second_begins, the_second_is_cut,
-    the_second_is_noted,
+    a_stage_is_done, a_step_is_noted, a_tear_is_brought, an_off_cut_brings_nothing,
+    events_are_found, events_are_shown, events_stay, nothing_is_noted, the_second_begins,
+    the_second_is_cut, the_second_is_noted,
 };
