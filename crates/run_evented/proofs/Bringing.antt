@@ -1,11 +1,10 @@
 -- What the tear of a card brings, in an action or in the keeping.
-use Rattle.std.proofs.Common.{◌≡◌, ◌⊎◌, inl, inr, ⊎_elim, ℕ, zero, suc, ◌+◌, ◌<◌, ◌≤◌, Bool, true, false, cond, not, ◌&&◌, ◌||◌, Option, Some, None, List, [], ◌∷◌, ◌++◌, map, length, Contains, nat_eq, refl, ap, sym, subst, ◌∙◌, arith, append-nil}
-use Rattle.std.specs.Prelude.{◌==◌, flat_map, option_map, option_to_list, slice_get, if◌then◌else◌}
-use Rattle.std.specs.List.{AllByRecursion, list_any}
+use Rattle.std.proofs.Common.{◌≡◌, ◌⊎◌, inl, inr, ℕ, zero, suc, ◌+◌, ◌≤◌, Bool, true, false, cond, not, ◌&&◌, ◌||◌, Option, Some, None, List, [], ◌∷◌, ◌++◌, map, length, nat_eq, refl, ap, sym, subst, ◌∙◌, arith, append-nil}
+use Rattle.std.specs.Prelude.{◌==◌, flat_map, option_map, option_to_list, slice_get}
+use Rattle.std.specs.List.{AllByRecursion}
 use Rattle.std.proofs.lemmas.Bool.{eqb-true, ne_eqb, eqb-false}
 use Rattle.std.proofs.lemmas.Bool.Decides.{nat_tests}
 use Rattle.std.proofs.lemmas.List.{map-append}
-use Rattle.std.proofs.lemmas.List.Folds.{list_any-append}
 use Rattle.activity_codec.specs.declared.values.Slot.{Slot}
 use Rattle.activity_codec.specs.declared.values.Slot.TheVariants.{Driver, CoDriver}
 use Rattle.activity_codec.specs.Activity.{same_slot}
@@ -13,18 +12,16 @@ use Rattle.trace_model.specs.declared.Card.{Card}
 use Rattle.trace_model.specs.declared.Action.{Action}
 use Rattle.trace_model.specs.declared.Action.TheVariants.{Select, Insert, Withdraw, Tear as Pull, Place}
 use Rattle.trace_model.specs.Trace.{TraceSecond}
-use Rattle.run_model.specs.declared.Device.{Device}
 use Rattle.log_model.specs.declared.lines.Break.{Break}
-use Rattle.log_model.specs.declared.lines.Break.TheVariants.{Tear}
 use Rattle.log_model.specs.declared.lines.SlotFault.{SlotFault}
 use Rattle.log_model.specs.declared.lines.Verdict.{Verdict}
-use Rattle.log_model.specs.Log.{RunLog, Phase, In, Keeping, same_phase, phase_of, kept_by, kept_after, tears_here, is_torn_in, found_in}
+use Rattle.log_model.specs.Log.{RunLog, Phase, In, Keeping, same_phase, kept_by, kept_after, tears_here, is_torn_in, found_in}
 use Rattle.log_model.specs.Slots.{Slots, Sitting, in_slot, other_slot, refusal}
-use Rattle.log_model.specs.Course.{Told, Went, Visit, Course, Before, Moved, card_in, visits, has_power, answered, moved_by, both_told, second_told, went}
+use Rattle.log_model.specs.Course.{Visit, Course, Before, Moved, card_in, visits, has_power, answered, moved_by, both_told, went}
 use Rattle.event_model.specs.declared.kinds.TheConstants.{DRIVING_WITHOUT_CARD, OVER_SPEEDING, POWER_INTERRUPTION, CARD_FAULT}
 use Rattle.event_model.specs.declared.entries.Span.{Span}
 use Rattle.event_model.specs.Spans.{gap_of}
-use Rattle.event_model.specs.Events.{Event, Seen, Tearing, Crew, number_of, last_number, noted_with, with_card, accepted_card, course_by, seen_by, seen_of, seen_spans, torn_at, standing, gap_event, beside_judged, crew_judged, found_events, is_first, is_codriver_first, beside_torn, fault_of, torn_in_turn}
+use Rattle.event_model.specs.Events.{Event, Seen, Tearing, number_of, last_number, noted_with, with_card, accepted_card, course_by, seen_by, seen_of, seen_spans, torn_at, standing, gap_event, beside_judged, crew_judged, found_events, is_first, beside_torn, fault_of, torn_in_turn}
 use Rattle.unit_course.specs.Followed.{Lit}
 use Rattle.run_course.specs.Moments.{and_break}
 use Rattle.run_course.specs.Followed.{Progress, Followed}
@@ -33,21 +30,20 @@ use Rattle.run_course.proofs.Lookups.{break-more}
 use Rattle.run_course.proofs.Steps.{with-supply, went-same_}
 use Rattle.run_course.proofs.Told.{lit-power, lit-told}
 use Rattle.run_moments.specs.Reached.{IsBehind, IsMoment, IsUpTo, Reaches, course_with, moved_with, begun_at, moved_at, course_at, IsTearAt}
-use Rattle.run_moments.specs.Moment.{Moment, goes_on}
-use Rattle.run_moments.specs.Telling.{IsOneOut}
+use Rattle.run_moments.specs.Moment.{goes_on}
 use Rattle.run_moments.proofs.Reached.{at-by, lines-reached}
 use Rattle.run_events.specs.Shown.{by_kind}
-use Rattle.run_events.specs.Seconds.{span_before, bares_by, overs_by, gap_before, gap_by, faults_by, found_by, second_events, seen_next}
+use Rattle.run_events.specs.Seconds.{span_before, bares_by, overs_by, gap_before, gap_by, faults_by, found_by, second_events}
 use Rattle.run_events.proofs.Later.{told-number, seen-same}
 use Rattle.run_recorded.specs.Origin.{Origin, rule_of, start_at, first_of}
 use Rattle.run_evented.specs.Evented.{limit_in, brought_now}
 use Rattle.run_evented.specs.Noting.{Acting, is_told}
 use Rattle.run_evented.specs.Bringing.{ChoiceBefore, TornSecond, NotFound, ATearIsBrought}
 use Rattle.run_evented.proofs.Lines.{same-before}
-use Rattle.run_evented.proofs.Fronts.{IsFormer, DifferAt, torn-same, stands-same, events-as}
-use Rattle.run_evented.proofs.Parts.{outs, found_now, finds, leaving-at, begun-former, outs-here, finds-here}
+use Rattle.run_evented.proofs.Fronts.{DifferAt, stands-same, events-as}
+use Rattle.run_evented.proofs.Parts.{outs, found_now, finds}
 use Rattle.run_evented.proofs.Brought.{SameBefore, begun-same, moved-same, course-until, within-same, differ, faults-then, found-then}
-use Rattle.run_evented.proofs.Tearing.{and-none, phase-self, slot-self, slot-apart, slot-beside, other-twice, told-here, told-beside, told-elsewhere, told_slot, both-slot, cards-kept, IsBeside, FirstBeside, turn-second, turn-few, only-other, few-first, few-alone, map-few, not-torn, few-torn}
+use Rattle.run_evented.proofs.Tearing.{and-none, phase-self, other-twice, told-here, told-beside, told-elsewhere, told_slot, both-slot, cards-kept, IsBeside, FirstBeside, turn-second, turn-few, only-other, few-first, few-alone, map-few, not-torn, few-torn}
 
 or-false : (b : Bool) → (b || false) ≡ b
 or-false true = refl

@@ -1,6 +1,6 @@
 -- What a line of a moment brings of events.
-use Rattle.std.proofs.Common.{◌≡◌, ◌⊎◌, inl, inr, ⊎_elim, ℕ, zero, suc, ◌+◌, ◌<◌, ◌≤◌, Bool, true, false, cond, not, ◌&&◌, Option, Some, None, List, [], ◌∷◌, ◌++◌, map, length, Contains, nat_eq, refl, ap, sym, subst, ◌∙◌, arith, append-nil, append_assoc}
-use Rattle.std.specs.Prelude.{◌==◌, flat_map, slice_get}
+use Rattle.std.proofs.Common.{◌≡◌, inl, ℕ, zero, suc, ◌<◌, ◌≤◌, true, not, Option, Some, None, List, ◌++◌, map, length, refl, ap, sym, ◌∙◌, arith, append_assoc}
+use Rattle.std.specs.Prelude.{flat_map, slice_get}
 use Rattle.std.specs.List.{AllByRecursion}
 use Rattle.std.proofs.lemmas.List.{map-append}
 use Rattle.std.proofs.lemmas.Grind.{flat_map-append}
@@ -9,20 +9,19 @@ use Rattle.activity_codec.specs.declared.values.Slot.TheVariants.{Driver, CoDriv
 use Rattle.trace_model.specs.declared.Action.{Action}
 use Rattle.trace_model.specs.Trace.{TraceSecond}
 use Rattle.log_model.specs.declared.lines.Verdict.{Verdict}
-use Rattle.log_model.specs.Log.{RunLog, Phase, In, Keeping, same_phase, cut_in, is_torn_in, found_in}
-use Rattle.log_model.specs.Slots.{refusal, other_slot}
+use Rattle.log_model.specs.Log.{RunLog, Phase, In, Keeping, is_torn_in, found_in}
+use Rattle.log_model.specs.Slots.{refusal}
 use Rattle.log_model.specs.Course.{Visit, Course, Before, Moved, has_power, second_told, answered, lit_course}
-use Rattle.event_model.specs.declared.kinds.TheConstants.{CARD_FAULT}
 use Rattle.event_model.specs.Events.{Event, Seen, Tearing, course_by, moved_by_action, within_by, seen_by, number_of, found_events, fault_of, torn_in_turn}
 use Rattle.run_course.specs.Moments.{SameUpTo}
 use Rattle.run_course.proofs.Moments.{later-lines}
-use Rattle.run_moments.specs.Reached.{IsBehind, IsMoment, IsUpTo, course_with, moved_with, begun_at, moved_at, course_at}
+use Rattle.run_moments.specs.Reached.{IsBehind, IsMoment, IsUpTo, course_with, moved_with, begun_at, moved_at}
 use Rattle.run_events.specs.Seconds.{faults_by, found_by}
 use Rattle.run_events.proofs.Later.{told-number}
 use Rattle.run_evented.specs.Bringing.{ChoiceBefore}
 use Rattle.run_evented.proofs.Whole.{whole-told}
 use Rattle.run_evented.proofs.Fronts.{IsFormer, turn-front, DifferAt, old-faults, old-found}
-use Rattle.run_evented.proofs.Parts.{outs, finds, both-torn, both-found, all-outs, all-finds, leaving-at, AreFormer, begun-former}
+use Rattle.run_evented.proofs.Parts.{outs, finds, both-torn, both-found, all-outs, all-finds, leaving-at, begun-former}
 
 lit-course : (log : RunLog) (before : Before) (s : TraceSecond) → has_power before s ≡ true → (second_told log before s).course ≡ lit_course log s (not before.running) before.slots
 lit-course log before s power = rw power refl

@@ -1,5 +1,5 @@
 -- What a moment more of a second leaves of the events of the moments before it.
-use Rattle.std.proofs.Common.{◌≡◌, ℕ, zero, suc, ◌<◌, Bool, true, false, cond, not, ◌&&◌, ◌||◌, Option, Some, None, List, [], ◌∷◌, ◌++◌, nat_eq, refl, ap, sym, subst, ◌∙◌, arith}
+use Rattle.std.proofs.Common.{◌≡◌, ℕ, zero, suc, Bool, true, false, cond, not, ◌&&◌, ◌||◌, Option, Some, None, List, [], ◌∷◌, ◌++◌, refl, ap, sym, ◌∙◌, arith}
 use Rattle.std.specs.Prelude.{◌==◌, nat_lt, map, filter, flat_map}
 use Rattle.std.specs.List.{AllByRecursion, list_any}
 use Rattle.std.proofs.lemmas.Bool.Decides.{nat_tests}
@@ -15,7 +15,7 @@ use Rattle.log_model.specs.Log.{RunLog, Phase, In, Keeping, same_phase, is_accep
 use Rattle.log_model.specs.Slots.{Slots, in_slot, other_slot}
 use Rattle.log_model.specs.Course.{Visit}
 use Rattle.event_model.specs.declared.kinds.TheConstants.{CARD_NOT_VALID, TIME_OVERLAP, INSERTION_WHILE_DRIVING, SESSION_NOT_CLOSED, CARD_FAULT}
-use Rattle.event_model.specs.Events.{Event, Seen, Tearing, Crew, number_of, noted_with, with_card, accepted_card, torn_at, first_card, accepted_at, standing, beside_judged, crew_judged, found_events, is_first, beside_torn, fault_of, is_codriver_first, torn_in_turn}
+use Rattle.event_model.specs.Events.{Event, Seen, Tearing, number_of, noted_with, with_card, accepted_card, torn_at, first_card, accepted_at, standing, beside_judged, crew_judged, found_events, is_first, beside_torn, fault_of, is_codriver_first, torn_in_turn}
 use Rattle.run_moments.specs.Reached.{IsBehind}
 
 -- a visit came at a moment before this one

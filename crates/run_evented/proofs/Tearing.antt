@@ -1,28 +1,21 @@
 -- What the tear of a card brings: its fault alone.
-use Rattle.std.proofs.Common.{◌≡◌, ◌⊎◌, inl, inr, ⊎_elim, ℕ, zero, suc, ◌+◌, ◌<◌, Bool, true, false, cond, not, ◌&&◌, ◌||◌, Option, Some, None, List, [], ◌∷◌, ◌++◌, map, length, Contains, nat_eq, is_some, refl, ap, sym, subst, ◌∙◌, arith, append-nil}
-use Rattle.std.specs.Prelude.{◌==◌, flat_map, option_map}
+use Rattle.std.proofs.Common.{◌≡◌, ◌⊎◌, inl, inr, ⊎_elim, ℕ, Bool, true, false, cond, ◌&&◌, ◌||◌, Option, Some, None, List, [], ◌∷◌, ◌++◌, map, nat_eq, refl, ap, sym, ◌∙◌, arith, append-nil}
+use Rattle.std.specs.Prelude.{option_map}
 use Rattle.std.specs.List.{AllByRecursion, list_any}
-use Rattle.std.proofs.lemmas.Bool.{eqb-true, eqb-false, ne_eqb}
 use Rattle.std.proofs.lemmas.Bool.Decides.{nat_tests}
-use Rattle.std.proofs.lemmas.List.{map-append}
 use Rattle.std.proofs.lemmas.List.Folds.{list_any-append}
 use Rattle.activity_codec.specs.declared.values.Slot.{Slot}
 use Rattle.activity_codec.specs.declared.values.Slot.TheVariants.{Driver, CoDriver}
 use Rattle.activity_codec.specs.Activity.{same_slot}
 use Rattle.trace_model.specs.declared.Card.{Card}
-use Rattle.trace_model.specs.Trace.{TraceSecond}
-use Rattle.run_model.specs.declared.Device.{Device}
-use Rattle.log_model.specs.declared.lines.Break.{Break}
 use Rattle.log_model.specs.declared.lines.Break.TheVariants.{Tear}
 use Rattle.log_model.specs.declared.lines.Verdict.{Verdict}
-use Rattle.log_model.specs.Log.{RunLog, Phase, In, Keeping, same_phase, phase_of, tears_here, is_torn_in, found_in, is_accepting}
-use Rattle.log_model.specs.Slots.{Slots, Sitting, in_slot, other_slot}
-use Rattle.log_model.specs.Course.{Visit, Course, Before, Moved, card_in, visits, with_slot, leaves, slot_told, both_told}
-use Rattle.event_model.specs.Events.{Event, Seen, Tearing, is_first, torn_at, fault_of, torn_in_turn, is_codriver_first}
-use Rattle.run_moments.specs.Reached.{IsBehind, IsTearAt}
-use Rattle.run_evented.specs.Bringing.{TornSecond}
-use Rattle.run_evented.proofs.Fronts.{IsFormer, former-other, DifferAt}
-use Rattle.run_evented.proofs.Parts.{outs, found_now, finds, judged, torn_so, accepted_so, slot-other}
+use Rattle.log_model.specs.Log.{RunLog, Phase, In, Keeping, same_phase, phase_of, tears_here, is_torn_in, is_accepting}
+use Rattle.log_model.specs.Slots.{Sitting, in_slot, other_slot}
+use Rattle.log_model.specs.Course.{Visit, Course, Moved, card_in, visits, slot_told, both_told}
+use Rattle.event_model.specs.Events.{Event, Seen, Tearing, torn_at, torn_in_turn, is_codriver_first}
+use Rattle.run_evented.proofs.Fronts.{IsFormer, former-other}
+use Rattle.run_evented.proofs.Parts.{outs, found_now, judged, torn_so, accepted_so, slot-other}
 
 -- ---- tests
 pub and-none : (b : Bool) → (b && false) ≡ false
