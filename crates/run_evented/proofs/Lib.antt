@@ -2,5 +2,12 @@ pub mod Lines
 pub mod Seconds
 pub mod Dark
 pub mod Ends
+pub mod Unlit
+pub mod Quiet
 pub mod Whole
 pub mod Noting
+pub mod Fronts
+pub mod Parts
+pub mod Brought
+pub mod Tearing
+pub mod Bringing

@@ -2,32 +2,29 @@
 use Rattle.std.proofs.Common.{◌≡◌, ◌⊎◌, inl, inr, ⊎_elim, ℕ, suc, Bool, true, false, cond, not, ◌&&◌, List, [], ◌∷◌, ◌++◌, Contains, nat_eq, refl, ap, sym, subst, ◌∙◌, arith}
 use Rattle.std.specs.Prelude.{◌==◌, map, flat_map}
 use Rattle.std.proofs.lemmas.List.Elements.{filter-append}
-use Rattle.trace_model.specs.declared.Action.{Action}
 use Rattle.trace_model.specs.Trace.{TraceSecond}
 use Rattle.tach_media.specs.Medium.{State}
-use Rattle.run_model.specs.declared.Device.{Device}
 use Rattle.log_model.specs.declared.lines.Verdict.{Verdict}
-use Rattle.log_model.specs.Log.{RunLog, Phase, In, Keeping}
-use Rattle.log_model.specs.Course.{Told, Visit, Before, Course, Went, fresh, lit_course, has_power, second_told, went}
+use Rattle.log_model.specs.Log.{RunLog, In}
+use Rattle.log_model.specs.Course.{Told, Visit, Before, Course, lit_course, has_power, second_told, went}
 use Rattle.event_model.specs.declared.kinds.TheConstants.{DRIVING_WITHOUT_CARD, OVER_SPEEDING, POWER_INTERRUPTION, CARD_FAULT}
 use Rattle.event_model.specs.Events.{Event, Seen, Tearing, fault_of, torn_in_turn, found_events, number_of, seen_of, seen_spans, events_of}
 use Rattle.unit_course.specs.Lines.{cut_at}
-use Rattle.unit_course.specs.Followed.{Supply, Lit, Lost}
+use Rattle.unit_course.specs.Followed.{Lit}
 use Rattle.unit_course.specs.Turn.{begins_with}
 use Rattle.safety_model.specs.Safe.{Devices}
 use Rattle.event_course.specs.Shown.{all_kinds}
 use Rattle.event_course.specs.Noted.{are_sure}
 use Rattle.run_course.specs.Moments.{and_break}
-use Rattle.run_course.specs.Followed.{Progress, Followed}
+use Rattle.run_course.specs.Followed.{Progress}
 use Rattle.run_course.specs.Seconds.{GoesOnBy, next_told}
 use Rattle.run_course.proofs.Steps.{with-supply}
 use Rattle.run_course.proofs.Told.{lit-power, lit-starts, lit-told}
-use Rattle.run_moments.specs.Reached.{IsUpTo, course_at}
-use Rattle.run_moments.specs.Moment.{Moment, goes_on}
+use Rattle.run_moments.specs.Moment.{goes_on}
 use Rattle.run_moments.specs.Telling.{begun_by}
 use Rattle.run_moments.proofs.Reached.{second-reached}
 use Rattle.run_moments.proofs.Telling.{second-ends_told, cut-ends_told}
-use Rattle.run_events.specs.Shown.{by_kind, none, ShowsEvents, ShowsMore}
+use Rattle.run_events.specs.Shown.{by_kind, none, ShowsEvents}
 use Rattle.run_events.specs.Seconds.{span_before, bares_by, overs_by, gap_before, gap_by, faults_by, found_by, second_events, seen_next}
 use Rattle.run_events.specs.Choice.{IsPlainFrom, plain}
 use Rattle.run_events.specs.Running.{HasEvents}
@@ -38,9 +35,9 @@ use Rattle.run_events.proofs.Ordered.{behind}
 use Rattle.run_events.proofs.Quiet.{plain-behind}
 use Rattle.run_recorded.specs.Origin.{Origin, rule_of, start_at, first_of}
 use Rattle.run_recorded.specs.Beside.{HaveLeftMore}
-use Rattle.run_evented.specs.Evented.{number_in, limit_in, session_in, images_in, Evented, EventedBy, NotesMore, events_now, brought_now, tearing_now, sessions_now}
-use Rattle.run_evented.specs.Noting.{Stage, Ended, is_told, AreOpen, ShowsThese, EventedIn, NotesThese, AStepIsNoted, AStageIsDone, stage_of, TheSecondBegins, TheSecondIsNoted, TheSecondIsCut}
-use Rattle.run_evented.proofs.Lines.{same-before, stay-failed, tells-so, front-same, early-before, sessions-on}
+use Rattle.run_evented.specs.Evented.{number_in, limit_in, events_now, brought_now, tearing_now, sessions_now}
+use Rattle.run_evented.specs.Noting.{Stage, Ended, is_told, ShowsThese, EventedIn, NotesThese, AStepIsNoted, AStageIsDone, stage_of, TheSecondBegins, TheSecondIsNoted, TheSecondIsCut}
+use Rattle.run_evented.proofs.Lines.{same-before, tells-so, front-same, early-before, sessions-on}
 use Rattle.run_evented.proofs.Seconds.{cut-goes, cut-failed, cut-untold}
 use Rattle.run_evented.proofs.Whole.{whole-told}
 

@@ -1,16 +1,16 @@
 -- The course of a whole second by a log that tells of it up to a moment.
-use Rattle.std.proofs.Common.{◌≡◌, ℕ, zero, suc, ◌+◌, ◌<◌, ◌≤◌, Bool, true, false, cond, not, ◌||◌, Option, Some, None, List, [], ◌∷◌, length, take, is_some, refl, ap, sym, ◌∙◌, arith}
+use Rattle.std.proofs.Common.{◌≡◌, ℕ, zero, suc, ◌+◌, ◌<◌, false, cond, not, ◌||◌, Option, Some, None, List, [], ◌∷◌, length, take, is_some, refl, ap, sym, ◌∙◌, arith}
 use Rattle.activity_codec.specs.declared.values.Slot.{Slot}
 use Rattle.trace_model.specs.declared.Action.{Action}
 use Rattle.trace_model.specs.declared.Action.TheVariants.{Select, Insert, Withdraw, Tear as Pull, Place}
 use Rattle.trace_model.specs.Trace.{TraceSecond}
 use Rattle.log_model.specs.declared.lines.SlotFault.{SlotFault}
 use Rattle.log_model.specs.Log.{RunLog, Phase, In, Keeping, cut_in, is_torn_in, found_in}
-use Rattle.log_model.specs.Slots.{Slots, refusal}
+use Rattle.log_model.specs.Slots.{refusal}
 use Rattle.log_model.specs.Course.{Course, Before, begins, is_settling, both_told, unmoved, moved_by, fresh, acted, all_acted, answered, cut_told, lit_course}
 use Rattle.event_model.specs.Events.{course_by}
 use Rattle.run_course.proofs.Moments.{both-still}
-use Rattle.run_moments.specs.Reached.{IsBehind, IsMoment, IsUpTo, course_at}
+use Rattle.run_moments.specs.Reached.{IsMoment, IsUpTo, course_at}
 use Rattle.run_moments.proofs.Reached.{at-by}
 
 -- two courses have the same tears and finds
@@ -24,7 +24,7 @@ then a b c x y = record { torn = y.torn ∙ x.torn; found = y.found ∙ x.found 
 told-acts_ : (c d : Course) → d ≡ c → IsTold c d
 told-acts_ c d is = record { torn = ap (λ (x : Course). x.torn) is; found = ap (λ (x : Course). x.found) is }
 
-answered-told : (n : ℕ) (o : Option SlotFault) (a : Action) (c : Course) → IsTold c (answered n o a c)
+pub answered-told : (n : ℕ) (o : Option SlotFault) (a : Action) (c : Course) → IsTold c (answered n o a c)
 answered-told n (Some r) a c = record { torn = refl; found = refl }
 answered-told n None (Select slot pick) c = record { torn = refl; found = refl }
 answered-told n None (Insert slot card) c = record { torn = refl; found = refl }

@@ -1,2 +1,4 @@
 pub mod Evented
+pub mod Going
 pub mod Noting
+pub mod Bringing

@@ -1,6 +1,7 @@
 ghost use Rattle.run_rule.specs.Between.{devices};
 ghost use Rattle.run_evented.specs.Evented.{EventsStay, EventsAreFound, ASecondIsNoted, ASecondIsBroken, APowerOnIsBroken, ADarkSecondBringsNothing, AnOffCutBringsNothing, NothingIsNoted, EventsAreShown};
 ghost use Rattle.run_evented.specs.Noting.{AStepIsNoted, AStageIsDone, TheSecondBegins, TheSecondIsNoted, TheSecondIsCut};
+ghost use Rattle.run_evented.specs.Bringing.{ATearIsBrought};
 
 use tach_media::{Chip, Medium};
 
@@ -135,4 +136,9 @@ pub fn the_second_begins<M: Medium, C: Chip, D: Chip>(unit: &M, card_a: &C, card
 /// A second ends, and all that it brings is noted.
 pub fn the_second_is_noted<M: Medium, C: Chip, D: Chip>(unit: &M, card_a: &C, card_b: &D)
     ensures { TheSecondIsNoted (devices (M.state unit.now) (C.state card_a.now) (D.state card_b.now)) }
+{}
+
+/// A card is torn out in an action or in the keeping, and its fault alone is brought.
+pub fn a_tear_is_brought()
+    ensures { ATearIsBrought }
 {}

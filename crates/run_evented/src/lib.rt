@@ -1,11 +1,16 @@
 //! The events of a run with cards as its recorder carries them (profile): definitions (specs/), and laws that its loop cites.
 #![tactic(auto)]
 
+mod going;
 mod laws;
 
+pub use going::{
+    an_off_line_brings_nothing, an_off_line_cuts_and_brings_nothing, dark_seconds_bring_nothing,
+    quiet_seconds_bring_nothing, seconds_alike_end_nothing,
+};
 pub use laws::{
     a_dark_second_brings_nothing, a_power_on_is_broken, a_second_is_broken, a_second_is_noted,
-    a_stage_is_done, a_step_is_noted, an_off_cut_brings_nothing, events_are_found,
-    events_are_shown, events_stay, nothing_is_noted, the_second_begins, the_second_is_cut,
-    the_second_is_noted,
+    a_stage_is_done, a_step_is_noted, a_tear_is_brought, an_off_cut_brings_nothing,
+    events_are_found, events_are_shown, events_stay, nothing_is_noted, the_second_begins,
+    the_second_is_cut, the_second_is_noted,
 };
