@@ -1,0 +1,9 @@
+//! The rings of insertions and places of a unit as a recorder with cards carries them (profile): definitions (specs/), and laws that its loop cites.
+#![tactic(auto)]
+
+mod laws;
+
+pub use laws::{
+    a_place_is_broken, a_place_is_noted, a_second_notes, an_insertion_is_broken,
+    an_insertion_is_noted, fewer_sit, no_ring_is_written, rings_stay,
+};
