@@ -1,3 +1,5 @@
 pub mod Stands
 pub mod Noted
 pub mod Rings
+pub mod Withdrawn
+pub mod Shown

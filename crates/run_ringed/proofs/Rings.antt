@@ -1,11 +1,10 @@
 -- What is carried of the rings, over each step.
-use Rattle.std.proofs.Common.{◌≡◌, ◌⊎◌, inl, inr, ⊎_elim, ℕ, suc, ◌+◌, ◌≤◌, min, Bool, true, false, cond, not, ◌||◌, Option, Some, None, IfSome, option_map, List, [], ◌∷◌, ◌++◌, drop, length, map, refl, ap, sym, subst, ◌∙◌, arith, append_assoc, append-nil}
-use Rattle.std.specs.Prelude.{◌==◌}
+use Rattle.std.proofs.Common.{◌≡◌, ◌⊎◌, inl, inr, ⊎_elim, ℕ, suc, ◌+◌, ◌-◌, ◌≤◌, min, Bool, true, false, not, ◌||◌, Option, Some, None, IfSome, option_map, List, [], ◌∷◌, ◌++◌, drop, length, map, refl, ap, sym, subst, ◌∙◌, arith, append_assoc, append-nil}
 use Rattle.std.specs.List.{AllByRecursion, list_any}
-use Rattle.std.proofs.lemmas.List.{length-take, length-map, length-append}
+use Rattle.std.proofs.lemmas.List.{length-take, length-drop, length-map, length-append}
 use Rattle.byte_fields.specs.Images.{bytes_at}
 use Rattle.trace_model.specs.declared.Card.{Card}
-use Rattle.gated_ring.specs.Ring.{Shape, IsShape, PointsInside, size_of, place_of, indices, ring_list, entry_at, taken, staying, without_first, with_head}
+use Rattle.gated_ring.specs.Ring.{Shape, IsShape, PointsInside, size_of, place_of, indices, ring_list, entry_at, taken, staying, with_head, newest_of, IsDense}
 use Rattle.gated_ring.specs.Change.{IsAdded, IsAdding}
 use Rattle.gated_ring.proofs.Elsewhere.{ring_outside, ring_elsewhere}
 use Rattle.message_model.specs.Records.{insertion_ring, unit_place_ring}
@@ -23,12 +22,12 @@ use Rattle.run_rings.proofs.Standing.{stand-one, stand-unsure}
 use Rattle.run_recorded.specs.Origin.{Origin}
 use Rattle.run_recorded.specs.Beside.{HaveLeftMore}
 use Rattle.run_ringed.specs.Ringed.{holder_in, TellsIn, IsInsertionIn, IsPlaceIn, sure_insertion, sure_place, ShowsNotes, Seating, one_behind, IsSeated, HasRing, ShowsInsertions, Ringed, HasSameRings, StaysInRings, GoOn, NoRingIsWritten, RingsStay, FewerSit, AnInsertionIsNoted, APlaceIsNoted, AnInsertionIsBroken, APlaceIsBroken}
-use Rattle.run_ringed.proofs.Stands.{Weaker, stand-as, all-parts, all-of, all-each, with-whole, insertions-more, places-more, insertion-as, place-as}
+use Rattle.run_ringed.proofs.Stands.{Weaker, stand-as, each-as, each-append, all-parts, all-of, all-each, with-whole, insertions-more, places-more, insertion-as, place-as}
 
-insertion_shape : IsShape insertion_ring
+pub insertion_shape : IsShape insertion_ring
 insertion_shape = record { some = omega arith; gate = omega arith; pointer = omega arith; holds = λ _. omega arith; short = omega arith }
 
-place_shape : IsShape unit_place_ring
+pub place_shape : IsShape unit_place_ring
 place_shape = record { some = omega arith; gate = omega arith; pointer = omega arith; holds = λ _. omega arith; short = omega arith }
 
 entry-fits : (r : Shape) (x : List ℕ) (i : ℕ) → length (entry_at r x i) ≤ r.width
@@ -80,10 +79,10 @@ module _ (o : Origin) (log later : RunLog) (spans now : List SpanFrom) (notes : 
       (places_of notes) on.places
 
   -- an accepted card stays, where the ring shows the same
-  pub seated-as : (c : Card) (q : Option Seating) (ms : List (List ℕ)) (x y : List ℕ) → indices insertion_ring y ≡ indices insertion_ring x → ring_list insertion_ring y ≡ ring_list insertion_ring x →
+  pub seated-as : (c : Card) (q : Option Seating) (ms : List (List ℕ)) (x y : List ℕ) → indices insertion_ring y ≡ indices insertion_ring x →
       IfSome q (λ s. IsSeated (sure_insertion o log spans) (IsInsertionIn o log spans d) c s (insertions_of notes) ms x) → IfSome q (λ s. IsSeated (sure_insertion o later now) (IsInsertionIn o later now e) c s (insertions_of notes) ms y)
-  seated-as c None ms x y same list is = tt
-  seated-as c (Some s) ms x y same list is =
+  seated-as c None ms x y same is = tt
+  seated-as c (Some s) ms x y same is =
       let parts = all-parts (Weaker (sure_insertion o log spans) (sure_insertion o later now) (IsInsertionIn o log spans d) (IsInsertionIn o later now e)) (insertions_of notes) is.older is.own is.newer is.notes_are insertions-weaker in
       record {
         older = is.older;
@@ -99,13 +98,13 @@ module _ (o : Origin) (log later : RunLog) (spans now : List SpanFrom) (notes : 
         more_are = is.more_are;
         stand_before = stand-as (sure_insertion o log spans) (sure_insertion o later now) (IsInsertionIn o log spans d) (IsInsertionIn o later now e) is.older is.olders parts.0 is.stand_before;
         is = parts.1.1 is.entry is.is;
-        stand_behind = stand-as (sure_insertion o log spans) (sure_insertion o later now) (IsInsertionIn o log spans d) (IsInsertionIn o later now e) is.newer is.newers parts.2 is.stand_behind;
+        each_behind = each-as (sure_insertion o log spans) (sure_insertion o later now) (IsInsertionIn o log spans d) (IsInsertionIn o later now e) is.newer is.newers parts.2 is.each_behind;
         behind = is.behind;
-        there = ⊎_elim (λ at. inl (at.0, at.1, same ∙ at.2, at.3)) (λ gone. inr (subst (λ (l : List (List ℕ)). length l ≤ s.behind) (sym list) gone)) is.there;
+        there = ⊎_elim (λ at. inl (at.0, at.1, same ∙ at.2, at.3)) (λ gone. inr gone) is.there;
       }
 
 -- nothing of the log and the spans
-go-on : (log : RunLog) (spans : List SpanFrom) (notes : List Note) → GoOn log log spans spans notes
+pub go-on : (log : RunLog) (spans : List SpanFrom) (notes : List Note) → GoOn log log spans spans notes
 go-on log spans notes = record {
   failed = λ u has. has;
   insertions = all-each (λ (i : InsertionNote). (odometer_at i.accepted.second spans ≡ odometer_at i.accepted.second spans) × IfSome i.withdrawn (λ u. odometer_at u spans ≡ odometer_at u spans)) (λ i. (refl, by i.withdrawn)) (insertions_of notes);
@@ -128,7 +127,7 @@ rings-stay d e o log later spans now notes seats v stays more on = record {
           carries = carries-same insertion_ring o.recording.unit w.0 was.shows.more was.shows.carries insertion_shape y w.2.insertions;
           stand = stand-as (sure_insertion o log spans) (sure_insertion o later now) (IsInsertionIn o log spans d) (IsInsertionIn o later now e) (insertions_of notes) was.shows.more (insertions-weaker o log later spans now notes d e more on) was.shows.stand;
         };
-        seated = λ c. seated-as o log later spans now notes d e more on c (seats c) was.shows.more w.0 y is.1 is.2 (was.seated c);
+        seated = λ c. seated-as o log later spans now notes d e more on c (seats c) was.shows.more w.0 y is.1 (was.seated c);
       };
   places = λ ring y left.
       let w = stays y left in
@@ -173,14 +172,6 @@ none-behind c (k ∷ newer) n none other =
     or-false (same_card k.accepted.card c) (list_any (λ (j : InsertionNote). same_card j.accepted.card c) newer) (list_any (λ (j : InsertionNote). same_card j.accepted.card c) (newer ++ n ∷ [])) none
     (λ rest. none-behind c newer n rest other)
 
-fewer-stay : (t : ℕ) (js : List ℕ) → length (without_first t js) ≤ length js
-fewer-stay t [] = omega arith
-fewer-stay t (j ∷ js) = by (j == t)
-  where
-    by : (b : Bool) → length (cond b js (j ∷ js)) ≤ suc (length js)
-    by true = omega arith
-    by false = omega arith
-
 -- ---- A PLACE
 
 pub place-noted : (d e : Devices) → APlaceIsNoted d e
@@ -198,7 +189,7 @@ place-noted d e o log spans notes seats v more p head added full is = record {
               (stand-as (sure_insertion o log spans) (sure_insertion o log spans) (IsInsertionIn o log spans d) (IsInsertionIn o log spans e) (insertions_of notes) was.shows.more (insertions-weaker o log log spans spans notes d e more (go-on log spans notes)) was.shows.stand);
         };
         seated = λ c. subst (λ (l : List InsertionNote). IfSome (seats c) (λ s. IsSeated (sure_insertion o log spans) (IsInsertionIn o log spans e) c s l was.shows.more y)) (sym notes-same)
-            (seated-as o log log spans spans notes d e more (go-on log spans notes) c (seats c) was.shows.more w.0 y same.1 same.2 (was.seated c));
+            (seated-as o log log spans spans notes d e more (go-on log spans notes) c (seats c) was.shows.more w.0 y same.1 (was.seated c));
       };
   places = λ ring y left.
       let w = added y left in
@@ -236,11 +227,11 @@ place-broken d e o log spans notes seats v more p head adding full is has = reco
 -- ---- AN INSERTION
 
 -- the cards that were accepted before
-seated-more : (sure : InsertionNote → Bool) (Is : InsertionNote → List ℕ → Type 0) (c : Card) (q : Option Seating) (ns : List InsertionNote) (ms : List (List ℕ)) (x y : List ℕ) (a : Acceptance) (head : List ℕ) → PointsInside insertion_ring x → IsAdded insertion_ring head x y →
+seated-more : (sure : InsertionNote → Bool) (Is : InsertionNote → List ℕ → Type 0) (c : Card) (q : Option Seating) (ns : List InsertionNote) (ms : List (List ℕ)) (x y : List ℕ) (a : Acceptance) (head : List ℕ) → PointsInside insertion_ring x → IsDense insertion_ring x → IsAdded insertion_ring head x y →
     same_card a.card c ≡ false → Is (record { accepted = a; withdrawn = None }) head → IfSome q (λ s. IsSeated sure Is c s ns ms x) →
     IfSome (option_map one_behind q) (λ s. IsSeated sure Is c s (ns ++ record { accepted = a; withdrawn = None } ∷ []) (ms ++ head ∷ []) y)
-seated-more sure Is c None ns ms x y a head points added other is sits = tt
-seated-more sure Is c (Some s) ns ms x y a head points added other is sits = record {
+seated-more sure Is c None ns ms x y a head points dense added other is sits = tt
+seated-more sure Is c (Some s) ns ms x y a head points dense added other is sits = record {
   older = sits.older;
   own = sits.own;
   newer = sits.newer ++ record { accepted = a; withdrawn = None } ∷ [];
@@ -254,25 +245,27 @@ seated-more sure Is c (Some s) ns ms x y a head points added other is sits = rec
   more_are = ap (λ (l : List (List ℕ)). l ++ head ∷ []) sits.more_are ∙ append_assoc sits.olders (sits.entry ∷ sits.newers) (head ∷ []);
   stand_before = sits.stand_before;
   is = sits.is;
-  stand_behind = stand-one sure Is sits.newer sits.newers (record { accepted = a; withdrawn = None }) head sits.stand_behind is;
+  each_behind = each-append Is sits.newer (record { accepted = a; withdrawn = None } ∷ []) sits.newers (head ∷ []) sits.each_behind (is, tt);
   behind = (let long : length (sits.newers ++ head ∷ []) ≡ length sits.newers + 1 = length-append sits.newers (head ∷ []) in let was = sits.behind in omega (arith, long, was));
   there = ⊎_elim
       (λ at. ⊎_elim
       (λ stays. inl (stays.0, at.1 ++ taken insertion_ring x ∷ [], stays.1, (let long : length (at.1 ++ taken insertion_ring x ∷ []) ≡ length at.1 + 1 = length-append at.1 (taken insertion_ring x ∷ []) in let was = at.3 in omega (arith, long, was))))
       (λ gone. inr (
       let list-is : length (ring_list insertion_ring y) ≡ length (indices insertion_ring y) = length-map (indices insertion_ring y) (entry_at insertion_ring y) in
+      let was : length (ring_list insertion_ring x) ≡ length (indices insertion_ring x) = length-map (indices insertion_ring x) (entry_at insertion_ring x) in
       let now : length (indices insertion_ring y) ≡ length (at.1 ++ taken insertion_ring x ∷ []) = ap (λ (l : List ℕ). length l) gone.1 in
       let long : length (at.1 ++ taken insertion_ring x ∷ []) ≡ length at.1 + 1 = length-append at.1 (taken insertion_ring x ∷ []) in
-      let was = at.3 in
-      omega (arith, list-is, now, long, was)))
+      let there : length (indices insertion_ring x) ≡ suc (length at.1) = ap (λ (l : List ℕ). length l) at.2 ∙ ap (λ (l : List ℕ). length (l ++ s.index ∷ at.1)) gone.0 in
+      let newest : length (ring_list insertion_ring y) ≡ length (newest_of insertion_ring.count (ring_list insertion_ring x ++ with_head insertion_ring x (taken insertion_ring x) head ∷ [])) =
+      ap (λ (l : List (List ℕ)). length l) ((added.list points).newest dense) in
+      let cut : length (newest_of insertion_ring.count (ring_list insertion_ring x ++ with_head insertion_ring x (taken insertion_ring x) head ∷ []))
+      ≡ length (ring_list insertion_ring x ++ with_head insertion_ring x (taken insertion_ring x) head ∷ []) - (length (ring_list insertion_ring x ++ with_head insertion_ring x (taken insertion_ring x) head ∷ []) - insertion_ring.count) =
+      length-drop (length (ring_list insertion_ring x ++ with_head insertion_ring x (taken insertion_ring x) head ∷ []) - insertion_ring.count) (ring_list insertion_ring x ++ with_head insertion_ring x (taken insertion_ring x) head ∷ []) in
+      let one : length (ring_list insertion_ring x ++ with_head insertion_ring x (taken insertion_ring x) head ∷ []) ≡ length (ring_list insertion_ring x) + 1 = length-append (ring_list insertion_ring x) (with_head insertion_ring x (taken insertion_ring x) head ∷ []) in
+      let so = at.3 in
+      omega (arith, list-is, was, now, long, there, newest, cut, one, so)))
       (index-stays insertion_ring head x y points added at.0 s.index at.1 at.2))
-      (λ few. inr (
-      let list-is : length (ring_list insertion_ring y) ≡ length (indices insertion_ring y) = length-map (indices insertion_ring y) (entry_at insertion_ring y) in
-      let was : length (ring_list insertion_ring x) ≡ length (indices insertion_ring x) = length-map (indices insertion_ring x) (entry_at insertion_ring x) in
-      let now : length (indices insertion_ring y) ≡ length (staying insertion_ring x ++ taken insertion_ring x ∷ []) = ap (λ (l : List ℕ). length l) (added.list points).indices_are in
-      let long : length (staying insertion_ring x ++ taken insertion_ring x ∷ []) ≡ length (staying insertion_ring x) + 1 = length-append (staying insertion_ring x) (taken insertion_ring x ∷ []) in
-      let less : length (staying insertion_ring x) ≤ length (indices insertion_ring x) = fewer-stay (taken insertion_ring x) (indices insertion_ring x) in
-      omega (arith, list-is, was, now, long, less, few)))
+      (λ few. inr (omega (arith, few)))
       sits.there;
 }
 
@@ -292,8 +285,8 @@ insertion-noted d e o log spans notes seats now v more a head index added full i
         };
         seated = λ c. subst (λ (l : List InsertionNote). IfSome (now c) (λ s. IsSeated (sure_insertion o log spans) (IsInsertionIn o log spans e) c s l (was.shows.more ++ head ∷ []) y)) (sym are) (⊎_elim
             (λ other. subst (λ (q : Option Seating). IfSome q (λ s. IsSeated (sure_insertion o log spans) (IsInsertionIn o log spans e) c s (insertions_of notes ++ record { accepted = a; withdrawn = None } ∷ []) (was.shows.more ++ head ∷ []) y)) (sym other.1)
-            (seated-more (sure_insertion o log spans) (IsInsertionIn o log spans e) c (seats c) (insertions_of notes) was.shows.more w.0 y a head points w.2 other.0 is
-            (seated-as o log log spans spans notes d e more (go-on log spans notes) c (seats c) was.shows.more w.0 w.0 refl refl (was.seated c))))
+            (seated-more (sure_insertion o log spans) (IsInsertionIn o log spans e) c (seats c) (insertions_of notes) was.shows.more w.0 y a head points was.shows.carries.dense w.2 other.0 is
+            (seated-as o log log spans spans notes d e more (go-on log spans notes) c (seats c) was.shows.more w.0 w.0 refl (was.seated c))))
             (λ own. subst (λ (q : Option Seating). IfSome q (λ s. IsSeated (sure_insertion o log spans) (IsInsertionIn o log spans e) c s (insertions_of notes ++ record { accepted = a; withdrawn = None } ∷ []) (was.shows.more ++ head ∷ []) y)) (sym own.1)
             (record {
               older = insertions_of notes;
@@ -309,7 +302,7 @@ insertion-noted d e o log spans notes seats now v more a head index added full i
               more_are = refl;
               stand_before = stands;
               is = is;
-              stand_behind = refl;
+              each_behind = tt;
               behind = refl;
               there = inl (staying insertion_ring w.0, [], (w.2.list points).indices_are ∙ ap (λ (t : ℕ). staying insertion_ring w.0 ++ t ∷ []) (sym (w.3 points)), refl);
             }))

@@ -1,5 +1,5 @@
 -- Entries that stand for notes, as a log and the power spans go on, and as notes are added.
-use Rattle.std.proofs.Common.{◌≡◌, inl, inr, ⊎_elim, ℕ, ◌≤◌, Bool, true, false, not, Option, Some, None, IfSome, List, [], ◌∷◌, ◌++◌, drop, fold, length, refl, ap, sym, subst, ◌∙◌, arith, append-nil}
+use Rattle.std.proofs.Common.{◌≡◌, inl, inr, ⊎_elim, ℕ, suc, ◌≤◌, Bool, true, false, not, Option, Some, None, IfSome, List, [], ◌∷◌, ◌++◌, drop, fold, length, refl, ap, sym, subst, ◌∙◌, arith, append-nil}
 use Rattle.std.specs.Prelude.{flat_map}
 use Rattle.std.specs.List.{AllByRecursion}
 use Rattle.std.proofs.lemmas.Grind.{flat_map-append}
@@ -11,6 +11,7 @@ use Rattle.log_model.specs.Log.{RunLog}
 use Rattle.side_model.specs.Done.{has_failed_in}
 use Rattle.side_model.specs.Odometer.{SpanFrom, odometer_at}
 use Rattle.side_model.specs.Noted.{Acceptance, InsertionNote, PlaceNote, Note, Accepts, Enters, with_note, place_in, insertions_of, places_of}
+use Rattle.run_ringed.specs.Ringed.{Each}
 use Rattle.side_model.specs.Rings.{Holder, Stand, TellsWithdrawal, IsInsertion, IsPlace, is_sure_insertion, is_sure_place}
 
 -- less is sure, and what stood for a note does
@@ -22,6 +23,42 @@ module _ {N : Type 0} (sure still : N → Bool) (Is Now : N → List ℕ → Typ
   stand-as [] entries all none = none
   stand-as (n ∷ notes) entries all (inl (e, rest, are, is, stand)) = inl (e, rest, are, all.0.1 e is, stand-as notes rest all.1 stand)
   stand-as (n ∷ notes) entries all (inr (unsure, stand)) = inr (all.0.0 unsure, stand-as notes entries all.1 stand)
+
+  pub each-as : (notes : List N) (entries : List (List ℕ)) → AllByRecursion Weaker notes → Each Is notes entries → Each Now notes entries
+  each-as [] [] all none = tt
+  each-as [] (e ∷ entries) all never = never
+  each-as (n ∷ notes) [] all never = never
+  each-as (n ∷ notes) (e ∷ entries) all each = (all.0.1 e each.0, each-as notes entries all.1 each.1)
+
+module _ {N : Type 0} (sure : N → Bool) (Is : N → List ℕ → Type 0) where
+  pub each-stand : (notes : List N) (entries : List (List ℕ)) → Each Is notes entries → Stand sure Is notes entries
+  each-stand [] [] none = refl
+  each-stand [] (e ∷ entries) never = absurd never
+  each-stand (n ∷ notes) [] never = absurd never
+  each-stand (n ∷ notes) (e ∷ entries) each = inl (e, entries, refl, each.0, each-stand notes entries each.1)
+
+module _ {N : Type 0} (Is : N → List ℕ → Type 0) where
+  pub each-long : (notes : List N) (entries : List (List ℕ)) → Each Is notes entries → length entries ≡ length notes
+  each-long [] [] none = refl
+  each-long [] (e ∷ entries) never = absurd never
+  each-long (n ∷ notes) [] never = absurd never
+  each-long (n ∷ notes) (e ∷ entries) each = ap suc (each-long notes entries each.1)
+
+  pub each-append : (notes more : List N) (entries others : List (List ℕ)) → Each Is notes entries → Each Is more others → Each Is (notes ++ more) (entries ++ others)
+  each-append [] more [] others none h = h
+  each-append [] more (e ∷ entries) others never h = absurd never
+  each-append (n ∷ notes) more [] others never h = absurd never
+  each-append (n ∷ notes) more (e ∷ entries) others each h = (each.0, each-append notes more entries others each.1 h)
+
+  -- of some, then one, then more
+  pub each-split : (mid : List N) (own : N) (newer : List N) (entries : List (List ℕ)) → Each Is (mid ++ own ∷ newer) entries →
+      (front : List (List ℕ)) × (e : List ℕ) × (back : List (List ℕ)) × (entries ≡ front ++ e ∷ back) × Each Is mid front × Is own e × Each Is newer back
+  each-split [] own newer [] never = absurd never
+  each-split [] own newer (e ∷ entries) each = ([], e, entries, refl, tt, each.0, each.1)
+  each-split (n ∷ mid) own newer [] never = absurd never
+  each-split (n ∷ mid) own newer (e ∷ entries) each =
+      let rest = each-split mid own newer entries each.1 in
+      (e ∷ rest.0, rest.1, rest.2, ap (λ (l : List (List ℕ)). e ∷ l) rest.3, (each.0, rest.4), rest.5, rest.6)
 
 all-front : {X : Type 0} (P : X → Type 0) (xs ys : List X) → AllByRecursion P (xs ++ ys) → AllByRecursion P xs
 all-front P [] ys all = tt

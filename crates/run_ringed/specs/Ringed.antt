@@ -1,20 +1,23 @@
 -- What the rings of insertions and places of a unit carry of a run with cards (profile), from note to note.
-use Rattle.std.specs.Prelude.{◌≡◌, ◌⊎◌, ℕ, suc, ◌≤◌, Bool, true, false, Option, Some, None, IfSome, option_map, List, [], ◌∷◌, ◌++◌, length}
+use Rattle.std.specs.Prelude.{◌≡◌, ◌⊎◌, ℕ, suc, ◌<◌, ◌≤◌, ◌^◌, Bool, true, false, Option, Some, None, IfSome, option_map, List, [], ◌∷◌, ◌++◌, length}
 use Rattle.std.specs.List.{AllByRecursion, list_any}
 use Rattle.byte_fields.specs.Images.{bytes_at}
 use Rattle.trace_model.specs.declared.Card.{Card}
 use Rattle.trace_model.specs.Trace.{TraceSecond}
+use Rattle.tacho_types.specs.declared.numbers.TimeReal.{TimeReal}
+use Rattle.tacho_types.specs.declared.numbers.Odometer.{Odometer}
 use Rattle.gated_ring.specs.Ring.{Shape, PointsInside, IsDense, indices, ring_list, size_of, taken}
 use Rattle.gated_ring.specs.Change.{IsAdded, IsAdding}
 use Rattle.message_model.specs.Records.{insertion_ring, unit_place_ring}
+use Rattle.unit_notes.specs.Noting.{IsWithdrawn}
 use Rattle.log_model.specs.Log.{RunLog}
 use Rattle.log_model.specs.Slots.{same_card}
 use Rattle.log_model.specs.Course.{went}
 use Rattle.side_model.specs.Done.{Done, done_by, done_of, has_failed_in}
 use Rattle.side_model.specs.Odometer.{SpanFrom, odometer_at}
-use Rattle.side_model.specs.Noted.{Acceptance, InsertionNote, PlaceNote, Note, Accepts, Enters, noted_in, notes_of, insertions_of, places_of}
+use Rattle.side_model.specs.Noted.{Acceptance, Withdrawal, InsertionNote, PlaceNote, Note, Accepts, Withdraws, Enters, noted_in, notes_of, insertions_of, places_of}
 use Rattle.side_model.specs.Rings.{Holder, Stand, RingShows, IsInsertion, IsPlace, is_sure_insertion, is_sure_place}
-use Rattle.safety_model.specs.Recording.{Recording}
+use Rattle.safety_model.specs.Recording.{Recording, card_image}
 use Rattle.safety_model.specs.Safe.{Devices, card_of}
 use Rattle.safety_model.specs.Side.{holder_of, IsPrevious}
 use Rattle.run_rule.specs.Found.{found_of}
@@ -68,8 +71,15 @@ pub record Seating : Type 0 where
 abbrev pub one_behind : Seating → Seating
 one_behind s = record s { behind = suc s.behind }
 
+-- an entry for each note
+abbrev pub Each : {N : Type 0} → (N → List ℕ → Type 0) → List N → List (List ℕ) → Type 0
+Each Is [] [] = Unit {0}
+Each Is [] (e ∷ entries) = ⊥
+Each Is (n ∷ notes) [] = ⊥
+Each Is (n ∷ notes) (e ∷ entries) = Is n e × Each Is notes entries
+
 -- AN ACCEPTED CARD: the last insertion of it is not withdrawn; its entry stands at its index, with so many behind it, or as many came as the
--- ring shows.
+-- ring has places.
 pub record IsSeated (is_sure : InsertionNote → Bool) (Is : InsertionNote → List ℕ → Type 0) (card : Card) (s : Seating) (notes : List InsertionNote) (more : List (List ℕ)) (x : List ℕ) : Type 0 where
   pub older : List InsertionNote
   pub own : InsertionNote
@@ -84,9 +94,9 @@ pub record IsSeated (is_sure : InsertionNote → Bool) (Is : InsertionNote → L
   pub more_are : more ≡ olders ++ entry ∷ newers
   pub stand_before : Stand is_sure Is older olders
   pub is : Is own entry
-  pub stand_behind : Stand is_sure Is newer newers
+  pub each_behind : Each Is newer newers
   pub behind : length newers ≡ s.behind
-  pub there : ((front : List ℕ) × (back : List ℕ) × (indices insertion_ring x ≡ front ++ s.index ∷ back) × (length back ≡ s.behind)) ⊎ (length (ring_list insertion_ring x) ≤ s.behind)
+  pub there : ((front : List ℕ) × (back : List ℕ) × (indices insertion_ring x ≡ front ++ s.index ∷ back) × (length back ≡ s.behind)) ⊎ (insertion_ring.count ≤ s.behind)
 
 -- a ring that was dense at the start
 pub record HasRing (r : Shape) (start : List ℕ) : Type 0 where
@@ -148,6 +158,13 @@ APlaceIsNoted d e = (o : Origin) (log : RunLog) (spans : List SpanFrom) (notes :
     ((y : List ℕ) → e.unit.may_leave y → (x : List ℕ) × d.unit.may_leave x × IsAdded unit_place_ring head x y) → length head ≡ unit_place_ring.width → IsPlaceIn o log spans p head →
     Ringed o log spans (notes ++ Enters p ∷ []) seats e
 
+-- A WITHDRAWAL IS NOTED, in the entry of the card's last insertion; or as many were added since as the ring has places, and nothing is written
+abbrev pub AWithdrawalIsNoted : (d e : Devices) → Type 0
+AWithdrawalIsNoted d e = (o : Origin) (log : RunLog) (spans : List SpanFrom) (notes : List Note) (seats now : Card → Option Seating) → Ringed o log spans notes seats d → HaveLeftMore o d e → (w : Withdrawal) (s : Seating) → seats w.card ≡ Some s → s.index < insertion_ring.count →
+    (time : TimeReal) (odometer : Odometer) → time.0 ≡ w.second → odometer.0 ≡ odometer_at w.second spans → time.0 < 256 ^ 4 → odometer.0 < 256 ^ 3 →
+    ((y : List ℕ) → e.unit.may_leave y → (x : List ℕ) × d.unit.may_leave x × ((IsWithdrawn s.index time odometer x y × (s.behind < insertion_ring.count)) ⊎ (HasSameRings x y × (insertion_ring.count ≤ s.behind)))) →
+    ((c : Card) → ((same_card w.card c ≡ false) × (now c ≡ seats c)) ⊎ ((same_card w.card c ≡ true) × (now c ≡ None))) → Ringed o log spans (notes ++ Withdraws w ∷ []) now e
+
 -- OR THE UNIT FAILED IN IT: it stands, or does not
 abbrev pub AnInsertionIsBroken : (d e : Devices) → Type 0
 AnInsertionIsBroken d e = (o : Origin) (log : RunLog) (spans : List SpanFrom) (notes : List Note) (seats : Card → Option Seating) → Ringed o log spans notes seats d → HaveLeftMore o d e → (a : Acceptance) (head : List ℕ) →
@@ -166,3 +183,8 @@ pub record ShowsRingsOf (r : Recording) (spans : List SpanFrom) (began now : Dev
   pub insertions : HasRing insertion_ring r.unit → RingShows insertion_ring (is_sure_insertion r.log spans (holder_of r)) (IsInsertion r.log spans (holder_of r) (λ c. IsPrevious r (card_of began c).clock (card_of now c)))
       (insertions_of (notes_in r.log r.trace)) r.unit x
   pub places : HasRing unit_place_ring r.unit → RingShows unit_place_ring (is_sure_place r.log spans (holder_of r)) (IsPlace r.log spans (holder_of r)) (places_of (notes_in r.log r.trace)) r.unit x
+
+-- AT THE END of a run every image of the unit shows them, where a recording has its images at the start and its log, and these are its notes.
+abbrev pub RingsAreShown : (began now : Devices) → Type 0
+RingsAreShown began now = (o : Origin) (log : RunLog) (spans : List SpanFrom) (notes : List Note) (seats : Card → Option Seating) → Ringed o log spans notes seats now → (r : Recording) → r.unit ≡ o.recording.unit → ((c : Card) → card_image r c ≡ card_image o.recording c) →
+    r.log ≡ log → notes ≡ notes_in r.log r.trace → ((c : Card) → (found_of o.found c).began ≡ (card_of began c).clock) → (x : List ℕ) → now.unit.may_leave x → ShowsRingsOf r spans began now x

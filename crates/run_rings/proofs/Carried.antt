@@ -34,7 +34,7 @@ few-or a b = by (nat_lt b a) refl
     by false is = inl (ltb-false b a is)
 
 -- LISTS that are equal, part by part
-same-parts : (a b : List (List ℕ)) (e f : List ℕ) (c d : List (List ℕ)) → a ++ e ∷ c ≡ b ++ f ∷ d → length c ≡ length d → (a ≡ b) × (e ≡ f) × (c ≡ d)
+pub same-parts : (a b : List (List ℕ)) (e f : List ℕ) (c d : List (List ℕ)) → a ++ e ∷ c ≡ b ++ f ∷ d → length c ≡ length d → (a ≡ b) × (e ≡ f) × (c ≡ d)
 same-parts [] [] e f c d is long = let one : e ≡ f = cc in let rest : c ≡ d = cc in (refl, one, rest)
 same-parts [] (y ∷ b) e f c d is long =
     absurd (let rest : c ≡ b ++ f ∷ d = cc in let many : length c ≡ length b + length (f ∷ d) = ap (λ (l : List (List ℕ)). length l) rest ∙ length-append b (f ∷ d) in omega (arith, many, long))
