@@ -3,3 +3,4 @@ pub mod Noted
 pub mod Rings
 pub mod Withdrawn
 pub mod Shown
+pub mod Around

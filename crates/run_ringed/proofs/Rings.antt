@@ -21,7 +21,7 @@ use Rattle.run_rings.proofs.Indices.{index-stays}
 use Rattle.run_rings.proofs.Standing.{stand-one, stand-unsure}
 use Rattle.run_recorded.specs.Origin.{Origin}
 use Rattle.run_recorded.specs.Beside.{HaveLeftMore}
-use Rattle.run_ringed.specs.Ringed.{holder_in, TellsIn, IsInsertionIn, IsPlaceIn, sure_insertion, sure_place, ShowsNotes, Seating, one_behind, IsSeated, HasRing, ShowsInsertions, Ringed, HasSameRings, StaysInRings, GoOn, NoRingIsWritten, RingsStay, FewerSit, AnInsertionIsNoted, APlaceIsNoted, AnInsertionIsBroken, APlaceIsBroken}
+use Rattle.run_ringed.specs.Ringed.{holder_in, TellsIn, IsInsertionIn, IsPlaceIn, sure_insertion, sure_place, ShowsNotes, Seating, one_behind, IsSeated, HasRing, ShowsInsertions, Ringed, HasSameRings, StaysInRings, GoOn, NoRingIsWritten, RingsStay, FewerSit, IsAddedAt, MayBeAdded}
 use Rattle.run_ringed.proofs.Stands.{Weaker, stand-as, each-as, each-append, all-parts, all-of, all-each, with-whole, insertions-more, places-more, insertion-as, place-as}
 
 pub insertion_shape : IsShape insertion_ring
@@ -35,6 +35,10 @@ entry-fits r x i = let long : length (entry_at r x i) ≡ min r.width (length (d
 
 whole-head : (r : Shape) (x : List ℕ) (i : ℕ) (head : List ℕ) → length head ≡ r.width → with_head r x i head ≡ head
 whole-head r x i head full = with-whole r x i head (let fits = entry-fits r x i in omega (arith, fits, full))
+
+-- ---- what each image behind a call was written from, and nothing else
+abbrev pub Writes : (R : List ℕ → List ℕ → Type 0) → (d e : Devices) → Type 0
+Writes R d e = (y : List ℕ) → e.unit.may_leave y → (x : List ℕ) × d.unit.may_leave x × R x y
 
 -- AT THE START
 pub none-noted : (d : Devices) → NoRingIsWritten d
@@ -61,7 +65,7 @@ fewer-sit d o log spans notes seats fewer v each = record {
 -- ---- as a log goes on, over devices
 
 module _ (o : Origin) (log later : RunLog) (spans now : List SpanFrom) (notes : List Note) (d e : Devices) (more : HaveLeftMore o d e) (on : GoOn log later spans now notes) where
-  tells-more : (c : Card) (registration : List ℕ) (time : ℕ) → TellsIn o d c registration time → TellsIn o e c registration time
+  pub tells-more : (c : Card) (registration : List ℕ) (time : ℕ) → TellsIn o d c registration time → TellsIn o e c registration time
   tells-more c registration time tells = (tells.0, more.card c tells.0 tells.1, tells.2)
 
   pub insertions-weaker : AllByRecursion (Weaker (sure_insertion o log spans) (sure_insertion o later now) (IsInsertionIn o log spans d) (IsInsertionIn o later now e)) (insertions_of notes)
@@ -174,7 +178,8 @@ none-behind c (k ∷ newer) n none other =
 
 -- ---- A PLACE
 
-pub place-noted : (d e : Devices) → APlaceIsNoted d e
+pub place-noted : (d e : Devices) (o : Origin) (log : RunLog) (spans : List SpanFrom) (notes : List Note) (seats : Card → Option Seating) → Ringed o log spans notes seats d → HaveLeftMore o d e → (p : PlaceNote) (head : List ℕ) → Writes (IsAdded unit_place_ring head) d e → length head ≡ unit_place_ring.width → IsPlaceIn o log spans p head →
+    Ringed o log spans (notes ++ Enters p ∷ []) seats e
 place-noted d e o log spans notes seats v more p head added full is = record {
   insertions = λ ring y left.
       let w = added y left in
@@ -202,7 +207,8 @@ place-noted d e o log spans notes seats v more p head added full is = record {
 }
 
 -- or the unit failed in it
-pub place-broken : (d e : Devices) → APlaceIsBroken d e
+pub place-broken : (d e : Devices) (o : Origin) (log : RunLog) (spans : List SpanFrom) (notes : List Note) (seats : Card → Option Seating) → Ringed o log spans notes seats d → HaveLeftMore o d e → (p : PlaceNote) (head : List ℕ) → Writes (MayBeAdded unit_place_ring head) d e → length head ≡ unit_place_ring.width → IsPlaceIn o log spans p head → has_failed_in log p.second ≡ true →
+    Ringed o log spans (notes ++ Enters p ∷ []) (λ c. None) e
 place-broken d e o log spans notes seats v more p head adding full is has = record {
   insertions = λ ring y left.
       let w = adding y left in
@@ -269,7 +275,9 @@ seated-more sure Is c (Some s) ns ms x y a head points dense added other is sits
       sits.there;
 }
 
-pub insertion-noted : (d e : Devices) → AnInsertionIsNoted d e
+pub insertion-noted : (d e : Devices) (o : Origin) (log : RunLog) (spans : List SpanFrom) (notes : List Note) (seats now : Card → Option Seating) → Ringed o log spans notes seats d → HaveLeftMore o d e → (a : Acceptance) (head : List ℕ) (index : ℕ) → Writes (IsAddedAt index head) d e → length head ≡ insertion_ring.width →
+    IsInsertionIn o log spans e (record { accepted = a; withdrawn = None }) head → ((c : Card) → ((same_card a.card c ≡ false) × (now c ≡ option_map one_behind (seats c))) ⊎ ((same_card a.card c ≡ true) × (now c ≡ Some (record { index = index; behind = 0 })))) →
+    Ringed o log spans (notes ++ Accepts a ∷ []) now e
 insertion-noted d e o log spans notes seats now v more a head index added full is each = record {
   insertions = λ ring y left.
       let w = added y left in
@@ -279,13 +287,13 @@ insertion-noted d e o log spans notes seats now v more a head index added full i
       let stands = stand-as (sure_insertion o log spans) (sure_insertion o log spans) (IsInsertionIn o log spans d) (IsInsertionIn o log spans e) (insertions_of notes) was.shows.more (insertions-weaker o log log spans spans notes d e more (go-on log spans notes)) was.shows.stand in record {
         shows = record {
           more = was.shows.more ++ head ∷ [];
-          carries = subst (λ (l : List ℕ). Carries insertion_ring o.recording.unit y (was.shows.more ++ l ∷ [])) (whole-head insertion_ring w.0 (taken insertion_ring w.0) head full) (carries-more insertion_ring o.recording.unit w.0 was.shows.more was.shows.carries head y w.2);
+          carries = subst (λ (l : List ℕ). Carries insertion_ring o.recording.unit y (was.shows.more ++ l ∷ [])) (whole-head insertion_ring w.0 (taken insertion_ring w.0) head full) (carries-more insertion_ring o.recording.unit w.0 was.shows.more was.shows.carries head y w.2.0);
           stand = subst (λ (l : List InsertionNote). Stand (sure_insertion o log spans) (IsInsertionIn o log spans e) l (was.shows.more ++ head ∷ [])) (sym are)
               (stand-one (sure_insertion o log spans) (IsInsertionIn o log spans e) (insertions_of notes) was.shows.more (record { accepted = a; withdrawn = None }) head stands is);
         };
         seated = λ c. subst (λ (l : List InsertionNote). IfSome (now c) (λ s. IsSeated (sure_insertion o log spans) (IsInsertionIn o log spans e) c s l (was.shows.more ++ head ∷ []) y)) (sym are) (⊎_elim
             (λ other. subst (λ (q : Option Seating). IfSome q (λ s. IsSeated (sure_insertion o log spans) (IsInsertionIn o log spans e) c s (insertions_of notes ++ record { accepted = a; withdrawn = None } ∷ []) (was.shows.more ++ head ∷ []) y)) (sym other.1)
-            (seated-more (sure_insertion o log spans) (IsInsertionIn o log spans e) c (seats c) (insertions_of notes) was.shows.more w.0 y a head points was.shows.carries.dense w.2 other.0 is
+            (seated-more (sure_insertion o log spans) (IsInsertionIn o log spans e) c (seats c) (insertions_of notes) was.shows.more w.0 y a head points was.shows.carries.dense w.2.0 other.0 is
             (seated-as o log log spans spans notes d e more (go-on log spans notes) c (seats c) was.shows.more w.0 w.0 refl (was.seated c))))
             (λ own. subst (λ (q : Option Seating). IfSome q (λ s. IsSeated (sure_insertion o log spans) (IsInsertionIn o log spans e) c s (insertions_of notes ++ record { accepted = a; withdrawn = None } ∷ []) (was.shows.more ++ head ∷ []) y)) (sym own.1)
             (record {
@@ -304,14 +312,14 @@ insertion-noted d e o log spans notes seats now v more a head index added full i
               is = is;
               each_behind = tt;
               behind = refl;
-              there = inl (staying insertion_ring w.0, [], (w.2.list points).indices_are ∙ ap (λ (t : ℕ). staying insertion_ring w.0 ++ t ∷ []) (sym (w.3 points)), refl);
+              there = inl (staying insertion_ring w.0, [], (w.2.0.list points).indices_are ∙ ap (λ (t : ℕ). staying insertion_ring w.0 ++ t ∷ []) (sym (w.2.1 points)), refl);
             }))
             (each c));
       };
   places = λ ring y left.
       let w = added y left in
       let was = v.places ring w.0 w.1 in
-      let bytes = ring_outside unit_place_ring insertion_ring.base (size_of insertion_ring) w.0 y (inl (omega arith)) w.2.outside in
+      let bytes = ring_outside unit_place_ring insertion_ring.base (size_of insertion_ring) w.0 y (inl (omega arith)) w.2.0.outside in
       subst (λ (l : List PlaceNote). ShowsNotes unit_place_ring (sure_place o log spans) (IsPlaceIn o log spans) l o.recording.unit y) (sym (places-more notes (Accepts a) ∙ append-nil (places_of notes))) (record {
         more = was.more;
         carries = carries-same unit_place_ring o.recording.unit w.0 was.more was.carries place_shape y bytes;
@@ -320,7 +328,8 @@ insertion-noted d e o log spans notes seats now v more a head index added full i
 }
 
 -- or the unit failed in it
-pub insertion-broken : (d e : Devices) → AnInsertionIsBroken d e
+pub insertion-broken : (d e : Devices) (o : Origin) (log : RunLog) (spans : List SpanFrom) (notes : List Note) (seats : Card → Option Seating) → Ringed o log spans notes seats d → HaveLeftMore o d e → (a : Acceptance) (head : List ℕ) → Writes (MayBeAdded insertion_ring head) d e → length head ≡ insertion_ring.width →
+    IsInsertionIn o log spans e (record { accepted = a; withdrawn = None }) head → has_failed_in log a.second ≡ true → Ringed o log spans (notes ++ Accepts a ∷ []) (λ c. None) e
 insertion-broken d e o log spans notes seats v more a head adding full is has = record {
   insertions = λ ring y left.
       let w = adding y left in

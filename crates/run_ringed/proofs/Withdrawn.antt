@@ -28,9 +28,10 @@ use Rattle.run_rings.proofs.Carried.{same-parts, carries-same, carries-changed, 
 use Rattle.run_rings.proofs.Indices.{index-alone, index-itself}
 use Rattle.run_rings.proofs.Standing.{stand-append, withdrawal-of-last}
 use Rattle.run_recorded.specs.Origin.{Origin}
-use Rattle.run_ringed.specs.Ringed.{holder_in, TellsIn, Each, HasSameRings, IsInsertionIn, IsPlaceIn, sure_insertion, sure_place, ShowsNotes, Seating, IsSeated, AWithdrawalIsNoted}
+use Rattle.run_recorded.specs.Beside.{HaveLeftMore}
+use Rattle.run_ringed.specs.Ringed.{holder_in, TellsIn, Each, HasSameRings, IsInsertionIn, IsPlaceIn, sure_insertion, sure_place, ShowsNotes, Seating, IsSeated, Ringed, IsWithdrawnAt}
 use Rattle.run_ringed.proofs.Stands.{stand-as, each-as, each-stand, each-long, each-append, each-split, insertions-more, places-more}
-use Rattle.run_ringed.proofs.Rings.{insertion_shape, place_shape, insertions-weaker, seated-as, go-on}
+use Rattle.run_ringed.proofs.Rings.{insertion_shape, place_shape, Writes, insertions-weaker, seated-as, go-on}
 
 -- ---- the entry
 
@@ -210,7 +211,9 @@ carried start x y ms h s olders entry newers are behind there time odometer (inr
     let list-is : length (ring_list insertion_ring y) ≡ length (indices insertion_ring y) = length-map (indices insertion_ring y) (entry_at insertion_ring y) in
     (rings.1, carries-gone insertion_ring start y ms still olders entry (with_withdrawal time odometer entry) newers are (omega (arith, few, list-is, many, behind)))
 
-pub withdrawal-noted : (d e : Devices) → AWithdrawalIsNoted d e
+pub withdrawal-noted : (d e : Devices) (o : Origin) (log : RunLog) (spans : List SpanFrom) (notes : List Note) (seats now : Card → Option Seating) → Ringed o log spans notes seats d → HaveLeftMore o d e → (w : Withdrawal) (s : Seating) → seats w.card ≡ Some s → s.index < insertion_ring.count →
+    (time : TimeReal) (odometer : Odometer) → time.0 ≡ w.second → odometer.0 ≡ odometer_at w.second spans → time.0 < 256 ^ 4 → odometer.0 < 256 ^ 3 → Writes (IsWithdrawnAt s time odometer) d e →
+    ((c : Card) → ((same_card w.card c ≡ false) × (now c ≡ seats c)) ⊎ ((same_card w.card c ≡ true) × (now c ≡ None))) → Ringed o log spans (notes ++ Withdraws w ∷ []) now e
 withdrawal-noted d e o log spans notes seats now v more w s at below time odometer second stood time_fits odometer_fits images each = record {
   insertions = λ ring y left.
       let i = images y left in

@@ -125,6 +125,25 @@ pub record HasSameRings (x c : List ℕ) : Type 0 where
 abbrev pub StaysInRings : (d e : Devices) → Type 0
 StaysInRings d e = (c : List ℕ) → e.unit.may_leave c → (x : List ℕ) × d.unit.may_leave x × HasSameRings x c
 
+-- a call writes a ring so, and before and behind that what lies outside both
+abbrev pub Around : (List ℕ → List ℕ → Type 0) → List ℕ → List ℕ → Type 0
+Around R x y = (p : List ℕ) × (q : List ℕ) × HasSameRings x p × R p q × HasSameRings q y
+
+-- each image behind it was written so
+abbrev pub WritesRing : (R : List ℕ → List ℕ → Type 0) → (d e : Devices) → Type 0
+WritesRing R d e = (y : List ℕ) → e.unit.may_leave y → (x : List ℕ) × d.unit.may_leave x × Around R x y
+
+-- an entry is added to a ring, which takes this index; or the unit failed in that
+abbrev pub IsAddedAt : (index : ℕ) → (head : List ℕ) → List ℕ → List ℕ → Type 0
+IsAddedAt index head p q = IsAdded insertion_ring head p q × (PointsInside insertion_ring p → index ≡ taken insertion_ring p)
+
+abbrev pub MayBeAdded : Shape → (head : List ℕ) → List ℕ → List ℕ → Type 0
+MayBeAdded r head p q = (q ≡ p) ⊎ IsAdding r head p q
+
+-- a withdrawal stands in the entry at an index; or so many were added since that it is gone, and nothing is written
+abbrev pub IsWithdrawnAt : Seating → TimeReal → Odometer → List ℕ → List ℕ → Type 0
+IsWithdrawnAt s time odometer p q = (IsWithdrawn s.index time odometer p q × (s.behind < insertion_ring.count)) ⊎ (HasSameRings p q × (insertion_ring.count ≤ s.behind))
+
 -- A LOG AND SPANS THAT GO ON: what failed has failed, and the odometers of what was noted are the same
 pub record GoOn (log later : RunLog) (spans now : List SpanFrom) (notes : List Note) : Type 0 where
   pub failed : (u : ℕ) → has_failed_in log u ≡ true → has_failed_in later u ≡ true
@@ -147,7 +166,7 @@ FewerSit d = (o : Origin) (log : RunLog) (spans : List SpanFrom) (notes : List N
 -- AN INSERTION IS NOTED, of a card that is not accepted yet, at this index
 abbrev pub AnInsertionIsNoted : (d e : Devices) → Type 0
 AnInsertionIsNoted d e = (o : Origin) (log : RunLog) (spans : List SpanFrom) (notes : List Note) (seats now : Card → Option Seating) → Ringed o log spans notes seats d → HaveLeftMore o d e → (a : Acceptance) (head : List ℕ) (index : ℕ) →
-    ((y : List ℕ) → e.unit.may_leave y → (x : List ℕ) × d.unit.may_leave x × IsAdded insertion_ring head x y × (PointsInside insertion_ring x → index ≡ taken insertion_ring x)) →
+    WritesRing (IsAddedAt index head) d e →
     length head ≡ insertion_ring.width → IsInsertionIn o log spans e (record { accepted = a; withdrawn = None }) head →
     ((c : Card) → ((same_card a.card c ≡ false) × (now c ≡ option_map one_behind (seats c))) ⊎ ((same_card a.card c ≡ true) × (now c ≡ Some (record { index = index; behind = 0 })))) →
     Ringed o log spans (notes ++ Accepts a ∷ []) now e
@@ -155,25 +174,25 @@ AnInsertionIsNoted d e = (o : Origin) (log : RunLog) (spans : List SpanFrom) (no
 -- A PLACE IS NOTED
 abbrev pub APlaceIsNoted : (d e : Devices) → Type 0
 APlaceIsNoted d e = (o : Origin) (log : RunLog) (spans : List SpanFrom) (notes : List Note) (seats : Card → Option Seating) → Ringed o log spans notes seats d → HaveLeftMore o d e → (p : PlaceNote) (head : List ℕ) →
-    ((y : List ℕ) → e.unit.may_leave y → (x : List ℕ) × d.unit.may_leave x × IsAdded unit_place_ring head x y) → length head ≡ unit_place_ring.width → IsPlaceIn o log spans p head →
+    WritesRing (IsAdded unit_place_ring head) d e → length head ≡ unit_place_ring.width → IsPlaceIn o log spans p head →
     Ringed o log spans (notes ++ Enters p ∷ []) seats e
 
 -- A WITHDRAWAL IS NOTED, in the entry of the card's last insertion; or as many were added since as the ring has places, and nothing is written
 abbrev pub AWithdrawalIsNoted : (d e : Devices) → Type 0
 AWithdrawalIsNoted d e = (o : Origin) (log : RunLog) (spans : List SpanFrom) (notes : List Note) (seats now : Card → Option Seating) → Ringed o log spans notes seats d → HaveLeftMore o d e → (w : Withdrawal) (s : Seating) → seats w.card ≡ Some s → s.index < insertion_ring.count →
     (time : TimeReal) (odometer : Odometer) → time.0 ≡ w.second → odometer.0 ≡ odometer_at w.second spans → time.0 < 256 ^ 4 → odometer.0 < 256 ^ 3 →
-    ((y : List ℕ) → e.unit.may_leave y → (x : List ℕ) × d.unit.may_leave x × ((IsWithdrawn s.index time odometer x y × (s.behind < insertion_ring.count)) ⊎ (HasSameRings x y × (insertion_ring.count ≤ s.behind)))) →
+    WritesRing (IsWithdrawnAt s time odometer) d e →
     ((c : Card) → ((same_card w.card c ≡ false) × (now c ≡ seats c)) ⊎ ((same_card w.card c ≡ true) × (now c ≡ None))) → Ringed o log spans (notes ++ Withdraws w ∷ []) now e
 
 -- OR THE UNIT FAILED IN IT: it stands, or does not
 abbrev pub AnInsertionIsBroken : (d e : Devices) → Type 0
 AnInsertionIsBroken d e = (o : Origin) (log : RunLog) (spans : List SpanFrom) (notes : List Note) (seats : Card → Option Seating) → Ringed o log spans notes seats d → HaveLeftMore o d e → (a : Acceptance) (head : List ℕ) →
-    ((c : List ℕ) → e.unit.may_leave c → (x : List ℕ) × d.unit.may_leave x × ((c ≡ x) ⊎ IsAdding insertion_ring head x c)) → length head ≡ insertion_ring.width →
+    WritesRing (MayBeAdded insertion_ring head) d e → length head ≡ insertion_ring.width →
     IsInsertionIn o log spans e (record { accepted = a; withdrawn = None }) head → has_failed_in log a.second ≡ true → Ringed o log spans (notes ++ Accepts a ∷ []) (λ c. None) e
 
 abbrev pub APlaceIsBroken : (d e : Devices) → Type 0
 APlaceIsBroken d e = (o : Origin) (log : RunLog) (spans : List SpanFrom) (notes : List Note) (seats : Card → Option Seating) → Ringed o log spans notes seats d → HaveLeftMore o d e → (p : PlaceNote) (head : List ℕ) →
-    ((c : List ℕ) → e.unit.may_leave c → (x : List ℕ) × d.unit.may_leave x × ((c ≡ x) ⊎ IsAdding unit_place_ring head x c)) → length head ≡ unit_place_ring.width → IsPlaceIn o log spans p head → has_failed_in log p.second ≡ true →
+    WritesRing (MayBeAdded unit_place_ring head) d e → length head ≡ unit_place_ring.width → IsPlaceIn o log spans p head → has_failed_in log p.second ≡ true →
     Ringed o log spans (notes ++ Enters p ∷ []) (λ c. None) e
 
 -- ---- at the end
