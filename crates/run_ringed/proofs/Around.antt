@@ -11,10 +11,10 @@ use Rattle.safety_model.specs.Safe.{Devices, card_of}
 use Rattle.run_rule.specs.Found.{found_of}
 use Rattle.run_recorded.specs.Origin.{Origin}
 use Rattle.run_recorded.specs.Beside.{HaveLeftMore}
-use Rattle.run_ringed.specs.Ringed.{holder_in, TellsIn, IsInsertionIn, Seating, Ringed, HasSameRings, WritesRing, IsAddedAt, MayBeAdded, IsWithdrawnAt, AnInsertionIsNoted, APlaceIsNoted, AWithdrawalIsNoted, AnInsertionIsBroken, APlaceIsBroken}
+use Rattle.run_ringed.specs.Ringed.{holder_in, TellsIn, IsInsertionIn, Seating, Ringed, HasSameRings, WritesRing, IsAddedAt, MayBeAdded, IsWithdrawnAt, MayBeWithdrawn, AnInsertionIsNoted, APlaceIsNoted, AWithdrawalIsNoted, AWithdrawalIsBroken, AnInsertionIsBroken, APlaceIsBroken}
 use Rattle.run_ringed.proofs.Stands.{insertion-as}
 use Rattle.run_ringed.proofs.Rings.{rings-stay, go-on, tells-more, insertion-noted, insertion-broken, place-noted, place-broken}
-use Rattle.run_ringed.proofs.Withdrawn.{withdrawal-noted}
+use Rattle.run_ringed.proofs.Withdrawn.{withdrawal-noted, withdrawal-broken}
 
 -- devices whose unit may have left these images
 abbrev with-images : Devices → (List ℕ → Type 0) → Devices
@@ -100,3 +100,8 @@ pub place-cut : (d e : Devices) → APlaceIsBroken d e
 place-cut d e o log spans notes seats v more p head writes full is has =
     ringed-behind (MayBeAdded unit_place_ring head) d e o log spans (notes ++ Enters p ∷ []) (λ c. None) writes
     (place-broken (before-it (MayBeAdded unit_place_ring head) d e) (behind-it (MayBeAdded unit_place_ring head) d e) o log spans notes seats (ringed-before (MayBeAdded unit_place_ring head) d e o log spans notes seats v) (to-behind (MayBeAdded unit_place_ring head) d e o more) p head (λ q left. left) full is has)
+
+pub withdrawal-cut : (d e : Devices) → AWithdrawalIsBroken d e
+withdrawal-cut d e o log spans notes seats v more w s at below time odometer second stood time_fits odometer_fits writes has =
+    ringed-behind (MayBeWithdrawn s time odometer) d e o log spans (notes ++ Withdraws w ∷ []) (λ c. None) writes
+    (withdrawal-broken (before-it (MayBeWithdrawn s time odometer) d e) (behind-it (MayBeWithdrawn s time odometer) d e) o log spans notes seats (ringed-before (MayBeWithdrawn s time odometer) d e o log spans notes seats v) (to-behind (MayBeWithdrawn s time odometer) d e o more) w s at below time odometer second stood time_fits odometer_fits (λ q left. left) has)

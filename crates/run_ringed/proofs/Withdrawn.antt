@@ -13,15 +13,17 @@ use Rattle.tacho_types.specs.Numbers.{time_bytes, odometer_bytes}
 use Rattle.trace_model.specs.declared.Card.{Card}
 use Rattle.trace_model.specs.declared.Card.TheVariants.{A, B}
 use Rattle.gated_ring.specs.Ring.{PointsInside, size_of, place_of, pointer, indices, ring_list, entry_at}
+use Rattle.gated_ring.specs.Change.{IsSet}
 use Rattle.gated_ring.proofs.Elsewhere.{ring_outside, ring_elsewhere}
 use Rattle.gated_ring.proofs.Listing.{few_indices}
 use Rattle.message_model.specs.Records.{insertion_widths, insertion_ring, unit_place_ring}
 use Rattle.unit_notes.specs.Noting.{out_place, out_odometer_place, with_withdrawal, IsWithdrawn}
 use Rattle.log_model.specs.Log.{RunLog}
 use Rattle.log_model.specs.Slots.{same_card}
+use Rattle.side_model.specs.Done.{has_failed_in}
 use Rattle.side_model.specs.Odometer.{SpanFrom, odometer_at}
 use Rattle.side_model.specs.Noted.{Withdrawal, InsertionNote, PlaceNote, Note, Withdraws, with_withdrawal as note_withdrawal, insertions_of, places_of}
-use Rattle.side_model.specs.Rings.{Holder, Stand, IsInsertion}
+use Rattle.side_model.specs.Rings.{Holder, Stand, TellsWithdrawal, IsInsertion}
 use Rattle.safety_model.specs.Safe.{Devices}
 use Rattle.run_rings.specs.Carried.{Carries}
 use Rattle.run_rings.proofs.Carried.{same-parts, carries-same, carries-changed, carries-gone, entry-was}
@@ -29,7 +31,7 @@ use Rattle.run_rings.proofs.Indices.{index-alone, index-itself}
 use Rattle.run_rings.proofs.Standing.{stand-append, withdrawal-of-last}
 use Rattle.run_recorded.specs.Origin.{Origin}
 use Rattle.run_recorded.specs.Beside.{HaveLeftMore}
-use Rattle.run_ringed.specs.Ringed.{holder_in, TellsIn, Each, HasSameRings, IsInsertionIn, IsPlaceIn, sure_insertion, sure_place, ShowsNotes, Seating, IsSeated, Ringed, IsWithdrawnAt}
+use Rattle.run_ringed.specs.Ringed.{holder_in, TellsIn, Each, HasSameRings, IsInsertionIn, IsPlaceIn, sure_insertion, sure_place, ShowsNotes, Seating, IsSeated, Ringed, IsWithdrawnAt, MayBeWithdrawn}
 use Rattle.run_ringed.proofs.Stands.{stand-as, each-as, each-stand, each-long, each-append, each-split, insertions-more, places-more}
 use Rattle.run_ringed.proofs.Rings.{insertion_shape, place_shape, Writes, insertions-weaker, seated-as, go-on}
 
@@ -79,6 +81,54 @@ module _ (log : RunLog) (spans : List SpanFrom) (holder : Card → Holder) (Tell
     previous = subst (λ (f : List ℕ). Tells n.accepted.card f (number_in insertion_widths 10 (with_withdrawal time odometer e))) (sym (other-field 9 (omega arith) (λ never. absurd (omega (arith, never))) (λ never. absurd (omega (arith, never)))))
         (subst (λ (t : ℕ). Tells n.accepted.card (field_at insertion_widths 9 e) t) (sym (other-number 4 10 (omega arith) (λ never. absurd (omega (arith, never))) (λ never. absurd (omega (arith, never))))) is.previous);
     by_hand = other-number 1 11 (omega arith) (λ never. absurd (omega (arith, never))) (λ never. absurd (omega (arith, never))) ∙ is.by_hand;
+  }
+
+  -- nothing was written yet, or the time alone, as the unit failed
+  untold : n.withdrawn ≡ None → (number_in insertion_widths 7 e ≡ 0) × (number_in insertion_widths 8 e ≡ 0)
+  untold none = subst (λ (w : Option ℕ). TellsWithdrawal log spans holder w (number_in insertion_widths 7 e) (number_in insertion_widths 8 e)) none is.withdrawal
+
+  pub insertion-unwritten : n.withdrawn ≡ None → has_failed_in log u ≡ true → IsInsertion log spans holder Tells (record n { withdrawn = Some u }) e
+  insertion-unwritten none has = record {
+    size = is.size;
+    surname = is.surname;
+    first_names = is.first_names;
+    number = is.number;
+    expiry = is.expiry;
+    time = is.time;
+    odometer = is.odometer;
+    slot = is.slot;
+    withdrawal = inr (has, inl (untold none).0, (untold none).1);
+    previous = is.previous;
+    by_hand = is.by_hand;
+  }
+
+  timed-field : (j : ℕ) → j < 12 → j ≢ 7 → field_at insertion_widths j timed ≡ field_at insertion_widths j e
+  timed-field j below one = field_stays insertion_widths 7 (time_bytes time) e (omega arith) refl (let size = is.size in omega (arith, size)) j below one
+
+  timed-number : (k j : ℕ) → j < 12 → j ≢ 7 → big_number k (field_at insertion_widths j timed) ≡ big_number k (field_at insertion_widths j e)
+  timed-number k j below one = ap (big_number k) (timed-field j below one)
+
+  timed-is : field_at insertion_widths 7 timed ≡ time_bytes time
+  timed-is = field_put insertion_widths 7 (time_bytes time) e (omega arith) refl (let size = is.size in omega (arith, size))
+
+  pub insertion-timed : n.withdrawn ≡ None → has_failed_in log u ≡ true → IsInsertion log spans holder Tells (record n { withdrawn = Some u }) (put out_place (time_bytes time) e)
+  insertion-timed none has = record {
+    size = timed-size;
+    surname = timed-field 0 (omega arith) (λ never. absurd (omega (arith, never))) ∙ is.surname;
+    first_names = timed-field 1 (omega arith) (λ never. absurd (omega (arith, never))) ∙ is.first_names;
+    number = timed-field 2 (omega arith) (λ never. absurd (omega (arith, never))) ∙ is.number;
+    expiry = timed-field 3 (omega arith) (λ never. absurd (omega (arith, never))) ∙ is.expiry;
+    time = timed-number 4 4 (omega arith) (λ never. absurd (omega (arith, never))) ∙ is.time;
+    odometer = timed-number 3 5 (omega arith) (λ never. absurd (omega (arith, never))) ∙ is.odometer;
+    slot = timed-number 1 6 (omega arith) (λ never. absurd (omega (arith, never))) ∙ is.slot;
+    withdrawal = inr (
+      has,
+      inr (ap (big_number 4) timed-is ∙ big_number-big_bytes 4 time.0 time_fits ∙ second),
+      timed-number 3 8 (omega arith) (λ never. absurd (omega (arith, never))) ∙ (untold none).1,
+    );
+    previous = subst (λ (f : List ℕ). Tells n.accepted.card f (number_in insertion_widths 10 timed)) (sym (timed-field 9 (omega arith) (λ never. absurd (omega (arith, never)))))
+        (subst (λ (t : ℕ). Tells n.accepted.card (field_at insertion_widths 9 e) t) (sym (timed-number 4 10 (omega arith) (λ never. absurd (omega (arith, never))))) is.previous);
+    by_hand = timed-number 1 11 (omega arith) (λ never. absurd (omega (arith, never))) ∙ is.by_hand;
   }
 
 -- ---- one list, split at two of its elements
@@ -253,3 +303,77 @@ withdrawal-noted d e o log spans notes seats now v more w s at below time odomet
         bytes_at y unit_place_ring.base (size_of unit_place_ring) ≡ bytes_at x unit_place_ring.base (size_of unit_place_ring)
     places-same x y s below time odometer (inl (w, lt)) = ring_outside unit_place_ring (place_of insertion_ring s.index) insertion_ring.width x y (inl (omega (arith, below))) w.outside
     places-same x y s below time odometer (inr (same, many)) = same.places
+
+-- ---- or the unit failed in it
+
+-- the time alone was written
+timed-now : (start x y : List ℕ) (ms : List (List ℕ)) (h : Carries insertion_ring start x ms) (s : Seating) (olders : List (List ℕ)) (entry : List ℕ) (newers : List (List ℕ)) → ms ≡ olders ++ entry ∷ newers → length newers ≡ s.behind →
+    ((front : List ℕ) × (back : List ℕ) × (indices insertion_ring x ≡ front ++ s.index ∷ back) × (length back ≡ s.behind)) ⊎ (insertion_ring.count ≤ s.behind) → (time : TimeReal) → IsSet insertion_ring s.index out_place (time_bytes time) x y → s.behind < insertion_ring.count →
+    Carries insertion_ring start y (olders ++ put out_place (time_bytes time) entry ∷ newers)
+timed-now start x y ms h s olders entry newers are behind there time w lt = ⊎_elim
+    (λ at.
+    let was = entry-was insertion_ring start x ms h y s.index (put out_place (time_bytes time) (entry_at insertion_ring x s.index)) at.0 at.1 w.pointer_is (w.indices_are h.points) at.2 (index-alone insertion_ring x at.0 s.index at.1 at.2) (w.list_is h.points)
+    (index-itself s.index) olders entry newers are (behind ∙ sym at.3) in
+    subst (λ (l : List ℕ). Carries insertion_ring start y (olders ++ put out_place (time_bytes time) l ∷ newers)) (sym was)
+    (carries-changed insertion_ring start x ms h y s.index (put out_place (time_bytes time) (entry_at insertion_ring x s.index)) at.0 at.1 w.pointer_is (w.indices_are h.points) at.2 (index-alone insertion_ring x at.0 s.index at.1 at.2) (w.list_is h.points)
+    (index-itself s.index) olders entry newers are (behind ∙ sym at.3)))
+    (λ gone. absurd (omega (arith, lt, gone)))
+    there
+
+pub withdrawal-broken : (d e : Devices) (o : Origin) (log : RunLog) (spans : List SpanFrom) (notes : List Note) (seats : Card → Option Seating) → Ringed o log spans notes seats d → HaveLeftMore o d e → (w : Withdrawal) (s : Seating) → seats w.card ≡ Some s → s.index < insertion_ring.count →
+    (time : TimeReal) (odometer : Odometer) → time.0 ≡ w.second → odometer.0 ≡ odometer_at w.second spans → time.0 < 256 ^ 4 → odometer.0 < 256 ^ 3 → Writes (MayBeWithdrawn s time odometer) d e → has_failed_in log w.second ≡ true →
+    Ringed o log spans (notes ++ Withdraws w ∷ []) (λ c. None) e
+withdrawal-broken d e o log spans notes seats v more w s at below time odometer second stood time_fits odometer_fits images has = record {
+  insertions = λ ring y left.
+      let i = images y left in
+      let was = v.insertions ring i.0 i.1 in
+      let sits : IsSeated (sure_insertion o log spans) (IsInsertionIn o log spans e) w.card s (insertions_of notes) was.shows.more i.0 =
+      subst (λ (q : Option Seating). IfSome q (λ t. IsSeated (sure_insertion o log spans) (IsInsertionIn o log spans e) w.card t (insertions_of notes) was.shows.more i.0)) at
+      (seated-as o log log spans spans notes d e more (go-on log spans notes) w.card (seats w.card) was.shows.more i.0 i.0 refl (was.seated w.card)) in
+      let are : insertions_of (notes ++ Withdraws w ∷ []) ≡ sits.older ++ record sits.own { withdrawn = Some w.second } ∷ sits.newer =
+      insertions-more notes (Withdraws w) ∙ ap (note_withdrawal w) sits.notes_are ∙ withdrawal-of-last w sits.older sits.own sits.newer sits.card_is sits.last in record {
+        shows = subst (λ (l : List InsertionNote). ShowsNotes insertion_ring (sure_insertion o log spans) (IsInsertionIn o log spans e) l o.recording.unit y) (sym are) (by i.0 y was.shows.more was.shows.carries sits i.2);
+        seated = λ c. tt;
+      };
+  places = λ ring y left.
+      let i = images y left in
+      let was = v.places ring i.0 i.1 in
+      subst (λ (l : List PlaceNote). ShowsNotes unit_place_ring (sure_place o log spans) (IsPlaceIn o log spans) l o.recording.unit y) (sym (places-more notes (Withdraws w) ∙ append-nil (places_of notes))) (record {
+        more = was.more;
+        carries = carries-same unit_place_ring o.recording.unit i.0 was.more was.carries place_shape y (places-same i.0 y i.2);
+        stand = was.stand;
+      });
+}
+  where
+    places-same : (x y : List ℕ) → MayBeWithdrawn s time odometer x y → bytes_at y unit_place_ring.base (size_of unit_place_ring) ≡ bytes_at x unit_place_ring.base (size_of unit_place_ring)
+    places-same x y (inl (inl same, lt)) = ap (λ (z : List ℕ). bytes_at z unit_place_ring.base (size_of unit_place_ring)) same
+    places-same x y (inl (inr (inl set), lt)) = ring_outside unit_place_ring (place_of insertion_ring s.index) insertion_ring.width x y (inl (omega (arith, below))) set.outside
+    places-same x y (inl (inr (inr whole), lt)) = ring_outside unit_place_ring (place_of insertion_ring s.index) insertion_ring.width x y (inl (omega (arith, below))) whole.outside
+    places-same x y (inr (same, many)) = same.places
+
+    by : (x y : List ℕ) (ms : List (List ℕ)) → Carries insertion_ring o.recording.unit x ms → (sits : IsSeated (sure_insertion o log spans) (IsInsertionIn o log spans e) w.card s (insertions_of notes) ms x) → MayBeWithdrawn s time odometer x y →
+        ShowsNotes insertion_ring (sure_insertion o log spans) (IsInsertionIn o log spans e) (sits.older ++ record sits.own { withdrawn = Some w.second } ∷ sits.newer) o.recording.unit y
+    by x y ms h sits (inl (inl same, lt)) = record {
+      more = sits.olders ++ sits.entry ∷ sits.newers;
+      carries = subst (λ (z : List ℕ). Carries insertion_ring o.recording.unit z (sits.olders ++ sits.entry ∷ sits.newers)) (sym same) (subst (λ (l : List (List ℕ)). Carries insertion_ring o.recording.unit x l) sits.more_are h);
+      stand = stands-now (sure_insertion o log spans) (IsInsertionIn o log spans e) w.card s (insertions_of notes) ms x x sits w.second sits.entry
+          (insertion-unwritten log spans (holder_in o) (TellsIn o e) sits.own sits.entry sits.is w.second time odometer second stood time_fits odometer_fits sits.stays has) refl;
+    }
+    by x y ms h sits (inl (inr (inl set), lt)) = record {
+      more = sits.olders ++ put out_place (time_bytes time) sits.entry ∷ sits.newers;
+      carries = timed-now o.recording.unit x y ms h s sits.olders sits.entry sits.newers sits.more_are sits.behind sits.there time set lt;
+      stand = stands-now (sure_insertion o log spans) (IsInsertionIn o log spans e) w.card s (insertions_of notes) ms x x sits w.second (put out_place (time_bytes time) sits.entry)
+          (insertion-timed log spans (holder_in o) (TellsIn o e) sits.own sits.entry sits.is w.second time odometer second stood time_fits odometer_fits sits.stays has) refl;
+    }
+    by x y ms h sits (inl (inr (inr whole), lt)) = record {
+      more = sits.olders ++ with_withdrawal time odometer sits.entry ∷ sits.newers;
+      carries = (carried o.recording.unit x y ms h s sits.olders sits.entry sits.newers sits.more_are sits.behind sits.there time odometer (inl (whole, lt))).1;
+      stand = stands-now (sure_insertion o log spans) (IsInsertionIn o log spans e) w.card s (insertions_of notes) ms x x sits w.second (with_withdrawal time odometer sits.entry)
+          (insertion-withdrawn log spans (holder_in o) (TellsIn o e) sits.own sits.entry sits.is w.second time odometer second stood time_fits odometer_fits) refl;
+    }
+    by x y ms h sits (inr (same, many)) = record {
+      more = sits.olders ++ with_withdrawal time odometer sits.entry ∷ sits.newers;
+      carries = (carried o.recording.unit x y ms h s sits.olders sits.entry sits.newers sits.more_are sits.behind sits.there time odometer (inr (same, many))).1;
+      stand = stands-now (sure_insertion o log spans) (IsInsertionIn o log spans e) w.card s (insertions_of notes) ms x x sits w.second (with_withdrawal time odometer sits.entry)
+          (insertion-withdrawn log spans (holder_in o) (TellsIn o e) sits.own sits.entry sits.is w.second time odometer second stood time_fits odometer_fits) refl;
+    }

@@ -9,7 +9,7 @@ use Rattle.tacho_types.specs.declared.numbers.Odometer.{Odometer}
 use Rattle.gated_ring.specs.Ring.{Shape, PointsInside, IsDense, indices, ring_list, size_of, taken}
 use Rattle.gated_ring.specs.Change.{IsAdded, IsAdding}
 use Rattle.message_model.specs.Records.{insertion_ring, unit_place_ring}
-use Rattle.unit_notes.specs.Noting.{IsWithdrawn}
+use Rattle.unit_notes.specs.Noting.{IsWithdrawn, IsWithdrawing}
 use Rattle.log_model.specs.Log.{RunLog}
 use Rattle.log_model.specs.Slots.{same_card}
 use Rattle.log_model.specs.Course.{went}
@@ -144,6 +144,10 @@ MayBeAdded r head p q = (q ≡ p) ⊎ IsAdding r head p q
 abbrev pub IsWithdrawnAt : Seating → TimeReal → Odometer → List ℕ → List ℕ → Type 0
 IsWithdrawnAt s time odometer p q = (IsWithdrawn s.index time odometer p q × (s.behind < insertion_ring.count)) ⊎ (HasSameRings p q × (insertion_ring.count ≤ s.behind))
 
+-- the unit failed as it was written, or so
+abbrev pub MayBeWithdrawn : Seating → TimeReal → Odometer → List ℕ → List ℕ → Type 0
+MayBeWithdrawn s time odometer p q = (IsWithdrawing s.index time odometer p q × (s.behind < insertion_ring.count)) ⊎ (HasSameRings p q × (insertion_ring.count ≤ s.behind))
+
 -- A LOG AND SPANS THAT GO ON: what failed has failed, and the odometers of what was noted are the same
 pub record GoOn (log later : RunLog) (spans now : List SpanFrom) (notes : List Note) : Type 0 where
   pub failed : (u : ℕ) → has_failed_in log u ≡ true → has_failed_in later u ≡ true
@@ -189,6 +193,11 @@ abbrev pub AnInsertionIsBroken : (d e : Devices) → Type 0
 AnInsertionIsBroken d e = (o : Origin) (log : RunLog) (spans : List SpanFrom) (notes : List Note) (seats : Card → Option Seating) → Ringed o log spans notes seats d → HaveLeftMore o d e → (a : Acceptance) (head : List ℕ) →
     WritesRing (MayBeAdded insertion_ring head) d e → length head ≡ insertion_ring.width →
     IsInsertionIn o log spans e (record { accepted = a; withdrawn = None }) head → has_failed_in log a.second ≡ true → Ringed o log spans (notes ++ Accepts a ∷ []) (λ c. None) e
+
+abbrev pub AWithdrawalIsBroken : (d e : Devices) → Type 0
+AWithdrawalIsBroken d e = (o : Origin) (log : RunLog) (spans : List SpanFrom) (notes : List Note) (seats : Card → Option Seating) → Ringed o log spans notes seats d → HaveLeftMore o d e → (w : Withdrawal) (s : Seating) → seats w.card ≡ Some s → s.index < insertion_ring.count →
+    (time : TimeReal) (odometer : Odometer) → time.0 ≡ w.second → odometer.0 ≡ odometer_at w.second spans → time.0 < 256 ^ 4 → odometer.0 < 256 ^ 3 → WritesRing (MayBeWithdrawn s time odometer) d e → has_failed_in log w.second ≡ true →
+    Ringed o log spans (notes ++ Withdraws w ∷ []) (λ c. None) e
 
 abbrev pub APlaceIsBroken : (d e : Devices) → Type 0
 APlaceIsBroken d e = (o : Origin) (log : RunLog) (spans : List SpanFrom) (notes : List Note) (seats : Card → Option Seating) → Ringed o log spans notes seats d → HaveLeftMore o d e → (p : PlaceNote) (head : List ℕ) →

@@ -3,7 +3,7 @@ ghost use Rattle.trace_model.specs.Trace.{TraceSecond};
 ghost use Rattle.log_model.specs.Log.{RunLog};
 ghost use Rattle.log_model.specs.Same.{SameAt};
 ghost use Rattle.run_rule.specs.Between.{devices};
-ghost use Rattle.run_ringed.specs.Ringed.{NoRingIsWritten, RingsStay, FewerSit, AnInsertionIsNoted, APlaceIsNoted, AWithdrawalIsNoted, AnInsertionIsBroken, APlaceIsBroken, RingsAreShown, notes_in, noted_next};
+ghost use Rattle.run_ringed.specs.Ringed.{NoRingIsWritten, RingsStay, FewerSit, AnInsertionIsNoted, APlaceIsNoted, AWithdrawalIsNoted, AWithdrawalIsBroken, AnInsertionIsBroken, APlaceIsBroken, RingsAreShown, notes_in, noted_next};
 
 use tach_media::{Chip, Medium};
 
@@ -99,6 +99,18 @@ pub fn rings_are_shown<M: Medium, C: Chip, D: Chip, N: Medium, E: Chip, F: Chip>
     card_b: &F,
 )
     ensures { RingsAreShown (devices (M.state old_unit.now) (C.state old_a.now) (D.state old_b.now)) (devices (N.state unit.now) (E.state card_a.now) (F.state card_b.now)) }
+{}
+
+/// The unit failed as a withdrawal was noted.
+pub fn a_withdrawal_is_broken<M: Medium, C: Chip, D: Chip, N: Medium, E: Chip, F: Chip>(
+    old_unit: &M,
+    old_a: &C,
+    old_b: &D,
+    unit: &N,
+    card_a: &E,
+    card_b: &F,
+)
+    ensures { AWithdrawalIsBroken (devices (M.state old_unit.now) (C.state old_a.now) (D.state old_b.now)) (devices (N.state unit.now) (E.state card_a.now) (F.state card_b.now)) }
 {}
 
 /// What a run notes is what it noted before, and what the second notes: later lines of the log change nothing of that.
