@@ -6,6 +6,7 @@ use Rattle.trace_model.specs.declared.Card.{Card}
 use Rattle.trace_model.specs.Trace.{TraceSecond}
 use Rattle.tacho_types.specs.declared.numbers.TimeReal.{TimeReal}
 use Rattle.tacho_types.specs.declared.numbers.Odometer.{Odometer}
+use Rattle.tach_media.specs.Medium.{State}
 use Rattle.gated_ring.specs.Ring.{Shape, PointsInside, IsDense, indices, ring_list, size_of, taken}
 use Rattle.gated_ring.specs.Change.{IsAdded, IsAdding}
 use Rattle.message_model.specs.Records.{insertion_ring, unit_place_ring}
@@ -122,16 +123,22 @@ pub record HasSameRings (x c : List ℕ) : Type 0 where
   pub places : bytes_at c unit_place_ring.base (size_of unit_place_ring) ≡ bytes_at x unit_place_ring.base (size_of unit_place_ring)
 
 -- calls that leave both rings as they are
+abbrev pub LeavesRings : (old new : State) → Type 0
+LeavesRings old new = (c : List ℕ) → new.may_leave c → (x : List ℕ) × old.may_leave x × HasSameRings x c
+
 abbrev pub StaysInRings : (d e : Devices) → Type 0
-StaysInRings d e = (c : List ℕ) → e.unit.may_leave c → (x : List ℕ) × d.unit.may_leave x × HasSameRings x c
+StaysInRings d e = LeavesRings d.unit e.unit
 
 -- a call writes a ring so, and before and behind that what lies outside both
 abbrev pub Around : (List ℕ → List ℕ → Type 0) → List ℕ → List ℕ → Type 0
 Around R x y = (p : List ℕ) × (q : List ℕ) × HasSameRings x p × R p q × HasSameRings q y
 
 -- each image behind it was written so
+abbrev pub WritesImages : (R : List ℕ → List ℕ → Type 0) → (old new : State) → Type 0
+WritesImages R old new = (y : List ℕ) → new.may_leave y → (x : List ℕ) × old.may_leave x × Around R x y
+
 abbrev pub WritesRing : (R : List ℕ → List ℕ → Type 0) → (d e : Devices) → Type 0
-WritesRing R d e = (y : List ℕ) → e.unit.may_leave y → (x : List ℕ) × d.unit.may_leave x × Around R x y
+WritesRing R d e = WritesImages R d.unit e.unit
 
 -- an entry is added to a ring, which takes this index; or the unit failed in that
 abbrev pub IsAddedAt : (index : ℕ) → (head : List ℕ) → List ℕ → List ℕ → Type 0
