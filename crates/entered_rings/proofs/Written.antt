@@ -1,6 +1,6 @@
 -- What is noted of a card that enters, and the rings of the unit.
-use Rattle.std.proofs.Common.{◌≡◌, ◌⊎◌, inl, inr, ⊎_elim, ℕ, ◌+◌, ◌*◌, ◌≤◌, Bool, true, false, cond, not, Option, Some, None, IfSome, is_some, List, [], ◌∷◌, ◌++◌, refl, ap, sym, subst, ◌∙◌, arith}
-use Rattle.std.specs.Prelude.{nat_eq, nat_lt, ◌==◌}
+use Rattle.std.proofs.Common.{◌≡◌, ◌⊎◌, inl, inr, ⊎_elim, ℕ, ◌+◌, ◌≤◌, Bool, true, false, cond, not, Some, IfSome, is_some, List, [], ◌∷◌, ◌++◌, refl, ap, sym, subst, ◌∙◌, arith}
+use Rattle.std.specs.Prelude.{nat_eq, nat_lt}
 use Rattle.std.specs.List.{AllByRecursion}
 use Rattle.byte_fields.specs.Images.{SameOutside}
 use Rattle.tach_media.specs.Medium.{State, IsCoherent, HasCause}
@@ -18,10 +18,10 @@ use Rattle.run_told.proofs.Parts.{told-one}
 use Rattle.run_keeping.specs.declared.keeper.Keeper.{Keeper}
 use Rattle.run_outcome.specs.declared.outcome.Outcome.{Outcome}
 use Rattle.run_entering.specs.declared.lines.Entering.{Entering}
-use Rattle.run_entering.specs.Entering.{Ending, Way, Unread, Unsized, Judged, Unfit, Ahead, Fell, Unasked, Unnoted, Seated, Lost, ending_of, insertion_of, seated, measured}
-use Rattle.run_entering.specs.Noted.{AreDone, AreBeingDone, HasNoted, UnitNote, Inserts, BeginsRow, Tells, IsOnUnit, IsComing, event_of, fault_of, moving_notes, unclosed_notes, notes_with, row_of, notes_by}
+use Rattle.run_entering.specs.Entering.{Way, Unread, Unsized, Judged, Unfit, Ahead, Fell, Unasked, Unnoted, Seated, Lost, ending_of, insertion_of, seated, measured}
+use Rattle.run_entering.specs.Noted.{AreDone, AreBeingDone, HasNoted, UnitNote, Inserts, BeginsRow, Tells, IsOnUnit, IsComing, fault_of, moving_notes, unclosed_notes, notes_with, row_of}
 use Rattle.run_entering.specs.Entered.{IsPlace, HasEntered}
-use Rattle.run_ringed.specs.Ringed.{HasSameRings, LeavesRings, WritesImages, Around, IsAddedAt, MayBeAdded}
+use Rattle.run_ringed.specs.Ringed.{HasSameRings, LeavesRings, WritesImages, Around, MayBeAdded}
 use Rattle.entered_rings.specs.Writing.{InsertsAt, WritesBy, AcceptWrites}
 
 -- ---- bytes outside both rings

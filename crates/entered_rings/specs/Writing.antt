@@ -1,6 +1,6 @@
 -- What the noting of a card that enters writes in the rings of its unit (profile): its insertion, or nothing.
 use Rattle.std.specs.Prelude.{◌≡◌, ℕ, Bool, true, false, is_some}
-use Rattle.tach_media.specs.Medium.{State, IsCoherent, HasCause}
+use Rattle.tach_media.specs.Medium.{State, HasCause}
 use Rattle.message_model.specs.Records.{insertion_ring}
 use Rattle.unit_notes.specs.declared.insertion.Insertion.{Insertion}
 use Rattle.unit_notes.specs.Entries.{insertion_bytes}

@@ -1,5 +1,5 @@
 -- What a run notes in the rings of its unit, as one second more comes; later lines of a log change no note of the seconds before.
-use Rattle.std.proofs.Common.{◌≡◌, ℕ, ◌+◌, Bool, true, false, cond, not, ◌&&◌, is_some, List, [], ◌∷◌, ◌++◌, All, fold, refl, ap, sym, subst, ◌∙◌, append-nil}
+use Rattle.std.proofs.Common.{◌≡◌, ℕ, ◌+◌, cond, not, ◌&&◌, is_some, List, [], ◌∷◌, ◌++◌, All, fold, refl, ap, sym, subst, ◌∙◌, append-nil}
 use Rattle.std.specs.Prelude.{flat_map}
 use Rattle.std.proofs.lemmas.Grind.{flat_map-append}
 use Rattle.std.proofs.lemmas.List.Elements.{All-head, All-tail}
@@ -8,13 +8,13 @@ use Rattle.activity_codec.specs.declared.values.Slot.TheVariants.{Driver, CoDriv
 use Rattle.trace_model.specs.declared.Action.{Action}
 use Rattle.trace_model.specs.declared.Action.TheVariants.{Select, Insert, Withdraw, Tear, Place}
 use Rattle.trace_model.specs.Trace.{TraceSecond}
-use Rattle.log_model.specs.Log.{RunLog, Phase, In, cut_in}
-use Rattle.log_model.specs.Slots.{Slots, refusal, in_slot}
+use Rattle.log_model.specs.Log.{RunLog, Phase, In}
+use Rattle.log_model.specs.Slots.{refusal}
 use Rattle.log_model.specs.Same.{SameAt}
 use Rattle.log_model.specs.Course.{Course, Told, Before, Moved, Went, slot_told, both_told, acted, all_acted, moved_by, unmoved, answered, fresh, begins, has_power, second_told, before_next, not_begun, went, went_on}
 use Rattle.event_model.specs.Events.{Seen}
 use Rattle.side_model.specs.Done.{CarriedOut, Done, carried_from, course_powered, done_by, done_from, done_of}
-use Rattle.side_model.specs.Noted.{Note, Withdraws, accepted_card, accepted_at, noted_by, noted_in, notes_of}
+use Rattle.side_model.specs.Noted.{Note, accepted_at, noted_by, noted_in, notes_of}
 use Rattle.run_events.proofs.Later.{seen-by-same, told-number}
 use Rattle.run_ringed.specs.Ringed.{notes_in, noted_next}
 

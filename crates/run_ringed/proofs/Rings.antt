@@ -1,5 +1,5 @@
 -- What is carried of the rings, over each step.
-use Rattle.std.proofs.Common.{◌≡◌, ◌⊎◌, inl, inr, ⊎_elim, ℕ, suc, ◌+◌, ◌-◌, ◌≤◌, min, Bool, true, false, not, ◌||◌, Option, Some, None, IfSome, option_map, List, [], ◌∷◌, ◌++◌, drop, length, map, refl, ap, sym, subst, ◌∙◌, arith, append_assoc, append-nil}
+use Rattle.std.proofs.Common.{◌≡◌, ◌⊎◌, inl, inr, ⊎_elim, ℕ, suc, ◌+◌, ◌-◌, ◌≤◌, min, Bool, true, false, not, ◌||◌, Option, Some, None, IfSome, option_map, List, [], ◌∷◌, ◌++◌, drop, length, refl, ap, sym, subst, ◌∙◌, arith, append_assoc, append-nil}
 use Rattle.std.specs.List.{AllByRecursion, list_any}
 use Rattle.std.proofs.lemmas.List.{length-take, length-drop, length-map, length-append}
 use Rattle.byte_fields.specs.Images.{bytes_at}
@@ -14,14 +14,14 @@ use Rattle.side_model.specs.Done.{has_failed_in}
 use Rattle.side_model.specs.Odometer.{SpanFrom, odometer_at}
 use Rattle.side_model.specs.Noted.{Acceptance, InsertionNote, PlaceNote, Note, Accepts, Enters, insertions_of, places_of}
 use Rattle.side_model.specs.Rings.{Stand}
-use Rattle.safety_model.specs.Safe.{Devices, card_of}
+use Rattle.safety_model.specs.Safe.{Devices}
 use Rattle.run_rings.specs.Carried.{Carries}
 use Rattle.run_rings.proofs.Carried.{carries-none, carries-same, carries-more, carries-maybe}
 use Rattle.run_rings.proofs.Indices.{index-stays}
 use Rattle.run_rings.proofs.Standing.{stand-one, stand-unsure}
 use Rattle.run_recorded.specs.Origin.{Origin}
 use Rattle.run_recorded.specs.Beside.{HaveLeftMore}
-use Rattle.run_ringed.specs.Ringed.{holder_in, TellsIn, IsInsertionIn, IsPlaceIn, sure_insertion, sure_place, ShowsNotes, Seating, one_behind, IsSeated, HasRing, ShowsInsertions, Ringed, HasSameRings, StaysInRings, GoOn, NoRingIsWritten, RingsStay, FewerSit, IsAddedAt, MayBeAdded}
+use Rattle.run_ringed.specs.Ringed.{holder_in, TellsIn, IsInsertionIn, IsPlaceIn, sure_insertion, sure_place, ShowsNotes, Seating, one_behind, IsSeated, ShowsInsertions, Ringed, GoOn, NoRingIsWritten, RingsStay, FewerSit, IsAddedAt, MayBeAdded}
 use Rattle.run_ringed.proofs.Stands.{Weaker, stand-as, each-as, each-append, all-parts, all-of, all-each, with-whole, insertions-more, places-more, insertion-as, place-as}
 
 pub insertion_shape : IsShape insertion_ring

@@ -1,5 +1,5 @@
 -- At the end of a run its rings are shown.
-use Rattle.std.proofs.Common.{◌≡◌, ℕ, List, ap, sym, subst}
+use Rattle.std.proofs.Common.{◌≡◌, ℕ, List, sym, subst}
 use Rattle.byte_fields.specs.Fields.{field_at}
 use Rattle.trace_model.specs.declared.Card.{Card}
 use Rattle.card_image.specs.Fields.{file_bytes}
@@ -8,12 +8,11 @@ use Rattle.message_model.specs.Records.{insertion_ring, unit_place_ring}
 use Rattle.log_model.specs.Log.{RunLog}
 use Rattle.side_model.specs.Noted.{Note, insertions_of, places_of}
 use Rattle.side_model.specs.Rings.{Holder, RingShows, IsInsertion, IsPlace, is_sure_insertion, is_sure_place}
-use Rattle.safety_model.specs.Recording.{card_image}
 use Rattle.safety_model.specs.Safe.{Devices, card_of}
 use Rattle.safety_model.specs.Side.{identification_widths, holder_of, IsPrevious}
 use Rattle.run_rings.proofs.Standing.{ring-shows}
 use Rattle.run_rule.specs.Found.{found_of}
-use Rattle.run_ringed.specs.Ringed.{holder_in, TellsIn, IsInsertionIn, IsPlaceIn, sure_insertion, sure_place, HasRing, notes_in, RingsAreShown}
+use Rattle.run_ringed.specs.Ringed.{holder_in, IsInsertionIn, IsPlaceIn, sure_insertion, sure_place, HasRing, notes_in, RingsAreShown}
 
 -- a holder by an image
 holder-by : List ℕ → Holder

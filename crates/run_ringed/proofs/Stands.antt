@@ -1,6 +1,5 @@
 -- Entries that stand for notes, as a log and the power spans go on, and as notes are added.
-use Rattle.std.proofs.Common.{◌≡◌, inl, inr, ⊎_elim, ℕ, suc, ◌≤◌, Bool, true, false, not, Option, Some, None, IfSome, List, [], ◌∷◌, ◌++◌, drop, fold, length, refl, ap, sym, subst, ◌∙◌, arith, append-nil}
-use Rattle.std.specs.Prelude.{flat_map}
+use Rattle.std.proofs.Common.{◌≡◌, inl, inr, ⊎_elim, ℕ, suc, ◌≤◌, Bool, true, false, not, Option, Some, None, IfSome, List, [], ◌∷◌, ◌++◌, length, refl, ap, sym, subst, ◌∙◌, append-nil}
 use Rattle.std.specs.List.{AllByRecursion}
 use Rattle.std.proofs.lemmas.Grind.{flat_map-append}
 use Rattle.std.proofs.lemmas.List.Sums.{fold-append}
@@ -10,7 +9,7 @@ use Rattle.gated_ring.proofs.Dense.{drop_all}
 use Rattle.log_model.specs.Log.{RunLog}
 use Rattle.side_model.specs.Done.{has_failed_in}
 use Rattle.side_model.specs.Odometer.{SpanFrom, odometer_at}
-use Rattle.side_model.specs.Noted.{Acceptance, InsertionNote, PlaceNote, Note, Accepts, Enters, with_note, place_in, insertions_of, places_of}
+use Rattle.side_model.specs.Noted.{InsertionNote, PlaceNote, Note, with_note, place_in, insertions_of, places_of}
 use Rattle.run_ringed.specs.Ringed.{Each}
 use Rattle.side_model.specs.Rings.{Holder, Stand, TellsWithdrawal, IsInsertion, IsPlace, is_sure_insertion, is_sure_place}
 

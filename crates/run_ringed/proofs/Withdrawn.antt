@@ -1,8 +1,8 @@
 -- A withdrawal is noted in the entry of the card's last insertion.
-use Rattle.std.proofs.Common.{◌≡◌, ◌≢◌, ◌⊎◌, inl, inr, ⊎_elim, ℕ, suc, ◌+◌, ◌<◌, ◌≤◌, ◌^◌, Bool, true, false, ◌||◌, Option, Some, None, IfSome, List, [], ◌∷◌, ◌++◌, length, map, refl, ap, sym, subst, ◌∙◌, arith, append_assoc, append-nil}
+use Rattle.std.proofs.Common.{◌≡◌, ◌≢◌, ◌⊎◌, inl, inr, ⊎_elim, ℕ, ◌+◌, ◌<◌, ◌≤◌, ◌^◌, Bool, true, false, ◌||◌, Option, Some, None, IfSome, List, [], ◌∷◌, ◌++◌, length, refl, ap, sym, subst, ◌∙◌, arith, append_assoc, append-nil}
 use Rattle.std.specs.List.{list_any}
 use Rattle.std.proofs.lemmas.List.{length-map, length-append}
-use Rattle.byte_fields.specs.Images.{bytes_at, put, big_number, big_bytes}
+use Rattle.byte_fields.specs.Images.{bytes_at, put, big_number}
 use Rattle.byte_fields.specs.Fields.{field_at, number_in}
 use Rattle.byte_fields.proofs.Images.{put_outside}
 use Rattle.byte_fields.proofs.Fields.{field_put, field_stays}
@@ -12,7 +12,7 @@ use Rattle.tacho_types.specs.declared.numbers.Odometer.{Odometer}
 use Rattle.tacho_types.specs.Numbers.{time_bytes, odometer_bytes}
 use Rattle.trace_model.specs.declared.Card.{Card}
 use Rattle.trace_model.specs.declared.Card.TheVariants.{A, B}
-use Rattle.gated_ring.specs.Ring.{PointsInside, size_of, place_of, pointer, indices, ring_list, entry_at}
+use Rattle.gated_ring.specs.Ring.{size_of, place_of, indices, ring_list, entry_at}
 use Rattle.gated_ring.specs.Change.{IsSet}
 use Rattle.gated_ring.proofs.Elsewhere.{ring_outside, ring_elsewhere}
 use Rattle.gated_ring.proofs.Listing.{few_indices}
@@ -32,8 +32,8 @@ use Rattle.run_rings.proofs.Standing.{stand-append, withdrawal-of-last}
 use Rattle.run_recorded.specs.Origin.{Origin}
 use Rattle.run_recorded.specs.Beside.{HaveLeftMore}
 use Rattle.run_ringed.specs.Ringed.{holder_in, TellsIn, Each, HasSameRings, IsInsertionIn, IsPlaceIn, sure_insertion, sure_place, ShowsNotes, Seating, IsSeated, Ringed, IsWithdrawnAt, MayBeWithdrawn}
-use Rattle.run_ringed.proofs.Stands.{stand-as, each-as, each-stand, each-long, each-append, each-split, insertions-more, places-more}
-use Rattle.run_ringed.proofs.Rings.{insertion_shape, place_shape, Writes, insertions-weaker, seated-as, go-on}
+use Rattle.run_ringed.proofs.Stands.{each-stand, each-long, each-append, each-split, insertions-more, places-more}
+use Rattle.run_ringed.proofs.Rings.{insertion_shape, place_shape, Writes, seated-as, go-on}
 
 -- ---- the entry
 

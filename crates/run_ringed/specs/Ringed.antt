@@ -7,14 +7,14 @@ use Rattle.trace_model.specs.Trace.{TraceSecond}
 use Rattle.tacho_types.specs.declared.numbers.TimeReal.{TimeReal}
 use Rattle.tacho_types.specs.declared.numbers.Odometer.{Odometer}
 use Rattle.tach_media.specs.Medium.{State}
-use Rattle.gated_ring.specs.Ring.{Shape, PointsInside, IsDense, indices, ring_list, size_of, taken}
+use Rattle.gated_ring.specs.Ring.{Shape, PointsInside, IsDense, indices, size_of, taken}
 use Rattle.gated_ring.specs.Change.{IsAdded, IsAdding}
 use Rattle.message_model.specs.Records.{insertion_ring, unit_place_ring}
 use Rattle.unit_notes.specs.Noting.{IsWithdrawn, IsWithdrawing}
 use Rattle.log_model.specs.Log.{RunLog}
 use Rattle.log_model.specs.Slots.{same_card}
 use Rattle.log_model.specs.Course.{went}
-use Rattle.side_model.specs.Done.{Done, done_by, done_of, has_failed_in}
+use Rattle.side_model.specs.Done.{done_by, done_of, has_failed_in}
 use Rattle.side_model.specs.Odometer.{SpanFrom, odometer_at}
 use Rattle.side_model.specs.Noted.{Acceptance, Withdrawal, InsertionNote, PlaceNote, Note, Accepts, Withdraws, Enters, noted_in, notes_of, insertions_of, places_of}
 use Rattle.side_model.specs.Rings.{Holder, Stand, RingShows, IsInsertion, IsPlace, is_sure_insertion, is_sure_place}
