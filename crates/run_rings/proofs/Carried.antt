@@ -4,7 +4,7 @@ use Rattle.std.specs.Prelude.{◌==◌, if◌then◌else◌}
 use Rattle.std.specs.List.{AllByRecursion}
 use Rattle.std.proofs.lemmas.Bool.{ltb-true, ltb-false}
 use Rattle.std.proofs.lemmas.List.{take-append-drop, length-drop, map-append, length-map}
-use Rattle.byte_fields.specs.Images.{SameOutside}
+use Rattle.byte_fields.specs.Images.{SameOutside, bytes_at}
 use Rattle.gated_ring.specs.Ring.{Shape, IsShape, PointsInside, size_of, pointer, indices, ring_list, entry_at, taken, with_head, IsDense, newest_of}
 use Rattle.gated_ring.specs.Change.{IsShortened, IsExtended, IsAdding, IsAdded}
 use Rattle.gated_ring.proofs.Elsewhere.{ring_outside, ring_elsewhere}
@@ -34,7 +34,7 @@ few-or a b = by (nat_lt b a) refl
     by false is = inl (ltb-false b a is)
 
 -- LISTS that are equal, part by part
-same-parts : (a b : List (List ℕ)) (e f : List ℕ) (c d : List (List ℕ)) → a ++ e ∷ c ≡ b ++ f ∷ d → length c ≡ length d → (a ≡ b) × (e ≡ f) × (c ≡ d)
+pub same-parts : (a b : List (List ℕ)) (e f : List ℕ) (c d : List (List ℕ)) → a ++ e ∷ c ≡ b ++ f ∷ d → length c ≡ length d → (a ≡ b) × (e ≡ f) × (c ≡ d)
 same-parts [] [] e f c d is long = let one : e ≡ f = cc in let rest : c ≡ d = cc in (refl, one, rest)
 same-parts [] (y ∷ b) e f c d is long =
     absurd (let rest : c ≡ b ++ f ∷ d = cc in let many : length c ≡ length b + length (f ∷ d) = ap (λ (l : List (List ℕ)). length l) rest ∙ length-append b (f ∷ d) in omega (arith, many, long))
@@ -168,13 +168,16 @@ module _ (r : Shape) (start x : List ℕ) (more : List (List ℕ)) (h : Carries 
             },
           )
 
-  -- bytes outside the ring
-  pub carries-still : IsShape r → (place len : ℕ) (c : List ℕ) → (place + len ≤ r.base) ⊎ (r.base + size_of r ≤ place) → SameOutside place len x c → Carries r start c more
-  carries-still shape place len c apart same =
-      let bytes = ring_outside r place len x c apart same in
+  -- the same bytes of the ring
+  pub carries-same : IsShape r → (c : List ℕ) → bytes_at c r.base (size_of r) ≡ bytes_at x r.base (size_of r) → Carries r start c more
+  carries-same shape c bytes =
       let is = ring_elsewhere r shape x c bytes h.points in
       carries-as c more h.gone is.0 is.1 (h.shown ∙ ap (λ (l : List (List ℕ)). h.gone ++ l) (sym is.2))
       (⊎_elim (λ none. inl none) (λ lacks. inr (subst (λ (l : List (List ℕ)). r.count ≤ length l + 1) (sym is.2) lacks)) h.full)
+
+  -- bytes outside it
+  pub carries-still : IsShape r → (place len : ℕ) (c : List ℕ) → (place + len ≤ r.base) ⊎ (r.base + size_of r ≤ place) → SameOutside place len x c → Carries r start c more
+  carries-still shape place len c apart same = carries-same shape c (ring_outside r place len x c apart same)
 
   -- one of the run's entries gets other bytes where it stands
   module _ (c : List ℕ) (i : ℕ) (bytes : List ℕ) (front back : List ℕ) (pointers : pointer r c ≡ pointer r x) (same : indices r c ≡ indices r x) (there : indices r x ≡ front ++ i ∷ back)

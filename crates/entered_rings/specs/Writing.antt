@@ -1,0 +1,32 @@
+-- What the noting of a card that enters writes in the rings of its unit (profile): its insertion, or nothing.
+use Rattle.std.specs.Prelude.{◌≡◌, ℕ, Bool, true, false, is_some}
+use Rattle.tach_media.specs.Medium.{State, HasCause}
+use Rattle.message_model.specs.Records.{insertion_ring}
+use Rattle.unit_notes.specs.declared.insertion.Insertion.{Insertion}
+use Rattle.unit_notes.specs.Entries.{insertion_bytes}
+use Rattle.run_outcome.specs.declared.outcome.Outcome.{Outcome}
+use Rattle.run_keeping.specs.declared.keeper.Keeper.{Keeper}
+use Rattle.run_entering.specs.declared.lines.Entering.{Entering}
+use Rattle.run_entering.specs.Entering.{Ending, Way, Unfit, Ahead, Fell, Unasked, Unnoted, Seated, Lost, ending_of, insertion_of}
+use Rattle.run_entering.specs.Entered.{HasEntered}
+use Rattle.run_ringed.specs.Ringed.{LeavesRings, WritesImages, IsAddedAt, MayBeAdded}
+
+-- an insertion is noted with this index; or the unit failed behind its begin
+abbrev pub InsertsAt : (failed : Bool) → (index : ℕ) → Insertion → (old new : State) → Type 0
+InsertsAt false index insertion old new = WritesImages (IsAddedAt index (insertion_bytes insertion)) old new
+InsertsAt true index insertion old new = WritesImages (MayBeAdded insertion_ring (insertion_bytes insertion)) old new
+
+-- BY WHAT BECAME OF IT
+abbrev pub WritesBy : Ending → Entering → (failed : Bool) → (old new : State) → Type 0
+WritesBy (Unfit fid place) e failed old new = LeavesRings old new
+WritesBy (Ahead stored) e failed old new = LeavesRings old new
+WritesBy Fell e failed old new = LeavesRings old new
+WritesBy Unasked e failed old new = LeavesRings old new
+WritesBy (Unnoted entered clock) e failed old new = WritesImages (MayBeAdded insertion_ring (insertion_bytes (insertion_of entered.look e))) old new
+WritesBy (Seated entered clock entry) e failed old new = InsertsAt failed entry (insertion_of entered.look e) old new
+WritesBy (Lost entered clock entry) e failed old new = InsertsAt failed entry (insertion_of entered.look e) old new
+
+-- ACCEPT writes so, on a unit that tells its image
+abbrev pub AcceptWrites : (unit unit_after card card_after : State) → Type 0
+AcceptWrites unit unit_after card card_after = (e : Entering) (failed : Bool) (k v : Keeper) (noted noted_after : ℕ) (o p : Outcome) (way : Way) → is_some unit.image ≡ true → HasCause unit unit_after failed →
+    HasEntered e failed k v noted noted_after o p unit unit_after card card_after way → WritesBy (ending_of way) e failed unit unit_after

@@ -1,0 +1,6 @@
+pub mod Stands
+pub mod Noted
+pub mod Rings
+pub mod Withdrawn
+pub mod Shown
+pub mod Around

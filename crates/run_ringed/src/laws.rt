@@ -1,0 +1,119 @@
+ghost use Rattle.std.specs.Prelude.{◌≡◌, All, List, [], ◌∷◌, ◌++◌};
+ghost use Rattle.trace_model.specs.Trace.{TraceSecond};
+ghost use Rattle.log_model.specs.Log.{RunLog};
+ghost use Rattle.log_model.specs.Same.{SameAt};
+ghost use Rattle.run_rule.specs.Between.{devices};
+ghost use Rattle.run_ringed.specs.Ringed.{NoRingIsWritten, RingsStay, FewerSit, AnInsertionIsNoted, APlaceIsNoted, AWithdrawalIsNoted, AWithdrawalIsBroken, AnInsertionIsBroken, APlaceIsBroken, RingsAreShown, notes_in, noted_next};
+
+use tach_media::{Chip, Medium};
+
+/// A run begins with nothing noted in the rings.
+pub fn no_ring_is_written<M: Medium, C: Chip, D: Chip>(unit: &M, card_a: &C, card_b: &D)
+    ensures { NoRingIsWritten (devices (M.state unit.now) (C.state card_a.now) (D.state card_b.now)) }
+{}
+
+/// Calls that write no ring leave both as they are, as the log and the power spans go on.
+pub fn rings_stay<M: Medium, C: Chip, D: Chip, N: Medium, E: Chip, F: Chip>(
+    old_unit: &M,
+    old_a: &C,
+    old_b: &D,
+    unit: &N,
+    card_a: &E,
+    card_b: &F,
+)
+    ensures { RingsStay (devices (M.state old_unit.now) (C.state old_a.now) (D.state old_b.now)) (devices (N.state unit.now) (E.state card_a.now) (F.state card_b.now)) }
+{}
+
+/// A card leaves its slot, or power is lost.
+pub fn fewer_sit<M: Medium, C: Chip, D: Chip>(unit: &M, card_a: &C, card_b: &D)
+    ensures { FewerSit (devices (M.state unit.now) (C.state card_a.now) (D.state card_b.now)) }
+{}
+
+/// The insertion of a card that is accepted is noted.
+pub fn an_insertion_is_noted<M: Medium, C: Chip, D: Chip, N: Medium, E: Chip, F: Chip>(
+    old_unit: &M,
+    old_a: &C,
+    old_b: &D,
+    unit: &N,
+    card_a: &E,
+    card_b: &F,
+)
+    ensures { AnInsertionIsNoted (devices (M.state old_unit.now) (C.state old_a.now) (D.state old_b.now)) (devices (N.state unit.now) (E.state card_a.now) (F.state card_b.now)) }
+{}
+
+/// A place is noted.
+pub fn a_place_is_noted<M: Medium, C: Chip, D: Chip, N: Medium, E: Chip, F: Chip>(
+    old_unit: &M,
+    old_a: &C,
+    old_b: &D,
+    unit: &N,
+    card_a: &E,
+    card_b: &F,
+)
+    ensures { APlaceIsNoted (devices (M.state old_unit.now) (C.state old_a.now) (D.state old_b.now)) (devices (N.state unit.now) (E.state card_a.now) (F.state card_b.now)) }
+{}
+
+/// The unit failed as an insertion was noted.
+pub fn an_insertion_is_broken<M: Medium, C: Chip, D: Chip, N: Medium, E: Chip, F: Chip>(
+    old_unit: &M,
+    old_a: &C,
+    old_b: &D,
+    unit: &N,
+    card_a: &E,
+    card_b: &F,
+)
+    ensures { AnInsertionIsBroken (devices (M.state old_unit.now) (C.state old_a.now) (D.state old_b.now)) (devices (N.state unit.now) (E.state card_a.now) (F.state card_b.now)) }
+{}
+
+/// The unit failed as a place was noted.
+pub fn a_place_is_broken<M: Medium, C: Chip, D: Chip, N: Medium, E: Chip, F: Chip>(
+    old_unit: &M,
+    old_a: &C,
+    old_b: &D,
+    unit: &N,
+    card_a: &E,
+    card_b: &F,
+)
+    ensures { APlaceIsBroken (devices (M.state old_unit.now) (C.state old_a.now) (D.state old_b.now)) (devices (N.state unit.now) (E.state card_a.now) (F.state card_b.now)) }
+{}
+
+/// A withdrawal is noted in the entry of the card's last insertion, or that is gone.
+pub fn a_withdrawal_is_noted<M: Medium, C: Chip, D: Chip, N: Medium, E: Chip, F: Chip>(
+    old_unit: &M,
+    old_a: &C,
+    old_b: &D,
+    unit: &N,
+    card_a: &E,
+    card_b: &F,
+)
+    ensures { AWithdrawalIsNoted (devices (M.state old_unit.now) (C.state old_a.now) (D.state old_b.now)) (devices (N.state unit.now) (E.state card_a.now) (F.state card_b.now)) }
+{}
+
+/// At the end of a run every image of the unit shows its rings.
+pub fn rings_are_shown<M: Medium, C: Chip, D: Chip, N: Medium, E: Chip, F: Chip>(
+    old_unit: &M,
+    old_a: &C,
+    old_b: &D,
+    unit: &N,
+    card_a: &E,
+    card_b: &F,
+)
+    ensures { RingsAreShown (devices (M.state old_unit.now) (C.state old_a.now) (D.state old_b.now)) (devices (N.state unit.now) (E.state card_a.now) (F.state card_b.now)) }
+{}
+
+/// The unit failed as a withdrawal was noted.
+pub fn a_withdrawal_is_broken<M: Medium, C: Chip, D: Chip, N: Medium, E: Chip, F: Chip>(
+    old_unit: &M,
+    old_a: &C,
+    old_b: &D,
+    unit: &N,
+    card_a: &E,
+    card_b: &F,
+)
+    ensures { AWithdrawalIsBroken (devices (M.state old_unit.now) (C.state old_a.now) (D.state old_b.now)) (devices (N.state unit.now) (E.state card_a.now) (F.state card_b.now)) }
+{}
+
+/// What a run notes is what it noted before, and what the second notes: later lines of the log change nothing of that.
+pub fn a_second_notes()
+    ensures { (log later : RunLog) (ss : List TraceSecond) (s : TraceSecond) → All (λ x. SameAt log later x.number) ss → notes_in later (ss ++ s ∷ []) ≡ notes_in log ss ++ noted_next later ss s }
+{}
