@@ -1,12 +1,11 @@
 -- Words and what they ask for, computed.
 use Rattle.std.specs.Prelude.{◌≡◌, Some, None, [], ◌∷◌, ◌++◌, codes, replicate, refl}
 use Rattle.trace_model.specs.declared.Card.TheVariants.{B}
-use Rattle.tacho.specs.declared.forms.Form.TheVariants.{Minutes, Serve, ServeHex, Download, View, Demo}
+use Rattle.tacho.specs.declared.forms.Form.TheVariants.{Minutes, Serve, ServeHex, Download, View}
 use Rattle.tacho.specs.declared.forms.TheConstants.{PLATE}
 use Rattle.tacho.specs.Texts.{word_in, number_in}
 use Rattle.trace_model.specs.Names.{card_named}
-use Rattle.tacho.specs.Forms.{name_in, unit_in, card_in, form_of}
-use Rattle.tacho.specs.declared.demo_command.TheConstants.{VEHICLE, CARD}
+use Rattle.tacho.specs.Forms.{name_in, form_of}
 
 minutes-row : form_of (codes "minutes" ∷ []) ≡ Some Minutes
 unfolding form_of
@@ -56,18 +55,6 @@ dash-row = refl
 long-row : word_in 1 PLATE (codes "ABCDEFGHIJKLMN") ≡ None
 long-row = refl
 
-demo-row : form_of (codes "demo" ∷ codes "2147483647" ∷ []) ≡ Some (Demo 2147483647)
-unfolding form_of number_in
-demo-row = refl
-
 no-demo-row : form_of (codes "demo" ∷ codes "2147483648" ∷ []) ≡ None
 unfolding form_of number_in
 no-demo-row = refl
-
-demo-vehicle-row : unit_in (codes "13") (codes "DEMO") (codes "TACHODEMO00000001") (codes "90") ≡ Some VEHICLE
-unfolding number_in
-demo-vehicle-row = refl
-
-demo-card-row : card_in (codes "13") (codes "DEMOA00000000001") (codes "DEMO") (codes "A") ≡ Some CARD
-unfolding number_in
-demo-card-row = refl

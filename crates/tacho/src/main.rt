@@ -132,6 +132,8 @@ fn main(rt: HostRuntime) -> ExitCode {
 #[cfg(test)]
 mod card_tests;
 #[cfg(test)]
+mod demo_tests;
+#[cfg(test)]
 mod download_tests;
 #[cfg(test)]
 mod format_tests;
