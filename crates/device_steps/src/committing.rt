@@ -1,11 +1,11 @@
 //! The unit keeps a minute.
 ghost use Rattle.std.specs.Prelude.{◌≡◌, ◌≤◌, ◌<◌, ℕ, None, List, [], OnOk, OnErr, IfSome, is_some, is_err};
 ghost use Rattle.trace_model.specs.declared.Card.{Card};
-ghost use Rattle.tach_media.specs.Medium.{HasCause};
+ghost use Rattle.tach_media.specs.Medium.{HasCause, LeavesOnly};
 ghost use Rattle.unit_model.specs.declared.layout.TheConstants.{HIGHEST_ODOMETER, LAST_MINUTE};
 ghost use Rattle.unit_model.specs.Image.{IsUnit};
 ghost use Rattle.owed_model.specs.Rows.{HasRow};
-ghost use Rattle.unit_journal.specs.Image.{Agrees};
+ghost use Rattle.unit_journal.specs.Image.{Agrees, IsKeeping as IsKeepingImage};
 ghost use Rattle.unit_journal.specs.Kept.{kept_minute};
 ghost use Rattle.log_model.specs.declared.lines.Mark.{Mark};
 ghost use Rattle.history_model.specs.Minutes.{HistoryMinute, on_card};
@@ -56,6 +56,7 @@ pub fn commit<M: Medium, C: Chip, D: Chip>(
     ensures views { (a b : List ℕ) (i : HistoryMinute) → kept_minute kept.now ≡ seen_by_unit i → LeavesViews (of_unit a b (M.state unit.old)) (of_unit a b (M.state unit.new)) (IsKeeping KeepsMinute GivesUpDay i) }
     ensures travelled { (start : ℕ) (g : Travel) (leg : ℕ) (s : Started) (due : ℕ) (b : Book) (marks : List Mark) (i : HistoryMinute) → kept_minute kept.now ≡ seen_by_unit i → Holds s due b marks (M.state unit.old) → b.maybe ≡ None → due ≤ i.minute
         → HasTravelled start b g (M.state unit.old) → kept.now.odometer.0 ≡ odometer_by (odometer_after start g.before) leg → HasGone start b g i leg (is_err result) (M.state unit.new) }
+    ensures moments { LeavesOnly (M.state unit.old) (M.state unit.new) (IsKeepingImage (kept_minute kept.now) kept.now.odometer.0) }
     ensures keeps { (t : ℕ) (x : List ℕ) → t ≤ (M.state unit.old).clock → (M.state unit.old).left_since t x → (M.state unit.new).left_since t x }
     ensures rows { (n : List ℕ) → IfSome (M.state unit.old).image (HasRow n) → OnOk result (IfSome (M.state unit.new).image (HasRow n)) }
     ensures clock { (M.state unit.old).clock ≤ (M.state unit.new).clock }

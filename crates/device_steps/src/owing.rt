@@ -1,10 +1,10 @@
 //! The entry of a minute is put among those owed to its card.
 ghost use Rattle.std.specs.Prelude.{◌≡◌, ◌≤◌, ℕ, None, List, [], ◌∷◌, OnOk, IfSome, is_some, is_err};
-ghost use Rattle.tach_media.specs.Medium.{HasCause};
+ghost use Rattle.tach_media.specs.Medium.{HasCause, LeavesOnly};
 ghost use Rattle.tacho_types.specs.CardNumber.{card_number_bytes};
 ghost use Rattle.unit_model.specs.Image.{IsUnit};
 ghost use Rattle.unit_journal.specs.Image.{Agrees};
-ghost use Rattle.owed_model.specs.Rows.{HasRow};
+ghost use Rattle.owed_model.specs.Rows.{HasRow, IsPutting as IsPuttingRow};
 ghost use Rattle.log_model.specs.declared.lines.Mark.{Mark};
 ghost use Rattle.history_model.specs.Book.{Book};
 ghost use Rattle.joint_rule.specs.Rules.{Standing, IsPresent};
@@ -54,6 +54,7 @@ pub fn owe<M: Medium, C: Chip, D: Chip>(
         → due ≤ entry.now.minute → 1440 ≤ entry.now.minute → CardHolds r which b y [] [] (M.state unit.old) (C.state mine.now) → CardHolds r (other which) b z m d (M.state unit.old) (D.state others.now)
         → IsKeptUp r (other which) b z m d (is_err result) (M.state unit.new) (D.state others.now) }
     ensures travelled { (start : ℕ) (b : Book) (g : Travel) → HasTravelled start b g (M.state unit.old) → HasTravelled start b g (M.state unit.new) }
+    ensures moments { LeavesOnly (M.state unit.old) (M.state unit.new) (IsPuttingRow (card_number_bytes number.now) entry.now) }
     ensures keeps { (t : ℕ) (x : List ℕ) → t ≤ (M.state unit.old).clock → (M.state unit.old).left_since t x → (M.state unit.new).left_since t x }
     ensures rows { (n : List ℕ) → IfSome (M.state unit.old).image (HasRow n) → OnOk result (IfSome (M.state unit.new).image (HasRow n)) }
     ensures clock { (M.state unit.old).clock ≤ (M.state unit.new).clock }

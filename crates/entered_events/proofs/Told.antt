@@ -41,7 +41,7 @@ noted-but kind there front x y noted =
     record { tables = λ other at ne. others-same kind (all-apart kind there) x y noted.outside other at ne; first_over = λ ne. numbers.0; over_count = λ ne. numbers.1 }
 
 module _ (number : Card → List ℕ) (long : AreNumbers number) (log : RunLog) (now : ℕ → List Event) where
-  same-shown : (x y : List ℕ) → y ≡ x → ShowsMore number log now none x y
+  pub same-shown : (x y : List ℕ) → y ≡ x → ShowsMore number log now none x y
   same-shown x y is = nothing-more number log now x y (record {
     tables = λ kind there. ap (table_in kind) is;
     first_over = ap (λ (l : List ℕ). image.number_of l FIRST_OVER) is;

@@ -9,20 +9,13 @@ use Rattle.event_course.specs.Noted.{are_sure}
 use Rattle.event_course.specs.Shown.{all_kinds}
 use Rattle.unit_notes.specs.declared.unit_event.UnitEvent.{UnitEvent}
 use Rattle.unit_notes.specs.Fields.{IsEventOf}
+pub use Rattle.noted_events.specs.Noted.{IsTold, AreUnsure}
 use Rattle.run_crew.specs.declared.cabin.Cabin.{Cabin}
 use Rattle.run_crew.specs.Cabin.{torn_out, crew_of}
 use Rattle.run_notes.specs.Entries.{IsCrewOf}
 use Rattle.run_entering.specs.declared.lines.Entering.{Entering}
 use Rattle.run_entering.specs.Entering.{Ending, Unfit, Ahead, Fell, Unasked, Unnoted, Seated, Lost, seated}
 use Rattle.run_entering.specs.Noted.{UnitNote, Inserts, BeginsRow, Tells}
-
--- a note of the unit tells this event of a run
-pub record IsTold (number : Card → List ℕ) (e : Event) (v : UnitEvent) : Type 0 where
-  pub is : IsEventOf number e v
-  pub there : Contains all_kinds e.kind
-  pub other : e.kind ≢ OVER_SPEEDING
-  pub begin : e.begin < 2 ^ 32
-  pub end : e.end < 2 ^ 32
 
 -- these notes tell these events, in order; insertions and rows tell none
 abbrev pub TellEvents : (Card → List ℕ) → List UnitNote → List Event → Type 0
@@ -32,10 +25,6 @@ TellEvents number (Inserts insertion ∷ notes) events = TellEvents number notes
 TellEvents number (BeginsRow card session spared ∷ notes) events = TellEvents number notes events
 TellEvents number (Tells v ∷ notes) [] = ⊥
 TellEvents number (Tells v ∷ notes) (e ∷ events) = IsTold number e v × TellEvents number notes events
-
--- of no one of these types any event is sure
-abbrev pub AreUnsure : RunLog → (ℕ → List Event) → List Event → Type 0
-AreUnsure log now events = AllByRecursion (λ e. are_sure log (now e.kind) ≡ true → ⊥) events
 
 -- that the vehicle moved, and that the session from another second was not closed: 0 is none
 abbrev pub moving_events : (speed second : ℕ) → Crew → List Event

@@ -1,12 +1,11 @@
 -- A card is judged: what its entering leaves of the record is what a run has behind it.
-use Rattle.std.proofs.Common.{◌≡◌, ◌∙◌, ℕ, ◌<◌, Bool, true, false, List, [], refl, ap, sym}
+use Rattle.std.proofs.Common.{◌≡◌, ◌∙◌, ℕ, ◌<◌, Bool, true, false, not, None, List, [], refl, ap, sym}
 use Rattle.trace_model.specs.declared.Card.{Card}
 use Rattle.trace_model.specs.declared.Card.TheVariants.{A, B}
 use Rattle.trace_model.specs.Trace.{TraceSecond}
-use Rattle.tach_media.specs.Medium.{State, last_count}
+use Rattle.tach_media.specs.Medium.{State, IsCoherent, last_count}
 use Rattle.log_model.specs.Log.{In}
 use Rattle.log_model.specs.Course.{Visit}
-use Rattle.unit_model.specs.Image.{odometer_at}
 use Rattle.unit_rule.specs.Rule.{Started}
 use Rattle.unit_rule.specs.Odometer.{odometer_after}
 use Rattle.safety_model.specs.Safe.{Devices}
@@ -19,7 +18,20 @@ use Rattle.run_within.specs.Within.{Beginning}
 use Rattle.run_acts.specs.declared.run.Run.{Run}
 use Rattle.run_acts.specs.declared.run.Power.TheVariants.{Lit}
 use Rattle.run_acts.specs.Recording.{IsOrigin, values_of, RunWithin}
+use Rattle.activity_codec.specs.declared.values.Slot.{Slot}
+use Rattle.unit_model.specs.Image.{IsUnit, odometer_at}
+use Rattle.unit_notes.specs.declared.unit_event.UnitEvent.{UnitEvent}
+use Rattle.run_rule.specs.Between.{devices}
+use Rattle.run_keeping.specs.declared.keeper.Moment.{Moment}
+use Rattle.run_entering.specs.declared.lines.Entering.{Entering}
+use Rattle.run_entering.specs.Entering.{ending_of, measured}
+use Rattle.run_entering.specs.Noted.{UnitNote, IsOnUnit, IsComing, HasNoted, notes_by}
+use Rattle.noted_events.specs.Noted.{NotesEvents}
+use Rattle.noted_events.proofs.Noted.{quiet-noted}
+use Rattle.entered_events.proofs.Noted.{entered-noted}
+use Rattle.recorder_with_cards.specs.Accepting.{IsAccepted}
 use Rattle.recorder_with_cards.specs.Judged.{JudgedTo}
+use Rattle.recorder_with_cards.specs.Noting.{judged_events, IsJudgedNoting, NotesAnew}
 
 -- its clock is not at its last value
 pub mine-time : (which : Card) (unit mine others : State) → HaveTime (arranged which unit mine others) → mine.clock < last_count
@@ -43,3 +55,25 @@ judged-by false o done s n waits fewer old new before after d e w lit odometer h
   from = h.from;
 }
 judged-by true o done s n waits fewer old new before after d e w lit odometer h = record { waits = h.left; cabin = h.cabin; same = h.same; within = h.within }
+
+-- ---- what is noted
+
+noted-as : (which : Card) (U V X Y Z : State) (vs : List UnitEvent) (failed : Bool) → NotesEvents vs failed (devices U X Z) (devices V Y Z) → NotesEvents vs failed (devices U Z X) (devices V Z Y) → NotesEvents vs failed (arranged which U X Z) (arranged which V Y Z)
+noted-as A U V X Y Z vs failed one other = one
+noted-as B U V X Y Z vs failed one other = other
+
+pub judged-noting : (e : Entering) (failed : Bool) (old new : Run) (before after : Outcome) (a : IsAccepted e old new before after) (U V X Y Z : State) → IsCoherent U → IsCoherent V → IsUnit U → V.works ≡ not failed →
+    HasNoted IsOnUnit IsComing (notes_by (ending_of a.way) e old.noted (measured a.way e old.keeper).cabin) failed U V → IsJudgedNoting e failed old new before after (arranged e.which U X Z) (arranged e.which V Y Z)
+judged-noting e failed old new before after a U V X Y Z whole behind unit works noted =
+    let notes : List UnitNote = notes_by (ending_of a.way) e old.noted (measured a.way e old.keeper).cabin in
+    record {
+      accepted = a;
+      notes = noted-as e.which U V X Y Z (judged_events a.way e old) failed (entered-noted U V X Z Y Z notes whole behind unit failed noted works) (entered-noted U V Z X Z Y notes whole behind unit failed noted works);
+    }
+
+-- no card is there: nothing is noted
+same-noted : (U X Y : State) → NotesEvents [] false (devices U X Y) (devices U X Y)
+same-noted U X Y = quiet-noted U U X Y X Y (λ c there. (c, there, record { tables = λ kind at. refl; first_over = refl; over_count = refl }))
+
+pub none-noting : (slot : Slot) (at : Moment) (speed : ℕ) (run : Run) (out : Outcome) (U X Y : State) → NotesAnew None slot at speed false run run out out (devices U X Y) (devices U X Y)
+none-noting slot at speed run out U X Y = (refl, refl, same-noted U X Y)

@@ -26,3 +26,4 @@ pub mod Waiting
 pub mod SecondsRecorded
 pub mod Promised
 pub mod Later
+pub mod WakeNoted

@@ -7,6 +7,7 @@ ghost use Rattle.run_acts.specs.declared.run.Power.TheVariants.{Lit};
 ghost use Rattle.run_acts.specs.Going.{first_second, end_of_seconds, IsHeld, IsLit};
 ghost use Rattle.run_acts.specs.Room.{falls_of, Takes};
 ghost use Rattle.recorder_with_cards.specs.Accepting.{IsInserted};
+ghost use Rattle.recorder_with_cards.specs.Noting.{NotesInserting};
 ghost use Rattle.run_acts.specs.Recording.{RecordsAction};
 ghost use Rattle.run_outcome.specs.declared.outcome.TheConstants.{MOST_OWED};
 ghost use Rattle.run_rule.specs.Between.{devices};
@@ -54,6 +55,7 @@ pub(crate) fn insert<M: Medium, C: Chip, D: Chip>(
     ensures refused { outcome.new.refused ≡ outcome.old.refused }
     ensures takes { Takes 1 1 0 run.old run.new outcome.old outcome.new }
     ensures recorded { at.late ≡ false → length outcome.old.marks.items + 3 * run.old.minutes.owing + MOST_OWED ≤ outcome.old.marks.room → RecordsAction (Insert slot card) at.begun speed (is_err result) run.old run.new outcome.old outcome.new (devices (M.state unit.old) (C.state card_a.old) (D.state card_b.old)) (devices (M.state unit.new) (C.state card_a.new) (D.state card_b.new)) }
+    ensures noted { NotesInserting slot card at speed (is_err result) run.old run.new outcome.old outcome.new (devices (M.state unit.old) (C.state card_a.old) (D.state card_b.old)) (devices (M.state unit.new) (C.state card_a.new) (D.state card_b.new)) }
     ensures clock { (M.state unit.old).clock ≤ (M.state unit.new).clock }
     ensures clock_a { (C.state card_a.old).clock ≤ (C.state card_a.new).clock }
     ensures clock_b { (D.state card_b.old).clock ≤ (D.state card_b.new).clock }

@@ -12,6 +12,7 @@ pub mod Torn
 pub mod Turned
 pub mod Room
 pub mod TurnBooked
+pub mod TurnNoted
 pub mod Apart
 pub mod NoneComes
 pub mod Asked

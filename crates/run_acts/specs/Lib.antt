@@ -9,3 +9,4 @@ pub mod Recording
 pub mod Noting
 pub mod Settling
 pub mod Devices
+pub mod Faults

@@ -1,16 +1,21 @@
 -- What a note on the unit and then on accepted cards leaves, by value, of unit and cards, and of the record of a run (profile).
-use Rattle.std.specs.Prelude.{◌≡◌, ℕ, Bool, true, false, Option, Some, None, List, []}
+use Rattle.std.specs.Prelude.{◌≡◌, ℕ, Bool, true, false, Option, Some, None, List, [], ◌∷◌, ◌++◌}
 use Rattle.activity_codec.specs.declared.values.Slot.{Slot}
 use Rattle.activity_codec.specs.declared.values.Slot.TheVariants.{Driver, CoDriver}
 use Rattle.trace_model.specs.declared.Card.{Card}
 use Rattle.trace_model.specs.declared.Action.TheVariants.{Place}
 use Rattle.trace_model.specs.Trace.{TraceSecond}
 use Rattle.event_model.specs.declared.entries.Span.{Span}
+use Rattle.event_model.specs.declared.kinds.TheConstants.{POWER_INTERRUPTION, CARD_FAULT}
+use Rattle.unit_notes.specs.declared.unit_event.UnitEvent.{UnitEvent}
+use Rattle.noted_events.specs.Noted.{NotesEvents}
 use Rattle.log_model.specs.declared.lines.Break.{Break}
 use Rattle.log_model.specs.Log.{Phase}
 use Rattle.safety_model.specs.Safe.{Devices}
 use Rattle.slot_machine.specs.Calls.{seat_in, card_in}
 use Rattle.run_crew.specs.declared.cards.Cards.{Cards}
+use Rattle.run_crew.specs.Cabin.{crew_of}
+use Rattle.run_notes.specs.Entries.{entry_of}
 use Rattle.run_rule.specs.Found.{Found}
 use Rattle.run_rule.specs.Between.{Carried}
 use Rattle.run_told.specs.Told.{AreFoundCards, IsPowered, with_standing}
@@ -51,6 +56,33 @@ IsGapNoted (Some span) at failed old new breaks after NoGap = ⊥
 IsGapNoted (Some span) at failed old new breaks after UnitFailed = (failed ≡ true) × (new ≡ old) × (after ≡ breaks)
 IsGapNoted (Some span) at failed old new breaks after DriverFell = (failed ≡ true) × IsNotedIn (card_in (seat_in old.keeper.cabin.slots.seats Driver)) Driver at old new breaks after true
 IsGapNoted (Some span) at failed old new breaks after (BothSlots driver codriver) = AreNotedIn at old new breaks after driver codriver × (failed ≡ true → codriver ≡ true)
+
+-- ---- the events and faults that are noted
+
+-- the fault of a card that fell as something was noted on it, with the cards that are left
+abbrev pub fall_events : (fell : Bool) → (second : ℕ) → (left : Run) → List UnitEvent
+fall_events false second left = []
+fall_events true second left = entry_of CARD_FAULT second second (crew_of left.keeper.cabin) (crew_of left.keeper.cabin) ∷ []
+
+-- the interruption, with the cards that were accepted as power was back
+abbrev pub gap_event : Span → Run → UnitEvent
+gap_event span run = entry_of POWER_INTERRUPTION span.begin span.end (crew_of run.keeper.cabin) (crew_of run.keeper.cabin)
+
+-- A NOTE ON A CARD, or on that of a slot, and these faults with it
+pub record NotesFall (IsNoted : (fell : Bool) → Type 0) (second : ℕ) (failed : Bool) (left : Run) (d e : Devices) : Type 0 where
+  pub fell : Bool
+  pub noted : IsNoted fell
+  pub failing : failed ≡ true → fell ≡ true
+  pub notes : NotesEvents (fall_events fell second left) failed d e
+
+-- THE EVENTS OF AN INTERRUPTION that was noted so far
+abbrev pub AreGapEvents : Option Span → Moment → (failed : Bool) → (old new : Run) → (breaks after : Listed Break) → GapReach → List UnitEvent → Type 0
+AreGapEvents None at failed old new breaks after reach vs = IsGapNoted None at failed old new breaks after reach × (vs ≡ [])
+AreGapEvents (Some span) at failed old new breaks after NoGap vs = ⊥
+AreGapEvents (Some span) at failed old new breaks after UnitFailed vs = IsGapNoted (Some span) at failed old new breaks after UnitFailed × (vs ≡ gap_event span old ∷ [])
+AreGapEvents (Some span) at failed old new breaks after DriverFell vs = IsGapNoted (Some span) at failed old new breaks after DriverFell × (vs ≡ gap_event span old ∷ fall_events true old.next new)
+AreGapEvents (Some span) at failed old new breaks after (BothSlots driver codriver) vs =
+    (n : AreNotedIn at old new breaks after driver codriver) × (failed ≡ true → codriver ≡ true) × (vs ≡ gap_event span old ∷ (fall_events driver old.next n.between ++ fall_events codriver old.next new))
 
 -- ---- of unit and cards
 

@@ -17,6 +17,7 @@ ghost use Rattle.run_acts.specs.Turning.{IsKeptInTurn, IsLitTurn, IsTurnOf, told
 ghost use Rattle.run_acts.specs.Booked.{IsTurnReach, BooksTurn, IsBookedTurn};
 ghost use Rattle.run_acts.specs.Devices.{DevicesGoOn};
 ghost use Rattle.run_acts.specs.Recording.{RecordsTurn};
+ghost use Rattle.run_acts.specs.Faults.{NotesKeeping, NotesTurn};
 ghost use Rattle.run_keeping.specs.Minutes.{Reach};
 ghost use Rattle.run_acts.specs.declared.run.Run.{Run};
 ghost use Rattle.run_rule.specs.Between.{devices};
@@ -47,6 +48,7 @@ pub fn turn<M: Medium, C: Chip, D: Chip>(
     ensures turned { IsTurnOf (is_lit run.old.power) n speed begun run.old run.new outcome.old outcome.new }
     ensures booked { is_lit run.old.power ≡ true → (between : Run) × IsBookedTurn n speed begun run.old between outcome.old outcome.new (devices (M.state unit.old) (C.state card_a.old) (D.state card_b.old)) (devices (M.state unit.new) (C.state card_a.new) (D.state card_b.new))
         × (run.new ≡ passed n begun between) }
+    ensures noted { is_lit run.old.power ≡ true → (between : Run) × NotesTurn n speed begun run.old between outcome.old outcome.new (M.state unit.old) (M.state unit.new) × (run.new ≡ passed n begun between) }
     ensures recorded { RecordsTurn n speed begun run.old run.new outcome.old outcome.new (devices (M.state unit.old) (C.state card_a.old) (D.state card_b.old)) (devices (M.state unit.new) (C.state card_a.new) (D.state card_b.new)) }
     ensures clock { (M.state unit.old).clock ≤ (M.state unit.new).clock }
     ensures clock_a { (C.state card_a.old).clock ≤ (C.state card_a.new).clock }
@@ -86,6 +88,7 @@ fn lit_turn<M: Medium, C: Chip, D: Chip>(
     requires small { run.old.next + n ≤ end_of_seconds }
     requires room { HasRoomWithin run.old outcome.old n 0 0 0 }
     ensures turned { IsLitTurn n speed begun run.old run.new outcome.old outcome.new }
+    ensures noted { NotesTurn n speed begun run.old run.new outcome.old outcome.new (M.state unit.old) (M.state unit.new) }
     ensures booked { IsBookedTurn n speed begun run.old run.new outcome.old outcome.new (devices (M.state unit.old) (C.state card_a.old) (D.state card_b.old)) (devices (M.state unit.new) (C.state card_a.new) (D.state card_b.new)) }
     ensures clock { (M.state unit.old).clock ≤ (M.state unit.new).clock }
     ensures clock_a { (C.state card_a.old).clock ≤ (C.state card_a.new).clock }
@@ -149,6 +152,7 @@ fn keep_turn<M: Medium, C: Chip, D: Chip>(
     requires limit { run.old.watch.limit ≡ run.old.watch.over.limit }
     requires watches { Watches run.old.watch run.old.next }
     ensures kept { IsKeptInTurn decided.now n speed at (is_err result) run.old run.new outcome.old outcome.new }
+    ensures noted { NotesKeeping decided.now n speed at (is_err result) run.old run.new outcome.old outcome.new (M.state unit.old) (M.state unit.new) }
     ensures booked { (reach : Reach) × IsTurnReach decided.now at (is_err result) (told_of run.old outcome.old) (told_of run.new outcome.new) reach
         × BooksTurn decided.now (is_err result) reach (told_of run.old outcome.old) (told_of run.new outcome.new) (devices (M.state unit.old) (C.state card_a.old) (D.state card_b.old)) (devices (M.state unit.new) (C.state card_a.new) (D.state card_b.new)) }
     ensures devices { DevicesGoOn (is_err result) run.old.keeper.cabin.cards run.new.keeper.cabin.cards (devices (M.state unit.old) (C.state card_a.old) (D.state card_b.old)) (devices (M.state unit.new) (C.state card_a.new) (D.state card_b.new)) }

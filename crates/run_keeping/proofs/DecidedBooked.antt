@@ -25,9 +25,11 @@ use Rattle.run_keeping.specs.declared.keeper.Moment.{Moment}
 use Rattle.run_keeping.specs.Keeping.{Fate, Still, Has, Fell, TellsPresent, cabin_by}
 use Rattle.run_keeping.specs.Minutes.{Round, Told, Done, Reach, Whole, Short, IsRound, IsMinute, IsReach, IsLast, AreRounds, AreDue, told_after, told_by, cabin_after, marks_after, kept_of, minute_of, present_at}
 use Rattle.run_keeping.specs.Books.{AreBooked, AreTimedOn, HaveTime, MayBook, MayCome, BooksMinute, carried_after, fate_of, standing_by}
+use Rattle.run_keeping.specs.Faults.{last_faults, faults_of, faults_to, NotesFaults}
 use Rattle.run_keeping.specs.Decided.{MayBookAll, BooksAll, carried_by, decided_minute}
 use Rattle.run_keeping.proofs.Brought.{cards-by, found-session}
 use Rattle.run_keeping.proofs.MinuteBooked.{timed-then}
+use Rattle.run_keeping.proofs.Faults.{notes-none, more-noted, last-noted}
 use Rattle.run_keeping.proofs.Decided.{no_minute, this, front, whole, all-here}
 
 -- ---- one more behind some
@@ -120,13 +122,14 @@ pub record Booked (ds : List Minute) (i : ℕ) (at : Moment) (t u : Told) (d e :
   pub told : u ≡ told_by t.keeper at done t
   pub books : (f : Found) (w : Carried) (start : ℕ) (g : Travel) → MayBookAll f w ds t d → HasTravelled start w.book g d.unit → t.keeper.odometer ≡ odometer_after start g.before → HaveTime e
       → (AreBooked f (carried_by t.keeper done w) u.keeper.cabin.cards u.marks.items e × HasTravelled start (carried_by t.keeper done w).book (all_travelled (map (λ (x : Done). x.minute) done) g) e.unit) × AreTimedOn f d e
+  pub noted : NotesFaults false (faults_of t.keeper at done t) d.unit e.unit
 
 pub none-booked : (ds : List Minute) (at : Moment) (t : Told) (d : Devices) → Booked ds 0 at t t d d
-none-booked ds at t d = record { done = []; are = refl; rounds = tt; told = refl; books = λ f w start g may gone stored time. ((may.booked, gone), λ c valid timed. timed) }
+none-booked ds at t d = record { done = []; are = refl; rounds = tt; told = refl; books = λ f w start g may gone stored time. ((may.booked, gone), λ c valid timed. timed); noted = notes-none false d.unit }
 
 -- all of them
-pub all-booked : (ds : List Minute) (i : ℕ) → length ds ≤ i → (at : Moment) (t u : Told) (d e : Devices) → Booked ds i at t u d e → (reach : Reach) × IsReach ds at false t u reach × BooksAll ds false reach t u d e
-all-booked ds i over at t u d e so = (Whole so.done, (sym (take_all i ds over) ∙ so.are, so.rounds, so.told), so.books)
+pub all-booked : (ds : List Minute) (i : ℕ) → length ds ≤ i → (at : Moment) (t u : Told) (d e : Devices) → Booked ds i at t u d e → (reach : Reach) × IsReach ds at false t u reach × BooksAll ds false reach t u d e × NotesFaults false (faults_to t.keeper at reach t) d.unit e.unit
+all-booked ds i over at t u d e so = (Whole so.done, (sym (take_all i ds over) ∙ so.are, so.rounds, so.told), so.books, so.noted)
 
 module _ (ds : List Minute) (i : ℕ) (low : i < length ds) (at : Moment) (t u v : Told) (d e g : Devices) (kept : ℕ) (due : AreDue kept ds) (day : 1440 ≤ (this ds i low).minute) (p : Present) (km : KeptMinute) (cards : p ≡ present_at t.keeper.cabin (this ds i low).minute)
     (is : km ≡ kept_of t.keeper.odometer (this ds i low) p) (A B C D : State) (earlier : HaveTime g → HaveTime e) (so : Booked ds i at t u d e) where
@@ -188,7 +191,7 @@ module _ (ds : List Minute) (i : ℕ) (low : i < length ds) (at : Moment) (t u v
       (subst (λ (n : KeptMinute). TellsPresent n p → BooksMinute p n failed round u v e g) is h) tells
 
   -- ONE MORE
-  module _ (r : Round) (minute : IsMinute here (minute_of m k) at false u v A B C D (Some r)) (books : BooksMinute here (minute_of m k) false (Some r) u v e g) where
+  module _ (r : Round) (minute : IsMinute here (minute_of m k) at false u v A B C D (Some r)) (books : BooksMinute here (minute_of m k) false (Some r) u v e g) (noted : NotesFaults false (last_faults p at (Some r) u.keeper.cabin) e.unit g.unit) where
     abbrev x : Done
     x = record { minute = m; round = r }
 
@@ -226,23 +229,25 @@ module _ (ds : List Minute) (i : ℕ) (low : i < length ds) (at : Moment) (t u v
           let far : HasTravelled start (carried_by k (so.done ++ x ∷ []) w).book (all_travelled (map (λ (y : Done). y.minute) (so.done ++ x ∷ [])) travel) g.unit = subst (λ (legs : Travel). HasTravelled start (carried_by k (so.done ++ x ∷ []) w).book legs g.unit) (sym (travel-snoc so.done x travel))
           (subst (λ (q : Carried). HasTravelled start q.book (travelled m.travelled (all_travelled (map (λ (y : Done). y.minute) so.done) travel)) g.unit) carried behind.1) in
           ((booked, far), all.1);
+      noted = more-noted k at so.done x t u p d.unit e.unit g.unit cards so.told so.noted noted;
     }
 
-  pub booked-on : (round : Option Round) → IsMinute p km at false u v A B C D round → (TellsPresent km p → BooksMinute p km false round u v e g) → Booked ds (i + 1) at t v d g
-  booked-on None h books = let never = h.0 in absurd (cc)
-  booked-on (Some r) h books = more-booked r (minute-here false (Some r) h) (books-here false (Some r) books)
+  pub booked-on : (round : Option Round) → IsMinute p km at false u v A B C D round → (TellsPresent km p → BooksMinute p km false round u v e g) → NotesFaults false (last_faults p at round u.keeper.cabin) e.unit g.unit → Booked ds (i + 1) at t v d g
+  booked-on None h books noted = let never = h.0 in absurd (cc)
+  booked-on (Some r) h books noted = more-booked r (minute-here false (Some r) h) (books-here false (Some r) books) noted
 
   -- OR THE UNIT FAILED in it
   last-here : (round : Option Round) → IsMinute here (minute_of m k) at true u v A B C D round → IsLast k m at (told_by k at so.done t) v round
   last-here None h = h.1 ∙ so.told
   last-here (Some r) h = (subst (λ (q : Told). IsRound here (minute_of m k) at true q.keeper r) so.told h.0, h.2 ∙ ap (told_after here m.minute at r) so.told)
 
-  pub cut-booked : (round : Option Round) → IsMinute p km at true u v A B C D round → (TellsPresent km p → BooksMinute p km true round u v e g) → (reach : Reach) × IsReach ds at true t v reach × BooksAll ds true reach t v d g
-  cut-booked round h books = (
+  pub cut-booked : (round : Option Round) → IsMinute p km at true u v A B C D round → (TellsPresent km p → BooksMinute p km true round u v e g) → NotesFaults true (last_faults p at round u.keeper.cabin) e.unit g.unit → (reach : Reach) × IsReach ds at true t v reach × BooksAll ds true reach t v d g × NotesFaults true (faults_to k at reach t) d.unit g.unit
+  cut-booked round h books noted = (
     Short so.done m round,
     ((drop (i + 1) ds, whole ds i low ∙ ap (λ (zs : List Minute). zs ++ m ∷ drop (i + 1) ds) so.are), so.rounds, last-here round (minute-here true round h)),
     λ f w start travel may gone stored time.
         let all = books-here true round books f (carried_by k so.done w) start (all_travelled (map (λ (x : Done). x.minute) so.done) travel) m.travelled
         (may-here f w start travel may gone stored time) (was f w start travel may gone stored time).0.1 (odometer-here f w start travel may gone stored time) time in
         (all.0, timed-then f d e g (was f w start travel may gone stored time).1 all.1),
+    last-noted k at so.done m.minute round t u p d.unit e.unit g.unit cards so.told so.noted noted,
   )

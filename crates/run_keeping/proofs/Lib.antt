@@ -16,3 +16,4 @@ pub mod Brought
 pub mod MinuteBooked
 pub mod DecidedBooked
 pub mod MarksBooked
+pub mod Faults

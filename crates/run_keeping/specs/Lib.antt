@@ -3,3 +3,4 @@ pub mod Minutes
 pub mod Books
 pub mod Owing
 pub mod Decided
+pub mod Faults

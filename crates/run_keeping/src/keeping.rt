@@ -1,4 +1,5 @@
 //! A minute is kept by the unit, and then on the cards that were present in it.
+ghost use Rattle.run_keeping.specs.Faults.{last_faults, NotesFaults};
 ghost use Rattle.std.specs.Prelude.{◌≡◌, ◌⊎◌, ◌≢◌, ℕ, ◌+◌, ◌-◌, ◌/◌, ◌<◌, ◌≤◌, false, Option, Some, IfSome, List, ◌∷◌, [], OnOk, OnErr, length, is_some, is_err};
 ghost use Rattle.tach_media.specs.Medium.{HasCause, HasBroken};
 ghost use Rattle.cyclic_days.specs.Steps.{IsIdle};
@@ -67,6 +68,7 @@ impl Keeper {
         ensures rows { (card : Card) → HasItsRow self.old.cabin.cards (M.state unit.old) card → OnOk result (HasItsRow self.new.cabin.cards (M.state unit.new) card) }
         ensures travelled { TravelsOn (M.state unit.old) (M.state unit.new) }
         ensures unit_keeps { HasLeftMore (M.state unit.old) (M.state unit.new) }
+        ensures quiet { NotesFaults (is_err result) [] (M.state unit.old) (M.state unit.new) }
         ensures booked { BooksPut present entry.now (is_err result) self.old.cabin.cards (devices (M.state unit.old) (C.state card_a.now) (D.state card_b.now)) (devices (M.state unit.new) (C.state card_a.now) (D.state card_b.now)) }
         ensures clock { (M.state unit.old).clock ≤ (M.state unit.new).clock }
         ensures tells { is_some (M.state unit.new).image ≡ is_some (M.state unit.old).image }
@@ -124,6 +126,7 @@ impl Keeper {
         ensures ready { OnOk result (UnitReady self.new (M.state unit.new)) }
         ensures rows { (card : Card) → HasItsRow self.old.cabin.cards (M.state unit.old) card → OnOk result (HasItsRow self.new.cabin.cards (M.state unit.new) card) }
         ensures unit_keeps { HasLeftMore (M.state unit.old) (M.state unit.new) }
+        ensures quiet { NotesFaults (is_err result) [] (M.state unit.old) (M.state unit.new) }
         ensures booked { TellsPresent minute.now present → BooksOwed present minute.now (is_err result) (record { keeper = self.old; marks = marks.old; breaks = record { items = []; room = 0 } }) (record { keeper = self.new; marks = marks.new; breaks = record { items = []; room = 0 } }) (devices (M.state unit.old) (C.state card_a.now) (D.state card_b.now)) (devices (M.state unit.new) (C.state card_a.now) (D.state card_b.now)) }
         ensures clock { (M.state unit.old).clock ≤ (M.state unit.new).clock }
         ensures tells { is_some (M.state unit.new).image ≡ is_some (M.state unit.old).image }
@@ -174,7 +177,8 @@ impl Keeper {
         ensures last { OnOk result (self.new.journal.kept ≡ minute.now.minute) }
         ensures minute { self.new.cabin.slots.minute ≤ at.second / 60 }
         ensures kept { (round : Option Round) × IsMinute present minute.now at (is_err result) (record { keeper = self.old; marks = marks.old; breaks = breaks.old }) (record { keeper = self.new; marks = marks.new; breaks = breaks.new }) (C.state card_a.old) (C.state card_a.new) (D.state card_b.old) (D.state card_b.new) round
-            × (TellsPresent minute.now present → BooksMinute present minute.now (is_err result) round (record { keeper = self.old; marks = marks.old; breaks = breaks.old }) (record { keeper = self.new; marks = marks.new; breaks = breaks.new }) (devices (M.state unit.old) (C.state card_a.old) (D.state card_b.old)) (devices (M.state unit.new) (C.state card_a.new) (D.state card_b.new))) }
+            × (TellsPresent minute.now present → BooksMinute present minute.now (is_err result) round (record { keeper = self.old; marks = marks.old; breaks = breaks.old }) (record { keeper = self.new; marks = marks.new; breaks = breaks.new }) (devices (M.state unit.old) (C.state card_a.old) (D.state card_b.old)) (devices (M.state unit.new) (C.state card_a.new) (D.state card_b.new)))
+            × NotesFaults (is_err result) (last_faults present at round self.old.cabin) (M.state unit.old) (M.state unit.new) }
         ensures a_rests { is_this present.driver A ≡ false → is_this present.codriver A ≡ false → card_a.new ≡ card_a.old }
         ensures b_rests { is_this present.driver B ≡ false → is_this present.codriver B ≡ false → card_b.new ≡ card_b.old }
         ensures unit { IsUnit (M.state unit.new) }

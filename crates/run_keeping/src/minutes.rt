@@ -1,4 +1,5 @@
 //! Decided minutes are kept, one after another.
+ghost use Rattle.run_keeping.specs.Faults.{faults_to, NotesFaults};
 ghost use Rattle.std.specs.Prelude.{◌≡◌, ◌≢◌, ℕ, ◌+◌, ◌-◌, ◌*◌, ◌/◌, ◌<◌, ◌≤◌, true, Option, IfSome, All, OnOk, length, is_some, is_err};
 ghost use Rattle.tach_media.specs.Medium.{HasCause, HasBroken};
 ghost use Rattle.trace_model.specs.declared.Card.{Card};
@@ -83,7 +84,8 @@ impl Keeper {
         requires breaks { length breaks.old.items + most_tears self.old.cabin.cards ≤ breaks.old.room }
         ensures kept { AreKeptUpTo decided.now at (is_err result) (record { keeper = self.old; marks = marks.old; breaks = breaks.old }) (record { keeper = self.new; marks = marks.new; breaks = breaks.new }) }
         ensures booked { (reach : Reach) × IsReach decided.now at (is_err result) (record { keeper = self.old; marks = marks.old; breaks = breaks.old }) (record { keeper = self.new; marks = marks.new; breaks = breaks.new }) reach
-            × BooksAll decided.now (is_err result) reach (record { keeper = self.old; marks = marks.old; breaks = breaks.old }) (record { keeper = self.new; marks = marks.new; breaks = breaks.new }) (devices (M.state unit.old) (C.state card_a.old) (D.state card_b.old)) (devices (M.state unit.new) (C.state card_a.new) (D.state card_b.new)) }
+            × BooksAll decided.now (is_err result) reach (record { keeper = self.old; marks = marks.old; breaks = breaks.old }) (record { keeper = self.new; marks = marks.new; breaks = breaks.new }) (devices (M.state unit.old) (C.state card_a.old) (D.state card_b.old)) (devices (M.state unit.new) (C.state card_a.new) (D.state card_b.new))
+            × NotesFaults (is_err result) (faults_to self.old at reach (record { keeper = self.old; marks = marks.old; breaks = breaks.old })) (M.state unit.old) (M.state unit.new) }
         ensures unit { IsUnit (M.state unit.new) }
         ensures more { length breaks.old.items ≤ length breaks.new.items }
         ensures ready { OnOk result (IsReady self.new (M.state unit.new) (C.card card_a.new) (D.card card_b.new) (C.state card_a.new) (D.state card_b.new)) }

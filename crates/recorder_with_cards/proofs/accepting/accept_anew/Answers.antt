@@ -1,4 +1,4 @@
-use Rattle.std.proofs.Common.{◌≡◌, ◌∙◌, ℕ, ◌+◌, ◌*◌, ◌≤◌, Option, Some, sym, subst, arith}
+use Rattle.std.proofs.Common.{rules, ◌≡◌, ◌∙◌, ℕ, ◌+◌, ◌*◌, ◌≤◌, Bool, false, Option, Some, None, sym, subst, arith}
 use Rattle.std.specs.Prelude.{is_err}
 use Rattle.trace_model.specs.declared.Card.{Card}
 use Rattle.safety_model.specs.Safe.{Devices}
@@ -6,6 +6,8 @@ use Rattle.run_rule.specs.Between.{devices}
 use Rattle.slot_machine.specs.Calls.{seat_in, card_in}
 use Rattle.run_acts.specs.Room.{Takes}
 use Rattle.recorder_with_cards.specs.Judged.{JudgesAnew}
+use Rattle.recorder_with_cards.specs.Noting.{NotesAnew}
+use Rattle.recorder_with_cards.proofs.Judged.{none-noting}
 use Rattle.recorder_with_cards.proofs.Goes.{bare-one}
 use Rattle.recorder_with_cards.proofs.accepting.accept_anew.Goals as goal
 
@@ -25,3 +27,17 @@ returns-clause-recorded g c = λ room.
     let e : Devices = devices (g.M.Medium.state c.accept_in.new.unit) (g.C.Chip.state c.accept_in.new.card_a) (g.D.Chip.state c.accept_in.new.card_b) in
     subst (λ (q : Option Card). JudgesAnew q c.args.slot c.args.at (is_err c.accept_in.result) c.args.run.now c.accept_in.new.run c.args.outcome.now c.accept_in.new.outcome d e) (sym is)
     (c.accept_in.ensures.recorded (omega (arith, room, one)))
+
+pub returns-clause-noted : goal.returns-clause-noted
+returns-clause-noted g c =
+    let is : card_in (seat_in c.args.run.now.keeper.cabin.slots.seats c.args.slot) ≡ Some c.in-Some.card = sym c.card.ensures ∙ c.in-Some.is in
+    let d : Devices = devices (g.M.Medium.state c.args.unit.now) (g.C.Chip.state c.args.card_a.now) (g.D.Chip.state c.args.card_b.now) in
+    let e : Devices = devices (g.M.Medium.state c.accept_in.new.unit) (g.C.Chip.state c.accept_in.new.card_a) (g.D.Chip.state c.accept_in.new.card_b) in
+    subst (λ (q : Option Card). NotesAnew q c.args.slot c.args.at c.args.speed (is_err c.accept_in.result) c.args.run.now c.accept_in.new.run c.args.outcome.now c.accept_in.new.outcome d e) (sym is) c.accept_in.ensures.noted
+
+pub returns-in_default-clause-noted : goal.returns-in_default-clause-noted
+returns-in_default-clause-noted g c =
+    let none : card_in (seat_in c.args.run.now.keeper.cabin.slots.seats c.args.slot) ≡ None = search rules in
+    let d : Devices = devices (g.M.Medium.state c.args.unit.now) (g.C.Chip.state c.args.card_a.now) (g.D.Chip.state c.args.card_b.now) in
+    subst (λ (q : Option Card). NotesAnew q c.args.slot c.args.at c.args.speed false c.args.run.now c.args.run.now c.args.outcome.now c.args.outcome.now d d) (sym none)
+    (none-noting c.args.slot c.args.at c.args.speed c.args.run.now c.args.outcome.now (g.M.Medium.state c.args.unit.now) (g.C.Chip.state c.args.card_a.now) (g.D.Chip.state c.args.card_b.now))

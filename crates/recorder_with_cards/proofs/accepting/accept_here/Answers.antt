@@ -15,7 +15,7 @@ use Rattle.run_outcome.specs.declared.outcome.Outcome.{Outcome}
 use Rattle.run_entering.specs.Entering.{ending_of, breaks_by, finds_by}
 use Rattle.run_acts.specs.Going.{CardAt}
 use Rattle.run_acts.proofs.Kept.{owing-sum}
-use Rattle.recorder_with_cards.specs.Accepting.{HasEntry}
+use Rattle.recorder_with_cards.specs.Accepting.{HasEntry, IsAccepted}
 use Rattle.recorder_with_cards.proofs.Comes.{comes-of}
 use Rattle.recorder_with_cards.proofs.Goes.{card-or-other, others-session, both-at, other-at, mine-at, both-ready, other-ready, some-gives, entry-more, rows-went, ended-went, few-finds}
 use Rattle.std.specs.Prelude.{is_err}
@@ -24,7 +24,7 @@ use Rattle.run_told.specs.Told.{arranged}
 use Rattle.run_entered.specs.Entered.{MayJudge, HasGone, AreSound}
 use Rattle.run_entered.proofs.Whole.{entered-recorded}
 use Rattle.run_acts.specs.declared.run.Run.{Run}
-use Rattle.recorder_with_cards.proofs.Judged.{mine-time, found-by, judged-by}
+use Rattle.recorder_with_cards.proofs.Judged.{mine-time, found-by, judged-by, judged-noting}
 use Rattle.recorder_with_cards.proofs.NoSession.{seat-answers}
 use Rattle.recorder_with_cards.proofs.accepting.accept_here.Goals as goal
 
@@ -159,3 +159,12 @@ returns-clause-recorded g c = λ room o done s n waits fewer at next time.
     } in
     judged-by failed o done s n waits fewer run new c.args.outcome.now c.accept-answer.new.outcome (arranged e.which U X Y) (arranged e.which V Z Y) next.goes c.requires.lit (ap (λ (q : Keeper). q.odometer) w.1.left.keeper)
     (entered-recorded o done s n waits fewer e run.keeper c.args.outcome.now run.unfound run.next run.begun run.minutes U X Y next.goes.within may failed c.accept-answer.new.keeper run.noted c.accept-answer.new.noted c.accept-answer.new.outcome V Z sound w.0 gone)
+
+pub returns-clause-noted : goal.returns-clause-noted
+returns-clause-noted g c =
+    let run = c.args.run.now in
+    let w = c.accept-answer.ensures.entered in
+    let new : Run = record run { keeper = c.accept-answer.new.keeper; noted = c.accept-answer.new.noted } in
+    let a : IsAccepted c.args.entering run new c.args.outcome.now c.accept-answer.new.outcome = record { way = w.0; only = refl; left = w.1.left } in
+    judged-noting c.args.entering (is_err c.accept-answer.result) run new c.args.outcome.now c.accept-answer.new.outcome a (g.M.Medium.state c.args.unit.now) (g.M.Medium.state c.accept-answer.new.unit) (g.C.Chip.state c.args.card.now) (g.C.Chip.state c.accept-answer.new.card) (g.D.Chip.state c.args.others.now)
+    (g.met.M.Medium.coherent c.args.unit.now) (g.met.M.Medium.coherent c.accept-answer.new.unit) c.requires.held.is_unit c.accept-answer.ensures.cause.works w.1.notes

@@ -1,4 +1,4 @@
-use Rattle.std.proofs.Common.{rules, ◌≡◌, ◌∙◌, inl, inr, ℕ, ◌+◌, ◌*◌, ◌/◌, ◌≤◌, Bool, true, false, None, [], length, refl, ap, sym, subst, arith}
+use Rattle.std.proofs.Common.{rules, ◌≡◌, ◌∙◌, inl, inr, ℕ, ◌+◌, ◌*◌, ◌/◌, ◌≤◌, Bool, true, false, Some, None, [], ◌++◌, length, refl, ap, sym, subst, arith}
 use Rattle.tach_media.proofs.Runs.{cause_after}
 use Rattle.minute_model.specs.Span.{ungiven_of}
 use Rattle.run_crew.specs.declared.cabin.Cabin.{Cabin}
@@ -21,6 +21,12 @@ use Rattle.run_acts.specs.Room.{waiting}
 use Rattle.run_acts.specs.Recording.{GoesOnOrCut}
 use Rattle.run_acts.specs.Settling.{RecordsSettling}
 use Rattle.recorder_with_cards.proofs.Inserted.{unsettled, inserted}
+use Rattle.tach_media.specs.Medium.{State}
+use Rattle.noted_events.specs.Noted.{NotesEvents}
+use Rattle.noted_events.proofs.Noted.{then-noted}
+use Rattle.run_acts.specs.Faults.{NotesSettling}
+use Rattle.recorder_with_cards.specs.Accepting.{put_run}
+use Rattle.recorder_with_cards.proofs.WakeNoted.{settles-these, anew-these}
 use Rattle.recorder_with_cards.proofs.inserting.insert.Goals as goal
 
 pub settle-requires-clause-held : goal.settle-requires-clause-held
@@ -127,3 +133,53 @@ returns-clause-recorded g c = λ late room o done s now front rest actions begun
     inserted c.args.slot c.args.card c.args.at c.args.speed run out d o done s now front rest actions c.requires.at begun late allowed within mid told false settles r.0 r.1 e records
     (time-before e last c.accept_in.ensures.clock c.accept_in.ensures.clock_a c.accept_in.ensures.clock_b time) refl seat (is_err c.accept_in.result) c.accept_in.new.run c.accept_in.new.outcome last
     (c.accept_in.ensures.recorded (omega (arith, room, marks, rooms, was))) time
+
+-- ---- what is noted
+
+pub returns-in_err-settle-clause-noted : goal.returns-in_err-settle-clause-noted
+returns-in_err-settle-clause-noted g c =
+    let run = c.args.run.now in
+    let put : Run = put_run c.args.slot c.args.card run in
+    let out = c.args.outcome.now in
+    let mid : Run = c.settle.new.run in
+    let told : Outcome = c.settle.new.outcome in
+    let U : State = g.M.Medium.state c.args.unit.now in
+    let V : State = g.M.Medium.state c.settle.new.unit in
+    let X : State = g.C.Chip.state c.args.card_a.now in
+    let Y : State = g.D.Chip.state c.args.card_b.now in
+    let X1 : State = g.C.Chip.state c.settle.new.card_a in
+    let Y1 : State = g.D.Chip.state c.settle.new.card_b in
+    let settling = subst (λ (b : Cabin). NotesSettling c.args.at true (with_cabin b run) mid out told U V) c.put_in.ensures.kept c.in_err-settle.ensures.noted in
+    let these = settles-these c.args.at true put mid out told U V X Y X1 Y1 (g.met.M.Medium.coherent c.args.unit.now) c.requires.held.is_unit settling in
+    let failed : true ≡ is_err c.from_residual.result = search rules in
+    record {
+      events = these.0;
+      are = inl (sym failed, these.1);
+      notes = subst (λ (f : Bool). NotesEvents these.0 f (devices U X Y) (devices V X1 Y1)) failed these.2;
+    }
+
+pub returns-clause-noted : goal.returns-clause-noted
+returns-clause-noted g c =
+    let run = c.args.run.now in
+    let put : Run = put_run c.args.slot c.args.card run in
+    let out = c.args.outcome.now in
+    let mid : Run = c.settle.new.run in
+    let told : Outcome = c.settle.new.outcome in
+    let U : State = g.M.Medium.state c.args.unit.now in
+    let V : State = g.M.Medium.state c.settle.new.unit in
+    let X : State = g.C.Chip.state c.args.card_a.now in
+    let Y : State = g.D.Chip.state c.args.card_b.now in
+    let X1 : State = g.C.Chip.state c.settle.new.card_a in
+    let Y1 : State = g.D.Chip.state c.settle.new.card_b in
+    let settling = subst (λ (b : Cabin). NotesSettling c.args.at false (with_cabin b run) mid out told U V) c.put_in.ensures.kept c.in_ok-settle.ensures.noted in
+    let these = settles-these c.args.at false put mid out told U V X Y X1 Y1 (g.met.M.Medium.coherent c.args.unit.now) c.requires.held.is_unit settling in
+    let new : Run = c.accept_in.new.run in
+    let after : Outcome = c.accept_in.new.outcome in
+    let e : Devices = devices V X1 Y1 in
+    let f : Devices = devices (g.M.Medium.state c.accept_in.new.unit) (g.C.Chip.state c.accept_in.new.card_a) (g.D.Chip.state c.accept_in.new.card_b) in
+    let judged = anew-these (Some c.args.card) c.args.slot c.args.at c.args.at c.args.speed (is_err c.accept_in.result) mid new told after e f refl c.accept_in.ensures.noted in
+    record {
+      events = these.0 ++ judged.0;
+      are = inr (record { between = mid; told = told; faults = these.0; judged = judged.0; settles = these.1; judges = judged.1; are = refl });
+      notes = then-noted these.0 judged.0 (is_err c.accept_in.result) (devices U X Y) e f these.2 judged.2;
+    }

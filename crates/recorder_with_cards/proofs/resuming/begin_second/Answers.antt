@@ -107,3 +107,18 @@ returns-clause-recorded g c = λ o done s now rec time.
     let dark : is_lit run.power ≡ false = sym c.is_lit.ensures ∙ c.if-is_lit.false in
     let has : has_power run.power run.next ≡ true = sym c.has_power.ensures ∙ c.if-not-has_power.false in
     c.in_ok-power_on.ensures.recorded (marks-due run c.args.outcome.now dark has c.requires.room) o done s now rec has time
+
+-- ---- what is noted
+
+pub returns-then-not-has_power-clause-noted : goal.returns-then-not-has_power-clause-noted
+returns-then-not-has_power-clause-noted g c = λ dark has.
+    let away : has_power c.args.run.now.power c.args.run.now.next ≡ false = sym c.has_power.ensures ∙ c.if-not-has_power.true in
+    absurd (let bad : true ≡ false = sym has ∙ away in cc)
+
+pub returns-then-is_lit-clause-noted : goal.returns-then-is_lit-clause-noted
+returns-then-is_lit-clause-noted g c = λ dark has.
+    let yes : is_lit c.args.run.now.power ≡ true = sym c.is_lit.ensures ∙ c.if-is_lit.true in
+    absurd (let bad : true ≡ false = sym yes ∙ dark in cc)
+
+pub returns-clause-noted : goal.returns-clause-noted
+returns-clause-noted g c = λ dark has. c.in_ok-power_on.ensures.noted

@@ -21,6 +21,8 @@ use Rattle.run_acts.specs.Room.{bare_seats}
 use Rattle.run_acts.specs.Recording.{values_of, InSecondBy, GoesOnOrCut}
 use Rattle.recorder_with_cards.proofs.ActsRecorded.{cut-in, cut}
 use Rattle.recorder_with_cards.proofs.Read.{may-of, unit-tells, image-of, at-image, kept-early, learned}
+use Rattle.recorder_with_cards.specs.Noting.{NotesWaking}
+use Rattle.recorder_with_cards.proofs.WakeNoted.{as-read}
 use Rattle.recorder_with_cards.proofs.resuming.found.Goals as goal
 
 pub cut-requires-clause-room : goal.cut-requires-clause-room
@@ -103,3 +105,37 @@ returns-clause-recorded g c = λ room o done s now rec has time.
     let well : is_err c.resume.result ≡ false = sym c.is_err.ensures.value ∙ c.if-is_err.false in
     let lit : mid.power ≡ Lit = ok_gives c.resume.result c.resume.ensures.power well in
     subst (λ (b : Bool). InSecondBy b o done s 0 mid c.resume.new.outcome e) (sym (ap is_lit lit)) (subst (λ (f : Bool). GoesOnOrCut f o done s (In 0) [] mid c.resume.new.outcome e) well resumed)
+
+-- ---- what is noted
+
+pub returns-then-is_err-clause-noted : goal.returns-then-is_err-clause-noted
+returns-then-is_err-clause-noted g c =
+    let run = c.args.run.now in
+    let out = c.args.outcome.now in
+    let d : Devices = devices (g.M.Medium.state c.args.unit.now) (g.C.Chip.state c.args.card_a.now) (g.D.Chip.state c.args.card_b.now) in
+    let e : Devices = devices (g.M.Medium.state c.resume.new.unit) (g.C.Chip.state c.resume.new.card_a) (g.D.Chip.state c.resume.new.card_b) in
+    let here : is_err c.resume.result ≡ true = sym c.is_err.ensures.value ∙ c.if-is_err.true in
+    record {
+      failed = true;
+      woken = c.resume.new.run;
+      out = c.resume.new.outcome;
+      waking = as-read c.args.journal.kept c.last_kept-kept.result c.args.speed true run c.learn.new.self c.resume.new.run out c.learn.new.breaks c.resume.new.outcome d e c.learn.ensures.run c.learn.ensures.breaks c.last_kept-kept.ensures.kept
+          (subst (λ (f : Bool). NotesWaking c.args.journal.kept c.args.speed f c.learn.new.self c.resume.new.run (record out { breaks = c.learn.new.breaks }) c.resume.new.outcome d e) here c.resume.ensures.noted);
+      ends = (c.cut.ensures.run, ap (λ (l : Listed Break). record c.resume.new.outcome { breaks = l }) c.cut.ensures.breaks);
+    }
+
+pub returns-clause-noted : goal.returns-clause-noted
+returns-clause-noted g c =
+    let run = c.args.run.now in
+    let out = c.args.outcome.now in
+    let d : Devices = devices (g.M.Medium.state c.args.unit.now) (g.C.Chip.state c.args.card_a.now) (g.D.Chip.state c.args.card_b.now) in
+    let e : Devices = devices (g.M.Medium.state c.resume.new.unit) (g.C.Chip.state c.resume.new.card_a) (g.D.Chip.state c.resume.new.card_b) in
+    let here : is_err c.resume.result ≡ false = sym c.is_err.ensures.value ∙ c.if-is_err.false in
+    record {
+      failed = false;
+      woken = c.resume.new.run;
+      out = c.resume.new.outcome;
+      waking = as-read c.args.journal.kept c.last_kept-kept.result c.args.speed false run c.learn.new.self c.resume.new.run out c.learn.new.breaks c.resume.new.outcome d e c.learn.ensures.run c.learn.ensures.breaks c.last_kept-kept.ensures.kept
+          (subst (λ (f : Bool). NotesWaking c.args.journal.kept c.args.speed f c.learn.new.self c.resume.new.run (record out { breaks = c.learn.new.breaks }) c.resume.new.outcome d e) here c.resume.ensures.noted);
+      ends = (refl, refl);
+    }

@@ -1,4 +1,4 @@
-use Rattle.std.proofs.Common.{◌≡◌, ◌∙◌, ℕ, ◌/◌, ◌≤◌, Bool, true, false, Option, Some, List, ap, sym, subst, arith}
+use Rattle.std.proofs.Common.{◌≡◌, ◌∙◌, inl, inr, ℕ, ◌/◌, ◌≤◌, Bool, true, false, Option, Some, List, ap, sym, subst, arith}
 use Rattle.tach_media.specs.Medium.{State}
 use Rattle.log_model.specs.declared.lines.Break.{Break}
 use Rattle.unit_model.specs.Decoding.{first_bad_place}
@@ -14,6 +14,8 @@ use Rattle.recorder_with_cards.proofs.Read.{may-of, read-on, unit-tells, unit-de
 use Rattle.run_acts.specs.declared.run.Run.{Run}
 use Rattle.run_acts.specs.Going.{IsAt}
 use Rattle.run_acts.proofs.Standing.{cut-at}
+use Rattle.tach_media.proofs.Runs.{on_ok, ok_gives}
+use Rattle.recorder_with_cards.proofs.WakeNoted.{read-noted, read-then}
 use Rattle.recorder_with_cards.proofs.resuming.power_on.Goals as goal
 
 pub returns-in-Err-Failed-clause-going : goal.returns-in-Err-Failed-clause-going
@@ -79,3 +81,25 @@ returns-in-Err-Failed-clause-recorded g c = λ room o done s now rec has time.
     let cut = cut-as e o done s 0 run out rec.origin now.number lost in
     subst (λ (r : Run). InSecond o done s 0 r (record out { breaks = c.cut.new.breaks }) e) (sym c.cut.ensures.run)
     (subst (λ (l : Listed Break). InSecond o done s 0 (cut_run run.next run) (record out { breaks = l }) e) (sym c.cut.ensures.breaks) cut)
+
+-- ---- what is noted
+
+pub returns-in-Ok-clause-noted : goal.returns-in-Ok-clause-noted
+returns-in-Ok-clause-noted g c = on_ok c.found.result (λ well.
+    let U : State = g.M.Medium.state c.args.unit.now in
+    let V : State = g.M.Medium.state c.load.new.unit in
+    let X : State = g.C.Chip.state c.args.card_a.now in
+    let Y : State = g.D.Chip.state c.args.card_b.now in
+    let f : Devices = devices (g.M.Medium.state c.found.new.unit) (g.C.Chip.state c.found.new.card_a) (g.D.Chip.state c.found.new.card_b) in
+    inl (c.in-Ok.journal.kept, read-then c.in-Ok.journal.kept c.args.speed c.args.run.now c.found.new.run c.args.outcome.now c.found.new.outcome (devices U X Y) (devices V X Y) f (read-noted U V X Y c.load.ensures.leaves false) (ok_gives c.found.result c.found.ensures.noted well)))
+
+pub returns-in-Err-Failed-clause-noted : goal.returns-in-Err-Failed-clause-noted
+returns-in-Err-Failed-clause-noted g c =
+    let U : State = g.M.Medium.state c.args.unit.now in
+    let V : State = g.M.Medium.state c.load.new.unit in
+    let X : State = g.C.Chip.state c.args.card_a.now in
+    let Y : State = g.D.Chip.state c.args.card_b.now in
+    inr (record {
+      ends = (c.cut.ensures.run, ap (λ (l : Listed Break). record c.args.outcome.now { breaks = l }) c.cut.ensures.breaks);
+      notes = read-noted U V X Y c.load.ensures.leaves true;
+    })

@@ -1,4 +1,4 @@
-use Rattle.std.proofs.Common.{rules, ◌≡◌, ◌∙◌, inl, inr, ℕ, ◌+◌, ◌-◌, ◌*◌, ◌/◌, ◌<◌, ◌≤◌, Bool, true, false, Option, None, [], ◌∷◌, length, refl, ap, sym, subst, arith}
+use Rattle.std.proofs.Common.{rules, ◌≡◌, ◌∙◌, inl, inr, ℕ, ◌+◌, ◌-◌, ◌*◌, ◌/◌, ◌<◌, ◌≤◌, ◌==◌, Bool, true, false, Option, None, [], ◌∷◌, ◌++◌, length, refl, ap, sym, subst, arith}
 use Rattle.std.specs.Prelude.{is_err}
 use Rattle.tach_media.specs.Medium.{HasCause}
 use Rattle.tach_media.proofs.Runs.{on_ok, ok_gives, cause_after}
@@ -31,6 +31,13 @@ use Rattle.run_acts.specs.Room.{waiting}
 use Rattle.run_acts.specs.Recording.{GoesOnOrCut}
 use Rattle.recorder_with_cards.specs.Judged.{moment_in}
 use Rattle.recorder_with_cards.proofs.Resumed.{RunWaking, waiting_in, at-once, wholes-of, kept-of, same-devices, awake, unmended, driver-judged, codriver-judged}
+use Rattle.event_model.specs.Spans.{gap_of}
+use Rattle.noted_events.specs.Noted.{NotesEvents}
+use Rattle.noted_events.proofs.Noted.{then-noted}
+use Rattle.run_acts.specs.Acting.{now_moment}
+use Rattle.run_acts.specs.Noting.{AreGapEvents}
+use Rattle.recorder_with_cards.specs.Noting.{Unmended, AtDriver, AtCoDriver, NoneBefore, AtGap, HasBegunSpan}
+use Rattle.recorder_with_cards.proofs.WakeNoted.{mended-noted, driver-these, both-these, is-none, is-some}
 use Rattle.recorder_with_cards.proofs.resuming.resume.Goals as goal
 
 pub accept_anew-requires-clause-held : goal.accept_anew-requires-clause-held
@@ -418,3 +425,143 @@ returns-clause-recorded g c = λ room o origin done s supply v r may number give
     (c.accept_anew-2.ensures.recorded (omega (arith, room, few, few_too, none_waits, waits_none, t, same_room))) in
     let fine : is_err c.accept_anew-2.result ≡ false = search rules in
     c.note_gap.ensures.recorded o done s c.accept_anew-2.new.outcome (subst (λ (f : Bool). GoesOnOrCut f o done s (In 0) [] two c.accept_anew-2.new.outcome (devices V2 X2 Y2)) fine second)
+
+-- ---- WHAT IS NOTED
+
+pub returns-in_err-mend-clause-noted : goal.returns-in_err-mend-clause-noted
+returns-in_err-mend-clause-noted g c =
+    let U : State = g.M.Medium.state c.args.unit.now in
+    let X : State = g.C.Chip.state c.args.card_a.now in
+    let Y : State = g.D.Chip.state c.args.card_b.now in
+    let W : State = g.M.Medium.state c.mend.new.unit in
+    let failed : true ≡ is_err c.from_residual.result = search rules in
+    record {
+      reach = Unmended;
+      events = [];
+      are = (sym failed, refl, refl, refl);
+      notes = mended-noted c.args.journal U W X Y (g.met.M.Medium.coherent c.args.unit.now) c.mend.ensures.moments (is_err c.from_residual.result);
+    }
+
+pub returns-in_err-accept_anew-clause-noted : goal.returns-in_err-accept_anew-clause-noted
+returns-in_err-accept_anew-clause-noted g c =
+    let run = c.args.run.now in
+    let mid : Run = c.begin_span.new.self in
+    let U : State = g.M.Medium.state c.args.unit.now in
+    let X : State = g.C.Chip.state c.args.card_a.now in
+    let Y : State = g.D.Chip.state c.args.card_b.now in
+    let W : State = g.M.Medium.state c.mend.new.unit in
+    let dev0 = devices U X Y in
+    let begun : HasBegunSpan run mid = (c.mend.new.journal, c.begin_span.ensures.begun) in
+    let mended = mended-noted c.args.journal U W X Y (g.met.M.Medium.coherent c.args.unit.now) c.mend.ensures.moments false in
+    let one : Run = c.accept_anew.new.run in
+    let dev1 = devices (g.M.Medium.state c.accept_anew.new.unit) (g.C.Chip.state c.accept_anew.new.card_a) (g.D.Chip.state c.accept_anew.new.card_b) in
+    let driver = driver-these c.moment-at.result c.args.speed (is_err c.accept_anew.result) mid one c.args.outcome.now c.accept_anew.new.outcome dev0 (devices W X Y) dev1 c.moment-at.ensures mended c.accept_anew.ensures.noted in
+    let fails : is_err c.accept_anew.result ≡ true = search rules in
+    let failed : true ≡ is_err c.from_residual-in_err-accept_anew.result = search rules in
+    record {
+      reach = AtDriver mid;
+      events = driver.0;
+      are = (begun, sym failed, driver.1);
+      notes = subst (λ (q : Bool). NotesEvents driver.0 q dev0 dev1) (fails ∙ failed) driver.2;
+    }
+
+pub returns-in_err-accept_anew-2-clause-noted : goal.returns-in_err-accept_anew-2-clause-noted
+returns-in_err-accept_anew-2-clause-noted g c =
+    let run = c.args.run.now in
+    let mid : Run = c.begin_span.new.self in
+    let U : State = g.M.Medium.state c.args.unit.now in
+    let X : State = g.C.Chip.state c.args.card_a.now in
+    let Y : State = g.D.Chip.state c.args.card_b.now in
+    let W : State = g.M.Medium.state c.mend.new.unit in
+    let dev0 = devices U X Y in
+    let begun : HasBegunSpan run mid = (c.mend.new.journal, c.begin_span.ensures.begun) in
+    let mended = mended-noted c.args.journal U W X Y (g.met.M.Medium.coherent c.args.unit.now) c.mend.ensures.moments false in
+    let one : Run = c.accept_anew.new.run in
+    let dev1 = devices (g.M.Medium.state c.accept_anew.new.unit) (g.C.Chip.state c.accept_anew.new.card_a) (g.D.Chip.state c.accept_anew.new.card_b) in
+    let driver = driver-these c.moment-at.result c.args.speed (is_err c.accept_anew.result) mid one c.args.outcome.now c.accept_anew.new.outcome dev0 (devices W X Y) dev1 c.moment-at.ensures mended c.accept_anew.ensures.noted in
+    let well : is_err c.accept_anew.result ≡ false = search rules in
+    let two : Run = c.accept_anew-2.new.run in
+    let dev2 = devices (g.M.Medium.state c.accept_anew-2.new.unit) (g.C.Chip.state c.accept_anew-2.new.card_a) (g.D.Chip.state c.accept_anew-2.new.card_b) in
+    let both = both-these c.moment-at.result c.args.speed (is_err c.accept_anew-2.result) mid one two c.args.outcome.now c.accept_anew.new.outcome c.accept_anew-2.new.outcome dev0 dev1 dev2 c.moment-at.ensures driver.0 driver.1
+    (subst (λ (q : Bool). NotesEvents driver.0 q dev0 dev1) well driver.2) c.accept_anew-2.ensures.noted in
+    let fails : is_err c.accept_anew-2.result ≡ true = search rules in
+    let failed : true ≡ is_err c.from_residual-in_err-accept_anew-2.result = search rules in
+    record {
+      reach = AtCoDriver mid;
+      events = both.0;
+      are = (begun, sym failed, both.1);
+      notes = subst (λ (q : Bool). NotesEvents both.0 q dev0 dev2) (fails ∙ failed) both.2;
+    }
+
+pub returns-then-is_first-clause-noted : goal.returns-then-is_first-clause-noted
+returns-then-is_first-clause-noted g c =
+    let run = c.args.run.now in
+    let mid : Run = c.begin_span.new.self in
+    let U : State = g.M.Medium.state c.args.unit.now in
+    let X : State = g.C.Chip.state c.args.card_a.now in
+    let Y : State = g.D.Chip.state c.args.card_b.now in
+    let W : State = g.M.Medium.state c.mend.new.unit in
+    let dev0 = devices U X Y in
+    let begun : HasBegunSpan run mid = (c.mend.new.journal, c.begin_span.ensures.begun) in
+    let mended = mended-noted c.args.journal U W X Y (g.met.M.Medium.coherent c.args.unit.now) c.mend.ensures.moments false in
+    let one : Run = c.accept_anew.new.run in
+    let dev1 = devices (g.M.Medium.state c.accept_anew.new.unit) (g.C.Chip.state c.accept_anew.new.card_a) (g.D.Chip.state c.accept_anew.new.card_b) in
+    let driver = driver-these c.moment-at.result c.args.speed (is_err c.accept_anew.result) mid one c.args.outcome.now c.accept_anew.new.outcome dev0 (devices W X Y) dev1 c.moment-at.ensures mended c.accept_anew.ensures.noted in
+    let well : is_err c.accept_anew.result ≡ false = search rules in
+    let two : Run = c.accept_anew-2.new.run in
+    let dev2 = devices (g.M.Medium.state c.accept_anew-2.new.unit) (g.C.Chip.state c.accept_anew-2.new.card_a) (g.D.Chip.state c.accept_anew-2.new.card_b) in
+    let both = both-these c.moment-at.result c.args.speed (is_err c.accept_anew-2.result) mid one two c.args.outcome.now c.accept_anew.new.outcome c.accept_anew-2.new.outcome dev0 dev1 dev2 c.moment-at.ensures driver.0 driver.1
+    (subst (λ (q : Bool). NotesEvents driver.0 q dev0 dev1) well driver.2) c.accept_anew-2.ensures.noted in
+    let fine : is_err c.accept_anew-2.result ≡ false = search rules in
+    let none : (length c.args.outcome.now.breaks.items == 0) ≡ true = sym c.is_empty-is_first.ensures ∙ c.if-is_first.true in
+    record {
+      reach = NoneBefore mid;
+      events = both.0;
+      are = (begun, refl, is-none (length c.args.outcome.now.breaks.items) none, both.1);
+      notes = subst (λ (q : Bool). NotesEvents both.0 q dev0 dev2) fine both.2;
+    }
+
+pub returns-clause-noted : goal.returns-clause-noted
+returns-clause-noted g c =
+    let run = c.args.run.now in
+    let mid : Run = c.begin_span.new.self in
+    let U : State = g.M.Medium.state c.args.unit.now in
+    let X : State = g.C.Chip.state c.args.card_a.now in
+    let Y : State = g.D.Chip.state c.args.card_b.now in
+    let W : State = g.M.Medium.state c.mend.new.unit in
+    let dev0 = devices U X Y in
+    let begun : HasBegunSpan run mid = (c.mend.new.journal, c.begin_span.ensures.begun) in
+    let mended = mended-noted c.args.journal U W X Y (g.met.M.Medium.coherent c.args.unit.now) c.mend.ensures.moments false in
+    let one : Run = c.accept_anew.new.run in
+    let dev1 = devices (g.M.Medium.state c.accept_anew.new.unit) (g.C.Chip.state c.accept_anew.new.card_a) (g.D.Chip.state c.accept_anew.new.card_b) in
+    let driver = driver-these c.moment-at.result c.args.speed (is_err c.accept_anew.result) mid one c.args.outcome.now c.accept_anew.new.outcome dev0 (devices W X Y) dev1 c.moment-at.ensures mended c.accept_anew.ensures.noted in
+    let well : is_err c.accept_anew.result ≡ false = search rules in
+    let two : Run = c.accept_anew-2.new.run in
+    let dev2 = devices (g.M.Medium.state c.accept_anew-2.new.unit) (g.C.Chip.state c.accept_anew-2.new.card_a) (g.D.Chip.state c.accept_anew-2.new.card_b) in
+    let both = both-these c.moment-at.result c.args.speed (is_err c.accept_anew-2.result) mid one two c.args.outcome.now c.accept_anew.new.outcome c.accept_anew-2.new.outcome dev0 dev1 dev2 c.moment-at.ensures driver.0 driver.1
+    (subst (λ (q : Bool). NotesEvents driver.0 q dev0 dev1) well driver.2) c.accept_anew-2.ensures.noted in
+    let fine : is_err c.accept_anew-2.result ≡ false = search rules in
+    let some : (length c.args.outcome.now.breaks.items == 0) ≡ false = sym c.is_empty-is_first.ensures ∙ c.if-is_first.false in
+    let kept : c.last_kept-kept.result ≡ c.args.journal.kept = c.last_kept-kept.ensures.kept in
+    let dev3 = devices (g.M.Medium.state c.note_gap.new.unit) (g.C.Chip.state c.note_gap.new.card_a) (g.D.Chip.state c.note_gap.new.card_b) in
+    let after : Outcome = record c.accept_anew-2.new.outcome { breaks = c.note_gap.new.breaks } in
+    let gap = c.note_gap.ensures.events in
+    record {
+      reach = AtGap mid gap.0;
+      events = both.0 ++ gap.1;
+      are = (
+        begun,
+        is-some (length c.args.outcome.now.breaks.items) some,
+        record {
+          two = two;
+          told = c.accept_anew-2.new.outcome;
+          judged = both.0;
+          later = gap.1;
+          both = both.1;
+          gap = subst (λ (k : ℕ). AreGapEvents (gap_of k two.next) (now_moment two) (is_err c.note_gap.result) two c.note_gap.new.run c.accept_anew-2.new.outcome.breaks c.note_gap.new.breaks gap.0 gap.1) kept gap.2;
+          rest = refl;
+          are = refl;
+        },
+      );
+      notes = then-noted both.0 gap.1 (is_err c.note_gap.result) dev0 dev2 dev3 (subst (λ (q : Bool). NotesEvents both.0 q dev0 dev2) fine both.2) gap.3;
+    }

@@ -11,8 +11,17 @@ use Rattle.slot_machine.specs.Calls.{seat_in, card_in}
 use Rattle.run_keeping.specs.declared.keeper.Moment.{Moment}
 use Rattle.run_acts.specs.declared.run.Run.{Run}
 use Rattle.run_acts.specs.Acting.{IsNotedIn, now_moment}
-use Rattle.run_acts.specs.Noting.{NoGap, UnitFailed, DriverFell, BothSlots, IsGapNoted}
-use Rattle.std.specs.Prelude.{[]}
+use Rattle.run_acts.specs.Noting.{NoGap, UnitFailed, DriverFell, BothSlots, IsGapNoted, AreGapEvents, gap_event, fall_events}
+use Rattle.std.specs.Prelude.{List, [], ◌∷◌, ◌++◌, IfSome, not}
+use Rattle.tach_media.specs.Medium.{State, IsCoherent, LeavesOnly}
+use Rattle.event_model.specs.declared.kinds.TheConstants.{POWER_INTERRUPTION}
+use Rattle.unit_model.specs.Image.{IsUnit}
+use Rattle.unit_notes.specs.Entries.{fault_bytes}
+use Rattle.unit_notes.specs.Noting.{IsEventNoted, IsNotingEvent}
+use Rattle.run_crew.specs.declared.cards.Crew.{Crew}
+use Rattle.run_notes.specs.Entries.{entry_of}
+use Rattle.noted_events.specs.Noted.{NotesEvents}
+use Rattle.noted_events.proofs.Noted.{one-noted, same-noted, then-noted}
 use Rattle.log_model.specs.Log.{In}
 use Rattle.run_rule.specs.Between.{devices}
 use Rattle.run_acts.specs.Recording.{GoesOnOrCut}
@@ -146,3 +155,109 @@ returns-clause-recorded g c = λ o done s out w.
     let Y = g.D.Chip.state c.args.card_b.now in
     let w1 = unit-recorded o done s 0 run (record out { breaks = c.args.breaks.now }) (g.M.Medium.state c.args.unit.now) V X Y (g.met.M.Medium.coherent c.args.unit.now) c.note_event.ensures.journal lit.span lit.stands lit.next w false c.in_ok-note_event.ensures.cause in
     c.note_in-2.ensures.recorded o done s out (c.in_ok-note_in.ensures.recorded o done s out w1)
+
+-- ---- what is noted on the unit
+
+pub returns-in_default-clause-events : goal.returns-in_default-clause-events
+returns-in_default-clause-events g c =
+    let run = c.args.run.now in
+    let none : gap_of c.args.kept run.next ≡ None = sym c.power_gap.ensures ∙ none-there c.power_gap.result c.in_default.not-Some in (
+      NoGap,
+      [],
+      subst (λ (o : Option Span). AreGapEvents o (now_moment run) false run run c.args.breaks.now c.args.breaks.now NoGap []) (sym none) ((refl, refl, refl), refl),
+      same-noted (g.M.Medium.state c.args.unit.now) (g.C.Chip.state c.args.card_a.now) (g.D.Chip.state c.args.card_b.now),
+    )
+
+-- the interruption on the unit
+module _ (run : Run) (span : Span) (event : UnitEvent) (is : event ≡ gap_event span run) (U V A B C D : State) (whole : IsCoherent U) (behind : IsCoherent V) (unit : IsUnit U) where
+  pub gap-noted : (failed : Bool) → (failed ≡ false → IfSome U.image (λ x. IfSome V.image (IsEventNoted event.kind (fault_bytes event) x))) → LeavesOnly U V (IsNotingEvent event.kind (fault_bytes event)) → V.works ≡ not failed →
+      NotesEvents (gap_event span run ∷ []) failed (devices U A B) (devices V C D)
+  gap-noted failed noted moments works = subst (λ (v : UnitEvent). NotesEvents (v ∷ []) failed (devices U A B) (devices V C D)) is (one-noted U V A B C D whole behind unit event failed noted moments works)
+
+pub returns-in_err-note_event-clause-events : goal.returns-in_err-note_event-clause-events
+returns-in_err-note_event-clause-events g c =
+    let run = c.args.run.now in
+    let U = g.M.Medium.state c.args.unit.now in
+    let V = g.M.Medium.state c.note_event.new.unit in
+    let X = g.C.Chip.state c.args.card_a.now in
+    let Y = g.D.Chip.state c.args.card_b.now in
+    let span = c.in-Some.span in
+    let there : gap_of c.args.kept run.next ≡ Some span = cc in
+    let failed : true ≡ is_err c.from_residual.result = search rules in
+    let same : c.card_gap-event.result ≡ gap_event span run = c.card_gap-event.ensures ∙ ap (λ (q : Crew). entry_of POWER_INTERRUPTION span.begin span.end q q) c.crew.ensures in
+    let e = c.in_err-note_event.ensures in (
+      UnitFailed,
+      gap_event span run ∷ [],
+      subst (λ (o : Option Span). AreGapEvents o (now_moment run) (is_err c.from_residual.result) run run c.args.breaks.now c.args.breaks.now UnitFailed (gap_event span run ∷ [])) (sym there) ((sym failed, refl, refl), refl),
+      subst (λ (q : Bool). NotesEvents (gap_event span run ∷ []) q (devices U X Y) (devices V X Y)) failed
+          (gap-noted run span c.card_gap-event.result same U V X Y X Y (g.met.M.Medium.coherent c.args.unit.now) (g.met.M.Medium.coherent c.note_event.new.unit) c.requires.going.ready.unit_ready.is_unit true (λ well. absurd (never well)) e.moments e.cause.works),
+    )
+  where
+    never : true ≡ false → ⊥
+    never h = cc
+
+pub returns-in_err-note_in-clause-events : goal.returns-in_err-note_in-clause-events
+returns-in_err-note_in-clause-events g c =
+    let run = c.args.run.now in
+    let U = g.M.Medium.state c.args.unit.now in
+    let V = g.M.Medium.state c.note_event.new.unit in
+    let X = g.C.Chip.state c.args.card_a.now in
+    let Y = g.D.Chip.state c.args.card_b.now in
+    let E = devices (g.M.Medium.state c.note_in.new.unit) (g.C.Chip.state c.note_in.new.card_a) (g.D.Chip.state c.note_in.new.card_b) in
+    let span = c.in-Some.span in
+    let there : gap_of c.args.kept run.next ≡ Some span = cc in
+    let failed : true ≡ is_err c.from_residual-in_err-note_in.result = search rules in
+    let same : c.card_gap-event.result ≡ gap_event span run = c.card_gap-event.ensures ∙ ap (λ (q : Crew). entry_of POWER_INTERRUPTION span.begin span.end q q) c.crew.ensures in
+    let e = c.in_ok-note_event.ensures in
+    let n = c.in_err-note_in.ensures.events in
+    let fell : n.fell ≡ true = n.failing refl in
+    let first = gap-noted run span c.card_gap-event.result same U V X Y X Y (g.met.M.Medium.coherent c.args.unit.now) (g.met.M.Medium.coherent c.note_event.new.unit) c.requires.going.ready.unit_ready.is_unit false (λ well. e.noted) e.moments e.cause.works in
+    let notes : NotesEvents (fall_events true run.next c.note_in.new.run) true (devices V X Y) E = subst (λ (b : Bool). NotesEvents (fall_events b run.next c.note_in.new.run) true (devices V X Y) E) fell n.notes in
+    let vs = gap_event span run ∷ fall_events true run.next c.note_in.new.run in (
+      DriverFell,
+      vs,
+      subst (λ (o : Option Span). AreGapEvents o (now_moment run) (is_err c.from_residual-in_err-note_in.result) run c.note_in.new.run c.args.breaks.now c.note_in.new.breaks DriverFell vs) (sym there) (
+        (sym failed, subst (λ (b : Bool). IsNotedIn (card_in (seat_in run.keeper.cabin.slots.seats Driver)) Driver (now_moment run) run c.note_in.new.run c.args.breaks.now c.note_in.new.breaks b) fell n.noted),
+        refl,
+      ),
+      subst (λ (q : Bool). NotesEvents vs q (devices U X Y) E) failed (then-noted (gap_event span run ∷ []) (fall_events true run.next c.note_in.new.run) true (devices U X Y) (devices V X Y) E first notes),
+    )
+
+pub returns-clause-events : goal.returns-clause-events
+returns-clause-events g c =
+    let run = c.args.run.now in
+    let between : Run = c.note_in.new.run in
+    let new : Run = c.note_in-2.new.run in
+    let U = g.M.Medium.state c.args.unit.now in
+    let V = g.M.Medium.state c.note_event.new.unit in
+    let X = g.C.Chip.state c.args.card_a.now in
+    let Y = g.D.Chip.state c.args.card_b.now in
+    let E = devices (g.M.Medium.state c.note_in.new.unit) (g.C.Chip.state c.note_in.new.card_a) (g.D.Chip.state c.note_in.new.card_b) in
+    let F = devices (g.M.Medium.state c.note_in-2.new.unit) (g.C.Chip.state c.note_in-2.new.card_a) (g.D.Chip.state c.note_in-2.new.card_b) in
+    let span = c.in-Some.span in
+    let there : gap_of c.args.kept run.next ≡ Some span = cc in
+    let failed = is_err c.note_in-2.result in
+    let same : c.card_gap-event.result ≡ gap_event span run = c.card_gap-event.ensures ∙ ap (λ (q : Crew). entry_of POWER_INTERRUPTION span.begin span.end q q) c.crew.ensures in
+    let e = c.in_ok-note_event.ensures in
+    let one = c.in_ok-note_in.ensures.events in
+    let two = c.note_in-2.ensures.events in
+    let next : between.next ≡ run.next = ap (λ (r : Run). r.next) c.in_ok-note_in.ensures.only in
+    let at : now_moment between ≡ now_moment run = ap (λ (n : ℕ). record { second = n; begun = 0; late = false }) next in
+    let first = gap-noted run span c.card_gap-event.result same U V X Y X Y (g.met.M.Medium.coherent c.args.unit.now) (g.met.M.Medium.coherent c.note_event.new.unit) c.requires.going.ready.unit_ready.is_unit false (λ well. e.noted) e.moments e.cause.works in
+    let later : NotesEvents (fall_events two.fell run.next new) failed E F = subst (λ (n : ℕ). NotesEvents (fall_events two.fell n new) failed E F) next two.notes in
+    let falls = then-noted (fall_events one.fell run.next between) (fall_events two.fell run.next new) failed (devices V X Y) E F one.notes later in
+    let vs = gap_event span run ∷ (fall_events one.fell run.next between ++ fall_events two.fell run.next new) in (
+      BothSlots one.fell two.fell,
+      vs,
+      subst (λ (o : Option Span). AreGapEvents o (now_moment run) failed run new c.args.breaks.now c.note_in-2.new.breaks (BothSlots one.fell two.fell) vs) (sym there) (
+        record {
+          between = between;
+          told = c.note_in.new.breaks;
+          first = one.noted;
+          second = subst (λ (m : Moment). IsNotedIn (card_in (seat_in between.keeper.cabin.slots.seats CoDriver)) CoDriver m between new c.note_in.new.breaks c.note_in-2.new.breaks two.fell) at two.noted;
+        },
+        two.failing,
+        refl,
+      ),
+      then-noted (gap_event span run ∷ []) (fall_events one.fell run.next between ++ fall_events two.fell run.next new) failed (devices U X Y) (devices V X Y) F first falls,
+    )

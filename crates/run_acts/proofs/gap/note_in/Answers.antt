@@ -23,6 +23,9 @@ use Rattle.run_acts.specs.Acting.{noted_breaks, now_moment, IsNotedIn}
 use Rattle.run_acts.proofs.Cabins.{keeper-only, cabin-going, cabin-held, ready-same, at-same, noted_cabin, noted-is, noted-past, noted-minute, noted-sessions, noted-falls, noted-a, noted-b, numbered-session}
 use Rattle.std.specs.Prelude.{is_err}
 use Rattle.run_acts.proofs.NoteRecorded.{noted-some}
+use Rattle.run_rule.specs.Between.{devices}
+use Rattle.run_acts.specs.Noting.{fall_events}
+use Rattle.noted_events.proofs.Noted.{same-noted, noted-any}
 use Rattle.run_acts.proofs.gap.note_in.Goals as goal
 
 -- ---- card a
@@ -190,3 +193,53 @@ returns-in-B-clause-recorded g c =
     noted-some B c.args.slot (now_moment run) run c.args.breaks.now (g.M.Medium.state c.args.unit.now) (g.M.Medium.state c.note_on-in-B.new.unit) (g.D.Chip.state c.args.card_b.now) (g.D.Chip.state c.note_on-in-B.new.card) (g.C.Chip.state c.args.card_a.now)
     (g.met.M.Medium.coherent c.args.unit.now) (g.met.D.Chip.coherent c.args.card_b.now) (g.met.D.Chip.coherent c.note_on-in-B.new.card) c.requires.held.card_b.size some e.value there refl refl lit.span lit.stands lit.next lit.cabin e.moments e.journal
     (is_err c.note_on-in-B.result) e.cause c.note_on-in-B.new.run c.note_on-in-B.new.breaks n.0 n.1 n.2 n.3
+
+-- ---- what is noted on the unit
+
+pub returns-in-A-clause-events : goal.returns-in-A-clause-events
+returns-in-A-clause-events g c =
+    let run = c.args.run.now in
+    let n = c.note_on.ensures.events in
+    let there : card_in (seat_in run.keeper.cabin.slots.seats c.args.slot) ≡ Some A = cc in
+    record {
+      fell = n.fell;
+      noted = subst (λ (o : Option Card). IsNotedIn o c.args.slot (now_moment run) run c.note_on.new.run c.args.breaks.now c.note_on.new.breaks n.fell) (sym there) n.noted;
+      failing = n.failing;
+      notes = noted-any (fall_events n.fell run.next c.note_on.new.run) (is_err c.note_on.result) (devices (g.M.Medium.state c.args.unit.now) (g.C.Chip.state c.args.card_a.now) (g.C.Chip.state c.args.card_a.now)) (devices (g.M.Medium.state c.note_on.new.unit) (g.C.Chip.state c.note_on.new.card) (g.C.Chip.state c.note_on.new.card)) (devices (g.M.Medium.state c.args.unit.now) (g.C.Chip.state c.args.card_a.now) (g.D.Chip.state c.args.card_b.now)) (devices (g.M.Medium.state c.note_on.new.unit) (g.C.Chip.state c.note_on.new.card) (g.D.Chip.state c.args.card_b.now)) refl refl n.notes;
+    }
+
+pub returns-in-B-clause-events : goal.returns-in-B-clause-events
+returns-in-B-clause-events g c =
+    let run = c.args.run.now in
+    let n = c.note_on-in-B.ensures.events in
+    let there : card_in (seat_in run.keeper.cabin.slots.seats c.args.slot) ≡ Some B = cc in
+    record {
+      fell = n.fell;
+      noted = subst (λ (o : Option Card). IsNotedIn o c.args.slot (now_moment run) run c.note_on-in-B.new.run c.args.breaks.now c.note_on-in-B.new.breaks n.fell) (sym there) n.noted;
+      failing = n.failing;
+      notes = noted-any (fall_events n.fell run.next c.note_on-in-B.new.run) (is_err c.note_on-in-B.result) (devices (g.M.Medium.state c.args.unit.now) (g.D.Chip.state c.args.card_b.now) (g.D.Chip.state c.args.card_b.now)) (devices (g.M.Medium.state c.note_on-in-B.new.unit) (g.D.Chip.state c.note_on-in-B.new.card) (g.D.Chip.state c.note_on-in-B.new.card)) (devices (g.M.Medium.state c.args.unit.now) (g.C.Chip.state c.args.card_a.now) (g.D.Chip.state c.args.card_b.now)) (devices (g.M.Medium.state c.note_on-in-B.new.unit) (g.C.Chip.state c.args.card_a.now) (g.D.Chip.state c.note_on-in-B.new.card)) refl refl n.notes;
+    }
+
+noted-not : (o : Option Card) (slot : Slot) (at : Moment) (run : Run) (breaks : Listed Break) → IsNotedIn o slot at run run breaks breaks false
+noted-not None slot at run breaks = (refl, refl)
+noted-not (Some card) slot at run breaks = record { run = refl; told = no-lines breaks }
+
+pub returns-in_default-clause-events : goal.returns-in_default-clause-events
+returns-in_default-clause-events g c =
+    let run = c.args.run.now in
+    record {
+      fell = false;
+      noted = noted-not (card_in (seat_in run.keeper.cabin.slots.seats c.args.slot)) c.args.slot (now_moment run) run c.args.breaks.now;
+      failing = λ bad. bad;
+      notes = same-noted (g.M.Medium.state c.args.unit.now) (g.C.Chip.state c.args.card_a.now) (g.D.Chip.state c.args.card_b.now);
+    }
+
+pub returns-in_default-number_in-clause-events : goal.returns-in_default-number_in-clause-events
+returns-in_default-number_in-clause-events g c =
+    let run = c.args.run.now in
+    record {
+      fell = false;
+      noted = noted-not (card_in (seat_in run.keeper.cabin.slots.seats c.args.slot)) c.args.slot (now_moment run) run c.args.breaks.now;
+      failing = λ bad. bad;
+      notes = same-noted (g.M.Medium.state c.args.unit.now) (g.C.Chip.state c.args.card_a.now) (g.D.Chip.state c.args.card_b.now);
+    }

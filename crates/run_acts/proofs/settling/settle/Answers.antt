@@ -165,3 +165,10 @@ returns-clause-recorded g c =
           })
           o done s n waits here r time,
     )
+
+-- ---- which faults are noted
+
+pub returns-clause-noted : goal.returns-clause-noted
+returns-clause-noted g c =
+    let b = rw c.as_slice.ensures.value at c.keep_all.ensures.booked in
+    (c.settle-decided.result.items, c.settle-decided.ensures.given, b.0, b.1, b.3)

@@ -2,7 +2,7 @@ use Rattle.std.proofs.Common.{rules, ◌≡◌, ◌∙◌, inl, inr, ℕ, Bool, 
 use Rattle.std.specs.Prelude.{is_err, not}
 use Rattle.tach_media.proofs.Runs.{on_ok, cause_after}
 use Rattle.run_crew.specs.declared.cards.Crew.{Crew}
-use Rattle.run_notes.specs.Noting.{IsFed}
+use Rattle.run_notes.specs.Noting.{IsFed, IsWatched}
 use Rattle.run_acts.specs.declared.run.Run.{Run}
 use Rattle.run_acts.proofs.Noted.{noted-ready, noted-row}
 use Rattle.run_rule.specs.Between.{devices}
@@ -11,7 +11,9 @@ use Rattle.run_acts.specs.Turning.{IsKeptInTurn, told_of}
 use Rattle.run_acts.specs.Booked.{IsTurnReach, BooksTurn}
 use Rattle.run_acts.specs.Devices.{DevicesGoOn}
 use Rattle.run_acts.proofs.GoesOn.{same-left, noted-devices}
+use Rattle.run_acts.specs.Faults.{NotesKeeping}
 use Rattle.run_acts.proofs.TurnBooked.{turn-cut, turn-noted}
+use Rattle.run_acts.proofs.TurnNoted.{keeping-then, keeping-cut}
 use Rattle.run_acts.proofs.turning.keep_turn.Goals as goal
 
 pub returns-clause-kept : goal.returns-clause-kept
@@ -112,3 +114,27 @@ returns-in_err-keep_all-clause-devices g c =
       card_a = record { keeps = k.a_keeps; clock = k.clock_a; tells = k.tells_a; more = k.more_a; broken = k.a_broken; bare = λ none. same-left (g.C.Chip.state c.args.card_a.now) (g.C.Chip.state c.keep_all.new.card_a) (ap g.C.Chip.state (k.a_bare none)) };
       card_b = record { keeps = k.b_keeps; clock = k.clock_b; tells = k.tells_b; more = k.more_b; broken = k.b_broken; bare = λ none. same-left (g.D.Chip.state c.args.card_b.now) (g.D.Chip.state c.keep_all.new.card_b) (ap g.D.Chip.state (k.b_bare none)) };
     })
+
+-- ---- what is noted
+
+pub returns-clause-noted : goal.returns-clause-noted
+returns-clause-noted g c =
+    let was = c.in_ok-keep_all.ensures.booked in
+    let w = c.turn.ensures.watched in
+    let V = g.M.Medium.state c.keep_all.new.unit in
+    let W = g.M.Medium.state c.turn.new.unit in
+    let failed : Bool = is_err c.turn.result in
+    keeping-then c.args.decided.now c.args.n c.args.speed c.args.at failed c.args.run.now (record c.args.run.now { keeper = c.keep_all.new.self; watch = c.turn.new.self }) c.args.outcome.now
+    (record c.args.outcome.now { marks = c.keep_all.new.marks; breaks = c.keep_all.new.breaks }) (g.M.Medium.state c.args.unit.now) V W was.0 was.1 (g.met.M.Medium.coherent c.keep_all.new.unit) (g.met.M.Medium.coherent c.turn.new.unit) was.3
+    (subst (λ (crew : Crew). IsWatched failed c.args.run.now.watch c.turn.new.self c.args.run.now.next c.args.n c.args.speed crew V W) c.crew-crew.ensures w) c.turn.ensures.cause.works
+
+pub returns-in_err-keep_all-clause-noted : goal.returns-in_err-keep_all-clause-noted
+returns-in_err-keep_all-clause-noted g c =
+    let was = c.in_err-keep_all.ensures.booked in
+    let failed : true ≡ is_err c.from_residual.result = search rules in
+    let run : Run = record c.args.run.now { keeper = c.keep_all.new.self } in
+    let told = record c.args.outcome.now { marks = c.keep_all.new.marks; breaks = c.keep_all.new.breaks } in
+    let U = g.M.Medium.state c.args.unit.now in
+    let V = g.M.Medium.state c.keep_all.new.unit in
+    subst (λ (f : Bool). NotesKeeping c.args.decided.now c.args.n c.args.speed c.args.at f c.args.run.now run c.args.outcome.now told U V) failed
+    (keeping-cut c.args.decided.now c.args.n c.args.speed c.args.at c.args.run.now run c.args.outcome.now told U V was.0 was.1 refl was.3)

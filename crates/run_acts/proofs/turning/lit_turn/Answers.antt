@@ -322,3 +322,49 @@ returns-else-is_err-clause-clock_a g c = c.keep_turn-kept.ensures.devices.card_a
 
 pub returns-else-is_err-clause-clock_b : goal.returns-else-is_err-clause-clock_b
 returns-else-is_err-clause-clock_b g c = c.keep_turn-kept.ensures.devices.card_b.clock
+
+-- ---- what is noted
+
+pub returns-then-is_err-clause-noted : goal.returns-then-is_err-clause-noted
+returns-then-is_err-clause-noted g c =
+    let run = c.args.run.now in
+    let e = c.keep_turn-kept.ensures in
+    let bad : is_err c.keep_turn-kept.result ≡ true = sym c.is_err.ensures.value ∙ c.if-is_err.true in
+    let b = rw c.as_slice.ensures.value at (rw bad at e.noted) in (
+      record {
+        failed = true;
+        fed = record run { minutes = c.feed-decided.new.minutes };
+        between = c.keep_turn-kept.new.run;
+        told = c.keep_turn-kept.new.outcome;
+        only = refl;
+        minutes = c.feed-decided.ensures.fed;
+        decided = c.feed-decided.result.items;
+        given = c.feed-decided.ensures.given;
+        kept = rw c.as_slice.ensures.value at (rw bad at e.kept);
+        run = c.cut.ensures.run;
+        outcome = ap (λ (b : Listed Break). record c.keep_turn-kept.new.outcome { breaks = b }) c.cut.ensures.breaks;
+      },
+      b,
+    )
+
+pub returns-else-is_err-clause-noted : goal.returns-else-is_err-clause-noted
+returns-else-is_err-clause-noted g c =
+    let run = c.args.run.now in
+    let e = c.keep_turn-kept.ensures in
+    let well : is_err c.keep_turn-kept.result ≡ false = sym c.is_err.ensures.value ∙ c.if-is_err.false in
+    let b = rw c.as_slice.ensures.value at (rw well at e.noted) in (
+      record {
+        failed = false;
+        fed = record run { minutes = c.feed-decided.new.minutes };
+        between = c.keep_turn-kept.new.run;
+        told = c.keep_turn-kept.new.outcome;
+        only = refl;
+        minutes = c.feed-decided.ensures.fed;
+        decided = c.feed-decided.result.items;
+        given = c.feed-decided.ensures.given;
+        kept = rw c.as_slice.ensures.value at (rw well at e.kept);
+        run = refl;
+        outcome = refl;
+      },
+      b,
+    )

@@ -81,3 +81,11 @@ returns-clause-recorded g c = λ o done s now actions none within time.
     subst (λ (x : Run). RunRecorded o (done ++ s ∷ driven (c.args.n - 1) (s.number + 1) c.args.speed []) x c.lit_turn.new.outcome e) (sym c.pass-2.ensures)
     (turn-lit c.args.n c.args.speed c.args.begun run c.lit_turn.new.run before c.lit_turn.new.outcome d e (c.requires.going.lit lit) r.lit c.requires.some c.requires.minute c.requires.small c.lit_turn.ensures.booked
     o done s now actions (λ more. none (omega (arith, more))) there time)
+
+-- ---- what is noted
+
+pub returns-then-not-is_lit-clause-noted : goal.returns-then-not-is_lit-clause-noted
+returns-then-not-is_lit-clause-noted g c = λ lit. let dark : is_lit c.args.run.now.power ≡ false = sym c.is_lit.ensures ∙ c.if-not-is_lit.true in absurd (cc)
+
+pub returns-clause-noted : goal.returns-clause-noted
+returns-clause-noted g c = λ lit. (c.lit_turn.new.run, c.lit_turn.ensures.noted, c.pass-2.ensures)

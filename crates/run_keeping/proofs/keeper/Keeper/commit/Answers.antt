@@ -1,4 +1,4 @@
-use Rattle.std.proofs.Common.{rules, ◌≡◌, ◌∙◌, Bool, true, false, ap, subst, refl}
+use Rattle.std.proofs.Common.{rules, ◌≡◌, ◌∙◌, Bool, true, false, [], ap, subst, refl}
 use Rattle.std.specs.Prelude.{is_err}
 use Rattle.activity_codec.specs.declared.values.Slot.TheVariants.{Driver, CoDriver}
 use Rattle.card_session.specs.declared.session.Kept.{Kept}
@@ -6,8 +6,12 @@ use Rattle.run_rule.specs.Between.{devices}
 use Rattle.run_keeping.specs.declared.keeper.Keeper.{Keeper}
 use Rattle.run_keeping.specs.Keeping.{HasItsRow, entry_in}
 use Rattle.run_keeping.specs.Owing.{BooksOwed}
+use Rattle.run_keeping.specs.Faults.{NotesFaults}
+use Rattle.unit_journal.specs.Image.{IsKeeping}
+use Rattle.unit_journal.specs.Kept.{kept_minute}
 use Rattle.run_keeping.proofs.Sessions.{some-goes}
 use Rattle.run_keeping.proofs.Units.{left-then}
+use Rattle.run_keeping.proofs.Faults.{notes-then, notes-nothing, keeping-nothing}
 use Rattle.run_keeping.proofs.MinuteBegun.{put-at, told_with, cut-first, cut-second, kept-or-cut}
 use Rattle.run_keeping.proofs.keeper.Keeper.commit.Goals as goal
 
@@ -100,3 +104,41 @@ returns-clause-unit_keeps g c =
     let U2 = g.M.Medium.state c.owe_to-2.new.unit in
     let V = g.M.Medium.state c.commit.new.unit in
     left-then (g.M.Medium.state c.args.unit.now) U1 V c.in_ok-owe_to.ensures.unit_keeps c.in_ok-owe_to.ensures.clock (left-then U1 U2 V c.in_ok-owe_to-2.ensures.unit_keeps c.in_ok-owe_to-2.ensures.clock c.in_ok-commit.ensures.keeps)
+
+-- ---- no event is noted
+
+pub returns-in_err-owe_to-clause-quiet : goal.returns-in_err-owe_to-clause-quiet
+returns-in_err-owe_to-clause-quiet g c =
+    let failed : true ≡ is_err c.from_residual.result = search rules in
+    subst (λ (b : Bool). NotesFaults b [] (g.M.Medium.state c.args.unit.now) (g.M.Medium.state c.owe_to.new.unit)) failed c.in_err-owe_to.ensures.quiet
+
+pub returns-in_err-owe_to-2-clause-quiet : goal.returns-in_err-owe_to-2-clause-quiet
+returns-in_err-owe_to-2-clause-quiet g c =
+    let failed : true ≡ is_err c.from_residual-in_err-owe_to-2.result = search rules in
+    let U = g.M.Medium.state c.args.unit.now in
+    let U2 = g.M.Medium.state c.owe_to-2.new.unit in
+    subst (λ (b : Bool). NotesFaults b [] U U2) failed (notes-then [] [] true U (g.M.Medium.state c.owe_to.new.unit) U2 c.in_ok-owe_to.ensures.quiet c.in_err-owe_to-2.ensures.quiet)
+
+pub returns-in_err-commit-clause-quiet : goal.returns-in_err-commit-clause-quiet
+returns-in_err-commit-clause-quiet g c =
+    let failed : true ≡ is_err c.from_residual-in_err-commit.result = search rules in
+    let U = g.M.Medium.state c.args.unit.now in
+    let U1 = g.M.Medium.state c.owe_to.new.unit in
+    let U2 = g.M.Medium.state c.owe_to-2.new.unit in
+    let V = g.M.Medium.state c.commit.new.unit in
+    let km = kept_minute c.args.minute.now in
+    let n = c.args.minute.now.odometer.0 in
+    subst (λ (b : Bool). NotesFaults b [] U V) failed
+    (notes-then [] [] true U U1 V c.in_ok-owe_to.ensures.quiet (notes-then [] [] true U1 U2 V c.in_ok-owe_to-2.ensures.quiet
+    (notes-nothing true U2 V (IsKeeping km n) (g.met.M.Medium.coherent c.owe_to-2.new.unit) (g.met.M.Medium.coherent c.commit.new.unit) c.in_err-commit.ensures.moments (λ x y h. keeping-nothing km n x y h))))
+
+pub returns-clause-quiet : goal.returns-clause-quiet
+returns-clause-quiet g c =
+    let U = g.M.Medium.state c.args.unit.now in
+    let U1 = g.M.Medium.state c.owe_to.new.unit in
+    let U2 = g.M.Medium.state c.owe_to-2.new.unit in
+    let V = g.M.Medium.state c.commit.new.unit in
+    let km = kept_minute c.args.minute.now in
+    let n = c.args.minute.now.odometer.0 in
+    notes-then [] [] false U U1 V c.in_ok-owe_to.ensures.quiet (notes-then [] [] false U1 U2 V c.in_ok-owe_to-2.ensures.quiet
+    (notes-nothing false U2 V (IsKeeping km n) (g.met.M.Medium.coherent c.owe_to-2.new.unit) (g.met.M.Medium.coherent c.commit.new.unit) c.in_ok-commit.ensures.moments (λ x y h. keeping-nothing km n x y h)))

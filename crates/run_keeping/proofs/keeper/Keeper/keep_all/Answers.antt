@@ -12,6 +12,7 @@ use Rattle.run_keeping.specs.Keeping.{HaveRows, tears_of}
 use Rattle.run_rule.specs.Between.{devices}
 use Rattle.run_keeping.specs.Minutes.{AreKept, AreKeptUpTo, Reach, IsReach, or_nobody, kept_of, kept_after, none}
 use Rattle.run_keeping.specs.Decided.{BooksAll}
+use Rattle.run_keeping.specs.Faults.{faults_to, NotesFaults}
 use Rattle.run_keeping.proofs.DecidedBooked.{none-booked, booked-on, cut-booked, all-booked, time-before}
 use Rattle.run_keeping.proofs.Sessions.{stands-later}
 use Rattle.run_keeping.proofs.Rounds.{told-of}
@@ -153,7 +154,7 @@ loop-minute-preserved g c =
           (devices (g.M.Medium.state c.keep_minute.new.unit) (g.C.Chip.state c.keep_minute.new.card_a) (g.D.Chip.state c.keep_minute.new.card_b)) c.args.self.now.journal.kept c.requires.due (due-here ds i low c.loop-minute.self.journal.kept v.due).1
           c.present-present.result c.kept_of-kept.result (ap or_nobody c.present-present.ensures.present ∙ ap (λ (es : List Ended). or_nobody (present_in es m)) v.past) (c.kept_of-kept.ensures ∙ ap (λ (n : ℕ). kept_of n (this ds i low) c.present-present.result) v.odometer)
           _ _ _ _ (time-before (devices (g.M.Medium.state c.loop-minute.unit) (g.C.Chip.state c.loop-minute.card_a) (g.D.Chip.state c.loop-minute.card_b)) (devices (g.M.Medium.state c.keep_minute.new.unit) (g.C.Chip.state c.keep_minute.new.card_a) (g.D.Chip.state c.keep_minute.new.card_b)) e.clock e.clock_a e.clock_b)
-          v.booked e.kept.0 e.kept.1 e.kept.2;
+          v.booked e.kept.0 e.kept.1 e.kept.2 e.kept.3;
       clock_a = let k = e.clock_a in let was = v.clock_a in omega (arith, k, was);
       clock_b = let k = e.clock_b in let was = v.clock_b in omega (arith, k, was);
       mark_room = e.marks.0 ∙ v.mark_room;
@@ -217,11 +218,11 @@ returns-in_err-keep_minute-clause-booked g c =
     let u = told-of c.keep_minute.new.self c.keep_minute.new.marks c.keep_minute.new.breaks in
     let before = devices (g.M.Medium.state c.args.unit.now) (g.C.Chip.state c.args.card_a.now) (g.D.Chip.state c.args.card_b.now) in
     let behind = devices (g.M.Medium.state c.keep_minute.new.unit) (g.C.Chip.state c.keep_minute.new.card_a) (g.D.Chip.state c.keep_minute.new.card_b) in
-    subst (λ (bad : Bool). (reach : Reach) × IsReach ds c.args.at bad t u reach × BooksAll ds bad reach t u before behind) failed
+    subst (λ (bad : Bool). (reach : Reach) × IsReach ds c.args.at bad t u reach × BooksAll ds bad reach t u before behind × NotesFaults bad (faults_to t.keeper c.args.at reach t) before.unit behind.unit) failed
     (cut-booked ds i low c.args.at t (told-of c.loop-minute.self c.loop-minute.marks c.loop-minute.breaks) u before (devices (g.M.Medium.state c.loop-minute.unit) (g.C.Chip.state c.loop-minute.card_a) (g.D.Chip.state c.loop-minute.card_b)) behind
     c.args.self.now.journal.kept c.requires.due (due-here ds i low c.loop-minute.self.journal.kept v.due).1 c.present-present.result c.kept_of-kept.result
     (ap or_nobody c.present-present.ensures.present ∙ ap (λ (es : List Ended). or_nobody (present_in es m)) v.past) (c.kept_of-kept.ensures ∙ ap (λ (n : ℕ). kept_of n (this ds i low) c.present-present.result) v.odometer)
-    _ _ _ _ (time-before (devices (g.M.Medium.state c.loop-minute.unit) (g.C.Chip.state c.loop-minute.card_a) (g.D.Chip.state c.loop-minute.card_b)) behind e.clock e.clock_a e.clock_b) v.booked e.kept.0 e.kept.1 e.kept.2)
+    _ _ _ _ (time-before (devices (g.M.Medium.state c.loop-minute.unit) (g.C.Chip.state c.loop-minute.card_a) (g.D.Chip.state c.loop-minute.card_b)) behind e.clock e.clock_a e.clock_b) v.booked e.kept.0 e.kept.1 e.kept.2 e.kept.3)
 
 -- ---- all of them are kept
 

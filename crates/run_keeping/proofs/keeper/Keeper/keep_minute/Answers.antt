@@ -12,8 +12,10 @@ use Rattle.unit_journal.specs.declared.notes.Notes.{Notes}
 use Rattle.run_keeping.specs.Keeping.{TellsPresent, Still, IsBrought, AreEmptied, SessionsGoOn, cabin_by, kept_in, state_at, most_tears}
 use Rattle.run_keeping.specs.Minutes.{Round, IsMinute, unit_mark}
 use Rattle.run_keeping.specs.Books.{BooksMinute}
+use Rattle.run_keeping.specs.Faults.{last_faults, NotesFaults}
 use Rattle.run_keeping.specs.Owing.{BooksBrought}
 use Rattle.run_keeping.proofs.MinuteBooked.{timed-at, clock-rests, booked-cut, booked-whole}
+use Rattle.run_keeping.proofs.Faults.{brought-notes, round-cut, round-whole}
 use Rattle.run_keeping.proofs.Counts.{tears-one, lines-length, first-stays, second-stays}
 use Rattle.run_keeping.proofs.Rounds.{told-of, told-same, brought-minute, brought-past, brought-tears, brought-more, brought-tear-room, brought-marks, brought-mark-room, cut-is, cut-told, whole-driver, whole-codriver, whole-is, whole-told}
 use Rattle.run_keeping.proofs.Units.{unit-stays, left-then}
@@ -35,10 +37,12 @@ returns-in_err-commit-clause-kept g c =
     let same = c.in_err-commit.ensures.same in
     let keeper : c.commit.new.self ≡ k = c.commit.ensures.keeper ∙ ap (λ (j : Notes). record k { journal = j }) same.0 in
     subst (λ (f : Bool). (round : Option Round) × IsMinute p m c.args.at f (told-of k c.args.marks.now c.args.breaks.now) (told-of c.commit.new.self c.commit.new.marks c.args.breaks.now) X X Y Y round
-    × (TellsPresent m p → BooksMinute p m f round (told-of k c.args.marks.now c.args.breaks.now) (told-of c.commit.new.self c.commit.new.marks c.args.breaks.now) (devices U X Y) (devices V X Y))) failed (
+    × (TellsPresent m p → BooksMinute p m f round (told-of k c.args.marks.now c.args.breaks.now) (told-of c.commit.new.self c.commit.new.marks c.args.breaks.now) (devices U X Y) (devices V X Y))
+    × NotesFaults f (last_faults p c.args.at round k.cabin) U V) failed (
       None,
       (refl, told-same c.commit.new.self k c.commit.new.marks c.args.marks.now c.args.breaks.now c.args.breaks.now keeper same.1 refl),
       λ says. λ f w start v leg may gone odometer time. (c.in_err-commit.ensures.booked says f w start v leg (record { booked = may.booked; comes = may.comes }) gone odometer time.unit, timed-at f U V X Y (devices V X Y) (λ card valid timed. timed)),
+      c.in_err-commit.ensures.quiet,
     )
 
 pub returns-in_err-bring-clause-kept : goal.returns-in_err-bring-clause-kept
@@ -63,7 +67,8 @@ returns-in_err-bring-clause-kept g c =
     let one : BooksBrought p.driver (kept_in m Driver) true was.0 c.commit.new.self.cabin.cards c.bring.new.self.cabin.cards (devices U A0 B0) (devices V A1 B1) =
     subst (λ (q : Kept). BooksBrought p.driver q true was.0 c.commit.new.self.cabin.cards c.bring.new.self.cabin.cards (devices U A0 B0) (devices V A1 B1)) c.kept_in-driver.ensures was.3 in
     subst (λ (f : Bool). (round : Option Round) × IsMinute p m c.args.at f (told-of k c.args.marks.now c.args.breaks.now) (told-of c.bring.new.self c.bring.new.marks c.bring.new.breaks) A0 A1 B0 B1 round
-    × (TellsPresent m p → BooksMinute p m f round (told-of k c.args.marks.now c.args.breaks.now) (told-of c.bring.new.self c.bring.new.marks c.bring.new.breaks) (devices (g.M.Medium.state c.args.unit.now) A0 B0) (devices V A1 B1))) failed (
+    × (TellsPresent m p → BooksMinute p m f round (told-of k c.args.marks.now c.args.breaks.now) (told-of c.bring.new.self c.bring.new.marks c.bring.new.breaks) (devices (g.M.Medium.state c.args.unit.now) A0 B0) (devices V A1 B1))
+    × NotesFaults f (last_faults p c.args.at round k.cabin) (g.M.Medium.state c.args.unit.now) V) failed (
       Some (record { journal = c.commit.new.self.journal; clock = clock; driver = was.0; codriver = Still }),
       (
         cut-is p m c.args.at k c.args.marks.now c.args.breaks.now c.commit.new.self.journal clock notes.0 notes.1 c.commit.new.self c.commit.ensures.keeper c.commit.new.marks c.in_ok-commit.ensures.marked
@@ -75,6 +80,9 @@ returns-in_err-bring-clause-kept g c =
       λ says. booked-cut m p says c.requires.kept.apart k c.commit.new.self c.args.marks.now c.commit.new.marks c.args.breaks.now (ap (λ (q : Keeper). q.cabin.cards) c.commit.ensures.keeper) (g.M.Medium.state c.args.unit.now) U A0 B0
           (c.in_ok-commit.ensures.booked says) true was.0 c.bring.new.self c.args.at.second b.keeper V A1 B1 one refl (g.met.M.Medium.coherent c.commit.new.unit) c.bring.ensures.journal (told-of c.bring.new.self c.bring.new.marks c.bring.new.breaks)
           (record { journal = c.commit.new.self.journal; clock = clock; driver = was.0; codriver = Still }) refl refl refl,
+      round-cut p c.args.at (record { journal = c.commit.new.self.journal; clock = clock; driver = was.0; codriver = Still }) k.cabin (g.M.Medium.state c.args.unit.now) U V refl c.in_ok-commit.ensures.quiet
+          (brought-notes p.driver (kept_in m Driver) c.args.at true c.commit.new.self c.bring.new.self c.commit.new.marks c.bring.new.marks c.args.breaks.now c.bring.new.breaks was.0 U V X Y b
+          (g.met.M.Medium.coherent c.commit.new.unit) (g.met.M.Medium.coherent c.bring.new.unit) was.2 c.in_err-bring.ensures.cause k.cabin (ap (λ (q : Keeper). q.cabin) c.commit.ensures.keeper)),
     )
 
 pub returns-in_err-bring-clause-stands : goal.returns-in_err-bring-clause-stands
@@ -147,6 +155,12 @@ returns-clause-kept g c =
           (c.in_ok-commit.ensures.booked says) false was.0 c.bring.new.self c.args.at.second b.keeper V A1 B1 first refl failed is.0 c.bring-2.new.self d.keeper W A2 B2 second
           (λ none. clock-rests g.C.Chip.state c.bring.new.card_a c.bring-2.new.card_a (c.bring-2.ensures.a_rests none)) (λ none. clock-rests g.D.Chip.state c.bring.new.card_b c.bring-2.new.card_b (c.bring-2.ensures.b_rests none))
           (g.met.M.Medium.coherent c.commit.new.unit) c.bring.ensures.journal (g.met.M.Medium.coherent c.bring.new.unit) c.bring-2.ensures.journal c.bring-2.new.marks c.bring-2.new.breaks (record { journal = j; clock = clock; driver = was.0; codriver = is.0 }) refl refl refl,
+      round-whole p c.args.at failed (record { journal = j; clock = clock; driver = was.0; codriver = is.0 }) k.cabin (g.M.Medium.state c.args.unit.now) U V W c.in_ok-commit.ensures.quiet
+          (brought-notes p.driver (kept_in m Driver) c.args.at false c.commit.new.self c.bring.new.self c.commit.new.marks c.bring.new.marks c.args.breaks.now c.bring.new.breaks was.0 U V (state_at p.driver A0 B0) (state_at p.driver A1 B1) b
+          (g.met.M.Medium.coherent c.commit.new.unit) (g.met.M.Medium.coherent c.bring.new.unit) was.2 c.in_ok-bring.ensures.cause k.cabin (ap (λ (q : Keeper). q.cabin) c.commit.ensures.keeper))
+          (brought-notes p.codriver (kept_in m CoDriver) c.args.at failed c.bring.new.self c.bring-2.new.self c.bring.new.marks c.bring-2.new.marks c.bring.new.breaks c.bring-2.new.breaks is.0 V W (state_at p.codriver A1 B1) (state_at p.codriver A2 B2) d
+          (g.met.M.Medium.coherent c.bring.new.unit) (g.met.M.Medium.coherent c.bring-2.new.unit) is.2 c.bring-2.ensures.cause (cabin_by was.0 p.driver c.args.at.second k.cabin)
+          (ap (λ (q : Keeper). q.cabin) b.keeper ∙ ap (λ (q : Keeper). cabin_by was.0 p.driver c.args.at.second q.cabin) c.commit.ensures.keeper)),
     )
 
 pub returns-clause-stands : goal.returns-clause-stands
