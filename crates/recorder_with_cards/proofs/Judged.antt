@@ -13,7 +13,7 @@ use Rattle.run_told.specs.Told.{arranged}
 use Rattle.run_outcome.specs.declared.outcome.Outcome.{Outcome}
 use Rattle.run_recorded.specs.Origin.{Origin}
 use Rattle.run_keeping.specs.Books.{HaveTime}
-use Rattle.run_entered.specs.Entered.{IsFoundBy, GoesOnOrIsCut}
+use Rattle.run_acts.specs.Entered.{IsFoundBy, GoesOnOrIsCut}
 use Rattle.run_within.specs.Within.{Beginning}
 use Rattle.run_acts.specs.declared.run.Run.{Run}
 use Rattle.run_acts.specs.declared.run.Power.TheVariants.{Lit}
@@ -26,9 +26,9 @@ use Rattle.run_keeping.specs.declared.keeper.Moment.{Moment}
 use Rattle.run_entering.specs.declared.lines.Entering.{Entering}
 use Rattle.run_entering.specs.Entering.{ending_of, measured}
 use Rattle.run_entering.specs.Noted.{UnitNote, IsOnUnit, IsComing, HasNoted, notes_by}
-use Rattle.noted_events.specs.Noted.{NotesEvents}
-use Rattle.noted_events.proofs.Noted.{quiet-noted}
-use Rattle.entered_events.proofs.Noted.{entered-noted}
+use Rattle.run_acts.specs.NotedEvents.{NotesEvents}
+use Rattle.run_acts.proofs.NotedEvents.{quiet-noted}
+use Rattle.recorder_with_cards.proofs.EnteredEvents.{entered-noted}
 use Rattle.recorder_with_cards.specs.Accepting.{IsAccepted}
 use Rattle.recorder_with_cards.specs.Judged.{JudgedTo}
 use Rattle.recorder_with_cards.specs.Noting.{judged_events, IsJudgedNoting, NotesAnew}

@@ -1,3 +1,5 @@
+pub mod EnteredTold
+pub mod EnteredEvents
 pub mod Items
 pub mod Dark
 pub mod Start

@@ -16,8 +16,8 @@ use Rattle.run_events.specs.Shown.{SaysNothing}
 use Rattle.run_events.proofs.Frames.{keeps-nothing}
 use Rattle.run_events.proofs.Shows.{nothing-more}
 use Rattle.run_evented.specs.Evented.{number_in}
-use Rattle.noted_events.specs.Noted.{NotesEvents}
-use Rattle.noted_events.proofs.Noted.{quiet-noted, then-noted}
+use Rattle.run_acts.specs.NotedEvents.{NotesEvents}
+use Rattle.run_acts.proofs.NotedEvents.{quiet-noted, then-noted}
 use Rattle.run_keeping.specs.declared.keeper.Moment.{Moment}
 use Rattle.log_model.specs.declared.lines.Break.{Break}
 use Rattle.unit_course.specs.Lines.{found_from}
@@ -25,7 +25,7 @@ use Rattle.run_outcome.specs.Lines.{Listed}
 use Rattle.run_outcome.specs.declared.outcome.Outcome.{Outcome}
 use Rattle.unit_model.specs.Image.{IsUnit}
 use Rattle.run_keeping.specs.Faults.{faults_to}
-use Rattle.kept_events.proofs.Kept.{faults-are, faults-noted}
+use Rattle.run_acts.proofs.KeptEvents.{faults-are, faults-noted}
 use Rattle.run_acts.specs.Faults.{NotesSettling}
 use Rattle.run_acts.specs.Turning.{told_of}
 use Rattle.run_acts.specs.declared.run.Run.{Run}

@@ -19,8 +19,8 @@ use Rattle.run_outcome.specs.declared.outcome.Outcome.{Outcome}
 use Rattle.run_entering.specs.declared.lines.Entering.{Entering}
 use Rattle.run_entering.specs.Entering.{Way, ending_of, measured}
 use Rattle.run_entering.specs.Noted.{notes_by}
-use Rattle.entered_events.specs.Noted.{events_in}
-use Rattle.noted_events.specs.Noted.{NotesEvents}
+use Rattle.recorder_with_cards.specs.EnteredEvents.{events_in}
+use Rattle.run_acts.specs.NotedEvents.{NotesEvents}
 use Rattle.run_acts.specs.declared.run.Run.{Run}
 use Rattle.unit_course.specs.Lines.{found_from}
 use Rattle.run_outcome.specs.Lines.{cut_at}

@@ -6,10 +6,17 @@
 mod accepting;
 mod acts;
 mod driving;
+mod entered_events;
 mod inserting;
 mod resuming;
 mod run;
+#[cfg(test)]
+mod tests;
 
+pub use entered_events::{
+    what_an_accepted_card_brings_is_what_is_judged, what_is_noted_of_a_card_are_its_events,
+    what_is_noted_of_a_card_is_shown,
+};
 pub use log_model::{Break, Find, Mark, Refused, SlotFault, Verdict};
 pub use run::run_trace;
 pub use run_opening::RunFault;

@@ -33,11 +33,11 @@ use Rattle.run_keeping.specs.declared.keeper.Moment.{Moment}
 use Rattle.run_keeping.specs.Minutes.{Reach, IsReach, or_nobody, present_at}
 use Rattle.run_keeping.specs.Books.{HaveTime, AreTimedOn}
 use Rattle.run_keeping.specs.Decided.{EndsAll, BooksAll}
-use Rattle.run_rounds.specs.Rounds.{Point, IsPoint, settling_at}
-use Rattle.run_rounds.specs.Laws.{KeepsSo, IsKeptTo, carried_at}
-use Rattle.run_rounds.proofs.Begun.{over-so, may-book}
-use Rattle.run_rounds.proofs.Whole.{leaving-later}
-use Rattle.run_rounds.proofs.Kept.{keeping-recorded}
+use Rattle.run_acts.specs.Rounds.{Point, IsPoint, settling_at}
+use Rattle.run_acts.specs.RoundLaws.{KeepsSo, IsKeptTo, carried_at}
+use Rattle.run_acts.proofs.RoundBegun.{over-so, may-book}
+use Rattle.run_acts.proofs.RoundWhole.{leaving-later}
+use Rattle.run_acts.proofs.RoundKept.{keeping-recorded}
 use Rattle.run_acts.specs.declared.run.Run.{Run}
 use Rattle.run_acts.specs.Acting.{told_of}
 use Rattle.run_acts.specs.Devices.{DevicesGoOn}

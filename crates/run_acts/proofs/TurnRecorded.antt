@@ -39,10 +39,10 @@ use Rattle.run_keeping.specs.declared.keeper.Moment.{Moment}
 use Rattle.run_keeping.specs.Keeping.{with_lines}
 use Rattle.run_keeping.specs.Minutes.{Told, Reach, Whole, Short, IsReach, present_at}
 use Rattle.run_keeping.specs.Books.{HaveTime, AreTimedOn}
-use Rattle.run_rounds.specs.Rounds.{Point, IsPoint, told_values, keeping_of, moment_of}
-use Rattle.run_rounds.specs.Laws.{KeepsSo, HaveBrokenOff, carried_at}
-use Rattle.run_rounds.proofs.Begun.{are-over, may-book}
-use Rattle.run_rounds.proofs.Kept.{keeping-recorded, note-fails}
+use Rattle.run_acts.specs.Rounds.{Point, IsPoint, told_values, keeping_of, moment_of}
+use Rattle.run_acts.specs.RoundLaws.{KeepsSo, HaveBrokenOff, carried_at}
+use Rattle.run_acts.proofs.RoundBegun.{are-over, may-book}
+use Rattle.run_acts.proofs.RoundKept.{keeping-recorded, note-fails}
 use Rattle.run_acts.specs.declared.run.Run.{Run}
 use Rattle.run_acts.specs.declared.run.Power.{Power}
 use Rattle.run_acts.specs.declared.run.Power.TheVariants.{Lit, Lost}

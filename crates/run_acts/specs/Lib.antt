@@ -1,3 +1,9 @@
+pub mod KeptEvents
+pub mod EventCrews
+pub mod NotedEvents
+pub mod Entered
+pub mod Rounds
+pub mod RoundLaws
 pub mod Acting
 pub mod Behind
 pub mod Power

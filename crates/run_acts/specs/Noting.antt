@@ -8,7 +8,7 @@ use Rattle.trace_model.specs.Trace.{TraceSecond}
 use Rattle.event_model.specs.declared.entries.Span.{Span}
 use Rattle.event_model.specs.declared.kinds.TheConstants.{POWER_INTERRUPTION, CARD_FAULT}
 use Rattle.unit_notes.specs.declared.unit_event.UnitEvent.{UnitEvent}
-use Rattle.noted_events.specs.Noted.{NotesEvents}
+use Rattle.run_acts.specs.NotedEvents.{NotesEvents}
 use Rattle.log_model.specs.declared.lines.Break.{Break}
 use Rattle.log_model.specs.Log.{Phase}
 use Rattle.safety_model.specs.Safe.{Devices}

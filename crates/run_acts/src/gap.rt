@@ -11,7 +11,7 @@ ghost use Rattle.slot_machine.specs.Calls.{seat_in, card_in};
 ghost use Rattle.log_model.specs.Log.{In};
 ghost use Rattle.unit_notes.specs.Journal.{LeavesJournal};
 ghost use Rattle.run_rule.specs.Between.{devices};
-ghost use Rattle.noted_events.specs.Noted.{NotesEvents};
+ghost use Rattle.run_acts.specs.NotedEvents.{NotesEvents};
 ghost use Rattle.run_crew.specs.Cards.{known_of, session_of};
 ghost use Rattle.run_crew.specs.Cabin.{Stands};
 ghost use Rattle.run_keeping.specs.Keeping.{UnitReady, CardReady, HasItsRow};

@@ -23,10 +23,10 @@ use Rattle.unit_download.specs.Ending.{has_failed}
 use Rattle.demo_trace.specs.declared.trace.TheConstants.{PARTS, DAYS, DAY_SECONDS, FIRST_SECOND}
 use Rattle.demo_trace.specs.Demo.{starts, part_of, parts_of, day_of, days_of, demo_items}
 use Rattle.demo_trace.proofs.Groups.{length-starts}
-use Rattle.demo_run.specs.declared.anew.AnewFault.{AnewFault}
-use Rattle.demo_run.specs.declared.anew.AnewFault.TheVariants.{Unmade, Kept}
-use Rattle.demo_run.specs.Anew.{MayBeAnew, EndsAnew, IsFailed}
-use Rattle.demo_run.proofs.ReadAfter.{is-read, anew-read}
+use Rattle.tacho.specs.declared.anew.AnewFault.{AnewFault}
+use Rattle.tacho.specs.declared.anew.AnewFault.TheVariants.{Unmade, Kept}
+use Rattle.tacho.specs.Anew.{MayBeAnew, EndsAnew, IsFailed}
+use Rattle.tacho.proofs.DemoRead.{is-read, anew-read}
 use Rattle.demo_file.specs.declared.measuring.FileSize.{FileSize}
 use Rattle.demo_file.specs.Measures.{IsSizeOf}
 use Rattle.tacho.specs.declared.demo_command.TheConstants.{VEHICLE, CARD}

@@ -1,3 +1,6 @@
+pub mod DemoNumbers
+pub mod DemoDevices
+pub mod DemoRead
 pub mod WordLists
 pub mod Spelled
 pub mod Fed

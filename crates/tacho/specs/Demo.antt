@@ -11,9 +11,9 @@ use Rattle.unit_download.specs.declared.fault.DownloadFault.{DownloadFault}
 use Rattle.unit_download.specs.declared.fault.DownloadFault.TheVariants as download
 use Rattle.demo_trace.specs.declared.trace.TheConstants.{FIRST_SECOND}
 use Rattle.demo_trace.specs.Demo.{demo_items}
-use Rattle.demo_run.specs.declared.anew.AnewFault.{AnewFault}
-use Rattle.demo_run.specs.declared.anew.AnewFault.TheVariants.{Unmade, Kept}
-use Rattle.demo_run.specs.Anew.{MayBeAnew, EndsAnew}
+use Rattle.tacho.specs.declared.anew.AnewFault.{AnewFault}
+use Rattle.tacho.specs.declared.anew.AnewFault.TheVariants.{Unmade, Kept}
+use Rattle.tacho.specs.Anew.{MayBeAnew, EndsAnew}
 use Rattle.demo_file.specs.declared.measuring.FileSize.{FileSize}
 use Rattle.demo_file.specs.Measures.{IsSizeOf}
 use Rattle.tacho.specs.declared.demo_command.TheConstants.{VEHICLE, CARD}

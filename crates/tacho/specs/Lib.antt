@@ -1,3 +1,4 @@
+pub mod Anew
 pub mod Texts
 pub mod Forms
 pub mod Feeding

@@ -11,13 +11,13 @@ ghost use Rattle.tacho.specs.Formatting.{IsCard};
 ghost use Rattle.tacho.specs.Outcomes.{IsEmpty};
 ghost use Rattle.tacho.specs.Demo.{demo_text as text_of_demo, refusal_anew, refusal_of_file, EndsDemo};
 
+use crate::anew::{AnewFault, run_anew};
 use crate::end::Fault;
 use crate::outcome_text::demo_text;
 use crate::record_command::refusal_with_cards;
 use card_files::{CardIdentity, blank_card};
 use card_layout::LARGEST;
 use demo_file::{FileSize, measure};
-use demo_run::{AnewFault, run_anew};
 use demo_trace::demo_trace;
 use downloader::Downloader;
 use run_model::Device;

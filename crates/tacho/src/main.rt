@@ -4,6 +4,7 @@
 
 ghost use Rattle.tach_media.specs.Medium.{IsUntouched};
 
+mod anew;
 mod card_command;
 mod demo_command;
 mod download_command;

@@ -21,8 +21,8 @@ use Rattle.recorder_with_cards.proofs.Goes.{card-or-other, others-session, both-
 use Rattle.std.specs.Prelude.{is_err}
 use Rattle.tach_media.specs.Medium.{State}
 use Rattle.run_told.specs.Told.{arranged}
-use Rattle.run_entered.specs.Entered.{MayJudge, HasGone, AreSound}
-use Rattle.run_entered.proofs.Whole.{entered-recorded}
+use Rattle.run_acts.specs.Entered.{MayJudge, HasGone, AreSound}
+use Rattle.run_acts.proofs.EnteredWhole.{entered-recorded}
 use Rattle.run_acts.specs.declared.run.Run.{Run}
 use Rattle.recorder_with_cards.proofs.Judged.{mine-time, found-by, judged-by, judged-noting}
 use Rattle.recorder_with_cards.proofs.NoSession.{seat-answers}

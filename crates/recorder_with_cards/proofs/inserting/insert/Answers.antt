@@ -22,8 +22,8 @@ use Rattle.run_acts.specs.Recording.{GoesOnOrCut}
 use Rattle.run_acts.specs.Settling.{RecordsSettling}
 use Rattle.recorder_with_cards.proofs.Inserted.{unsettled, inserted}
 use Rattle.tach_media.specs.Medium.{State}
-use Rattle.noted_events.specs.Noted.{NotesEvents}
-use Rattle.noted_events.proofs.Noted.{then-noted}
+use Rattle.run_acts.specs.NotedEvents.{NotesEvents}
+use Rattle.run_acts.proofs.NotedEvents.{then-noted}
 use Rattle.run_acts.specs.Faults.{NotesSettling}
 use Rattle.recorder_with_cards.specs.Accepting.{put_run}
 use Rattle.recorder_with_cards.proofs.WakeNoted.{settles-these, anew-these}

@@ -32,8 +32,8 @@ use Rattle.run_acts.specs.Recording.{GoesOnOrCut}
 use Rattle.recorder_with_cards.specs.Judged.{moment_in}
 use Rattle.recorder_with_cards.proofs.Resumed.{RunWaking, waiting_in, at-once, wholes-of, kept-of, same-devices, awake, unmended, driver-judged, codriver-judged}
 use Rattle.event_model.specs.Spans.{gap_of}
-use Rattle.noted_events.specs.Noted.{NotesEvents}
-use Rattle.noted_events.proofs.Noted.{then-noted}
+use Rattle.run_acts.specs.NotedEvents.{NotesEvents}
+use Rattle.run_acts.proofs.NotedEvents.{then-noted}
 use Rattle.run_acts.specs.Acting.{now_moment}
 use Rattle.run_acts.specs.Noting.{AreGapEvents}
 use Rattle.recorder_with_cards.specs.Noting.{Unmended, AtDriver, AtCoDriver, NoneBefore, AtGap, HasBegunSpan}

@@ -20,8 +20,8 @@ use Rattle.unit_notes.specs.Entries.{fault_bytes}
 use Rattle.unit_notes.specs.Noting.{IsEventNoted, IsNotingEvent}
 use Rattle.run_crew.specs.declared.cards.Crew.{Crew}
 use Rattle.run_notes.specs.Entries.{entry_of}
-use Rattle.noted_events.specs.Noted.{NotesEvents}
-use Rattle.noted_events.proofs.Noted.{one-noted, same-noted, then-noted}
+use Rattle.run_acts.specs.NotedEvents.{NotesEvents}
+use Rattle.run_acts.proofs.NotedEvents.{one-noted, same-noted, then-noted}
 use Rattle.log_model.specs.Log.{In}
 use Rattle.run_rule.specs.Between.{devices}
 use Rattle.run_acts.specs.Recording.{GoesOnOrCut}

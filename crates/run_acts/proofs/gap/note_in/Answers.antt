@@ -25,7 +25,7 @@ use Rattle.std.specs.Prelude.{is_err}
 use Rattle.run_acts.proofs.NoteRecorded.{noted-some}
 use Rattle.run_rule.specs.Between.{devices}
 use Rattle.run_acts.specs.Noting.{fall_events}
-use Rattle.noted_events.proofs.Noted.{same-noted, noted-any}
+use Rattle.run_acts.proofs.NotedEvents.{same-noted, noted-any}
 use Rattle.run_acts.proofs.gap.note_in.Goals as goal
 
 -- ---- card a

@@ -21,7 +21,7 @@ use Rattle.unit_notes.specs.Noting.{IsEventNoted, IsNotingEvent}
 use Rattle.run_notes.specs.Entries.{entry_of}
 use Rattle.run_rule.specs.Between.{devices}
 use Rattle.run_keeping.specs.Keeping.{fault_of}
-use Rattle.noted_events.proofs.Noted.{one-noted, same-noted, noted-any}
+use Rattle.run_acts.proofs.NotedEvents.{one-noted, same-noted, noted-any}
 use Rattle.run_acts.specs.Acting.{IsNotedOn}
 use Rattle.run_acts.proofs.gap.note_on.Goals as goal
 

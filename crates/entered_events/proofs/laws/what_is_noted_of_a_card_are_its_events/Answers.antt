@@ -1,5 +1,0 @@
-use Rattle.entered_events.proofs.Told.{events-told}
-use Rattle.entered_events.proofs.laws.what_is_noted_of_a_card_are_its_events.Goals as goal
-
-pub returns : goal.returns
-returns c = λ number second low e at ending noted cabin before accepted left small named. events-told number second low e at ending noted cabin before accepted left small named

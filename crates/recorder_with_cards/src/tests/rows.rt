@@ -1,0 +1,176 @@
+//! Worked runs.
+use crate::tests::devices::{Devices, Stops, calls_of, card, new_devices, record};
+use crate::tests::reading::{told_by_card, told_by_unit};
+use crate::{Break, Find, Mark, Outcome, Verdict};
+use activity_codec::Slot;
+use card_layout::{Fid, LARGEST_IMAGE};
+use run_model::Device;
+use std::alloc::Global;
+use std::process::Abort;
+use std::rt::HostRuntime;
+use std::test::Fail;
+use tach_media::{Chip, Left, Stop};
+
+/// 2010-03-01 00:00, and its minute.
+const T0: u32 = 1267401600;
+
+const M0: u32 = 21123360;
+
+/// How many minutes a device has acknowledged.
+fn marks_of(outcome: &Outcome, device: Device) -> usize {
+    let mut count = 0;
+    for i in 0..outcome.marks.len() {
+        if outcome.marks.get(i).device == device {
+            count = usize::saturating_add(count, 1);
+        }
+    }
+    count
+}
+
+/// How many entries the last find has put on its card.
+fn replayed(outcome: &Outcome) -> Option<u8> {
+    let count = outcome.finds.len();
+    if count == 0 {
+        return None;
+    }
+    match outcome.finds.get(count - 1).verdict {
+        Verdict::Accepted { replayed } => Some(replayed),
+        Verdict::NotValid { .. } | Verdict::TimeOverlap { .. } => None,
+    }
+}
+
+/// An hour of driving with a card.
+#[test]
+fn a_driver(rt: HostRuntime) -> Result<(), Fail> {
+    let alloc = rt.alloc();
+    let mut d = new_devices(alloc, Stops::none(alloc))?;
+    let text = b"start 1267401600\ninsert driver a\nrun 60 0\nrun 3540 50\n";
+    let (ended, outcome) = record(alloc, text, &mut d.unit, &mut d.card_a, &mut d.card_b)?;
+    assert_eq!(rt; ended, Ok(()));
+    assert_eq!(rt; marks_of(&outcome, Device::Unit), 58);
+    assert_eq!(rt; marks_of(&outcome, Device::CardA), 58);
+    assert_eq!(rt; outcome.marks.len(), 116);
+    assert_eq!(rt; (outcome.breaks.len(), outcome.refused.len()), (0, 0));
+    let unit = told_by_unit(alloc, &mut d.unit, T0)?;
+    assert!(rt; unit.words.as_slice() == [0x0000u16, 0xA000, 0x1801, 0xA801].as_slice());
+    let card = told_by_card(alloc, &mut d.card_a)?;
+    assert!(rt; card.words.as_slice() == [0x0000u16, 0x1801].as_slice());
+    assert_eq!(rt; (unit.last, card.last), (M0 + 57, M0 + 57));
+    Ok(())
+}
+
+/// An image of zeros is no card: that is found, and nothing is written on it.
+#[test]
+fn a_card_of_zeros(rt: HostRuntime) -> Result<(), Fail> {
+    let alloc = rt.alloc();
+    let mut d = new_devices(alloc, Stops::none(alloc))?;
+    let zeros = vec![in alloc; 0u8; LARGEST_IMAGE as usize]?;
+    d.card_a = card(alloc, zeros, Vec::new(alloc))?;
+    let text = b"start 1267401600\ninsert driver a\nrun 240 0\n";
+    let (ended, outcome) = record(alloc, text, &mut d.unit, &mut d.card_a, &mut d.card_b)?;
+    assert_eq!(rt; ended, Ok(()));
+    assert_eq!(rt; outcome.finds.len(), 1);
+    let find = Find {
+        second: T0,
+        slot: Slot::Driver,
+        verdict: Verdict::NotValid {
+            fid: Fid::APPLICATION,
+            place: 0,
+        },
+        begun: 1,
+    };
+    assert_eq!(rt; *outcome.finds.get(0), find);
+    assert_eq!(rt; d.card_a.clock(), 0);
+    assert_eq!(rt; marks_of(&outcome, Device::Unit), outcome.marks.len());
+    Ok(())
+}
+
+/// The calls of the second before T0 + 240 of a drive with a card, in which its first minute of driving is kept.
+const BEFORE: &[u8] = b"start 1267401600\ninsert driver a\nrun 60 0\nrun 179 50\n";
+
+const BEHIND: &[u8] = b"start 1267401600\ninsert driver a\nrun 60 0\nrun 180 50\n";
+
+/// The card is stopped in the keeping of a minute, and put in again: what it lacks is put on it. Only behind the last write it has the minute.
+fn torn_in_keeping(rt: &(impl Abort + AllocGlobal), left: Left) -> Result<(), Fail> {
+    let alloc = rt.alloc();
+    let from = calls_of(alloc, BEFORE)?.card_a;
+    let to = calls_of(alloc, BEHIND)?.card_a;
+    let text =
+        b"start 1267401600\ninsert driver a\nrun 60 0\nrun 300 50\ninsert driver a\nrun 60 0\n";
+    assert!(rt; from < to);
+    for call in from..to {
+        let mut stops = Stops::none(alloc);
+        stops.card_a.push(Stop { call, left })?;
+        let mut d = new_devices(alloc, stops)?;
+        let (ended, outcome) = record(alloc, text, &mut d.unit, &mut d.card_a, &mut d.card_b)?;
+        assert_eq!(rt; ended, Ok(()));
+        let tear = Break::Tear {
+            second: T0 + 239,
+            slot: Slot::Driver,
+            failed: true,
+            begun: 0,
+            late: true,
+        };
+        assert_eq!(rt; outcome.breaks.len(), 1);
+        assert_eq!(rt; *outcome.breaks.get(0), tear);
+        let has_it = left == Left::After && call == to - 1;
+        let (kept, put) = if has_it { (2, 1) } else { (3, 2) };
+        assert_eq!(rt; marks_of(&outcome, Device::Unit), 6);
+        assert_eq!(rt; marks_of(&outcome, Device::CardA), kept);
+        assert_eq!(rt; replayed(&outcome), Some(put));
+        let card = told_by_card(alloc, &mut d.card_a)?;
+        assert!(rt; card.words.as_slice() == [0x0000u16, 0x1801, 0x2003].as_slice());
+    }
+    Ok(())
+}
+
+#[test]
+fn a_card_that_is_stopped_before_a_write(rt: HostRuntime) -> Result<(), Fail> {
+    torn_in_keeping(&rt, Left::Before)
+}
+
+#[test]
+fn a_card_that_is_stopped_behind_a_write(rt: HostRuntime) -> Result<(), Fail> {
+    torn_in_keeping(&rt, Left::After)
+}
+
+/// The unit is stopped behind a write of the keeping of a minute: the power-on finds the old mark, or behind the last write the new one, and the
+/// entry that the card lacks then is put on it.
+#[test]
+fn a_unit_that_is_stopped_behind_a_write(rt: HostRuntime) -> Result<(), Fail> {
+    let alloc = rt.alloc();
+    let from = calls_of(alloc, BEFORE)?.unit;
+    let to = calls_of(alloc, BEHIND)?.unit;
+    let text = b"start 1267401600\ninsert driver a\nrun 60 0\nrun 300 50\n";
+    assert!(rt; from < to);
+    for call in from..to {
+        let mut stops = Stops::none(alloc);
+        stops.unit.push(Stop {
+            call,
+            left: Left::After,
+        })?;
+        let mut d = new_devices(alloc, stops)?;
+        let (ended, outcome) = record(alloc, text, &mut d.unit, &mut d.card_a, &mut d.card_b)?;
+        assert_eq!(rt; ended, Ok(()));
+        let found = u8::from(call == to - 1);
+        let cut = Break::Cut {
+            second: T0 + 239,
+            kept: M0 + found as u32,
+            failed: true,
+            begun: 0,
+        };
+        assert_eq!(rt; outcome.breaks.len(), 1);
+        assert_eq!(rt; *outcome.breaks.get(0), cut);
+        assert_eq!(rt; marks_of(&outcome, Device::Unit), 1);
+        assert_eq!(rt; marks_of(&outcome, Device::CardA), 1 + found as usize);
+        assert_eq!(rt; replayed(&outcome), Some(found));
+        let card = told_by_card(alloc, &mut d.card_a)?;
+        let words = card.words.as_slice();
+        if found == 1 {
+            assert!(rt; words == [0x0000u16, 0x1801, 0x2002].as_slice());
+        } else {
+            assert!(rt; words == [0x0000u16, 0x2001].as_slice());
+        }
+    }
+    Ok(())
+}

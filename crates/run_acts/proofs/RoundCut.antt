@@ -1,0 +1,288 @@
+-- The unit fails in the keeping of minutes: the record where the power is about to be cut.
+use Rattle.std.proofs.Common.{◌≡◌, ◌⊎◌, inl, inr, ⊎_elim, ℕ, zero, suc, ◌+◌, ◌*◌, ◌/◌, ◌≤◌, ◌<◌, Bool, true, false, Option, Some, None, List, [], ◌∷◌, ◌++◌, All, Contains, length, map, refl, ap, sym, subst, ◌∙◌, arith}
+use Rattle.std.proofs.lemmas.List.Elements.{All-head}
+use Rattle.trace_model.specs.declared.Card.{Card}
+use Rattle.trace_model.specs.Trace.{TraceSecond}
+use Rattle.run_model.specs.declared.Device.{Device}
+use Rattle.run_model.specs.declared.Device.TheVariants.{Unit as Recorder}
+use Rattle.minute_model.specs.declared.Minute.{Minute}
+use Rattle.log_model.specs.declared.lines.Mark.{Mark}
+use Rattle.log_model.specs.Log.{RunLog}
+use Rattle.log_model.specs.Causes.{RoseBy}
+use Rattle.log_model.specs.Course.{Course}
+use Rattle.history_model.specs.Minutes.{HistoryMinute}
+use Rattle.history_model.specs.History.{seated}
+use Rattle.history_model.specs.Book.{Book, kept, broken}
+use Rattle.unit_course.specs.Legs.{Travel, travelled, stranded, all_travelled}
+use Rattle.unit_model.specs.Image.{odometer_at}
+use Rattle.unit_rule.specs.Odometer.{HasTravelled}
+use Rattle.safety_model.specs.Safe.{Devices, breakdowns_of}
+use Rattle.run_rule.specs.Between.{Carried}
+use Rattle.run_course.specs.Seconds.{kept_all}
+use Rattle.run_moments.proofs.Kept.{one-travelled}
+use Rattle.run_told.specs.Told.{IsPowerless}
+use Rattle.run_recorded.specs.Origin.{Origin, start_at}
+use Rattle.run_keeping.specs.Minutes.{Round, Told, Done, AreRounds, IsLast, told_by, told_after, present_at}
+use Rattle.run_keeping.specs.Books.{carried_after, carried_broken}
+use Rattle.run_keeping.specs.Decided.{carried_by, decided_minute}
+use Rattle.run_keeping.proofs.MarksBooked.{marks-by, marks-one}
+use Rattle.run_within.specs.Recorded.{Values, carried}
+use Rattle.run_within.specs.Within.{told_before, course_in, CutWithin}
+use Rattle.run_acts.specs.Rounds.{Point, told_values, moment_of, HaveBroken, Slate, SoFar}
+use Rattle.run_acts.specs.RoundLaws.{InRounds, carried_at, KeepsSo, travelled_at, HasBrokenLast, TheKeepingFails}
+use Rattle.run_acts.proofs.RoundReached.{Through, one-on, first-number}
+use Rattle.run_acts.proofs.Round.{minute-is}
+use Rattle.run_acts.proofs.RoundBegun.{outset}
+use Rattle.run_acts.proofs.RoundWhole.{through, verdicts-so, finds-so, spared-so}
+
+rose-since : (before mid now : ℕ) → before ≤ mid → RoseBy 1 mid now → RoseBy 1 before now
+rose-since before mid now le (inl low) = inl (omega (arith, le, low))
+rose-since before mid now le (inr top) = inr top
+
+module _ (o : Origin) (done : List TraceSecond) (s : TraceSecond) (q : Point) (all : List Minute) (t : Told) (v : Values) (d e : Devices) (w : InRounds o done s q all t v d) (k : KeepsSo o done s q all t v d e w)
+    (xs : List Done) (m : Minute) (rest : List Minute) (split : all ≡ map (λ (x : Done). x.minute) xs ++ m ∷ rest) (rounds : AreRounds t.keeper (moment_of s q) xs t) (broken_ : HaveBroken t.keeper xs (breakdowns_of d) (breakdowns_of e))
+    (rose : RoseBy 1 (breakdowns_of d Recorder) (breakdowns_of e Recorder)) where
+  abbrev before : Carried
+  before = carried_by t.keeper xs (carried_at o done s q all t v d w)
+
+  abbrev u : Told
+  u = told_by t.keeper (moment_of s q) xs t
+
+  abbrev c : Course
+  c = course_in w.b done s q.at (told_values t v).log
+
+  abbrev i : HistoryMinute
+  i = decided_minute t.keeper m
+
+  th : Through o done s q w.b (outset o done s q all t v d w) (breakdowns_of d) (breakdowns_of e) t.keeper w.sp v t.marks.items c w.brought k.few k.two xs (m ∷ rest) t (carried_at o done s q all t v d w) w.ds w.new w.from
+  th = through o done s q all t v d e w k xs (m ∷ rest) split rounds broken_
+
+  here : m.minute ≡ th.from_now
+  here = (first-number m rest th.from_now th.so.numbers).0
+
+  over : m.minute < s.number / 60
+  over = All-head (λ (x : Minute). x.minute < s.number / 60) m rest th.so.over
+
+  broke : RoseBy 1 (w.b.broken Recorder) (breakdowns_of e Recorder)
+  broke = rose-since (w.b.broken Recorder) (breakdowns_of d Recorder) (breakdowns_of e Recorder) w.moment.unit rose
+
+  marks-are : before.marks ≡ u.marks.items
+  marks-are = marks-by t.keeper (moment_of s q) xs t (carried_at o done s q all t v d w) refl
+
+  i-is : seated (start_at o) (told_before w.b done) (w.b.run.book.sure ++ th.new_now) m ≡ i
+  i-is = minute-is o done s q w.b (outset o done s q all t v d w) (breakdowns_of d) (breakdowns_of e) t.keeper m u (told_values u v).log before.standing th.new_now
+      (subst (λ (n : ℕ). Slate o done s q w.b (outset o done s q all t v d w) n (w.b.run.book.sure ++ th.new_now) (told_values u v).log before.standing u.keeper.cabin (breakdowns_of d) (breakdowns_of e)) (sym here) th.so.slate) th.so.past over
+
+  abbrev g : Travel
+  g = travelled_at o done s q all t v d w xs
+
+  -- not begun
+  pub cut-none : IsPowerless o.found before e → HasTravelled (odometer_at o.recording.unit) before.book g e.unit → CutWithin o done s q.at q.waits q.speed (told_values u v) e
+  cut-none powerless travels = record {
+    b = w.b;
+    lit = w.lit;
+    began = w.began;
+    unfound = w.unfound;
+    next = w.next;
+    counted = th.so.slate.now;
+    moment = th.so.slate.moment;
+    rise = th.so.slate.rise;
+    broke = broke;
+    sp = w.sp;
+    ds = th.ds_now;
+    lost = None;
+    rest = m ∷ rest;
+    new = th.new_now;
+    decided = th.so.decided;
+    fed = k.point.unfed;
+    kept = k.point.feeds;
+    from = th.from_now;
+    kept_to = th.so.to;
+    stay = λ mark at. th.so.stay mark (w.stay mark at);
+    due = before.due;
+    standing = before.standing;
+    brought = before.brought;
+    powerless = subst (λ (bk : Book). IsPowerless o.found (carried (told_values u v) before.due bk before.standing before.brought) e) th.so.book
+        (subst (λ (ms : List Mark). IsPowerless o.found (record before { marks = ms }) e) marks-are powerless);
+    found = th.so.found;
+    early = th.so.early;
+    late = let due = th.so.due in omega (arith, due, over, here);
+    low = omega (arith, over, here);
+    more = λ card n at. subst (λ (br : Card → List ℕ). Contains (br card) n) (sym th.so.brought_is) (w.more card n at);
+    tells = th.so.slate.tells;
+    verdicts = verdicts-so o done s q all t v d e w k;
+    there = k.goes.there w.there;
+    few = w.few;
+    finds = finds-so o done s q all t v d e w k (course_in w.b done s q.at (told_values u v).log) th.from_now th.new_now before.brought th.so.same th.so.brought_is (λ late. let n = th.none late in let is = n.1 in (n.0, omega (arith, is)));
+    spared = spared-so o done s q all t v d e w k (course_in w.b done s q.at (told_values u v).log) u.keeper.cabin.slots th.so.same th.so.slate.stays;
+    travels = subst (λ (bk : Book). HasTravelled (odometer_at o.recording.unit) bk (all_travelled th.ds_now w.b.travel) e.unit) th.so.book
+        (subst (λ (h : Travel). HasTravelled (odometer_at o.recording.unit) before.book h e.unit) (sym th.travel) travels);
+  }
+
+  -- begun
+  pub cut-begun : IsPowerless o.found (carried_broken i before) e → HasTravelled (odometer_at o.recording.unit) (broken i before.book) (stranded m.travelled g) e.unit → CutWithin o done s q.at q.waits q.speed (told_values u v) e
+  cut-begun powerless travels = record {
+    b = w.b;
+    lit = w.lit;
+    began = w.began;
+    unfound = w.unfound;
+    next = w.next;
+    counted = th.so.slate.now;
+    moment = th.so.slate.moment;
+    rise = th.so.slate.rise;
+    broke = broke;
+    sp = w.sp;
+    ds = th.ds_now;
+    lost = Some m;
+    rest = rest;
+    new = th.new_now;
+    decided = th.so.decided;
+    fed = k.point.unfed;
+    kept = k.point.feeds;
+    from = th.from_now;
+    kept_to = th.so.to;
+    stay = λ mark at. th.so.stay mark (w.stay mark at);
+    due = suc m.minute;
+    standing = before.standing;
+    brought = before.brought;
+    powerless = subst (λ (j : HistoryMinute). IsPowerless o.found (carried (told_values u v) (suc m.minute) (broken j (kept_all th.new_now w.b.run.book)) before.standing before.brought) e) (sym i-is)
+        (subst (λ (bk : Book). IsPowerless o.found (carried (told_values u v) (suc m.minute) (broken i bk) before.standing before.brought) e) th.so.book
+        (subst (λ (ms : List Mark). IsPowerless o.found (record (carried_broken i before) { marks = ms }) e) marks-are powerless));
+    found = th.so.found;
+    early = λ card n at. let lt = th.so.early card n at in let due = th.so.due in omega (arith, lt, due, here);
+    late = omega (arith, over);
+    low = omega (arith, over, here);
+    more = λ card n at. subst (λ (br : Card → List ℕ). Contains (br card) n) (sym th.so.brought_is) (w.more card n at);
+    tells = th.so.slate.tells;
+    verdicts = verdicts-so o done s q all t v d e w k;
+    there = k.goes.there w.there;
+    few = w.few;
+    finds = finds-so o done s q all t v d e w k (course_in w.b done s q.at (told_values u v).log) th.from_now th.new_now before.brought th.so.same th.so.brought_is (λ late. let n = th.none late in let is = n.1 in (n.0, omega (arith, is)));
+    spared = spared-so o done s q all t v d e w k (course_in w.b done s q.at (told_values u v).log) u.keeper.cabin.slots th.so.same th.so.slate.stays;
+    travels = subst (λ (j : HistoryMinute). HasTravelled (odometer_at o.recording.unit) (broken j (kept_all th.new_now w.b.run.book)) (stranded m.travelled (all_travelled th.ds_now w.b.travel)) e.unit) (sym i-is)
+        (subst (λ (bk : Book). HasTravelled (odometer_at o.recording.unit) (broken i bk) (stranded m.travelled (all_travelled th.ds_now w.b.travel)) e.unit) th.so.book
+        (subst (λ (h : Travel). HasTravelled (odometer_at o.recording.unit) (broken i before.book) (stranded m.travelled h) e.unit) (sym th.travel) travels));
+  }
+
+  -- it is kept, and the unit failed as it noted the fault of a card
+  module _ (round : Round) (last_one : IsLast t.keeper m (moment_of s q) u (told_after (present_at t.keeper.cabin m.minute) m.minute (moment_of s q) round u) (Some round))
+      (more_broken : HasBrokenLast t.keeper m (Some round) (breakdowns_of d) (breakdowns_of e)) where
+    abbrev x : Told
+    x = told_after (present_at t.keeper.cabin m.minute) m.minute (moment_of s q) round u
+
+    abbrev behind : Carried
+    behind = carried_after (present_at t.keeper.cabin m.minute) i round before
+
+    so : SoFar o done s q w.b (outset o done s q all t v d w) (breakdowns_of d) (breakdowns_of e) t.keeper w.sp v t.marks.items c w.brought x behind (th.ds_now ++ m ∷ []) rest (th.new_now ++ i ∷ []) (suc th.from_now)
+    so = one-on o done s q w.b (outset o done s q all t v d w) (breakdowns_of d) (breakdowns_of e) t.keeper w.sp v t.marks.items c w.brought k.few k.two m rest round true u before th.ds_now th.new_now th.from_now th.so last_one.0 more_broken.0 more_broken.1
+
+    pub cut-kept : IsPowerless o.found behind e → HasTravelled (odometer_at o.recording.unit) (kept i before.book) (travelled m.travelled g) e.unit → CutWithin o done s q.at q.waits q.speed (told_values x v) e
+    cut-kept powerless travels = record {
+      b = w.b;
+      lit = w.lit;
+      began = w.began;
+      unfound = w.unfound;
+      next = w.next;
+      counted = so.slate.now;
+      moment = so.slate.moment;
+      rise = so.slate.rise;
+      broke = broke;
+      sp = w.sp;
+      ds = th.ds_now ++ m ∷ [];
+      lost = None;
+      rest = rest;
+      new = th.new_now ++ i ∷ [];
+      decided = so.decided;
+      fed = k.point.unfed;
+      kept = k.point.feeds;
+      from = suc th.from_now;
+      kept_to = so.to;
+      stay = λ mark at. so.stay mark (w.stay mark at);
+      due = behind.due;
+      standing = behind.standing;
+      brought = behind.brought;
+      powerless = subst (λ (bk : Book). IsPowerless o.found (carried (told_values x v) behind.due bk behind.standing behind.brought) e) so.book
+          (subst (λ (ms : List Mark). IsPowerless o.found (record behind { marks = ms }) e) (marks-one t.keeper (moment_of s q) m round u before marks-are) powerless);
+      found = so.found;
+      early = so.early;
+      late = omega (arith, over);
+      low = omega (arith, over, here);
+      more = λ card n at. subst (λ (br : Card → List ℕ). Contains (br card) n) (sym so.brought_is) (w.more card n at);
+      tells = so.slate.tells;
+      verdicts = verdicts-so o done s q all t v d e w k;
+      there = k.goes.there w.there;
+      few = w.few;
+      finds = finds-so o done s q all t v d e w k (course_in w.b done s q.at (told_values x v).log) (suc th.from_now) (th.new_now ++ i ∷ []) behind.brought so.same so.brought_is
+          (λ late. let n = th.none late in let is = n.1 in absurd (omega (arith, late, is, over, here)));
+      spared = spared-so o done s q all t v d e w k (course_in w.b done s q.at (told_values x v).log) x.keeper.cabin.slots so.same so.slate.stays;
+      travels = subst (λ (bk : Book). HasTravelled (odometer_at o.recording.unit) bk (all_travelled (th.ds_now ++ m ∷ []) w.b.travel) e.unit) so.book
+          (subst (λ (h : Travel). HasTravelled (odometer_at o.recording.unit) behind.book h e.unit) (sym (one-travelled th.ds_now m w.b.travel ∙ ap (travelled m.travelled) th.travel)) travels);
+    }
+
+-- behind all of them, as in the note of an event
+module _ (o : Origin) (done : List TraceSecond) (s : TraceSecond) (q : Point) (all : List Minute) (t : Told) (v : Values) (d e : Devices) (w : InRounds o done s q all t v d) (k : KeepsSo o done s q all t v d e w)
+    (xs : List Done) (split : all ≡ map (λ (x : Done). x.minute) xs ++ []) (rounds : AreRounds t.keeper (moment_of s q) xs t) (broken_ : HaveBroken t.keeper xs (breakdowns_of d) (breakdowns_of e))
+    (rose : RoseBy 1 (breakdowns_of d Recorder) (breakdowns_of e Recorder)) (low : w.from + length all ≤ s.number / 60) where
+  abbrev all_ : Carried
+  all_ = carried_by t.keeper xs (carried_at o done s q all t v d w)
+
+  abbrev end : Told
+  end = told_by t.keeper (moment_of s q) xs t
+
+  thr : Through o done s q w.b (outset o done s q all t v d w) (breakdowns_of d) (breakdowns_of e) t.keeper w.sp v t.marks.items (course_in w.b done s q.at (told_values t v).log) w.brought k.few k.two xs [] t (carried_at o done s q all t v d w) w.ds w.new w.from
+  thr = through o done s q all t v d e w k xs [] split rounds broken_
+
+  low-now : thr.from_now ≤ s.number / 60
+  low-now = let to = thr.so.ends in omega (arith, to, low)
+
+  pub cut-behind : IsPowerless o.found all_ e → HasTravelled (odometer_at o.recording.unit) all_.book (travelled_at o done s q all t v d w xs) e.unit → CutWithin o done s q.at q.waits q.speed (told_values end v) e
+  cut-behind powerless travels = record {
+    b = w.b;
+    lit = w.lit;
+    began = w.began;
+    unfound = w.unfound;
+    next = w.next;
+    counted = thr.so.slate.now;
+    moment = thr.so.slate.moment;
+    rise = thr.so.slate.rise;
+    broke = rose-since (w.b.broken Recorder) (breakdowns_of d Recorder) (breakdowns_of e Recorder) w.moment.unit rose;
+    sp = w.sp;
+    ds = thr.ds_now;
+    lost = None;
+    rest = [];
+    new = thr.new_now;
+    decided = thr.so.decided;
+    fed = k.point.unfed;
+    kept = k.point.feeds;
+    from = thr.from_now;
+    kept_to = thr.so.to;
+    stay = λ mark at. thr.so.stay mark (w.stay mark at);
+    due = all_.due;
+    standing = all_.standing;
+    brought = all_.brought;
+    powerless = subst (λ (bk : Book). IsPowerless o.found (carried (told_values end v) all_.due bk all_.standing all_.brought) e) thr.so.book
+        (subst (λ (ms : List Mark). IsPowerless o.found (record all_ { marks = ms }) e) (marks-by t.keeper (moment_of s q) xs t (carried_at o done s q all t v d w) refl) powerless);
+    found = thr.so.found;
+    early = thr.so.early;
+    late = let due = thr.so.due in let le = low-now in omega (arith, due, le);
+    low = low-now;
+    more = λ card n at. subst (λ (br : Card → List ℕ). Contains (br card) n) (sym thr.so.brought_is) (w.more card n at);
+    tells = thr.so.slate.tells;
+    verdicts = verdicts-so o done s q all t v d e w k;
+    there = k.goes.there w.there;
+    few = w.few;
+    finds = finds-so o done s q all t v d e w k (course_in w.b done s q.at (told_values end v).log) thr.from_now thr.new_now all_.brought thr.so.same thr.so.brought_is (λ late. let n = thr.none late in let is = n.1 in (n.0, omega (arith, is)));
+    spared = spared-so o done s q all t v d e w k (course_in w.b done s q.at (told_values end v).log) end.keeper.cabin.slots thr.so.same thr.so.slate.stays;
+    travels = subst (λ (bk : Book). HasTravelled (odometer_at o.recording.unit) bk (all_travelled thr.ds_now w.b.travel) e.unit) thr.so.book
+        (subst (λ (h : Travel). HasTravelled (odometer_at o.recording.unit) all_.book h e.unit) (sym thr.travel) travels);
+  }
+
+-- ALL OF IT
+pub keeping-fails : (d e : Devices) → TheKeepingFails d e
+keeping-fails d e o done s q all t u v w k xs m rest None split rounds broken_ last_one more rose (inl cut) =
+    subst (λ (y : Told). CutWithin o done s q.at q.waits q.speed (told_values y v) e) (sym last_one) (cut-none o done s q all t v d e w k xs m rest split rounds broken_ rose cut.0 cut.1)
+keeping-fails d e o done s q all t u v w k xs m rest None split rounds broken_ last_one more rose (inr cut) =
+    subst (λ (y : Told). CutWithin o done s q.at q.waits q.speed (told_values y v) e) (sym last_one) (cut-begun o done s q all t v d e w k xs m rest split rounds broken_ rose cut.0 cut.1)
+keeping-fails d e o done s q all t u v w k xs m rest (Some round) split rounds broken_ last_one more rose cut =
+    subst (λ (y : Told). CutWithin o done s q.at q.waits q.speed (told_values y v) e) (sym last_one.1)
+    (cut-kept o done s q all t v d e w k xs m rest split rounds broken_ rose round (last_one.0, refl) more cut.0 cut.1)

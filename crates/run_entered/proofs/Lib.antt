@@ -1,9 +1,0 @@
-pub mod Travelled
-pub mod Facts
-pub mod Lines
-pub mod Turned
-pub mod Taken
-pub mod Newest
-pub mod Later
-pub mod Verdict
-pub mod Whole

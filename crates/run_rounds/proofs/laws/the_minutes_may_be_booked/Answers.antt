@@ -1,7 +1,0 @@
-use Rattle.run_rule.specs.Between.{devices}
-use Rattle.run_rounds.proofs.Begun.{may-book}
-use Rattle.run_rounds.proofs.laws.the_minutes_may_be_booked.Goals as goal
-
-pub returns : goal.returns
-returns g z = λ o done s q all t v w few over.
-    may-book o done s q all t v (devices (g.M.Medium.state z.args.unit.now) (g.C.Chip.state z.args.card_a.now) (g.D.Chip.state z.args.card_b.now)) w few over

@@ -1,0 +1,127 @@
+-- What was recorded stands where the unit is only read behind the run.
+use Rattle.std.proofs.Common.{◌≡◌, ◌≤◌, ◌-◌, ℕ, List, inl, inr, ⊎_elim, ◌⊎◌, arith, Bool}
+use Rattle.trace_model.specs.declared.Card.{Card}
+use Rattle.trace_model.specs.declared.Card.TheVariants.{A, B}
+use Rattle.trace_model.specs.declared.Item.{Item}
+use Rattle.run_model.specs.declared.Device.TheVariants.{Unit as Recorder}
+use Rattle.log_model.specs.declared.lines.Mark.{Mark}
+use Rattle.log_model.specs.declared.lines.Verdict.{Verdict}
+use Rattle.log_model.specs.declared.lines.Verdict.TheVariants.{Accepted, NotValid, TimeOverlap}
+use Rattle.log_model.specs.Causes.{RoseBy, device_of}
+use Rattle.history_model.specs.Minutes.{HistoryMinute}
+use Rattle.tach_media.specs.Medium.{State, LeavesOnly, Unchanged}
+use Rattle.unit_journal.specs.Reading.{ReadsIfAny}
+use Rattle.unit_model.specs.Days.{ShownDay}
+use Rattle.unit_model.specs.Image.{recorded}
+use Rattle.safety_model.specs.Recording.{Recording, history_of, lost_of}
+use Rattle.safety_model.specs.Unit.{UnitSafe, UnitMarkHolds}
+use Rattle.safety_model.specs.Cards.{CardSafe, Agree}
+use Rattle.safety_model.specs.Safe.{Devices, card_of, breakdowns_of, IsVerdict}
+use Rattle.run_rule.specs.Between.{devices}
+use Rattle.run_outcome.specs.declared.outcome.Outcome.{Outcome}
+use Rattle.recorder_with_cards.specs.Ends.{recording_of, EndsTrace}
+use Rattle.tacho.specs.Anew.{EndsAnew, began_at}
+
+-- a device was read, if at all
+pub record IsRead (old new : State) : Type 0 where
+  pub leaves : LeavesOnly old new Unchanged
+  pub clock : new.clock ≡ old.clock
+  pub breakdowns : old.breakdowns ≤ new.breakdowns
+
+pub is-read : (old new : State) (failed : Bool) → ReadsIfAny old new failed → IsRead old new
+is-read old new failed reads = ⊎_elim
+    (λ none. record { leaves = none.1.leaves; clock = none.1.clock; breakdowns = omega (arith, none.1.breakdowns) })
+    (λ some. record { leaves = some.leaves; clock = some.clock; breakdowns = some.cause.breakdowns }) reads
+
+module _ (U V : State) (is : IsRead U V) where
+  back : (t : ℕ) (c : List ℕ) → t ≤ U.clock → V.left_since t c → U.left_since t c
+  back t c low left = ⊎_elim (λ was. was) (λ new. absurd new.2) (is.leaves.since t c low left)
+
+  now-back : (c : List ℕ) → V.may_leave c → U.may_leave c
+  now-back c left = ⊎_elim (λ was. was) (λ new. absurd new.2) (is.leaves.now c left)
+
+  mark-read : (start : List ShownDay) (past : List HistoryMinute) (lost : List (List HistoryMinute)) (m : Mark) → UnitMarkHolds start past lost U m → UnitMarkHolds start past lost V m
+  mark-read start past lost m h = record {
+    i = h.i;
+    minute = h.minute;
+    stands = h.stands;
+    clock = omega (arith, h.clock, is.clock);
+    shown = λ x left. h.shown x (back m.clock x h.clock left);
+  }
+
+  unit-read : (start : List ShownDay) (past : List HistoryMinute) (lost : List (List HistoryMinute)) (marks : List Mark) (since : ℕ) → since ≤ U.clock → UnitSafe start past lost marks since U → UnitSafe start past lost marks since V
+  unit-read start past lost marks since low h = record {
+    minutes = λ x left. h.minutes x (back since x low left);
+    decodes = λ x left. h.decodes x (back since x low left);
+    in_order = h.in_order;
+    marked = λ m there. mark-read start past lost m (h.marked m there);
+  }
+
+  module _ (x a b : List ℕ) (start : ℕ) (items : List Item) (out : Outcome) (p : Devices) (Y Z : State) (before : p.unit.clock ≤ U.clock) where
+    abbrev r : Recording
+    r = recording_of x a b start items out
+
+    cards : (c : Card) → CardSafe r c out.marks.items (card_of p c).clock (card_of (devices U Y Z) c) → CardSafe r c out.marks.items (card_of p c).clock (card_of (devices V Y Z) c)
+    cards A h = h
+    cards B h = h
+
+    both-read : (c : Card) (u y : List ℕ) → (U.may_leave u → (card_of (devices U Y Z) c).may_leave y → Agree r c u y) → V.may_leave u → (card_of (devices V Y Z) c).may_leave y → Agree r c u y
+    both-read A u y h unit card = h (now-back u unit) card
+    both-read B u y h unit card = h (now-back u unit) card
+
+    rose-read : (n : ℕ) → RoseBy n (breakdowns_of p Recorder) U.breakdowns → RoseBy n (breakdowns_of p Recorder) V.breakdowns
+    rose-read n h = ⊎_elim (λ low. inl (omega (arith, low, is.breakdowns))) (λ top. inr (omega (arith, top, is.breakdowns))) h
+
+    torn-read : (c : Card) (n : ℕ) → RoseBy n (breakdowns_of p (device_of c)) (breakdowns_of (devices U Y Z) (device_of c)) → RoseBy n (breakdowns_of p (device_of c)) (breakdowns_of (devices V Y Z) (device_of c))
+    torn-read A n h = h
+    torn-read B n h = h
+
+    verdict-read : (c : Card) (u : ℕ) (v : Verdict) → IsVerdict r (U.left_since p.unit.clock) ((card_of (devices U Y Z) c).left_since (card_of p c).clock) c u v → IsVerdict r (V.left_since p.unit.clock) ((card_of (devices V Y Z) c).left_since (card_of p c).clock) c u v
+    verdict-read A u (Accepted n) h = (h.0, h.1, (h.2.0, h.2.1, is.leaves.keeps p.unit.clock h.2.0 before h.2.2, h.2.3, h.2.4, h.2.5))
+    verdict-read B u (Accepted n) h = (h.0, h.1, (h.2.0, h.2.1, is.leaves.keeps p.unit.clock h.2.0 before h.2.2, h.2.3, h.2.4, h.2.5))
+    verdict-read A u (NotValid fid place) h = h
+    verdict-read B u (NotValid fid place) h = h
+    verdict-read A u (TimeOverlap stored now) h = h
+    verdict-read B u (TimeOverlap stored now) h = h
+
+    pub ends-read : EndsTrace x a b start items out p (devices U Y Z) → EndsTrace x a b start items out p (devices V Y Z)
+    ends-read h =
+        let was = h.ends.caused.causes in
+        record {
+          may = h.may;
+          ends = record {
+            safe = record {
+              unit = unit-read (recorded r.unit) (history_of r) (lost_of r) out.marks.items p.unit.clock before h.ends.safe.unit;
+              card = λ c. cards c (h.ends.safe.card c);
+              both = λ c u y valid. both-read c u y (h.ends.safe.both c u y valid);
+            };
+            caused = record {
+              causes = record {
+                refused = was.refused;
+                cut_seconds = was.cut_seconds;
+                off_lines = was.off_lines;
+                failed_cuts = rose-read _ was.failed_cuts;
+                tear_lines = was.tear_lines;
+                failed_tears = was.failed_tears;
+                torn_cards = λ c. torn-read c _ (was.torn_cards c);
+                begun = was.begun;
+                finds = was.finds;
+                judged = was.judged;
+                verdicts = λ t e v told found. verdict-read e.card t.second.number v (was.verdicts t e v told found);
+              };
+              complete = h.ends.caused.complete;
+            };
+            odometer = λ y left. h.ends.odometer y (now-back y left);
+          };
+        }
+
+-- and so it is of what was recorded on new devices
+pub anew-read : (x a b : List ℕ) (start : ℕ) (items : List Item) (out : Outcome) (old : Devices) (U V Y Z : State) → IsRead U V → EndsAnew x a b start items out old (devices U Y Z) → EndsAnew x a b start items out old (devices V Y Z)
+anew-read x a b start items out old U V Y Z is h = record {
+  unit_clock = h.unit_clock;
+  card_clock = h.card_clock;
+  unit_later = h.unit_later;
+  card_later = h.card_later;
+  unit_before = omega (arith, h.unit_before, is.clock);
+  ends = ends-read U V is x a b start items out (began_at h.unit_clock h.card_clock old) Y Z h.unit_before h.ends;
+}

@@ -1,0 +1,51 @@
+-- A run of a trace on a unit and a card that are made new before it (profile).
+use Rattle.std.specs.Prelude.{◌≡◌, ◌≤◌, ℕ, List, true, is_some, All, ◌<◌}
+use Rattle.tach_media.specs.Medium.{State, Rose}
+use Rattle.trace_model.specs.declared.Item.{Item}
+use Rattle.unit_model.specs.NewImage.{new_image}
+use Rattle.unit_memory.specs.declared.format.Identity.{Identity}
+use Rattle.safety_model.specs.Safe.{Devices}
+use Rattle.run_rule.specs.Opening.{BeginsAs}
+use Rattle.run_opening.specs.Opening.{faults_of}
+use Rattle.run_opening.specs.declared.fault.RunFault.TheVariants.{MediumFault, BadUnit, ClockBack, SameCard}
+use Rattle.run_outcome.specs.declared.outcome.Outcome.{Outcome}
+use Rattle.recorder_with_cards.specs.Ends.{EndsTrace}
+use Rattle.tacho.specs.declared.anew.AnewFault.{AnewFault}
+use Rattle.tacho.specs.declared.anew.AnewFault.TheVariants.{Unmade, Kept}
+
+-- the image of a new unit of this identity
+abbrev pub unit_image : Identity → List ℕ
+unit_image vehicle = new_image vehicle.vin vehicle.registration.0 vehicle.limit
+
+-- a device once so many writes were begun
+abbrev pub at_clock : ℕ → State → State
+at_clock clock s = record s { clock = clock }
+
+-- the devices as the run began, at these clocks of the unit and of card a; as often as before each had broken down
+abbrev pub began_at : (unit_clock card_clock : ℕ) → Devices → Devices
+began_at unit_clock card_clock old = record { unit = at_clock unit_clock old.unit; card_a = at_clock card_clock old.card_a; card_b = old.card_b }
+
+-- Unit and card a tell an image, which goes, and card b began with this image alone.
+pub record MayBeAnew (card_b : List ℕ) (old : Devices) : Type 0 where
+  pub unit_tells : is_some old.unit.image ≡ true
+  pub card_tells : is_some old.card_a.image ≡ true
+  pub of_b : BeginsAs card_b old.card_b
+  pub bytes_b : All (λ n. n < 256) card_b
+
+-- THE TRACE WAS RECORDED on a new unit, a new card a, and card b, with these images: once those were made, at these clocks, all is recorded
+-- that a run promises.
+pub record EndsAnew (unit card_a card_b : List ℕ) (start : ℕ) (items : List Item) (out : Outcome) (old now : Devices) : Type 0 where
+  pub unit_clock : ℕ
+  pub card_clock : ℕ
+  pub unit_later : old.unit.clock ≤ unit_clock
+  pub card_later : old.card_a.clock ≤ card_clock
+  pub unit_before : unit_clock ≤ now.unit.clock
+  pub ends : EndsTrace unit card_a card_b start items out (began_at unit_clock card_clock old) now
+
+-- a device that is told to have failed has failed
+abbrev pub IsFailed : AnewFault → (old now : Devices) → Type 0
+IsFailed (Unmade device) old now = Rose (faults_of old device) (faults_of now device)
+IsFailed (Kept (MediumFault device)) old now = Rose (faults_of old device) (faults_of now device)
+IsFailed (Kept (BadUnit place)) old now = Unit {0}
+IsFailed (Kept (ClockBack kept second)) old now = Unit {0}
+IsFailed (Kept (SameCard number)) old now = Unit {0}
