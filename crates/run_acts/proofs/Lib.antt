@@ -39,6 +39,7 @@ pub mod Apart
 pub mod NoneComes
 pub mod Asked
 pub mod NotedOn
+pub mod ActsNoted
 pub mod NoteRecorded
 pub mod Pulled
 pub mod Closed
