@@ -70,5 +70,5 @@ pub record IsFollowed (start : Start) (x : List ℕ) (origin : ℕ) (items : Lis
   pub next : ℕ
   pub begun : ℕ
   pub course : Followed Original start origin (started x clock).first (seconds_of origin items) (progress o.breaks.items unfound next begun supply book)
-  -- each decided minute is acknowledged, but where a cut came in the second that decided it
-  pub complete : AreMarked Original (went (log_of o.breaks.items) (seconds_of origin items)).told o.marks.items
+  -- each decided minute is acknowledged, but where a call failed in the second that decided it
+  pub complete : AreMarked Original (log_of o.breaks.items) (seconds_of origin items) o.marks.items

@@ -130,8 +130,8 @@ loop-i-init g c =
             legs = subst (λ (ss : List TraceSecond). HasLegs Original (started x U.clock).first ss (progress c.args.outcome.now.breaks.items c.new-run.result.unfound c.new-run.result.next c.new-run.result.begun Awaited not_begun) not_travelled) (sym (seconds-none c.args.trace.now.start))
                 (legs-as (started x U.clock).first [] Awaited not_begun not_travelled (sym none) (sym c.new-run.ensures.unfound) (sym next) (sym c.new-run.ensures.begun)
                 (begins_leg Original (started x U.clock).first c.args.trace.now.start));
-            complete = subst (λ (ss : List TraceSecond). AreMarked Original (went (log_of c.args.outcome.now.breaks.items) ss).told c.args.outcome.now.marks.items) (sym (seconds-none c.args.trace.now.start))
-                (subst (λ (bs : List Break). AreMarked Original (went (log_of bs) []).told c.args.outcome.now.marks.items) (sym none) (begins_done Original c.args.outcome.now.marks.items));
+            complete = subst (λ (ss : List TraceSecond). AreMarked Original (log_of c.args.outcome.now.breaks.items) ss c.args.outcome.now.marks.items) (sym (seconds-none c.args.trace.now.start))
+                (subst (λ (bs : List Break). AreMarked Original (log_of bs) [] c.args.outcome.now.marks.items) (sym none) (begins_done Original c.args.outcome.now.marks.items));
             caused = subst (λ (ss : List TraceSecond). WellCaused ss (progress c.args.outcome.now.breaks.items c.new-run.result.unfound c.new-run.result.next c.new-run.result.begun Awaited not_begun) c.args.outcome.now.refused.items) (sym (seconds-none c.args.trace.now.start))
                 (subst (WellCaused [] (progress c.args.outcome.now.breaks.items c.new-run.result.unfound c.new-run.result.next c.new-run.result.begun Awaited not_begun)) (sym (ap (λ (l : Listed Refused). l.items) q.reserved.refused))
                 (why-by [] (progress [] 0 c.args.trace.now.start 0 Awaited not_begun) (progress c.args.outcome.now.breaks.items c.new-run.result.unfound c.new-run.result.next c.new-run.result.begun Awaited not_begun) [] none refl (begins_why c.args.trace.now.start)));
@@ -264,7 +264,7 @@ returns-clause-followed g c = λ start x starts below few.
       next = c.loop-i.run.next;
       begun = c.loop-i.run.begun;
       course = f;
-      complete = subst (λ (is : List Item). AreMarked Original (went (log_of c.loop-i.outcome.breaks.items) (seconds_of c.args.trace.now.start is)).told c.loop-i.outcome.marks.items) whole r.complete;
+      complete = subst (λ (is : List Item). AreMarked Original (log_of c.loop-i.outcome.breaks.items) (seconds_of c.args.trace.now.start is) c.loop-i.outcome.marks.items) whole r.complete;
     }
 
 pub returns-clause-causes : goal.returns-clause-causes
