@@ -13,7 +13,7 @@ use Rattle.run_model.specs.Span.{picks_of}
 use Rattle.minute_model.specs.declared.Rule.TheVariants.{Original}
 use Rattle.minute_model.specs.Span.{Span, begin, fed_many, decided_in}
 use Rattle.minute_rules.specs.Kept.{Kept, StandsFor}
-use Rattle.log_model.specs.Course.{Told, went}
+use Rattle.log_model.specs.Course.{Told}
 use Rattle.unit_course.specs.Complete.{AreMarked}
 use Rattle.unit_course.specs.Caused.{WellCaused}
 use Rattle.unit_course.specs.Travelled.{HasLegs}

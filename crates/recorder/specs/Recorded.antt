@@ -4,7 +4,7 @@ use Rattle.tach_media.specs.Medium.{State}
 use Rattle.trace_model.specs.Trace.{TraceSecond}
 use Rattle.minute_model.specs.declared.Rule.TheVariants.{Original}
 use Rattle.minute_rules.specs.Kept.{StandsFor}
-use Rattle.log_model.specs.Course.{Told, went}
+use Rattle.log_model.specs.Course.{Told}
 use Rattle.unit_course.specs.Lines.{log_of}
 use Rattle.unit_course.specs.Complete.{AreMarked}
 use Rattle.unit_course.specs.Caused.{WellCaused}

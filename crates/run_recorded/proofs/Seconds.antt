@@ -2,7 +2,7 @@
 use Rattle.std.proofs.Common.{◌≡◌, ◌⊎◌, inl, inr, ⊎_elim, ℕ, zero, suc, ◌+◌, ◌-◌, ◌*◌, ◌%◌, ◌/◌, ◌^◌, ◌<◌, ◌≤◌, true, false, Option, Some, None, List, [], ◌∷◌, ◌++◌, All, Contains, length, map, filter, take, refl, ap, sym, subst, ◌∙◌, arith, append-nil, append_assoc}
 use Rattle.std.specs.Prelude.{option_map, option_to_list}
 use Rattle.std.specs.List.{AllByRecursion}
-use Rattle.std.proofs.lemmas.List.Elements.{All-nil, All-cons, All-head, All-tail, All-contains, Contains-push}
+use Rattle.std.proofs.lemmas.List.Elements.{Contains-push}
 use Rattle.activity_codec.specs.declared.entries.Entry.{Entry}
 use Rattle.trace_model.specs.declared.Card.{Card}
 use Rattle.trace_model.specs.declared.Action.{Action}
@@ -44,7 +44,6 @@ use Rattle.run_course.specs.Quiet.{quiet_second, quiet_seconds, quiet_on, begun_
 use Rattle.run_course.proofs.Caused.{second-caused, run-caused, found-caused, off-caused, off-cut-caused}
 use Rattle.run_course.proofs.Complete.{more-marks, nothing-yet, acknowledged}
 use Rattle.run_course.proofs.Dark.{dark-caused, dark-complete, off-complete}
-use Rattle.run_course.proofs.New.{are-new}
 use Rattle.run_course.proofs.Quiet.{quiet-are-told, quiet-go-on, quiet-travelled, quiet-caused, quiet-complete}
 use Rattle.run_course.proofs.Staying.{failure-stays, found-stays, cut-stays_}
 use Rattle.run_course.proofs.Steps.{went-same_, now-told, goes_on, breaks_off, power_finds, power_fails, stays_dark, off_dark, off_cuts, begins_run}

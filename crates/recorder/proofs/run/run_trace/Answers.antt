@@ -6,7 +6,6 @@ use Rattle.trace_model.specs.declared.Item.{Item}
 use Rattle.trace_model.specs.Trace.{TraceSecond, item_seconds, total_seconds, seconds_of}
 use Rattle.minute_model.specs.declared.Rule.TheVariants.{Original}
 use Rattle.log_model.specs.declared.lines.Find.{Find}
-use Rattle.log_model.specs.Course.{went}
 use Rattle.unit_course.specs.Lines.{log_of}
 use Rattle.unit_course.specs.Complete.{AreMarked}
 use Rattle.unit_course.specs.Caused.{WellCaused}
