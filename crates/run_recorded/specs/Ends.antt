@@ -19,6 +19,7 @@ use Rattle.run_rule.specs.Between.{Carried, IsCarried}
 use Rattle.run_course.specs.Followed.{Progress}
 use Rattle.run_brought.specs.Accounts.{so_far}
 use Rattle.run_recorded.specs.Origin.{Origin, HasRecorded}
+use Rattle.run_recorded.specs.Whole.{NothingFailed, IsWhole}
 
 -- the recording of a run so far
 abbrev pub recording_by : Origin → List TraceSecond → RunLog → Recording
@@ -54,3 +55,6 @@ pub record EndsRun (r : Recording) (marks : List Mark) (began now : Devices) : T
   -- The odometer of each image that a stop may leave is the start's and the whole kilometres of each span, up to its last-kept minute or one
   -- of which the keeping was broken off.
   pub odometer : (x : List ℕ) → now.unit.may_leave x → OdometerSafe r.rule r.log (told_of r) (odometer_at r.unit) x
+  -- Where no call failed every minute is there: each decided one stands in the history, the unit has all of it, and a card that was accepted all
+  -- of its entries.
+  pub whole : NothingFailed r.log → IsWhole r now

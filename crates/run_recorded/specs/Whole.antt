@@ -1,20 +1,16 @@
 -- What is there after a run in which no call failed: every minute (profile).
 use Rattle.std.specs.Prelude.{◌≡◌, ℕ, ◌+◌, ◌*◌, ◌≤◌, true, false, List, [], All, Contains}
 use Rattle.trace_model.specs.declared.Card.{Card}
-use Rattle.minute_model.specs.declared.Minute.{Minute}
 use Rattle.log_model.specs.Log.{RunLog}
 use Rattle.log_model.specs.Course.{Told, Visit}
 use Rattle.log_model.specs.Spans.{spans_of}
 use Rattle.log_model.specs.Causes.{cuts, tears}
-use Rattle.history_model.specs.Minutes.{HistoryMinute}
-use Rattle.history_model.specs.History.{settlings_of, decided_of}
+use Rattle.history_model.specs.History.{settlings_of}
 use Rattle.history_model.specs.Completeness.{deciding_of}
-use Rattle.unit_model.specs.declared.layout.TheConstants.{DAY_SLOTS}
-use Rattle.unit_model.specs.Days.{newest_days}
 use Rattle.unit_model.specs.Image.{recorded}
 use Rattle.card_image.specs.Own.{IsOwnValid}
-use Rattle.joint_rule.specs.Filling.{filled_with}
 use Rattle.safety_model.specs.Recording.{Recording, card_image, told_of, history_of}
+use Rattle.safety_model.specs.Unit.{HasEachDecided, IsFilled}
 use Rattle.safety_model.specs.Cards.{CardShows, acceptances, was_kept}
 use Rattle.safety_model.specs.Safe.{Devices, card_of}
 
@@ -39,14 +35,9 @@ pub record IsFull (r : Recording) (c : Card) (x : List ℕ) : Type 0 where
   pub missing : All (λ e. IsPulledBehind r c e.minute) shows.rest
   pub brought : (u : ℕ) → Contains (acceptances r c) u → All (λ e. was_kept r c u e.minute ≡ false) shows.rest
 
--- the unit's days are the start's with every minute of the history, of which the newest 366 are retained
-abbrev pub IsFilled : Recording → List ℕ → Type 0
-IsFilled r x = recorded x ≡ newest_days DAY_SLOTS (filled_with (recorded r.unit) (history_of r))
-
 -- EVERY MINUTE IS THERE: each decided minute stands in the history; each image of the unit at the end has the whole history; and each image
 -- of a card that was valid, and was accepted, all of its entries.
 pub record IsWhole (r : Recording) (now : Devices) : Type 0 where
-  pub decided : (span : List Told) (d : Minute) → Contains (spans_of (told_of r)) span → Contains (decided_of r.rule span) d →
-      (i : HistoryMinute) × Contains (history_of r) i × (i.minute ≡ d.minute)
-  pub unit : (x : List ℕ) → now.unit.may_leave x → IsFilled r x
+  pub decided : HasEachDecided r.rule (told_of r) (history_of r)
+  pub unit : (x : List ℕ) → now.unit.may_leave x → IsFilled (recorded r.unit) (history_of r) x
   pub card : (c : Card) (u : ℕ) → IsOwnValid (card_image r c) → Contains (acceptances r c) u → (x : List ℕ) → (card_of now c).may_leave x → IsFull r c x

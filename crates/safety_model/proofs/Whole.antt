@@ -8,8 +8,7 @@ use Rattle.run_model.specs.declared.Device.TheVariants.{Unit as Recorder, CardA,
 use Rattle.minute_model.specs.declared.Rule.{Rule}
 use Rattle.minute_model.specs.declared.Minute.{Minute}
 use Rattle.tach_media.specs.Medium.{State, IsCoherent}
-use Rattle.unit_model.specs.declared.layout.TheConstants.{DAY_SLOTS}
-use Rattle.unit_model.specs.Days.{ShownDay, newest_days}
+use Rattle.unit_model.specs.Days.{ShownDay}
 use Rattle.unit_model.specs.Image.{recorded}
 use Rattle.log_model.specs.declared.lines.Break.{Break}
 use Rattle.log_model.specs.declared.lines.Mark.{Mark}
@@ -23,10 +22,10 @@ use Rattle.history_model.specs.History.{decided_of, unit_history, with_lost}
 use Rattle.history_model.specs.Growth.{Rises}
 use Rattle.history_model.specs.Completeness.{IsMarked, FailedCutIn}
 use Rattle.history_model.proofs.Told.{rises}
-use Rattle.history_model.proofs.Decided.{IsDecidedIn, unit-decided, rises-split, nothing-was-lost}
-use Rattle.joint_rule.specs.Filling.{FillsDays, filled_with}
+use Rattle.history_model.proofs.Decided.{unit-decided, rises-split, nothing-was-lost}
+use Rattle.joint_rule.specs.Filling.{FillsDays}
 use Rattle.safety_model.specs.Recording.{MayCome}
-use Rattle.safety_model.specs.Unit.{is_of, marks_of, UnitShows, UnitMarkHolds, UnitSafe}
+use Rattle.safety_model.specs.Unit.{is_of, marks_of, UnitShows, UnitMarkHolds, UnitSafe, HasEachDecided, IsFilled}
 
 -- MARKS of a device
 kept-by : (p : Mark → Bool) (marks : List Mark) (m : Mark) → Contains marks m → p m ≡ true → Contains (filter p marks) m
@@ -93,7 +92,7 @@ module _ (rule : Rule) (start : Start) (log : RunLog) (n : ℕ) (ss : List Trace
   held : (minute : ℕ) → IsMarked marks Recorder minute → IsHeld minute
   held minute k = let m = mark-of Recorder marks minute k in record { mark = m.0; holds = safe.marked m.0 m.1; same = m.2 }
 
-  pub in-history : (span : List Told) (d : Minute) → Contains (spans_of (went log ss).told) span → Contains (decided_of rule span) d → (i : HistoryMinute) × Contains (unit_history rule start log (went log ss).told) i × (i.minute ≡ d.minute)
+  pub in-history : HasEachDecided rule (went log ss).told (unit_history rule start log (went log ss).told)
   in-history span d at in_ = let h = held d.minute (marked span d at in_) in (h.holds.i, h.holds.stands, h.holds.minute ∙ h.same)
 
   lost-none : with_lost rule start log (went log ss).told ≡ []
@@ -106,10 +105,10 @@ module _ (rule : Rule) (start : Start) (log : RunLog) (n : ℕ) (ss : List Trace
   rising = rises n rule start log ss order
 
   -- an image that shows the whole history has it in its days
-  filled : (x : List ℕ) (s : UnitShows days past lost x) → s.some ≡ past → recorded x ≡ newest_days DAY_SLOTS (filled_with days past)
+  filled : (x : List ℕ) (s : UnitShows days past lost x) → s.some ≡ past → IsFilled days past x
   filled x s all = go s.next (subst (λ (is : List HistoryMinute). MayCome past lost is s.next) all s.comes) (subst (λ (is : List HistoryMinute). FillsDays days s.next is (recorded x)) all s.days)
     where
-      go : (next : Option HistoryMinute) → MayCome past lost past next → FillsDays days next past (recorded x) → recorded x ≡ newest_days DAY_SLOTS (filled_with days past)
+      go : (next : Option HistoryMinute) → MayCome past lost past next → FillsDays days next past (recorded x) → IsFilled days past x
       go None comes (inl whole) = whole
       go None comes (inr less) = absurd (let no : false ≡ true = less.0 in cc)
       go (Some i) (inl front) fills = absurd (
@@ -118,10 +117,10 @@ module _ (rule : Rule) (start : Start) (log : RunLog) (n : ℕ) (ss : List Trace
           let b = length-append past (i ∷ []) in omega (arith, long, a, b))
       go (Some i) (inr gone) fills = absurd (never (past ++ i ∷ []) gone)
 
-  pub unit-whole : (x : List ℕ) → unit.may_leave x → recorded x ≡ newest_days DAY_SLOTS (filled_with days (unit_history rule start log (went log ss).told))
+  pub unit-whole : (x : List ℕ) → unit.may_leave x → IsFilled days (unit_history rule start log (went log ss).told) x
   unit-whole x left = ⊎_elim empty some (last-of past)
     where
-      empty : past ≡ [] → recorded x ≡ newest_days DAY_SLOTS (filled_with days past)
+      empty : past ≡ [] → IsFilled days past x
       empty none =
           let s = safe.minutes x (coherent.counts_now since x early left) in
           filled x s (⊎_elim
@@ -129,7 +128,7 @@ module _ (rule : Rule) (start : Start) (log : RunLog) (n : ℕ) (ss : List Trace
           (λ gone. absurd (never s.some gone))
           s.passed)
 
-      some : HasLast past → recorded x ≡ newest_days DAY_SLOTS (filled_with days past)
+      some : HasLast past → IsFilled days past x
       some l =
           let at : Contains past l.last = subst (λ (is : List HistoryMinute). Contains is l.last) (sym l.are) (Contains-push l.front l.last) in
           let from_ = unit-decided rule start log told l.last at in
