@@ -11,7 +11,7 @@ use Rattle.minute_model.specs.Span.{fed_many, decided_in}
 use Rattle.log_model.specs.declared.lines.Break.{Break}
 use Rattle.log_model.specs.declared.lines.Refused.{Refused}
 use Rattle.log_model.specs.declared.lines.Find.{Find}
-use Rattle.log_model.specs.Course.{Told, went}
+use Rattle.log_model.specs.Course.{Told, Went, went}
 use Rattle.log_model.specs.Log.{RunLog}
 use Rattle.log_model.specs.Spans.{spans_of}
 use Rattle.log_model.specs.Causes.{cuts, device_of, RoseBy, HasCauses}
@@ -22,6 +22,7 @@ use Rattle.run_model.specs.declared.Device.TheVariants.{Unit as Recorder}
 use Rattle.history_model.specs.Book.{Book, all, found, not_begun, IsMark, Follows}
 use Rattle.history_model.specs.History.{unit_history, with_lost, limit_of}
 use Rattle.history_model.specs.Presence.{Start}
+use Rattle.history_model.specs.Completeness.{IsMarked, FailedCutIn}
 use Rattle.history_model.specs.Growth.{picking}
 use Rattle.unit_course.specs.Lines.{log_of, cut_at, found_from}
 use Rattle.unit_course.specs.Keeping.{plain, kept_all, broken_at}
@@ -38,7 +39,8 @@ use Rattle.unit_course.specs.Travelled.{MayShow, HasLegs}
 use Rattle.unit_course.specs.Caused.{cuts_by, IsOver, Caused, WellCaused}
 use Rattle.log_model.specs.declared.lines.SlotFault.{SlotFault}
 use Rattle.log_model.specs.declared.lines.SlotFault.TheVariants.{NoPower}
-use Rattle.unit_course.specs.Complete.{AreMarked}
+use Rattle.unit_course.specs.Complete.{OfDecided, AreMarked}
+use Rattle.unit_course.proofs.Steps.{went-refusing}
 use Rattle.log_model.specs.declared.lines.Mark.{Mark}
 use Rattle.recorder.specs.Keeping.{MarksStay, AreAllMarked}
 use Rattle.recorder.specs.Recorded.{progress}
@@ -147,6 +149,12 @@ module _ (rule : Rule) (start : Start) (from first : ℕ) (done : List TraceSeco
   pub cut_off_done : (t : Told) (span : List Told) → supply ≡ On (t ∷ span) → (n : ℕ) → 0 < n → AreMarked rule (log_of (breaks ++ cut_at (next - 1) false begun ∷ [])) (done ++ dark n next) marks
   cut_off_done t span is zero some = absurd (omega (arith, some))
   cut_off_done t span is (suc n) some = marked.cut_off_marked rule start from first done (progress breaks unfound next begun supply b) f marks old t span is refl n
+
+-- by the whole log: refused actions are nothing to it
+pub logged_done : (rule : Rule) (log : RunLog) (done : List TraceSecond) (marks : List Mark) → log.finds ≡ [] → AreMarked rule (log_of log.breaks) done marks → AreMarked rule log done marks
+logged_done rule log done marks none old =
+    subst (λ (l : RunLog). AreMarked rule l done marks) (ap (λ (fs : List Find). record { breaks = log.breaks; refused = log.refused; finds = fs }) (sym none))
+    (subst (λ (w : Went). OfDecided rule w.told (λ m. IsMarked marks Recorder m) (λ u. FailedCutIn (log_of log.breaks) u)) (sym (went-refusing log.breaks log.refused done)) old)
 
 -- WHAT WAS TRAVELLED, by the spans
 pub begins_leg : (rule : Rule) (first from : ℕ) → HasLegs rule first [] (progress [] 0 from 0 Awaited not_begun) not_travelled
