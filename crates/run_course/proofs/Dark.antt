@@ -135,9 +135,12 @@ dark-one before now log xs done s lost some given lines are c over =
             (sym (ap cards_torn now_ ∙ cards-more told (t ∷ []) ∙ append-nil (cards_torn told))) (c.torn_cards card);
         begun = begun-old s.number done (s ∷ []) log.breaks
             (λ x at. ⊎_elim (λ none. absurd (omega (arith, none.1))) (λ (same : s ≡ x). let e : s.number ≡ x.number = ap (λ (y : TraceSecond). y.number) same in omega (arith, e)) (Contains-push_cases [] s x at)) lines c.begun;
+        moments = subst (λ (ts : List Told). AllByRecursion (HasMoment ts) log.breaks) (sym now_)
+            (moments-old s.number told (t ∷ []) log.breaks (λ x at. ⊎_elim (λ none. absurd (omega (arith, none.1))) (λ (same : t ≡ x). let e : s.number ≡ x.second.number = ap (λ (y : Told). y.second.number) same in omega (arith, e)) (Contains-push_cases [] t x at)) lines c.moments);
+        order = c.order;
         finds = c.finds ∙ sym (ap finds_of now_ ∙ finds-more told (t ∷ []) ∙ append-nil (finds_of told));
         judged = λ x e at entered. ⊎_elim
-            (λ old. judged-same log later x e (refused-at log later refl refl x.second.number) (c.judged x e old entered))
+            (λ old. judged-same log later x e (refused-at log later refl refl x.second.number) (failed-same log later x.second.number refl) (c.judged x e old entered))
             (λ (here : t ≡ x). absurd (let nobody = subst (λ (y : Told). Contains y.course.entered e) (sym here) entered in omega (arith, nobody.1)))
             (Contains-push_cases told t x (subst (λ (ts : List Told). Contains ts x) now_ at));
       },
