@@ -223,13 +223,13 @@ in_time-found (suc i) k [] h = tt
 in_time-found (suc i) k (b ∷ bs) h = (each-found (ComesBehind b) (λ u j k m g is. behind-same b (Cut u j g m) (Cut u k g m) refl is) i k bs h.0, in_time-found i k bs h.1)
 
 -- WHERE A FAILED CALL TOOK THE POWER
+one-filtered : (P : Break → Type 0) (b : Break) (bs : List Break) → P b → (t : Bool) → AllByRecursion P bs → AllByRecursion P (cond t (b ∷ bs) bs)
+one-filtered P b bs here true rest = (here, rest)
+one-filtered P b bs here false rest = rest
+
 each-filtered : (P : Break → Type 0) (p : Break → Bool) (bs : List Break) → AllByRecursion P bs → AllByRecursion P (filter p bs)
 each-filtered P p [] h = tt
-each-filtered P p (b ∷ bs) h = by (p b)
-  where
-    by : (t : Bool) → AllByRecursion P (cond t (b ∷ filter p bs) (filter p bs))
-    by true = (h.0, each-filtered P p bs h.1)
-    by false = each-filtered P p bs h.1
+each-filtered P p (b ∷ bs) h = one-filtered P b (filter p bs) h.0 (p b) (each-filtered P p bs h.1)
 
 abbrev of_failures : List Break → RunLog
 of_failures bs = log_of (cuts true (log_of bs))

@@ -11,21 +11,24 @@ use Rattle.trace_model.specs.declared.Action.{Action}
 use Rattle.trace_model.specs.Trace.{TraceSecond, driven, dark}
 use Rattle.minute_model.specs.Span.{AreNumbered}
 use Rattle.log_model.specs.declared.lines.Break.{Break}
+use Rattle.log_model.specs.declared.lines.Break.TheVariants.{Cut, Tear}
 use Rattle.log_model.specs.declared.lines.Refused.{Refused}
 use Rattle.log_model.specs.declared.lines.Verdict.{Verdict}
 use Rattle.log_model.specs.declared.lines.Verdict.TheVariants.{Accepted, NotValid, TimeOverlap}
 use Rattle.log_model.specs.Log.{RunLog}
 use Rattle.log_model.specs.Slots.{Slots, same_card}
 use Rattle.log_model.specs.Course.{Told, Went, Visit, went}
+use Rattle.log_model.specs.Causes.{is_cut}
 use Rattle.log_model.specs.Spans.{seconds_in, AreInOrder}
 use Rattle.log_model.proofs.Spanning.{spanned}
-use Rattle.unit_course.specs.Lines.{cut_at, found_from}
+use Rattle.unit_model.specs.Image.{last_kept}
+use Rattle.unit_course.specs.Lines.{cut_at, with_kept, found_from}
 use Rattle.unit_course.specs.Followed.{Lit, Lost}
 use Rattle.unit_course.specs.Turn.{cut_at_end}
 use Rattle.card_image.specs.Own.{IsOwnValid}
 use Rattle.safety_model.specs.Recording.{Recording, told_of}
 use Rattle.safety_model.specs.Cards.{is_overlap, entered, overlaps}
-use Rattle.safety_model.specs.Safe.{Devices, card_of, entered_by, IsVerdict}
+use Rattle.safety_model.specs.Safe.{Devices, card_of, WasKept, entered_by, IsVerdict}
 use Rattle.run_rule.specs.Found.{found_of}
 use Rattle.run_rule.specs.Cards.{IsUntouched}
 use Rattle.run_course.specs.Moments.{and_break}
@@ -39,6 +42,7 @@ use Rattle.run_course.proofs.Quiet.{quiet-are-told}
 use Rattle.run_course.proofs.Steps.{now-told, lit-parts, cut-parts}
 use Rattle.run_moments.specs.Lines.{times_of}
 use Rattle.run_moments.specs.Moment.{finds_by}
+use Rattle.run_moments.proofs.Reached.{push-each}
 use Rattle.run_moments.proofs.Telling.{each-of}
 use Rattle.run_recorded.specs.Origin.{Origin, rule_of, start_at, first_of}
 use Rattle.run_recorded.specs.Ends.{recording_by, AreVerdicts, MayBeWritten, AreSpared}
@@ -216,8 +220,10 @@ verdict-on o done now log later unit card unit_now card_now c u (TimeOverlap sto
     (h.0, h.1, (h.2.0, ⊎_elim (λ first. inl first) (λ again. inr (again.0, subst (λ (n : ℕ). 1 < n) (sym same) again.1, again.2, (again.3.0, left_card again.3.0 again.3.1, again.3.2))) h.2.1))
 
 pub verdicts-on : (o : Origin) (done now : List TraceSecond) (log later : RunLog) (d e : Devices) (more : List Told) (from : ℕ) → AreVerdicts o done log d → HaveLeftMore o d e → TellsMore (went log done).told (went later now).told more from →
-    ((t : Told) (x : Visit) (v : Verdict) → Contains more t → Contains t.course.found (x, v) → MayBeFound o now later e t x v) → AreVerdicts o now later e
-verdicts-on o done now log later d e more from old left tells fresh = record {
+    ((t : Told) (x : Visit) (v : Verdict) → Contains more t → Contains t.course.found (x, v) → MayBeFound o now later e t x v) →
+    AllByRecursion (WasKept (e.unit.left_since o.found.unit.began)) later.breaks → AreVerdicts o now later e
+verdicts-on o done now log later d e more from old left tells fresh kept = record {
+  kept = kept;
   each = λ t x v at seen.
       let there = subst (λ (xs : List CardsTold). Contains xs (cards_of t)) tells.same (map-contains (went later now).told t at) in
       ⊎_elim
@@ -307,8 +313,8 @@ nothing-found more idle t x v at seen =
     let gone : Contains {X = Visit × Verdict} [] (x, v) = subst (λ (fs : List (Visit × Verdict)). Contains fs (x, v)) none seen in
     omega (arith, gone.1)
 
-pub idle-verdicts : (o : Origin) (done now : List TraceSecond) (log later : RunLog) (d e : Devices) (more : List Told) (from : ℕ) → AreVerdicts o done log d → HaveLeftMore o d e → TellsMore (went log done).told (went later now).told more from → AreIdle more → AreVerdicts o now later e
-idle-verdicts o done now log later d e more from old left tells idle = verdicts-on o done now log later d e more from old left tells (λ t x v at seen. absurd (nothing-found more idle t x v at seen))
+pub idle-verdicts : (o : Origin) (done now : List TraceSecond) (log later : RunLog) (d e : Devices) (more : List Told) (from : ℕ) → AreVerdicts o done log d → HaveLeftMore o d e → TellsMore (went log done).told (went later now).told more from → AreIdle more → AllByRecursion (WasKept (e.unit.left_since o.found.unit.began)) later.breaks → AreVerdicts o now later e
+idle-verdicts o done now log later d e more from old left tells idle kept = verdicts-on o done now log later d e more from old left tells (λ t x v at seen. absurd (nothing-found more idle t x v at seen)) kept
 
 pub idle-spared : (o : Origin) (done now : List TraceSecond) (log later : RunLog) (d e : Devices) (more : List Told) (from : ℕ) → AreSpared o done log d → TellsMore (went log done).told (went later now).told more from → AreIdle more →
     ((c : Card) → IsUntouched (found_of o.found c) (card_of d c) → IsUntouched (found_of o.found c) (card_of e c) ⊎ MayBeWritten (recording_by o now later) c) → AreSpared o now later e
@@ -338,3 +344,36 @@ visits-as c (v ∷ vs) = by (same_card c v.card) (visits-as c vs)
 
 pub fewer-are_found : FewerAreFound
 fewer-are_found r t few = ((λ c. let le = few c in let low = fewer-found r c t.course.found in let as_ = visits-as c t.course.entered in omega (arith, le, low, as_)), tt)
+
+-- WHAT WAS FOUND KEPT after cuts: it stays so as more is left;
+kept-left : (unit now : List ℕ → Type 0) → ((x : List ℕ) → unit x → now x) → (b : Break) → WasKept unit b → WasKept now b
+kept-left unit now more (Cut second kept failed begun) h = ⊎_elim (λ none. inl none) (λ some. inr (some.0, more some.0 some.1, some.2)) h
+kept-left unit now more (Tear second slot failed begun late) h = tt
+
+pub kept-later : (unit now : List ℕ → Type 0) → ((x : List ℕ) → unit x → now x) → (bs : List Break) → AllByRecursion (WasKept unit) bs → AllByRecursion (WasKept now) bs
+kept-later unit now more [] h = tt
+kept-later unit now more (b ∷ bs) h = (kept-left unit now more b h.0, kept-later unit now more bs h.1)
+
+-- a tear is no cut, and after a new one nothing was found yet;
+uncut-kept : (unit : List ℕ → Type 0) (b : Break) → is_cut b ≡ false → WasKept unit b
+uncut-kept unit (Cut second kept failed begun) h = absurd (cc)
+uncut-kept unit (Tear second slot failed begun late) h = tt
+
+pub kept-on : (unit : List ℕ → Type 0) (bs more : List Break) → AllByRecursion (WasKept unit) bs → AllByRecursion (λ (b : Break). is_cut b ≡ false) more → AllByRecursion (WasKept unit) (bs ++ more)
+kept-on unit [] [] h uncut = tt
+kept-on unit [] (b ∷ more) h uncut = (uncut-kept unit b uncut.0, kept-on unit [] more h uncut.1)
+kept-on unit (b ∷ bs) more h uncut = (h.0, kept-on unit bs more h.1 uncut)
+
+pub kept-cut : (unit : List ℕ → Type 0) (bs : List Break) (second : ℕ) (failed : Bool) (begun : ℕ) → AllByRecursion (WasKept unit) bs → AllByRecursion (WasKept unit) (bs ++ cut_at second failed begun ∷ [])
+kept-cut unit bs second failed begun h = push-each (WasKept unit) bs (cut_at second failed begun) h (inl refl)
+
+-- and a power-on finds what an image shows
+found-so : (unit : List ℕ → Type 0) (k : ℕ) → ((x : List ℕ) × unit x × (last_kept x ≡ k)) → (b : Break) → WasKept unit b → WasKept unit (with_kept k b)
+found-so unit k read (Cut second kept failed begun) h = inr read
+found-so unit k read (Tear second slot failed begun late) h = tt
+
+pub kept-found : (unit : List ℕ → Type 0) (k : ℕ) → ((x : List ℕ) × unit x × (last_kept x ≡ k)) → (i : ℕ) (bs : List Break) → AllByRecursion (WasKept unit) bs → AllByRecursion (WasKept unit) (found_from i k bs)
+kept-found unit k read zero [] h = tt
+kept-found unit k read zero (b ∷ bs) h = (found-so unit k read b h.0, kept-found unit k read zero bs h.1)
+kept-found unit k read (suc i) [] h = tt
+kept-found unit k read (suc i) (b ∷ bs) h = (h.0, kept-found unit k read i bs h.1)

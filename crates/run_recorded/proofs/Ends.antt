@@ -10,7 +10,7 @@ use Rattle.log_model.specs.declared.lines.Mark.{Mark}
 use Rattle.log_model.specs.declared.lines.Verdict.{Verdict}
 use Rattle.log_model.specs.Log.{RunLog}
 use Rattle.log_model.specs.Course.{Told, Visit, went}
-use Rattle.log_model.specs.Causes.{HasCauses, IsBegun}
+use Rattle.log_model.specs.Causes.{HasCauses, IsBegun, HasMoment}
 use Rattle.unit_model.specs.Image.{last_kept, odometer_at}
 use Rattle.unit_model.specs.Decoding.{Decodes}
 use Rattle.history_model.specs.Minutes.{HistoryMinute}
@@ -24,7 +24,7 @@ use Rattle.joint_rule.specs.Views.{UnitView, unit_view}
 use Rattle.card_image.specs.Own.{IsOwnValid}
 use Rattle.safety_model.specs.Recording.{Recording, card_image, start_of, told_of}
 use Rattle.safety_model.specs.Cards.{entered, overlaps, MayNotWrite}
-use Rattle.safety_model.specs.Safe.{Devices, card_of, breakdowns_of, IsVerdict, IsSafe, IsCaused}
+use Rattle.safety_model.specs.Safe.{Devices, card_of, breakdowns_of, WasKept, IsVerdict, IsSafe, IsCaused}
 use Rattle.run_rule.specs.Found.{found_of}
 use Rattle.run_rule.specs.Cards.{IsUntouched}
 use Rattle.run_rule.specs.Between.{Carried, IsCarried, IsFound, AreBrought, AreUntouched}
@@ -81,6 +81,8 @@ module _ (o : Origin) (done : List TraceSecond) (p : Progress) (g : Travel) (mar
           failed_tears = c.failed_tears;
           torn_cards = c.torn_cards;
           begun = λ b at. each-of (IsBegun done) p.log.breaks b c.begun at;
+          moments = λ b at. each-of (HasMoment (went p.log done).told) p.log.breaks b c.moments at;
+          order = c.order;
           finds = c.finds;
           judged = c.judged;
           verdicts = λ t e v at seen.
@@ -109,6 +111,10 @@ module _ (o : Origin) (done : List TraceSecond) (p : Progress) (g : Travel) (mar
     pub ends-run : IsCoherent now.unit → ((c : Card) → IsCoherent (card_of now c)) → Decodes o.recording.unit → o.breakdowns ≡ breakdowns_of began → EndsRun r marks began now
     ends-run unit_whole card_whole decodes same = record {
       safe = subst (λ (ms : List Mark). IsSafe r ms began now) told (safe unit_whole card_whole decodes);
-      caused = record { causes = causes same; complete = h.complete };
+      caused = record {
+        causes = causes same;
+        kept = λ b at. subst (λ (n : ℕ). WasKept (now.unit.left_since n) b) unit-began (each-of (WasKept (now.unit.left_since o.found.unit.began)) p.log.breaks b beside.verdicts.kept at);
+        complete = h.complete;
+      };
       odometer = odometer;
     }

@@ -1,5 +1,6 @@
 -- What is carried beside the rules of unit and cards from second to second, and what a run promises at its end (profile).
 use Rattle.std.specs.Prelude.{◌≡◌, ◌⊎◌, ℕ, ◌<◌, List, Contains}
+use Rattle.std.specs.List.{AllByRecursion}
 use Rattle.trace_model.specs.declared.Card.{Card}
 use Rattle.trace_model.specs.Trace.{TraceSecond}
 use Rattle.log_model.specs.declared.lines.Mark.{Mark}
@@ -12,7 +13,7 @@ use Rattle.unit_rule.specs.Odometer.{OdometerSafe, HasTravelled}
 use Rattle.card_image.specs.Own.{IsOwnValid}
 use Rattle.safety_model.specs.Recording.{Recording, card_image, told_of}
 use Rattle.safety_model.specs.Cards.{entered, overlaps}
-use Rattle.safety_model.specs.Safe.{Devices, card_of, breakdowns_of, IsVerdict, IsSafe, IsCaused}
+use Rattle.safety_model.specs.Safe.{Devices, card_of, breakdowns_of, WasKept, IsVerdict, IsSafe, IsCaused}
 use Rattle.run_rule.specs.Found.{found_of}
 use Rattle.run_rule.specs.Cards.{IsUntouched}
 use Rattle.run_rule.specs.Between.{Carried, IsCarried}
@@ -24,10 +25,12 @@ use Rattle.run_recorded.specs.Origin.{Origin, HasRecorded}
 abbrev pub recording_by : Origin → List TraceSecond → RunLog → Recording
 recording_by o done log = so_far o.recording done log
 
--- WHAT WAS FOUND OF CARDS so far may be found of them, by the images that the devices have left since the start.
+-- WHAT WAS FOUND OF CARDS so far may be found of them, and what was found kept after cuts was, by the images that the devices have left since
+-- the start.
 pub record AreVerdicts (o : Origin) (done : List TraceSecond) (log : RunLog) (d : Devices) : Type 0 where
   pub each : (t : Told) (e : Visit) (v : Verdict) → Contains (told_of (recording_by o done log)) t → Contains t.course.found (e, v) →
       IsVerdict (recording_by o done log) (d.unit.left_since o.found.unit.began) ((card_of d e.card).left_since (found_of o.found e.card).began) e.card t.second.number v
+  pub kept : AllByRecursion (WasKept (d.unit.left_since o.found.unit.began)) log.breaks
 
 -- a card may be written: it was valid, and it entered more often than it was found to tell of a later time
 abbrev pub MayBeWritten : Recording → Card → Type 0

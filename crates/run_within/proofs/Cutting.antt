@@ -32,7 +32,7 @@ use Rattle.unit_course.specs.Legs.{Travel, stranded_at, all_travelled}
 use Rattle.unit_course.specs.Turn.{begins_with, span_at}
 use Rattle.card_image.specs.Own.{IsOwnValid}
 use Rattle.safety_model.specs.Recording.{card_image}
-use Rattle.safety_model.specs.Safe.{Devices, card_of, breakdowns_of, entered_by, IsVerdict}
+use Rattle.safety_model.specs.Safe.{Devices, card_of, breakdowns_of, WasKept, entered_by, IsVerdict}
 use Rattle.run_crew.specs.declared.cards.Cards.{Cards}
 use Rattle.run_crew.specs.declared.cabin.Cabin.{Cabin}
 use Rattle.run_crew.specs.Cabin.{with_power_lost}
@@ -62,7 +62,7 @@ use Rattle.run_recorded.specs.Seconds.{broke_off, seated_now, seated_next, AreTa
 use Rattle.run_recorded.specs.Ends.{recording_by, AreVerdicts, AreSpared}
 use Rattle.run_recorded.specs.Beside.{AreFewFound}
 use Rattle.run_recorded.proofs.Seconds.{second-is_broken}
-use Rattle.run_recorded.proofs.Beside.{second-tells, verdicts-on}
+use Rattle.run_recorded.proofs.Beside.{second-tells, verdicts-on, kept-on, kept-cut}
 use Rattle.run_within.specs.Recorded.{Values, progress, carried, IsWritten, Recorded}
 use Rattle.run_within.specs.Within.{Beginning, told_before, course_in, lost_minute, overlaps_by, MayBeWrittenSo, CutWithin, cut_values}
 use Rattle.run_within.proofs.Left.{counted-part}
@@ -278,6 +278,7 @@ module _ (o : Origin) (done : List TraceSecond) (s : TraceSecond) (at : Phase) (
       subst (λ (n : ℕ). IsVerdict (recording_by o (done ++ s ∷ []) log) (d.unit.left_since o.found.unit.began) ((card_of d e.card).left_since (found_of o.found e.card).began) e.card n verdict) (sym is)
       (verdict-by o (done ++ s ∷ []) log may.0 (d.unit.left_since o.found.unit.began) ((card_of d e.card).left_since (found_of o.found e.card).began) e.card s.number verdict
       (let low = may.1 in let same_times = ap (times_of e.card) entered_ in omega (arith, low, count, same_times)) may.2)))
+      (kept-cut (d.unit.left_since o.found.unit.began) v.log.breaks s.number true (begun_by s at) (subst (AllByRecursion (WasKept (d.unit.left_since o.found.unit.began))) (sym w.moment.breaks_are) (kept-on (d.unit.left_since o.found.unit.began) p.log.breaks w.moment.breaks w.verdicts.kept w.moment.uncut)))
 
   written : (card : Card) → MayBeWrittenSo o w.b done c waits s.number v.cabin.slots card → IsWritten o (done ++ s ∷ []) (cut_values s at v) card
   written card h = record {

@@ -32,7 +32,7 @@ use Rattle.unit_course.specs.Legs.{Travel, travelled, all_travelled}
 use Rattle.unit_course.specs.Turn.{begins_with, span_at}
 use Rattle.card_image.specs.Own.{IsOwnValid}
 use Rattle.safety_model.specs.Recording.{card_image}
-use Rattle.safety_model.specs.Safe.{Devices, card_of, breakdowns_of, entered_by, IsVerdict}
+use Rattle.safety_model.specs.Safe.{Devices, card_of, breakdowns_of, WasKept, entered_by, IsVerdict}
 use Rattle.run_crew.specs.declared.cards.Cards.{Cards}
 use Rattle.run_crew.specs.declared.cabin.Cabin.{Cabin}
 use Rattle.run_crew.specs.Cabin.{with_power_lost}
@@ -63,7 +63,7 @@ use Rattle.run_recorded.specs.Seconds.{went_on, seated_now, AreTaken}
 use Rattle.run_recorded.specs.Ends.{recording_by, AreVerdicts, AreSpared}
 use Rattle.run_recorded.specs.Beside.{AreFewFound}
 use Rattle.run_recorded.proofs.Seconds.{second-is_recorded}
-use Rattle.run_recorded.proofs.Beside.{second-tells, verdicts-on}
+use Rattle.run_recorded.proofs.Beside.{second-tells, verdicts-on, kept-on}
 use Rattle.run_within.specs.Recorded.{Values, progress, carried, AreBack, IsWritten, Recorded}
 use Rattle.run_within.specs.Within.{Beginning, told_before, course_in, overlaps_by, IsFoundSo, MayBeWrittenSo, Within, passed_values, RecordedFrom}
 use Rattle.run_within.proofs.Cutting.{rec-front, marks-all}
@@ -181,6 +181,7 @@ module _ (o : Origin) (done : List TraceSecond) (s : TraceSecond) (v : Values) (
       subst (λ (n : ℕ). IsVerdict (recording_by o (done ++ s ∷ []) log) (d.unit.left_since o.found.unit.began) ((card_of d e.card).left_since (found_of o.found e.card).began) e.card n verdict) (sym is)
       (verdict-by o (done ++ s ∷ []) log may.0 (d.unit.left_since o.found.unit.began) ((card_of d e.card).left_since (found_of o.found e.card).began) e.card s.number verdict
       (let low = may.1 in let same_times = ap (λ (y : Course). times_of e.card y.entered) course-is in omega (arith, low, count, same_times)) may.2)))
+      (subst (AllByRecursion (WasKept (d.unit.left_since o.found.unit.began))) (sym w.moment.breaks_are) (kept-on (d.unit.left_since o.found.unit.began) p.log.breaks w.moment.breaks w.verdicts.kept w.moment.uncut))
 
   written : (card : Card) → MayBeWrittenSo o w.b done c [] s.number v.cabin.slots card → IsWritten o (done ++ s ∷ []) (passed_values s v) card
   written card h = record {

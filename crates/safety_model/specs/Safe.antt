@@ -1,5 +1,5 @@
 -- The crash-safety theorem (profile): what a run promises of its unit, of each card, and of both together.
-use Rattle.std.specs.Prelude.{◌≡◌, ◌≢◌, ◌⊎◌, ℕ, suc, ◌*◌, ◌/◌, ◌<◌, ◌≤◌, ◌&&◌, Option, Some, None, List, [], ◌∷◌, length, filter, flat_map, nat_eq, nat_le, if◌then◌else◌}
+use Rattle.std.specs.Prelude.{◌≡◌, ◌≢◌, ◌⊎◌, ℕ, suc, ◌*◌, ◌/◌, ◌<◌, ◌≤◌, ◌&&◌, Option, Some, None, List, [], ◌∷◌, Contains, length, filter, flat_map, nat_eq, nat_le, if◌then◌else◌}
 use Rattle.trace_model.specs.declared.Card.{Card}
 use Rattle.trace_model.specs.declared.Card.TheVariants.{A, B}
 use Rattle.trace_model.specs.Trace.{TraceSecond}
@@ -8,6 +8,8 @@ use Rattle.run_model.specs.declared.Device.TheVariants.{Unit as Recorder, CardA,
 use Rattle.tach_media.specs.Medium.{State}
 use Rattle.unit_model.specs.Image.{recorded, last_kept}
 use Rattle.unit_model.specs.Decoding.{Decodes, first_bad_place}
+use Rattle.log_model.specs.declared.lines.Break.{Break}
+use Rattle.log_model.specs.declared.lines.Break.TheVariants.{Cut, Tear}
 use Rattle.log_model.specs.declared.lines.Mark.{Mark}
 use Rattle.log_model.specs.declared.lines.Verdict.{Verdict}
 use Rattle.log_model.specs.declared.lines.Verdict.TheVariants.{Accepted, NotValid, TimeOverlap}
@@ -36,6 +38,11 @@ abbrev pub breakdowns_of : Devices → Device → ℕ
 breakdowns_of d Recorder = d.unit.breakdowns
 breakdowns_of d CardA = d.card_a.breakdowns
 breakdowns_of d CardB = d.card_b.breakdowns
+
+-- what was found kept after a cut: the last-kept minute of an image of the unit, or nothing
+abbrev pub WasKept : (unit : List ℕ → Type 0) → Break → Type 0
+WasKept unit (Cut second kept failed begun) = (kept ≡ 0) ⊎ ((x : List ℕ) × unit x × (last_kept x ≡ kept))
+WasKept unit (Tear second slot failed begun late) = Unit {0}
 
 -- the first of a list
 abbrev pub first_of : {X : Type 0} → List X → Option X
@@ -79,6 +86,7 @@ module _ (r : Recording) where
     pub causes : HasCauses
         (λ c u v. IsVerdict (now.unit.left_since began.unit.clock) ((card_of now c).left_since (card_of began c).clock) c u v)
         (breakdowns_of began) (breakdowns_of now) r.trace r.log
+    pub kept : (b : Break) → Contains r.log.breaks b → WasKept (now.unit.left_since began.unit.clock) b
     pub complete : IsComplete r.rule (start_of r) r.log (told_of r) marks
 
   -- a run begins where the unit's image decodes, the trace's first second lies in a later minute than the last-kept one, and

@@ -152,16 +152,13 @@ rise-lower : (n m : ℕ) (us : List ℕ) → m ≤ n → RiseFrom n us → RiseF
 rise-lower n m [] le h = tt
 rise-lower n m (u ∷ us) le h = let low = h.0 in (omega (arith, low, le), h.1)
 
+one-more : (n : ℕ) (t : Told) (cut : List Told) → t.second.number ≡ n → (b : Bool) → RiseFrom (n + 1) (map (λ (t : Told). t.second.number) cut) → RiseFrom n (map (λ (t : Told). t.second.number) (cond b (t ∷ cut) cut))
+one-more n t cut is true rest = (omega (arith, is), rise-lower (n + 1) (t.second.number + 1) (map (λ (t : Told). t.second.number) cut) (omega (arith, is)) rest)
+one-more n t cut is false rest = rise-lower (n + 1) n (map (λ (t : Told). t.second.number) cut) (omega arith) rest
+
 numbers-rise : (n : ℕ) (told : List Told) → AreNumbered n (seconds_in told) → RiseFrom n (map (λ (t : Told). t.second.number) (filter (λ (t : Told). t.cut) told))
 numbers-rise n [] h = tt
-numbers-rise n (t ∷ told) h = by t.cut
-  where
-    rest : RiseFrom (n + 1) (map (λ (t : Told). t.second.number) (filter (λ (t : Told). t.cut) told))
-    rest = numbers-rise (n + 1) told h.1
-
-    by : (b : Bool) → RiseFrom n (map (λ (t : Told). t.second.number) (cond b (t ∷ filter (λ (t : Told). t.cut) told) (filter (λ (t : Told). t.cut) told)))
-    by true = let is : t.second.number ≡ n = h.0 in (omega (arith, is), rise-lower (n + 1) (t.second.number + 1) (map (λ (t : Told). t.second.number) (filter (λ (t : Told). t.cut) told)) (omega (arith, is)) rest)
-    by false = rise-lower (n + 1) n (map (λ (t : Told). t.second.number) (filter (λ (t : Told). t.cut) told)) (omega arith) rest
+numbers-rise n (t ∷ told) h = one-more n t (filter (λ (t : Told). t.cut) told) h.0 t.cut (numbers-rise (n + 1) told h.1)
 
 cuts-behind : (number n s k : ℕ) (f : Bool) (i : ℕ) (breaks : List Break) → s < n → AllByRecursion (IsCutBefore number) breaks → RiseFrom n (map second_of (filter is_cut breaks)) → AllByRecursion (ComesBehind (Cut s k f i)) breaks
 cuts-behind number n s k f i [] lt h rise = tt
