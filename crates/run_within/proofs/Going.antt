@@ -1,7 +1,6 @@
 -- The record over seconds that are taken at once: without power, of an `off` line, and with power where nothing happens; and at the start.
 use Rattle.std.proofs.Common.{◌≡◌, ◌⊎◌, inl, inr, ⊎_elim, ℕ, zero, suc, ◌+◌, ◌-◌, ◌*◌, ◌/◌, ◌%◌, ◌<◌, ◌≤◌, true, false, Option, Some, None, List, [], ◌∷◌, ◌++◌, All, Contains, length, map, refl, ap, sym, subst, ◌∙◌, arith, append-nil, append_assoc}
 use Rattle.std.specs.Prelude.{option_to_list, is_some, IfSome, max}
-use Rattle.std.specs.List.{AllByRecursion}
 use Rattle.std.proofs.lemmas.List.{same_from_push}
 use Rattle.activity_codec.specs.declared.values.Slot.{Slot}
 use Rattle.activity_codec.specs.declared.values.Slot.TheVariants.{Driver, CoDriver}
@@ -32,7 +31,7 @@ use Rattle.unit_course.specs.Lines.{cut_at}
 use Rattle.unit_course.specs.Turn.{span_at, cut_at_end}
 use Rattle.unit_course.proofs.Parts.{driven-order, driven-length, dark-order, dark-length}
 use Rattle.safety_model.specs.Recording.{Recording}
-use Rattle.safety_model.specs.Safe.{Devices, card_of, breakdowns_of, WasKept, entered_by}
+use Rattle.safety_model.specs.Safe.{Devices, card_of, breakdowns_of, entered_by}
 use Rattle.slot_machine.specs.Kept.{Kept as SlotsKept, nothing_yet}
 use Rattle.run_crew.specs.declared.cards.Cards.{Cards}
 use Rattle.run_crew.specs.declared.cabin.Cabin.{Cabin}
@@ -58,7 +57,7 @@ use Rattle.run_present.proofs.Presence.{next-begins}
 use Rattle.run_told.specs.Told.{AreFoundCards, IsHeldDark, IsPowered, IsPowerless}
 use Rattle.run_told.proofs.Parts.{held-dark}
 use Rattle.run_recorded.specs.Origin.{Origin, rule_of, start_at, first_of}
-use Rattle.run_recorded.specs.Ends.{recording_by, AreVerdicts, AreSpared, MayBeWritten}
+use Rattle.run_recorded.specs.Ends.{recording_by, AreFound, AreVerdicts, AreSpared, MayBeWritten}
 use Rattle.run_recorded.specs.Beside.{TellsMore, AreIdle, AreFewFound}
 use Rattle.run_recorded.specs.Seconds.{empty_log, at_start, fault_of, refused_for}
 use Rattle.run_recorded.proofs.Beside.{dark-tells, off-tells, off-cut-tells, quiet-tells, idle-verdicts, idle-spared, idle-few, few-on, written-on, entered-same, kept-cut}
@@ -73,8 +72,8 @@ use Rattle.run_within.proofs.Stays.{since-later, since-cut}
 -- ---- no card enters in some seconds more
 
 module _ (o : Origin) (done now : List TraceSecond) (log later : RunLog) (d : Devices) (more : List Told) (from : ℕ) (tells : TellsMore (went log done).told (went later now).told more from) (idle : AreIdle more) where
-  verdicts-go : AreVerdicts o done log d → AllByRecursion (WasKept (d.unit.left_since o.found.unit.began)) later.breaks → AreVerdicts o now later d
-  verdicts-go old kept = idle-verdicts o done now log later d d more from old (record { unit = λ x h. h; card = λ c x h. h }) tells idle kept
+  verdicts-go : (unfound : ℕ) → AreVerdicts o done log unfound d → AreFound (d.unit.left_since o.found.unit.began) unfound later.breaks → AreVerdicts o now later unfound d
+  verdicts-go unfound old kept = idle-verdicts o done now log later unfound unfound d d more from old (record { unit = λ x h. h; card = λ c x h. h }) tells idle kept
 
   spared-go : AreSpared o done log d → AreSpared o now later d
   spared-go old = idle-spared o done now log later d d more from old tells idle (λ c whole. inl whole)
@@ -154,7 +153,7 @@ module _ (o : Origin) (done : List TraceSecond) (v : Values) (d : Devices) (r : 
     brought = r.brought;
     recorded = seconds.dark-recorded o done p r.travel v.marks (breakdowns_of d) r.brought r.recorded refl n speed actions refused begun low high told;
     beside = record {
-      verdicts = verdicts-go o done now v.log w.log d further.0 v.next further.1 further.2 r.beside.verdicts r.beside.verdicts.kept;
+      verdicts = verdicts-go o done now v.log w.log d further.0 v.next further.1 further.2 v.unfound r.beside.verdicts r.beside.verdicts.kept;
       spared = spared-go o done now v.log w.log d further.0 v.next further.1 further.2 r.beside.spared;
       travels = r.beside.travels;
     };
@@ -216,7 +215,7 @@ off-recorded d o done supply v r dark_ n =
       brought = r.brought;
       recorded = seconds.off-recorded o done p r.travel v.marks (breakdowns_of d) r.brought r.recorded dark_ n;
       beside = record {
-        verdicts = verdicts-go o done now v.log v.log d further.0 v.next further.1 further.2 r.beside.verdicts r.beside.verdicts.kept;
+        verdicts = verdicts-go o done now v.log v.log d further.0 v.next further.1 further.2 v.unfound r.beside.verdicts r.beside.verdicts.kept;
         spared = spared-go o done now v.log v.log d further.0 v.next further.1 further.2 r.beside.spared;
         travels = r.beside.travels;
       };
@@ -340,7 +339,7 @@ module _ (o : Origin) (done : List TraceSecond) (t : Told) (span : List Told) (v
           brought = r.brought;
           recorded = seconds.off-cut-recorded o done lit-progress r.travel v.marks (breakdowns_of d) r.brought r.recorded t span refl n;
           beside = record {
-            verdicts = verdicts-go o done now-off v.log cut-log d further-off.0 v.next further-off.1 further-off.2 r.beside.verdicts (kept-cut (d.unit.left_since o.found.unit.began) v.log.breaks (v.next - 1) false v.begun r.beside.verdicts.kept);
+            verdicts = verdicts-go o done now-off v.log cut-log d further-off.0 v.next further-off.1 further-off.2 v.unfound r.beside.verdicts (kept-cut (d.unit.left_since o.found.unit.began) v.unfound v.log.breaks (v.next - 1) false v.begun r.recorded.followed.unfound r.beside.verdicts.kept);
             spared = spared-go o done now-off v.log cut-log d further-off.0 v.next further-off.1 further-off.2 r.beside.spared;
             travels = r.beside.travels;
           };
@@ -447,7 +446,7 @@ module _ (o : Origin) (done : List TraceSecond) (t : Told) (span : List Told) (v
       brought = r.brought;
       recorded = seconds.quiet-recorded o done quiet-p r.travel v.marks (breakdowns_of d) r.brought r.recorded t span refl (suc n) speed high;
       beside = record {
-        verdicts = verdicts-go o done quiet-now v.log v.log d quiet-further.0 v.next quiet-further.1 quiet-further.2 r.beside.verdicts r.beside.verdicts.kept;
+        verdicts = verdicts-go o done quiet-now v.log v.log d quiet-further.0 v.next quiet-further.1 quiet-further.2 v.unfound r.beside.verdicts r.beside.verdicts.kept;
         spared = spared-go o done quiet-now v.log v.log d quiet-further.0 v.next quiet-further.1 quiet-further.2 r.beside.spared;
         travels = r.beside.travels;
       };

@@ -160,9 +160,9 @@ module _ (o : Origin) (done : List TraceSecond) (s : TraceSecond) (supply : Supp
   nobody : (card : Card) → is_some (session_of v.cabin.cards card) ≡ true → ⊥
   nobody card some = let none : is_some (session_of v.cabin.cards card) ≡ false = ap is_some (off.bare card) in let clash : true ≡ false = sym some ∙ none in cc
 
-  verdicts : WasRead o k e → AreVerdicts o done run.log e
-  verdicts read = idle-verdicts o done done v.log run.log d e [] v.next r.beside.verdicts goes.left (found-tells o done p r.recorded.followed k) tt
-      (kept-found (e.unit.left_since o.found.unit.began) k read v.unfound v.log.breaks (kept-later (d.unit.left_since o.found.unit.began) (e.unit.left_since o.found.unit.began) goes.left.unit v.log.breaks r.beside.verdicts.kept))
+  verdicts : WasRead o k e → AreVerdicts o done run.log run.unfound e
+  verdicts read = idle-verdicts o done done v.log run.log v.unfound run.unfound d e [] v.next r.beside.verdicts goes.left (found-tells o done p r.recorded.followed k) tt
+      (kept-found (e.unit.left_since o.found.unit.began) k read v.unfound v.log.breaks (kept-later (d.unit.left_since o.found.unit.began) (e.unit.left_since o.found.unit.began) goes.left.unit v.unfound v.log.breaks r.beside.verdicts.kept))
 
 pub power-wakes : (d e : Devices) → PowerWakes d e
 power-wakes d e o done s supply v r may number given k minutes back =
