@@ -324,6 +324,8 @@ caused-one rule start from first speed before now done p f t span is none within
       failed_tears = λ slot. refl;
       torn_cards = λ card. rose-none (now (device_of card));
       begun = tt;
+      moments = tt;
+      order = tt;
       told_finds = refl;
       judged = λ e at. absurd (omega (arith, at.1));
     }
