@@ -19,7 +19,7 @@ use Rattle.history_model.specs.Completeness.{IsComplete}
 use Rattle.card_image.specs.Own.{own_view, own_number, own_bad_file, IsOwnValid}
 use Rattle.joint_rule.specs.Views.{owed}
 use Rattle.safety_model.specs.Recording.{Recording, card_image, told_of, start_of, history_of, lost_of, unit_seen}
-use Rattle.safety_model.specs.Unit.{UnitSafe}
+use Rattle.safety_model.specs.Unit.{UnitSafe, issued_bytes}
 use Rattle.safety_model.specs.Cards.{acceptances, CardSafe, Agree}
 
 -- the three devices of a run at one moment
@@ -82,6 +82,8 @@ module _ (r : Recording) where
   -- THE CRASH-SAFETY THEOREM: `began` are the devices at the end of the opening, `now` those at the end of the run
   pub record IsSafe (marks : List Mark) (began now : Devices) : Type 0 where
     pub unit : UnitSafe (recorded r.unit) (history_of r) (lost_of r) marks began.unit.clock now.unit
+    -- what the unit was issued with stays, in every image that a stop might have left since
+    pub issued : (x : List ℕ) → now.unit.left_since began.unit.clock x → issued_bytes x ≡ issued_bytes r.unit
     pub card : (c : Card) → CardSafe r c marks (card_of began c).clock (card_of now c)
     pub both : (c : Card) (u x : List ℕ) → IsOwnValid (card_image r c) → now.unit.may_leave u →
         (card_of now c).may_leave x → Agree r c u x
