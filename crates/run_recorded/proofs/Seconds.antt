@@ -110,6 +110,8 @@ more-recorded o done p g marks more now later brought h stay rise =
           failed_tears = c.failed_tears;
           torn_cards = λ card. rose-more (length (filter (same_card card) (cards_torn (went p.log done).told))) (o.breakdowns (device_of card)) (now (device_of card)) (later (device_of card)) (c.torn_cards card) (rise (device_of card));
           begun = c.begun;
+          moments = c.moments;
+          order = c.order;
           finds = c.finds;
           judged = c.judged;
         };
