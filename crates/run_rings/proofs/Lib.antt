@@ -4,3 +4,4 @@ pub mod Indices
 pub mod Same
 pub mod Notes
 pub mod Actions
+pub mod Spans

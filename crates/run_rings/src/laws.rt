@@ -6,6 +6,7 @@ ghost use Rattle.gated_ring.specs.Change.{IsAdding, IsAdded};
 ghost use Rattle.log_model.specs.Slots.{same_card};
 ghost use Rattle.side_model.specs.Noted.{InsertionNote, Withdrawal, with_withdrawal};
 ghost use Rattle.run_rings.specs.Carried.{Carries};
+ghost use Rattle.run_rings.specs.Spans.{TheyAreTheSpans, EarlierOdometersStay, AlikeSecondsCountAlike, TheOdometerOfNow};
 ghost use Rattle.run_rings.specs.Notes.{LaterLinesChangeNoNote, AnActionNotes, ASecondHasNoted, ACutNotesNoMore, SelectionsNoteNothing, PullsNoteNothing, RefusalsNoteNothing, PlacesAreNoted, WithdrawalsAreNoted, InsertionsAreNoted, PowerOnsAreNoted};
 
 /// A ring that was dense at the start carries what it showed and the entries that were added since, over each step: an entry is added, or a
@@ -59,4 +60,13 @@ pub fn what_an_action_notes()
     ensures withdrawal { WithdrawalsAreNoted }
     ensures insertion { InsertionsAreNoted }
     ensures power_on { PowerOnsAreNoted }
+{}
+
+/// The power spans of a run with their odometers, as one second more comes: they are its spans; the odometers before a later second stay, and what else
+/// is told of a second counts nothing; in a second with power it is that of its span, and what was travelled in it.
+pub fn odometers_go_on_with_their_spans()
+    ensures spans { TheyAreTheSpans }
+    ensures earlier { EarlierOdometersStay }
+    ensures alike { AlikeSecondsCountAlike }
+    ensures now { TheOdometerOfNow }
 {}

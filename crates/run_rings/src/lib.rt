@@ -5,5 +5,5 @@ mod laws;
 
 pub use laws::{
     a_second_notes_action_by_action, a_withdrawal_is_told_by_the_last_insertion, an_index_stays,
-    what_a_ring_carries, what_an_action_notes,
+    odometers_go_on_with_their_spans, what_a_ring_carries, what_an_action_notes,
 };
