@@ -31,14 +31,14 @@ use Rattle.demo_file.specs.declared.measuring.FileSize.{FileSize}
 use Rattle.demo_file.specs.Measures.{IsSizeOf}
 use Rattle.tacho.specs.declared.demo_command.TheConstants.{VEHICLE, CARD}
 use Rattle.tacho.specs.declared.end.Fault.{Fault}
-use Rattle.tacho.specs.declared.end.Fault.TheVariants.{WriteFault, MediumFault, Memory, Changed}
+use Rattle.tacho.specs.declared.end.Fault.TheVariants.{ReadFault, WriteFault, MediumFault, Memory, Changed}
 use Rattle.tacho.specs.declared.forms.Form.TheVariants.{Demo}
 use Rattle.tacho.specs.End.{end_of, ended_by}
 use Rattle.tacho.specs.Outside.{Outside, memory_of}
 use Rattle.tacho.specs.Outcomes.{IsEmpty, IsRun}
 use Rattle.tacho.specs.CardsRecorded.{devices_of}
 use Rattle.tacho.specs.Formatting.{card_image, unit_image}
-use Rattle.tacho.specs.Program.{Ends, HasDemoCauses}
+use Rattle.tacho.specs.Program.{Ends, HasCauses}
 use Rattle.tacho.specs.Demo.{demo_text, refusal_anew, refusal_of_file, IsDemoEnd, StartAnew, IsDemonstrated, EndsDemo}
 
 -- HOW MANY ITEMS a demonstration has
@@ -176,17 +176,18 @@ demo-done seed old new outcome unit size (Err fault) reads recorded measured app
       changed = λ is. absurd (cc);
     })
 
--- the cause of a failed download
-unread-cause : (old new : Outside) (unit : State) (fault : DownloadFault) (device : Device) → ReadsIfAny unit new.unit (has_failed {T = FileSize} (Err fault)) → refusal_of_file fault ≡ MediumFault device
-    → Rose (memory_of device old).faults (memory_of device new).faults ⊎ ((device ≡ OfUnit) × (0 < new.unit.faults))
-unread-cause old new unit download.Failed device reads is =
+-- the cause of a failed download: the unit had failed no less often before it than at the start
+unread-cause : (old new : Outside) (unit : State) (fault : DownloadFault) (device : Device) → old.unit.faults ≤ unit.faults → ReadsIfAny unit new.unit (has_failed {T = FileSize} (Err fault)) → refusal_of_file fault ≡ MediumFault device
+    → Rose (memory_of device old).faults (memory_of device new).faults
+unread-cause old new unit download.Failed device before reads is =
     let same : OfUnit ≡ device = cc in
     let rose : Rose unit.faults new.unit.faults = ⊎_elim (λ none. absurd (let e = none.0 in cc)) (λ some. some.cause.fault refl) reads in
-    inr (sym same, omega (arith, rose))
-unread-cause old new unit (download.BadUnit place) device reads is = absurd (cc)
-unread-cause old new unit download.Changed device reads is = absurd (cc)
-unread-cause old new unit download.WriteFault device reads is = absurd (cc)
-unread-cause old new unit download.Memory device reads is = absurd (cc)
+    let since : Rose old.unit.faults new.unit.faults = omega (arith, before, rose) in
+    subst (λ (d : Device). Rose (memory_of d old).faults (memory_of d new).faults) same since
+unread-cause old new unit (download.BadUnit place) device before reads is = absurd (cc)
+unread-cause old new unit download.Changed device before reads is = absurd (cc)
+unread-cause old new unit download.WriteFault device before reads is = absurd (cc)
+unread-cause old new unit download.Memory device before reads is = absurd (cc)
 
 never-write : (fault : DownloadFault) → refusal_of_file fault ≡ WriteFault → ⊥
 never-write download.Failed is = cc
@@ -195,10 +196,11 @@ never-write download.Changed is = cc
 never-write download.WriteFault is = cc
 never-write download.Memory is = cc
 
-pub unread-causes : (old new : Outside) (unit : State) (fault : DownloadFault) → ReadsIfAny unit new.unit (has_failed {T = FileSize} (Err fault)) → old.source.faults ≤ new.source.faults → old.sink.faults ≤ new.sink.faults → HasDemoCauses old new (refusal_of_file fault)
-unread-causes old new unit fault reads source sink = record {
+pub unread-causes : (old new : Outside) (unit : State) (fault : DownloadFault) → old.unit.faults ≤ unit.faults → ReadsIfAny unit new.unit (has_failed {T = FileSize} (Err fault)) → old.source.faults ≤ new.source.faults → old.sink.faults ≤ new.sink.faults → HasCauses old new (refusal_of_file fault)
+unread-causes old new unit fault before reads source sink = record {
+  read_fault = λ is. absurd (subst IsDemoEnd is (file-ends fault));
   write_fault = λ is. absurd (never-write fault is);
-  medium_fault = λ device is. unread-cause old new unit fault device reads is;
+  medium_fault = λ device is. unread-cause old new unit fault device before reads is;
   reads = source;
   writes = sink;
 }
@@ -215,22 +217,23 @@ anew-cause old new (Kept (run.BadUnit place)) failed device is = absurd (cc)
 anew-cause old new (Kept (run.ClockBack kept second)) failed device is = absurd (cc)
 anew-cause old new (Kept (run.SameCard number)) failed device is = absurd (cc)
 
-pub anew-causes : (old new : Outside) (fault : AnewFault) → IsFailed fault (devices_of old) (devices_of new) → old.source.faults ≤ new.source.faults → old.sink.faults ≤ new.sink.faults → HasDemoCauses old new (refusal_anew fault)
+pub anew-causes : (old new : Outside) (fault : AnewFault) → IsFailed fault (devices_of old) (devices_of new) → old.source.faults ≤ new.source.faults → old.sink.faults ≤ new.sink.faults → HasCauses old new (refusal_anew fault)
 anew-causes old new fault failed source sink = record {
+  read_fault = λ is. absurd (subst IsDemoEnd is (anew-ends fault));
   write_fault = λ is. absurd (anew-refused fault (subst IsRun (sym is) tt));
-  medium_fault = λ device is. inl (anew-cause old new fault failed device is);
+  medium_fault = λ device is. anew-cause old new fault failed device is;
   reads = source;
   writes = sink;
 }
 
 -- there was no memory
-pub memory-causes : (old new : Outside) → old.source.faults ≤ new.source.faults → old.sink.faults ≤ new.sink.faults → HasDemoCauses old new Memory
-memory-causes old new source sink = record { write_fault = λ is. absurd (cc); medium_fault = λ device is. absurd (cc); reads = source; writes = sink }
+pub memory-causes : (old new : Outside) → old.source.faults ≤ new.source.faults → old.sink.faults ≤ new.sink.faults → HasCauses old new Memory
+memory-causes old new source sink = record { read_fault = λ is. absurd (cc); write_fault = λ is. absurd (cc); medium_fault = λ device is. absurd (cc); reads = source; writes = sink }
 
 -- the lines were printed, or the sink failed
-pub printed-causes : {T : Type 0} (old new : Outside) (r : Result T Fault) → IfErr r (λ fault. fault ≡ WriteFault) → IfErr r (λ fault. Rose old.sink.faults new.sink.faults) → old.source.faults ≤ new.source.faults → old.sink.faults ≤ new.sink.faults → HasDemoCauses old new (end_of r)
-printed-causes old new (Ok u) write rose source sink = record { write_fault = λ is. absurd (cc); medium_fault = λ device is. absurd (cc); reads = source; writes = sink }
-printed-causes old new (Err fault) write rose source sink = record { write_fault = λ is. rose; medium_fault = λ device is. absurd (let bad : WriteFault ≡ MediumFault device = sym write ∙ is in cc); reads = source; writes = sink }
+pub printed-causes : {T : Type 0} (old new : Outside) (r : Result T Fault) → IfErr r (λ fault. fault ≡ WriteFault) → IfErr r (λ fault. Rose old.sink.faults new.sink.faults) → old.source.faults ≤ new.source.faults → old.sink.faults ≤ new.sink.faults → HasCauses old new (end_of r)
+printed-causes old new (Ok u) write rose source sink = record { read_fault = λ is. absurd (cc); write_fault = λ is. absurd (cc); medium_fault = λ device is. absurd (cc); reads = source; writes = sink }
+printed-causes old new (Err fault) write rose source sink = record { read_fault = λ is. absurd (let bad : WriteFault ≡ ReadFault = sym write ∙ is in cc); write_fault = λ is. rose; medium_fault = λ device is. absurd (let bad : WriteFault ≡ MediumFault device = sym write ∙ is in cc); reads = source; writes = sink }
 
 -- the first of two facts of a fault
 pub first-of : {T : Type 0} (P Q : Fault → Type 0) (r : Result T Fault) → IfErr r (λ fault. P fault × Q fault) → IfErr r P
@@ -245,7 +248,7 @@ as-demo seed x a b start items out old now image first all h =
     (subst (λ (l : List ℕ). EndsAnew x l b start items out old now) image h))
 
 -- so the call ends that was asked for it
-pub demo-ends : {T : Type 0} (seed : ℕ) (old new : Outside) (outcome : Outcome) (r : Result T Fault) → EndsDemo seed old new outcome (end_of r) → HasDemoCauses old new (end_of r) → Ends (Some (Demo seed)) old new (ended_by outcome (end_of r))
+pub demo-ends : {T : Type 0} (seed : ℕ) (old new : Outside) (outcome : Outcome) (r : Result T Fault) → EndsDemo seed old new outcome (end_of r) → HasCauses old new (end_of r) → Ends (Some (Demo seed)) old new (ended_by outcome (end_of r))
 demo-ends seed old new outcome (Ok u) ends causes = record {
   status = refl;
   usage = (λ is. absurd (cc), λ none. absurd (cc));

@@ -14,7 +14,8 @@ use Rattle.run_keeping.specs.Books.{HaveTime}
 use Rattle.run_outcome.specs.declared.outcome.Outcome.{Outcome}
 use Rattle.run_opening.specs.declared.fault.RunFault.{RunFault}
 use Rattle.run_opening.specs.declared.fault.RunFault.TheVariants.{MediumFault, BadUnit, ClockBack, SameCard}
-use Rattle.recorder_with_cards.specs.Ends.{AreLater, BeginAs, EndsTrace}
+use Rattle.run_keeping.specs.Later.{AreLater}
+use Rattle.recorder_with_cards.specs.Ends.{BeginAs, EndsTrace}
 use Rattle.recorder_with_cards.specs.Gone.{IsRefusedBy}
 use Rattle.tacho.specs.declared.anew.AnewFault.TheVariants.{Kept}
 use Rattle.tacho.specs.Anew.{began_at, MayBeAnew, EndsAnew, IsFailed}
@@ -65,7 +66,11 @@ ends-anew x a b start items out U V X Y Z now unit card unit_same card_same befo
 
 -- no clock stood at its last value before, where none does now
 pub time-before : (d e : Devices) → AreLater d e → HaveTime e → HaveTime d
-time-before d e later time = record { unit = omega (arith, later.unit, time.unit); card_a = omega (arith, later.card_a, time.card_a); card_b = omega (arith, later.card_b, time.card_b) }
+time-before d e later time = record {
+  unit = let clock = later.unit.clock in omega (arith, clock, time.unit);
+  card_a = let clock = later.card_a.clock in omega (arith, clock, time.card_a);
+  card_b = let clock = later.card_b.clock in omega (arith, clock, time.card_b);
+}
 
 -- what is told to have failed
 pub kept-failed : (start : ℕ) (before after : Outcome) (U V W X Y Z S T : State) (fault : RunFault) → U.faults ≤ V.faults → X.faults ≤ Y.faults → IsRefusedBy start before after V W Y Z S T fault → IsFailed (Kept fault) (devices U X S) (devices W Z T)

@@ -57,6 +57,7 @@ pub fn run_anew<U: Medium, C: Chip>(
         → IfErr result (λ fault. outcome.new ≡ outcome.old) }
     // A device that is told to have failed has failed.
     ensures failed { IfErr result (λ fault. IsFailed fault (devices (U.state unit.old) (C.state card_a.old) (C.state card_b.old)) (devices (U.state unit.new) (C.state card_a.new) (C.state card_b.new))) }
+    ensures faults { (U.state unit.old).faults ≤ (U.state unit.new).faults }
     ensures unit { IsUnit (U.state unit.new) }
 {
     if format_unit(unit, vehicle).is_err() {

@@ -29,7 +29,7 @@ returns-in-Err-measure-clause-ends g c =
 
 pub returns-in-Err-measure-clause-causes : goal.returns-in-Err-measure-clause-causes
 returns-in-Err-measure-clause-causes g c =
-    rw c.refusal_of_file.ensures (unread-causes _ _ (g.U.Medium.state c.run_anew.new.unit) c.in-Err-measure.fault c.in-Err-measure.ensures.unit (omega arith) (omega arith))
+    rw c.refusal_of_file.ensures (unread-causes _ _ (g.U.Medium.state c.run_anew.new.unit) c.in-Err-measure.fault c.in_default-run_anew.ensures.faults c.in-Err-measure.ensures.unit (omega arith) (omega arith))
 
 pub returns-in-Err-clause-causes : goal.returns-in-Err-clause-causes
 returns-in-Err-clause-causes g c = rw c.refusal_anew.ensures (anew-causes _ _ c.in-Err.fault c.in-Err.ensures.failed (omega arith) (omega arith))
