@@ -38,8 +38,8 @@ broke-once {before} {after} second begun {old} {new} is rose =
     record { few = omega (arith, more); broke = omega (arith, more, rose) }
 
 -- lines more, of which none is such a cut
-pub broke-behind : {before more after : List Break} {old new : State} → after ≡ before ++ more → failed_cuts more ≡ 0 → old.breakdowns ≤ new.breakdowns → BreaksDown before after old new
-broke-behind {before} {more} is none le = broke-same (ap failed_cuts is ∙ cuts-behind before more ∙ (let same : failed_cuts before + failed_cuts more ≡ failed_cuts before = omega (arith, none) in same)) le
+pub broke-behind : {before after : List Break} (more : List Break) {old new : State} → after ≡ before ++ more → failed_cuts more ≡ 0 → old.breakdowns ≤ new.breakdowns → BreaksDown before after old new
+broke-behind {before} more is none le = broke-same (ap failed_cuts is ∙ cuts-behind before more ∙ (let same : failed_cuts before + failed_cuts more ≡ failed_cuts before = omega (arith, none) in same)) le
 
 -- two steps
 pub broke-then : {before mids after : List Break} {old mid new : State} → BreaksDown before mids old mid → BreaksDown mids after mid new → BreaksDown before after old new

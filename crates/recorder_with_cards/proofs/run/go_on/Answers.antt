@@ -169,7 +169,7 @@ pub returns-in-Act-clause-broke : goal.returns-in-Act-clause-broke
 returns-in-Act-clause-broke g c = broke-none c.args.outcome.now.breaks.items {old = (g.M.Medium.state c.args.unit.now)} {new = (g.M.Medium.state c.args.unit.now)} (omega arith)
 
 pub returns-in-Off-clause-broke : goal.returns-in-Off-clause-broke
-returns-in-Off-clause-broke g c = broke-behind {old = (g.M.Medium.state c.args.unit.now)} {new = (g.M.Medium.state c.args.unit.now)} (ap (λ (l : Listed Break). l.items) c.off.ensures.breaks) (off-uncut _ _ _) (omega arith)
+returns-in-Off-clause-broke g c = broke-behind _ {old = (g.M.Medium.state c.args.unit.now)} {new = (g.M.Medium.state c.args.unit.now)} (ap (λ (l : Listed Break). l.items) c.off.ensures.breaks) (off-uncut _ _ _) (omega arith)
 
 pub returns-in-Run-clause-broke : goal.returns-in-Run-clause-broke
 returns-in-Run-clause-broke g c = c.drive.ensures.broke
