@@ -33,6 +33,7 @@ use Rattle.run_keeping.proofs.Fates.{no-lines}
 use Rattle.run_acts.specs.Acting.{Bare, Closed}
 use Rattle.run_acts.proofs.NotedEvents.{one-noted, same-noted}
 use Rattle.run_acts.proofs.ActsNoted.{quiet-any}
+use Rattle.run_keeping.proofs.Later.{state-same, state-by}
 use Rattle.run_acts.proofs.withdrawing.close.Goals as goal
 
 pub returns-in-Ok-leave-clause-ready : goal.returns-in-Ok-leave-clause-ready
@@ -113,8 +114,8 @@ returns-in_default-clause-events g c =
       notes = same-noted U X X;
     }
 
-pub returns-in_default-2-clause-events : goal.returns-in_default-2-clause-events
-returns-in_default-2-clause-events g c =
+pub returns-in_default-sizes-clause-events : goal.returns-in_default-sizes-clause-events
+returns-in_default-sizes-clause-events g c =
     let run = c.args.run.now in
     let U = g.M.Medium.state c.args.unit.now in
     let X = g.C.Chip.state c.args.card.now in
@@ -167,3 +168,17 @@ returns-in-Err-clause-events g c =
       notes = one-noted U V X X Y Y (g.met.M.Medium.coherent c.args.unit.now) (g.met.M.Medium.coherent c.tear.new.unit) c.requires.ready.is_unit (entry_of CARD_FAULT c.args.at.second c.args.at.second crew crew) (is_err c.tear.result)
           (λ well. ok_gives c.tear.result c.tear.ensures.noted well) c.tear.ensures.moments c.tear.ensures.cause.works;
     }
+
+-- ---- what holds of the devices after any calls
+
+pub returns-in_default-clause-later : goal.returns-in_default-clause-later
+returns-in_default-clause-later g c = state-same (g.C.Chip.state c.args.card.now)
+
+pub returns-in_default-sizes-clause-later : goal.returns-in_default-sizes-clause-later
+returns-in_default-sizes-clause-later g c = state-same (g.C.Chip.state c.args.card.now)
+
+pub returns-in-Ok-leave-clause-later : goal.returns-in-Ok-leave-clause-later
+returns-in-Ok-leave-clause-later g c = state-by (g.C.Chip.state c.args.card.now) (g.C.Chip.state c.leave.new.card) (is_err c.leave.result) c.leave.ensures.moments.later c.leave.ensures.cause
+
+pub returns-in-Err-clause-later : goal.returns-in-Err-clause-later
+returns-in-Err-clause-later g c = state-by (g.C.Chip.state c.args.card.now) (g.C.Chip.state c.leave.new.card) (is_err c.leave.result) c.leave.ensures.moments.later c.leave.ensures.cause

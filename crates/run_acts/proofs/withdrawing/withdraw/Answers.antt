@@ -42,6 +42,7 @@ use Rattle.run_acts.specs.Faults.{NotesSettling}
 use Rattle.run_acts.specs.Noting.{NotesClosing, NotesWithdrawing}
 use Rattle.run_acts.proofs.NotedEvents.{same-noted}
 use Rattle.run_acts.proofs.ActsNoted.{settles-these, withdrawal-cut, withdrawal-noted, closing-any}
+use Rattle.run_keeping.proofs.Later.{state-by, later-same, later-then, later-of-a, later-of-b}
 use Rattle.run_acts.proofs.withdrawing.withdraw.Goals as goal
 
 -- ---- it has left its slot
@@ -607,3 +608,17 @@ returns-in-B-clause-events g c =
     let these = settles-these c.args.at false (left_run c.args.slot c.args.at.second run) between c.args.outcome.now told U V A0 B0 A1 B1 (g.met.M.Medium.coherent c.args.unit.now) c.requires.held.is_unit settling in
     let closes = closing-any B c.args.slot c.args.at (is_err c.close-in-B.result) between c.close-in-B.new.run told.breaks c.close-in-B.new.breaks (devices V X1 X1) (devices W Y Y) (devices V A1 B1) (devices W A1 Y) refl refl c.close-in-B.ensures.events in
     withdrawal-noted (card_in (seat_in run.keeper.cabin.slots.seats c.args.slot)) B there c.args.slot c.args.at (is_err c.close-in-B.result) run between c.close-in-B.new.run c.args.outcome.now told c.close-in-B.new.breaks (devices U A0 B0) (devices V A1 B1) (devices W A1 Y) these.0 these.1 these.2 closes
+
+-- ---- what holds of the devices after any calls
+
+pub returns-in_default-clause-later : goal.returns-in_default-clause-later
+returns-in_default-clause-later g c = later-same (devices (g.M.Medium.state c.args.unit.now) (g.C.Chip.state c.args.card_a.now) (g.D.Chip.state c.args.card_b.now))
+
+pub returns-in_err-settle-clause-later : goal.returns-in_err-settle-clause-later
+returns-in_err-settle-clause-later g c = c.settle.ensures.later
+
+pub returns-in-A-clause-later : goal.returns-in-A-clause-later
+returns-in-A-clause-later g c = later-then (devices (g.M.Medium.state c.args.unit.now) (g.C.Chip.state c.args.card_a.now) (g.D.Chip.state c.args.card_b.now)) (devices (g.M.Medium.state c.settle.new.unit) (g.C.Chip.state c.settle.new.card_a) (g.D.Chip.state c.settle.new.card_b)) (devices (g.M.Medium.state c.close.new.unit) (g.C.Chip.state c.close.new.card) (g.D.Chip.state c.settle.new.card_b)) c.settle.ensures.later (later-of-a (g.M.Medium.state c.settle.new.unit) (g.M.Medium.state c.close.new.unit) (g.C.Chip.state c.settle.new.card_a) (g.C.Chip.state c.close.new.card) (g.D.Chip.state c.settle.new.card_b) (state-by (g.M.Medium.state c.settle.new.unit) (g.M.Medium.state c.close.new.unit) _ c.close.ensures.journal.later c.close.ensures.cause) c.close.ensures.later)
+
+pub returns-in-B-clause-later : goal.returns-in-B-clause-later
+returns-in-B-clause-later g c = later-then (devices (g.M.Medium.state c.args.unit.now) (g.C.Chip.state c.args.card_a.now) (g.D.Chip.state c.args.card_b.now)) (devices (g.M.Medium.state c.settle.new.unit) (g.C.Chip.state c.settle.new.card_a) (g.D.Chip.state c.settle.new.card_b)) (devices (g.M.Medium.state c.close-in-B.new.unit) (g.C.Chip.state c.settle.new.card_a) (g.D.Chip.state c.close-in-B.new.card)) c.settle.ensures.later (later-of-b (g.M.Medium.state c.settle.new.unit) (g.M.Medium.state c.close-in-B.new.unit) (g.C.Chip.state c.settle.new.card_a) (g.D.Chip.state c.settle.new.card_b) (g.D.Chip.state c.close-in-B.new.card) (state-by (g.M.Medium.state c.settle.new.unit) (g.M.Medium.state c.close-in-B.new.unit) _ c.close-in-B.ensures.journal.later c.close-in-B.ensures.cause) c.close-in-B.ensures.later)
