@@ -27,6 +27,10 @@ use Rattle.run_acts.proofs.NotedEvents.{then-noted}
 use Rattle.run_acts.specs.Faults.{NotesSettling}
 use Rattle.recorder_with_cards.specs.Accepting.{put_run}
 use Rattle.recorder_with_cards.proofs.WakeNoted.{settles-these, anew-these}
+use Rattle.run_entering.specs.Entering.{ending_of}
+use Rattle.recorder_with_cards.specs.EnteredRings.{RingsInserting}
+use Rattle.run_acts.proofs.Ringing.{settling-leaves}
+use Rattle.recorder_with_cards.proofs.EnteredRings.{writes-behind}
 use Rattle.recorder_with_cards.proofs.inserting.insert.Goals as goal
 
 pub settle-requires-clause-held : goal.settle-requires-clause-held
@@ -183,3 +187,43 @@ returns-clause-noted g c =
       are = inr (record { between = mid; told = told; faults = these.0; judged = judged.0; settles = these.1; judges = judged.1; are = refl });
       notes = then-noted these.0 judged.0 (is_err c.accept_in.result) (devices U X Y) e f these.2 judged.2;
     }
+
+-- ---- the rings
+
+pub returns-in_err-settle-clause-rings : goal.returns-in_err-settle-clause-rings
+returns-in_err-settle-clause-rings g c = λ tells.
+    let run = c.args.run.now in
+    let out = c.args.outcome.now in
+    let mid : Run = c.settle.new.run in
+    let told : Outcome = c.settle.new.outcome in
+    let U : State = g.M.Medium.state c.args.unit.now in
+    let V : State = g.M.Medium.state c.settle.new.unit in
+    let settles = subst (λ (b : Cabin). IsSettled c.args.at true (with_cabin b run) mid out told) c.put_in.ensures.kept c.in_err-settle.ensures.settled in
+    let failed : true ≡ is_err c.from_residual.result = search rules in
+    inl (sym failed, settles, settling-leaves c.args.at true (with_cabin c.put_in.new.self run) mid out told U V c.in_err-settle.ensures.noted)
+
+pub returns-clause-rings : goal.returns-clause-rings
+returns-clause-rings g c = λ tells.
+    let run = c.args.run.now in
+    let out = c.args.outcome.now in
+    let mid : Run = c.settle.new.run in
+    let told : Outcome = c.settle.new.outcome in
+    let U : State = g.M.Medium.state c.args.unit.now in
+    let V : State = g.M.Medium.state c.settle.new.unit in
+    let W : State = g.M.Medium.state c.accept_in.new.unit in
+    let settles = subst (λ (b : Cabin). IsSettled c.args.at false (with_cabin b run) mid out told) c.put_in.ensures.kept c.in_ok-settle.ensures.settled in
+    let leaves = settling-leaves c.args.at false (with_cabin c.put_in.new.self run) mid out told U V c.in_ok-settle.ensures.noted in
+    let j = c.accept_in.ensures.rings in
+    inr (record {
+      between = mid;
+      told = told;
+      settled_first = settles;
+      judges = (
+        j.0,
+        j.1,
+        record {
+          accepted = j.2.accepted;
+          writes = λ here. writes-behind (ending_of j.2.accepted.way) j.0 (is_err c.accept_in.result) U V W leaves (j.2.writes (c.in_ok-settle.ensures.tells ∙ tells));
+        },
+      );
+    })

@@ -31,6 +31,15 @@ use Rattle.run_outcome.specs.declared.outcome.Outcome.{Outcome}
 use Rattle.run_recorded.specs.Origin.{Origin}
 use Rattle.run_acts.specs.Recording.{RunWithin, GoesOnOrCut, IsNow}
 use Rattle.run_acts.proofs.NoteRecorded.{noted-some, place-told, unit-recorded}
+use Rattle.tacho_types.specs.declared.card_number.FullCardNumber.{FullCardNumber}
+use Rattle.tach_media.specs.Medium.{State, IsCoherent}
+use Rattle.unit_notes.specs.Entries.{unit_place_bytes}
+use Rattle.trace_model.specs.declared.Card.{Card}
+use Rattle.slot_machine.specs.declared.seats.Seat.{Seat}
+use Rattle.run_crew.specs.declared.cards.Cards.{Cards}
+use Rattle.run_rings.proofs.Same.{rings-left}
+use Rattle.run_acts.specs.Ringing.{WritesPlace}
+use Rattle.run_acts.proofs.Ringing.{place-broken, place-then}
 use Rattle.run_acts.proofs.placing.note_place.Goals as goal
 
 pub note_place_in-requires-clause-ready : goal.note_place_in-requires-clause-ready
@@ -256,3 +265,63 @@ returns-in-A-clause-clock_a g c = c.note_place_in.ensures.clock_card
 
 pub returns-in-B-clause-clock_b : goal.returns-in-B-clause-clock_b
 returns-in-B-clause-clock_b g c = c.note_place_in-in-B.ensures.clock_card
+
+-- ---- the rings
+
+no-number : (cards : Cards) (seat : Option Seat) (o : Option Card) → o ≡ card_in seat → ((card : Card) → o ≡ Some card → ⊥) → number_of_seat cards seat ≡ None
+no-number cards None o is never = refl
+no-number cards (Some s) o is never = absurd (never s.card is)
+
+none-given : (o : Option FullCardNumber) → ((number : FullCardNumber) → o ≡ Some number → ⊥) → o ≡ None
+none-given None never = refl
+none-given (Some number) never = absurd (never number refl)
+
+pub returns-in_default-clause-rings : goal.returns-in_default-clause-rings
+returns-in_default-clause-rings g c = λ tells.
+    let run = c.args.run.now in
+    let U = g.M.Medium.state c.args.unit.now in
+    let none = no-number run.keeper.cabin.cards (seat_in run.keeper.cabin.slots.seats c.args.slot) c.card.result c.card.ensures c.in_default.not-Some in
+    subst (λ (o : Option FullCardNumber). WritesPlace o c.args.entry.now false U U) (sym none) (rings-left U)
+
+pub returns-in_default-number_in-clause-rings : goal.returns-in_default-number_in-clause-rings
+returns-in_default-number_in-clause-rings g c = λ tells.
+    let run = c.args.run.now in
+    let U = g.M.Medium.state c.args.unit.now in
+    let none : number_of_seat run.keeper.cabin.cards (seat_in run.keeper.cabin.slots.seats c.args.slot) ≡ None = sym c.number_in.ensures ∙ none-given c.number_in.result c.in_default-number_in.not-Some in
+    subst (λ (o : Option FullCardNumber). WritesPlace o c.args.entry.now false U U) (sym none) (rings-left U)
+
+pub returns-in_err-note_place-clause-rings : goal.returns-in_err-note_place-clause-rings
+returns-in_err-note_place-clause-rings g c = λ tells.
+    let run = c.args.run.now in
+    let U = g.M.Medium.state c.args.unit.now in
+    let V = g.M.Medium.state c.note_place.new.unit in
+    let number = c.in-Some-number_in.number in
+    let told : number_of_seat run.keeper.cabin.cards (seat_in run.keeper.cabin.slots.seats c.args.slot) ≡ Some number = cc in
+    let failed : true ≡ is_err c.from_residual.result = search rules in
+    subst (λ (q : Bool). WritesPlace (number_of_seat run.keeper.cabin.cards (seat_in run.keeper.cabin.slots.seats c.args.slot)) c.args.entry.now q U V) failed
+    (subst (λ (o : Option FullCardNumber). WritesPlace o c.args.entry.now true U V) (sym told)
+    (place-broken (unit_place_bytes number c.args.entry.now) U V V (g.met.M.Medium.coherent c.args.unit.now) (g.met.M.Medium.coherent c.note_place.new.unit) tells c.note_place.ensures.moments))
+
+pub returns-in-A-clause-rings : goal.returns-in-A-clause-rings
+returns-in-A-clause-rings g c = λ tells.
+    let run = c.args.run.now in
+    let U = g.M.Medium.state c.args.unit.now in
+    let V = g.M.Medium.state c.note_place.new.unit in
+    let W = g.M.Medium.state c.note_place_in.new.unit in
+    let number = c.in-Some-number_in.number in
+    let told : number_of_seat run.keeper.cabin.cards (seat_in run.keeper.cabin.slots.seats c.args.slot) ≡ Some number = cc in
+    let n = c.in_ok-note_place.ensures in
+    subst (λ (o : Option FullCardNumber). WritesPlace o c.args.entry.now (is_err c.note_place_in.result) U W) (sym told)
+    (place-then (unit_place_bytes number c.args.entry.now) U V W (g.met.M.Medium.coherent c.args.unit.now) (g.met.M.Medium.coherent c.note_place.new.unit) tells c.note_place.ensures.moments (is_err c.note_place_in.result) n.noted n.cause.works c.note_place_in.ensures.rings)
+
+pub returns-in-B-clause-rings : goal.returns-in-B-clause-rings
+returns-in-B-clause-rings g c = λ tells.
+    let run = c.args.run.now in
+    let U = g.M.Medium.state c.args.unit.now in
+    let V = g.M.Medium.state c.note_place.new.unit in
+    let W = g.M.Medium.state c.note_place_in-in-B.new.unit in
+    let number = c.in-Some-number_in.number in
+    let told : number_of_seat run.keeper.cabin.cards (seat_in run.keeper.cabin.slots.seats c.args.slot) ≡ Some number = cc in
+    let n = c.in_ok-note_place.ensures in
+    subst (λ (o : Option FullCardNumber). WritesPlace o c.args.entry.now (is_err c.note_place_in-in-B.result) U W) (sym told)
+    (place-then (unit_place_bytes number c.args.entry.now) U V W (g.met.M.Medium.coherent c.args.unit.now) (g.met.M.Medium.coherent c.note_place.new.unit) tells c.note_place.ensures.moments (is_err c.note_place_in-in-B.result) n.noted n.cause.works c.note_place_in-in-B.ensures.rings)

@@ -15,6 +15,11 @@ use Rattle.run_keeping.proofs.Sessions.{number-set, torn-stands}
 use Rattle.run_keeping.proofs.CardBooked.{no-session, none-there}
 use Rattle.run_keeping.proofs.Fates.{no-lines}
 use Rattle.run_acts.proofs.Apart.{not-both, session-back, torn-apart, noted-sizes, ready-again, session-works, fell-broken, well-broken}
+use Rattle.event_model.specs.declared.kinds.TheConstants.{CARD_FAULT}
+use Rattle.unit_notes.specs.Noting.{IsNotingEvent}
+use Rattle.run_crew.specs.Cabin.{crew_of}
+use Rattle.run_keeping.specs.Keeping.{fault_of}
+use Rattle.run_rings.proofs.Same.{rings-left, rings-moments, table-outside}
 use Rattle.run_acts.proofs.placing.note_place_in.Goals as goal
 
 pub note_place_on-requires-clause-port : goal.note_place_on-requires-clause-port
@@ -124,3 +129,13 @@ returns-clause-card g c =
     let cards = c.set_session.ensures ∙ ap (λ (q : Cards). with_session c.args.which (Some c.in-Some.accepted) q) c.take.ensures.left ∙ session-back c.args.which c.in-Some.accepted run.keeper.cabin.cards (sym c.in-Some.ensures.taken) in
     subst (λ (q : Cards). CardReady (known_of q c.args.which) next Y) (sym cards)
     (ready-again (known_of run.keeper.cabin.cards c.args.which) c.in-Ok.app (g.C.Chip.card c.args.card.now) next X Y c.requires.card is c.note_place_on.ensures.port cause.works)
+
+-- ---- the rings
+
+pub returns-then-is_err-clause-rings : goal.returns-then-is_err-clause-rings
+returns-then-is_err-clause-rings g c =
+    rings-moments (g.M.Medium.state c.args.unit.now) (g.M.Medium.state c.tear.new.unit) (IsNotingEvent CARD_FAULT (fault_of c.args.at.second (crew_of c.tear.new.self.cabin))) (g.met.M.Medium.coherent c.args.unit.now) c.tear.ensures.moments
+    (λ x n moment. table-outside CARD_FAULT x n moment.outside)
+
+pub returns-clause-rings : goal.returns-clause-rings
+returns-clause-rings g c = rings-left (g.M.Medium.state c.args.unit.now)

@@ -18,10 +18,19 @@ use Rattle.run_crew.specs.Cabin.{torn_out}
 use Rattle.run_keeping.specs.declared.keeper.Keeper.{Keeper}
 use Rattle.run_keeping.specs.Keeping.{UnitReady, CardReady, HasItsRow}
 use Rattle.run_keeping.proofs.Sessions.{number-set}
+use Rattle.run_keeping.proofs.Fates.{no-lines}
+use Rattle.run_keeping.proofs.CardBooked.{no-session, none-there}
 use Rattle.run_acts.specs.declared.run.Run.{Run}
 use Rattle.run_acts.proofs.Noted.{noted-ready, noted-row}
 use Rattle.run_acts.specs.Acting.{Fell, IsClosingOf}
 use Rattle.run_acts.proofs.Cabins.{session-known, twice-ready}
+use Rattle.event_model.specs.declared.kinds.TheConstants.{CARD_FAULT}
+use Rattle.unit_notes.specs.Noting.{IsNotingEvent}
+use Rattle.run_crew.specs.Cabin.{crew_of}
+use Rattle.run_keeping.specs.Keeping.{fault_of}
+use Rattle.run_rings.proofs.Same.{rings-left, rings-moments, table-outside}
+use Rattle.run_acts.specs.Acting.{Bare, Closed}
+use Rattle.run_acts.specs.Ringing.{ClosesRings}
 use Rattle.run_acts.proofs.withdrawing.close.Goals as goal
 
 pub returns-in-Ok-leave-clause-ready : goal.returns-in-Ok-leave-clause-ready
@@ -83,3 +92,38 @@ pub returns-in-Err-clause-left : goal.returns-in-Err-clause-left
 returns-in-Err-clause-left g c =
     subst (λ (o : Option Accepted). IfSome o (λ s. (act : Activity) × LeavesOnly (g.C.Chip.state c.args.card.now) (g.C.Chip.state c.leave.new.card) (λ x n. IsSession s.session x → IsCardClosing s.session act x n))) c.in-Some.ensures.session
     (activity_of c.selected-selected.result, c.leave.ensures.moments)
+
+-- ---- the rings
+
+pub returns-in-Ok-leave-clause-rings : goal.returns-in-Ok-leave-clause-rings
+returns-in-Ok-leave-clause-rings g c = λ tells.
+    let run = c.args.run.now in
+    let which = c.args.which in
+    let U = g.M.Medium.state c.args.unit.now in
+    let V = g.M.Medium.state c.note_withdrawal.new.unit in
+    let some : session_of run.keeper.cabin.cards which ≡ Some c.in-Some.accepted = sym c.in-Some.ensures.session in
+    record {
+      closing = Closed;
+      closed = record {
+        is = subst (λ (o : Option Accepted). IsClosingOf o Closed) (sym some) tt;
+        run = ap (λ (b : Cabin). record run { keeper = record run.keeper { cabin = b } }) c.close.ensures.kept;
+        told = no-lines c.args.breaks.now;
+      };
+      rings = subst (λ (o : Option Accepted). ClosesRings Closed o c.args.at (is_err c.note_withdrawal.result) run U V) (sym some) (c.note_withdrawal.ensures.rings tells);
+    }
+
+pub returns-in-Err-clause-rings : goal.returns-in-Err-clause-rings
+returns-in-Err-clause-rings g c = λ tells.
+    let run = c.args.run.now in
+    let which = c.args.which in
+    let some : session_of run.keeper.cabin.cards which ≡ Some c.in-Some.accepted = sym c.in-Some.ensures.session in
+    record {
+      closing = Fell;
+      closed = record {
+        is = subst (λ (o : Option Accepted). IsClosingOf o Fell) (sym some) tt;
+        run = ap (λ (k : Keeper). record run { keeper = k }) (c.tear.ensures.keeper ∙ ap (λ (b : Cabin). record run.keeper { cabin = torn_out which c.args.at.second b }) c.close.ensures.kept);
+        told = c.tear.ensures.told;
+      };
+      rings = rings-moments (g.M.Medium.state c.args.unit.now) (g.M.Medium.state c.tear.new.unit) (IsNotingEvent CARD_FAULT (fault_of c.args.at.second (crew_of c.tear.new.self.cabin))) (g.met.M.Medium.coherent c.args.unit.now) c.tear.ensures.moments
+          (λ x n moment. table-outside CARD_FAULT x n moment.outside);
+    }

@@ -38,6 +38,9 @@ use Rattle.run_acts.specs.Settling.{RecordsSettling}
 use Rattle.run_acts.proofs.Asked.{withdraws-one}
 use Rattle.run_acts.proofs.Withdrawn.{time-before}
 use Rattle.run_acts.proofs.WithdrawnRecorded.{acting_at, moment-is, settling-cut, closing-recorded}
+use Rattle.run_rings.proofs.Same.{rings-left}
+use Rattle.run_acts.specs.Ringing.{WithdrawsSo}
+use Rattle.run_acts.proofs.Ringing.{settling-leaves, closes-behind}
 use Rattle.run_acts.proofs.withdrawing.withdraw.Goals as goal
 
 -- ---- it has left its slot
@@ -535,3 +538,66 @@ returns-in-B-clause-recorded g c = λ late speed o done s now front rest are n a
     (here-settled r.0 false c.args.slot c.args.at (acting_at s.number (suc (length front))) run between c.args.outcome.now told c.leave.new.self D (devices U1 Z X) c.leave.ensures.kept moment r.2)
     (time-before B U1 V X Y Z unit_later e.clock_card time) c.args.at c.in_ok-settle.ensures.settled.decided (told_of (with_cabin c.leave.new.self run) c.args.outcome.now) c.in_ok-settle.ensures.settled.kept (ap (λ (b : Cabin). session_of b.cards B) c.leave.ensures.kept)
     c.close-in-B.new.run c.close-in-B.new.breaks k.0 (subst (λ (m : Moment). IsClosed B c.args.slot m between c.close-in-B.new.run told.breaks c.close-in-B.new.breaks k.0) moment k.1) k.2)
+
+-- ---- the rings
+
+none-sits : (o : Option Card) → ((card : Card) → o ≡ Some card → ⊥) → o ≡ None
+none-sits None never = refl
+none-sits (Some card) never = absurd (never card refl)
+
+pub returns-in_default-clause-rings : goal.returns-in_default-clause-rings
+returns-in_default-clause-rings g c = λ tells.
+    let run = c.args.run.now in
+    let U = g.M.Medium.state c.args.unit.now in
+    let none : card_in (seat_in run.keeper.cabin.slots.seats c.args.slot) ≡ None = sym c.card.ensures ∙ none-sits c.card.result c.in_default.not-Some in
+    subst (λ (o : Option Card). WithdrawsSo o c.args.slot c.args.at false run run c.args.outcome.now c.args.outcome.now U U) (sym none) (rings-left U)
+
+pub returns-in_err-settle-clause-rings : goal.returns-in_err-settle-clause-rings
+returns-in_err-settle-clause-rings g c = λ tells.
+    let run = c.args.run.now in
+    let U = g.M.Medium.state c.args.unit.now in
+    let V = g.M.Medium.state c.settle.new.unit in
+    let there : card_in (seat_in run.keeper.cabin.slots.seats c.args.slot) ≡ Some c.in-Some.card = cc in
+    let failed : true ≡ is_err c.from_residual.result = search rules in
+    let e = c.in_err-settle.ensures in
+    let settled_first : IsSettled c.args.at true (left_run c.args.slot c.args.at.second run) c.settle.new.run c.args.outcome.now c.settle.new.outcome =
+    subst (λ (b : Cabin). IsSettled c.args.at true (with_cabin b run) c.settle.new.run c.args.outcome.now c.settle.new.outcome) c.leave.ensures.kept e.settled in
+    let leaves = settling-leaves c.args.at true (with_cabin c.leave.new.self run) c.settle.new.run c.args.outcome.now c.settle.new.outcome U V e.noted in
+    subst (λ (o : Option Card). WithdrawsSo o c.args.slot c.args.at (is_err c.from_residual.result) run c.settle.new.run c.args.outcome.now c.settle.new.outcome U V) (sym there)
+    (inl (sym failed, settled_first, leaves))
+
+pub returns-in-A-clause-rings : goal.returns-in-A-clause-rings
+returns-in-A-clause-rings g c = λ tells.
+    let run = c.args.run.now in
+    let U = g.M.Medium.state c.args.unit.now in
+    let V = g.M.Medium.state c.settle.new.unit in
+    let W = g.M.Medium.state c.close.new.unit in
+    let there : card_in (seat_in run.keeper.cabin.slots.seats c.args.slot) ≡ Some A = cc in
+    let e = c.in_ok-settle.ensures in
+    let n = c.close.ensures.rings (e.tells ∙ tells) in
+    let settled_first : IsSettled c.args.at false (left_run c.args.slot c.args.at.second run) c.settle.new.run c.args.outcome.now c.settle.new.outcome =
+    subst (λ (b : Cabin). IsSettled c.args.at false (with_cabin b run) c.settle.new.run c.args.outcome.now c.settle.new.outcome) c.leave.ensures.kept e.settled in
+    let leaves = settling-leaves c.args.at false (with_cabin c.leave.new.self run) c.settle.new.run c.args.outcome.now c.settle.new.outcome U V e.noted in
+    subst (λ (o : Option Card). WithdrawsSo o c.args.slot c.args.at (is_err c.close.result) run c.close.new.run c.args.outcome.now (record c.settle.new.outcome { breaks = c.close.new.breaks }) U W) (sym there)
+    (inr (record {
+      closed = record { between = c.settle.new.run; told = c.settle.new.outcome; settled_first = settled_first; closing = n.closing; closed = n.closed; outcome = refl };
+      rings = closes-behind n.closing (session_of c.settle.new.run.keeper.cabin.cards A) c.args.at (is_err c.close.result) c.settle.new.run U V W leaves n.rings;
+    }))
+
+pub returns-in-B-clause-rings : goal.returns-in-B-clause-rings
+returns-in-B-clause-rings g c = λ tells.
+    let run = c.args.run.now in
+    let U = g.M.Medium.state c.args.unit.now in
+    let V = g.M.Medium.state c.settle.new.unit in
+    let W = g.M.Medium.state c.close-in-B.new.unit in
+    let there : card_in (seat_in run.keeper.cabin.slots.seats c.args.slot) ≡ Some B = cc in
+    let e = c.in_ok-settle.ensures in
+    let n = c.close-in-B.ensures.rings (e.tells ∙ tells) in
+    let settled_first : IsSettled c.args.at false (left_run c.args.slot c.args.at.second run) c.settle.new.run c.args.outcome.now c.settle.new.outcome =
+    subst (λ (b : Cabin). IsSettled c.args.at false (with_cabin b run) c.settle.new.run c.args.outcome.now c.settle.new.outcome) c.leave.ensures.kept e.settled in
+    let leaves = settling-leaves c.args.at false (with_cabin c.leave.new.self run) c.settle.new.run c.args.outcome.now c.settle.new.outcome U V e.noted in
+    subst (λ (o : Option Card). WithdrawsSo o c.args.slot c.args.at (is_err c.close-in-B.result) run c.close-in-B.new.run c.args.outcome.now (record c.settle.new.outcome { breaks = c.close-in-B.new.breaks }) U W) (sym there)
+    (inr (record {
+      closed = record { between = c.settle.new.run; told = c.settle.new.outcome; settled_first = settled_first; closing = n.closing; closed = n.closed; outcome = refl };
+      rings = closes-behind n.closing (session_of c.settle.new.run.keeper.cabin.cards B) c.args.at (is_err c.close-in-B.result) c.settle.new.run U V W leaves n.rings;
+    }))
