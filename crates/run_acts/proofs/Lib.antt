@@ -47,3 +47,4 @@ pub mod GoesOn
 pub mod SettledRecorded
 pub mod TurnRecorded
 pub mod Ringing
+pub mod Uncut

@@ -11,6 +11,7 @@ use Rattle.recorder_with_cards.proofs.Judged.{none-noting}
 use Rattle.recorder_with_cards.proofs.Goes.{bare-one}
 use Rattle.run_rings.proofs.Same.{rings-left}
 use Rattle.recorder_with_cards.specs.EnteredRings.{RingsAnew}
+use Rattle.run_keeping.proofs.Later.{later-same}
 use Rattle.recorder_with_cards.proofs.accepting.accept_anew.Goals as goal
 
 pub returns-clause-takes : goal.returns-clause-takes
@@ -56,3 +57,11 @@ returns-in_default-clause-rings g c =
     let none : card_in (seat_in c.args.run.now.keeper.cabin.slots.seats c.args.slot) ≡ None = search rules in
     let U = g.M.Medium.state c.args.unit.now in
     subst (λ (q : Option Card). RingsAnew q c.args.slot c.args.at c.args.speed false c.args.run.now c.args.run.now c.args.outcome.now c.args.outcome.now U U) (sym none) (rings-left U)
+
+-- ---- what holds of the devices after any calls
+
+pub returns-in_default-clause-later : goal.returns-in_default-clause-later
+returns-in_default-clause-later g c = later-same (devices (g.M.Medium.state c.args.unit.now) (g.C.Chip.state c.args.card_a.now) (g.D.Chip.state c.args.card_b.now))
+
+pub returns-clause-later : goal.returns-clause-later
+returns-clause-later g c = c.accept_in.ensures.later

@@ -181,3 +181,8 @@ returns-clause-rings g c =
       writes = λ tells. accept-writes (g.M.Medium.state c.args.unit.now) (g.M.Medium.state c.accept-answer.new.unit) (g.C.Chip.state c.args.card.now) (g.C.Chip.state c.accept-answer.new.card)
           (g.met.M.Medium.coherent c.args.unit.now) (g.met.M.Medium.coherent c.accept-answer.new.unit) c.args.entering (is_err c.accept-answer.result) run.keeper c.accept-answer.new.keeper run.noted c.accept-answer.new.noted c.args.outcome.now c.accept-answer.new.outcome w.0 tells c.accept-answer.ensures.cause w.1;
     }
+
+-- ---- what holds of the devices after any calls
+
+pub returns-clause-later : goal.returns-clause-later
+returns-clause-later g c = c.accept-answer.ensures.later

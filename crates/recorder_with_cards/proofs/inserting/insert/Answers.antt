@@ -31,6 +31,7 @@ use Rattle.run_entering.specs.Entering.{ending_of}
 use Rattle.recorder_with_cards.specs.EnteredRings.{RingsInserting}
 use Rattle.run_acts.proofs.Ringing.{settling-leaves}
 use Rattle.recorder_with_cards.proofs.EnteredRings.{writes-behind}
+use Rattle.run_keeping.proofs.Later.{later-then}
 use Rattle.recorder_with_cards.proofs.inserting.insert.Goals as goal
 
 pub settle-requires-clause-held : goal.settle-requires-clause-held
@@ -227,3 +228,11 @@ returns-clause-rings g c = λ tells.
         },
       );
     })
+
+-- ---- what holds of the devices after any calls
+
+pub returns-in_err-settle-clause-later : goal.returns-in_err-settle-clause-later
+returns-in_err-settle-clause-later g c = c.settle.ensures.later
+
+pub returns-clause-later : goal.returns-clause-later
+returns-clause-later g c = later-then (devices (g.M.Medium.state c.args.unit.now) (g.C.Chip.state c.args.card_a.now) (g.D.Chip.state c.args.card_b.now)) (devices (g.M.Medium.state c.settle.new.unit) (g.C.Chip.state c.settle.new.card_a) (g.D.Chip.state c.settle.new.card_b)) (devices (g.M.Medium.state c.accept_in.new.unit) (g.C.Chip.state c.accept_in.new.card_a) (g.D.Chip.state c.accept_in.new.card_b)) c.settle.ensures.later c.accept_in.ensures.later

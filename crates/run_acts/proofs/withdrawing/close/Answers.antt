@@ -31,6 +31,7 @@ use Rattle.run_keeping.specs.Keeping.{fault_of}
 use Rattle.run_rings.proofs.Same.{rings-left, rings-moments, table-outside}
 use Rattle.run_acts.specs.Acting.{Bare, Closed}
 use Rattle.run_acts.specs.Ringing.{ClosesRings}
+use Rattle.run_keeping.proofs.Later.{state-same, state-by}
 use Rattle.run_acts.proofs.withdrawing.close.Goals as goal
 
 pub returns-in-Ok-leave-clause-ready : goal.returns-in-Ok-leave-clause-ready
@@ -127,3 +128,17 @@ returns-in-Err-clause-rings g c = λ tells.
       rings = rings-moments (g.M.Medium.state c.args.unit.now) (g.M.Medium.state c.tear.new.unit) (IsNotingEvent CARD_FAULT (fault_of c.args.at.second (crew_of c.tear.new.self.cabin))) (g.met.M.Medium.coherent c.args.unit.now) c.tear.ensures.moments
           (λ x n moment. table-outside CARD_FAULT x n moment.outside);
     }
+
+-- ---- what holds of the devices after any calls
+
+pub returns-in_default-clause-later : goal.returns-in_default-clause-later
+returns-in_default-clause-later g c = state-same (g.C.Chip.state c.args.card.now)
+
+pub returns-in_default-sizes-clause-later : goal.returns-in_default-sizes-clause-later
+returns-in_default-sizes-clause-later g c = state-same (g.C.Chip.state c.args.card.now)
+
+pub returns-in-Ok-leave-clause-later : goal.returns-in-Ok-leave-clause-later
+returns-in-Ok-leave-clause-later g c = state-by (g.C.Chip.state c.args.card.now) (g.C.Chip.state c.leave.new.card) (is_err c.leave.result) c.leave.ensures.moments.later c.leave.ensures.cause
+
+pub returns-in-Err-clause-later : goal.returns-in-Err-clause-later
+returns-in-Err-clause-later g c = state-by (g.C.Chip.state c.args.card.now) (g.C.Chip.state c.leave.new.card) (is_err c.leave.result) c.leave.ensures.moments.later c.leave.ensures.cause

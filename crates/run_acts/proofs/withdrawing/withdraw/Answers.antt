@@ -41,6 +41,7 @@ use Rattle.run_acts.proofs.WithdrawnRecorded.{acting_at, moment-is, settling-cut
 use Rattle.run_rings.proofs.Same.{rings-left}
 use Rattle.run_acts.specs.Ringing.{WithdrawsSo}
 use Rattle.run_acts.proofs.Ringing.{settling-leaves, closes-behind}
+use Rattle.run_keeping.proofs.Later.{state-by, later-same, later-then, later-of-a, later-of-b}
 use Rattle.run_acts.proofs.withdrawing.withdraw.Goals as goal
 
 -- ---- it has left its slot
@@ -601,3 +602,17 @@ returns-in-B-clause-rings g c = λ tells.
       closed = record { between = c.settle.new.run; told = c.settle.new.outcome; settled_first = settled_first; closing = n.closing; closed = n.closed; outcome = refl };
       rings = closes-behind n.closing (session_of c.settle.new.run.keeper.cabin.cards B) c.args.at (is_err c.close-in-B.result) c.settle.new.run U V W leaves n.rings;
     }))
+
+-- ---- what holds of the devices after any calls
+
+pub returns-in_default-clause-later : goal.returns-in_default-clause-later
+returns-in_default-clause-later g c = later-same (devices (g.M.Medium.state c.args.unit.now) (g.C.Chip.state c.args.card_a.now) (g.D.Chip.state c.args.card_b.now))
+
+pub returns-in_err-settle-clause-later : goal.returns-in_err-settle-clause-later
+returns-in_err-settle-clause-later g c = c.settle.ensures.later
+
+pub returns-in-A-clause-later : goal.returns-in-A-clause-later
+returns-in-A-clause-later g c = later-then (devices (g.M.Medium.state c.args.unit.now) (g.C.Chip.state c.args.card_a.now) (g.D.Chip.state c.args.card_b.now)) (devices (g.M.Medium.state c.settle.new.unit) (g.C.Chip.state c.settle.new.card_a) (g.D.Chip.state c.settle.new.card_b)) (devices (g.M.Medium.state c.close.new.unit) (g.C.Chip.state c.close.new.card) (g.D.Chip.state c.settle.new.card_b)) c.settle.ensures.later (later-of-a (g.M.Medium.state c.settle.new.unit) (g.M.Medium.state c.close.new.unit) (g.C.Chip.state c.settle.new.card_a) (g.C.Chip.state c.close.new.card) (g.D.Chip.state c.settle.new.card_b) (state-by (g.M.Medium.state c.settle.new.unit) (g.M.Medium.state c.close.new.unit) _ c.close.ensures.journal.later c.close.ensures.cause) c.close.ensures.later)
+
+pub returns-in-B-clause-later : goal.returns-in-B-clause-later
+returns-in-B-clause-later g c = later-then (devices (g.M.Medium.state c.args.unit.now) (g.C.Chip.state c.args.card_a.now) (g.D.Chip.state c.args.card_b.now)) (devices (g.M.Medium.state c.settle.new.unit) (g.C.Chip.state c.settle.new.card_a) (g.D.Chip.state c.settle.new.card_b)) (devices (g.M.Medium.state c.close-in-B.new.unit) (g.C.Chip.state c.settle.new.card_a) (g.D.Chip.state c.close-in-B.new.card)) c.settle.ensures.later (later-of-b (g.M.Medium.state c.settle.new.unit) (g.M.Medium.state c.close-in-B.new.unit) (g.C.Chip.state c.settle.new.card_a) (g.D.Chip.state c.settle.new.card_b) (g.D.Chip.state c.close-in-B.new.card) (state-by (g.M.Medium.state c.settle.new.unit) (g.M.Medium.state c.close-in-B.new.unit) _ c.close-in-B.ensures.journal.later c.close-in-B.ensures.cause) c.close-in-B.ensures.later)
