@@ -3,7 +3,7 @@ use Rattle.std.proofs.Common.{◌≡◌, ◌∙◌, ℕ, ◌+◌, ◌<◌, ◌^�
 use Rattle.std.specs.Prelude.{slice_index_or}
 use Rattle.byte_fields.specs.Fields.{joined, field_at, number_in}
 use Rattle.byte_fields.proofs.Cuts.{cut-joined}
-use Rattle.byteorder.proofs.Endian.{length-bytes_high_first}
+use Rattle.byteorder.specs.Numbers.{length-bytes_high_first}
 use Rattle.activity_codec.specs.Words.{slot_number}
 use Rattle.trace_model.specs.declared.Card.{Card}
 use Rattle.tacho_types.specs.CardNumber.{card_number_bytes}
