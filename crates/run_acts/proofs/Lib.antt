@@ -47,4 +47,5 @@ pub mod WithdrawnRecorded
 pub mod GoesOn
 pub mod SettledRecorded
 pub mod TurnRecorded
+pub mod Ringing
 pub mod Uncut

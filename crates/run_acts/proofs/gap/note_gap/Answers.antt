@@ -29,6 +29,8 @@ use Rattle.run_acts.specs.Recording.{GoesOnOrFails}
 use Rattle.run_acts.proofs.NoteRecorded.{unit-recorded, power-noted}
 use Rattle.run_acts.proofs.Kept.{moved-going}
 use Rattle.run_acts.proofs.Noted.{noted-ready, noted-row}
+use Rattle.run_rings.specs.Same.{LeavesRings}
+use Rattle.run_rings.proofs.Same.{rings-left, rings-moments, rings-then, table-outside}
 use Rattle.run_keeping.proofs.Later.{state-by, later-same, later-then, later-of-unit}
 use Rattle.run_acts.proofs.gap.note_gap.Goals as goal
 
@@ -271,6 +273,32 @@ returns-clause-events g c =
       ),
       then-noted (gap_event span run ∷ []) (fall_events one.fell run.next between ++ fall_events two.fell run.next new) failed (devices U X Y) (devices V X Y) F first falls,
     )
+
+-- ---- the rings
+
+event-leaves : (kind : ℕ) (front : List ℕ) (U V : State) → IsCoherent U → LeavesOnly U V (IsNotingEvent kind front) → LeavesRings U V
+event-leaves kind front U V whole moments = rings-moments U V (IsNotingEvent kind front) whole moments (λ x n moment. table-outside kind x n moment.outside)
+
+pub returns-in_default-clause-rings : goal.returns-in_default-clause-rings
+returns-in_default-clause-rings g c = rings-left (g.M.Medium.state c.args.unit.now)
+
+pub returns-in_err-note_event-clause-rings : goal.returns-in_err-note_event-clause-rings
+returns-in_err-note_event-clause-rings g c =
+    event-leaves c.card_gap-event.result.kind (fault_bytes c.card_gap-event.result) (g.M.Medium.state c.args.unit.now) (g.M.Medium.state c.note_event.new.unit) (g.met.M.Medium.coherent c.args.unit.now) c.note_event.ensures.moments
+
+pub returns-in_err-note_in-clause-rings : goal.returns-in_err-note_in-clause-rings
+returns-in_err-note_in-clause-rings g c =
+    let V = g.M.Medium.state c.note_event.new.unit in
+    rings-then (g.M.Medium.state c.args.unit.now) V (g.M.Medium.state c.note_in.new.unit)
+    (event-leaves c.card_gap-event.result.kind (fault_bytes c.card_gap-event.result) (g.M.Medium.state c.args.unit.now) V (g.met.M.Medium.coherent c.args.unit.now) c.note_event.ensures.moments) c.in_err-note_in.ensures.rings
+
+pub returns-clause-rings : goal.returns-clause-rings
+returns-clause-rings g c =
+    let V = g.M.Medium.state c.note_event.new.unit in
+    let W = g.M.Medium.state c.note_in.new.unit in
+    rings-then (g.M.Medium.state c.args.unit.now) V (g.M.Medium.state c.note_in-2.new.unit)
+    (event-leaves c.card_gap-event.result.kind (fault_bytes c.card_gap-event.result) (g.M.Medium.state c.args.unit.now) V (g.met.M.Medium.coherent c.args.unit.now) c.note_event.ensures.moments)
+    (rings-then V W (g.M.Medium.state c.note_in-2.new.unit) c.in_ok-note_in.ensures.rings c.note_in-2.ensures.rings)
 
 -- ---- what holds of the devices after any calls
 

@@ -26,6 +26,7 @@ use Rattle.run_acts.proofs.NoteRecorded.{noted-some}
 use Rattle.run_rule.specs.Between.{devices}
 use Rattle.run_acts.specs.Noting.{fall_events}
 use Rattle.run_acts.proofs.NotedEvents.{same-noted, noted-any}
+use Rattle.run_rings.proofs.Same.{rings-left}
 use Rattle.run_keeping.proofs.Later.{state-by, later-same, later-of-a, later-of-b}
 use Rattle.run_acts.proofs.gap.note_in.Goals as goal
 
@@ -250,6 +251,14 @@ returns-in_default-number_in-clause-events g c =
       failing = λ bad. bad;
       notes = same-noted (g.M.Medium.state c.args.unit.now) (g.C.Chip.state c.args.card_a.now) (g.D.Chip.state c.args.card_b.now);
     }
+
+-- ---- the rings
+
+pub returns-in_default-clause-rings : goal.returns-in_default-clause-rings
+returns-in_default-clause-rings g c = rings-left (g.M.Medium.state c.args.unit.now)
+
+pub returns-in_default-number_in-clause-rings : goal.returns-in_default-number_in-clause-rings
+returns-in_default-number_in-clause-rings g c = rings-left (g.M.Medium.state c.args.unit.now)
 
 -- ---- what holds of the devices after any calls
 

@@ -1,8 +1,8 @@
-use Rattle.std.proofs.Common.{rules, ◌≡◌, ◌∙◌, ℕ, ◌+◌, ◌-◌, ◌/◌, ◌≤◌, Bool, true, false, Option, Some, None, is_some, length, refl, ap, sym, subst, arith}
+use Rattle.std.proofs.Common.{rules, ◌≡◌, ◌∙◌, ℕ, ◌+◌, ◌-◌, ◌/◌, ◌≤◌, Bool, true, false, Option, Some, None, is_some, length, refl, ap, sym, subst, arith, inl, inr}
 use Rattle.trace_model.specs.declared.Card.TheVariants.{A, B}
 use Rattle.tach_media.proofs.Runs.{on_ok, ok_gives, cause_after}
 use Rattle.minute_model.specs.Span.{ungiven_of}
-use Rattle.slot_machine.specs.Calls.{seat_in, card_in}
+use Rattle.slot_machine.specs.Calls.{seat_in, card_in, logged}
 use Rattle.run_crew.specs.declared.cards.Known.{Known}
 use Rattle.run_crew.specs.Cards.{session_of}
 use Rattle.run_crew.specs.Cabin.{number_of_seat}
@@ -15,7 +15,7 @@ use Rattle.run_acts.specs.Power.{with_cabin}
 use Rattle.run_acts.specs.Going.{IsHeld, IsLit}
 use Rattle.run_acts.specs.Room.{falls_of}
 use Rattle.run_acts.proofs.Noted.{noted-ready, noted-row}
-use Rattle.run_acts.specs.Acting.{noted_breaks}
+use Rattle.run_acts.specs.Acting.{noted_breaks, IsNotedOn}
 use Rattle.run_acts.proofs.Cabins.{keeper-only, cabin-going, cabin-held, ready-same, at-same, noted_cabin, noted-is, noted-past, noted-minute, noted-sessions, noted-falls, noted-a, noted-b, numbered-session}
 use Rattle.std.specs.Prelude.{is_err, suc, List, [], ◌∷◌, ◌++◌}
 use Rattle.activity_codec.specs.declared.values.Slot.{Slot}
@@ -25,22 +25,27 @@ use Rattle.trace_model.specs.Trace.{TraceSecond}
 use Rattle.log_model.specs.Log.{In}
 use Rattle.log_model.specs.Slots.{refusal}
 use Rattle.safety_model.specs.Safe.{Devices}
-use Rattle.slot_machine.specs.Calls.{logged}
 use Rattle.run_rule.specs.Between.{devices}
 use Rattle.run_outcome.specs.declared.outcome.Outcome.{Outcome}
 use Rattle.run_recorded.specs.Origin.{Origin}
 use Rattle.run_within.specs.Within.{Beginning}
 use Rattle.run_acts.specs.Recording.{RunWithin, RunGoesOn, GoesOnOrFails, IsNow}
 use Rattle.run_acts.proofs.NoteRecorded.{noted-some, place-told, unit-recorded}
-use Rattle.std.proofs.Common.{inl, inr}
 use Rattle.trace_model.specs.declared.Card.{Card}
 use Rattle.gated_ring.specs.Change.{IsAdding}
-use Rattle.message_model.specs.Records.{unit_place_ring, unit_place_bytes}
-use Rattle.run_acts.specs.Acting.{IsNotedOn}
+use Rattle.message_model.specs.Records.{unit_place_ring}
 use Rattle.run_acts.specs.NotedEvents.{NotesEvents}
 use Rattle.run_acts.specs.Noting.{NotesFall, NotesPlace, fall_events}
 use Rattle.run_acts.proofs.NotedEvents.{same-noted, noted-any, then-noted}
 use Rattle.run_acts.proofs.ActsNoted.{says-of, quiet-any, adding-nothing, no-place}
+use Rattle.tacho_types.specs.declared.card_number.FullCardNumber.{FullCardNumber}
+use Rattle.tach_media.specs.Medium.{State, IsCoherent}
+use Rattle.unit_notes.specs.Entries.{unit_place_bytes}
+use Rattle.slot_machine.specs.declared.seats.Seat.{Seat}
+use Rattle.run_crew.specs.declared.cards.Cards.{Cards}
+use Rattle.run_rings.proofs.Same.{rings-left}
+use Rattle.run_acts.specs.Ringing.{WritesPlace}
+use Rattle.run_acts.proofs.Ringing.{place-broken, place-then}
 use Rattle.run_keeping.proofs.Later.{state-by, later-same, later-then, later-of-unit, later-of-a, later-of-b}
 use Rattle.run_acts.proofs.placing.note_place.Goals as goal
 
@@ -303,6 +308,45 @@ returns-in_err-note_place-clause-events g c =
 
 pub returns-in-A-clause-events : goal.returns-in-A-clause-events
 returns-in-A-clause-events g c =
+
+-- ---- the rings
+
+no-number : (cards : Cards) (seat : Option Seat) (o : Option Card) → o ≡ card_in seat → ((card : Card) → o ≡ Some card → ⊥) → number_of_seat cards seat ≡ None
+no-number cards None o is never = refl
+no-number cards (Some s) o is never = absurd (never s.card is)
+
+none-given : (o : Option FullCardNumber) → ((number : FullCardNumber) → o ≡ Some number → ⊥) → o ≡ None
+none-given None never = refl
+none-given (Some number) never = absurd (never number refl)
+
+pub returns-in_default-clause-rings : goal.returns-in_default-clause-rings
+returns-in_default-clause-rings g c = λ tells.
+    let run = c.args.run.now in
+    let U = g.M.Medium.state c.args.unit.now in
+    let none = no-number run.keeper.cabin.cards (seat_in run.keeper.cabin.slots.seats c.args.slot) c.card.result c.card.ensures c.in_default.not-Some in
+    subst (λ (o : Option FullCardNumber). WritesPlace o c.args.entry.now false U U) (sym none) (rings-left U)
+
+pub returns-in_default-number_in-clause-rings : goal.returns-in_default-number_in-clause-rings
+returns-in_default-number_in-clause-rings g c = λ tells.
+    let run = c.args.run.now in
+    let U = g.M.Medium.state c.args.unit.now in
+    let none : number_of_seat run.keeper.cabin.cards (seat_in run.keeper.cabin.slots.seats c.args.slot) ≡ None = sym c.number_in.ensures ∙ none-given c.number_in.result c.in_default-number_in.not-Some in
+    subst (λ (o : Option FullCardNumber). WritesPlace o c.args.entry.now false U U) (sym none) (rings-left U)
+
+pub returns-in_err-note_place-clause-rings : goal.returns-in_err-note_place-clause-rings
+returns-in_err-note_place-clause-rings g c = λ tells.
+    let run = c.args.run.now in
+    let U = g.M.Medium.state c.args.unit.now in
+    let V = g.M.Medium.state c.note_place.new.unit in
+    let number = c.in-Some-number_in.number in
+    let told : number_of_seat run.keeper.cabin.cards (seat_in run.keeper.cabin.slots.seats c.args.slot) ≡ Some number = cc in
+    let failed : true ≡ is_err c.from_residual.result = search rules in
+    subst (λ (q : Bool). WritesPlace (number_of_seat run.keeper.cabin.cards (seat_in run.keeper.cabin.slots.seats c.args.slot)) c.args.entry.now q U V) failed
+    (subst (λ (o : Option FullCardNumber). WritesPlace o c.args.entry.now true U V) (sym told)
+    (place-broken (unit_place_bytes number c.args.entry.now) U V V (g.met.M.Medium.coherent c.args.unit.now) (g.met.M.Medium.coherent c.note_place.new.unit) tells c.note_place.ensures.moments))
+
+pub returns-in-A-clause-rings : goal.returns-in-A-clause-rings
+returns-in-A-clause-rings g c = λ tells.
     let run = c.args.run.now in
     let U = g.M.Medium.state c.args.unit.now in
     let V = g.M.Medium.state c.note_place.new.unit in
@@ -321,6 +365,14 @@ returns-in-A-clause-events g c =
 
 pub returns-in-B-clause-events : goal.returns-in-B-clause-events
 returns-in-B-clause-events g c =
+    let number = c.in-Some-number_in.number in
+    let told : number_of_seat run.keeper.cabin.cards (seat_in run.keeper.cabin.slots.seats c.args.slot) ≡ Some number = cc in
+    let n = c.in_ok-note_place.ensures in
+    subst (λ (o : Option FullCardNumber). WritesPlace o c.args.entry.now (is_err c.note_place_in.result) U W) (sym told)
+    (place-then (unit_place_bytes number c.args.entry.now) U V W (g.met.M.Medium.coherent c.args.unit.now) (g.met.M.Medium.coherent c.note_place.new.unit) tells c.note_place.ensures.moments (is_err c.note_place_in.result) n.noted n.cause.works c.note_place_in.ensures.rings)
+
+pub returns-in-B-clause-rings : goal.returns-in-B-clause-rings
+returns-in-B-clause-rings g c = λ tells.
     let run = c.args.run.now in
     let U = g.M.Medium.state c.args.unit.now in
     let V = g.M.Medium.state c.note_place.new.unit in
@@ -336,6 +388,11 @@ returns-in-B-clause-events g c =
     let later : NotesEvents falls failed (devices V A0 B0) (devices W A0 Y) = noted-any falls failed (devices V B0 B0) (devices W Y Y) (devices V A0 B0) (devices W A0 Y) refl refl n.notes in
     subst (λ (q : Option Card). NotesPlace q c.args.slot c.args.at failed run c.note_place_in-in-B.new.run c.args.breaks.now c.note_place_in-in-B.new.breaks (devices U A0 B0) (devices W A0 Y)) (sym there)
     (inr (record { fell = n.fell; noted = n.noted; failing = n.failing; notes = then-noted [] falls failed (devices U A0 B0) (devices V A0 B0) (devices W A0 Y) (quiet-any U V A0 B0 A0 B0 false ring) later }))
+    let number = c.in-Some-number_in.number in
+    let told : number_of_seat run.keeper.cabin.cards (seat_in run.keeper.cabin.slots.seats c.args.slot) ≡ Some number = cc in
+    let n = c.in_ok-note_place.ensures in
+    subst (λ (o : Option FullCardNumber). WritesPlace o c.args.entry.now (is_err c.note_place_in-in-B.result) U W) (sym told)
+    (place-then (unit_place_bytes number c.args.entry.now) U V W (g.met.M.Medium.coherent c.args.unit.now) (g.met.M.Medium.coherent c.note_place.new.unit) tells c.note_place.ensures.moments (is_err c.note_place_in-in-B.result) n.noted n.cause.works c.note_place_in-in-B.ensures.rings)
 
 -- ---- what holds of the devices after any calls
 
