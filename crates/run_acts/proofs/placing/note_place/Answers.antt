@@ -29,7 +29,7 @@ use Rattle.run_rule.specs.Between.{devices}
 use Rattle.run_outcome.specs.declared.outcome.Outcome.{Outcome}
 use Rattle.run_recorded.specs.Origin.{Origin}
 use Rattle.run_within.specs.Within.{Beginning}
-use Rattle.run_acts.specs.Recording.{RunWithin, RunGoesOn, GoesOnOrFails, IsNow}
+use Rattle.run_acts.specs.Recording.{RunWithin, RunGoesOn, GoesOnOrFails, IsNow, GoesOnOrCut}
 use Rattle.run_acts.proofs.NoteRecorded.{noted-some, place-told, unit-recorded}
 use Rattle.trace_model.specs.declared.Card.{Card}
 use Rattle.gated_ring.specs.Change.{IsAdding}
@@ -308,6 +308,39 @@ returns-in_err-note_place-clause-events g c =
 
 pub returns-in-A-clause-events : goal.returns-in-A-clause-events
 returns-in-A-clause-events g c =
+    let run = c.args.run.now in
+    let U = g.M.Medium.state c.args.unit.now in
+    let V = g.M.Medium.state c.note_place.new.unit in
+    let W = g.M.Medium.state c.note_place_in.new.unit in
+    let A0 = g.C.Chip.state c.args.card_a.now in
+    let B0 = g.D.Chip.state c.args.card_b.now in
+    let Y = g.C.Chip.state c.note_place_in.new.card in
+    let n = c.note_place_in.ensures.events in
+    let failed = is_err c.note_place_in.result in
+    let there : card_in (seat_in run.keeper.cabin.slots.seats c.args.slot) ≡ Some A = cc in
+    let ring = says-of U V (g.met.M.Medium.coherent c.args.unit.now) (IsAdding unit_place_ring (unit_place_bytes c.in-Some-number_in.number c.args.entry.now)) (adding-nothing (unit_place_bytes c.in-Some-number_in.number c.args.entry.now)) c.in_ok-note_place.ensures.moments in
+    let falls = fall_events n.fell c.args.at.second c.note_place_in.new.run in
+    let later : NotesEvents falls failed (devices V A0 B0) (devices W Y B0) = noted-any falls failed (devices V A0 A0) (devices W Y Y) (devices V A0 B0) (devices W Y B0) refl refl n.notes in
+    subst (λ (q : Option Card). NotesPlace q c.args.slot c.args.at failed run c.note_place_in.new.run c.args.breaks.now c.note_place_in.new.breaks (devices U A0 B0) (devices W Y B0)) (sym there)
+    (inr (record { fell = n.fell; noted = n.noted; failing = n.failing; notes = then-noted [] falls failed (devices U A0 B0) (devices V A0 B0) (devices W Y B0) (quiet-any U V A0 B0 A0 B0 false ring) later }))
+
+pub returns-in-B-clause-events : goal.returns-in-B-clause-events
+returns-in-B-clause-events g c =
+    let run = c.args.run.now in
+    let U = g.M.Medium.state c.args.unit.now in
+    let V = g.M.Medium.state c.note_place.new.unit in
+    let W = g.M.Medium.state c.note_place_in-in-B.new.unit in
+    let A0 = g.C.Chip.state c.args.card_a.now in
+    let B0 = g.D.Chip.state c.args.card_b.now in
+    let Y = g.D.Chip.state c.note_place_in-in-B.new.card in
+    let n = c.note_place_in-in-B.ensures.events in
+    let failed = is_err c.note_place_in-in-B.result in
+    let there : card_in (seat_in run.keeper.cabin.slots.seats c.args.slot) ≡ Some B = cc in
+    let ring = says-of U V (g.met.M.Medium.coherent c.args.unit.now) (IsAdding unit_place_ring (unit_place_bytes c.in-Some-number_in.number c.args.entry.now)) (adding-nothing (unit_place_bytes c.in-Some-number_in.number c.args.entry.now)) c.in_ok-note_place.ensures.moments in
+    let falls = fall_events n.fell c.args.at.second c.note_place_in-in-B.new.run in
+    let later : NotesEvents falls failed (devices V A0 B0) (devices W A0 Y) = noted-any falls failed (devices V B0 B0) (devices W Y Y) (devices V A0 B0) (devices W A0 Y) refl refl n.notes in
+    subst (λ (q : Option Card). NotesPlace q c.args.slot c.args.at failed run c.note_place_in-in-B.new.run c.args.breaks.now c.note_place_in-in-B.new.breaks (devices U A0 B0) (devices W A0 Y)) (sym there)
+    (inr (record { fell = n.fell; noted = n.noted; failing = n.failing; notes = then-noted [] falls failed (devices U A0 B0) (devices V A0 B0) (devices W A0 Y) (quiet-any U V A0 B0 A0 B0 false ring) later }))
 
 -- ---- the rings
 
@@ -351,20 +384,6 @@ returns-in-A-clause-rings g c = λ tells.
     let U = g.M.Medium.state c.args.unit.now in
     let V = g.M.Medium.state c.note_place.new.unit in
     let W = g.M.Medium.state c.note_place_in.new.unit in
-    let A0 = g.C.Chip.state c.args.card_a.now in
-    let B0 = g.D.Chip.state c.args.card_b.now in
-    let Y = g.C.Chip.state c.note_place_in.new.card in
-    let n = c.note_place_in.ensures.events in
-    let failed = is_err c.note_place_in.result in
-    let there : card_in (seat_in run.keeper.cabin.slots.seats c.args.slot) ≡ Some A = cc in
-    let ring = says-of U V (g.met.M.Medium.coherent c.args.unit.now) (IsAdding unit_place_ring (unit_place_bytes c.in-Some-number_in.number c.args.entry.now)) (adding-nothing (unit_place_bytes c.in-Some-number_in.number c.args.entry.now)) c.in_ok-note_place.ensures.moments in
-    let falls = fall_events n.fell c.args.at.second c.note_place_in.new.run in
-    let later : NotesEvents falls failed (devices V A0 B0) (devices W Y B0) = noted-any falls failed (devices V A0 A0) (devices W Y Y) (devices V A0 B0) (devices W Y B0) refl refl n.notes in
-    subst (λ (q : Option Card). NotesPlace q c.args.slot c.args.at failed run c.note_place_in.new.run c.args.breaks.now c.note_place_in.new.breaks (devices U A0 B0) (devices W Y B0)) (sym there)
-    (inr (record { fell = n.fell; noted = n.noted; failing = n.failing; notes = then-noted [] falls failed (devices U A0 B0) (devices V A0 B0) (devices W Y B0) (quiet-any U V A0 B0 A0 B0 false ring) later }))
-
-pub returns-in-B-clause-events : goal.returns-in-B-clause-events
-returns-in-B-clause-events g c =
     let number = c.in-Some-number_in.number in
     let told : number_of_seat run.keeper.cabin.cards (seat_in run.keeper.cabin.slots.seats c.args.slot) ≡ Some number = cc in
     let n = c.in_ok-note_place.ensures in
@@ -377,17 +396,6 @@ returns-in-B-clause-rings g c = λ tells.
     let U = g.M.Medium.state c.args.unit.now in
     let V = g.M.Medium.state c.note_place.new.unit in
     let W = g.M.Medium.state c.note_place_in-in-B.new.unit in
-    let A0 = g.C.Chip.state c.args.card_a.now in
-    let B0 = g.D.Chip.state c.args.card_b.now in
-    let Y = g.D.Chip.state c.note_place_in-in-B.new.card in
-    let n = c.note_place_in-in-B.ensures.events in
-    let failed = is_err c.note_place_in-in-B.result in
-    let there : card_in (seat_in run.keeper.cabin.slots.seats c.args.slot) ≡ Some B = cc in
-    let ring = says-of U V (g.met.M.Medium.coherent c.args.unit.now) (IsAdding unit_place_ring (unit_place_bytes c.in-Some-number_in.number c.args.entry.now)) (adding-nothing (unit_place_bytes c.in-Some-number_in.number c.args.entry.now)) c.in_ok-note_place.ensures.moments in
-    let falls = fall_events n.fell c.args.at.second c.note_place_in-in-B.new.run in
-    let later : NotesEvents falls failed (devices V A0 B0) (devices W A0 Y) = noted-any falls failed (devices V B0 B0) (devices W Y Y) (devices V A0 B0) (devices W A0 Y) refl refl n.notes in
-    subst (λ (q : Option Card). NotesPlace q c.args.slot c.args.at failed run c.note_place_in-in-B.new.run c.args.breaks.now c.note_place_in-in-B.new.breaks (devices U A0 B0) (devices W A0 Y)) (sym there)
-    (inr (record { fell = n.fell; noted = n.noted; failing = n.failing; notes = then-noted [] falls failed (devices U A0 B0) (devices V A0 B0) (devices W A0 Y) (quiet-any U V A0 B0 A0 B0 false ring) later }))
     let number = c.in-Some-number_in.number in
     let told : number_of_seat run.keeper.cabin.cards (seat_in run.keeper.cabin.slots.seats c.args.slot) ≡ Some number = cc in
     let n = c.in_ok-note_place.ensures in

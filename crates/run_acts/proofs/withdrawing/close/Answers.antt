@@ -18,8 +18,6 @@ use Rattle.run_crew.specs.Cabin.{torn_out, crew_of}
 use Rattle.run_keeping.specs.declared.keeper.Keeper.{Keeper}
 use Rattle.run_keeping.specs.Keeping.{UnitReady, CardReady, HasItsRow, fault_of}
 use Rattle.run_keeping.proofs.Sessions.{number-set}
-use Rattle.run_keeping.proofs.Fates.{no-lines}
-use Rattle.run_keeping.proofs.CardBooked.{no-session, none-there}
 use Rattle.run_acts.specs.declared.run.Run.{Run}
 use Rattle.run_acts.proofs.Noted.{noted-ready, noted-row}
 use Rattle.run_acts.specs.Acting.{Fell, IsClosingOf, Bare, Closed}
@@ -27,6 +25,8 @@ use Rattle.run_acts.proofs.Cabins.{session-known, twice-ready}
 use Rattle.event_model.specs.declared.kinds.TheConstants.{CARD_FAULT}
 use Rattle.run_notes.specs.Entries.{entry_of}
 use Rattle.run_rule.specs.Between.{devices}
+use Rattle.run_keeping.proofs.CardBooked.{none-there, no-session}
+use Rattle.run_keeping.proofs.Fates.{no-lines}
 use Rattle.run_acts.proofs.NotedEvents.{one-noted, same-noted}
 use Rattle.run_acts.proofs.ActsNoted.{quiet-any}
 use Rattle.unit_notes.specs.Noting.{IsNotingEvent}
@@ -156,6 +156,17 @@ returns-in-Err-clause-events g c =
     let X = g.C.Chip.state c.args.card.now in
     let Y = g.C.Chip.state c.leave.new.card in
     let crew = crew_of c.tear.new.self.cabin in
+    let some : session_of run.keeper.cabin.cards which ≡ Some c.in-Some.accepted = sym c.in-Some.ensures.session in
+    record {
+      closing = Fell;
+      closed = record {
+        is = subst (λ (o : Option Accepted). IsClosingOf o Fell) (sym some) tt;
+        run = ap (λ (k : Keeper). record run { keeper = k }) (c.tear.ensures.keeper ∙ ap (λ (b : Cabin). record run.keeper { cabin = torn_out which c.args.at.second b }) c.close.ensures.kept);
+        told = c.tear.ensures.told;
+      };
+      notes = one-noted U V X X Y Y (g.met.M.Medium.coherent c.args.unit.now) (g.met.M.Medium.coherent c.tear.new.unit) c.requires.ready.is_unit (entry_of CARD_FAULT c.args.at.second c.args.at.second crew crew) (is_err c.tear.result)
+          (λ well. ok_gives c.tear.result c.tear.ensures.noted well) c.tear.ensures.moments c.tear.ensures.cause.works;
+    }
 
 -- ---- the rings
 
@@ -188,8 +199,6 @@ returns-in-Err-clause-rings g c = λ tells.
         run = ap (λ (k : Keeper). record run { keeper = k }) (c.tear.ensures.keeper ∙ ap (λ (b : Cabin). record run.keeper { cabin = torn_out which c.args.at.second b }) c.close.ensures.kept);
         told = c.tear.ensures.told;
       };
-      notes = one-noted U V X X Y Y (g.met.M.Medium.coherent c.args.unit.now) (g.met.M.Medium.coherent c.tear.new.unit) c.requires.ready.is_unit (entry_of CARD_FAULT c.args.at.second c.args.at.second crew crew) (is_err c.tear.result)
-          (λ well. ok_gives c.tear.result c.tear.ensures.noted well) c.tear.ensures.moments c.tear.ensures.cause.works;
       rings = rings-moments (g.M.Medium.state c.args.unit.now) (g.M.Medium.state c.tear.new.unit) (IsNotingEvent CARD_FAULT (fault_of c.args.at.second (crew_of c.tear.new.self.cabin))) (g.met.M.Medium.coherent c.args.unit.now) c.tear.ensures.moments
           (λ x n moment. table-outside CARD_FAULT x n moment.outside);
     }

@@ -31,7 +31,7 @@ use Rattle.run_acts.specs.Acting.{Closing, told_of, IsSettled, IsWithdrawn, clos
 use Rattle.run_acts.proofs.Leaving.{left-going, left-held, left-falls, closed-past, closed-minute, closed-sessions, closed-falls, closed-a, closed-b}
 use Rattle.run_acts.proofs.Cabins.{cabin-only, cabin-going, cabin-held, ready-same, at-same}
 use Rattle.log_model.specs.Log.{In}
-use Rattle.run_acts.specs.Recording.{RunFails, GoesOnOrFails}
+use Rattle.run_acts.specs.Recording.{RunFails, GoesOnOrFails, GoesOnOrCut}
 use Rattle.run_acts.specs.Settling.{RecordsSettling}
 use Rattle.run_acts.proofs.Asked.{withdraws-one}
 use Rattle.run_acts.proofs.WithdrawnRecorded.{acting_at, moment-is, settling-cut, closing-recorded}
