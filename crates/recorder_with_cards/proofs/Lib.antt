@@ -29,3 +29,4 @@ pub mod SecondsRecorded
 pub mod Promised
 pub mod Later
 pub mod WakeNoted
+pub mod Uncut

@@ -46,3 +46,4 @@ pub mod WithdrawnRecorded
 pub mod GoesOn
 pub mod SettledRecorded
 pub mod TurnRecorded
+pub mod Uncut

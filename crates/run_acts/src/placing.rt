@@ -12,6 +12,7 @@ ghost use Rattle.run_crew.specs.Cards.{known_of, session_of};
 ghost use Rattle.run_crew.specs.Cabin.{Stands};
 ghost use Rattle.run_keeping.specs.Keeping.{UnitReady, CardReady, HasItsRow, tears_of};
 ghost use Rattle.run_keeping.specs.Minutes.{odometer_by};
+ghost use Rattle.run_keeping.specs.Later.{AreLater};
 ghost use Rattle.run_rule.specs.Between.{devices};
 ghost use Rattle.card_session.specs.Sessions.{IsValue};
 ghost use Rattle.device_steps.specs.CardNotes.{IsNote};
@@ -85,6 +86,7 @@ pub fn note_place<M: Medium, C: Chip, D: Chip>(
     ensures clock { (M.state unit.old).clock ≤ (M.state unit.new).clock }
     ensures clock_a { (C.state card_a.old).clock ≤ (C.state card_a.new).clock }
     ensures clock_b { (D.state card_b.old).clock ≤ (D.state card_b.new).clock }
+    ensures later { AreLater (devices (M.state unit.old) (C.state card_a.old) (D.state card_b.old)) (devices (M.state unit.new) (C.state card_a.new) (D.state card_b.new)) }
 {
     let Some(card) = run.keeper.cabin.slots.card(slot) else {
         return Ok(());

@@ -19,6 +19,7 @@ ghost use Rattle.run_acts.specs.Room.{falls_of, Takes};
 ghost use Rattle.minute_model.specs.declared.Minute.{Minute};
 ghost use Rattle.minute_model.specs.Span.{Span, settled, decided_in};
 ghost use Rattle.minute_rules.specs.Kept.{StandsFor};
+ghost use Rattle.run_keeping.specs.Later.{IsLater, AreLater};
 ghost use Rattle.run_rule.specs.Between.{devices};
 ghost use Rattle.run_keeping.specs.Minutes.{Told, Reach, IsReach};
 ghost use Rattle.run_acts.specs.Acting.{Closing, IsClosed, closed_falls, IsWithdrawn, left_run, pulled_run, pulled_breaks, told_of};
@@ -79,6 +80,7 @@ pub fn withdraw<M: Medium, C: Chip, D: Chip>(
     ensures clock { (M.state unit.old).clock ≤ (M.state unit.new).clock }
     ensures clock_a { (C.state card_a.old).clock ≤ (C.state card_a.new).clock }
     ensures clock_b { (D.state card_b.old).clock ≤ (D.state card_b.new).clock }
+    ensures later { AreLater (devices (M.state unit.old) (C.state card_a.old) (D.state card_b.old)) (devices (M.state unit.new) (C.state card_a.new) (D.state card_b.new)) }
 {
     let Some(card) = run.keeper.cabin.slots.card(slot) else {
         return Ok(());
@@ -122,6 +124,7 @@ fn close<M: Medium, C: Chip>(
     ensures more { (C.state card.old).breakdowns ≤ (C.state card.new).breakdowns }
     ensures clock_card { (C.state card.old).clock ≤ (C.state card.new).clock }
     ensures cause { HasCause (M.state unit.old) (M.state unit.new) (is_err result) }
+    ensures later { IsLater (C.state card.old) (C.state card.new) }
 {
     let selected = run.minutes.selected(slot);
     let sizes = run.keeper.cabin.cards.of(which).sizes;

@@ -168,3 +168,8 @@ returns-clause-noted g c =
     let a : IsAccepted c.args.entering run new c.args.outcome.now c.accept-answer.new.outcome = record { way = w.0; only = refl; left = w.1.left } in
     judged-noting c.args.entering (is_err c.accept-answer.result) run new c.args.outcome.now c.accept-answer.new.outcome a (g.M.Medium.state c.args.unit.now) (g.M.Medium.state c.accept-answer.new.unit) (g.C.Chip.state c.args.card.now) (g.C.Chip.state c.accept-answer.new.card) (g.D.Chip.state c.args.others.now)
     (g.met.M.Medium.coherent c.args.unit.now) (g.met.M.Medium.coherent c.accept-answer.new.unit) c.requires.held.is_unit c.accept-answer.ensures.cause.works w.1.notes
+
+-- ---- what holds of the devices after any calls
+
+pub returns-clause-later : goal.returns-clause-later
+returns-clause-later g c = c.accept-answer.ensures.later

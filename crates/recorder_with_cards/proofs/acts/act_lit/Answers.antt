@@ -27,7 +27,10 @@ use Rattle.recorder_with_cards.specs.Acting.{put_count, moment_of, IsDone, IsAct
 use Rattle.recorder_with_cards.proofs.ActsRecorded.{as-lit, lit-in, cut-in, refused, cut, left}
 use Rattle.recorder_with_cards.proofs.Allowed.{fine-selected}
 use Rattle.recorder_with_cards.proofs.Rooms.{few-wait, room-cut}
-use Rattle.recorder_with_cards.proofs.Later.{later-same}
+use Rattle.run_keeping.proofs.Later.{later-same}
+use Rattle.run_outcome.proofs.Broken.{broke-none}
+use Rattle.run_acts.proofs.Uncut.{uncut-broke, cut-broke}
+use Rattle.recorder_with_cards.proofs.Uncut.{done-uncut}
 use Rattle.recorder_with_cards.proofs.acts.act_lit.Goals as goal
 
 -- ---- the unit failed: power is lost
@@ -195,3 +198,15 @@ returns-then-is_err-clause-later g c = c.carry_out.ensures.later
 
 pub returns-else-is_err-clause-later : goal.returns-else-is_err-clause-later
 returns-else-is_err-clause-later g c = c.carry_out.ensures.later
+
+-- ---- how often the unit broke down
+
+pub returns-in-Err-clause-broke : goal.returns-in-Err-clause-broke
+returns-in-Err-clause-broke g c = broke-none c.args.outcome.now.breaks.items {old = (g.M.Medium.state c.args.unit.now)} {new = (g.M.Medium.state c.args.unit.now)} (omega arith)
+
+pub returns-then-is_err-clause-broke : goal.returns-then-is_err-clause-broke
+returns-then-is_err-clause-broke g c =
+    cut-broke _ _ _ _ _ (g.M.Medium.state c.args.unit.now) (g.M.Medium.state c.carry_out.new.unit) (is_err c.carry_out.result) (c.requires.going.lit (ap is_lit c.requires.lit)).ready.unit_ready.works c.carry_out.ensures.cause (sym c.is_err.ensures.value ∙ c.if-is_err.true) (done-uncut c.args.action _ c.args.speed _ _ _ _ _ c.carry_out.ensures.done) (ap (λ (l : Listed Break). l.items) c.cut.ensures.breaks)
+
+pub returns-else-is_err-clause-broke : goal.returns-else-is_err-clause-broke
+returns-else-is_err-clause-broke g c = uncut-broke _ _ (g.M.Medium.state c.args.unit.now) (g.M.Medium.state c.carry_out.new.unit) (is_err c.carry_out.result) c.carry_out.ensures.cause (done-uncut c.args.action _ c.args.speed _ _ _ _ _ c.carry_out.ensures.done)

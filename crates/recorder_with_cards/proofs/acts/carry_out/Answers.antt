@@ -30,7 +30,7 @@ use Rattle.recorder_with_cards.proofs.Allowed.{insert-elsewhere}
 use Rattle.recorder_with_cards.proofs.Picked.{picked-going}
 use Rattle.recorder_with_cards.proofs.Pulled.{pulled-stays, pulled-held, pulled-going, pulled-takes}
 use Rattle.recorder_with_cards.proofs.More.{inserted-more}
-use Rattle.recorder_with_cards.proofs.Later.{later-same}
+use Rattle.run_keeping.proofs.Later.{later-same}
 use Rattle.recorder_with_cards.proofs.acts.carry_out.Goals as goal
 
 pub insert-requires-clause-elsewhere : goal.insert-requires-clause-elsewhere
@@ -215,13 +215,13 @@ pub returns-in-Tear-clause-time : goal.returns-in-Tear-clause-time
 returns-in-Tear-clause-time g c = λ h. h
 
 pub returns-in-Insert-clause-later : goal.returns-in-Insert-clause-later
-returns-in-Insert-clause-later g c = record { unit = c.insert.ensures.clock; card_a = c.insert.ensures.clock_a; card_b = c.insert.ensures.clock_b }
+returns-in-Insert-clause-later g c = c.insert.ensures.later
 
 pub returns-in-Withdraw-clause-later : goal.returns-in-Withdraw-clause-later
-returns-in-Withdraw-clause-later g c = record { unit = c.withdraw.ensures.clock; card_a = c.withdraw.ensures.clock_a; card_b = c.withdraw.ensures.clock_b }
+returns-in-Withdraw-clause-later g c = c.withdraw.ensures.later
 
 pub returns-in-Place-clause-later : goal.returns-in-Place-clause-later
-returns-in-Place-clause-later g c = record { unit = c.note_place.ensures.clock; card_a = c.note_place.ensures.clock_a; card_b = c.note_place.ensures.clock_b }
+returns-in-Place-clause-later g c = c.note_place.ensures.later
 
 pub returns-in-Select-clause-later : goal.returns-in-Select-clause-later
 returns-in-Select-clause-later g c = later-same (devices (g.M.Medium.state c.args.unit.now) (g.C.Chip.state c.args.card_a.now) (g.D.Chip.state c.args.card_b.now))

@@ -27,6 +27,7 @@ use Rattle.run_acts.proofs.NotedEvents.{then-noted}
 use Rattle.run_acts.specs.Faults.{NotesSettling}
 use Rattle.recorder_with_cards.specs.Accepting.{put_run}
 use Rattle.recorder_with_cards.proofs.WakeNoted.{settles-these, anew-these}
+use Rattle.run_keeping.proofs.Later.{later-then}
 use Rattle.recorder_with_cards.proofs.inserting.insert.Goals as goal
 
 pub settle-requires-clause-held : goal.settle-requires-clause-held
@@ -183,3 +184,11 @@ returns-clause-noted g c =
       are = inr (record { between = mid; told = told; faults = these.0; judged = judged.0; settles = these.1; judges = judged.1; are = refl });
       notes = then-noted these.0 judged.0 (is_err c.accept_in.result) (devices U X Y) e f these.2 judged.2;
     }
+
+-- ---- what holds of the devices after any calls
+
+pub returns-in_err-settle-clause-later : goal.returns-in_err-settle-clause-later
+returns-in_err-settle-clause-later g c = c.settle.ensures.later
+
+pub returns-clause-later : goal.returns-clause-later
+returns-clause-later g c = later-then (devices (g.M.Medium.state c.args.unit.now) (g.C.Chip.state c.args.card_a.now) (g.D.Chip.state c.args.card_b.now)) (devices (g.M.Medium.state c.settle.new.unit) (g.C.Chip.state c.settle.new.card_a) (g.D.Chip.state c.settle.new.card_b)) (devices (g.M.Medium.state c.accept_in.new.unit) (g.C.Chip.state c.accept_in.new.card_a) (g.D.Chip.state c.accept_in.new.card_b)) c.settle.ensures.later c.accept_in.ensures.later

@@ -31,6 +31,7 @@ use Rattle.run_outcome.specs.declared.outcome.Outcome.{Outcome}
 use Rattle.run_recorded.specs.Origin.{Origin}
 use Rattle.run_acts.specs.Recording.{RunWithin, GoesOnOrCut, IsNow}
 use Rattle.run_acts.proofs.NoteRecorded.{noted-some, place-told, unit-recorded}
+use Rattle.run_keeping.proofs.Later.{state-by, later-same, later-then, later-of-unit, later-of-a, later-of-b}
 use Rattle.run_acts.proofs.placing.note_place.Goals as goal
 
 pub note_place_in-requires-clause-ready : goal.note_place_in-requires-clause-ready
@@ -256,3 +257,20 @@ returns-in-A-clause-clock_a g c = c.note_place_in.ensures.clock_card
 
 pub returns-in-B-clause-clock_b : goal.returns-in-B-clause-clock_b
 returns-in-B-clause-clock_b g c = c.note_place_in-in-B.ensures.clock_card
+
+-- ---- what holds of the devices after any calls
+
+pub returns-in_default-clause-later : goal.returns-in_default-clause-later
+returns-in_default-clause-later g c = later-same (devices (g.M.Medium.state c.args.unit.now) (g.C.Chip.state c.args.card_a.now) (g.D.Chip.state c.args.card_b.now))
+
+pub returns-in_default-number_in-clause-later : goal.returns-in_default-number_in-clause-later
+returns-in_default-number_in-clause-later g c = later-same (devices (g.M.Medium.state c.args.unit.now) (g.C.Chip.state c.args.card_a.now) (g.D.Chip.state c.args.card_b.now))
+
+pub returns-in_err-note_place-clause-later : goal.returns-in_err-note_place-clause-later
+returns-in_err-note_place-clause-later g c = later-of-unit (g.M.Medium.state c.args.unit.now) (g.M.Medium.state c.note_place.new.unit) (g.C.Chip.state c.args.card_a.now) (g.D.Chip.state c.args.card_b.now) (state-by (g.M.Medium.state c.args.unit.now) (g.M.Medium.state c.note_place.new.unit) _ c.note_place.ensures.journal.later c.note_place.ensures.cause)
+
+pub returns-in-A-clause-later : goal.returns-in-A-clause-later
+returns-in-A-clause-later g c = later-then (devices (g.M.Medium.state c.args.unit.now) (g.C.Chip.state c.args.card_a.now) (g.D.Chip.state c.args.card_b.now)) (devices (g.M.Medium.state c.note_place.new.unit) (g.C.Chip.state c.args.card_a.now) (g.D.Chip.state c.args.card_b.now)) (devices (g.M.Medium.state c.note_place_in.new.unit) (g.C.Chip.state c.note_place_in.new.card) (g.D.Chip.state c.args.card_b.now)) (later-of-unit (g.M.Medium.state c.args.unit.now) (g.M.Medium.state c.note_place.new.unit) (g.C.Chip.state c.args.card_a.now) (g.D.Chip.state c.args.card_b.now) (state-by (g.M.Medium.state c.args.unit.now) (g.M.Medium.state c.note_place.new.unit) _ c.note_place.ensures.journal.later c.note_place.ensures.cause)) (later-of-a (g.M.Medium.state c.note_place.new.unit) (g.M.Medium.state c.note_place_in.new.unit) (g.C.Chip.state c.args.card_a.now) (g.C.Chip.state c.note_place_in.new.card) (g.D.Chip.state c.args.card_b.now) (state-by (g.M.Medium.state c.note_place.new.unit) (g.M.Medium.state c.note_place_in.new.unit) _ c.note_place_in.ensures.journal.later c.note_place_in.ensures.cause) (state-by (g.C.Chip.state c.args.card_a.now) (g.C.Chip.state c.note_place_in.new.card) c.note_place_in.ensures.noted.0 c.note_place_in.ensures.clock_card c.note_place_in.ensures.noted.3))
+
+pub returns-in-B-clause-later : goal.returns-in-B-clause-later
+returns-in-B-clause-later g c = later-then (devices (g.M.Medium.state c.args.unit.now) (g.C.Chip.state c.args.card_a.now) (g.D.Chip.state c.args.card_b.now)) (devices (g.M.Medium.state c.note_place.new.unit) (g.C.Chip.state c.args.card_a.now) (g.D.Chip.state c.args.card_b.now)) (devices (g.M.Medium.state c.note_place_in-in-B.new.unit) (g.C.Chip.state c.args.card_a.now) (g.D.Chip.state c.note_place_in-in-B.new.card)) (later-of-unit (g.M.Medium.state c.args.unit.now) (g.M.Medium.state c.note_place.new.unit) (g.C.Chip.state c.args.card_a.now) (g.D.Chip.state c.args.card_b.now) (state-by (g.M.Medium.state c.args.unit.now) (g.M.Medium.state c.note_place.new.unit) _ c.note_place.ensures.journal.later c.note_place.ensures.cause)) (later-of-b (g.M.Medium.state c.note_place.new.unit) (g.M.Medium.state c.note_place_in-in-B.new.unit) (g.C.Chip.state c.args.card_a.now) (g.D.Chip.state c.args.card_b.now) (g.D.Chip.state c.note_place_in-in-B.new.card) (state-by (g.M.Medium.state c.note_place.new.unit) (g.M.Medium.state c.note_place_in-in-B.new.unit) _ c.note_place_in-in-B.ensures.journal.later c.note_place_in-in-B.ensures.cause) (state-by (g.D.Chip.state c.args.card_b.now) (g.D.Chip.state c.note_place_in-in-B.new.card) c.note_place_in-in-B.ensures.noted.0 c.note_place_in-in-B.ensures.clock_card c.note_place_in-in-B.ensures.noted.3))

@@ -22,6 +22,7 @@ use Rattle.run_acts.specs.declared.run.Run.{Run}
 use Rattle.run_acts.proofs.Noted.{noted-ready, noted-row}
 use Rattle.run_acts.specs.Acting.{Fell, IsClosingOf}
 use Rattle.run_acts.proofs.Cabins.{session-known, twice-ready}
+use Rattle.run_keeping.proofs.Later.{state-same, state-by}
 use Rattle.run_acts.proofs.withdrawing.close.Goals as goal
 
 pub returns-in-Ok-leave-clause-ready : goal.returns-in-Ok-leave-clause-ready
@@ -83,3 +84,17 @@ pub returns-in-Err-clause-left : goal.returns-in-Err-clause-left
 returns-in-Err-clause-left g c =
     subst (λ (o : Option Accepted). IfSome o (λ s. (act : Activity) × LeavesOnly (g.C.Chip.state c.args.card.now) (g.C.Chip.state c.leave.new.card) (λ x n. IsSession s.session x → IsCardClosing s.session act x n))) c.in-Some.ensures.session
     (activity_of c.selected-selected.result, c.leave.ensures.moments)
+
+-- ---- what holds of the devices after any calls
+
+pub returns-in_default-clause-later : goal.returns-in_default-clause-later
+returns-in_default-clause-later g c = state-same (g.C.Chip.state c.args.card.now)
+
+pub returns-in_default-sizes-clause-later : goal.returns-in_default-sizes-clause-later
+returns-in_default-sizes-clause-later g c = state-same (g.C.Chip.state c.args.card.now)
+
+pub returns-in-Ok-leave-clause-later : goal.returns-in-Ok-leave-clause-later
+returns-in-Ok-leave-clause-later g c = state-by (g.C.Chip.state c.args.card.now) (g.C.Chip.state c.leave.new.card) (is_err c.leave.result) c.leave.ensures.moments.later c.leave.ensures.cause
+
+pub returns-in-Err-clause-later : goal.returns-in-Err-clause-later
+returns-in-Err-clause-later g c = state-by (g.C.Chip.state c.args.card.now) (g.C.Chip.state c.leave.new.card) (is_err c.leave.result) c.leave.ensures.moments.later c.leave.ensures.cause

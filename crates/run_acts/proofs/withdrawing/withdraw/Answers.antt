@@ -38,6 +38,7 @@ use Rattle.run_acts.specs.Settling.{RecordsSettling}
 use Rattle.run_acts.proofs.Asked.{withdraws-one}
 use Rattle.run_acts.proofs.Withdrawn.{time-before}
 use Rattle.run_acts.proofs.WithdrawnRecorded.{acting_at, moment-is, settling-cut, closing-recorded}
+use Rattle.run_keeping.proofs.Later.{state-by, later-same, later-then, later-of-a, later-of-b}
 use Rattle.run_acts.proofs.withdrawing.withdraw.Goals as goal
 
 -- ---- it has left its slot
@@ -535,3 +536,17 @@ returns-in-B-clause-recorded g c = λ late speed o done s now front rest are n a
     (here-settled r.0 false c.args.slot c.args.at (acting_at s.number (suc (length front))) run between c.args.outcome.now told c.leave.new.self D (devices U1 Z X) c.leave.ensures.kept moment r.2)
     (time-before B U1 V X Y Z unit_later e.clock_card time) c.args.at c.in_ok-settle.ensures.settled.decided (told_of (with_cabin c.leave.new.self run) c.args.outcome.now) c.in_ok-settle.ensures.settled.kept (ap (λ (b : Cabin). session_of b.cards B) c.leave.ensures.kept)
     c.close-in-B.new.run c.close-in-B.new.breaks k.0 (subst (λ (m : Moment). IsClosed B c.args.slot m between c.close-in-B.new.run told.breaks c.close-in-B.new.breaks k.0) moment k.1) k.2)
+
+-- ---- what holds of the devices after any calls
+
+pub returns-in_default-clause-later : goal.returns-in_default-clause-later
+returns-in_default-clause-later g c = later-same (devices (g.M.Medium.state c.args.unit.now) (g.C.Chip.state c.args.card_a.now) (g.D.Chip.state c.args.card_b.now))
+
+pub returns-in_err-settle-clause-later : goal.returns-in_err-settle-clause-later
+returns-in_err-settle-clause-later g c = c.settle.ensures.later
+
+pub returns-in-A-clause-later : goal.returns-in-A-clause-later
+returns-in-A-clause-later g c = later-then (devices (g.M.Medium.state c.args.unit.now) (g.C.Chip.state c.args.card_a.now) (g.D.Chip.state c.args.card_b.now)) (devices (g.M.Medium.state c.settle.new.unit) (g.C.Chip.state c.settle.new.card_a) (g.D.Chip.state c.settle.new.card_b)) (devices (g.M.Medium.state c.close.new.unit) (g.C.Chip.state c.close.new.card) (g.D.Chip.state c.settle.new.card_b)) c.settle.ensures.later (later-of-a (g.M.Medium.state c.settle.new.unit) (g.M.Medium.state c.close.new.unit) (g.C.Chip.state c.settle.new.card_a) (g.C.Chip.state c.close.new.card) (g.D.Chip.state c.settle.new.card_b) (state-by (g.M.Medium.state c.settle.new.unit) (g.M.Medium.state c.close.new.unit) _ c.close.ensures.journal.later c.close.ensures.cause) c.close.ensures.later)
+
+pub returns-in-B-clause-later : goal.returns-in-B-clause-later
+returns-in-B-clause-later g c = later-then (devices (g.M.Medium.state c.args.unit.now) (g.C.Chip.state c.args.card_a.now) (g.D.Chip.state c.args.card_b.now)) (devices (g.M.Medium.state c.settle.new.unit) (g.C.Chip.state c.settle.new.card_a) (g.D.Chip.state c.settle.new.card_b)) (devices (g.M.Medium.state c.close-in-B.new.unit) (g.C.Chip.state c.settle.new.card_a) (g.D.Chip.state c.close-in-B.new.card)) c.settle.ensures.later (later-of-b (g.M.Medium.state c.settle.new.unit) (g.M.Medium.state c.close-in-B.new.unit) (g.C.Chip.state c.settle.new.card_a) (g.D.Chip.state c.settle.new.card_b) (g.D.Chip.state c.close-in-B.new.card) (state-by (g.M.Medium.state c.settle.new.unit) (g.M.Medium.state c.close-in-B.new.unit) _ c.close-in-B.ensures.journal.later c.close-in-B.ensures.cause) c.close-in-B.ensures.later)
