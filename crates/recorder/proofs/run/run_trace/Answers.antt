@@ -252,6 +252,7 @@ returns-clause-followed g c = λ start x starts below few.
     let all_marked = subst (λ (is : List Item). AreMarked Original (log_of c.loop-i.outcome.breaks.items) (seconds_of c.args.trace.now.start is) c.loop-i.outcome.marks.items) whole r.complete in
     record {
       safe = all_safe;
+      issued = r.booked.stands.holds.issued;
       due = due_of c.loop-i.run;
       book = r.book;
       holds = r.booked.stands.holds;
