@@ -1,3 +1,4 @@
+pub mod EnteredRings
 pub mod EnteredTold
 pub mod EnteredEvents
 pub mod Items

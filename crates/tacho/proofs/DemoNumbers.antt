@@ -36,6 +36,7 @@ module _ (x a b : List ℕ) (start : ℕ) (items : List Item) (out : Outcome) (p
         kept = λ br at. ⊎_elim (λ was_found. inl (subst (λ (n : ℕ). WasFound (now.unit.left_since n) br) unit was_found)) (λ none. inr none) (h.ends.caused.kept br at);
         complete = h.ends.caused.complete;
       };
+      brings = h.ends.brings;
       odometer = h.ends.odometer;
       whole = h.ends.whole;
     };

@@ -20,7 +20,7 @@ use Rattle.recorder_with_cards.proofs.ActsRecorded.{selected}
 use Rattle.recorder_with_cards.proofs.Rooms.{few-wait, put-room}
 use Rattle.run_acts.proofs.Pulled.{pulled-recorded}
 use Rattle.run_acts.specs.Acting.{pulled_breaks}
-use Rattle.run_acts.specs.Recording.{RunWithin, RecordsAction}
+use Rattle.run_acts.specs.Recording.{RunGoesOn, RecordsAction}
 use Rattle.run_keeping.proofs.DecidedBooked.{time-before}
 use Rattle.run_keeping.specs.Keeping.{with_lines}
 use Rattle.run_rule.specs.Between.{devices}
@@ -147,7 +147,7 @@ returns-in-Select-clause-recorded g c = λ o done s now front rest are begun all
     let out = c.args.outcome.now in
     let new : Run = record run { minutes = c.select.new.self } in
     let d : Devices = devices (g.M.Medium.state c.args.unit.now) (g.C.Chip.state c.args.card_a.now) (g.D.Chip.state c.args.card_b.now) in
-    subst (λ (n : ℕ). RunWithin o done s (In n) [] [] new out d) (sym begun)
+    subst (λ (n : ℕ). RunGoesOn o done s (In n) [] new out d h.within.b) (sym begun)
     (selected o done s c.args.speed run out d now front c.args.action rest are h c.in-Select.slot c.in-Select.pick c.in-Select.is allowed new (refl, c.select.ensures.picked))
 
 pub returns-in-Tear-clause-recorded : goal.returns-in-Tear-clause-recorded

@@ -26,6 +26,7 @@ use Rattle.run_acts.proofs.NoteRecorded.{noted-some}
 use Rattle.run_rule.specs.Between.{devices}
 use Rattle.run_acts.specs.Noting.{fall_events}
 use Rattle.run_acts.proofs.NotedEvents.{same-noted, noted-any}
+use Rattle.run_rings.proofs.Same.{rings-left}
 use Rattle.run_keeping.proofs.Later.{state-by, later-same, later-of-a, later-of-b}
 use Rattle.run_acts.proofs.gap.note_in.Goals as goal
 
@@ -195,6 +196,12 @@ returns-in-B-clause-recorded g c =
     (g.met.M.Medium.coherent c.args.unit.now) (g.met.D.Chip.coherent c.args.card_b.now) (g.met.D.Chip.coherent c.note_on-in-B.new.card) c.requires.held.card_b.size some e.value there refl refl lit.span lit.stands lit.next lit.cabin e.moments e.journal
     (is_err c.note_on-in-B.result) e.cause c.note_on-in-B.new.run c.note_on-in-B.new.breaks n.0 n.1 n.2 n.3
 
+pub returns-in_default-clause-recorded : goal.returns-in_default-clause-recorded
+returns-in_default-clause-recorded g c = λ o done s out w power. record { goes = w; began = refl }
+
+pub returns-in_default-number_in-clause-recorded : goal.returns-in_default-number_in-clause-recorded
+returns-in_default-number_in-clause-recorded g c = λ o done s out w power. record { goes = w; began = refl }
+
 -- ---- what is noted on the unit
 
 pub returns-in-A-clause-events : goal.returns-in-A-clause-events
@@ -244,6 +251,14 @@ returns-in_default-number_in-clause-events g c =
       failing = λ bad. bad;
       notes = same-noted (g.M.Medium.state c.args.unit.now) (g.C.Chip.state c.args.card_a.now) (g.D.Chip.state c.args.card_b.now);
     }
+
+-- ---- the rings
+
+pub returns-in_default-clause-rings : goal.returns-in_default-clause-rings
+returns-in_default-clause-rings g c = rings-left (g.M.Medium.state c.args.unit.now)
+
+pub returns-in_default-number_in-clause-rings : goal.returns-in_default-number_in-clause-rings
+returns-in_default-number_in-clause-rings g c = rings-left (g.M.Medium.state c.args.unit.now)
 
 -- ---- what holds of the devices after any calls
 
