@@ -20,6 +20,7 @@ use Rattle.run_opening.specs.declared.fault.RunFault.{RunFault}
 use Rattle.run_opening.specs.declared.fault.RunFault.TheVariants as run
 use Rattle.recorder.specs.Trace.{IsForUnit}
 use Rattle.recorder_with_cards.specs.Gone.{IsRefusedBy as IsRefusedAt}
+use Rattle.recorder_with_cards.proofs.WholeOdometer.{all-there}
 use Rattle.recorder_with_cards.specs.Ends.{BeginAs, MayRecord, EndsTrace, IsKeptFrom}
 use Rattle.run_outcome.specs.declared.outcome.Outcome.{Outcome}
 use Rattle.tacho.specs.declared.end.Fault.{Fault}
@@ -108,7 +109,7 @@ module _ (old new : Outside) (outcome : Outcome) (start : ℕ) (items : List Ite
     broke = broke;
     early = λ s is told ref. absurd (refused-no-run fault ref ran);
     unbroken = unbroken-as;
-    whole = λ s is x a b starts sound counts done. (recorded-as s is x a b starts).ends.whole (unbroken-as s is x a b starts sound counts);
+    whole = λ s is x a b starts sound counts done. all-there x a b s is outcome (devices_of old) (devices_of new) (recorded-as s is x a b starts) (unbroken-as s is x a b starts sound counts);
   }
     where
       recorded-as : (s : ℕ) (is : List Item) (x a b : List ℕ) → StartWith x a b s is old new → EndsTrace x a b s is outcome (devices_of old) (devices_of new)

@@ -5,9 +5,12 @@ use Rattle.tach_media.specs.Medium.{State, IsCoherent, LeavesOnly, Unchanged, Ro
 use Rattle.run_model.specs.declared.Device.{Device}
 use Rattle.run_model.specs.declared.Device.TheVariants.{Unit as OfUnit, CardA, CardB}
 use Rattle.trace_model.specs.declared.Item.{Item}
+use Rattle.trace_model.specs.Trace.{seconds_of}
 use Rattle.trace_text.specs.declared.trace.Form.TheVariants.{Whole}
 use Rattle.trace_text.specs.Judged.{IsTraceText}
-use Rattle.unit_model.specs.Image.{last_kept}
+use Rattle.minute_model.specs.declared.Rule.TheVariants.{Original}
+use Rattle.log_model.proofs.Spanning.{seconds-order}
+use Rattle.unit_model.specs.Image.{recorded as days_in, odometer_at, last_kept}
 use Rattle.unit_model.specs.Decoding.{Decodes, first_bad_place}
 use Rattle.recorder.specs.declared.opening.RunFault.{RunFault}
 use Rattle.recorder.specs.declared.opening.RunFault.TheVariants as run
@@ -17,12 +20,13 @@ use Rattle.recorder.specs.Gone.{IsRefusedBy}
 use Rattle.recorder.specs.Opening.{IsRefused, IsFoundLater, IsUnitFault}
 use Rattle.recorder.specs.Followed.{NoVerdict, run_log}
 use Rattle.log_model.specs.Causes.{cuts, tears}
+use Rattle.recorder_with_cards.proofs.WholeOdometer.{whole-odometer}
 use Rattle.run_outcome.specs.declared.outcome.Outcome.{Outcome}
 use Rattle.tacho.specs.declared.end.Fault.{Fault}
 use Rattle.tacho.specs.declared.end.Fault.TheVariants.{Done, Usage, BadTrace, TooLong, BadUnit, ClockBack, SameCard, ReadFault, WriteFault, MediumFault, Memory, BadFile, BadCard, Changed}
 use Rattle.tacho.specs.Outside.{Outside}
 use Rattle.tacho.specs.Outcomes.{IsEmpty, IsRun, IsRefusal, IsTold}
-use Rattle.tacho.specs.UnitRecorded.{IsOfUnit, refusal_on_unit, breakdowns_in, IsSound, HaveCounts, Starts, IsRecorded, IsCaused, EndsOnUnit}
+use Rattle.tacho.specs.UnitRecorded.{IsOfUnit, refusal_on_unit, breakdowns_in, IsSound, HaveCounts, Starts, IsRecorded, IsAllThere, IsCaused, EndsOnUnit}
 use Rattle.tacho.proofs.Recordings.{none-bad, refused-no-run}
 use Rattle.tacho.proofs.Unbroken.{none-failed, unbroken-log}
 
@@ -183,9 +187,17 @@ unit-run old new outcome start items for_unit is_read recorded caused begun brok
   broke = broke;
   early = λ s is told ref. absurd (refused-no-run fault ref ran);
   unbroken = λ s is x told starts sound counts. unbroken_as x starts sound counts;
-  whole = λ s is x told starts sound counts done cards. (of_trace s is x (is_read told.text s is told.told told.trace) (recorded x starts.alone starts.clock) cards).whole (unbroken_as x starts sound counts).0;
+  whole = λ s is x told starts sound counts done cards. there s is x (of_trace s is x (is_read told.text s is told.told told.trace) (recorded x starts.alone starts.clock)) (unbroken_as x starts sound counts).0 cards;
 }
   where
+    there : (s : ℕ) (is : List Item) (x : List ℕ) → IsRecorded x s is old.unit.clock outcome new.unit → cuts true (run_log outcome) ≡ [] → IsAllThere x s is outcome new.unit
+    there s is x h none cards =
+        let f = h cards in
+        let w = f.whole none in (
+          w.0,
+          λ y left. (w.1 y left, whole-odometer Original cards (run_log outcome) s (seconds_of s is) (seconds-order s is) w.0 (days_in x) (odometer_at x) y (w.1 y left) (f.odometer y left)),
+        )
+
     unbroken_as : (x : List ℕ) → Starts x old.unit new.unit → IsSound old new → HaveCounts old → (cuts true (run_log outcome) ≡ []) × (tears true (run_log outcome) ≡ [])
     unbroken_as x starts sound counts = none-failed NoVerdict (breakdowns_in old) (breakdowns_in new) _ (run_log outcome) counts (none_broke sound) (caused x starts.alone starts.clock)
 
