@@ -31,3 +31,4 @@ pub mod Promised
 pub mod Later
 pub mod WakeNoted
 pub mod Uncut
+pub mod WholeOdometer
