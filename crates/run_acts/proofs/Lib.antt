@@ -40,6 +40,7 @@ pub mod Apart
 pub mod NoneComes
 pub mod Asked
 pub mod NotedOn
+pub mod ActsNoted
 pub mod NoteRecorded
 pub mod Pulled
 pub mod Closed
@@ -47,3 +48,5 @@ pub mod WithdrawnRecorded
 pub mod GoesOn
 pub mod SettledRecorded
 pub mod TurnRecorded
+pub mod Ringing
+pub mod Uncut
