@@ -1,3 +1,4 @@
+pub mod EnteredRings
 pub mod EnteredTold
 pub mod EnteredEvents
 pub mod Items
@@ -29,3 +30,4 @@ pub mod SecondsRecorded
 pub mod Promised
 pub mod Later
 pub mod WakeNoted
+pub mod Uncut

@@ -57,9 +57,9 @@ use Rattle.run_acts.specs.declared.run.Run.{Run}
 use Rattle.run_acts.specs.Power.{with_cabin}
 use Rattle.run_acts.specs.Acting.{Closing, Bare, Closed, Fell, closed_cabin, closed_breaks, closed_falls, IsClosingOf, IsClosed}
 use Rattle.run_acts.specs.Behind.{IsPoweredOrOff, carried_closed}
-use Rattle.run_acts.specs.Recording.{log_of, values_of, RunWithin, GoesOnOrCut}
+use Rattle.run_acts.specs.Recording.{log_of, values_of, RunWithin, GoesOnOrFails}
 use Rattle.run_acts.proofs.Withdrawn.{closed-any}
-use Rattle.run_acts.proofs.NoteRecorded.{run-on, card-goes, unit-any, unit-of, to-unit, card-rose, rose-by, rose-on}
+use Rattle.run_acts.proofs.NoteRecorded.{goes-as, card-goes, unit-any, unit-of, to-unit, card-rose, rose-by, rose-on}
 
 -- when a card was last used, behind the closing of its session
 closed-timed : (f : Found) (w : Carried) (cards : Cards) (c : Card) (U X Y Z : State) → AreFoundCards f cards → IsCoherent X → LARGEST_IMAGE ≤ X.size → (a : Accepted) (act : Activity) → session_of cards c ≡ Some a → IsPowered f w cards (arranged c U X Z) →
@@ -119,8 +119,8 @@ module _ {C : Type 0} (state : C → State) (c : Card) (slot : Slot) (at : Momen
     called = record { low = s.number / 60; leaving = leaving (ap is_some has); is_now = from; goes = goes; travels = travels }
 
     -- it is closed
-    closed : (b : Bool) → failed ≡ b → IsPoweredOrOff b o.found (carried_closed Closed c carries) (with_session c None run.keeper.cabin.cards) e → GoesOnOrCut b o done s (In n) [] (with_cabin (with_session_of c None run.keeper.cabin) run) told e
-    closed false is powered = run-on o done s (In n) (In n) [] [] [] [] run (with_cabin (with_session_of c None run.keeper.cabin) run) told told d e w.within.from w refl refl (session-closed d e o done s (In n) v w.within slot c called powered)
+    closed : (b : Bool) → failed ≡ b → IsPoweredOrOff b o.found (carried_closed Closed c carries) (with_session c None run.keeper.cabin.cards) e → GoesOnOrFails b o done s (In n) [] (with_cabin (with_session_of c None run.keeper.cabin) run) told e w.within.b
+    closed false is powered = goes-as o done s (In n) (In n) [] [] [] run (with_cabin (with_session_of c None run.keeper.cabin) run) told told d e w.within.from w refl refl (session-closed d e o done s (In n) v w.within slot c called powered)
     closed true is powerless = record {
       waits = [];
       cabin = with_session_of c None run.keeper.cabin;
@@ -140,8 +140,8 @@ module _ {C : Type 0} (state : C → State) (c : Card) (slot : Slot) (at : Momen
     )
 
     fell : HasBroken (state x) (state y) 1 → (b : Bool) → failed ≡ b → IsPoweredOrOff b o.found (carried_closed Fell c carries) (with_session c None (with_session c None run.keeper.cabin.cards)) e →
-        GoesOnOrCut b o done s (In n) [] (with_cabin (torn_out c at.second (with_session_of c None run.keeper.cabin)) run) (record told { breaks = with_lines (tear_of slot at ∷ []) told.breaks }) e
-    fell broken false is powered = run-on o done s (In n) (In n) [] [] [] [] run (with_cabin (torn_out c at.second (with_session_of c None run.keeper.cabin)) run) told (record told { breaks = with_lines (tear_of slot at ∷ []) told.breaks }) d e w.within.from w refl refl
+        GoesOnOrFails b o done s (In n) [] (with_cabin (torn_out c at.second (with_session_of c None run.keeper.cabin)) run) (record told { breaks = with_lines (tear_of slot at ∷ []) told.breaks }) e w.within.b
+    fell broken false is powered = goes-as o done s (In n) (In n) [] [] [] run (with_cabin (torn_out c at.second (with_session_of c None run.keeper.cabin)) run) told (record told { breaks = with_lines (tear_of slot at ∷ []) told.breaks }) d e w.within.from w refl refl
         (subst (λ (u : ℕ). GoesOn o done s (In n) [] None [] (fallen_values (tear_of slot at) c u v) e w.within.b w.within.from) (sym second)
         (leaving-torn d e o done s (In n) v w.within slot c called (tear_of slot at) tear-here (record { more = goes.breakdowns; broke = card-rose c U V (state x) (state y) Z (rose-by (state x).breakdowns (state y).breakdowns broken.breakdowns) }) powered))
     fell broken true is powerless = record {
@@ -154,25 +154,25 @@ module _ {C : Type 0} (state : C → State) (c : Card) (slot : Slot) (at : Momen
     }
 
   -- SO IT IS RECORDED, whatever became of it
-  pub closed-recorded : (new : Run) (after : Listed Break) (closing : Closing) → IsClosed c slot at run new told.breaks after closing → HasBroken (state x) (state y) (closed_falls closing) → GoesOnOrCut failed o done s (In n) [] new (record told { breaks = after }) (arranged c V (state y) Z)
+  pub closed-recorded : (new : Run) (after : Listed Break) (closing : Closing) → IsClosed c slot at run new told.breaks after closing → HasBroken (state x) (state y) (closed_falls closing) → GoesOnOrFails failed o done s (In n) [] new (record told { breaks = after }) (arranged c V (state y) Z) w.within.b
   closed-recorded new after closing is broken =
-      subst (λ (r : Run). GoesOnOrCut failed o done s (In n) [] r (record told { breaks = after }) e) (sym is.run)
-      (subst (λ (l : Listed Break). GoesOnOrCut failed o done s (In n) [] (with_cabin (closed_cabin closing c at.second run.keeper.cabin) run) (record told { breaks = l }) e) (sym is.told)
+      subst (λ (r : Run). GoesOnOrFails failed o done s (In n) [] r (record told { breaks = after }) e w.within.b) (sym is.run)
+      (subst (λ (l : Listed Break). GoesOnOrFails failed o done s (In n) [] (with_cabin (closed_cabin closing c at.second run.keeper.cabin) run) (record told { breaks = l }) e w.within.b) (sym is.told)
       (by (session_of run.keeper.cabin.cards c) refl closing is.is broken))
     where
       powered : (closing : Closing) → IsClosingOf (session_of run.keeper.cabin.cards c) closing → IsPoweredOrOff failed o.found (carried_closed closing c carries) (closed_cabin closing c at.second run.keeper.cabin).cards e
       powered closing how = closed-any state o.found carries c at.second run.keeper.cabin U V Z x y w.within.found unit_whole whole size w.within.powered left still unit failed cause.works closing how
 
       by : (q : Option Accepted) → session_of run.keeper.cabin.cards c ≡ q → (closing : Closing) → IsClosingOf (session_of run.keeper.cabin.cards c) closing → HasBroken (state x) (state y) (closed_falls closing) →
-          GoesOnOrCut failed o done s (In n) [] (with_cabin (closed_cabin closing c at.second run.keeper.cabin) run) (record told { breaks = with_lines (closed_breaks closing slot at) told.breaks }) e
+          GoesOnOrFails failed o done s (In n) [] (with_cabin (closed_cabin closing c at.second run.keeper.cabin) run) (record told { breaks = with_lines (closed_breaks closing slot at) told.breaks }) e w.within.b
       by None has Bare how broke_ =
-          subst (λ (q : Cards). GoesOnOrCut failed o done s (In n) [] (with_cabin (record run.keeper.cabin { cards = q }) run) (record told { breaks = with_lines [] told.breaks }) e) (sym (session-unset c run.keeper.cabin.cards has))
-          (subst (λ (l : Listed Break). GoesOnOrCut failed o done s (In n) [] run (record told { breaks = l }) e) (no-lines told.breaks)
-          (subst (λ (z : C). GoesOnOrCut failed o done s (In n) [] run told (arranged c V (state z) Z)) (sym (still has)) (unit-any c o done s n run told U V (state x) Z unit_whole unit span stands ends w failed cause)))
+          subst (λ (q : Cards). GoesOnOrFails failed o done s (In n) [] (with_cabin (record run.keeper.cabin { cards = q }) run) (record told { breaks = with_lines [] told.breaks }) e w.within.b) (sym (session-unset c run.keeper.cabin.cards has))
+          (subst (λ (l : Listed Break). GoesOnOrFails failed o done s (In n) [] run (record told { breaks = l }) e w.within.b) (no-lines told.breaks)
+          (subst (λ (z : C). GoesOnOrFails failed o done s (In n) [] run told (arranged c V (state z) Z) w.within.b) (sym (still has)) (unit-any c o done s n run told U V (state x) Z unit_whole unit span stands ends w failed cause)))
       by None has Closed how broke_ = absurd (subst (λ (q : Option Accepted). IsClosingOf q Closed) has how)
       by None has Fell how broke_ = absurd (subst (λ (q : Option Accepted). IsClosingOf q Fell) has how)
       by (Some a) has Bare how broke_ = absurd (subst (λ (q : Option Accepted). IsClosingOf q Bare) has how)
       by (Some a) has Closed how broke_ =
-          subst (λ (l : Listed Break). GoesOnOrCut failed o done s (In n) [] (with_cabin (with_session_of c None run.keeper.cabin) run) (record told { breaks = l }) e) (no-lines told.breaks)
+          subst (λ (l : Listed Break). GoesOnOrFails failed o done s (In n) [] (with_cabin (with_session_of c None run.keeper.cabin) run) (record told { breaks = l }) e w.within.b) (no-lines told.breaks)
           (closed a has failed refl (powered Closed how))
       by (Some a) has Fell how broke_ = fell a has broke_ failed refl (powered Fell how)

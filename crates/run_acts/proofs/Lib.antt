@@ -8,6 +8,7 @@ pub mod EnteredTurned
 pub mod EnteredTaken
 pub mod EnteredNewest
 pub mod EnteredLater
+pub mod EnteredFirst
 pub mod EnteredVerdict
 pub mod EnteredWhole
 pub mod RoundLeaving
@@ -39,6 +40,7 @@ pub mod Apart
 pub mod NoneComes
 pub mod Asked
 pub mod NotedOn
+pub mod ActsNoted
 pub mod NoteRecorded
 pub mod Pulled
 pub mod Closed
@@ -46,3 +48,5 @@ pub mod WithdrawnRecorded
 pub mod GoesOn
 pub mod SettledRecorded
 pub mod TurnRecorded
+pub mod Ringing
+pub mod Uncut

@@ -66,7 +66,7 @@ use Rattle.run_acts.specs.declared.run.Run.{Run}
 use Rattle.run_acts.specs.Power.{with_cabin}
 use Rattle.run_acts.specs.Acting.{IsNotedOn, IsNotedIn, now_moment, falls_by}
 use Rattle.run_acts.specs.Behind.{IsPoweredOrOff}
-use Rattle.run_acts.specs.Recording.{log_of, values_of, RunWithin, ComesPower, RunFails, GoesOnOrCut, IsNow}
+use Rattle.run_acts.specs.Recording.{log_of, values_of, RunWithin, ComesPower, RunFails, RunGoesOn, GoesOnOrFails, GoesOnOrCut, IsNow}
 use Rattle.run_acts.specs.Noting.{carried_noted, IsNoteRecorded}
 use Rattle.run_acts.proofs.Cabins.{noted_cabin}
 use Rattle.run_acts.proofs.Apart.{some-one}
@@ -197,6 +197,19 @@ run-on o done s at next waits fewer rest more run new out after d e first w powe
   odometer = odometer ∙ w.odometer ∙ ap (λ (b : Beginning). odometer_after (odometer_at o.recording.unit) b.travel.before) (sym g.began);
 }
 
+-- as it began
+pub goes-as : (o : Origin) (done : List TraceSecond) (s : TraceSecond) (at next : Phase) (waits fewer : List Visit) (rest : List Minute) (run new : Run) (out after : Outcome) (d e : Devices) (first : ℕ) → (w : RunWithin o done s at waits rest run out d) →
+    new.power ≡ run.power → new.keeper.odometer ≡ run.keeper.odometer → GoesOn o done s next fewer None [] (values_of new after) e w.within.b first → RunGoesOn o done s next fewer new after e w.within.b
+goes-as o done s at next waits fewer rest run new out after d e first w power odometer g = record {
+  goes = run-on o done s at next waits fewer rest [] run new out after d e first w power odometer g;
+  began = g.began;
+}
+
+-- how it began need not be told
+pub goes-plain : (failed : Bool) (o : Origin) (done : List TraceSecond) (s : TraceSecond) (at : Phase) (waits : List Visit) (run : Run) (out : Outcome) (d : Devices) (b : Beginning) → GoesOnOrFails failed o done s at waits run out d b → GoesOnOrCut failed o done s at waits run out d
+goes-plain false o done s at waits run out d b h = h.goes
+goes-plain true o done s at waits run out d b h = h
+
 -- THE SECONDS BEFORE went the same by the log of a second that is going on, also with more lines of that second
 module _ (o : Origin) (done : List TraceSecond) (s : TraceSecond) (at : Phase) (waits : List Visit) (rest : List Minute) (run : Run) (out : Outcome) (d : Devices) (w : RunWithin o done s at waits rest run out d) where
   abbrev f : Followed (rule_of o) (start_at o) o.from (first_of o) done w.within.b.run
@@ -240,8 +253,8 @@ module _ (o : Origin) (done : List TraceSecond) (s : TraceSecond) (n : ℕ) (run
   unit-began : o.found.unit.began ≤ U.clock
   unit-began = (w.within.powered.lit.unit.unit_holds [] []).later
 
-  pub unit-recorded : (failed : Bool) → HasCause U V failed → GoesOnOrCut failed o done s (In n) [] run out (devices V X Y)
-  unit-recorded false cause = run-on o done s (In n) (In n) [] [] [] [] run run out out (devices U X Y) (devices V X Y) w.within.from w refl refl
+  pub unit-recorded : (failed : Bool) → HasCause U V failed → GoesOnOrFails failed o done s (In n) [] run out (devices V X Y) w.within.b
+  unit-recorded false cause = goes-as o done s (In n) (In n) [] [] [] run run out out (devices U X Y) (devices V X Y) w.within.from w refl refl
       (call-recorded (devices U X Y) (devices V X Y) o done s (In n) [] None [] (values_of run out) w.within (record {
         goes = unit-goes o run.keeper.cabin.cards U V X Y unit-began unit cause.breakdowns;
         powered = noted-powered o.found noted-carries run.keeper.cabin.cards U V X Y w.within.found whole w.within.powered unit cause.works;
@@ -328,8 +341,8 @@ module _ (c : Card) (slot : Slot) (at : Moment) (run : Run) (breaks : Listed Bre
     books fell on_card floor = noted-books c at.second run U V X Y Z unit_whole whole later size a value has card unit failed cause.works fell on_card o.found carries floor w.within.found w.within.powered
 
     -- it is there
-    still : HasCause X Y false → (b : Bool) → failed ≡ b → IsPoweredOrOff b o.found carries run.keeper.cabin.cards e → GoesOnOrCut b o done s (In at.begun) [] run (record out { breaks = breaks }) e
-    still on_card false is powered = run-on o done s (In at.begun) (In at.begun) [] [] [] [] run run (record out { breaks = breaks }) (record out { breaks = breaks }) d e w.within.from w refl refl
+    still : HasCause X Y false → (b : Bool) → failed ≡ b → IsPoweredOrOff b o.found carries run.keeper.cabin.cards e → GoesOnOrFails b o done s (In at.begun) [] run (record out { breaks = breaks }) e w.within.b
+    still on_card false is powered = goes-as o done s (In at.begun) (In at.begun) [] [] [] run run (record out { breaks = breaks }) (record out { breaks = breaks }) d e w.within.from w refl refl
         (call-recorded d e o done s (In at.begun) [] None [] v w.within (record { goes = goes on_card.breakdowns; powered = powered; travels = travels }))
     still on_card true is powerless = record {
       waits = [];
@@ -368,8 +381,8 @@ module _ (c : Card) (slot : Slot) (at : Moment) (run : Run) (breaks : Listed Bre
     }
 
     fell : HasCause X Y true → HasBroken X Y 1 → (b : Bool) → failed ≡ b → IsPoweredOrOff b o.found (with_standing c (fallen w.within.from (w.within.standing c)) carries) (with_session c None run.keeper.cabin.cards) e
-        → GoesOnOrCut b o done s (In at.begun) [] (with_cabin (torn_out c at.second run.keeper.cabin) run) (record out { breaks = with_lines (tear_of slot at ∷ []) breaks }) e
-    fell on_card broken false is powered = run-on o done s (In at.begun) (In at.begun) [] [] [] [] run (with_cabin (torn_out c at.second run.keeper.cabin) run) (record out { breaks = breaks }) (record out { breaks = with_lines (tear_of slot at ∷ []) breaks }) d e w.within.from w refl refl
+        → GoesOnOrFails b o done s (In at.begun) [] (with_cabin (torn_out c at.second run.keeper.cabin) run) (record out { breaks = with_lines (tear_of slot at ∷ []) breaks }) e w.within.b
+    fell on_card broken false is powered = goes-as o done s (In at.begun) (In at.begun) [] [] [] run (with_cabin (torn_out c at.second run.keeper.cabin) run) (record out { breaks = breaks }) (record out { breaks = with_lines (tear_of slot at ∷ []) breaks }) d e w.within.from w refl refl
         (subst (λ (n : ℕ). GoesOn o done s (In at.begun) [] None [] (torn_values (tear_of slot at) (torn_out c n run.keeper.cabin) v) e w.within.b w.within.from) (sym here)
         (seated-torn d e o done s (In at.begun) v w.within slot c (tear_of slot at) (called on_card broken) powered))
     fell on_card broken true is powerless = record {
@@ -381,14 +394,14 @@ module _ (c : Card) (slot : Slot) (at : Moment) (run : Run) (breaks : Listed Bre
     }
 
     -- so a note that went so is recorded
-    noted : (fell_ : Bool) (new : Run) (after : Listed Break) → IsNotedOn c slot at run new breaks after fell_ → HasBroken X Y (falls_by fell_) → HasCause X Y fell_ → GoesOnOrCut failed o done s (In at.begun) [] new (record out { breaks = after }) e
+    noted : (fell_ : Bool) (new : Run) (after : Listed Break) → IsNotedOn c slot at run new breaks after fell_ → HasBroken X Y (falls_by fell_) → HasCause X Y fell_ → GoesOnOrFails failed o done s (In at.begun) [] new (record out { breaks = after }) e w.within.b
     noted false new after is broken on_card =
         let same : breaks ≡ after = no-lines breaks ∙ sym is.told in
-        subst (λ (r : Run). GoesOnOrCut failed o done s (In at.begun) [] r (record out { breaks = after }) e) (sym is.run)
-        (subst (λ (l : Listed Break). GoesOnOrCut failed o done s (In at.begun) [] run (record out { breaks = l }) e) same (still on_card failed refl (books false on_card 0)))
+        subst (λ (r : Run). GoesOnOrFails failed o done s (In at.begun) [] r (record out { breaks = after }) e w.within.b) (sym is.run)
+        (subst (λ (l : Listed Break). GoesOnOrFails failed o done s (In at.begun) [] run (record out { breaks = l }) e w.within.b) same (still on_card failed refl (books false on_card 0)))
     noted true new after is broken on_card =
-        subst (λ (r : Run). GoesOnOrCut failed o done s (In at.begun) [] r (record out { breaks = after }) e) (sym is.run)
-        (subst (λ (l : Listed Break). GoesOnOrCut failed o done s (In at.begun) [] (with_cabin (torn_out c at.second run.keeper.cabin) run) (record out { breaks = l }) e) (sym is.told)
+        subst (λ (r : Run). GoesOnOrFails failed o done s (In at.begun) [] r (record out { breaks = after }) e w.within.b) (sym is.run)
+        (subst (λ (l : Listed Break). GoesOnOrFails failed o done s (In at.begun) [] (with_cabin (torn_out c at.second run.keeper.cabin) run) (record out { breaks = l }) e w.within.b) (sym is.told)
         (fell on_card broken failed refl (books true on_card w.within.from)))
 
   pub note-recorded : (new : Run) (after : Listed Break) (fell : Bool) → IsNotedOn c slot at run new breaks after fell → HasBroken X Y (falls_by fell) → HasCause X Y fell → IsNoteRecorded (In at.begun) failed run new breaks after (arranged c U X Z) (arranged c V Y Z)
@@ -423,15 +436,15 @@ noted-some c slot at run breaks U V X Y Z unit_whole whole later size some value
 -- ---- A PLACE IS TOLD OF
 
 pub place-told : (o : Origin) (done : List TraceSecond) (s : TraceSecond) (slot : Slot) (ending : Bool) (country region begun speed : ℕ) (run : Run) (out : Outcome) (d : Devices) → IsNow s speed run → (front rest : List Action) → s.actions ≡ front ++ Place slot ending country region ∷ rest → begun ≡ suc (length front) →
-    refusal (logged run.keeper.cabin.slots.seats) speed (Place slot ending country region) ≡ None → RunWithin o done s (In (length front)) [] [] run out d → RunWithin o done s (In begun) [] [] run out d
+    refusal (logged run.keeper.cabin.slots.seats) speed (Place slot ending country region) ≡ None → (w : RunWithin o done s (In (length front)) [] [] run out d) → RunGoesOn o done s (In begun) [] run out d w.within.b
 place-told o done s slot ending country region begun speed run out d now front rest are n allowed w =
-    subst (λ (k : ℕ). RunWithin o done s (In k) [] [] run out d) (sym n)
-    (run-on o done s (In (length front)) (In (suc (length front))) [] [] [] [] run run out out d d w.within.from w refl refl
+    subst (λ (k : ℕ). RunGoesOn o done s (In k) [] run out d w.within.b) (sym n)
+    (goes-as o done s (In (length front)) (In (suc (length front))) [] [] [] run run out out d d w.within.from w refl refl
     (place-recorded d o done s (values_of run out) front slot ending country region rest are w.within
     (allowed-in o done s (In (length front)) [] None [] (values_of run out) d w.within speed (Place slot ending country region) now.speed_is allowed)))
 
 -- a note on the unit, whichever card a call is about
 pub unit-any : (c : Card) (o : Origin) (done : List TraceSecond) (s : TraceSecond) (n : ℕ) (run : Run) (out : Outcome) (U V X Z : State) → IsCoherent U → LeavesOnly U V LeavesJournal → (span : Span) → StandsFor run.minutes span → end_of span ≡ run.next →
-    RunWithin o done s (In n) [] [] run out (arranged c U X Z) → (failed : Bool) → HasCause U V failed → GoesOnOrCut failed o done s (In n) [] run out (arranged c V X Z)
+    (w : RunWithin o done s (In n) [] [] run out (arranged c U X Z)) → (failed : Bool) → HasCause U V failed → GoesOnOrFails failed o done s (In n) [] run out (arranged c V X Z) w.within.b
 unit-any A o done s n run out U V X Z whole unit span stands ends w failed cause = unit-recorded o done s n run out U V X Z whole unit span stands ends w failed cause
 unit-any B o done s n run out U V X Z whole unit span stands ends w failed cause = unit-recorded o done s n run out U V Z X whole unit span stands ends w failed cause

@@ -1,5 +1,5 @@
 -- A card is withdrawn: what is recorded, behind the minutes that its leaving decides and the closing of its session.
-use Rattle.std.proofs.Common.{◌≡◌, ◌∙◌, ℕ, suc, ◌+◌, ◌/◌, ◌≤◌, Bool, true, false, Option, Some, None, List, [], ◌∷◌, ◌++◌, length, is_some, refl, ap, sym, subst}
+use Rattle.std.proofs.Common.{◌≡◌, ◌∙◌, ℕ, suc, ◌+◌, ◌/◌, ◌≤◌, Bool, true, false, Option, Some, None, List, [], ◌∷◌, ◌++◌, length, is_some, refl, ap, sym, subst, arith}
 use Rattle.std.specs.Prelude.{IfSome}
 use Rattle.activity_codec.specs.declared.values.Activity.{Activity}
 use Rattle.activity_codec.specs.declared.values.Slot.{Slot}
@@ -38,7 +38,7 @@ use Rattle.run_within.specs.Taking.{IsLeft}
 use Rattle.run_within.proofs.Leaving.{card-leaves}
 use Rattle.run_acts.specs.declared.run.Run.{Run}
 use Rattle.run_acts.specs.Acting.{Closing, IsClosed, closed_falls, told_of, left_run}
-use Rattle.run_acts.specs.Recording.{log_of, values_of, RunWithin, RunFails, GoesOnOrCut, IsNow, RecordsAction}
+use Rattle.run_acts.specs.Recording.{log_of, values_of, RunWithin, RunFails, GoesOnOrFails, IsNow, RecordsAction}
 use Rattle.run_acts.specs.Settling.{settled_run, IsSettledIn, RecordsSettling}
 use Rattle.run_acts.proofs.Apart.{not-both}
 use Rattle.run_acts.proofs.Asked.{allowed-in}
@@ -83,13 +83,14 @@ module _ (o : Origin) (done : List TraceSecond) (s : TraceSecond) (front rest : 
       RecordsSettling decided (acting_at s.number (suc (length front))) false (left_run slot s.number run) between before told d (arranged c U (state x) Z) → HaveTime (arranged c U (state x) Z) →
       (at : Moment) (ms : List Minute) (t : Told) → AreKept at ms t (told_of between told) → session_of t.keeper.cabin.cards c ≡ session_of run.keeper.cabin.cards c →
       (new : Run) (after : Listed Break) (closing : Closing) → IsClosed c slot (acting_at s.number (suc (length front))) between new told.breaks after closing → HasBroken (state x) (state y) (closed_falls closing) →
-      GoesOnOrCut failed o done s (In (suc (length front))) [] new (record told { breaks = after }) (arranged c V (state y) Z)
+      GoesOnOrFails failed o done s (In (suc (length front))) [] new (record told { breaks = after }) (arranged c V (state y) Z) w.within.b
   closing-recorded state U V Z x y unit_whole whole size closes still unit failed cause rise span stands_ ends records time at ms t kept same new after closing is broken =
       let kept_all : IsSettledIn o done s (In (suc (length front))) [] gone.within.b gone.within.from (gone.within.from + length decided) (left_run slot s.number run) between before told (arranged c U (state x) Z) =
       records o done s (suc (length front)) [] (omega arith) refl gone time in
-      closed-recorded state c slot (acting_at s.number (suc (length front))) between told U V Z x y unit_whole whole size closes still unit failed cause rise span stands_ ends o done s (suc (length front)) refl kept_all.goes kept_all.from
+      subst (λ (b : Beginning). GoesOnOrFails failed o done s (In (suc (length front))) [] new (record told { breaks = after }) (arranged c V (state y) Z) b) (kept_all.began ∙ left.goes.began)
+      (closed-recorded state c slot (acting_at s.number (suc (length front))) between told U V Z x y unit_whole whole size closes still unit failed cause rise span stands_ ends o done s (suc (length front)) refl kept_all.goes kept_all.from
       (λ some. subst (λ (b : Beginning). IsLeaving (log_of told) (went b.run.log done).before s (In (suc (length front))) (s.number / 60) (s.number / 60) between.keeper.cabin slot c) (sym kept_all.began)
-      (kept_all.leave slot c (left.leaving (had (session_of run.keeper.cabin.cards c) refl some)) some)) new after closing is broken
+      (kept_all.leave slot c (left.leaving (had (session_of run.keeper.cabin.cards c) refl some)) some)) new after closing is broken)
     where
       had : (q : Option Accepted) → session_of run.keeper.cabin.cards c ≡ q → is_some (session_of between.keeper.cabin.cards c) ≡ true → is_some (session_of run.keeper.cabin.cards c) ≡ true
       had None is some = absurd (not-both (session_of between.keeper.cabin.cards c) some (none-comes c at ms t (told_of between told) kept (same ∙ is)))

@@ -6,7 +6,8 @@ use Rattle.recorder_with_cards.specs.Acting.{IsActed}
 use Rattle.run_rule.specs.Between.{devices}
 use Rattle.recorder_with_cards.proofs.ActsRecorded.{passed-over}
 use Rattle.recorder_with_cards.proofs.Allowed.{lit-refused}
-use Rattle.recorder_with_cards.proofs.Later.{later-same}
+use Rattle.run_keeping.proofs.Later.{later-same}
+use Rattle.run_outcome.proofs.Broken.{broke-none}
 use Rattle.recorder_with_cards.proofs.acts.act.Goals as goal
 
 pub returns-clause-none : goal.returns-clause-none
@@ -82,3 +83,14 @@ returns-then-not-is_lit-clause-later g c = later-same (devices (g.M.Medium.state
 
 pub returns-clause-later : goal.returns-clause-later
 returns-clause-later g c = c.act_lit.ensures.later
+
+-- ---- how often the unit broke down
+
+pub returns-then-not-has_power-clause-broke : goal.returns-then-not-has_power-clause-broke
+returns-then-not-has_power-clause-broke g c = broke-none c.args.outcome.now.breaks.items {old = (g.M.Medium.state c.args.unit.now)} {new = (g.M.Medium.state c.args.unit.now)} (omega arith)
+
+pub returns-then-not-is_lit-clause-broke : goal.returns-then-not-is_lit-clause-broke
+returns-then-not-is_lit-clause-broke g c = broke-none c.args.outcome.now.breaks.items {old = (g.M.Medium.state c.args.unit.now)} {new = (g.M.Medium.state c.args.unit.now)} (omega arith)
+
+pub returns-clause-broke : goal.returns-clause-broke
+returns-clause-broke g c = c.act_lit.ensures.broke

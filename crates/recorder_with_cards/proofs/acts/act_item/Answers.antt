@@ -10,6 +10,7 @@ use Rattle.safety_model.specs.Safe.{Devices}
 use Rattle.recorder_with_cards.specs.Recorded.{action_of, RecordsActions}
 use Rattle.recorder_with_cards.proofs.ActsRecorded.{no-action}
 use Rattle.recorder_with_cards.proofs.Allowed.{count-is}
+use Rattle.run_outcome.proofs.Broken.{broke-none}
 use Rattle.recorder_with_cards.proofs.acts.act_item.Goals as goal
 
 pub returns-in-Act-clause-room : goal.returns-in-Act-clause-room
@@ -48,3 +49,14 @@ returns-in-Act-clause-time g c = c.act.ensures.time
 
 pub returns-in-Act-clause-later : goal.returns-in-Act-clause-later
 returns-in-Act-clause-later g c = c.act.ensures.later
+
+-- ---- how often the unit broke down
+
+pub returns-in-Act-clause-broke : goal.returns-in-Act-clause-broke
+returns-in-Act-clause-broke g c = c.act.ensures.broke
+
+pub returns-in-Run-clause-broke : goal.returns-in-Run-clause-broke
+returns-in-Run-clause-broke g c = broke-none c.args.outcome.now.breaks.items {old = (g.M.Medium.state c.args.unit.now)} {new = (g.M.Medium.state c.args.unit.now)} (omega arith)
+
+pub returns-in-Off-clause-broke : goal.returns-in-Off-clause-broke
+returns-in-Off-clause-broke g c = broke-none c.args.outcome.now.breaks.items {old = (g.M.Medium.state c.args.unit.now)} {new = (g.M.Medium.state c.args.unit.now)} (omega arith)

@@ -18,7 +18,7 @@ use Rattle.safety_model.specs.Safe.{Devices}
 use Rattle.run_acts.specs.declared.run.Run.{Run}
 use Rattle.run_acts.specs.declared.run.Power.{Power}
 use Rattle.run_acts.specs.Power.{is_lit}
-use Rattle.run_acts.specs.Recording.{InSecond, RunWithin, GoesOnOrCut}
+use Rattle.run_acts.specs.Recording.{InSecond, RunWithin, GoesOnOrFails}
 use Rattle.run_acts.specs.Going.{IsAt}
 use Rattle.run_acts.specs.Room.{falls_of}
 use Rattle.run_acts.proofs.Standing.{cut-at}
@@ -27,7 +27,10 @@ use Rattle.recorder_with_cards.specs.Acting.{put_count, moment_of, IsDone, IsAct
 use Rattle.recorder_with_cards.proofs.ActsRecorded.{as-lit, lit-in, cut-in, refused, cut, left}
 use Rattle.recorder_with_cards.proofs.Allowed.{fine-selected}
 use Rattle.recorder_with_cards.proofs.Rooms.{few-wait, room-cut}
-use Rattle.recorder_with_cards.proofs.Later.{later-same}
+use Rattle.run_keeping.proofs.Later.{later-same}
+use Rattle.run_outcome.proofs.Broken.{broke-none}
+use Rattle.run_acts.proofs.Uncut.{uncut-broke, cut-broke}
+use Rattle.recorder_with_cards.proofs.Uncut.{done-uncut}
 use Rattle.recorder_with_cards.proofs.acts.act_lit.Goals as goal
 
 -- ---- the unit failed: power is lost
@@ -142,7 +145,7 @@ returns-in-Err-clause-recorded g c = λ o done s now front rest are begun in_ ti
     let h = as-lit o done s run out d (length front) (ap is_lit c.requires.lit) in_ in
     lit-in o done s run told d c.args.begun
     (subst (λ (n : ℕ). RunWithin o done s (In n) [] [] run told d) here
-    (refused o done s c.args.speed run out d now front c.args.action rest are h c.in-Err.fault (sym c.in-Err.ensures) told (ap (λ (l : Listed Refused). record out { refused = l }) c.refuse.ensures)))
+    ((refused o done s c.args.speed run out d now front c.args.action rest are h c.in-Err.fault (sym c.in-Err.ensures) told (ap (λ (l : Listed Refused). record out { refused = l }) c.refuse.ensures)).goes))
 
 pub returns-then-is_err-clause-recorded : goal.returns-then-is_err-clause-recorded
 returns-then-is_err-clause-recorded g c =
@@ -157,7 +160,7 @@ returns-then-is_err-clause-recorded g c =
     let failed : is_err c.carry_out.result ≡ true = sym c.is_err.ensures.value ∙ c.if-is_err.true in
     let here : c.args.begun ≡ suc (length front) = omega (arith, begun) in
     let h = as-lit o done s run out d (length front) (ap is_lit c.requires.lit) in_ in
-    let fails = subst (λ (b : Bool). GoesOnOrCut b o done s (In c.args.begun) [] mid told e) failed (c.carry_out.ensures.recorded o done s now front rest are here allowed h time) in
+    let fails = subst (λ (b : Bool). GoesOnOrFails b o done s (In c.args.begun) [] mid told e h.within.b) failed (c.carry_out.ensures.recorded o done s now front rest are here allowed h time) in
     let after : Outcome = record told { breaks = c.cut.new.breaks } in
     cut-in o done s c.cut.new.self after e c.args.begun
     (cut o done s c.args.begun rest mid c.cut.new.self told after e h.origin (now.number ∙ sym c.carry_out.ensures.stays.next) (left front rest c.args.action s here are) fails c.cut.ensures.run (ap (λ (l : Listed Break). record told { breaks = l }) c.cut.ensures.breaks))
@@ -176,7 +179,7 @@ returns-else-is_err-clause-recorded g c =
     let here : c.args.begun ≡ suc (length front) = omega (arith, begun) in
     let h = as-lit o done s run out d (length front) (ap is_lit c.requires.lit) in_ in
     lit-in o done s mid told e c.args.begun
-    (subst (λ (b : Bool). GoesOnOrCut b o done s (In c.args.begun) [] mid told e) well (c.carry_out.ensures.recorded o done s now front rest are here allowed h time))
+    ((subst (λ (b : Bool). GoesOnOrFails b o done s (In c.args.begun) [] mid told e h.within.b) well (c.carry_out.ensures.recorded o done s now front rest are here allowed h time)).goes)
 
 pub returns-in-Err-clause-time : goal.returns-in-Err-clause-time
 returns-in-Err-clause-time g c = λ h. h
@@ -195,3 +198,15 @@ returns-then-is_err-clause-later g c = c.carry_out.ensures.later
 
 pub returns-else-is_err-clause-later : goal.returns-else-is_err-clause-later
 returns-else-is_err-clause-later g c = c.carry_out.ensures.later
+
+-- ---- how often the unit broke down
+
+pub returns-in-Err-clause-broke : goal.returns-in-Err-clause-broke
+returns-in-Err-clause-broke g c = broke-none c.args.outcome.now.breaks.items {old = (g.M.Medium.state c.args.unit.now)} {new = (g.M.Medium.state c.args.unit.now)} (omega arith)
+
+pub returns-then-is_err-clause-broke : goal.returns-then-is_err-clause-broke
+returns-then-is_err-clause-broke g c =
+    cut-broke _ _ _ _ _ (g.M.Medium.state c.args.unit.now) (g.M.Medium.state c.carry_out.new.unit) (is_err c.carry_out.result) (c.requires.going.lit (ap is_lit c.requires.lit)).ready.unit_ready.works c.carry_out.ensures.cause (sym c.is_err.ensures.value ∙ c.if-is_err.true) (done-uncut c.args.action _ c.args.speed _ _ _ _ _ c.carry_out.ensures.done) (ap (λ (l : Listed Break). l.items) c.cut.ensures.breaks)
+
+pub returns-else-is_err-clause-broke : goal.returns-else-is_err-clause-broke
+returns-else-is_err-clause-broke g c = uncut-broke _ _ (g.M.Medium.state c.args.unit.now) (g.M.Medium.state c.carry_out.new.unit) (is_err c.carry_out.result) c.carry_out.ensures.cause (done-uncut c.args.action _ c.args.speed _ _ _ _ _ c.carry_out.ensures.done)

@@ -25,7 +25,9 @@ use Rattle.recorder_with_cards.specs.Items.{between, insertions_in}
 use Rattle.recorder_with_cards.proofs.Rooms.{room-less}
 use Rattle.recorder_with_cards.specs.Gone.{has_seconds, HasGone}
 use Rattle.recorder_with_cards.proofs.Dark.{cut-room, off-room, unfound-same}
-use Rattle.recorder_with_cards.proofs.Later.{later-same}
+use Rattle.run_keeping.proofs.Later.{later-same}
+use Rattle.run_outcome.proofs.Broken.{broke-none, broke-behind}
+use Rattle.recorder_with_cards.proofs.Uncut.{off-uncut}
 use Rattle.recorder_with_cards.proofs.run.go_on.Goals as goal
 
 -- ---- an action waits
@@ -160,3 +162,14 @@ returns-in-Off-clause-later g c = later-same (devices (g.M.Medium.state c.args.u
 
 pub returns-in-Run-clause-later : goal.returns-in-Run-clause-later
 returns-in-Run-clause-later g c = c.drive.ensures.later
+
+-- ---- how often the unit broke down
+
+pub returns-in-Act-clause-broke : goal.returns-in-Act-clause-broke
+returns-in-Act-clause-broke g c = broke-none c.args.outcome.now.breaks.items {old = (g.M.Medium.state c.args.unit.now)} {new = (g.M.Medium.state c.args.unit.now)} (omega arith)
+
+pub returns-in-Off-clause-broke : goal.returns-in-Off-clause-broke
+returns-in-Off-clause-broke g c = broke-behind _ {old = (g.M.Medium.state c.args.unit.now)} {new = (g.M.Medium.state c.args.unit.now)} (ap (λ (l : Listed Break). l.items) c.off.ensures.breaks) (off-uncut _ _ _) (omega arith)
+
+pub returns-in-Run-clause-broke : goal.returns-in-Run-clause-broke
+returns-in-Run-clause-broke g c = c.drive.ensures.broke

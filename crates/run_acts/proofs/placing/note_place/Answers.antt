@@ -1,8 +1,8 @@
-use Rattle.std.proofs.Common.{rules, ◌≡◌, ◌∙◌, ℕ, ◌+◌, ◌-◌, ◌/◌, ◌≤◌, Bool, true, false, Option, Some, None, is_some, length, refl, ap, sym, subst, arith}
+use Rattle.std.proofs.Common.{rules, ◌≡◌, ◌∙◌, ℕ, ◌+◌, ◌-◌, ◌/◌, ◌≤◌, Bool, true, false, Option, Some, None, is_some, length, refl, ap, sym, subst, arith, inl, inr}
 use Rattle.trace_model.specs.declared.Card.TheVariants.{A, B}
 use Rattle.tach_media.proofs.Runs.{on_ok, ok_gives, cause_after}
 use Rattle.minute_model.specs.Span.{ungiven_of}
-use Rattle.slot_machine.specs.Calls.{seat_in, card_in}
+use Rattle.slot_machine.specs.Calls.{seat_in, card_in, logged}
 use Rattle.run_crew.specs.declared.cards.Known.{Known}
 use Rattle.run_crew.specs.Cards.{session_of}
 use Rattle.run_crew.specs.Cabin.{number_of_seat}
@@ -15,7 +15,7 @@ use Rattle.run_acts.specs.Power.{with_cabin}
 use Rattle.run_acts.specs.Going.{IsHeld, IsLit}
 use Rattle.run_acts.specs.Room.{falls_of}
 use Rattle.run_acts.proofs.Noted.{noted-ready, noted-row}
-use Rattle.run_acts.specs.Acting.{noted_breaks}
+use Rattle.run_acts.specs.Acting.{noted_breaks, IsNotedOn}
 use Rattle.run_acts.proofs.Cabins.{keeper-only, cabin-going, cabin-held, ready-same, at-same, noted_cabin, noted-is, noted-past, noted-minute, noted-sessions, noted-falls, noted-a, noted-b, numbered-session}
 use Rattle.std.specs.Prelude.{is_err, suc, List, [], ◌∷◌, ◌++◌}
 use Rattle.activity_codec.specs.declared.values.Slot.{Slot}
@@ -25,12 +25,28 @@ use Rattle.trace_model.specs.Trace.{TraceSecond}
 use Rattle.log_model.specs.Log.{In}
 use Rattle.log_model.specs.Slots.{refusal}
 use Rattle.safety_model.specs.Safe.{Devices}
-use Rattle.slot_machine.specs.Calls.{logged}
 use Rattle.run_rule.specs.Between.{devices}
 use Rattle.run_outcome.specs.declared.outcome.Outcome.{Outcome}
 use Rattle.run_recorded.specs.Origin.{Origin}
-use Rattle.run_acts.specs.Recording.{RunWithin, GoesOnOrCut, IsNow}
+use Rattle.run_within.specs.Within.{Beginning}
+use Rattle.run_acts.specs.Recording.{RunWithin, RunGoesOn, GoesOnOrFails, IsNow, GoesOnOrCut}
 use Rattle.run_acts.proofs.NoteRecorded.{noted-some, place-told, unit-recorded}
+use Rattle.trace_model.specs.declared.Card.{Card}
+use Rattle.gated_ring.specs.Change.{IsAdding}
+use Rattle.message_model.specs.Records.{unit_place_ring}
+use Rattle.run_acts.specs.NotedEvents.{NotesEvents}
+use Rattle.run_acts.specs.Noting.{NotesFall, NotesPlace, fall_events}
+use Rattle.run_acts.proofs.NotedEvents.{same-noted, noted-any, then-noted}
+use Rattle.run_acts.proofs.ActsNoted.{says-of, quiet-any, adding-nothing, no-place}
+use Rattle.tacho_types.specs.declared.card_number.FullCardNumber.{FullCardNumber}
+use Rattle.tach_media.specs.Medium.{State, IsCoherent}
+use Rattle.unit_notes.specs.Entries.{unit_place_bytes}
+use Rattle.slot_machine.specs.declared.seats.Seat.{Seat}
+use Rattle.run_crew.specs.declared.cards.Cards.{Cards}
+use Rattle.run_rings.proofs.Same.{rings-left}
+use Rattle.run_acts.specs.Ringing.{WritesPlace}
+use Rattle.run_acts.proofs.Ringing.{place-broken, place-then}
+use Rattle.run_keeping.proofs.Later.{state-by, later-same, later-then, later-of-unit, later-of-a, later-of-b}
 use Rattle.run_acts.proofs.placing.note_place.Goals as goal
 
 pub note_place_in-requires-clause-ready : goal.note_place_in-requires-clause-ready
@@ -188,9 +204,9 @@ returns-in-B-clause-more g c =
 -- ---- what is recorded
 
 place-first : (o : Origin) (done : List TraceSecond) (s : TraceSecond) (slot : Slot) (ending : Bool) (country region begun speed : ℕ) (run : Run) (before : Outcome) (breaks : Listed Break) (d : Devices) → before.breaks ≡ breaks → IsNow s speed run → (front rest : List Action) → s.actions ≡ front ++ Place slot ending country region ∷ rest →
-    begun ≡ suc (length front) → refusal (logged run.keeper.cabin.slots.seats) speed (Place slot ending country region) ≡ None → RunWithin o done s (In (length front)) [] [] run before d → RunWithin o done s (In begun) [] [] run (record before { breaks = breaks }) d
+    begun ≡ suc (length front) → refusal (logged run.keeper.cabin.slots.seats) speed (Place slot ending country region) ≡ None → (w : RunWithin o done s (In (length front)) [] [] run before d) → RunGoesOn o done s (In begun) [] run (record before { breaks = breaks }) d w.within.b
 place-first o done s slot ending country region begun speed run before breaks d is now front rest are n allowed w =
-    subst (λ (l : Listed Break). RunWithin o done s (In begun) [] [] run (record before { breaks = l }) d) is (place-told o done s slot ending country region begun speed run before d now front rest are n allowed w)
+    subst (λ (l : Listed Break). RunGoesOn o done s (In begun) [] run (record before { breaks = l }) d w.within.b) is (place-told o done s slot ending country region begun speed run before d now front rest are n allowed w)
 
 pub returns-in_default-clause-recorded : goal.returns-in_default-clause-recorded
 returns-in_default-clause-recorded g c = λ late ending country region speed before is o done s now front rest are n allowed w time.
@@ -210,8 +226,8 @@ returns-in_err-note_place-clause-recorded g c = λ late ending country region sp
     let B0 = g.D.Chip.state c.args.card_b.now in
     let failed : true ≡ is_err c.from_residual.result = search rules in
     let w1 = place-first o done s c.args.slot ending country region c.args.at.begun speed run before c.args.breaks.now (devices U A0 B0) is now front rest are n allowed w in
-    subst (λ (q : Bool). GoesOnOrCut q o done s (In c.args.at.begun) [] run (record before { breaks = c.args.breaks.now }) (devices V A0 B0)) failed
-    (unit-recorded o done s c.args.at.begun run (record before { breaks = c.args.breaks.now }) U V A0 B0 (g.met.M.Medium.coherent c.args.unit.now) c.note_place.ensures.journal lit.span lit.stands lit.next w1 true c.in_err-note_place.ensures.cause)
+    subst (λ (q : Bool). GoesOnOrFails q o done s (In c.args.at.begun) [] run (record before { breaks = c.args.breaks.now }) (devices V A0 B0) w.within.b) failed
+    (unit-recorded o done s c.args.at.begun run (record before { breaks = c.args.breaks.now }) U V A0 B0 (g.met.M.Medium.coherent c.args.unit.now) c.note_place.ensures.journal lit.span lit.stands lit.next w1.goes true c.in_err-note_place.ensures.cause)
 
 pub returns-in-A-clause-recorded : goal.returns-in-A-clause-recorded
 returns-in-A-clause-recorded g c = λ late ending country region speed before is o done s now front rest are n allowed w time.
@@ -227,10 +243,11 @@ returns-in-A-clause-recorded g c = λ late ending country region speed before is
     let told : number_of_seat run.keeper.cabin.cards (seat_in run.keeper.cabin.slots.seats c.args.slot) ≡ Some c.in-Some-number_in.number = cc in
     let some = numbered-session run.keeper.cabin.cards (seat_in run.keeper.cabin.slots.seats c.args.slot) A c.in-Some-number_in.number there told in
     let w1 = place-first o done s c.args.slot ending country region c.args.at.begun speed run before c.args.breaks.now (devices U A0 B0) is now front rest are n allowed w in
-    let w2 = unit-recorded o done s c.args.at.begun run (record before { breaks = c.args.breaks.now }) U V A0 B0 (g.met.M.Medium.coherent c.args.unit.now) c.note_place.ensures.journal lit.span lit.stands lit.next w1 false c.in_ok-note_place.ensures.cause in
-    noted-some A c.args.slot c.args.at run c.args.breaks.now V (g.M.Medium.state c.note_place_in.new.unit) (g.C.Chip.state c.args.card_a.now) (g.C.Chip.state c.note_place_in.new.card) (g.D.Chip.state c.args.card_b.now)
+    let w2 = unit-recorded o done s c.args.at.begun run (record before { breaks = c.args.breaks.now }) U V A0 B0 (g.met.M.Medium.coherent c.args.unit.now) c.note_place.ensures.journal lit.span lit.stands lit.next w1.goes false c.in_ok-note_place.ensures.cause in
+    subst (λ (b : Beginning). GoesOnOrFails (is_err c.note_place_in.result) o done s (In c.args.at.begun) [] c.note_place_in.new.run (record before { breaks = c.note_place_in.new.breaks }) (devices (g.M.Medium.state c.note_place_in.new.unit) (g.C.Chip.state c.note_place_in.new.card) B0) b) (w2.began ∙ w1.began)
+    (noted-some A c.args.slot c.args.at run c.args.breaks.now V (g.M.Medium.state c.note_place_in.new.unit) (g.C.Chip.state c.args.card_a.now) (g.C.Chip.state c.note_place_in.new.card) (g.D.Chip.state c.args.card_b.now)
     (g.met.M.Medium.coherent c.note_place.new.unit) (g.met.C.Chip.coherent c.args.card_a.now) (g.met.C.Chip.coherent c.note_place_in.new.card) c.requires.held.card_a.size some e.value there c.requires.at late lit.span lit.stands lit.next lit.cabin e.moments e.journal
-    (is_err c.note_place_in.result) e.cause c.note_place_in.new.run c.note_place_in.new.breaks k.0 k.1 k.2 k.3 o done s before w2 (λ first. absurd (let none : c.args.at.begun ≡ 0 = cc in omega (arith, none, n)))
+    (is_err c.note_place_in.result) e.cause c.note_place_in.new.run c.note_place_in.new.breaks k.0 k.1 k.2 k.3 o done s before w2.goes (λ first. absurd (let none : c.args.at.begun ≡ 0 = cc in omega (arith, none, n))))
 
 pub returns-in-B-clause-recorded : goal.returns-in-B-clause-recorded
 returns-in-B-clause-recorded g c = λ late ending country region speed before is o done s now front rest are n allowed w time.
@@ -246,13 +263,158 @@ returns-in-B-clause-recorded g c = λ late ending country region speed before is
     let told : number_of_seat run.keeper.cabin.cards (seat_in run.keeper.cabin.slots.seats c.args.slot) ≡ Some c.in-Some-number_in.number = cc in
     let some = numbered-session run.keeper.cabin.cards (seat_in run.keeper.cabin.slots.seats c.args.slot) B c.in-Some-number_in.number there told in
     let w1 = place-first o done s c.args.slot ending country region c.args.at.begun speed run before c.args.breaks.now (devices U A0 B0) is now front rest are n allowed w in
-    let w2 = unit-recorded o done s c.args.at.begun run (record before { breaks = c.args.breaks.now }) U V A0 B0 (g.met.M.Medium.coherent c.args.unit.now) c.note_place.ensures.journal lit.span lit.stands lit.next w1 false c.in_ok-note_place.ensures.cause in
-    noted-some B c.args.slot c.args.at run c.args.breaks.now V (g.M.Medium.state c.note_place_in-in-B.new.unit) (g.D.Chip.state c.args.card_b.now) (g.D.Chip.state c.note_place_in-in-B.new.card) (g.C.Chip.state c.args.card_a.now)
+    let w2 = unit-recorded o done s c.args.at.begun run (record before { breaks = c.args.breaks.now }) U V A0 B0 (g.met.M.Medium.coherent c.args.unit.now) c.note_place.ensures.journal lit.span lit.stands lit.next w1.goes false c.in_ok-note_place.ensures.cause in
+    subst (λ (b : Beginning). GoesOnOrFails (is_err c.note_place_in-in-B.result) o done s (In c.args.at.begun) [] c.note_place_in-in-B.new.run (record before { breaks = c.note_place_in-in-B.new.breaks }) (devices (g.M.Medium.state c.note_place_in-in-B.new.unit) A0 (g.D.Chip.state c.note_place_in-in-B.new.card)) b) (w2.began ∙ w1.began)
+    (noted-some B c.args.slot c.args.at run c.args.breaks.now V (g.M.Medium.state c.note_place_in-in-B.new.unit) (g.D.Chip.state c.args.card_b.now) (g.D.Chip.state c.note_place_in-in-B.new.card) (g.C.Chip.state c.args.card_a.now)
     (g.met.M.Medium.coherent c.note_place.new.unit) (g.met.D.Chip.coherent c.args.card_b.now) (g.met.D.Chip.coherent c.note_place_in-in-B.new.card) c.requires.held.card_b.size some e.value there c.requires.at late lit.span lit.stands lit.next lit.cabin e.moments e.journal
-    (is_err c.note_place_in-in-B.result) e.cause c.note_place_in-in-B.new.run c.note_place_in-in-B.new.breaks k.0 k.1 k.2 k.3 o done s before w2 (λ first. absurd (let none : c.args.at.begun ≡ 0 = cc in omega (arith, none, n)))
+    (is_err c.note_place_in-in-B.result) e.cause c.note_place_in-in-B.new.run c.note_place_in-in-B.new.breaks k.0 k.1 k.2 k.3 o done s before w2.goes (λ first. absurd (let none : c.args.at.begun ≡ 0 = cc in omega (arith, none, n))))
 
 pub returns-in-A-clause-clock_a : goal.returns-in-A-clause-clock_a
 returns-in-A-clause-clock_a g c = c.note_place_in.ensures.clock_card
 
 pub returns-in-B-clause-clock_b : goal.returns-in-B-clause-clock_b
 returns-in-B-clause-clock_b g c = c.note_place_in-in-B.ensures.clock_card
+
+-- ---- what is noted on the unit
+
+pub returns-in_default-clause-events : goal.returns-in_default-clause-events
+returns-in_default-clause-events g c =
+    let run = c.args.run.now in
+    let U = g.M.Medium.state c.args.unit.now in
+    let A0 = g.C.Chip.state c.args.card_a.now in
+    let B0 = g.D.Chip.state c.args.card_b.now in
+    no-place (card_in (seat_in run.keeper.cabin.slots.seats c.args.slot)) c.args.slot c.args.at run c.args.breaks.now (devices U A0 B0) (same-noted U A0 B0)
+
+pub returns-in_default-number_in-clause-events : goal.returns-in_default-number_in-clause-events
+returns-in_default-number_in-clause-events g c =
+    let run = c.args.run.now in
+    let U = g.M.Medium.state c.args.unit.now in
+    let A0 = g.C.Chip.state c.args.card_a.now in
+    let B0 = g.D.Chip.state c.args.card_b.now in
+    no-place (card_in (seat_in run.keeper.cabin.slots.seats c.args.slot)) c.args.slot c.args.at run c.args.breaks.now (devices U A0 B0) (same-noted U A0 B0)
+
+pub returns-in_err-note_place-clause-events : goal.returns-in_err-note_place-clause-events
+returns-in_err-note_place-clause-events g c =
+    let run = c.args.run.now in
+    let U = g.M.Medium.state c.args.unit.now in
+    let V = g.M.Medium.state c.note_place.new.unit in
+    let A0 = g.C.Chip.state c.args.card_a.now in
+    let B0 = g.D.Chip.state c.args.card_b.now in
+    let there : card_in (seat_in run.keeper.cabin.slots.seats c.args.slot) ≡ Some c.in-Some.card = cc in
+    let failed : true ≡ is_err c.from_residual.result = search rules in
+    let ring = says-of U V (g.met.M.Medium.coherent c.args.unit.now) (IsAdding unit_place_ring (unit_place_bytes c.in-Some-number_in.number c.args.entry.now)) (adding-nothing (unit_place_bytes c.in-Some-number_in.number c.args.entry.now)) c.in_err-note_place.ensures.moments in
+    subst (λ (b : Bool). NotesPlace (card_in (seat_in run.keeper.cabin.slots.seats c.args.slot)) c.args.slot c.args.at b run run c.args.breaks.now c.args.breaks.now (devices U A0 B0) (devices V A0 B0)) failed
+    (subst (λ (q : Option Card). NotesPlace q c.args.slot c.args.at true run run c.args.breaks.now c.args.breaks.now (devices U A0 B0) (devices V A0 B0)) (sym there) (inl (refl, refl, refl, quiet-any U V A0 B0 A0 B0 true ring)))
+
+pub returns-in-A-clause-events : goal.returns-in-A-clause-events
+returns-in-A-clause-events g c =
+    let run = c.args.run.now in
+    let U = g.M.Medium.state c.args.unit.now in
+    let V = g.M.Medium.state c.note_place.new.unit in
+    let W = g.M.Medium.state c.note_place_in.new.unit in
+    let A0 = g.C.Chip.state c.args.card_a.now in
+    let B0 = g.D.Chip.state c.args.card_b.now in
+    let Y = g.C.Chip.state c.note_place_in.new.card in
+    let n = c.note_place_in.ensures.events in
+    let failed = is_err c.note_place_in.result in
+    let there : card_in (seat_in run.keeper.cabin.slots.seats c.args.slot) ≡ Some A = cc in
+    let ring = says-of U V (g.met.M.Medium.coherent c.args.unit.now) (IsAdding unit_place_ring (unit_place_bytes c.in-Some-number_in.number c.args.entry.now)) (adding-nothing (unit_place_bytes c.in-Some-number_in.number c.args.entry.now)) c.in_ok-note_place.ensures.moments in
+    let falls = fall_events n.fell c.args.at.second c.note_place_in.new.run in
+    let later : NotesEvents falls failed (devices V A0 B0) (devices W Y B0) = noted-any falls failed (devices V A0 A0) (devices W Y Y) (devices V A0 B0) (devices W Y B0) refl refl n.notes in
+    subst (λ (q : Option Card). NotesPlace q c.args.slot c.args.at failed run c.note_place_in.new.run c.args.breaks.now c.note_place_in.new.breaks (devices U A0 B0) (devices W Y B0)) (sym there)
+    (inr (record { fell = n.fell; noted = n.noted; failing = n.failing; notes = then-noted [] falls failed (devices U A0 B0) (devices V A0 B0) (devices W Y B0) (quiet-any U V A0 B0 A0 B0 false ring) later }))
+
+pub returns-in-B-clause-events : goal.returns-in-B-clause-events
+returns-in-B-clause-events g c =
+    let run = c.args.run.now in
+    let U = g.M.Medium.state c.args.unit.now in
+    let V = g.M.Medium.state c.note_place.new.unit in
+    let W = g.M.Medium.state c.note_place_in-in-B.new.unit in
+    let A0 = g.C.Chip.state c.args.card_a.now in
+    let B0 = g.D.Chip.state c.args.card_b.now in
+    let Y = g.D.Chip.state c.note_place_in-in-B.new.card in
+    let n = c.note_place_in-in-B.ensures.events in
+    let failed = is_err c.note_place_in-in-B.result in
+    let there : card_in (seat_in run.keeper.cabin.slots.seats c.args.slot) ≡ Some B = cc in
+    let ring = says-of U V (g.met.M.Medium.coherent c.args.unit.now) (IsAdding unit_place_ring (unit_place_bytes c.in-Some-number_in.number c.args.entry.now)) (adding-nothing (unit_place_bytes c.in-Some-number_in.number c.args.entry.now)) c.in_ok-note_place.ensures.moments in
+    let falls = fall_events n.fell c.args.at.second c.note_place_in-in-B.new.run in
+    let later : NotesEvents falls failed (devices V A0 B0) (devices W A0 Y) = noted-any falls failed (devices V B0 B0) (devices W Y Y) (devices V A0 B0) (devices W A0 Y) refl refl n.notes in
+    subst (λ (q : Option Card). NotesPlace q c.args.slot c.args.at failed run c.note_place_in-in-B.new.run c.args.breaks.now c.note_place_in-in-B.new.breaks (devices U A0 B0) (devices W A0 Y)) (sym there)
+    (inr (record { fell = n.fell; noted = n.noted; failing = n.failing; notes = then-noted [] falls failed (devices U A0 B0) (devices V A0 B0) (devices W A0 Y) (quiet-any U V A0 B0 A0 B0 false ring) later }))
+
+-- ---- the rings
+
+no-number : (cards : Cards) (seat : Option Seat) (o : Option Card) → o ≡ card_in seat → ((card : Card) → o ≡ Some card → ⊥) → number_of_seat cards seat ≡ None
+no-number cards None o is never = refl
+no-number cards (Some s) o is never = absurd (never s.card is)
+
+none-given : (o : Option FullCardNumber) → ((number : FullCardNumber) → o ≡ Some number → ⊥) → o ≡ None
+none-given None never = refl
+none-given (Some number) never = absurd (never number refl)
+
+pub returns-in_default-clause-rings : goal.returns-in_default-clause-rings
+returns-in_default-clause-rings g c = λ tells.
+    let run = c.args.run.now in
+    let U = g.M.Medium.state c.args.unit.now in
+    let none = no-number run.keeper.cabin.cards (seat_in run.keeper.cabin.slots.seats c.args.slot) c.card.result c.card.ensures c.in_default.not-Some in
+    subst (λ (o : Option FullCardNumber). WritesPlace o c.args.entry.now false U U) (sym none) (rings-left U)
+
+pub returns-in_default-number_in-clause-rings : goal.returns-in_default-number_in-clause-rings
+returns-in_default-number_in-clause-rings g c = λ tells.
+    let run = c.args.run.now in
+    let U = g.M.Medium.state c.args.unit.now in
+    let none : number_of_seat run.keeper.cabin.cards (seat_in run.keeper.cabin.slots.seats c.args.slot) ≡ None = sym c.number_in.ensures ∙ none-given c.number_in.result c.in_default-number_in.not-Some in
+    subst (λ (o : Option FullCardNumber). WritesPlace o c.args.entry.now false U U) (sym none) (rings-left U)
+
+pub returns-in_err-note_place-clause-rings : goal.returns-in_err-note_place-clause-rings
+returns-in_err-note_place-clause-rings g c = λ tells.
+    let run = c.args.run.now in
+    let U = g.M.Medium.state c.args.unit.now in
+    let V = g.M.Medium.state c.note_place.new.unit in
+    let number = c.in-Some-number_in.number in
+    let told : number_of_seat run.keeper.cabin.cards (seat_in run.keeper.cabin.slots.seats c.args.slot) ≡ Some number = cc in
+    let failed : true ≡ is_err c.from_residual.result = search rules in
+    subst (λ (q : Bool). WritesPlace (number_of_seat run.keeper.cabin.cards (seat_in run.keeper.cabin.slots.seats c.args.slot)) c.args.entry.now q U V) failed
+    (subst (λ (o : Option FullCardNumber). WritesPlace o c.args.entry.now true U V) (sym told)
+    (place-broken (unit_place_bytes number c.args.entry.now) U V V (g.met.M.Medium.coherent c.args.unit.now) (g.met.M.Medium.coherent c.note_place.new.unit) tells c.note_place.ensures.moments))
+
+pub returns-in-A-clause-rings : goal.returns-in-A-clause-rings
+returns-in-A-clause-rings g c = λ tells.
+    let run = c.args.run.now in
+    let U = g.M.Medium.state c.args.unit.now in
+    let V = g.M.Medium.state c.note_place.new.unit in
+    let W = g.M.Medium.state c.note_place_in.new.unit in
+    let number = c.in-Some-number_in.number in
+    let told : number_of_seat run.keeper.cabin.cards (seat_in run.keeper.cabin.slots.seats c.args.slot) ≡ Some number = cc in
+    let n = c.in_ok-note_place.ensures in
+    subst (λ (o : Option FullCardNumber). WritesPlace o c.args.entry.now (is_err c.note_place_in.result) U W) (sym told)
+    (place-then (unit_place_bytes number c.args.entry.now) U V W (g.met.M.Medium.coherent c.args.unit.now) (g.met.M.Medium.coherent c.note_place.new.unit) tells c.note_place.ensures.moments (is_err c.note_place_in.result) n.noted n.cause.works c.note_place_in.ensures.rings)
+
+pub returns-in-B-clause-rings : goal.returns-in-B-clause-rings
+returns-in-B-clause-rings g c = λ tells.
+    let run = c.args.run.now in
+    let U = g.M.Medium.state c.args.unit.now in
+    let V = g.M.Medium.state c.note_place.new.unit in
+    let W = g.M.Medium.state c.note_place_in-in-B.new.unit in
+    let number = c.in-Some-number_in.number in
+    let told : number_of_seat run.keeper.cabin.cards (seat_in run.keeper.cabin.slots.seats c.args.slot) ≡ Some number = cc in
+    let n = c.in_ok-note_place.ensures in
+    subst (λ (o : Option FullCardNumber). WritesPlace o c.args.entry.now (is_err c.note_place_in-in-B.result) U W) (sym told)
+    (place-then (unit_place_bytes number c.args.entry.now) U V W (g.met.M.Medium.coherent c.args.unit.now) (g.met.M.Medium.coherent c.note_place.new.unit) tells c.note_place.ensures.moments (is_err c.note_place_in-in-B.result) n.noted n.cause.works c.note_place_in-in-B.ensures.rings)
+
+-- ---- what holds of the devices after any calls
+
+pub returns-in_default-clause-later : goal.returns-in_default-clause-later
+returns-in_default-clause-later g c = later-same (devices (g.M.Medium.state c.args.unit.now) (g.C.Chip.state c.args.card_a.now) (g.D.Chip.state c.args.card_b.now))
+
+pub returns-in_default-number_in-clause-later : goal.returns-in_default-number_in-clause-later
+returns-in_default-number_in-clause-later g c = later-same (devices (g.M.Medium.state c.args.unit.now) (g.C.Chip.state c.args.card_a.now) (g.D.Chip.state c.args.card_b.now))
+
+pub returns-in_err-note_place-clause-later : goal.returns-in_err-note_place-clause-later
+returns-in_err-note_place-clause-later g c = later-of-unit (g.M.Medium.state c.args.unit.now) (g.M.Medium.state c.note_place.new.unit) (g.C.Chip.state c.args.card_a.now) (g.D.Chip.state c.args.card_b.now) (state-by (g.M.Medium.state c.args.unit.now) (g.M.Medium.state c.note_place.new.unit) _ c.note_place.ensures.journal.later c.note_place.ensures.cause)
+
+pub returns-in-A-clause-later : goal.returns-in-A-clause-later
+returns-in-A-clause-later g c = later-then (devices (g.M.Medium.state c.args.unit.now) (g.C.Chip.state c.args.card_a.now) (g.D.Chip.state c.args.card_b.now)) (devices (g.M.Medium.state c.note_place.new.unit) (g.C.Chip.state c.args.card_a.now) (g.D.Chip.state c.args.card_b.now)) (devices (g.M.Medium.state c.note_place_in.new.unit) (g.C.Chip.state c.note_place_in.new.card) (g.D.Chip.state c.args.card_b.now)) (later-of-unit (g.M.Medium.state c.args.unit.now) (g.M.Medium.state c.note_place.new.unit) (g.C.Chip.state c.args.card_a.now) (g.D.Chip.state c.args.card_b.now) (state-by (g.M.Medium.state c.args.unit.now) (g.M.Medium.state c.note_place.new.unit) _ c.note_place.ensures.journal.later c.note_place.ensures.cause)) (later-of-a (g.M.Medium.state c.note_place.new.unit) (g.M.Medium.state c.note_place_in.new.unit) (g.C.Chip.state c.args.card_a.now) (g.C.Chip.state c.note_place_in.new.card) (g.D.Chip.state c.args.card_b.now) (state-by (g.M.Medium.state c.note_place.new.unit) (g.M.Medium.state c.note_place_in.new.unit) _ c.note_place_in.ensures.journal.later c.note_place_in.ensures.cause) (state-by (g.C.Chip.state c.args.card_a.now) (g.C.Chip.state c.note_place_in.new.card) c.note_place_in.ensures.noted.0 c.note_place_in.ensures.clock_card c.note_place_in.ensures.noted.3))
+
+pub returns-in-B-clause-later : goal.returns-in-B-clause-later
+returns-in-B-clause-later g c = later-then (devices (g.M.Medium.state c.args.unit.now) (g.C.Chip.state c.args.card_a.now) (g.D.Chip.state c.args.card_b.now)) (devices (g.M.Medium.state c.note_place.new.unit) (g.C.Chip.state c.args.card_a.now) (g.D.Chip.state c.args.card_b.now)) (devices (g.M.Medium.state c.note_place_in-in-B.new.unit) (g.C.Chip.state c.args.card_a.now) (g.D.Chip.state c.note_place_in-in-B.new.card)) (later-of-unit (g.M.Medium.state c.args.unit.now) (g.M.Medium.state c.note_place.new.unit) (g.C.Chip.state c.args.card_a.now) (g.D.Chip.state c.args.card_b.now) (state-by (g.M.Medium.state c.args.unit.now) (g.M.Medium.state c.note_place.new.unit) _ c.note_place.ensures.journal.later c.note_place.ensures.cause)) (later-of-b (g.M.Medium.state c.note_place.new.unit) (g.M.Medium.state c.note_place_in-in-B.new.unit) (g.C.Chip.state c.args.card_a.now) (g.D.Chip.state c.args.card_b.now) (g.D.Chip.state c.note_place_in-in-B.new.card) (state-by (g.M.Medium.state c.note_place.new.unit) (g.M.Medium.state c.note_place_in-in-B.new.unit) _ c.note_place_in-in-B.ensures.journal.later c.note_place_in-in-B.ensures.cause) (state-by (g.D.Chip.state c.args.card_b.now) (g.D.Chip.state c.note_place_in-in-B.new.card) c.note_place_in-in-B.ensures.noted.0 c.note_place_in-in-B.ensures.clock_card c.note_place_in-in-B.ensures.noted.3))

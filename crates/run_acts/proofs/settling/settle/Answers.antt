@@ -172,3 +172,8 @@ pub returns-clause-noted : goal.returns-clause-noted
 returns-clause-noted g c =
     let b = rw c.as_slice.ensures.value at c.keep_all.ensures.booked in
     (c.settle-decided.result.items, c.settle-decided.ensures.given, b.0, b.1, b.3)
+
+-- ---- what holds of the devices after any calls
+
+pub returns-clause-later : goal.returns-clause-later
+returns-clause-later g c = c.keep_all.ensures.later
