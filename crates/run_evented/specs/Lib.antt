@@ -2,3 +2,5 @@ pub mod Evented
 pub mod Going
 pub mod Noting
 pub mod Bringing
+pub mod SoFar
+pub mod Kept
