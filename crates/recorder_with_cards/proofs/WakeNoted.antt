@@ -27,7 +27,6 @@ use Rattle.unit_model.specs.Image.{IsUnit}
 use Rattle.run_keeping.specs.Faults.{faults_to}
 use Rattle.run_acts.proofs.KeptEvents.{faults-are, faults-noted}
 use Rattle.run_acts.specs.Faults.{NotesSettling}
-use Rattle.run_acts.specs.Noting.{SettlesThese}
 use Rattle.run_acts.specs.Turning.{told_of}
 use Rattle.run_acts.specs.declared.run.Run.{Run}
 use Rattle.run_acts.specs.Acting.{now_moment}
