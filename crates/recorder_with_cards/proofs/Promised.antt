@@ -1,11 +1,12 @@
 -- What a run promises, from what was recorded of it; and that nothing is recorded as it begins.
-use Rattle.std.proofs.Common.{◌≡◌, ◌∙◌, inl, ℕ, ◌+◌, ◌-◌, ◌/◌, ◌<◌, ◌≤◌, true, false, Option, Some, None, IfSome, is_some, Result, Ok, List, [], ◌++◌, All, refl, ap, sym, subst, arith}
+use Rattle.std.proofs.Common.{◌≡◌, ◌∙◌, inl, ℕ, ◌+◌, ◌-◌, ◌/◌, ◌<◌, ◌≤◌, true, false, Option, Some, None, IfSome, is_some, Result, Ok, List, [], ◌++◌, length, All, refl, ap, sym, subst, arith}
 use Rattle.trace_model.specs.declared.Card.{Card}
 use Rattle.trace_model.specs.declared.Card.TheVariants.{A, B}
 use Rattle.trace_model.specs.declared.Item.{Item}
 use Rattle.trace_model.specs.Trace.{TraceSecond, seconds_of}
 use Rattle.tach_media.specs.Medium.{State, IsCoherent}
 use Rattle.card_layout.specs.Application.{IsApplication}
+use Rattle.card_layout.proofs.Sizes.{largest_image}
 use Rattle.card_model.specs.Days.{AreDays}
 use Rattle.card_image.specs.Fields.{card_days}
 use Rattle.card_image.specs.Own.{own_view, own_sizes, own_number, IsOwnValid}
@@ -60,6 +61,7 @@ use Rattle.run_acts.specs.declared.run.Run.{Run}
 use Rattle.run_acts.specs.declared.run.Power.{Power}
 use Rattle.run_acts.specs.declared.run.Power.TheVariants.{Lit, Due, Lost}
 use Rattle.run_acts.specs.Recording.{values_of, IsOrigin, Supplies, RunRecorded}
+use Rattle.run_acts.proofs.Numbers.{own-long}
 use Rattle.recorder_with_cards.specs.Ends.{BeginAs, recorded_with, recording_of, opened_with, origin_of, MayRecord, EndsTrace}
 use Rattle.recorder_with_cards.proofs.Waiting.{first-second}
 
@@ -152,9 +154,6 @@ module _ (x a b : List ℕ) (start : ℕ) (began now : Devices) (opened : Opened
   abbrev f : Found
   f = found_in (opened_with x a b) began
 
-  pub is-origin : IsOrigin first-o
-  is-origin = record { rule = refl; decodes = ready.decodes; unit = refl; image = ready.found.image; start = ready.found.start; number = ready.found.number }
-
   pub may-record : MayRecord x a b start
   may-record = record { decodes = ready.decodes; later = ready.later; numbers = (ready.may (λ s is. absurd (let none : None ≡ Some s = is in cc))).numbers }
 
@@ -165,6 +164,19 @@ module _ (x a b : List ℕ) (start : ℕ) (began now : Devices) (opened : Opened
       (clock : (c : Card) → (card_of now c).clock ≡ (card_of began c).clock) (more : IsMore (breakdowns_of began) (breakdowns_of now)) (low : opened.unit.journal.odometer ≤ HIGHEST_ODOMETER) where
     sizes : (c : Card) → IsOwnValid (card_image (opened_with x a b) c) → IsApplication (own_sizes (card_image (opened_with x a b) c))
     sizes c valid = ((found_on c).port (own_sizes (card_image (opened_with x a b) c)) (valid-known (card_image (opened_with x a b) c) (known_of opened c) (ready.told c) valid)).good
+
+    -- the number of a valid card has all its bytes
+    long : (c : Card) → IsOwnValid (card_image (opened_with x a b) c) → length (own_number (card_image (opened_with x a b) c)) ≡ 18
+    long c valid =
+        let image : List ℕ = card_image (opened_with x a b) c in
+        let port = (found_on c).port (own_sizes image) (valid-known image (known_of opened c) (ready.told c) valid) in
+        let fits = largest_image (own_sizes image) port.good in
+        let all = (whole c).sized image (ready.begins.card c).tells in
+        let size = port.size in
+        own-long image (omega (arith, fits, all, size))
+
+    is-origin : IsOrigin first-o
+    is-origin = record { rule = refl; decodes = ready.decodes; unit = refl; image = ready.found.image; start = ready.found.start; number = ready.found.number; long = long }
 
     told : (c : Card) → IsOwnValid (card_image (opened_with x a b) c) → is_some (known_of opened c).number ≡ true
     told c valid = ap (λ (o : Option FullCardNumber). is_some o) ((ready.told c).number ∙ ap (λ o. number_by o (card_number_of (own_number (card_image (opened_with x a b) c)))) valid)
