@@ -16,3 +16,4 @@ pub mod Noting
 pub mod Settling
 pub mod Devices
 pub mod Faults
+pub mod Evented
