@@ -40,6 +40,7 @@ pub mod NoneComes
 pub mod Asked
 pub mod NotedOn
 pub mod ActsNoted
+pub mod Numbers
 pub mod NoteRecorded
 pub mod Pulled
 pub mod Closed

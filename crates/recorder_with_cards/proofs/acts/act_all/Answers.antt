@@ -4,7 +4,9 @@ use Rattle.trace_model.specs.declared.Action.{Action}
 use Rattle.safety_model.specs.Safe.{Devices}
 use Rattle.run_rule.specs.Between.{devices}
 use Rattle.run_acts.specs.Going.{largest_number}
-use Rattle.recorder_with_cards.specs.Recorded.{action_of, actions_in, RecordsActions}
+use Rattle.run_acts.specs.Recording.{InSecond}
+use Rattle.run_acts.specs.Evented.{InSecondEvented}
+use Rattle.recorder_with_cards.specs.Recorded.{action_of, actions_in, RecordsActions, EventsActions}
 use Rattle.recorder_with_cards.proofs.ActsRecorded.{no-action, actions-then}
 use Rattle.recorder_with_cards.proofs.Waiting.{actions-more, few-actions, one-action}
 use Rattle.std.proofs.lemmas.List.{length-take}
@@ -38,7 +40,7 @@ loop-i-init g c = record {
   recorded = λ power many few.
       let d : Devices = devices (g.M.Medium.state c.args.unit.now) (g.C.Chip.state c.args.card_a.now) (g.D.Chip.state c.args.card_b.now) in
       subst (λ (xs : List Action). RecordsActions xs (c.args.from - c.args.from) c.args.speed c.args.run.now c.args.run.now c.args.outcome.now c.args.outcome.now d d) (sym (ap actions_in (between-none c.args.from c.args.items.now)))
-      (no-action (c.args.from - c.args.from) c.args.speed c.args.run.now c.args.outcome.now d);
+      (no-action InSecond (c.args.from - c.args.from) c.args.speed c.args.run.now c.args.outcome.now d);
   still = λ dark. (dark, refl, refl, refl);
   time = λ h. h;
   later = later-same (devices (g.M.Medium.state c.args.unit.now) (g.C.Chip.state c.args.card_a.now) (g.D.Chip.state c.args.card_b.now));
@@ -79,7 +81,7 @@ loop-i-preserved g c =
           let f : Devices = devices (g.M.Medium.state c.act_item.new.unit) (g.C.Chip.state c.act_item.new.card_a) (g.D.Chip.state c.act_item.new.card_b) in
           subst (λ (n : ℕ). RecordsActions (actions_in (between from (i + 1) items)) n c.args.speed c.args.run.now c.act_item.new.run c.args.outcome.now c.act_item.new.outcome d f) (let same : c.number_of.result ≡ i + 1 - from = omega (arith, number, low) in same)
           (subst (λ (xs : List Action). RecordsActions xs c.number_of.result c.args.speed c.args.run.now c.act_item.new.run c.args.outcome.now c.act_item.new.outcome d f) (sym more)
-          (actions-then so (action_of item) (i - from) c.number_of.result c.args.speed c.args.run.now c.loop-i.run c.act_item.new.run c.args.outcome.now c.loop-i.outcome c.act_item.new.outcome d m f
+          (actions-then InSecond so (action_of item) (i - from) c.number_of.result c.args.speed c.args.run.now c.loop-i.run c.act_item.new.run c.args.outcome.now c.loop-i.outcome c.act_item.new.outcome d m f
           (omega (arith, number, now)) v.next e.time (v.recorded power before (omega (arith, few, low))) (e.recorded power)));
       still = λ dark.
           let was = v.still dark in
