@@ -2,4 +2,4 @@ pub mod Evented
 pub mod Going
 pub mod Noting
 pub mod Bringing
-pub mod Fitting
+pub mod SoFar
