@@ -20,6 +20,9 @@ pub mod RoundWhole
 pub mod RoundCut
 pub mod RoundBroken
 pub mod RoundKept
+pub mod Named
+pub mod Sitting
+pub mod RoundFaults
 pub mod Settled
 pub mod Leaving
 pub mod Cabins
