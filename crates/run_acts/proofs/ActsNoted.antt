@@ -1,5 +1,5 @@
 -- What the actions that need no card to be judged note on the unit: of rings nothing, and the faults of cards that fell.
-use Rattle.std.proofs.Common.{◌≡◌, ◌∙◌, ◌⊎◌, inl, inr, ⊎_elim, ℕ, ◌+◌, ◌*◌, ◌<◌, ◌≤◌, Bool, true, false, Option, Some, None, List, [], ◌∷◌, ◌++◌, refl, ap, sym, subst, arith}
+use Rattle.std.proofs.Common.{◌≡◌, ◌∙◌, ◌⊎◌, inl, inr, ⊎_elim, ℕ, ◌+◌, ◌*◌, ◌<◌, ◌≤◌, Bool, true, false, Option, Some, None, List, [], ◌∷◌, ◌++◌, length, refl, ap, sym, subst, arith, length-append}
 use Rattle.activity_codec.specs.declared.values.Slot.{Slot}
 use Rattle.trace_model.specs.declared.Card.{Card}
 use Rattle.tacho_types.specs.declared.numbers.TimeReal.{TimeReal}
@@ -24,7 +24,8 @@ use Rattle.run_keeping.specs.Faults.{faults_to}
 use Rattle.run_keeping.proofs.Fates.{no-lines}
 use Rattle.run_evented.specs.Evented.{number_in}
 use Rattle.run_acts.specs.declared.run.Run.{Run}
-use Rattle.run_acts.specs.Acting.{told_of, left_run}
+use Rattle.run_acts.specs.Acting.{IsNotedOn, told_of, left_run}
+use Rattle.run_keeping.specs.Keeping.{tear_of, with_lines}
 use Rattle.run_acts.specs.Faults.{NotesSettling}
 use Rattle.run_acts.specs.NotedEvents.{NotesEvents}
 use Rattle.run_acts.specs.Noting.{SaysNoMore, NotesPlace, SettlesThese, closed_events, NotesClosing, NotesWithdrawing}
@@ -69,6 +70,20 @@ settles-these at failed old new before after U V A B C D whole unit n =
 pub no-place : (q : Option Card) (slot : Slot) (at : Moment) (run : Run) (breaks : Listed Break) (d : Devices) → NotesEvents [] false d d → NotesPlace q slot at false run run breaks breaks d d
 no-place None slot at run breaks d notes = (refl, refl, refl, notes)
 no-place (Some card) slot at run breaks d notes = inr (record { fell = false; noted = record { run = refl; told = no-lines breaks }; failing = λ bad. bad; notes = notes })
+
+-- whether a card fell is told
+more-lines : (breaks : Listed Break) (x : Break) → with_lines [] breaks ≡ with_lines (x ∷ []) breaks → ⊥
+more-lines breaks x is =
+    let long = ap (λ (l : Listed Break). length l.items) is in
+    let none = length-append breaks.items [] in
+    let one = length-append breaks.items (x ∷ []) in
+    omega (arith, long, none, one)
+
+pub same-fell : (card : Card) (slot : Slot) (at : Moment) (old new : Run) (breaks after : Listed Break) (x y : Bool) → IsNotedOn card slot at old new breaks after x → IsNotedOn card slot at old new breaks after y → x ≡ y
+same-fell card slot at old new breaks after true true h k = refl
+same-fell card slot at old new breaks after false false h k = refl
+same-fell card slot at old new breaks after true false h k = absurd (more-lines breaks (tear_of slot at) (sym k.told ∙ h.told))
+same-fell card slot at old new breaks after false true h k = absurd (more-lines breaks (tear_of slot at) (sym h.told ∙ k.told))
 
 -- ---- a card is withdrawn
 

@@ -44,6 +44,7 @@ pub mod Asked
 pub mod NotedOn
 pub mod ActsNoted
 pub mod Numbers
+pub mod FallEvented
 pub mod NoteRecorded
 pub mod Pulled
 pub mod Closed

@@ -21,20 +21,7 @@ use Rattle.run_events.specs.Shown.{by_kind, none, ShowsMore, AreNumbers}
 use Rattle.run_recorded.specs.Origin.{Origin}
 use Rattle.run_evented.specs.Evented.{number_in}
 use Rattle.run_acts.specs.NotedEvents.{IsTold, AreTold, NotesSo, NotesEvents}
-
--- ---- which cards are named
-
--- the card of a crew, if there is one, is valid
-abbrev pub IsValidIn : Origin → Option Card → Type 0
-IsValidIn o card = IfSome card (λ c. IsOwnValid (card_image o.recording c))
-
-pub record AreValidIn (o : Origin) (crew : Crew) : Type 0 where
-  pub driver : IsValidIn o crew.driver
-  pub codriver : IsValidIn o crew.codriver
-
--- valid cards alone are named
-abbrev pub NamesValid : Origin → List Event → Type 0
-NamesValid o es = AllByRecursion (λ e. AreValidIn o e.at_begin × AreValidIn o e.at_end) es
+use Rattle.run_acts.proofs.Named.{ValidHere, NamesValid}
 
 -- the numbers of valid cards fill their field
 abbrev pub AreLong : Origin → Type 0
@@ -147,7 +134,7 @@ all-long o long c = ap (λ (x : List ℕ). length (own_number x)) (image-of o c)
     by None is = long c is
     by (Some bad) is = spare-long
 
-agree-one : (o : Origin) (q : Option Card) → IsValidIn o q → number_or_none (number_in (named_as o)) q ≡ number_or_none (number_in o) q
+agree-one : (o : Origin) (q : Option Card) → IfSome q (ValidHere o) → number_or_none (number_in (named_as o)) q ≡ number_or_none (number_in o) q
 agree-one o None valid = refl
 agree-one o (Some c) valid = same-number o c valid
 

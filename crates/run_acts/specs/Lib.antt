@@ -17,3 +17,4 @@ pub mod Settling
 pub mod Devices
 pub mod Faults
 pub mod Evented
+pub mod ActsEvented

@@ -16,6 +16,7 @@ ghost use Rattle.run_rule.specs.Between.{devices};
 ghost use Rattle.card_session.specs.Sessions.{IsValue};
 ghost use Rattle.device_steps.specs.CardNotes.{IsNote};
 ghost use Rattle.run_acts.specs.Noting.{IsPlaceRecorded, NotesFall, NotesPlace};
+ghost use Rattle.run_acts.specs.ActsEvented.{EventsPlace};
 ghost use Rattle.run_acts.specs.declared.run.Power.TheVariants.{Lit};
 ghost use Rattle.run_acts.specs.Going.{first_second, end_of_seconds, IsHeld, IsLit};
 ghost use Rattle.run_acts.specs.Room.{falls_of};
@@ -76,6 +77,7 @@ pub fn note_place<M: Medium, C: Chip, D: Chip>(
     requires breaks { length breaks.old.items + falls_of run.old.keeper.cabin ≤ breaks.old.room }
     ensures placed { (fell : Bool) × IsPlaced (card_in (seat_in run.old.keeper.cabin.slots.seats slot)) slot at run.old run.new breaks.old breaks.new fell }
     ensures events { NotesPlace (card_in (seat_in run.old.keeper.cabin.slots.seats slot)) slot at (is_err result) run.old run.new breaks.old breaks.new (devices (M.state unit.old) (C.state card_a.old) (D.state card_b.old)) (devices (M.state unit.new) (C.state card_a.new) (D.state card_b.new)) }
+    ensures evented { EventsPlace slot at (is_err result) run.old run.new breaks.old breaks.new (devices (M.state unit.old) (C.state card_a.old) (D.state card_b.old)) (devices (M.state unit.new) (C.state card_a.new) (D.state card_b.new)) }
     ensures recorded { IsPlaceRecorded slot at (is_err result) run.old run.new breaks.old breaks.new (devices (M.state unit.old) (C.state card_a.old) (D.state card_b.old)) (devices (M.state unit.new) (C.state card_a.new) (D.state card_b.new)) }
     ensures only { run.new ≡ record run.old { keeper = run.new.keeper } }
     ensures held { IsHeld (run.new.next / 60) run.new (M.state unit.new) (C.card card_a.new) (D.card card_b.new) (C.state card_a.new) (D.state card_b.new) }
