@@ -16,4 +16,5 @@ pub mod Noting
 pub mod Settling
 pub mod Devices
 pub mod Faults
+pub mod Named
 pub mod Evented
