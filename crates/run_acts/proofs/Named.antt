@@ -9,24 +9,12 @@ use Rattle.log_model.specs.Slots.{Slots, Sitting, in_slot}
 use Rattle.log_model.specs.Course.{Told, Course}
 use Rattle.joint_rule.specs.Rules.{Standing}
 use Rattle.event_model.specs.Events.{Event, Crew, accepted_card, crew_of, with_card}
-use Rattle.safety_model.specs.Recording.{card_image}
 use Rattle.run_rule.specs.Found.{found_of}
 use Rattle.run_crew.specs.declared.cabin.Cabin.{Cabin}
 use Rattle.run_present.specs.Presence.{PresentStand, sits}
 use Rattle.run_recorded.specs.Origin.{Origin}
 use Rattle.run_acts.specs.Recording.{IsOrigin}
-
--- a card is valid at the start
-abbrev pub ValidHere : Origin → Card → Type 0
-ValidHere o c = IsOwnValid (card_image o.recording c)
-
-pub record CrewValid (o : Origin) (crew : Crew) : Type 0 where
-  pub driver : IfSome crew.driver (ValidHere o)
-  pub codriver : IfSome crew.codriver (ValidHere o)
-
--- these events name valid cards alone
-abbrev pub NamesValid : Origin → List Event → Type 0
-NamesValid o es = AllByRecursion (λ e. CrewValid o e.at_begin × CrewValid o e.at_end) es
+use Rattle.run_acts.specs.Named.{ValidHere, CrewValid, NamesValid}
 
 pub both-valid : (o : Origin) (es fs : List Event) → NamesValid o es → NamesValid o fs → NamesValid o (es ++ fs)
 both-valid o [] fs h k = k

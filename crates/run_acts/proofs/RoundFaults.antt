@@ -46,7 +46,9 @@ use Rattle.run_within.proofs.Seats.{no-both}
 use Rattle.run_evented.specs.Evented.{number_in}
 use Rattle.run_evented.specs.Noting.{Acting}
 use Rattle.run_evented.specs.Bringing.{NotFound}
-use Rattle.run_evented.specs.SoFar.{SoFar as BroughtSoFar, Adds, BeginsNow, ATearAdds, StepsFollow, MayFollow, puts_into, fault_with, crew_at}
+use Rattle.run_evented.specs.SoFar.{Adds, BeginsNow, MayFollow, puts_into, fault_with, crew_at}
+use Rattle.run_evented.proofs.Adding.{steps-follow, adds-nothing}
+use Rattle.run_evented.proofs.Falling.{tear-adds}
 use Rattle.run_keeping.specs.declared.keeper.Keeper.{Keeper}
 use Rattle.run_keeping.specs.Keeping.{Fate, Still, Has, Fell, IsFateOf, cabin_by, breaks_by, tear_of, session_at, kept_in, card_in as present_of}
 use Rattle.run_keeping.specs.Minutes.{Round, IsRound, Told, Done, Reach, Whole, Short, AreRounds, IsReach, told_after, told_by, cabin_after, present_at, minute_of}
@@ -74,7 +76,8 @@ use Rattle.run_acts.specs.Rounds.{Point, Outset, told_values, moment_of, and_bre
 use Rattle.run_acts.specs.RoundLaws.{InRounds, KeepsSo, HaveBrokenOff, AreGone, carried_at}
 use Rattle.run_acts.proofs.Bare.{fate-bare, still-bare}
 use Rattle.run_acts.proofs.EventCrews.{AllSitWell, torn-sits, torn-leaves, sessions-known, faults-told}
-use Rattle.run_acts.proofs.Named.{CrewValid, NamesValid, both-valid, crew-valid, without-valid}
+use Rattle.run_acts.specs.Named.{CrewValid, NamesValid}
+use Rattle.run_acts.proofs.Named.{both-valid, crew-valid, without-valid}
 use Rattle.run_acts.proofs.Sitting.{SameNumbers, fate-well, fate-numbers}
 use Rattle.run_acts.proofs.RoundLeaving.{slots-or, torn-apart}
 use Rattle.run_acts.proofs.RoundFates.{fate-behind, Behind, IsOut, out-is}
@@ -83,12 +86,6 @@ use Rattle.run_acts.proofs.RoundReached.{first-number, one-on}
 use Rattle.run_acts.proofs.RoundBegun.{outset, begun-so}
 use Rattle.run_acts.proofs.RoundBroken.{cards-broken, cards-broken_last}
 use Rattle.run_acts.proofs.RoundKept.{gone-cards}
-
-tear-adds : (d : Devices) → ATearAdds d
-tear-adds = ?
-
-steps-follow : (d : Devices) → StepsFollow d
-steps-follow = ?
 
 -- ---- faults that are told, one after another
 pub told-both : (number : Card → List ℕ) (vs ws : List UnitEvent) (es fs : List Event) → AreTold number vs es → AreTold number ws fs → AreTold number (vs ++ ws) (es ++ fs)
@@ -109,10 +106,7 @@ none-added o done s log later e same = record {
   events = [];
   told = tt;
   valid = tt;
-  adds = record {
-    kinds = tt;
-    on = λ more so. subst (λ (l : RunLog). BroughtSoFar o done s Acting l (more ++ []) e) (sym same) (subst (λ (es : List Event). BroughtSoFar o done s Acting log es e) (sym (append-nil more)) so);
-  };
+  adds = subst (λ (l : RunLog). Adds o done s Acting log Acting l [] e) (sym same) (adds-nothing e o done s Acting log);
 }
 
 pub both-added : (o : Origin) (done : List TraceSecond) (s : TraceSecond) (log mid later : RunLog) (vs ws : List UnitEvent) (e : Devices) → AddsFaults o done s log mid vs e → AddsFaults o done s mid later ws e → AddsFaults o done s log later (vs ++ ws) e

@@ -1,18 +1,16 @@
 -- What is noted of the events and faults of a run with cards, beside what is recorded of it (Annex IB, section III.12; profile): between two
 -- seconds, and within one.
 use Rattle.std.specs.Prelude.{◌≡◌, ◌+◌, ◌-◌, ◌<◌, Bool, true, false, None, List, [], ◌∷◌, ◌++◌, ℕ, suc, length, map, slice_get}
+use Rattle.std.specs.List.{AllByRecursion}
 use Rattle.activity_codec.specs.declared.values.Slot.{Slot}
 use Rattle.trace_model.specs.declared.Action.{Action}
-use Rattle.trace_model.specs.declared.Card.{Card}
 use Rattle.trace_model.specs.Trace.{TraceSecond, driven}
 use Rattle.minute_model.specs.declared.Minute.{Minute}
 use Rattle.log_model.specs.Log.{RunLog, Phase, In, is_torn_in, found_in}
 use Rattle.log_model.specs.Course.{Visit}
 use Rattle.log_model.specs.Slots.{refusal}
-use Rattle.event_model.specs.Events.{Seen, seen_of, seen_spans}
+use Rattle.event_model.specs.Events.{Seen, seen_of, seen_spans, crew_of}
 use Rattle.slot_machine.specs.Calls.{logged}
-use Rattle.tacho_types.specs.declared.card_number.FullCardNumber.{FullCardNumber}
-use Rattle.tacho_types.specs.CardNumber.{card_number_of}
 use Rattle.unit_course.specs.Lines.{cut_at}
 use Rattle.unit_course.specs.Followed.{Lost as IsLost}
 use Rattle.safety_model.specs.Safe.{Devices}
@@ -23,29 +21,29 @@ use Rattle.run_events.specs.Seconds.{last_of, span_before, seen_next}
 use Rattle.run_crew.specs.declared.cabin.Cabin.{Cabin}
 use Rattle.run_outcome.specs.declared.outcome.Outcome.{Outcome}
 use Rattle.run_recorded.specs.Origin.{Origin}
-use Rattle.run_evented.specs.Evented.{number_in, limit_in, Evented}
+use Rattle.run_evented.specs.Evented.{limit_in, Evented}
 use Rattle.run_evented.specs.Noting.{Stage, Acting}
 use Rattle.run_evented.specs.SoFar.{EventedNow, puts_into}
 use Rattle.run_notes.specs.declared.watch.Watch.{Watch}
 use Rattle.run_notes.specs.Watching.{StandsFor}
 use Rattle.event_crews.specs.Watched.{watched}
+use Rattle.event_crews.specs.Turned.{AreLow}
 use Rattle.run_keeping.specs.declared.keeper.Moment.{Moment}
 use Rattle.run_keeping.specs.Books.{HaveTime}
 use Rattle.run_acts.specs.declared.run.Run.{Run}
 use Rattle.run_acts.specs.declared.run.Power.TheVariants.{Lit}
 use Rattle.run_acts.specs.Power.{is_lit}
 use Rattle.run_acts.specs.Recording.{log_of, RunRecorded, RunWithin, RunCut, IsNow}
+use Rattle.run_acts.specs.Named.{CrewValid, watched_as}
 use Rattle.run_acts.specs.Acting.{IsBareIn}
 use Rattle.run_acts.specs.Settling.{settled_run}
 
--- the number by which a card is watched
-abbrev pub watched_as : Origin → Card → FullCardNumber
-watched_as o c = card_number_of (number_in o c)
-
--- a span is watched for its events, which has had these seconds
+-- a span is watched for its events, which has had these seconds, each with cards that are valid
 pub record IsWatching (o : Origin) (span : List Seen) (w : Watch) : Type 0 where
   pub stands : StandsFor w (map (watched (watched_as o)) span)
   pub limit : w.over.limit ≡ limit_in o
+  pub low : AreLow span
+  pub valid : AllByRecursion (λ x. CrewValid o (crew_of x.itself)) span
 
 -- the seconds of the span that goes on
 abbrev pub span_of : RunLog → List TraceSecond → List Seen
@@ -116,7 +114,11 @@ EventsSettling decided at failed old new before after d e = (o : Origin) (done :
     (w : RunWithin o done s (In (suc n)) waits decided (settled_run new.minutes old) before d) → IsUntold s n (log_of before) old.keeper.cabin → EventedNow o done s w.within.b.run Acting (log_of before) d → HaveTime e →
     EventsGoOn failed o done s w.within.b.run (In (suc n)) Acting (log_of after) e
 
--- N SECONDS of one minute
+-- the last of these seconds had this speed
+abbrev pub LastAt : List TraceSecond → (speed : ℕ) → Type 0
+LastAt done speed = (front : List TraceSecond) × (y : TraceSecond) × (done ≡ front ++ y ∷ []) × (y.speed ≡ speed)
+
+-- N SECONDS of one minute: more than one come behind one at their speed
 abbrev pub EventsTurn : (n speed begun : ℕ) → (old new : Run) → (before after : Outcome) → (d e : Devices) → Type 0
-EventsTurn n speed begun old new before after d e = (o : Origin) (done : List TraceSecond) (s : TraceSecond) → IsNow s speed old → length s.actions ≡ begun → (1 < n → s.actions ≡ []) →
+EventsTurn n speed begun old new before after d e = (o : Origin) (done : List TraceSecond) (s : TraceSecond) → IsNow s speed old → length s.actions ≡ begun → (1 < n → (s.actions ≡ []) × LastAt done speed) →
     InSecondEvented o done s begun old before d → HaveTime e → RunEvented o (done ++ s ∷ driven (n - 1) (s.number + 1) speed []) new after e

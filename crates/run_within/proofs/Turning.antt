@@ -16,7 +16,7 @@ use Rattle.run_course.specs.Followed.{Progress, Followed}
 use Rattle.run_course.proofs.Steps.{lit-parts, span-end}
 use Rattle.run_moments.specs.Kept.{settled_times}
 use Rattle.unit_course.specs.Followed.{Lit}
-use Rattle.unit_course.specs.Turn.{span_at}
+use Rattle.unit_course.specs.Turn.{begins_with, span_at}
 use Rattle.safety_model.specs.Safe.{Devices}
 use Rattle.run_course.specs.Seconds.{next_told}
 use Rattle.run_recorded.specs.Origin.{Origin, rule_of, start_at, first_of}
@@ -256,21 +256,37 @@ record IsTo (o : Origin) (done : List TraceSecond) (s : TraceSecond) (n : ℕ) (
   fed : Within o (before_last n s done) (last_of n s) Keeping [] (Some s.speed) rest (record v { minutes = minutes; next = next; begun = begun }) d
   travelled_before : fed.b.travel.before ≡ w.b.travel.before
   from : fed.from ≡ w.from
+  first : n ≡ 0 → fed.b ≡ w.b
+  goes_on : 0 < n → (fed.b.run.log ≡ v.log) × (begins_with fed.b.span ≡ false)
 
 turned-to : (o : Origin) (done : List TraceSecond) (s : TraceSecond) (n : ℕ) (rest : List Minute) (minutes : Kept) (v : Values) (d : Devices) (w : Within o done s (In (length s.actions)) [] None [] v d) (next : ℕ) → next ≡ v.next + n → IsTo o done s n rest minutes v d w next →
     IsTurned o done s n rest minutes v d w
 turned-to o done s n rest minutes v d w next same to =
     let h = subst (λ (k : ℕ). IsTo o done s n rest minutes v d w k) same to in
-    record { begun = h.begun; fed = h.fed; travelled_before = h.travelled_before; from = h.from }
+    record { begun = h.begun; fed = h.fed; travelled_before = h.travelled_before; from = h.from; first = h.first; goes_on = h.goes_on }
 
 pub turn-is_fed : (d : Devices) → ATurnIsFed d
 turn-is_fed d o done s v w zero within minutes stands rest decides =
     let g = second-is_fed o done s v d w minutes (stands w.sp w.minutes) rest (decides w.sp w.minutes) in
-    turned-to o done s 0 rest minutes v d w v.next (omega arith) (record { begun = v.begun; fed = g.within; travelled_before = ap (λ (b : Beginning). b.travel.before) g.began; from = g.from })
+    turned-to o done s 0 rest minutes v d w v.next (omega arith) (record {
+      begun = v.begun;
+      fed = g.within;
+      travelled_before = ap (λ (b : Beginning). b.travel.before) g.began;
+      from = g.from;
+      first = λ zero_. g.began;
+      goes_on = λ some. absurd (omega (arith, some));
+    })
 turn-is_fed d o done s v w (suc n) within minutes stands rest decides =
     let is = number o done s v d w in
     let most : v.next % 60 + suc (suc n) ≤ 60 = subst (λ (k : ℕ). k % 60 + suc (suc n) ≤ 60) is within in
     let a = at-each o done s v d w n (omega (arith, most)) in
     let g = next-fed o done s v d w n minutes rest most a (feeds-last o done s v d w (suc n) most minutes stands rest decides) in
     turned-to o done s (suc n) rest minutes v d w a.next a.next_is
-    (record { begun = a.begun; fed = g.within; travelled_before = ap (λ (b : Beginning). b.travel.before) g.began ∙ a.behind.travelled_before; from = g.from })
+    (record {
+      begun = a.begun;
+      fed = g.within;
+      travelled_before = ap (λ (b : Beginning). b.travel.before) g.began ∙ a.behind.travelled_before;
+      from = g.from;
+      first = λ none. absurd (omega (arith, none));
+      goes_on = λ some. (ap (λ (b : Beginning). b.run.log) g.began, ap (λ (b : Beginning). begins_with b.span) g.began);
+    })

@@ -1,10 +1,11 @@
 -- So many seconds of one minute are fed at once, all but the first without actions (profile): those before the last decide nothing.
-use Rattle.std.specs.Prelude.{◌≡◌, ℕ, zero, suc, ◌+◌, ◌%◌, ◌≤◌, true, None, Some, List, [], ◌∷◌, ◌++◌, length}
+use Rattle.std.specs.Prelude.{◌≡◌, ℕ, zero, suc, ◌+◌, ◌%◌, ◌<◌, ◌≤◌, true, false, None, Some, List, [], ◌∷◌, ◌++◌, length}
 use Rattle.trace_model.specs.Trace.{TraceSecond, driven}
 use Rattle.minute_model.specs.declared.Minute.{Minute}
 use Rattle.minute_model.specs.Span.{Span, fed_many, decided_in}
 use Rattle.minute_rules.specs.Kept.{Kept, StandsFor}
 use Rattle.log_model.specs.Log.{In, Keeping}
+use Rattle.unit_course.specs.Turn.{begins_with}
 use Rattle.safety_model.specs.Safe.{Devices}
 use Rattle.run_recorded.specs.Origin.{Origin}
 use Rattle.run_within.specs.Recorded.{Values}
@@ -29,6 +30,9 @@ pub record IsTurned (o : Origin) (done : List TraceSecond) (s : TraceSecond) (n 
   pub fed : Within o (before_last n s done) (last_of n s) Keeping [] (Some s.speed) rest (turned_values n begun minutes v) d
   pub travelled_before : fed.b.travel.before ≡ w.b.travel.before
   pub from : fed.from ≡ w.from
+  -- the last one began as the first, where it is that; or within the span, where nothing was told since
+  pub first : n ≡ 0 → fed.b ≡ w.b
+  pub goes_on : 0 < n → (fed.b.run.log ≡ v.log) × (begins_with fed.b.span ≡ false)
 
 abbrev pub ATurnIsFed : Devices → Type 0
 ATurnIsFed d = (o : Origin) (done : List TraceSecond) (s : TraceSecond) (v : Values) → (w : Within o done s (In (length s.actions)) [] None [] v d) → (n : ℕ) → s.number % 60 + suc n ≤ 60 →
