@@ -78,12 +78,12 @@ pub passes-dark : (a b : Run) (o p : Outcome) (n speed begun : ℕ) → is_lit a
 passes-dark a b o p n speed begun dark_ h = subst (λ (lit : Bool). IsTurnOf lit n speed begun a b o p) dark_ h
 
 -- there is none up to the next minute
-lost-away : (p : Power) (next : ℕ) → has_power p next ≡ false → (p ≡ Lost) × (0 < next % 60)
+pub lost-away : (p : Power) (next : ℕ) → has_power p next ≡ false → (p ≡ Lost) × (0 < next % 60)
 lost-away Lit next away = absurd (cc)
 lost-away Due next away = absurd (cc)
 lost-away Lost next away = let test : (next % 60 == 0) ≡ false = away in (refl, grind (arith, nat_tests, test))
 
-lost-supply : (p : Power) (supply : Supply) → p ≡ Lost → Supplies p supply → supply ≡ IsLost
+pub lost-supply : (p : Power) (supply : Supply) → p ≡ Lost → Supplies p supply → supply ≡ IsLost
 lost-supply Lit supply is powers = absurd (cc)
 lost-supply Due supply is powers = absurd (cc)
 lost-supply Lost (IsLit span) is powers = absurd powers

@@ -12,7 +12,7 @@ use Rattle.run_outcome.specs.declared.outcome.Outcome.{Outcome}
 use Rattle.run_acts.specs.declared.run.Run.{Run}
 use Rattle.run_acts.specs.Going.{largest_number}
 use Rattle.run_acts.specs.Recording.{RunRecorded, InSecond, IsNow}
-use Rattle.run_acts.specs.Evented.{RunEvented, InSecondEvented}
+use Rattle.run_acts.specs.Evented.{RunEvented, InSecondEvented, LastAt}
 
 -- an item's action, where it is one
 abbrev pub action_of : Item → List Action
@@ -91,6 +91,10 @@ EventsActions actions begun speed old new before after d e = ActsBy InSecondEven
 
 abbrev pub EventsSeconds : Result (Unit {0}) RunFault → (seconds speed : ℕ) → List Action → (old new : Run) → (before after : Outcome) → (d e : Devices) → Type 0
 EventsSeconds result seconds speed actions old new before after d e = SecondsBy RunEvented result seconds speed actions old new before after d e
+
+-- so many seconds more without actions, behind one at their speed
+abbrev pub EventsMore : Result (Unit {0}) RunFault → (seconds speed : ℕ) → (old new : Run) → (before after : Outcome) → (d e : Devices) → Type 0
+EventsMore result seconds speed old new before after d e = (o : Origin) (done : List TraceSecond) → LastAt done speed → RunEvented o done old before d → HaveTime e → HasRunBy RunEvented result o (done ++ driven seconds old.next speed []) new after e
 
 abbrev pub EventsItem : Result (Unit {0}) RunFault → Item → List Action → (old new : Run) → (before after : Outcome) → (d e : Devices) → Type 0
 EventsItem result item waiting old new before after d e = ItemBy RunEvented result item waiting old new before after d e

@@ -21,7 +21,7 @@ use Rattle.run_events.specs.Shown.{by_kind, none, ShowsMore, AreNumbers}
 use Rattle.run_recorded.specs.Origin.{Origin}
 use Rattle.run_evented.specs.Evented.{number_in}
 use Rattle.run_acts.specs.NotedEvents.{IsTold, AreTold, NotesSo, NotesEvents}
-use Rattle.run_acts.proofs.Named.{ValidHere, NamesValid}
+use Rattle.run_acts.specs.Named.{ValidHere, NamesValid, spare, by_fault, image_or, named_as}
 
 -- the numbers of valid cards fill their field
 abbrev pub AreLong : Origin → Type 0
@@ -102,23 +102,9 @@ module _ (f g : Card → List ℕ) where
 -- ---- a run whose cards have numbers of 18 bytes both
 
 -- an image whose number has them
-abbrev spare : List ℕ
-spare = replicate 400 0
-
 spare-long : length (own_number spare) ≡ 18
 unfolding own_number own_sizes card_number files_of application_of
 spare-long = refl
-
-abbrev by_fault : Option (Fid × ℕ) → List ℕ → List ℕ
-by_fault None x = x
-by_fault (Some bad) x = spare
-
-abbrev image_or : List ℕ → List ℕ
-image_or x = by_fault (own_bad_file x) x
-
--- such a run in place of this one
-abbrev pub named_as : Origin → Origin
-named_as o = record o { recording = record o.recording { card_a = image_or o.recording.card_a; card_b = image_or o.recording.card_b } }
 
 image-of : (o : Origin) (c : Card) → card_image (named_as o).recording c ≡ image_or (card_image o.recording c)
 image-of o A = refl
