@@ -225,7 +225,7 @@ module _ {C : Type 0} (state : C → State) (c : Card) (slot : Slot) (at : Momen
           waits = [];
           mid = w.within.b.broken;
           now = breakdowns_of e;
-          moment = (card-torn w.within.b.run (went w.within.b.run.log done).before s (In n) (log_of told) [] w.within.b.broken (breakdowns_of d) (breakdowns_of e) w.within.moment slot (tear_of slot at) (tear-here a has) leaves.untorn c
+          moment = (card-torn w.within.b.run (went w.within.b.run.log done).before s (In n) (log_of told) [] w.within.b.broken (breakdowns_of d) (breakdowns_of e) w.within.moment slot (tear_of slot at) (tear-here a has) (leaves-first (log_of told) (went w.within.b.run.log done).before s (In n) slot (record { phase = In n; slot = slot; card = c }) [] leaves.leaves) leaves.untorn c
               (leaving-out o w.origin done s (In n) v d w.within slot c (s.number / 60) (s.number / 60) leaves low (Some c) sits_)
               (record { more = (goes a has).breakdowns; broke = card-rose c U V (state x) (state y) Z (rose-by (state x).breakdowns (state y).breakdowns broken.breakdowns) })).0;
           more = λ device. omega arith;

@@ -34,7 +34,7 @@ use Rattle.run_within.specs.Taking.{fallen}
 use Rattle.run_acts.specs.declared.run.Run.{Run}
 use Rattle.run_acts.specs.Acting.{IsNotedIn, IsNotedOn, Closing, Bare, Closed, Fell, IsClosed, told_of, left_run}
 use Rattle.run_acts.specs.Behind.{IsPoweredOrOff}
-use Rattle.run_acts.specs.Recording.{RunWithin, GoesOnOrFails, RecordsAction}
+use Rattle.run_acts.specs.Recording.{RunWithin, ComesPower, GoesOnOrFails, RecordsAction}
 
 -- ---- by value
 
@@ -155,9 +155,10 @@ BooksNotedIn (Some card) failed fell cards after d e = BooksNoted card failed fe
 
 -- ---- of the record
 
--- A NOTE IS RECORDED at a moment of a second at which no card waits: the second goes on at that moment, as it began, or power is about to be cut.
+-- A NOTE IS RECORDED at a moment of a second at which no card waits, before any action only where power comes with the second: the second goes
+-- on at that moment, as it began, or power is about to be cut.
 abbrev pub IsNoteRecorded : Phase → (failed : Bool) → (old new : Run) → (breaks after : Listed Break) → (d e : Devices) → Type 0
-IsNoteRecorded at failed old new breaks after d e = (o : Origin) (done : List TraceSecond) (s : TraceSecond) (out : Outcome) → (w : RunWithin o done s at [] [] old (record out { breaks = breaks }) d) →
+IsNoteRecorded at failed old new breaks after d e = (o : Origin) (done : List TraceSecond) (s : TraceSecond) (out : Outcome) → (w : RunWithin o done s at [] [] old (record out { breaks = breaks }) d) → (at ≡ In 0 → ComesPower done (record out { breaks = breaks })) →
     GoesOnOrFails failed o done s at [] new (record out { breaks = after }) e w.within.b
 
 -- A PLACE IS NOTED, an action of that second: it is told of before.

@@ -65,11 +65,12 @@ module _ (r : Recording) (c : Card) (clock : ℕ) (b : Book) (card : State) (res
   parts : lies ≡ (owes ++ card_history c b.sure) ++ card_history c maybe
   parts = ap (λ (es : List Entry). owes ++ es) (history-append c b.sure maybe) ∙ sym (append_assoc owes (card_history c b.sure) (card_history c maybe))
 
+  -- what it is to have beside the entries at the start
+  further : owes ++ card_history c (history_of r) ≡ lies ++ card_history c rest
+  further = ap (λ (is : List HistoryMinute). owes ++ card_history c is) whole ∙ ap (λ (es : List Entry). owes ++ es) (history-append c (all b) rest) ∙ sym (append_assoc owes (card_history c (all b)) (card_history c rest))
+
   expected : expected_of r c ≡ entries ++ (lies ++ card_history c rest)
-  expected =
-      ap (λ (start : CardStart). start.entries ++ (start.owed ++ card_history c (history_of r))) (started r c)
-      ∙ ap (λ (es : List Entry). entries ++ es) (ap (λ (is : List HistoryMinute). owes ++ card_history c is) whole ∙ ap (λ (es : List Entry). owes ++ es) (history-append c (all b) rest)
-      ∙ sym (append_assoc owes (card_history c (all b)) (card_history c rest)))
+  expected = ap (λ (start : CardStart). start.entries ++ (start.owed ++ card_history c (history_of r))) (started r c) ∙ ap (λ (es : List Entry). entries ++ es) further
 
   sure-lies : (e : Entry) → Contains (owes ++ card_history c b.sure) e → Contains lies e
   sure-lies e at = subst (λ (zs : List Entry). Contains zs e) (sym parts) (Contains-append_left (owes ++ card_history c b.sure) (card_history c maybe) e at)
@@ -94,7 +95,7 @@ module _ (r : Recording) (c : Card) (clock : ℕ) (b : Book) (card : State) (res
   marked coherent m held = record {
     e = held.sure.0;
     minute = held.sure.2;
-    stands = subst (λ (zs : List Entry). Contains zs held.sure.0) (sym expected) (Contains-append_right entries (lies ++ card_history c rest) held.sure.0 (Contains-append_left lies (card_history c rest) held.sure.0 (sure-lies held.sure.0 held.sure.1)));
+    stands = subst (λ (zs : List Entry). Contains zs held.sure.0) (sym further) (Contains-append_left lies (card_history c rest) held.sure.0 (sure-lies held.sure.0 held.sure.1));
     clock = held.holds.0;
     shown = λ x left.
         let s = shows x (coherent.earlier clock m.clock x held.began held.holds.0 left) in

@@ -2,7 +2,8 @@
 use Rattle.std.specs.Prelude.{◌≡◌, ℕ, ◌<◌, ◌≤◌, Option, List, [], ◌∷◌, Contains, filter, Bool, true, false}
 use Rattle.run_model.specs.declared.Device.{Device}
 use Rattle.run_model.specs.declared.Device.TheVariants.{Unit as Recorder, CardA, CardB}
-use Rattle.tach_media.specs.Medium.{State}
+use Rattle.tach_media.specs.Medium.{State, bytes_at}
+use Rattle.unit_model.specs.declared.layout.TheConstants.{LAST_KEPT}
 use Rattle.unit_model.specs.Days.{ShownDay}
 use Rattle.unit_model.specs.Image.{recorded}
 use Rattle.unit_model.specs.Decoding.{Decodes}
@@ -10,6 +11,11 @@ use Rattle.log_model.specs.declared.lines.Mark.{Mark}
 use Rattle.history_model.specs.Minutes.{HistoryMinute}
 use Rattle.joint_rule.specs.Filling.{FillsDays}
 use Rattle.safety_model.specs.Recording.{IsPassed, MayCome}
+
+-- What a unit was issued with, in the bytes before the last-kept minute: version, vehicle, speed limit, identification, sensor and
+-- certificates.
+abbrev pub issued_bytes : List ℕ → List ℕ
+issued_bytes x = bytes_at x 0 LAST_KEPT.place
 
 -- An image shows the start's days filled with these minutes, of which only the oldest days may be gone: the newest 366 are
 -- there, or one fewer where the minute that may come next begins a further day.

@@ -195,10 +195,10 @@ returns-in-B-clause-recorded g c =
     (is_err c.note_on-in-B.result) e.cause c.note_on-in-B.new.run c.note_on-in-B.new.breaks n.0 n.1 n.2 n.3
 
 pub returns-in_default-clause-recorded : goal.returns-in_default-clause-recorded
-returns-in_default-clause-recorded g c = λ o done s out w. record { goes = w; began = refl }
+returns-in_default-clause-recorded g c = λ o done s out w power. record { goes = w; began = refl }
 
 pub returns-in_default-number_in-clause-recorded : goal.returns-in_default-number_in-clause-recorded
-returns-in_default-number_in-clause-recorded g c = λ o done s out w. record { goes = w; began = refl }
+returns-in_default-number_in-clause-recorded g c = λ o done s out w power. record { goes = w; began = refl }
 
 -- ---- what is noted on the unit
 

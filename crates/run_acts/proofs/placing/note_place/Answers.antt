@@ -252,7 +252,7 @@ returns-in-A-clause-recorded g c = λ late ending country region speed before is
     subst (λ (b : Beginning). GoesOnOrFails (is_err c.note_place_in.result) o done s (In c.args.at.begun) [] c.note_place_in.new.run (record before { breaks = c.note_place_in.new.breaks }) (devices (g.M.Medium.state c.note_place_in.new.unit) (g.C.Chip.state c.note_place_in.new.card) B0) b) (w2.began ∙ w1.began)
     (noted-some A c.args.slot c.args.at run c.args.breaks.now V (g.M.Medium.state c.note_place_in.new.unit) (g.C.Chip.state c.args.card_a.now) (g.C.Chip.state c.note_place_in.new.card) (g.D.Chip.state c.args.card_b.now)
     (g.met.M.Medium.coherent c.note_place.new.unit) (g.met.C.Chip.coherent c.args.card_a.now) (g.met.C.Chip.coherent c.note_place_in.new.card) c.requires.held.card_a.size some e.value there c.requires.at late lit.span lit.stands lit.next lit.cabin e.moments e.journal
-    (is_err c.note_place_in.result) e.cause c.note_place_in.new.run c.note_place_in.new.breaks k.0 k.1 k.2 k.3 o done s before w2.goes)
+    (is_err c.note_place_in.result) e.cause c.note_place_in.new.run c.note_place_in.new.breaks k.0 k.1 k.2 k.3 o done s before w2.goes (λ first. absurd (let none : c.args.at.begun ≡ 0 = cc in omega (arith, none, n))))
 
 pub returns-in-B-clause-recorded : goal.returns-in-B-clause-recorded
 returns-in-B-clause-recorded g c = λ late ending country region speed before is o done s now front rest are n allowed w time.
@@ -272,7 +272,7 @@ returns-in-B-clause-recorded g c = λ late ending country region speed before is
     subst (λ (b : Beginning). GoesOnOrFails (is_err c.note_place_in-in-B.result) o done s (In c.args.at.begun) [] c.note_place_in-in-B.new.run (record before { breaks = c.note_place_in-in-B.new.breaks }) (devices (g.M.Medium.state c.note_place_in-in-B.new.unit) A0 (g.D.Chip.state c.note_place_in-in-B.new.card)) b) (w2.began ∙ w1.began)
     (noted-some B c.args.slot c.args.at run c.args.breaks.now V (g.M.Medium.state c.note_place_in-in-B.new.unit) (g.D.Chip.state c.args.card_b.now) (g.D.Chip.state c.note_place_in-in-B.new.card) (g.C.Chip.state c.args.card_a.now)
     (g.met.M.Medium.coherent c.note_place.new.unit) (g.met.D.Chip.coherent c.args.card_b.now) (g.met.D.Chip.coherent c.note_place_in-in-B.new.card) c.requires.held.card_b.size some e.value there c.requires.at late lit.span lit.stands lit.next lit.cabin e.moments e.journal
-    (is_err c.note_place_in-in-B.result) e.cause c.note_place_in-in-B.new.run c.note_place_in-in-B.new.breaks k.0 k.1 k.2 k.3 o done s before w2.goes)
+    (is_err c.note_place_in-in-B.result) e.cause c.note_place_in-in-B.new.run c.note_place_in-in-B.new.breaks k.0 k.1 k.2 k.3 o done s before w2.goes (λ first. absurd (let none : c.args.at.begun ≡ 0 = cc in omega (arith, none, n))))
 
 pub returns-in-A-clause-clock_a : goal.returns-in-A-clause-clock_a
 returns-in-A-clause-clock_a g c = c.note_place_in.ensures.clock_card
@@ -417,7 +417,7 @@ returns-in-A-clause-evented g c = λ late ending country region speed before is 
     subst (λ (b : Beginning). EventsGoOn failed o done s b.run (In begun) Acting (log_of (record before { breaks = c.note_place_in.new.breaks })) (devices W Y B0)) (w2.began ∙ w1.began)
     (some-evented A c.args.slot c.args.at run c.args.breaks.now V W A0 Y B0
     (g.met.M.Medium.coherent c.note_place.new.unit) (g.met.C.Chip.coherent c.args.card_a.now) (g.met.C.Chip.coherent c.note_place_in.new.card) c.requires.held.card_a.size some e.value there c.requires.at late lit.span lit.stands lit.next lit.cabin e.moments e.journal
-    failed e.cause o done s before w2.goes small yet follows rest left k.0 c.note_place_in.new.run c.note_place_in.new.breaks k.1 k.2 k.3 notes second)
+    failed e.cause o done s before w2.goes (λ first. absurd (let zero_ : begun ≡ 0 = cc in omega (arith, zero_, n))) small yet follows rest left k.0 c.note_place_in.new.run c.note_place_in.new.breaks k.1 k.2 k.3 notes second)
 
 pub returns-in-B-clause-evented : goal.returns-in-B-clause-evented
 returns-in-B-clause-evented g c = λ late ending country region speed before is o done s now front rest are n allowed w events time.
@@ -457,4 +457,4 @@ returns-in-B-clause-evented g c = λ late ending country region speed before is 
     subst (λ (b : Beginning). EventsGoOn failed o done s b.run (In begun) Acting (log_of (record before { breaks = c.note_place_in-in-B.new.breaks })) (devices W A0 Y)) (w2.began ∙ w1.began)
     (some-evented B c.args.slot c.args.at run c.args.breaks.now V W B0 Y A0
     (g.met.M.Medium.coherent c.note_place.new.unit) (g.met.D.Chip.coherent c.args.card_b.now) (g.met.D.Chip.coherent c.note_place_in-in-B.new.card) c.requires.held.card_b.size some e.value there c.requires.at late lit.span lit.stands lit.next lit.cabin e.moments e.journal
-    failed e.cause o done s before w2.goes small yet follows rest left k.0 c.note_place_in-in-B.new.run c.note_place_in-in-B.new.breaks k.1 k.2 k.3 notes second)
+    failed e.cause o done s before w2.goes (λ first. absurd (let zero_ : begun ≡ 0 = cc in omega (arith, zero_, n))) small yet follows rest left k.0 c.note_place_in-in-B.new.run c.note_place_in-in-B.new.breaks k.1 k.2 k.3 notes second)
