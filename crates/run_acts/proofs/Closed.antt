@@ -66,6 +66,7 @@ use Rattle.run_notes.specs.Entries.{entry_of}
 use Rattle.run_course.specs.Moments.{and_break}
 use Rattle.run_moments.specs.Telling.{IsLeft, BrokeDown}
 use Rattle.run_moments.proofs.Telling.{card-torn}
+use Rattle.run_moments.proofs.Reached.{leaves-first}
 use Rattle.run_evented.specs.Noting.{Acting}
 use Rattle.run_evented.specs.Bringing.{NotFound}
 use Rattle.run_evented.specs.SoFar.{EventedNow, MayFollow}
