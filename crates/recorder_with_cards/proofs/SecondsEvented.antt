@@ -1,5 +1,6 @@
 -- What seconds of a run leave of its events: without power, and of an `off` line.
-use Rattle.std.proofs.Common.{◌≡◌, ◌∙◌, ℕ, zero, suc, ◌+◌, ◌-◌, ◌%◌, ◌<◌, ◌≤◌, Bool, true, false, List, [], ◌∷◌, ◌++◌, refl, ap, sym, subst, arith}
+use Rattle.std.proofs.Common.{◌≡◌, ◌∙◌, ℕ, zero, suc, ◌+◌, ◌-◌, ◌%◌, ◌<◌, ◌≤◌, Bool, true, false, List, [], ◌∷◌, ◌++◌, refl, ap, sym, subst, arith, append_assoc}
+use Rattle.std.proofs.lemmas.List.{append-nil}
 use Rattle.trace_model.specs.declared.Action.{Action}
 use Rattle.trace_model.specs.Trace.{TraceSecond, driven, dark}
 use Rattle.log_model.specs.declared.lines.Break.{Break}
@@ -25,7 +26,7 @@ use Rattle.run_acts.specs.declared.run.Power.{Power}
 use Rattle.run_acts.specs.declared.run.Power.TheVariants.{Lit, Due, Lost}
 use Rattle.run_acts.specs.Power.{is_lit, has_power, darkened, off_run, off_cut, passed}
 use Rattle.run_acts.specs.Recording.{log_of, values_of, Supplies, RunRecorded}
-use Rattle.run_acts.specs.Evented.{RunEvented}
+use Rattle.run_acts.specs.Evented.{RunEvented, LastAt}
 use Rattle.run_keeping.proofs.Fates.{no-lines}
 use Rattle.recorder_with_cards.proofs.SecondsRecorded.{refused_dark, lost-away, lost-supply, dark-run, off-seconds}
 
@@ -114,3 +115,12 @@ module _ (o : Origin) (done : List TraceSecond) (old : Run) (before : Outcome) (
       by q is_ s at powers =
           subst (λ (x : Power). Evented o (done ++ dark (suc n) old.next) (log_of (record before { breaks = with_lines (off_cut (is_lit x) (old.next - 1) old.begun) before.breaks })) old.unfound (old.next + suc n) IsDue d) (sym is_)
           (so q s at (subst (λ (x : Power). Supplies x s) is_ powers))
+
+-- ---- more seconds at one speed
+
+-- the last of them has it
+pub last-more : (n number speed : ℕ) (done : List TraceSecond) → LastAt done speed → LastAt (done ++ driven n number speed []) speed
+last-more zero number speed done last = subst (λ (ss : List TraceSecond). LastAt ss speed) (sym (append-nil done)) last
+last-more (suc n) number speed done last =
+    let s : TraceSecond = record { number = number; has_power = true; speed = speed; actions = [] } in
+    subst (λ (ss : List TraceSecond). LastAt ss speed) (append_assoc done (s ∷ []) (driven n (number + 1) speed [])) (last-more n (number + 1) speed (done ++ s ∷ []) (done, s, refl, refl))
