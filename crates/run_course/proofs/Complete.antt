@@ -1,5 +1,5 @@
 -- What is acknowledged, over the steps of a run with cards.
-use Rattle.std.proofs.Common.{◌≡◌, ◌⊎◌, inl, inr, ⊎_elim, ℕ, zero, suc, ◌+◌, ◌-◌, ◌*◌, ◌/◌, ◌<◌, ◌≤◌, Bool, true, false, cond, ◌&&◌, nat_le, Option, Some, None, List, [], ◌∷◌, ◌++◌, Contains, length, map, filter, refl, ap, sym, subst, ◌∙◌, arith, append-nil}
+use Rattle.std.proofs.Common.{◌≡◌, ◌⊎◌, inl, inr, ⊎_elim, ℕ, zero, suc, ◌+◌, ◌-◌, ◌*◌, ◌/◌, ◌<◌, ◌≤◌, Bool, true, false, cond, ◌&&◌, List, [], ◌∷◌, ◌++◌, Contains, length, map, filter, refl, ap, sym, subst, ◌∙◌, arith, append-nil}
 use Rattle.std.specs.List.{AllByRecursion}
 use Rattle.std.proofs.lemmas.List.{map-append}
 use Rattle.std.proofs.lemmas.List.Elements.{filter-append, Contains-append_left, Contains-append_right, Contains-append_cases, Contains-push, Contains-push_cases}
@@ -21,11 +21,12 @@ use Rattle.log_model.specs.Spans.{spans_of, seconds_in, first_in, end_in, AreApa
 use Rattle.log_model.proofs.Spanning.{spanned, spans-more, spans-new, spans-dark, end-on}
 use Rattle.history_model.specs.Minutes.{HistoryMinute, on_card}
 use Rattle.history_model.specs.Presence.{Start}
-use Rattle.history_model.specs.History.{seated, minutes_after, settlings_of, decided_of, span_minutes, limited_to, limit_of, history_by, unit_history}
+use Rattle.history_model.specs.History.{settlings_of, decided_of, unit_history}
 use Rattle.history_model.specs.Growth.{as_span}
 use Rattle.history_model.specs.Book.{all}
 use Rattle.history_model.specs.Completeness.{deciding_of, IsMarked, FailedCutIn, TornBetween, BrokenIn, IsComplete}
 use Rattle.history_model.proofs.Deciding.{counted, span-settled, short-none, apart-ended}
+use Rattle.history_model.proofs.Decided.{after-decided, unit-decided}
 use Rattle.history_model.proofs.Growing.{apart-last, dark-history, begun-history}
 use Rattle.history_model.proofs.Told.{more-told, spanned-so_far, told-next}
 use Rattle.unit_course.specs.Followed.{Lit, as_spans}
@@ -56,68 +57,6 @@ torn-stays told more card from to b = (b.0, Contains-append_left told more b.0 b
 
 pub broken-stays : (log later : RunLog) (told more : List Told) (card : Card) (from to : ℕ) → ((u : ℕ) → FailedCutIn log u → FailedCutIn later u) → BrokenIn log told card from to → BrokenIn later (told ++ more) card from to
 broken-stays log later told more card from to still b = ⊎_elim (λ failed. inl (still to failed)) (λ torn. inr (torn-stays told more card from to torn)) b
-
--- WHERE A MINUTE OF THE HISTORY COMES FROM: it is decided in one of the spans
-pub record IsDecidedIn (rule : Rule) (spans : List (List Told)) (m : ℕ) : Type 0 where
-  pub span : List Told
-  pub decided : Minute
-  pub among : Contains spans span
-  pub within : Contains (decided_of rule span) decided
-  pub same : decided.minute ≡ m
-
-pub after-decided : (start : Start) (told : List Told) (past : List HistoryMinute) (ds : List Minute) (i : HistoryMinute) → Contains (minutes_after start told past ds) i → (d : Minute) × Contains ds d × (d.minute ≡ i.minute)
-after-decided start told past [] i at = absurd (omega (arith, at.1))
-after-decided start told past (d ∷ ds) i at =
-    ⊎_elim
-    (λ here. ⊎_elim (λ none. absurd (omega (arith, none.1))) (λ is. (d, Contains-append_left (d ∷ []) ds d (Contains-push [] d), ap (λ (j : HistoryMinute). j.minute) is)) (Contains-push_cases [] (seated start told past d) i here))
-    (λ there. let rest = after-decided start told (past ++ seated start told past d ∷ []) ds i there in (rest.0, Contains-append_right (d ∷ []) ds rest.0 rest.1, rest.2))
-    (Contains-append_cases (seated start told past d ∷ []) (minutes_after start told (past ++ seated start told past d ∷ []) ds) i at)
-
--- and each decided one is among them
-pub decided-after : (start : Start) (told : List Told) (past : List HistoryMinute) (ds : List Minute) (d : Minute) → Contains ds d → (i : HistoryMinute) × Contains (minutes_after start told past ds) i × (i.minute ≡ d.minute)
-decided-after start told past [] d at = absurd (omega (arith, at.1))
-decided-after start told past (x ∷ ds) d at =
-    ⊎_elim
-    (λ here. ⊎_elim
-    (λ none. absurd (omega (arith, none.1)))
-    (λ is. (seated start told past x, Contains-append_left (seated start told past x ∷ []) (minutes_after start told (past ++ seated start told past x ∷ []) ds) (seated start told past x) (Contains-push [] (seated start told past x)), ap (λ (y : Minute). y.minute) is))
-    (Contains-push_cases [] x d here))
-    (λ there. let rest = decided-after start told (past ++ seated start told past x ∷ []) ds d there in
-    (rest.0, Contains-append_right (seated start told past x ∷ []) (minutes_after start told (past ++ seated start told past x ∷ []) ds) rest.0 rest.1, rest.2))
-    (Contains-append_cases (x ∷ []) ds d at)
-
-filter-among : (p : HistoryMinute → Bool) (xs : List HistoryMinute) (x : HistoryMinute) → Contains (filter p xs) x → Contains xs x
-filter-among p [] x at = at
-filter-among p (y ∷ xs) x at = go (p y) (λ rest. filter-among p xs x rest) at
-  where
-    go : (b : Bool) → (Contains (filter p xs) x → Contains xs x) → Contains (cond b (y ∷ filter p xs) (filter p xs)) x → Contains (y ∷ xs) x
-    go false on at = Contains-append_right (y ∷ []) xs x (on at)
-    go true on at = ⊎_elim
-        (λ here. Contains-append_left (y ∷ []) xs x here)
-        (λ there. Contains-append_right (y ∷ []) xs x (on there))
-        (Contains-append_cases (y ∷ []) (filter p xs) x at)
-
-pub limited-among : (o : Option ℕ) (xs : List HistoryMinute) (x : HistoryMinute) → Contains (limited_to o xs) x → Contains xs x
-limited-among None xs x at = at
-limited-among (Some k) xs x at = filter-among (λ i. nat_le i.minute k) xs x at
-
-history-decided : (rule : Rule) (start : Start) (told : List Told) (limit : List Told → List (List Told) → Option ℕ) (past : List HistoryMinute) (spans : List (List Told)) (i : HistoryMinute) →
-    Contains (history_by rule start limit told past spans) i → IsDecidedIn rule spans i.minute
-history-decided rule start told limit past [] i at = absurd (omega (arith, at.1))
-history-decided rule start told limit past (span ∷ later) i at =
-    let more : List HistoryMinute = limited_to (limit span later) (span_minutes rule start told past span) in
-    ⊎_elim
-    (λ here.
-    let d = after-decided start told past (decided_of rule span) i (limited-among (limit span later) (span_minutes rule start told past span) i here) in
-    record { span = span; decided = d.0; among = Contains-append_left (span ∷ []) later span (Contains-push [] span); within = d.1; same = d.2 })
-    (λ there.
-    let rest = history-decided rule start told limit (past ++ more) later i there in
-    record { span = rest.span; decided = rest.decided; among = Contains-append_right (span ∷ []) later rest.span rest.among; within = rest.within; same = rest.same })
-    (Contains-append_cases more (history_by rule start limit told (past ++ more) later) i at)
-
-pub unit-decided : (rule : Rule) (start : Start) (log : RunLog) (told : List Told) (i : HistoryMinute) → Contains (unit_history rule start log told) i → IsDecidedIn rule (spans_of told) i.minute
-unfolding unit_history
-unit-decided rule start log told i at = history-decided rule start told (limit_of log) [] (spans_of told) i at
 
 -- MORE MARKS
 pub more-marks : MoreMarksStay

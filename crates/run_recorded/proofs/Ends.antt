@@ -39,6 +39,7 @@ use Rattle.run_brought.proofs.Accounts.{last-of}
 use Rattle.run_brought.proofs.Ends.{ends-follow, ends-brought}
 use Rattle.run_moments.proofs.Telling.{each-of}
 use Rattle.run_recorded.specs.Origin.{Origin, rule_of, start_at, first_of, HasRecorded}
+use Rattle.run_recorded.proofs.Whole.{is-whole}
 use Rattle.run_recorded.proofs.Beside.{found-or}
 use Rattle.run_recorded.specs.Ends.{recording_by, AreVerdicts, MayBeWritten, AreSpared, IsBeside, EndsRun}
 
@@ -118,13 +119,16 @@ module _ (o : Origin) (done : List TraceSecond) (p : Progress) (g : Travel) (mar
         odometer-safe (rule_of o) p.log (went p.log done).told (odometer_at o.recording.unit) p.book g now.unit beside.travels
         (λ y left shown. legs-shown (rule_of o) (start_at o) o.from (first_of o) done p h.followed h.waiting g h.legs (last_kept y) shown.leg (may-show y left shown)) x on
 
+    unit-later : began.unit.clock ≤ now.unit.clock
+    unit-later = subst (λ (n : ℕ). n ≤ now.unit.clock) unit-began (carried.unit.unit_holds [] []).later
+
     pub ends-run : IsCoherent now.unit → ((c : Card) → IsCoherent (card_of now c)) → Decodes o.recording.unit → o.breakdowns ≡ breakdowns_of began → EndsRun r marks began now
-    ends-run unit_whole card_whole decodes same = record {
-      safe = subst (λ (ms : List Mark). IsSafe r ms began now) told (safe unit_whole card_whole decodes);
-      caused = record {
-        causes = causes same;
-        kept = kept;
-        complete = h.complete;
-      };
-      odometer = odometer;
-    }
+    ends-run unit_whole card_whole decodes same =
+        let all_safe : IsSafe r marks began now = subst (λ (ms : List Mark). IsSafe r ms began now) told (safe unit_whole card_whole decodes) in
+        let all_caused : IsCaused r marks began now = record { causes = causes same; kept = kept; complete = h.complete } in
+        record {
+          safe = all_safe;
+          caused = all_caused;
+          odometer = odometer;
+          whole = λ nothing. is-whole r marks began now o.from h.followed.order nothing all_safe all_caused unit_whole unit-later;
+        }

@@ -20,6 +20,7 @@ use Rattle.run_rule.specs.Between.{Carried, IsCarried}
 use Rattle.run_course.specs.Followed.{Progress}
 use Rattle.run_brought.specs.Accounts.{so_far}
 use Rattle.run_recorded.specs.Origin.{Origin, HasRecorded}
+use Rattle.run_recorded.specs.Whole.{NothingFailed, IsWhole}
 
 -- the recording of a run so far
 abbrev pub recording_by : Origin → List TraceSecond → RunLog → Recording
@@ -57,9 +58,12 @@ pub record EndsRun (r : Recording) (marks : List Mark) (began now : Devices) : T
   -- The crash-safety theorem: every image that a stop may leave of unit or card shows what it held at the start followed by a part of the
   -- run's history from its front, with every acknowledged minute; and what a card lacks is owed to it.
   pub safe : IsSafe r marks began now
-  -- Each line of the log has its cause, and what happened has its line; each decided minute is acknowledged, and each entry of a card, but
-  -- where a break came in between.
+  -- Each line of the log has its cause, and what happened has its line; each decided minute is acknowledged but where a call failed in the
+  -- second that decided it, and each entry of a card but there or where it was torn out or pulled out.
   pub caused : IsCaused r marks began now
   -- The odometer of each image that a stop may leave is the start's and the whole kilometres of each span, up to its last-kept minute or one
   -- of which the keeping was broken off.
   pub odometer : (x : List ℕ) → now.unit.may_leave x → OdometerSafe r.rule r.log (told_of r) (odometer_at r.unit) x
+  -- Where no call failed every minute is there: each decided one stands in the history, the unit has all of it, and a card that was accepted all
+  -- of its entries.
+  pub whole : NothingFailed r.log → IsWhole r now

@@ -117,10 +117,6 @@ module _ (r : Recording) (f : Found) (w : Carried) (began now : Devices) (found 
     held : All (IsCardHeld (at_start r c clock) c w.book card) (marks_of (device_of c) w.marks)
     held = subst (λ (g : CardFound). All (IsCardHeld g c w.book card) (marks_of (device_of c) w.marks)) same (carried.marks c).held
 
-    pub card-repaired : AreBrought r c w.book (w.brought c) → (x : List ℕ) → card.may_leave x → IsRepaired r c x
-    card-repaired each x there =
-        repaired r c clock w.book card rest whole string (w.standing c) (w.brought c) (unit_seen f now.unit) rests waits.brought (view some-unit.0) (some-unit.0, some-unit.1, refl) (unit-shows some-unit.0 some-unit.1).sure each x there (card_whole c)
-
     same-owed : (u : List ℕ) (y : CardView) → owed c (view u) y ≡ owed c (seen_in r u) y
     same-owed u y = go c (found.number c valid)
       where
@@ -196,6 +192,14 @@ module _ (r : Recording) (f : Found) (w : Carried) (began now : Devices) (found 
 
       pub card-agrees : Decodes r.unit → Agree r c u x
       card-agrees decodes = record { behind = behind-part decodes; rest = rest-part }
+
+    pub card-repaired : AreBrought r c w.book (w.brought c) → (x : List ℕ) → card.may_leave x → IsRepaired r c w.marks x
+    card-repaired each x there =
+        repaired r c clock w.book card rest whole string (w.standing c) (w.brought c) (unit_seen f now.unit) rests waits.brought (view some-unit.0) (some-unit.0, some-unit.1, refl) (unit-shows some-unit.0 some-unit.1).sure each x there
+        w.marks held (history-above some-unit.0 x some-unit.1 there) owed-low (first-low some-unit.0 x some-unit.1 there) (rest-later some-unit.0 x some-unit.1 there) (card_whole c)
+      where
+        owed-low : All (λ e. e.minute ≤ last_kept r.unit) (brought r c).owed
+        owed-low = subst (λ (k : ℕ). All (λ (e : Entry). e.minute ≤ k) (brought r c).owed) (last-of (own_number r.card_a) (own_number r.card_b) r.unit) (owed-until c (seen_in r r.unit) (own_view (card_image r c)))
 
   -- each card
   none-in : (m : Mark) (marks : List Mark) → marks ≡ [] → Contains marks m → ⊥

@@ -1,5 +1,5 @@
 -- What a run promises of its cards, and of a unit and a card together (profile).
-use Rattle.std.specs.Prelude.{◌≡◌, ◌⊎◌, ℕ, ◌/◌, ◌≤◌, Bool, true, false, ◌&&◌, List, [], ◌++◌, All, Contains, length, filter, map, flat_map, nat_lt, nat_le, not}
+use Rattle.std.specs.Prelude.{◌≡◌, ◌⊎◌, ℕ, ◌/◌, ◌<◌, ◌≤◌, Bool, true, false, ◌&&◌, List, [], ◌++◌, All, Contains, length, filter, map, flat_map, nat_lt, nat_le, not}
 use Rattle.std.specs.List.{list_any}
 use Rattle.activity_codec.specs.declared.entries.Entry.{Entry}
 use Rattle.activity_codec.specs.declared.values.Slot.{Slot}
@@ -74,10 +74,12 @@ module _ (r : Recording) (c : Card) where
   was_kept u minute = nat_lt minute (u / 60) && not (list_any (shows_lost u minute) r.log.breaks)
 
   -- after each acceptance every image at the end shows the expected entries up to the minute that the unit had kept last at
-  -- that time
-  pub record IsRepaired (x : List ℕ) : Type 0 where
+  -- that time, and all that was owed at the start; with them it shows all that was acknowledged
+  pub record IsRepaired (marks : List Mark) (x : List ℕ) : Type 0 where
     pub shows : CardShows x
     pub brought : (u : ℕ) → Contains acceptances u → All (λ e. was_kept u e.minute ≡ false) shows.rest
+    pub owes_none : (u : ℕ) → Contains acceptances u → All (λ e. last_kept r.unit < e.minute) shows.rest
+    pub acknowledged : (m : Mark) → Contains (marks_of (device_of c) marks) m → All (λ e. m.minute < e.minute) shows.rest
 
   -- A CARD: what every image that a stop might have left since a clock shows, where it was valid: it is valid, and has its number
   -- still; one that may not be written is as it was; the acknowledged minutes increase, and hold, and one that was not valid has
@@ -90,7 +92,7 @@ module _ (r : Recording) (c : Card) where
     pub in_order : Increase (marks_of (device_of c) marks)
     pub marked : (m : Mark) → Contains (marks_of (device_of c) marks) m → CardMarkHolds card m
     pub unmarked : (IsOwnValid (card_image r c) → ⊥) → marks_of (device_of c) marks ≡ []
-    pub repaired : IsOwnValid (card_image r c) → (x : List ℕ) → card.may_leave x → IsRepaired x
+    pub repaired : IsOwnValid (card_image r c) → (x : List ℕ) → card.may_leave x → IsRepaired marks x
 
   -- a slot in a minute of the unit
   abbrev pub slot_state : Slot → UnitMinute → SlotState

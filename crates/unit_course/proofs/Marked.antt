@@ -30,7 +30,7 @@ use Rattle.unit_course.specs.Caused.{cuts_by}
 use Rattle.unit_course.specs.Complete.{OfDecided, AreMarked}
 use Rattle.unit_course.proofs.Alike.{decided-empty}
 use Rattle.unit_course.proofs.Spans.{spans-parts, spans-dark, decided-cut, settlings-cut}
-use Rattle.unit_course.proofs.Lighted.{span-end, seen, decided-on, told-now, spans-now}
+use Rattle.unit_course.proofs.Lighted.{span-end, seen, decided-on, spans-now}
 use Rattle.unit_course.proofs.Cutting.{spans-cut}
 use Rattle.unit_course.proofs.Seconds.{by-supply, powered_seconds, failed_seconds, dark_minute, off_seconds}
 use Rattle.unit_course.proofs.Steps.{feeds-by, cut_now}
