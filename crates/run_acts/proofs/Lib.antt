@@ -48,4 +48,5 @@ pub mod Closed
 pub mod WithdrawnRecorded
 pub mod GoesOn
 pub mod SettledRecorded
+pub mod SettledEvented
 pub mod TurnRecorded
