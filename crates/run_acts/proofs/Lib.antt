@@ -49,4 +49,6 @@ pub mod WithdrawnRecorded
 pub mod GoesOn
 pub mod SettledRecorded
 pub mod SettledEvented
+pub mod SeenSpan
+pub mod TurnEvented
 pub mod TurnRecorded
