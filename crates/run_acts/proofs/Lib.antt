@@ -51,4 +51,7 @@ pub mod Closed
 pub mod WithdrawnRecorded
 pub mod GoesOn
 pub mod SettledRecorded
+pub mod SettledEvented
+pub mod SeenSpan
+pub mod TurnEvented
 pub mod TurnRecorded

@@ -67,6 +67,25 @@ use Rattle.run_keeping.specs.declared.keeper.Moment.{Moment as KeepingAt}
 use Rattle.run_keeping.specs.Books.{carried_after}
 use Rattle.run_keeping.specs.Decided.{decided_minute, carried_by}
 use Rattle.run_acts.specs.Rounds.{standing_card}
+use Rattle.std.specs.Prelude.{take, drop}
+use Rattle.std.proofs.lemmas.List.{take-append-drop, length-take-le}
+use Rattle.run_model.specs.declared.Device.TheVariants.{Unit as Recorder}
+use Rattle.tach_media.specs.Medium.{IsCoherent}
+use Rattle.unit_model.specs.Image.{IsUnit}
+use Rattle.unit_course.specs.Lines.{cut_at}
+use Rattle.unit_course.specs.Followed.{Lost as IsLost}
+use Rattle.run_moments.specs.Moment.{Moment}
+use Rattle.run_moments.specs.Reached.{IsMoment}
+use Rattle.run_moments.specs.Telling.{IsMore, begun_by, IsLeft}
+use Rattle.run_evented.specs.Evented.{Evented}
+use Rattle.run_evented.specs.Noting.{Stage, Ended}
+use Rattle.run_evented.specs.SoFar.{EventedNow}
+use Rattle.run_evented.proofs.Cutting.{failure-cuts}
+use Rattle.run_keeping.specs.Faults.{NotesFaults}
+use Rattle.run_acts.specs.NotedEvents.{NotesSo}
+use Rattle.run_acts.specs.KeptEvents.{AreFaults}
+use Rattle.run_acts.proofs.KeptEvents.{faults-noted}
+use Rattle.run_acts.proofs.Numbers.{notes-at}
 use Rattle.run_acts.specs.Acting.{IsBareIn}
 use Rattle.run_acts.specs.NotedEvents.{AreTold}
 use Rattle.run_acts.specs.EventCrews.{AreKnownBy, fault_events}
@@ -542,3 +561,49 @@ module _ (d e : Devices) (o : Origin) (origin : IsOrigin o) (done : List TraceSe
       (both-added o done s at_now (told_values mid v).log (told_values end v).log (faults_of t.keeper (moment_of s q) xs t) (round_faults (present_at t.keeper.cabin m.minute) (moment_of s q) round mid.keeper.cabin) e a.faults
       (one-adds o done s q w.b os (breakdowns_of d) (breakdowns_of e) t.keeper w.sp v t.marks.items (course_in w.b done s q.at at_now) w.brought keeps.few keeps.two origin begins small e known m is.0.0 round true mid (carried_by t.keeper xs (carried_at o done s q all t v d w)) a.ds_now a.new_now a.from_now
       a.so is.2.0 both.1.0 both.1.1 a.known_ (once-first s q.at (told_values mid v).log (length is.0.0) a.once)))
+
+  -- THE MOMENT that it has reached by then
+  pub record MomentThen (y : Told) : Type 0 where
+    pub now : Device → ℕ
+    pub moment : Moment w.b.run (went w.b.run.log done).before s q.at (told_values y v).log q.waits w.b.broken now
+    pub rise : IsMore now (breakdowns_of e)
+
+  moment-at : (y : Told) → u ≡ y → MomentThen y → MomentThen u
+  moment-at y is = subst MomentThen (sym is)
+
+  pub keeping-moment : (reach : Reach) → HasCome all (moment_of s q) t u reach → MomentThen u
+  keeping-moment (Whole xs) is =
+      let a = (added xs [] (is.0 ∙ sym (append-nil (map (λ (x : Done). x.minute) xs))) is.1 (cards-broken t.keeper (moment_of s q) xs t (breakdowns_of d) (breakdowns_of e) is.1 (gone-to (told_by t.keeper (moment_of s q) xs t) is.2))).so.slate in
+      moment-at (told_by t.keeper (moment_of s q) xs t) is.2 (record { now = a.now; moment = a.moment; rise = a.rise })
+  keeping-moment (Short xs m None) is =
+      let a = (added xs (m ∷ is.0.0) is.0.1 is.1 (cards-broken t.keeper (moment_of s q) xs t (breakdowns_of d) (breakdowns_of e) is.1 (gone-to (told_by t.keeper (moment_of s q) xs t) is.2))).so.slate in
+      moment-at (told_by t.keeper (moment_of s q) xs t) is.2 (record { now = a.now; moment = a.moment; rise = a.rise })
+  keeping-moment (Short xs m (Some round)) is =
+      let mid : Told = told_by t.keeper (moment_of s q) xs t in
+      let end : Told = told_after (present_at t.keeper.cabin m.minute) m.minute (moment_of s q) round mid in
+      let both = cards-broken_last t.keeper (moment_of s q) xs m round t (breakdowns_of d) (breakdowns_of e) is.1 is.2.0 (gone-to end is.2.1) in
+      let a = added xs (m ∷ is.0.0) is.0.1 is.1 both.0 in
+      let one = (one-on o done s q w.b os (breakdowns_of d) (breakdowns_of e) t.keeper w.sp v t.marks.items (course_in w.b done s q.at at_now) w.brought keeps.few keeps.two m is.0.0 round true mid (carried_by t.keeper xs (carried_at o done s q all t v d w)) a.ds_now a.new_now a.from_now
+      a.so is.2.0 both.1.0 both.1.1).slate in
+      moment-at end is.2.1 (record { now = one.now; moment = one.moment; rise = one.rise })
+
+  -- which the unit failed to pass
+  rose-since : (before mid now : ℕ) → before ≤ mid → RoseBy 1 mid now → RoseBy 1 before now
+  rose-since before mid now le = ⊎_elim (λ more. inl (omega (arith, le, more))) (λ all_. inr all_)
+
+  left-at : (at : Phase) → IsMoment s at → (rest : List Action) × IsLeft s at rest
+  left-at (In n) is = (drop n s.actions, take n s.actions, sym (take-append-drop n s.actions), length-take-le n s.actions is)
+  left-at Keeping is = ([], refl)
+
+  -- THE CUT that is told next leaves the events so
+  pub keeping-cuts : (reach : Reach) → HasCome all (moment_of s q) t u reach → (next : Stage) (es : List Event) → Adds o done s Acting at_now next (told_values u v).log es e → NotesSo true o es d e → RoseBy 1 (breakdowns_of d Recorder) (breakdowns_of e Recorder) → (next ≡ Ended → q.at ≡ Keeping) →
+      EventedNow o done s w.b.run Acting at_now d → Evented o (done ++ s ∷ []) (and_break (told_values u v).log (cut_at s.number true (begun_by s q.at))) w.b.run.unfound (suc w.b.run.next) IsLost e
+  keeping-cuts reach is next es adds notes rose ends evented =
+      let m = keeping-moment reach is in
+      let here = left-at q.at m.moment.is in
+      failure-cuts d e o done w.b.run w.b.span s begins Acting next at_now (told_values u v).log es evented adds notes keeps.goes.left q.at q.waits w.b.broken m.now (breakdowns_of e) m.moment m.rise
+      (rose-since (w.b.broken Recorder) (breakdowns_of d Recorder) (breakdowns_of e Recorder) w.moment.unit rose) here.0 here.1 ends
+
+-- ---- what it notes
+pub keeping-notes : (vs : List UnitEvent) (failed : Bool) (d e : Devices) → IsCoherent d.unit → IsUnit d.unit → AreFaults vs → NotesFaults failed vs d.unit e.unit → (o : Origin) → IsOrigin o → (es : List Event) → AreTold (number_in o) vs es → NamesValid o es → NotesSo failed o es d e
+keeping-notes vs failed d e whole unit are faults o origin es told valid = notes-at vs failed d e (faults-noted vs failed d.unit e.unit d.card_a d.card_b e.card_a e.card_b whole unit are faults) o origin.numbers es told valid

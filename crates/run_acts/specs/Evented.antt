@@ -12,6 +12,7 @@ use Rattle.log_model.specs.Slots.{refusal}
 use Rattle.event_model.specs.Events.{Seen, seen_of, seen_spans, crew_of}
 use Rattle.slot_machine.specs.Calls.{logged}
 use Rattle.unit_course.specs.Lines.{cut_at}
+use Rattle.unit_course.specs.Followed.{Supply}
 use Rattle.unit_course.specs.Followed.{Lost as IsLost}
 use Rattle.safety_model.specs.Safe.{Devices}
 use Rattle.run_course.specs.Moments.{and_break}
@@ -32,8 +33,8 @@ use Rattle.run_keeping.specs.declared.keeper.Moment.{Moment}
 use Rattle.run_keeping.specs.Books.{HaveTime}
 use Rattle.run_acts.specs.declared.run.Run.{Run}
 use Rattle.run_acts.specs.declared.run.Power.TheVariants.{Lit}
-use Rattle.run_acts.specs.Power.{is_lit}
-use Rattle.run_acts.specs.Recording.{log_of, RunRecorded, RunWithin, RunCut, IsNow}
+use Rattle.run_acts.specs.Power.{is_lit, passed}
+use Rattle.run_acts.specs.Recording.{log_of, Supplies, RunRecorded, RunWithin, RunCut, IsNow}
 use Rattle.run_acts.specs.Named.{CrewValid, watched_as}
 use Rattle.run_acts.specs.Acting.{IsBareIn}
 use Rattle.run_acts.specs.Settling.{settled_run}
@@ -117,6 +118,19 @@ EventsSettling decided at failed old new before after d e = (o : Origin) (done :
 -- the last of these seconds had this speed
 abbrev pub LastAt : List TraceSecond → (speed : ℕ) → Type 0
 LastAt done speed = (front : List TraceSecond) × (y : TraceSecond) × (done ≡ front ++ y ∷ []) × (y.speed ≡ speed)
+
+-- BEHIND THESE SECONDS the events are noted, by the power of a run
+pub record TurnedEvents (o : Origin) (done : List TraceSecond) (run : Run) (out : Outcome) (d : Devices) : Type 0 where
+  pub supply : Supply
+  pub powers : Supplies run.power supply
+  pub evented : Evented o done (log_of out) run.unfound run.next supply d
+  pub limit : run.keeper.memory.limit ≡ limit_in o
+  pub watched : run.power ≡ Lit → IsWatching o (span_of (log_of out) done) run.watch
+
+-- n seconds with power
+abbrev pub EventsLitTurn : (n speed begun : ℕ) → (old new : Run) → (before after : Outcome) → (d e : Devices) → Type 0
+EventsLitTurn n speed begun old new before after d e = (o : Origin) (done : List TraceSecond) (s : TraceSecond) → IsNow s speed old → length s.actions ≡ begun → (1 < n → (s.actions ≡ []) × LastAt done speed) →
+    WithinEvented o done s (In begun) [] [] Acting old before d → HaveTime e → TurnedEvents o (done ++ s ∷ driven (n - 1) (s.number + 1) speed []) (passed n begun new) after e
 
 -- N SECONDS of one minute: more than one come behind one at their speed
 abbrev pub EventsTurn : (n speed begun : ℕ) → (old new : Run) → (before after : Outcome) → (d e : Devices) → Type 0

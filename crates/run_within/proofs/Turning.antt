@@ -1,5 +1,5 @@
 -- So many seconds of one minute are fed at once.
-use Rattle.std.proofs.Common.{◌≡◌, ℕ, zero, suc, ◌+◌, ◌-◌, ◌*◌, ◌/◌, ◌%◌, ◌<◌, ◌≤◌, max, true, Some, None, List, [], ◌∷◌, ◌++◌, length, map, refl, ap, sym, subst, ◌∙◌, arith, append_assoc, append-nil}
+use Rattle.std.proofs.Common.{◌≡◌, ℕ, zero, suc, ◌+◌, ◌-◌, ◌*◌, ◌/◌, ◌%◌, ◌<◌, ◌≤◌, max, true, false, Some, None, List, [], ◌∷◌, ◌++◌, length, map, refl, ap, sym, subst, ◌∙◌, arith, append_assoc, append-nil}
 use Rattle.std.proofs.lemmas.List.{append_cancel_left}
 use Rattle.trace_model.specs.Trace.{TraceSecond, driven}
 use Rattle.minute_model.specs.declared.Minute.{Minute}
@@ -22,7 +22,7 @@ use Rattle.run_course.specs.Seconds.{next_told}
 use Rattle.run_recorded.specs.Origin.{Origin, rule_of, start_at, first_of}
 use Rattle.run_within.specs.Recorded.{Values}
 use Rattle.run_within.specs.Within.{Beginning, Within, GoesOn, RecordedFrom, undecided_from, begun_behind, passed_values}
-use Rattle.run_within.specs.Turning.{last_of, before_last, turned_values, IsTurned, ATurnIsFed, TheTurnEnds}
+use Rattle.run_within.specs.Turning.{BehindFirst, last_of, before_last, turned_values, IsTurned, ATurnIsFed, TheTurnEnds}
 use Rattle.run_within.proofs.Beginning.{second-begins}
 use Rattle.run_within.proofs.Feeding.{second-is_fed}
 use Rattle.run_within.proofs.Ending.{second-over, from-is}
@@ -258,12 +258,13 @@ record IsTo (o : Origin) (done : List TraceSecond) (s : TraceSecond) (n : ℕ) (
   from : fed.from ≡ w.from
   first : n ≡ 0 → fed.b ≡ w.b
   goes_on : 0 < n → (fed.b.run.log ≡ v.log) × (begins_with fed.b.span ≡ false)
+  behind : 0 < n → BehindFirst o done s v d
 
 turned-to : (o : Origin) (done : List TraceSecond) (s : TraceSecond) (n : ℕ) (rest : List Minute) (minutes : Kept) (v : Values) (d : Devices) (w : Within o done s (In (length s.actions)) [] None [] v d) (next : ℕ) → next ≡ v.next + n → IsTo o done s n rest minutes v d w next →
     IsTurned o done s n rest minutes v d w
 turned-to o done s n rest minutes v d w next same to =
     let h = subst (λ (k : ℕ). IsTo o done s n rest minutes v d w k) same to in
-    record { begun = h.begun; fed = h.fed; travelled_before = h.travelled_before; from = h.from; first = h.first; goes_on = h.goes_on }
+    record { begun = h.begun; fed = h.fed; travelled_before = h.travelled_before; from = h.from; first = h.first; goes_on = h.goes_on; behind = h.behind }
 
 pub turn-is_fed : (d : Devices) → ATurnIsFed d
 turn-is_fed d o done s v w zero within minutes stands rest decides =
@@ -275,11 +276,13 @@ turn-is_fed d o done s v w zero within minutes stands rest decides =
       from = g.from;
       first = λ zero_. g.began;
       goes_on = λ some. absurd (omega (arith, some));
+      behind = λ some. absurd (omega (arith, some));
     })
 turn-is_fed d o done s v w (suc n) within minutes stands rest decides =
     let is = number o done s v d w in
     let most : v.next % 60 + suc (suc n) ≤ 60 = subst (λ (k : ℕ). k % 60 + suc (suc n) ≤ 60) is within in
     let a = at-each o done s v d w n (omega (arith, most)) in
+    let one = at-first o done s v d w (omega (arith, most)) in
     let g = next-fed o done s v d w n minutes rest most a (feeds-last o done s v d w (suc n) most minutes stands rest decides) in
     turned-to o done s (suc n) rest minutes v d w a.next a.next_is
     (record {
@@ -289,4 +292,13 @@ turn-is_fed d o done s v w (suc n) within minutes stands rest decides =
       from = g.from;
       first = λ none. absurd (omega (arith, none));
       goes_on = λ some. (ap (λ (b : Beginning). b.run.log) g.began, ap (λ (b : Beginning). begins_with b.span) g.began);
+      behind = λ some. record {
+        told = one.t;
+        span = one.span;
+        values = record v { minutes = often s.speed 1 v.minutes; next = one.next; begun = one.begun };
+        recorded = one.behind.recorded;
+        log = refl;
+        unfound = refl;
+        next = let next = one.next_is in omega (arith, next);
+      };
     })

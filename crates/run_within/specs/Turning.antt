@@ -5,10 +5,12 @@ use Rattle.minute_model.specs.declared.Minute.{Minute}
 use Rattle.minute_model.specs.Span.{Span, fed_many, decided_in}
 use Rattle.minute_rules.specs.Kept.{Kept, StandsFor}
 use Rattle.log_model.specs.Log.{In, Keeping}
+use Rattle.log_model.specs.Course.{Told}
+use Rattle.unit_course.specs.Followed.{Lit}
 use Rattle.unit_course.specs.Turn.{begins_with}
 use Rattle.safety_model.specs.Safe.{Devices}
 use Rattle.run_recorded.specs.Origin.{Origin}
-use Rattle.run_within.specs.Recorded.{Values}
+use Rattle.run_within.specs.Recorded.{Values, Recorded}
 use Rattle.run_within.specs.Within.{Within}
 
 -- the last of a second and n more behind it, and the seconds before that one
@@ -24,6 +26,16 @@ before_last (suc n) s done = done ++ s ∷ driven n (s.number + 1) s.speed []
 abbrev pub turned_values : (n begun : ℕ) → Kept → Values → Values
 turned_values n begun minutes v = record v { minutes = minutes; next = v.next + n; begun = begun }
 
+-- behind the first of several
+pub record BehindFirst (o : Origin) (done : List TraceSecond) (s : TraceSecond) (v : Values) (d : Devices) : Type 0 where
+  pub told : Told
+  pub span : List Told
+  pub values : Values
+  pub recorded : Recorded o (done ++ s ∷ []) (Lit (told ∷ span)) values d
+  pub log : values.log ≡ v.log
+  pub unfound : values.unfound ≡ v.unfound
+  pub next : values.next ≡ suc v.next
+
 -- THE SECONDS ARE FED: in the keeping of the last one these minutes are to be kept, from the same one on.
 pub record IsTurned (o : Origin) (done : List TraceSecond) (s : TraceSecond) (n : ℕ) (rest : List Minute) (minutes : Kept) (v : Values) (d : Devices) (w : Within o done s (In (length s.actions)) [] None [] v d) : Type 0 where
   pub begun : ℕ
@@ -33,6 +45,7 @@ pub record IsTurned (o : Origin) (done : List TraceSecond) (s : TraceSecond) (n 
   -- the last one began as the first, where it is that; or within the span, where nothing was told since
   pub first : n ≡ 0 → fed.b ≡ w.b
   pub goes_on : 0 < n → (fed.b.run.log ≡ v.log) × (begins_with fed.b.span ≡ false)
+  pub behind : 0 < n → BehindFirst o done s v d
 
 abbrev pub ATurnIsFed : Devices → Type 0
 ATurnIsFed d = (o : Origin) (done : List TraceSecond) (s : TraceSecond) (v : Values) → (w : Within o done s (In (length s.actions)) [] None [] v d) → (n : ℕ) → s.number % 60 + suc n ≤ 60 →
