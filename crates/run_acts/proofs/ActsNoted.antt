@@ -24,7 +24,7 @@ use Rattle.run_keeping.specs.Faults.{faults_to}
 use Rattle.run_keeping.proofs.Fates.{no-lines}
 use Rattle.run_evented.specs.Evented.{number_in}
 use Rattle.run_acts.specs.declared.run.Run.{Run}
-use Rattle.run_acts.specs.Acting.{IsNotedOn, told_of, left_run}
+use Rattle.run_acts.specs.Acting.{IsNotedOn, Closing, Bare, Closed, Fell, IsClosed, closed_breaks, closed_falls, told_of, left_run}
 use Rattle.run_keeping.specs.Keeping.{tear_of, with_lines}
 use Rattle.run_acts.specs.Faults.{NotesSettling}
 use Rattle.run_acts.specs.NotedEvents.{NotesEvents}
@@ -100,6 +100,15 @@ withdrawal-noted q card is slot at failed old between new before told after d e 
     let fault : List UnitEvent = closed_events n.closing at.second new in
     subst (λ (o : Option Card). NotesWithdrawing o slot at failed old new before (record told { breaks = after }) d f) (sym is)
     (vs ++ fault, inr (record { between = between; told = told; faults = vs; closing = n.closing; settles = settles; closed = n.closed; rest = refl; are = refl }), then-noted vs fault failed d e f notes n.notes)
+
+-- so often the card has failed in it, whichever way is told
+lines-of : (slot : Slot) (at : Moment) (breaks after : Listed Break) (closing : Closing) → after ≡ with_lines (closed_breaks closing slot at) breaks → length after.items ≡ length breaks.items + closed_falls closing
+lines-of slot at breaks after Bare is = let long = ap (λ (l : Listed Break). length l.items) is in let all = length-append breaks.items [] in omega (arith, long, all)
+lines-of slot at breaks after Closed is = let long = ap (λ (l : Listed Break). length l.items) is in let all = length-append breaks.items [] in omega (arith, long, all)
+lines-of slot at breaks after Fell is = let long = ap (λ (l : Listed Break). length l.items) is in let all = length-append breaks.items (tear_of slot at ∷ []) in omega (arith, long, all)
+
+pub same-closing : (card : Card) (slot : Slot) (at : Moment) (old new : Run) (breaks after : Listed Break) (x y : Closing) → IsClosed card slot at old new breaks after x → IsClosed card slot at old new breaks after y → closed_falls x ≡ closed_falls y
+same-closing card slot at old new breaks after x y h k = let first = lines-of slot at breaks after x h.told in let other = lines-of slot at breaks after y k.told in omega (arith, first, other)
 
 -- the other card does not matter
 pub closing-any : (card : Card) (slot : Slot) (at : Moment) (failed : Bool) (old new : Run) (breaks after : Listed Break) (d e f g : Devices) → d.unit ≡ f.unit → e.unit ≡ g.unit → NotesClosing card slot at failed old new breaks after d e → NotesClosing card slot at failed old new breaks after f g
