@@ -152,9 +152,6 @@ module _ (x a b : List ℕ) (start : ℕ) (began now : Devices) (opened : Opened
   abbrev f : Found
   f = found_in (opened_with x a b) began
 
-  pub is-origin : IsOrigin first-o
-  is-origin = record { rule = refl; decodes = ready.decodes; unit = refl; image = ready.found.image; start = ready.found.start; number = ready.found.number }
-
   pub may-record : MayRecord x a b start
   may-record = record { decodes = ready.decodes; later = ready.later; numbers = (ready.may (λ s is. absurd (let none : None ≡ Some s = is in cc))).numbers }
 
@@ -165,6 +162,19 @@ module _ (x a b : List ℕ) (start : ℕ) (began now : Devices) (opened : Opened
       (clock : (c : Card) → (card_of now c).clock ≡ (card_of began c).clock) (more : IsMore (breakdowns_of began) (breakdowns_of now)) (low : opened.unit.journal.odometer ≤ HIGHEST_ODOMETER) where
     sizes : (c : Card) → IsOwnValid (card_image (opened_with x a b) c) → IsApplication (own_sizes (card_image (opened_with x a b) c))
     sizes c valid = ((found_on c).port (own_sizes (card_image (opened_with x a b) c)) (valid-known (card_image (opened_with x a b) c) (known_of opened c) (ready.told c) valid)).good
+
+    -- the number of a valid card has all its bytes
+    long : (c : Card) → IsOwnValid (card_image (opened_with x a b) c) → length (own_number (card_image (opened_with x a b) c)) ≡ 18
+    long c valid =
+        let image : List ℕ = card_image (opened_with x a b) c in
+        let port = (found_on c).port (own_sizes image) (valid-known image (known_of opened c) (ready.told c) valid) in
+        let fits = largest_image (own_sizes image) port.good in
+        let all = (whole c).sized image (ready.begins.card c).tells in
+        let size = port.size in
+        own-long image (omega (arith, fits, all, size))
+
+    is-origin : IsOrigin first-o
+    is-origin = record { rule = refl; decodes = ready.decodes; unit = refl; image = ready.found.image; start = ready.found.start; number = ready.found.number; long = long }
 
     told : (c : Card) → IsOwnValid (card_image (opened_with x a b) c) → is_some (known_of opened c).number ≡ true
     told c valid = ap (λ (o : Option FullCardNumber). is_some o) ((ready.told c).number ∙ ap (λ o. number_by o (card_number_of (own_number (card_image (opened_with x a b) c)))) valid)

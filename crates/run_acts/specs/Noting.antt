@@ -17,7 +17,7 @@ use Rattle.run_events.specs.Shown.{SaysNothing}
 use Rattle.run_keeping.specs.Minutes.{Reach, IsReach}
 use Rattle.run_keeping.specs.Faults.{faults_to}
 use Rattle.log_model.specs.declared.lines.Break.{Break}
-use Rattle.log_model.specs.Log.{Phase}
+use Rattle.log_model.specs.Log.{Phase, In}
 use Rattle.safety_model.specs.Safe.{Devices}
 use Rattle.slot_machine.specs.Calls.{seat_in, card_in}
 use Rattle.run_crew.specs.declared.cards.Cards.{Cards}

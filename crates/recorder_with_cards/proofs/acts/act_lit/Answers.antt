@@ -32,6 +32,7 @@ use Rattle.run_evented.specs.Noting.{Acting}
 use Rattle.run_acts.specs.Recording.{log_of}
 use Rattle.run_acts.specs.Evented.{WithinEvented, EventsGoOn}
 use Rattle.recorder_with_cards.proofs.ActsEvented.{in-evented_cut, evented-lit, in-evented_lit, evented-on, evented-cuts, refused-evented}
+use Rattle.run_keeping.specs.Keeping.{with_lines}
 use Rattle.recorder_with_cards.proofs.Staying.{done-watched}
 use Rattle.recorder_with_cards.proofs.acts.act_lit.Goals as goal
 
