@@ -1,12 +1,15 @@
 -- The numbers by which events are noted: of valid cards, which alone are named in events.
-use Rattle.std.proofs.Common.{◌≡◌, ◌∙◌, ◌⊎◌, inl, inr, ⊎_elim, ℕ, Bool, true, false, cond, nat_eq, Option, Some, None, IfSome, List, [], ◌∷◌, ◌++◌, length, map, replicate, refl, ap, sym, subst}
+use Rattle.std.proofs.Common.{◌≡◌, ◌∙◌, ◌⊎◌, inl, inr, ⊎_elim, ℕ, Bool, true, false, cond, nat_eq, Option, Some, None, IfSome, List, [], ◌∷◌, ◌++◌, length, drop, map, replicate, refl, ap, sym, subst, arith, ◌+◌, ◌≤◌}
+use Rattle.std.proofs.lemmas.List.{length-take-le, length-drop, length-append}
 use Rattle.std.specs.List.{AllByRecursion}
 use Rattle.trace_model.specs.declared.Card.{Card}
 use Rattle.trace_model.specs.declared.Card.TheVariants.{A, B}
 use Rattle.card_layout.specs.declared.files.Fid.{Fid}
-use Rattle.card_layout.specs.Files.{files_of}
+use Rattle.card_layout.specs.declared.files.Application.{Application}
+use Rattle.card_layout.specs.Files.{files_of, image_size_of, place_of as layout_at}
 use Rattle.card_layout.specs.Application.{application_of}
-use Rattle.card_image.specs.Fields.{card_number}
+use Rattle.card_image.specs.Fields.{file, card_number}
+use Rattle.tach_media.specs.Medium.{bytes_at}
 use Rattle.card_image.specs.Own.{own_sizes, own_number, own_bad_file, IsOwnValid}
 use Rattle.event_model.specs.declared.kinds.TheConstants.{OVER_SPEEDING}
 use Rattle.event_model.specs.Events.{Event, Crew}
@@ -26,6 +29,28 @@ use Rattle.run_acts.specs.Named.{ValidHere, NamesValid, spare, by_fault, image_o
 -- the numbers of valid cards fill their field
 abbrev pub AreLong : Origin → Type 0
 AreLong o = (c : Card) → IsOwnValid (card_image o.recording c) → length (number_in o c) ≡ 18
+
+-- ---- a valid card's number has all its bytes
+
+part-long : (x : List ℕ) (p n : ℕ) → p + n ≤ length x → length (bytes_at x p n) ≡ n
+part-long x p n fits = length-take-le n (drop p x) (omega (arith, length-drop p x, fits))
+
+kind-inside : (app : Application) → layout_at app (file 0x0501) + 1 ≤ image_size_of app
+unfolding files_of
+kind-inside app = omega arith
+
+identification-inside : (app : Application) → layout_at app (file 0x0520) + 17 ≤ image_size_of app
+unfolding files_of
+identification-inside app = omega arith
+
+-- where the image has all that its sizes tell
+pub own-long : (x : List ℕ) → image_size_of (own_sizes x) ≤ length x → length (own_number x) ≡ 18
+unfolding own_number card_number
+own-long x fits =
+    let app : Application = own_sizes x in
+    let front = part-long x (layout_at app (file 0x0501)) 1 (omega (arith, kind-inside app, fits)) in
+    let back = part-long x (layout_at app (file 0x0520)) 17 (omega (arith, identification-inside app, fits)) in
+    length-append (bytes_at x (layout_at app (file 0x0501)) 1) (bytes_at x (layout_at app (file 0x0520)) 17) ∙ omega (arith, front, back)
 
 -- ---- numbers that agree on the cards that are named
 
@@ -110,7 +135,7 @@ image-of : (o : Origin) (c : Card) → card_image (named_as o).recording c ≡ i
 image-of o A = refl
 image-of o B = refl
 
-same-number : (o : Origin) (c : Card) → IsOwnValid (card_image o.recording c) → number_in (named_as o) c ≡ number_in o c
+pub same-number : (o : Origin) (c : Card) → IsOwnValid (card_image o.recording c) → number_in (named_as o) c ≡ number_in o c
 same-number o c valid = ap own_number (image-of o c) ∙ ap (λ (q : Option (Fid × ℕ)). own_number (by_fault q (card_image o.recording c))) valid
 
 pub all-long : (o : Origin) → AreLong o → AreNumbers (number_in (named_as o))
@@ -131,6 +156,10 @@ agree-all o (e ∷ es) valid =
     let end = valid.0.1 in
     (((agree-one o e.at_begin.driver begin.driver, agree-one o e.at_begin.codriver begin.codriver), (agree-one o e.at_end.driver end.driver, agree-one o e.at_end.codriver end.codriver)), agree-all o es valid.1)
 
+-- events that name valid cards alone are told by its numbers, too
+pub told-named : (o : Origin) (vs : List UnitEvent) (es : List Event) → NamesValid o es → AreTold (number_in o) vs es → AreTold (number_in (named_as o)) vs es
+told-named o vs es valid told = told-as (number_in o) (number_in (named_as o)) vs es (agree-all o es valid) told
+
 -- what is noted by its numbers is noted by those of the run
 pub so-as : (o : Origin) (failed : Bool) (es : List Event) (d e : Devices) → NamesValid o es → NotesSo failed (named_as o) es d e → NotesSo failed o es d e
 so-as o false es d e valid h = λ c there.
@@ -143,4 +172,4 @@ so-as o true es d e valid h = λ log now unsure c there.
 -- WHAT A CALL NOTES, where valid cards alone are named
 pub notes-at : (vs : List UnitEvent) (failed : Bool) (d e : Devices) → NotesEvents vs failed d e → (o : Origin) → AreLong o → (es : List Event) → AreTold (number_in o) vs es → NamesValid o es → NotesSo failed o es d e
 notes-at vs failed d e notes o long es told valid =
-    so-as o failed es d e valid (notes (named_as o) (all-long o long) es (told-as (number_in o) (number_in (named_as o)) vs es (agree-all o es valid) told))
+    so-as o failed es d e valid (notes (named_as o) (all-long o long) es (told-named o vs es valid told))

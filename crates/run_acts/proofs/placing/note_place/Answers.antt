@@ -374,7 +374,7 @@ returns-in_err-note_place-clause-evented g c = λ late ending country region spe
     let ring = says-of U V (g.met.M.Medium.coherent c.args.unit.now) (IsAdding unit_place_ring (unit_place_bytes c.in-Some-number_in.number c.args.entry.now)) (adding-nothing (unit_place_bytes c.in-Some-number_in.number c.args.entry.now)) c.in_err-note_place.ensures.moments in
     let w1 = place-first o done s c.args.slot ending country region begun speed run before c.args.breaks.now (devices U A0 B0) is now front rest are n allowed w in
     let first : EventedNow o done s w1.goes.within.b.run Acting (log_of out) (devices U A0 B0) = subst (λ (b : Beginning). EventedNow o done s b.run Acting (log_of out) (devices U A0 B0)) (sym w1.began)
-        (subst (λ (l : Listed Break). EventedNow o done s w.within.b.run Acting (log_of (record before { breaks = l })) (devices U A0 B0)) is events) in
+    (subst (λ (l : Listed Break). EventedNow o done s w.within.b.run Acting (log_of (record before { breaks = l })) (devices U A0 B0)) is events) in
     subst (λ (q : Bool). EventsGoOn q o done s w.within.b.run (In begun) Acting (log_of out) (devices V A0 B0)) failed
     (subst (λ (b : Beginning). EventsGoOn true o done s b.run (In begun) Acting (log_of out) (devices V A0 B0)) w1.began
     (unit-evented o done s begun run out U V A0 B0 (g.met.M.Medium.coherent c.args.unit.now) c.note_place.ensures.journal lit.span lit.stands lit.next w1.goes rest left true c.in_err-note_place.ensures.cause (quiet-any U V A0 B0 A0 B0 true ring) first))
@@ -407,13 +407,13 @@ returns-in-A-clause-evented g c = λ late ending country region speed before is 
     let w1 = place-first o done s c.args.slot ending country region begun speed run before c.args.breaks.now (devices U A0 B0) is now front rest are n allowed w in
     let w2 = unit-recorded o done s begun run out U V A0 B0 (g.met.M.Medium.coherent c.args.unit.now) c.note_place.ensures.journal lit.span lit.stands lit.next w1.goes false c.in_ok-note_place.ensures.cause in
     let first : EventedNow o done s w1.goes.within.b.run Acting (log_of out) (devices U A0 B0) = subst (λ (b : Beginning). EventedNow o done s b.run Acting (log_of out) (devices U A0 B0)) (sym w1.began)
-        (subst (λ (l : Listed Break). EventedNow o done s w.within.b.run Acting (log_of (record before { breaks = l })) (devices U A0 B0)) is events) in
+    (subst (λ (l : Listed Break). EventedNow o done s w.within.b.run Acting (log_of (record before { breaks = l })) (devices U A0 B0)) is events) in
     let second : EventedNow o done s w2.goes.within.b.run Acting (log_of out) (devices V A0 B0) = subst (λ (b : Beginning). EventedNow o done s b.run Acting (log_of out) (devices V A0 B0)) (sym w2.began)
-        (unit-evented o done s begun run out U V A0 B0 (g.met.M.Medium.coherent c.args.unit.now) c.note_place.ensures.journal lit.span lit.stands lit.next w1.goes rest left false c.in_ok-note_place.ensures.cause (quiet-any U V A0 B0 A0 B0 false ring) first) in
+    (unit-evented o done s begun run out U V A0 B0 (g.met.M.Medium.coherent c.args.unit.now) c.note_place.ensures.journal lit.span lit.stands lit.next w1.goes rest left false c.in_ok-note_place.ensures.cause (quiet-any U V A0 B0 A0 B0 false ring) first) in
     let falls = fall_events k.0 c.args.at.second c.note_place_in.new.run in
     let fell : f.fell ≡ k.0 = same-fell A c.args.slot c.args.at run c.note_place_in.new.run c.args.breaks.now c.note_place_in.new.breaks f.fell k.0 f.noted k.1 in
     let notes : NotesEvents falls failed (devices V A0 B0) (devices W Y B0) = subst (λ (b : Bool). NotesEvents (fall_events b c.args.at.second c.note_place_in.new.run) failed (devices V A0 B0) (devices W Y B0)) fell
-        (noted-any (fall_events f.fell c.args.at.second c.note_place_in.new.run) failed (devices V A0 A0) (devices W Y Y) (devices V A0 B0) (devices W Y B0) refl refl f.notes) in
+    (noted-any (fall_events f.fell c.args.at.second c.note_place_in.new.run) failed (devices V A0 A0) (devices W Y Y) (devices V A0 B0) (devices W Y B0) refl refl f.notes) in
     subst (λ (b : Beginning). EventsGoOn failed o done s b.run (In begun) Acting (log_of (record before { breaks = c.note_place_in.new.breaks })) (devices W Y B0)) (w2.began ∙ w1.began)
     (some-evented A c.args.slot c.args.at run c.args.breaks.now V W A0 Y B0
     (g.met.M.Medium.coherent c.note_place.new.unit) (g.met.C.Chip.coherent c.args.card_a.now) (g.met.C.Chip.coherent c.note_place_in.new.card) c.requires.held.card_a.size some e.value there c.requires.at late lit.span lit.stands lit.next lit.cabin e.moments e.journal
@@ -447,13 +447,13 @@ returns-in-B-clause-evented g c = λ late ending country region speed before is 
     let w1 = place-first o done s c.args.slot ending country region begun speed run before c.args.breaks.now (devices U A0 B0) is now front rest are n allowed w in
     let w2 = unit-recorded o done s begun run out U V A0 B0 (g.met.M.Medium.coherent c.args.unit.now) c.note_place.ensures.journal lit.span lit.stands lit.next w1.goes false c.in_ok-note_place.ensures.cause in
     let first : EventedNow o done s w1.goes.within.b.run Acting (log_of out) (devices U A0 B0) = subst (λ (b : Beginning). EventedNow o done s b.run Acting (log_of out) (devices U A0 B0)) (sym w1.began)
-        (subst (λ (l : Listed Break). EventedNow o done s w.within.b.run Acting (log_of (record before { breaks = l })) (devices U A0 B0)) is events) in
+    (subst (λ (l : Listed Break). EventedNow o done s w.within.b.run Acting (log_of (record before { breaks = l })) (devices U A0 B0)) is events) in
     let second : EventedNow o done s w2.goes.within.b.run Acting (log_of out) (devices V A0 B0) = subst (λ (b : Beginning). EventedNow o done s b.run Acting (log_of out) (devices V A0 B0)) (sym w2.began)
-        (unit-evented o done s begun run out U V A0 B0 (g.met.M.Medium.coherent c.args.unit.now) c.note_place.ensures.journal lit.span lit.stands lit.next w1.goes rest left false c.in_ok-note_place.ensures.cause (quiet-any U V A0 B0 A0 B0 false ring) first) in
+    (unit-evented o done s begun run out U V A0 B0 (g.met.M.Medium.coherent c.args.unit.now) c.note_place.ensures.journal lit.span lit.stands lit.next w1.goes rest left false c.in_ok-note_place.ensures.cause (quiet-any U V A0 B0 A0 B0 false ring) first) in
     let falls = fall_events k.0 c.args.at.second c.note_place_in-in-B.new.run in
     let fell : f.fell ≡ k.0 = same-fell B c.args.slot c.args.at run c.note_place_in-in-B.new.run c.args.breaks.now c.note_place_in-in-B.new.breaks f.fell k.0 f.noted k.1 in
     let notes : NotesEvents falls failed (devices V A0 B0) (devices W A0 Y) = subst (λ (b : Bool). NotesEvents (fall_events b c.args.at.second c.note_place_in-in-B.new.run) failed (devices V A0 B0) (devices W A0 Y)) fell
-        (noted-any (fall_events f.fell c.args.at.second c.note_place_in-in-B.new.run) failed (devices V B0 B0) (devices W Y Y) (devices V A0 B0) (devices W A0 Y) refl refl f.notes) in
+    (noted-any (fall_events f.fell c.args.at.second c.note_place_in-in-B.new.run) failed (devices V B0 B0) (devices W Y Y) (devices V A0 B0) (devices W A0 Y) refl refl f.notes) in
     subst (λ (b : Beginning). EventsGoOn failed o done s b.run (In begun) Acting (log_of (record before { breaks = c.note_place_in-in-B.new.breaks })) (devices W A0 Y)) (w2.began ∙ w1.began)
     (some-evented B c.args.slot c.args.at run c.args.breaks.now V W B0 Y A0
     (g.met.M.Medium.coherent c.note_place.new.unit) (g.met.D.Chip.coherent c.args.card_b.now) (g.met.D.Chip.coherent c.note_place_in-in-B.new.card) c.requires.held.card_b.size some e.value there c.requires.at late lit.span lit.stands lit.next lit.cabin e.moments e.journal
