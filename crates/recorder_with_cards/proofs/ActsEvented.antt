@@ -133,21 +133,20 @@ pub pulled-evented : (d : Devices) (slot : Slot) (begun speed : ℕ) (run : Run)
     (record out { breaks = with_lines (pulled_breaks (card_in (seat_in run.keeper.cabin.slots.seats slot)) slot (record { second = run.next; begun = begun; late = false })) out.breaks }) d d
 pulled-evented d slot begun speed run out o done s now front rest are is allowed w events time = by (card_in (seat_in run.keeper.cabin.slots.seats slot)) refl (pulls-one run.keeper.cabin.slots.seats slot speed allowed)
   where
-    abbrev n : ℕ
+    n : ℕ
     n = length front
 
-    abbrev p : Progress
+    p : Progress
     p = w.within.b.run
 
-    abbrev was : Before
+    was : Before
     was = (went p.log done).before
 
-    abbrev log : RunLog
+    log : RunLog
     log = log_of out
 
-    abbrev c : Course
+    c : Course
     c = course_at log was s (In n)
-
     reached = action-reached p was s log front (Pull slot) rest are (reaches-of p was s (In n) log [] w.within.b.broken (breakdowns_of d) w.within.moment)
 
     none : refusal c.slots s.speed (Pull slot) ≡ None
