@@ -113,8 +113,8 @@ returns-in_default-clause-events g c =
       notes = same-noted U X X;
     }
 
-pub returns-in_default-2-clause-events : goal.returns-in_default-2-clause-events
-returns-in_default-2-clause-events g c =
+pub returns-in_default-sizes-clause-events : goal.returns-in_default-sizes-clause-events
+returns-in_default-sizes-clause-events g c =
     let run = c.args.run.now in
     let U = g.M.Medium.state c.args.unit.now in
     let X = g.C.Chip.state c.args.card.now in
