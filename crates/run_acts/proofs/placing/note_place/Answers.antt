@@ -35,7 +35,8 @@ use Rattle.run_acts.proofs.NoteRecorded.{noted-some, place-told, unit-recorded}
 use Rattle.std.proofs.Common.{inl, inr}
 use Rattle.trace_model.specs.declared.Card.{Card}
 use Rattle.gated_ring.specs.Change.{IsAdding}
-use Rattle.message_model.specs.Records.{unit_place_ring, unit_place_bytes}
+use Rattle.message_model.specs.Records.{unit_place_ring}
+use Rattle.unit_notes.specs.Entries.{unit_place_bytes}
 use Rattle.run_acts.specs.Acting.{IsNotedOn}
 use Rattle.run_acts.specs.NotedEvents.{NotesEvents}
 use Rattle.run_acts.specs.Noting.{NotesFall, NotesPlace, fall_events}
