@@ -51,7 +51,7 @@ module _ (x : List ℕ) (U V : State) (starts : StartsAs x U) (before : IsCohere
   kept-is = (at_image (IsFoundBy journal) image-is loaded.found).kept
 
   pub opened-holds : (due : ℕ) → journal.kept < due → Holds (started x U.clock) due not_begun [] V
-  opened-holds due late = holds-opened (started x U.clock) V x due refl refl run.later now-one since-one
+  opened-holds due late = holds-opened (started x U.clock) V x due refl refl refl run.later now-one since-one
       (inl (whole (recorded x) (few_days x (at_image (IsFoundBy journal) image-is loaded.found).pointer)))
       (at_image Decodes image-is loaded.decodes) (let k = kept-is in omega (arith, k, late))
 

@@ -1,5 +1,5 @@
 -- How the unit stands, over each kind of step.
-use Rattle.std.proofs.Common.{◌≡◌, ⊎_elim, IfSome, ℕ, suc, ◌≤◌, true, None, Some, List, [], ◌∷◌, ◌++◌, refl, All, subst}
+use Rattle.std.proofs.Common.{◌≡◌, ⊎_elim, IfSome, ℕ, suc, ◌≤◌, true, None, Some, List, [], ◌∷◌, ◌++◌, refl, All, subst, arith}
 use Rattle.tach_media.specs.Medium.{State, IsCoherent, LeavesOnly, Unchanged}
 use Rattle.unit_model.specs.Image.{last_kept}
 use Rattle.tach_media.proofs.Runs.{at_image, if_told}
@@ -20,7 +20,7 @@ use Rattle.unit_rule.proofs.Mending.{mending-aside, mending-odometer}
 use Rattle.unit_rule.proofs.Travelling.{travelled-aside, travelled-read, travelled-found}
 use Rattle.unit_rule.proofs.Elsewhere.{holds-elsewhere, travelled-elsewhere}
 use Rattle.unit_notes.specs.Journal.{LeavesJournal}
-use Rattle.unit_notes.proofs.Journals.{same_journal}
+use Rattle.unit_notes.proofs.Journals.{part_of, same_journal}
 use Rattle.unit_rule.specs.Odometer.{ShowsOdometer}
 use Rattle.recorder.specs.Standing.{Began, Travel, travelled, resumed, all_travelled, Stands}
 
@@ -47,7 +47,7 @@ module _ (s : Began) (due : ℕ) (b : Book) (g : Travel) (marks : List Mark) {U 
   -- notes leave the bytes of the journal alone
   pub stands-noted : LeavesOnly U V LeavesJournal → Stands s due b g marks V
   stands-noted run = record {
-    holds = holds-elsewhere s.opened due b marks h.holds before LeavesJournal run (λ x c same. (same_journal x c same.keeps, same.decodes));
+    holds = holds-elsewhere s.opened due b marks h.holds before LeavesJournal run (λ x c same. (same_journal x c same.keeps, part_of 0 572 0 564 x c (omega arith) same.keeps.front, same.decodes));
     travels = travelled-elsewhere s.odometer b g h.travels before LeavesJournal run (λ x c same. same_journal x c same.keeps);
   }
 

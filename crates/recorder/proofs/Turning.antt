@@ -1,6 +1,6 @@
 -- A turn: the room that it needs, and what it does to the book.
-use Rattle.std.proofs.Common.{◌≡◌, ⊎_elim, Some, ℕ, suc, ◌+◌, ◌-◌, ◌/◌, ◌<◌, ◌≤◌, Bool, true, false, None, List, [], ◌∷◌, ◌++◌, length, refl, ap, sym, subst, ◌∙◌, arith}
-use Rattle.tach_media.specs.Medium.{State, IsCoherent, LeavesOnly, Unchanged, LiesInside}
+use Rattle.std.proofs.Common.{◌≡◌, ◌⊎◌, inl, inr, is_some, ⊎_elim, Some, ℕ, suc, ◌+◌, ◌-◌, ◌/◌, ◌<◌, ◌≤◌, Bool, true, false, None, List, [], ◌∷◌, ◌++◌, length, refl, ap, sym, subst, ◌∙◌, arith}
+use Rattle.tach_media.specs.Medium.{State, IsCoherent, LeavesOnly, Unchanged, LiesInside, HasCause, Rose, revivable}
 use Rattle.unit_model.specs.Image.{IsUnit}
 use Rattle.minute_model.specs.declared.Minute.{Minute}
 use Rattle.minute_model.specs.Span.{Span, end_of, ungiven_of, fed_many, decided_in}
@@ -73,16 +73,36 @@ dark-booked s old new b g marks unit n begun dark is h =
 pub reads-unit : {U V : State} {R : List ℕ → List ℕ → Type 0} → LeavesOnly U V R → IsUnit U → IsUnit V
 reads-unit run unit = record { sized = run.size ∙ unit.sized; behind = run.behind ∙ unit.behind; writable = subst (λ (ws : List (ℕ × ℕ)). LiesInside ws 0 IMAGE_SIZE) (sym run.writable) unit.writable }
 
+rose-wider : (a b c d : ℕ) → a ≤ b → c ≤ d → Rose b c → Rose a d
+rose-wider a b c d low high rose = omega arith
+
+broken-then : (a b c : ℕ) (x y z : ℕ) → a ≤ b → b ≤ c → Rose a b ⊎ (y ≡ x) → Rose b c ⊎ (z ≡ y) → Rose a c ⊎ (z ≡ x)
+broken-then a b c x y z low high first next =
+    ⊎_elim (λ rose. inl (rose-wider a a b c (omega arith) high rose))
+    (λ same. ⊎_elim (λ rose. inl (rose-wider a b c c low (omega arith) rose)) (λ still. inr (still ∙ same)) next) first
+
 pub goes-then : {old mid new : State} → GoesOn old mid → GoesOn mid new → GoesOn old new
-goes-then first next = record {
+goes-then {old} {mid} {new} first next = record {
   clock = let a = first.clock in let b = next.clock in omega (arith, a, b);
   tells = next.tells ∙ first.tells;
   faults = let a = first.faults in let b = next.faults in omega (arith, a, b);
   breakdowns = let a = first.breakdowns in let b = next.breakdowns in omega (arith, a, b);
+  unbroken = broken-then old.faults mid.faults new.faults old.breakdowns mid.breakdowns new.breakdowns first.faults next.faults first.unbroken next.unbroken;
 }
 
 pub goes-none : (unit : State) → GoesOn unit unit
-goes-none unit = record { clock = omega arith; tells = refl; faults = omega arith; breakdowns = omega arith }
+goes-none unit = record { clock = omega arith; tells = refl; faults = omega arith; breakdowns = omega arith; unbroken = inr refl }
+
+broken-by : (old new : State) (failed : Bool) → HasCause old new failed → Rose old.faults new.faults ⊎ (new.breakdowns ≡ old.breakdowns)
+broken-by old new true cause = inl (cause.fault refl)
+broken-by old new false cause = inr (cause.unbroken refl)
+
+-- by calls that answered so, and by those before which it was made to work again
+pub goes-by : (old new : State) (failed : Bool) → old.clock ≤ new.clock → is_some new.image ≡ is_some old.image → HasCause old new failed → GoesOn old new
+goes-by old new failed clock tells cause = record { clock = clock; tells = tells; faults = cause.faults; breakdowns = cause.breakdowns; unbroken = broken-by old new failed cause }
+
+pub goes-revived : (old new : State) (failed : Bool) → new.clock ≡ old.clock → is_some new.image ≡ is_some old.image → HasCause (revivable old) new failed → GoesOn old new
+goes-revived old new failed clock tells cause = record { clock = omega (arith, clock); tells = tells; faults = cause.faults; breakdowns = cause.breakdowns; unbroken = broken-by (revivable old) new failed cause }
 
 -- what the unit may leave after reads decodes
 pub left-decodes : (s : Started) (due : ℕ) (b : Book) (marks : List Mark) {U V : State} → Holds s due b marks U → IsCoherent U → IsCoherent V → LeavesOnly U V Unchanged → (x : List ℕ) → V.image ≡ Some x → Decodes x

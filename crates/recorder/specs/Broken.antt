@@ -1,19 +1,7 @@
--- How often a unit broke down, by the cuts that its calls made (profile).
-use Rattle.std.specs.Prelude.{ℕ, ◌+◌, ◌-◌, ◌≤◌, min, true, List, length}
-use Rattle.tach_media.specs.Medium.{State, Rose, last_count}
+-- How a unit that could not be loaded has broken down (profile).
+use Rattle.tach_media.specs.Medium.{State, Rose}
 use Rattle.unit_memory.specs.declared.fault.UnitFault.{UnitFault}
 use Rattle.unit_memory.specs.declared.fault.UnitFault.TheVariants.{Failed, BadUnit as Bad}
-use Rattle.log_model.specs.declared.lines.Break.{Break}
-use Rattle.unit_course.specs.Caused.{cuts_by}
-
--- how many of these are cuts that a failed call made
-abbrev pub failed_cuts : List Break → ℕ
-failed_cuts breaks = length (cuts_by true breaks)
-
--- each such cut more is a breakdown of the unit more, or their count stands at its last value
-pub record BreaksDown (before after : List Break) (old new : State) : Type 0 where
-  pub few : failed_cuts before ≤ failed_cuts after
-  pub broke : min (old.breakdowns + (failed_cuts after - failed_cuts before)) last_count ≤ new.breakdowns
 
 -- a unit that is not loaded since a call failed broke down
 abbrev pub HasBrokenDown : (old new : State) → UnitFault → Type 0

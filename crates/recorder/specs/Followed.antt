@@ -16,7 +16,7 @@ use Rattle.history_model.specs.Book.{Book, Follows}
 use Rattle.history_model.specs.Minutes.{HistoryMinute}
 use Rattle.history_model.specs.Presence.{Start}
 use Rattle.history_model.specs.History.{unit_history, with_lost}
-use Rattle.safety_model.specs.Unit.{UnitSafe, HasEachDecided, IsFilled}
+use Rattle.safety_model.specs.Unit.{UnitSafe, HasEachDecided, IsFilled, issued_bytes}
 use Rattle.unit_course.specs.Lines.{log_of}
 use Rattle.unit_course.specs.Complete.{AreMarked}
 use Rattle.unit_course.specs.Followed.{Supply, Followed}
@@ -57,6 +57,8 @@ NoVerdict card second verdict = ⊥
 -- book follows the history, and has of it what the course of the seconds says.
 pub record IsFollowed (start : Start) (x : List ℕ) (origin : ℕ) (items : List Item) (clock : ℕ) (o : Outcome) (unit : State) : Type 0 where
   pub safe : UnitSafe (started x clock).days (history_of start o origin items) (lost_of start o origin items) o.marks.items clock unit
+  -- what the unit was issued with stays, in every image that a stop might have left since
+  pub issued : (y : List ℕ) → unit.left_since clock y → issued_bytes y ≡ issued_bytes x
   pub due : ℕ
   pub book : Book
   pub holds : Holds (started x clock) due book o.marks.items unit

@@ -43,11 +43,12 @@ IsRefused start old new (SameCard number) = ⊥
 abbrev pub HasFound : Notes → State → Type 0
 HasFound journal unit = (x : List ℕ) × (unit.image ≡ Some x) × (last_kept x ≡ journal.kept)
 
--- behind the opening no failed call refuses a run: that is a cut
+-- Behind the opening no failed call refuses a run, since that is a cut; a unit that is read anew may: its image does not decode, or the minute of
+-- the second is not later than its last-kept one.
 abbrev pub IsFoundLater : RunFault → Type 0
 IsFoundLater (MediumFault device) = ⊥
 IsFoundLater (BadUnit place) = Unit {0}
-IsFoundLater (ClockBack kept second) = Unit {0}
+IsFoundLater (ClockBack kept second) = second / 60 ≤ kept
 IsFoundLater (SameCard number) = ⊥
 
 -- a fault of a run on the unit alone: that of a device is the unit's, which has failed

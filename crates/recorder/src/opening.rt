@@ -1,10 +1,10 @@
 //! The opening of a run: it judges the devices, and writes nothing.
-ghost use Rattle.std.specs.Prelude.{◌≡◌, ◌<◌, ◌≤◌, ◌/◌, IfOk, OnOk, OnErr, IfErr, IfSome, Some, IsErrOf};
-ghost use Rattle.tach_media.specs.Medium.{LeavesOnly, Unchanged, Rose};
+ghost use Rattle.std.specs.Prelude.{◌≡◌, ◌<◌, ◌≤◌, ◌/◌, false, IfOk, OnOk, OnErr, IfErr, IfSome, Some, IsErrOf};
+ghost use Rattle.tach_media.specs.Medium.{LeavesOnly, Unchanged, Rose, HasCause, revivable};
 ghost use Rattle.unit_model.specs.Decoding.{Decodes, first_bad_place};
 ghost use Rattle.unit_model.specs.declared.layout.TheConstants.{IMAGE_SIZE};
 ghost use Rattle.unit_model.specs.Image.{IsUnit};
-ghost use Rattle.unit_memory.specs.Fault.{IfBadUnit};
+ghost use Rattle.unit_memory.specs.Fault.{IfBadUnit, has_failed};
 ghost use Rattle.unit_memory.specs.Identified.{IsIdentity};
 ghost use Rattle.unit_journal.specs.Image.{IsFoundBy};
 ghost use Rattle.recorder.specs.Opening.{IsLoaded, IsNotLoaded, IsRefused, IsClockBack, opening_fault};
@@ -47,6 +47,7 @@ pub fn load<M: Medium>(unit: &mut M) -> Result<Journal, UnitFault>
     ensures clock { (M.state unit.new).clock ≡ (M.state unit.old).clock }
     ensures faults { (M.state unit.old).faults ≤ (M.state unit.new).faults }
     ensures breakdowns { (M.state unit.old).breakdowns ≤ (M.state unit.new).breakdowns }
+    ensures cause { HasCause (revivable (M.state unit.old)) (M.state unit.new) (has_failed result) }
 {
     unit.revive()?;
     let journal = Journal::load(unit)?;
@@ -64,6 +65,7 @@ fn open<M: Medium>(unit: &mut M) -> Result<Opened, UnitFault>
     ensures clock { (M.state unit.new).clock ≡ (M.state unit.old).clock }
     ensures faults { (M.state unit.old).faults ≤ (M.state unit.new).faults }
     ensures breakdowns { (M.state unit.old).breakdowns ≤ (M.state unit.new).breakdowns }
+    ensures cause { HasCause (revivable (M.state unit.old)) (M.state unit.new) (has_failed result) }
 {
     let journal = load(unit)?;
     let memory = UnitMemory::read(unit)?;
@@ -93,6 +95,7 @@ pub fn judge<M: Medium>(unit: &mut M, start: u32) -> Result<Opened, RunFault>
     ensures clock { (M.state unit.new).clock ≡ (M.state unit.old).clock }
     ensures faults { (M.state unit.old).faults ≤ (M.state unit.new).faults }
     ensures breakdowns { (M.state unit.old).breakdowns ≤ (M.state unit.new).breakdowns }
+    ensures cause { OnOk result (HasCause (revivable (M.state unit.old)) (M.state unit.new) false) }
 {
     match open(unit) {
         Ok(opened) => {

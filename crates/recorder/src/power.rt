@@ -8,7 +8,7 @@ ghost use Rattle.history_model.specs.Book.{Book};
 ghost use Rattle.log_model.specs.declared.lines.Mark.{Mark};
 ghost use Rattle.recorder.specs.Standing.{Began, Travel, odometer_after, Stands};
 ghost use Rattle.recorder.specs.Booked.{Booked, GoesOn};
-ghost use Rattle.recorder.specs.Broken.{BreaksDown};
+ghost use Rattle.run_outcome.specs.Broken.{BreaksDown};
 ghost use Rattle.recorder.specs.Steps.{IsPoweredOn, IsMendedOn, IsSecondBegun};
 ghost use Rattle.recorder.specs.Going.{first_second, end_of_seconds, IsGoing, HasMarkRoom, HasBreakRoom, cuts_from, cuts_within};
 ghost use Rattle.recorder.specs.declared.run.Power.TheVariants.{Lit, Due, Lost};

@@ -1,6 +1,6 @@
 //! A run: the seconds of a trace, one after another.
-ghost use Rattle.std.specs.Prelude.{◌≡◌, ◌+◌, ◌-◌, ◌/◌, ◌^◌, ◌<◌, ◌≤◌, ◌++◌, ℕ, List, true, false, length, is_some, IfErr, OnOk, IsOk};
-ghost use Rattle.tach_media.specs.Medium.{LeavesOnly, Unchanged, HasBroken, last_count};
+ghost use Rattle.std.specs.Prelude.{◌≡◌, ◌⊎◌, ◌+◌, ◌-◌, ◌/◌, ◌^◌, ◌<◌, ◌≤◌, ◌++◌, ℕ, List, true, false, length, is_some, IfErr, OnOk, IsOk};
+ghost use Rattle.tach_media.specs.Medium.{LeavesOnly, Unchanged, Rose, HasBroken, last_count};
 ghost use Rattle.log_model.specs.Causes.{cuts, HasCauses};
 ghost use Rattle.trace_model.specs.Trace.{seconds_of};
 ghost use Rattle.unit_model.specs.declared.layout.TheConstants.{HIGHEST_ODOMETER};
@@ -8,6 +8,7 @@ ghost use Rattle.unit_model.specs.Decoding.{Decodes};
 ghost use Rattle.unit_model.specs.Image.{IsUnit, last_kept};
 ghost use Rattle.history_model.specs.Book.{Book};
 ghost use Rattle.unit_rule.specs.Marks.{Holds};
+ghost use Rattle.recorder.specs.Gone.{IsRefusedBy};
 ghost use Rattle.recorder.specs.Opening.{IsLoaded, IsRefused, IsFoundLater, IsUnitFault};
 ghost use Rattle.history_model.specs.Presence.{Start};
 ghost use Rattle.recorder.specs.Going.{largest_number};
@@ -98,6 +99,10 @@ pub fn run_trace<U: Medium, C: Chip>(
     ensures fault { IfErr result (IsUnitFault (U.state unit.old) (U.state unit.new)) }
     ensures refused { IfErr result (λ fault. (x : List ℕ) → StartsAs x (U.state unit.old) → (U.state unit.new).clock < last_count
         → IsRefused trace.now.start (U.state unit.old) (U.state unit.new) fault × LeavesOnly (U.state unit.old) (U.state unit.new) Unchanged × (outcome.new ≡ outcome.old)) }
+    // And whatever the unit tells, a refusal came in the opening, with the unit as it was, or of a unit that was read anew at a power-on; and a run
+    // in which no call has failed has not broken it down.
+    ensures early { IfErr result (IsRefusedBy trace.now.start outcome.old outcome.new (U.state unit.old) (U.state unit.new)) }
+    ensures unbroken { OnOk result (Rose (U.state unit.old).faults (U.state unit.new).faults ⊎ ((U.state unit.new).breakdowns ≡ (U.state unit.old).breakdowns)) }
     ensures unit { IsUnit (U.state unit.new) }
     ensures card_a { _card_a.new ≡ _card_a.old }
     ensures card_b { _card_b.new ≡ _card_b.old }

@@ -69,7 +69,7 @@ impl Run {
     ghost use Rattle.recorder.specs.Power.{is_lit};
     ghost use Rattle.recorder.specs.Gone.{HasGone};
     ghost use Rattle.recorder.specs.Booked.{Booked, GoesOn};
-    ghost use Rattle.recorder.specs.Broken.{BreaksDown};
+    ghost use Rattle.run_outcome.specs.Broken.{BreaksDown};
     ghost use Rattle.recorder.specs.Steps.{IsTurn, IsLitTurn};
     ghost use Rattle.recorder.specs.Recorded.{Recorded};
     ghost use Rattle.trace_model.specs.Trace.{TraceSecond, driven};

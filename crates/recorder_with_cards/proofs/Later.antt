@@ -1,10 +1,8 @@
--- No clock falls.
-use Rattle.std.proofs.Common.{◌≤◌, arith}
-use Rattle.safety_model.specs.Safe.{Devices}
-use Rattle.recorder_with_cards.specs.Ends.{AreLater}
+-- What holds of a device that is as it was.
+use Rattle.std.proofs.Common.{◌≡◌, ◌≤◌, arith}
+use Rattle.tach_media.specs.Medium.{State}
+use Rattle.run_opening.specs.Opening.{IsAsItWas}
+use Rattle.run_keeping.specs.Later.{IsLater}
 
-pub later-same : (d : Devices) → AreLater d d
-later-same d = record { unit = omega arith; card_a = omega arith; card_b = omega arith }
-
-pub later-then : (d e f : Devices) → AreLater d e → AreLater e f → AreLater d f
-later-then d e f first then = record { unit = omega (arith, first.unit, then.unit); card_a = omega (arith, first.card_a, then.card_a); card_b = omega (arith, first.card_b, then.card_b) }
+pub state-as-it-was : (old new : State) → IsAsItWas old new → IsLater old new
+state-as-it-was old new was = record { clock = (let same = was.clock in omega (arith, same)); faults = was.faults; breakdowns = was.breakdowns; unbroken = was.unbroken }

@@ -1,3 +1,4 @@
+pub mod EnteredRings
 pub mod EnteredTold
 pub mod EnteredEvents
 pub mod Items
@@ -32,3 +33,4 @@ pub mod WakeNoted
 pub mod Staying
 pub mod ActsEvented
 pub mod SecondsEvented
+pub mod Uncut

@@ -28,12 +28,6 @@ pub record BeginAs (unit card_a card_b : List ℕ) (began : Devices) : Type 0 wh
   pub bytes_a : All (λ n. n < 256) card_a
   pub bytes_b : All (λ n. n < 256) card_b
 
--- no clock of a device has fallen
-pub record AreLater (old new : Devices) : Type 0 where
-  pub unit : old.unit.clock ≤ new.unit.clock
-  pub card_a : old.card_a.clock ≤ new.card_a.clock
-  pub card_b : old.card_b.clock ≤ new.card_b.clock
-
 -- a run on devices with these images, with these seconds and this log
 abbrev pub recorded_with : (unit card_a card_b : List ℕ) → List TraceSecond → RunLog → Recording
 recorded_with unit card_a card_b trace log = record { rule = Original; unit = unit; card_a = card_a; card_b = card_b; trace = trace; log = log }

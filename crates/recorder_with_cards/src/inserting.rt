@@ -1,13 +1,15 @@
 //! A card is put into a slot.
-ghost use Rattle.std.specs.Prelude.{◌≡◌, ◌+◌, ◌*◌, ◌/◌, ◌<◌, ◌≤◌, None, OnOk, false, length, is_err};
+ghost use Rattle.std.specs.Prelude.{◌≡◌, ◌+◌, ◌*◌, ◌/◌, ◌<◌, ◌≤◌, None, OnOk, true, false, length, is_some, is_err};
 ghost use Rattle.tach_media.specs.Medium.{HasCause};
 ghost use Rattle.log_model.specs.Slots.{other_slot};
 ghost use Rattle.slot_machine.specs.Calls.{seat_in, is_card};
 ghost use Rattle.run_acts.specs.declared.run.Power.TheVariants.{Lit};
+ghost use Rattle.run_keeping.specs.Later.{AreLater};
 ghost use Rattle.run_acts.specs.Going.{first_second, end_of_seconds, IsHeld, IsLit};
 ghost use Rattle.run_acts.specs.Room.{falls_of, Takes};
 ghost use Rattle.recorder_with_cards.specs.Accepting.{IsInserted};
 ghost use Rattle.recorder_with_cards.specs.Noting.{NotesInserting};
+ghost use Rattle.recorder_with_cards.specs.EnteredRings.{RingsInserting};
 ghost use Rattle.run_acts.specs.Recording.{RecordsAction};
 ghost use Rattle.run_outcome.specs.declared.outcome.TheConstants.{MOST_OWED};
 ghost use Rattle.run_rule.specs.Between.{devices};
@@ -55,11 +57,13 @@ pub(crate) fn insert<M: Medium, C: Chip, D: Chip>(
     ensures refused { outcome.new.refused ≡ outcome.old.refused }
     ensures takes { Takes 1 1 0 run.old run.new outcome.old outcome.new }
     ensures recorded { at.late ≡ false → length outcome.old.marks.items + 3 * run.old.minutes.owing + MOST_OWED ≤ outcome.old.marks.room → RecordsAction (Insert slot card) at.begun speed (is_err result) run.old run.new outcome.old outcome.new (devices (M.state unit.old) (C.state card_a.old) (D.state card_b.old)) (devices (M.state unit.new) (C.state card_a.new) (D.state card_b.new)) }
+    ensures rings { is_some (M.state unit.old).image ≡ true → RingsInserting slot card at speed (is_err result) run.old run.new outcome.old outcome.new (M.state unit.old) (M.state unit.new) }
     ensures noted { NotesInserting slot card at speed (is_err result) run.old run.new outcome.old outcome.new (devices (M.state unit.old) (C.state card_a.old) (D.state card_b.old)) (devices (M.state unit.new) (C.state card_a.new) (D.state card_b.new)) }
     ensures clock { (M.state unit.old).clock ≤ (M.state unit.new).clock }
     ensures clock_a { (C.state card_a.old).clock ≤ (C.state card_a.new).clock }
     ensures clock_b { (D.state card_b.old).clock ≤ (D.state card_b.new).clock }
     ensures cause { HasCause (M.state unit.old) (M.state unit.new) (is_err result) }
+    ensures later { AreLater (devices (M.state unit.old) (C.state card_a.old) (D.state card_b.old)) (devices (M.state unit.new) (C.state card_a.new) (D.state card_b.new)) }
 {
     run.keeper.cabin.put_in(slot, card);
     settle(run, at, unit, card_a, card_b, outcome)?;

@@ -4,6 +4,8 @@ ghost use Rattle.tach_media.specs.Medium.{HasCause};
 ghost use Rattle.unit_model.specs.Image.{IsUnit};
 ghost use Rattle.run_opening.specs.Units.{IsLoaded};
 ghost use Rattle.run_acts.specs.declared.run.Power.TheVariants.{Lit};
+ghost use Rattle.run_keeping.specs.Later.{AreLater};
+ghost use Rattle.run_outcome.specs.Broken.{failed_cuts, BreaksDown};
 ghost use Rattle.run_acts.specs.Power.{is_lit, has_power, minute_over};
 ghost use Rattle.run_acts.specs.Going.{end_of_seconds, IsHeld, IsLit, IsAt, IsGoing, IsWithin, IsFoundLater};
 ghost use Rattle.run_acts.specs.Room.{HasRoom, HasRoomWithin, falls_of, bare_seats};
@@ -55,6 +57,8 @@ pub(crate) fn begin_second<M: Medium, C: Chip, D: Chip>(
     ensures clock_a { (C.state card_a.old).clock ≤ (C.state card_a.new).clock }
     ensures clock_b { (D.state card_b.old).clock ≤ (D.state card_b.new).clock }
     ensures refused { outcome.new.refused ≡ outcome.old.refused }
+    ensures later { AreLater (devices (M.state unit.old) (C.state card_a.old) (D.state card_b.old)) (devices (M.state unit.new) (C.state card_a.new) (D.state card_b.new)) }
+    ensures broke { BreaksDown outcome.old.breaks.items outcome.new.breaks.items (M.state unit.old) (M.state unit.new) }
 {
     if !run.has_power() {
         return Ok(false);
@@ -94,6 +98,8 @@ fn power_on<M: Medium, C: Chip, D: Chip>(
     ensures clock_a { (C.state card_a.old).clock ≤ (C.state card_a.new).clock }
     ensures clock_b { (D.state card_b.old).clock ≤ (D.state card_b.new).clock }
     ensures refused { outcome.new.refused ≡ outcome.old.refused }
+    ensures later { AreLater (devices (M.state unit.old) (C.state card_a.old) (D.state card_b.old)) (devices (M.state unit.new) (C.state card_a.new) (D.state card_b.new)) }
+    ensures broke { BreaksDown outcome.old.breaks.items outcome.new.breaks.items (M.state unit.old) (M.state unit.new) }
 {
     match load(unit) {
         Ok(journal) => found(run, journal, speed, unit, card_a, card_b, outcome),
@@ -134,6 +140,8 @@ fn found<M: Medium, C: Chip, D: Chip>(
     ensures clock_a { (C.state card_a.old).clock ≤ (C.state card_a.new).clock }
     ensures clock_b { (D.state card_b.old).clock ≤ (D.state card_b.new).clock }
     ensures refused { outcome.new.refused ≡ outcome.old.refused }
+    ensures later { AreLater (devices (M.state unit.old) (C.state card_a.old) (D.state card_b.old)) (devices (M.state unit.new) (C.state card_a.new) (D.state card_b.new)) }
+    ensures broke { BreaksDown outcome.old.breaks.items outcome.new.breaks.items (M.state unit.old) (M.state unit.new) }
 {
     let kept = journal.last_kept();
     run.learn(kept, &mut outcome.breaks);
@@ -177,6 +185,8 @@ fn resume<M: Medium, C: Chip, D: Chip>(
     ensures clock_b { (D.state card_b.old).clock ≤ (D.state card_b.new).clock }
     ensures refused { outcome.new.refused ≡ outcome.old.refused }
     ensures cause { HasCause (M.state unit.old) (M.state unit.new) (is_err result) }
+    ensures later { AreLater (devices (M.state unit.old) (C.state card_a.old) (D.state card_b.old)) (devices (M.state unit.new) (C.state card_a.new) (D.state card_b.new)) }
+    ensures uncut { failed_cuts outcome.new.breaks.items ≡ failed_cuts outcome.old.breaks.items }
 {
     let kept = journal.last_kept();
     let is_first = outcome.breaks.is_empty();

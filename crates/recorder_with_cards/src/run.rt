@@ -8,11 +8,16 @@ ghost use Rattle.unit_model.specs.Image.{IsUnit};
 ghost use Rattle.run_outcome.specs.Room.{off_count, IsReserved};
 ghost use Rattle.run_rule.specs.Between.{devices};
 ghost use Rattle.run_keeping.specs.Books.{HaveTime};
+ghost use Rattle.run_keeping.specs.Later.{AreLater};
+ghost use Rattle.run_acts.specs.Recording.{log_of};
+ghost use Rattle.log_model.specs.Causes.{cuts};
+ghost use Rattle.tach_media.specs.Medium.{HasBroken};
+ghost use Rattle.run_outcome.specs.Broken.{BreaksDown};
 ghost use Rattle.run_acts.specs.Going.{largest_number, end_of_seconds, IsGoing};
 ghost use Rattle.run_acts.specs.Room.{HasRoom};
 ghost use Rattle.recorder_with_cards.specs.Items.{between, insertions_in};
 ghost use Rattle.recorder_with_cards.specs.Recorded.{actions_in, RecordsItem, EventsItem};
-ghost use Rattle.recorder_with_cards.specs.Ends.{AreLater, BeginAs, EndsTrace, MayRecord, IsKeptFrom};
+ghost use Rattle.recorder_with_cards.specs.Ends.{BeginAs, EndsTrace, MayRecord, IsKeptFrom};
 ghost use Rattle.recorder_with_cards.specs.Gone.{first_waiting, has_seconds, HasGone, IsRefusedBy};
 
 use crate::driving::drive;
@@ -52,6 +57,8 @@ pub fn run_trace<U: Medium, C: Chip>(
     ensures refused { IfErr result (IsRefusedBy trace.now.start outcome.old outcome.new (U.state unit.old) (U.state unit.new) (C.state card_a.old) (C.state card_a.new) (C.state card_b.old) (C.state card_b.new)) }
     ensures unit { IsUnit (U.state unit.new) }
     ensures later { AreLater (devices (U.state unit.old) (C.state card_a.old) (C.state card_b.old)) (devices (U.state unit.new) (C.state card_a.new) (C.state card_b.new)) }
+    // Each cut that a failed call made is a breakdown of the unit more, whatever it tells.
+    ensures broke { HasBroken (U.state unit.old) (U.state unit.new) (length (cuts true (log_of outcome.new))) }
 {
     let opened = judge(unit, card_a, card_b, trace.start)?;
     let mut run = Run::new(trace.start, opened);
@@ -111,6 +118,7 @@ fn go_on<M: Medium, C: Chip, D: Chip>(
     ensures gone { HasGone result (item_seconds item) run.old run.new outcome.new (M.state unit.new) (C.card card_a.new) (D.card card_b.new) (C.state card_a.new) (D.state card_b.new) }
     ensures idle { OnOk result (has_seconds item ≡ false → (run.new ≡ run.old) × (outcome.new ≡ outcome.old)) }
     ensures room { (left offs insertions actions : ℕ) → HasRoom run.old outcome.old (item_seconds item + left) (off_count item + offs) (insertions_in from to items.now + insertions) (to - from + actions) → OnOk result (has_seconds item ≡ true → HasRoom run.new outcome.new left offs insertions actions) }
+    ensures broke { BreaksDown outcome.old.breaks.items outcome.new.breaks.items (M.state unit.old) (M.state unit.new) }
 {
     match item {
         Item::Act(_) => Ok(()),

@@ -72,7 +72,7 @@ faults-are k at (Short xs m round) t =
 
 -- ---- each image is as long as a unit's
 
-as-long : (U : State) → IsCoherent U → IsUnit U → (x : List ℕ) → U.may_leave x → length x ≡ 2485808
+pub as-long : (U : State) → IsCoherent U → IsUnit U → (x : List ℕ) → U.may_leave x → length x ≡ 2485808
 as-long U whole unit x at = let all = whole.left_sized x at in let size = unit.sized in let none_behind = unit.behind in omega (arith, all, size, none_behind)
 
 same-events : (x y : List ℕ) → y ≡ x → SaysNothing x y
@@ -168,7 +168,7 @@ module _ (old new : Watch) (first n speed : ℕ) (crew : Crew) (U V A B C D : St
 
 -- ---- the faults of a turn's keeping, and then what has ended
 
-tells-long : (vs : List UnitEvent) (x c : List ℕ) → TellsFaults vs x c → length x ≡ 2485808 → length c ≡ 2485808
+pub tells-long : (vs : List UnitEvent) (x c : List ℕ) → TellsFaults vs x c → length x ≡ 2485808 → length c ≡ 2485808
 tells-long [] x c h sized = h.1 ∙ sized
 tells-long (v ∷ vs) x c h sized = tells-long vs h.1 c h.4 (h.3.outside.same_length ∙ h.2.1 ∙ sized)
 

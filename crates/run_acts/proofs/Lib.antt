@@ -55,3 +55,5 @@ pub mod SettledEvented
 pub mod SeenSpan
 pub mod TurnEvented
 pub mod TurnRecorded
+pub mod Ringing
+pub mod Uncut

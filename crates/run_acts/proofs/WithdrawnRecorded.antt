@@ -15,8 +15,8 @@ use Rattle.minute_model.specs.declared.Minute.{Minute}
 use Rattle.minute_model.specs.Span.{Span, settled, decided_in, end_of}
 use Rattle.minute_rules.specs.Kept.{StandsFor}
 use Rattle.log_model.specs.declared.lines.Break.{Break}
-use Rattle.log_model.specs.Log.{In}
-use Rattle.log_model.specs.Slots.{refusal}
+use Rattle.log_model.specs.Log.{In, RunLog, Phase, found_in}
+use Rattle.log_model.specs.Slots.{refusal, other_slot}
 use Rattle.log_model.specs.Course.{went}
 use Rattle.unit_model.specs.Image.{odometer_at}
 use Rattle.unit_rule.specs.Odometer.{odometer_after}
@@ -44,8 +44,6 @@ use Rattle.run_acts.proofs.Apart.{not-both}
 use Rattle.run_acts.proofs.Asked.{allowed-in}
 use Rattle.run_acts.proofs.NoneComes.{none-comes}
 use Rattle.log_model.specs.declared.lines.Find.{Find}
-use Rattle.log_model.specs.Log.{RunLog, Phase, found_in}
-use Rattle.log_model.specs.Slots.{other_slot}
 use Rattle.run_crew.specs.Cabin.{Stands}
 use Rattle.run_evented.specs.Noting.{Acting}
 use Rattle.run_evented.specs.SoFar.{EventedNow, puts_into}

@@ -98,9 +98,10 @@ IsGoing run unit chip_a chip_b a b = IsAt ((run.next - 1) / 60) run unit chip_a 
 abbrev pub IsWithin : Run → (unit : State) → (chip_a chip_b : CardState) → (a b : State) → Type 0
 IsWithin run unit chip_a chip_b a b = IsAt (run.next / 60) run unit chip_a chip_b a b
 
--- behind the opening no failed call refuses a run, since that is a cut; a unit that is read anew may
+-- Behind the opening no failed call refuses a run, since that is a cut; a unit that is read anew may: its image does not decode, or the minute of
+-- the second is not later than its last-kept one.
 abbrev pub IsFoundLater : RunFault → Type 0
 IsFoundLater (MediumFault device) = ⊥
 IsFoundLater (BadUnit place) = Unit {0}
-IsFoundLater (ClockBack kept second) = Unit {0}
+IsFoundLater (ClockBack kept second) = second / 60 ≤ kept
 IsFoundLater (SameCard number) = ⊥

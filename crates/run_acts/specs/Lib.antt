@@ -19,3 +19,4 @@ pub mod Faults
 pub mod Named
 pub mod Evented
 pub mod ActsEvented
+pub mod Ringing

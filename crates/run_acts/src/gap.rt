@@ -10,8 +10,10 @@ ghost use Rattle.unit_model.specs.Image.{IsUnit};
 ghost use Rattle.slot_machine.specs.Calls.{seat_in, card_in};
 ghost use Rattle.log_model.specs.Log.{In};
 ghost use Rattle.unit_notes.specs.Journal.{LeavesJournal};
+ghost use Rattle.run_keeping.specs.Later.{AreLater};
 ghost use Rattle.run_rule.specs.Between.{devices};
 ghost use Rattle.run_acts.specs.NotedEvents.{NotesEvents};
+ghost use Rattle.run_rings.specs.Same.{LeavesRings};
 ghost use Rattle.run_crew.specs.Cards.{known_of, session_of};
 ghost use Rattle.run_crew.specs.Cabin.{Stands};
 ghost use Rattle.run_keeping.specs.Keeping.{UnitReady, CardReady, HasItsRow};
@@ -56,6 +58,7 @@ pub fn note_gap<M: Medium, C: Chip, D: Chip>(
     ensures noted { (reach : GapReach) × IsGapNoted (gap_of kept run.old.next) (now_moment run.old) (is_err result) run.old run.new breaks.old breaks.new reach }
     ensures recorded { IsNoteRecorded (In 0) (is_err result) run.old run.new breaks.old breaks.new (devices (M.state unit.old) (C.state card_a.old) (D.state card_b.old)) (devices (M.state unit.new) (C.state card_a.new) (D.state card_b.new)) }
     ensures events { (reach : GapReach) × (vs : List UnitEvent) × AreGapEvents (gap_of kept run.old.next) (now_moment run.old) (is_err result) run.old run.new breaks.old breaks.new reach vs × NotesEvents vs (is_err result) (devices (M.state unit.old) (C.state card_a.old) (D.state card_b.old)) (devices (M.state unit.new) (C.state card_a.new) (D.state card_b.new)) }
+    ensures rings { LeavesRings (M.state unit.old) (M.state unit.new) }
     ensures only { run.new ≡ record run.old { keeper = run.new.keeper } }
     ensures held { IsHeld (run.new.next / 60) run.new (M.state unit.new) (C.card card_a.new) (D.card card_b.new) (C.state card_a.new) (D.state card_b.new) }
     ensures going { OnOk result (IsLit (run.new.next / 60) run.new (M.state unit.new) (C.card card_a.new) (D.card card_b.new) (C.state card_a.new) (D.state card_b.new)) }
@@ -65,6 +68,7 @@ pub fn note_gap<M: Medium, C: Chip, D: Chip>(
     ensures clock { (M.state unit.old).clock ≤ (M.state unit.new).clock }
     ensures clock_a { (C.state card_a.old).clock ≤ (C.state card_a.new).clock }
     ensures clock_b { (D.state card_b.old).clock ≤ (D.state card_b.new).clock }
+    ensures later { AreLater (devices (M.state unit.old) (C.state card_a.old) (D.state card_b.old)) (devices (M.state unit.new) (C.state card_a.new) (D.state card_b.new)) }
 {
     let Some(span) = power_gap(kept, run.next) else {
         return Ok(());
@@ -95,6 +99,7 @@ fn note_in<M: Medium, C: Chip, D: Chip>(
     ensures noted { (fell : Bool) × IsNotedIn (card_in (seat_in run.old.keeper.cabin.slots.seats slot)) slot (now_moment run.old) run.old run.new breaks.old breaks.new fell × (is_err result ≡ true → fell ≡ true) }
     ensures recorded { IsNoteRecorded (In 0) (is_err result) run.old run.new breaks.old breaks.new (devices (M.state unit.old) (C.state card_a.old) (D.state card_b.old)) (devices (M.state unit.new) (C.state card_a.new) (D.state card_b.new)) }
     ensures events { NotesFall (λ fell. IsNotedIn (card_in (seat_in run.old.keeper.cabin.slots.seats slot)) slot (now_moment run.old) run.old run.new breaks.old breaks.new fell) run.old.next (is_err result) run.new (devices (M.state unit.old) (C.state card_a.old) (D.state card_b.old)) (devices (M.state unit.new) (C.state card_a.new) (D.state card_b.new)) }
+    ensures rings { LeavesRings (M.state unit.old) (M.state unit.new) }
     ensures only { run.new ≡ record run.old { keeper = run.new.keeper } }
     ensures held { IsHeld (run.new.next / 60) run.new (M.state unit.new) (C.card card_a.new) (D.card card_b.new) (C.state card_a.new) (D.state card_b.new) }
     ensures going { OnOk result (IsLit (run.new.next / 60) run.new (M.state unit.new) (C.card card_a.new) (D.card card_b.new) (C.state card_a.new) (D.state card_b.new)) }
@@ -104,6 +109,7 @@ fn note_in<M: Medium, C: Chip, D: Chip>(
     ensures clock { (M.state unit.old).clock ≤ (M.state unit.new).clock }
     ensures clock_a { (C.state card_a.old).clock ≤ (C.state card_a.new).clock }
     ensures clock_b { (D.state card_b.old).clock ≤ (D.state card_b.new).clock }
+    ensures later { AreLater (devices (M.state unit.old) (C.state card_a.old) (D.state card_b.old)) (devices (M.state unit.new) (C.state card_a.new) (D.state card_b.new)) }
 {
     let Some(card) = run.keeper.cabin.slots.card(slot) else {
         return Ok(());
@@ -137,6 +143,7 @@ fn note_on<M: Medium, C: Chip>(
     requires room { length breaks.old.items < breaks.old.room }
     ensures noted { (fell : Bool) × IsNotedOn which slot (now_moment run.old) run.old run.new breaks.old breaks.new fell × HasBroken (C.state card.old) (C.state card.new) (falls_by fell) × HasCause (C.state card.old) (C.state card.new) fell × (is_err result ≡ true → fell ≡ true) }
     ensures events { NotesFall (λ fell. IsNotedOn which slot (now_moment run.old) run.old run.new breaks.old breaks.new fell) run.old.next (is_err result) run.new (devices (M.state unit.old) (C.state card.old) (C.state card.old)) (devices (M.state unit.new) (C.state card.new) (C.state card.new)) }
+    ensures rings { LeavesRings (M.state unit.old) (M.state unit.new) }
     ensures journal { LeavesOnly (M.state unit.old) (M.state unit.new) LeavesJournal }
     ensures moments { IfSome (session_of run.old.keeper.cabin.cards which) (λ a. LeavesOnly (C.state card.old) (C.state card.new) (IsNote a.session.application)) }
     ensures value { IfSome (session_of run.old.keeper.cabin.cards which) (λ a. IsValue a.session) }

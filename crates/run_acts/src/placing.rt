@@ -9,14 +9,17 @@ ghost use Rattle.unit_model.specs.Image.{IsUnit};
 ghost use Rattle.unit_notes.specs.Journal.{LeavesJournal};
 ghost use Rattle.slot_machine.specs.Calls.{seat_in, card_in};
 ghost use Rattle.run_crew.specs.Cards.{known_of, session_of};
-ghost use Rattle.run_crew.specs.Cabin.{Stands};
+ghost use Rattle.run_crew.specs.Cabin.{Stands, number_of_seat};
 ghost use Rattle.run_keeping.specs.Keeping.{UnitReady, CardReady, HasItsRow, tears_of};
 ghost use Rattle.run_keeping.specs.Minutes.{odometer_by};
+ghost use Rattle.run_keeping.specs.Later.{AreLater};
 ghost use Rattle.run_rule.specs.Between.{devices};
 ghost use Rattle.card_session.specs.Sessions.{IsValue};
 ghost use Rattle.device_steps.specs.CardNotes.{IsNote};
 ghost use Rattle.run_acts.specs.Noting.{IsPlaceRecorded, NotesFall, NotesPlace};
 ghost use Rattle.run_acts.specs.ActsEvented.{EventsPlace};
+ghost use Rattle.run_rings.specs.Same.{LeavesRings};
+ghost use Rattle.run_acts.specs.Ringing.{WritesPlace};
 ghost use Rattle.run_acts.specs.declared.run.Power.TheVariants.{Lit};
 ghost use Rattle.run_acts.specs.Going.{first_second, end_of_seconds, IsHeld, IsLit};
 ghost use Rattle.run_acts.specs.Room.{falls_of};
@@ -79,6 +82,7 @@ pub fn note_place<M: Medium, C: Chip, D: Chip>(
     ensures events { NotesPlace (card_in (seat_in run.old.keeper.cabin.slots.seats slot)) slot at (is_err result) run.old run.new breaks.old breaks.new (devices (M.state unit.old) (C.state card_a.old) (D.state card_b.old)) (devices (M.state unit.new) (C.state card_a.new) (D.state card_b.new)) }
     ensures evented { EventsPlace slot at (is_err result) run.old run.new breaks.old breaks.new (devices (M.state unit.old) (C.state card_a.old) (D.state card_b.old)) (devices (M.state unit.new) (C.state card_a.new) (D.state card_b.new)) }
     ensures recorded { IsPlaceRecorded slot at (is_err result) run.old run.new breaks.old breaks.new (devices (M.state unit.old) (C.state card_a.old) (D.state card_b.old)) (devices (M.state unit.new) (C.state card_a.new) (D.state card_b.new)) }
+    ensures rings { is_some (M.state unit.old).image ≡ true → WritesPlace (number_of_seat run.old.keeper.cabin.cards (seat_in run.old.keeper.cabin.slots.seats slot)) entry.now (is_err result) (M.state unit.old) (M.state unit.new) }
     ensures only { run.new ≡ record run.old { keeper = run.new.keeper } }
     ensures held { IsHeld (run.new.next / 60) run.new (M.state unit.new) (C.card card_a.new) (D.card card_b.new) (C.state card_a.new) (D.state card_b.new) }
     ensures going { OnOk result (IsLit (run.new.next / 60) run.new (M.state unit.new) (C.card card_a.new) (D.card card_b.new) (C.state card_a.new) (D.state card_b.new)) }
@@ -88,6 +92,7 @@ pub fn note_place<M: Medium, C: Chip, D: Chip>(
     ensures clock { (M.state unit.old).clock ≤ (M.state unit.new).clock }
     ensures clock_a { (C.state card_a.old).clock ≤ (C.state card_a.new).clock }
     ensures clock_b { (D.state card_b.old).clock ≤ (D.state card_b.new).clock }
+    ensures later { AreLater (devices (M.state unit.old) (C.state card_a.old) (D.state card_b.old)) (devices (M.state unit.new) (C.state card_a.new) (D.state card_b.new)) }
 {
     let Some(card) = run.keeper.cabin.slots.card(slot) else {
         return Ok(());
@@ -123,6 +128,7 @@ fn note_place_in<M: Medium, C: Chip>(
     requires room { length breaks.old.items < breaks.old.room }
     ensures noted { (fell : Bool) × IsNotedOn which slot at run.old run.new breaks.old breaks.new fell × HasBroken (C.state card.old) (C.state card.new) (falls_by fell) × HasCause (C.state card.old) (C.state card.new) fell }
     ensures events { NotesFall (λ fell. IsNotedOn which slot at run.old run.new breaks.old breaks.new fell) at.second (is_err result) run.new (devices (M.state unit.old) (C.state card.old) (C.state card.old)) (devices (M.state unit.new) (C.state card.new) (C.state card.new)) }
+    ensures rings { LeavesRings (M.state unit.old) (M.state unit.new) }
     ensures journal { LeavesOnly (M.state unit.old) (M.state unit.new) LeavesJournal }
     ensures moments { IfSome (session_of run.old.keeper.cabin.cards which) (λ a. LeavesOnly (C.state card.old) (C.state card.new) (IsNote a.session.application)) }
     ensures value { IfSome (session_of run.old.keeper.cabin.cards which) (λ a. IsValue a.session) }

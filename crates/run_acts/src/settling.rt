@@ -1,5 +1,5 @@
 //! The minutes before that of an action are decided and kept.
-ghost use Rattle.std.specs.Prelude.{◌≡◌, ℕ, ◌+◌, ◌-◌, ◌*◌, ◌/◌, ◌≤◌, ◌++◌, List, Option, OnOk, length, is_err};
+ghost use Rattle.std.specs.Prelude.{◌≡◌, ℕ, ◌+◌, ◌-◌, ◌*◌, ◌/◌, ◌≤◌, ◌++◌, List, Option, OnOk, length, is_some, is_err};
 ghost use Rattle.trace_model.specs.declared.Card.{Card};
 ghost use Rattle.tach_media.specs.Medium.{HasCause, HasBroken};
 ghost use Rattle.run_keeping.specs.Keeping.{tears_of, most_tears};
@@ -11,6 +11,7 @@ ghost use Rattle.slot_machine.specs.Calls.{seat_in};
 ghost use Rattle.minute_model.specs.declared.Minute.{Minute};
 ghost use Rattle.minute_model.specs.Span.{Span, settled, decided_in};
 ghost use Rattle.minute_rules.specs.Kept.{StandsFor};
+ghost use Rattle.run_keeping.specs.Later.{AreLater};
 ghost use Rattle.run_rule.specs.Between.{devices};
 ghost use Rattle.run_keeping.specs.Minutes.{Reach, IsReach};
 ghost use Rattle.run_keeping.specs.Decided.{BooksAll};
@@ -65,9 +66,11 @@ pub fn settle<M: Medium, C: Chip, D: Chip>(
     ensures bare { OnOk result ((slot : Slot) → IsBareIn run.old.keeper.cabin slot → (seat_in run.new.keeper.cabin.slots.seats slot ≡ seat_in run.old.keeper.cabin.slots.seats slot) × IsBareIn run.new.keeper.cabin slot) }
     ensures takes { Takes 0 0 0 run.old run.new outcome.old outcome.new }
     ensures more { length outcome.old.breaks.items ≤ length outcome.new.breaks.items }
+    ensures tells { is_some (M.state unit.new).image ≡ is_some (M.state unit.old).image }
     ensures cause { HasCause (M.state unit.old) (M.state unit.new) (is_err result) }
     ensures a_broken { HasBroken (C.state card_a.old) (C.state card_a.new) (tears_of run.old.keeper.cabin.cards.a.accepted - tears_of run.new.keeper.cabin.cards.a.accepted) }
     ensures b_broken { HasBroken (D.state card_b.old) (D.state card_b.new) (tears_of run.old.keeper.cabin.cards.b.accepted - tears_of run.new.keeper.cabin.cards.b.accepted) }
+    ensures later { AreLater (devices (M.state unit.old) (C.state card_a.old) (D.state card_b.old)) (devices (M.state unit.new) (C.state card_a.new) (D.state card_b.new)) }
 {
     let decided = run.minutes.settle();
     run.keeper.keep_all(

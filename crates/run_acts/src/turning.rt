@@ -20,6 +20,8 @@ ghost use Rattle.run_acts.specs.Recording.{RecordsTurn};
 ghost use Rattle.run_acts.specs.Faults.{NotesKeeping, NotesTurn};
 ghost use Rattle.run_keeping.specs.Minutes.{Reach};
 ghost use Rattle.run_acts.specs.declared.run.Run.{Run};
+ghost use Rattle.run_keeping.specs.Later.{AreLater};
+ghost use Rattle.run_outcome.specs.Broken.{BreaksDown};
 ghost use Rattle.run_rule.specs.Between.{devices};
 
 use crate::feeding::feed;
@@ -61,6 +63,8 @@ pub fn turn<M: Medium, C: Chip, D: Chip>(
     ensures breaks { length outcome.old.breaks.items ≤ length outcome.new.breaks.items }
     ensures refused { outcome.new.refused ≡ outcome.old.refused }
     ensures finds { outcome.new.finds ≡ outcome.old.finds }
+    ensures later { AreLater (devices (M.state unit.old) (C.state card_a.old) (D.state card_b.old)) (devices (M.state unit.new) (C.state card_a.new) (D.state card_b.new)) }
+    ensures broke { BreaksDown outcome.old.breaks.items outcome.new.breaks.items (M.state unit.old) (M.state unit.new) }
 {
     if !run.is_lit() {
         run.pass(n, begun);
@@ -100,6 +104,8 @@ fn lit_turn<M: Medium, C: Chip, D: Chip>(
     ensures breaks { length outcome.old.breaks.items ≤ length outcome.new.breaks.items }
     ensures refused { outcome.new.refused ≡ outcome.old.refused }
     ensures finds { outcome.new.finds ≡ outcome.old.finds }
+    ensures later { AreLater (devices (M.state unit.old) (C.state card_a.old) (D.state card_b.old)) (devices (M.state unit.new) (C.state card_a.new) (D.state card_b.new)) }
+    ensures broke { BreaksDown outcome.old.breaks.items outcome.new.breaks.items (M.state unit.old) (M.state unit.new) }
 {
     let decided = feed(&mut run.minutes, n, speed);
     let at = Moment {
@@ -177,6 +183,7 @@ fn keep_turn<M: Medium, C: Chip, D: Chip>(
     ensures a_broken { HasBroken (C.state card_a.old) (C.state card_a.new) (tears_of run.old.keeper.cabin.cards.a.accepted - tears_of run.new.keeper.cabin.cards.a.accepted) }
     ensures b_broken { HasBroken (D.state card_b.old) (D.state card_b.new) (tears_of run.old.keeper.cabin.cards.b.accepted - tears_of run.new.keeper.cabin.cards.b.accepted) }
     ensures cause { HasCause (M.state unit.old) (M.state unit.new) (is_err result) }
+    ensures later { AreLater (devices (M.state unit.old) (C.state card_a.old) (D.state card_b.old)) (devices (M.state unit.new) (C.state card_a.new) (D.state card_b.new)) }
 {
     let crew = run.keeper.cabin.crew();
     run.keeper.keep_all(

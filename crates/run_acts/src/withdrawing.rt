@@ -1,5 +1,5 @@
 //! A card leaves its slot by hand: it is withdrawn, or pulled out.
-ghost use Rattle.std.specs.Prelude.{◌≡◌, ◌≢◌, ℕ, ◌+◌, ◌*◌, ◌/◌, ◌<◌, ◌≤◌, ◌++◌, Bool, false, not, List, Option, Some, None, IfSome, OnOk, length, is_some, is_err};
+ghost use Rattle.std.specs.Prelude.{◌≡◌, ◌≢◌, ℕ, ◌+◌, ◌-◌, ◌*◌, ◌/◌, ◌<◌, ◌≤◌, ◌++◌, Bool, true, false, not, List, Option, Some, None, IfSome, OnOk, length, is_some, is_err};
 ghost use Rattle.trace_model.specs.declared.Card.{Card};
 ghost use Rattle.activity_codec.specs.declared.values.Activity.{Activity};
 ghost use Rattle.tach_media.specs.Medium.{LeavesOnly, HasCause, HasBroken};
@@ -19,6 +19,7 @@ ghost use Rattle.run_acts.specs.Room.{falls_of, Takes};
 ghost use Rattle.minute_model.specs.declared.Minute.{Minute};
 ghost use Rattle.minute_model.specs.Span.{Span, settled, decided_in};
 ghost use Rattle.minute_rules.specs.Kept.{StandsFor};
+ghost use Rattle.run_keeping.specs.Later.{IsLater, AreLater};
 ghost use Rattle.run_rule.specs.Between.{devices};
 ghost use Rattle.run_keeping.specs.Minutes.{Told, Reach, IsReach};
 ghost use Rattle.run_acts.specs.Acting.{Closing, IsClosed, closed_falls, IsWithdrawn, left_run, pulled_run, pulled_breaks, told_of};
@@ -27,6 +28,7 @@ ghost use Rattle.run_acts.specs.Recording.{RecordsAction};
 ghost use Rattle.run_acts.specs.Noting.{SaysNoMore, NotesClosing, NotesWithdrawing};
 ghost use Rattle.run_acts.specs.ActsEvented.{EventsWithdrawal};
 ghost use Rattle.run_acts.specs.Behind.{BooksWithdrawn};
+ghost use Rattle.run_acts.specs.Ringing.{WithdrawsSo, ClosesSo, WritesWithdrawal};
 
 use crate::run::Run;
 use crate::settling::settle;
@@ -75,6 +77,7 @@ pub fn withdraw<M: Medium, C: Chip, D: Chip>(
     ensures events { NotesWithdrawing (card_in (seat_in run.old.keeper.cabin.slots.seats slot)) slot at (is_err result) run.old run.new outcome.old outcome.new (devices (M.state unit.old) (C.state card_a.old) (D.state card_b.old)) (devices (M.state unit.new) (C.state card_a.new) (D.state card_b.new)) }
     ensures evented { EventsWithdrawal slot at (is_err result) run.old run.new outcome.old outcome.new (devices (M.state unit.old) (C.state card_a.old) (D.state card_b.old)) (devices (M.state unit.new) (C.state card_a.new) (D.state card_b.new)) }
     ensures recorded { at.late ≡ false → (speed : ℕ) → RecordsAction (Withdraw slot) at.begun speed (is_err result) run.old run.new outcome.old outcome.new (devices (M.state unit.old) (C.state card_a.old) (D.state card_b.old)) (devices (M.state unit.new) (C.state card_a.new) (D.state card_b.new)) }
+    ensures rings { is_some (M.state unit.old).image ≡ true → WithdrawsSo (card_in (seat_in run.old.keeper.cabin.slots.seats slot)) slot at (is_err result) run.old run.new outcome.old outcome.new (M.state unit.old) (M.state unit.new) }
     ensures held { IsHeld (run.new.next / 60) run.new (M.state unit.new) (C.card card_a.new) (D.card card_b.new) (C.state card_a.new) (D.state card_b.new) }
     ensures going { OnOk result (IsLit (run.new.next / 60) run.new (M.state unit.new) (C.card card_a.new) (D.card card_b.new) (C.state card_a.new) (D.state card_b.new)) }
     ensures takes { Takes 0 0 0 run.old run.new outcome.old outcome.new }
@@ -83,6 +86,7 @@ pub fn withdraw<M: Medium, C: Chip, D: Chip>(
     ensures clock { (M.state unit.old).clock ≤ (M.state unit.new).clock }
     ensures clock_a { (C.state card_a.old).clock ≤ (C.state card_a.new).clock }
     ensures clock_b { (D.state card_b.old).clock ≤ (D.state card_b.new).clock }
+    ensures later { AreLater (devices (M.state unit.old) (C.state card_a.old) (D.state card_b.old)) (devices (M.state unit.new) (C.state card_a.new) (D.state card_b.new)) }
 {
     let Some(card) = run.keeper.cabin.slots.card(slot) else {
         return Ok(());
@@ -116,6 +120,7 @@ fn close<M: Medium, C: Chip>(
     ensures closed { (closing : Closing) × IsClosed which slot at run.old run.new breaks.old breaks.new closing × HasBroken (C.state card.old) (C.state card.new) (closed_falls closing) }
     ensures events { NotesClosing which slot at (is_err result) run.old run.new breaks.old breaks.new (devices (M.state unit.old) (C.state card.old) (C.state card.old)) (devices (M.state unit.new) (C.state card.new) (C.state card.new)) }
     ensures journal { LeavesOnly (M.state unit.old) (M.state unit.new) LeavesJournal }
+    ensures rings { is_some (M.state unit.old).image ≡ true → ClosesSo which slot at (is_err result) run.old run.new breaks.old breaks.new (M.state unit.old) (M.state unit.new) }
     ensures left { IfSome (session_of run.old.keeper.cabin.cards which) (λ s. (act : Activity) × LeavesOnly (C.state card.old) (C.state card.new) (λ x c. IsSession s.session x → IsCardClosing s.session act x c)) }
     ensures bare { session_of run.old.keeper.cabin.cards which ≡ None → card.new ≡ card.old }
     ensures unit { IsUnit (M.state unit.new) }
@@ -127,6 +132,7 @@ fn close<M: Medium, C: Chip>(
     ensures more { (C.state card.old).breakdowns ≤ (C.state card.new).breakdowns }
     ensures clock_card { (C.state card.old).clock ≤ (C.state card.new).clock }
     ensures cause { HasCause (M.state unit.old) (M.state unit.new) (is_err result) }
+    ensures later { IsLater (C.state card.old) (C.state card.new) }
 {
     let selected = run.minutes.selected(slot);
     let sizes = run.keeper.cabin.cards.of(which).sizes;
@@ -155,6 +161,7 @@ fn note_withdrawal<M: Medium>(
     requires noted { noted ≤ run.now.noted }
     requires odometer { run.now.keeper.odometer ≤ HIGHEST_ODOMETER }
     ensures quiet { SaysNoMore (M.state unit.old) (M.state unit.new) }
+    ensures rings { is_some (M.state unit.old).image ≡ true → WritesWithdrawal (record { index = entry; behind = run.now.noted - noted }) at.second (is_err result) run.now (M.state unit.old) (M.state unit.new) }
     ensures journal { LeavesOnly (M.state unit.old) (M.state unit.new) LeavesJournal }
     ensures cause { HasCause (M.state unit.old) (M.state unit.new) (is_err result) }
 {

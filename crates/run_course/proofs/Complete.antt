@@ -26,7 +26,7 @@ use Rattle.history_model.specs.Growth.{as_span}
 use Rattle.history_model.specs.Book.{all}
 use Rattle.history_model.specs.Completeness.{deciding_of, IsMarked, FailedCutIn, TornBetween, BrokenIn, IsComplete}
 use Rattle.history_model.proofs.Deciding.{counted, span-settled, short-none, apart-ended}
-use Rattle.history_model.proofs.Decided.{after-decided, unit-decided}
+use Rattle.history_model.proofs.Decided.{after-decided, decided-after, unit-decided}
 use Rattle.history_model.proofs.Growing.{apart-last, dark-history, begun-history}
 use Rattle.history_model.proofs.Told.{more-told, spanned-so_far, told-next}
 use Rattle.unit_course.specs.Followed.{Lit, as_spans}

@@ -8,6 +8,7 @@ ghost use Rattle.log_model.specs.Slots.{other_slot};
 ghost use Rattle.run_crew.specs.Cards.{known_of, session_of};
 ghost use Rattle.run_crew.specs.Cabin.{Stands};
 ghost use Rattle.run_keeping.specs.Keeping.{UnitReady, CardReady, HasItsRow};
+ghost use Rattle.run_keeping.specs.Later.{IsLater};
 ghost use Rattle.run_entering.specs.Entering.{taken_as, most_owed};
 ghost use Rattle.card_session.specs.Sessions.{IsValue};
 ghost use Rattle.run_told.specs.Told.{arranged};
@@ -108,6 +109,7 @@ fn note_moving<M: Medium, C: Chip, D: Chip>(
     ensures card { CardReady (known_of keeper.new.cabin.cards entering.which) (C.card card.new) (C.state card.new) }
     ensures size { (C.state card.new).size ≡ (C.state card.old).size }
     ensures more { (C.state card.old).breakdowns ≤ (C.state card.new).breakdowns }
+    ensures later { IsLater (C.state card.old) (C.state card.new) }
 {
     let second = entering.at.second;
     note_driving(keeper, second, unit)?;
@@ -149,6 +151,7 @@ fn note_entered<M: Medium, C: Chip, D: Chip>(
     ensures card { CardReady (known_of keeper.new.cabin.cards entering.which) (C.card card.new) (C.state card.new) }
     ensures size { (C.state card.new).size ≡ (C.state card.old).size }
     ensures more { (C.state card.old).breakdowns ≤ (C.state card.new).breakdowns }
+    ensures later { IsLater (C.state card.old) (C.state card.new) }
 {
     let crew = keeper.cabin.crew();
     if entering.speed > 0 {
@@ -198,6 +201,7 @@ pub(crate) fn take_in<M: Medium, C: Chip, D: Chip>(
     ensures size { (C.state card.new).size ≡ (C.state card.old).size }
     ensures more { (C.state card.old).breakdowns ≤ (C.state card.new).breakdowns }
     ensures most { length entered.owed.items ≤ most_owed }
+    ensures later { IsLater (C.state card.old) (C.state card.new) }
 {
     let look = entered.look;
     let replayed = entered.replayed;

@@ -24,6 +24,8 @@ use Rattle.run_crew.specs.declared.cabin.Cabin.{Cabin}
 use Rattle.run_crew.specs.Cabin.{crew_of}
 use Rattle.run_events.specs.Shown.{SaysNothing, SaysNothingBut}
 use Rattle.run_events.proofs.Frames.{all-apart, event-but, between-nothing, keeps-nothing}
+use Rattle.run_rings.specs.Same.{HasSameRings, LeavesRings}
+use Rattle.run_rings.proofs.Same.{same-rings, then-same, outside-both, table-outside, behind-same}
 use Rattle.run_keeping.specs.declared.keeper.Keeper.{Keeper}
 use Rattle.run_keeping.specs.declared.keeper.Moment.{Moment}
 use Rattle.run_keeping.specs.Keeping.{Fate, Still, Has, Fell, has_fallen, cabin_by, IsBrought, IsNotingFault, IsFaultNoted}
@@ -39,10 +41,10 @@ nothing-then : (x y c : List ℕ) → SaysNothing x y → SaysNothing y c → Sa
 nothing-then x y c a b = record { tables = λ kind there. b.tables kind there ∙ a.tables kind there; first_over = b.first_over ∙ a.first_over; over_count = b.over_count ∙ a.over_count }
 
 the-same : (x : List ℕ) → SaysTheSame x x
-the-same x = (same-events x, refl)
+the-same x = (same-events x, refl, same-rings x)
 
 same-then : (x y c : List ℕ) → SaysTheSame x y → SaysTheSame y c → SaysTheSame x c
-same-then x y c a b = (nothing-then x y c a.0 b.0, b.1 ∙ a.1)
+same-then x y c a b = (nothing-then x y c a.0 b.0, b.1 ∙ a.1, then-same x y c a.2 b.2)
 
 but-of : (kind : ℕ) (x c : List ℕ) → SaysNothing x c → SaysNothingBut kind x c
 but-of kind x c a = record { tables = λ other there ne. a.tables other there; first_over = λ ne. a.first_over; over_count = λ ne. a.over_count }
@@ -78,6 +80,13 @@ tells-but : (vs : List UnitEvent) (x c : List ℕ) → TellsFaults vs x c → Sa
 tells-but [] x c h = but-of CARD_FAULT x c h.0
 tells-but (v ∷ vs) x c h = but-then CARD_FAULT x h.0 c (but-of CARD_FAULT x h.0 h.2.0) (but-then CARD_FAULT h.0 h.1 c (noted-but (fault_bytes v) h.0 h.1 h.3) (tells-but vs h.1 c h.4))
 
+fault-rings : (front x c : List ℕ) → IsEventNoted CARD_FAULT front x c → HasSameRings x c
+fault-rings front x c noted = table-outside CARD_FAULT x c noted.outside
+
+pub tells-rings : (vs : List UnitEvent) (x c : List ℕ) → TellsFaults vs x c → HasSameRings x c
+tells-rings [] x c h = h.2
+tells-rings (v ∷ vs) x c h = then-same x h.0 c h.2.2 (then-same h.0 h.1 c (fault-rings (fault_bytes v) h.0 h.1 h.3) (tells-rings vs h.1 c h.4))
+
 both-none : (vs ws : List UnitEvent) → vs ++ ws ≡ [] → (vs ≡ []) × (ws ≡ [])
 both-none [] ws is = (refl, is)
 both-none (v ∷ vs) ws is = absurd (cc)
@@ -98,31 +107,34 @@ notes-then vs ws true U V W a b = λ c at.
             let both = both-none vs ws none in
             nothing-then x.0 y.0 c (subst (λ (us : List UnitEvent). TellsFaults us x.0 y.0) both.0 x.2).0 (y.2.0 both.1)),
         but-then CARD_FAULT x.0 y.0 c (tells-but vs x.0 y.0 x.2) y.2.1,
+        then-same x.0 y.0 c (tells-rings vs x.0 y.0 x.2) y.2.2,
       ),
     )
 
 -- A CALL of which no event is told
 says-to : (failed : Bool) (x c : List ℕ) → SaysTheSame x c → TellsTo failed [] x c
 says-to false x c h = h
-says-to true x c h = ((λ none. h.0), but-of CARD_FAULT x c h.0)
+says-to true x c h = ((λ none. h.0), but-of CARD_FAULT x c h.0, h.2)
 
-pub notes-nothing : (failed : Bool) (U V : State) (R : List ℕ → List ℕ → Type 0) → IsCoherent U → IsCoherent V → LeavesOnly U V R → ((x c : List ℕ) → R x c → SaysNothing x c) → NotesFaults failed [] U V
+pub notes-nothing : (failed : Bool) (U V : State) (R : List ℕ → List ℕ → Type 0) → IsCoherent U → IsCoherent V → LeavesOnly U V R → ((x c : List ℕ) → R x c → SaysNothing x c × HasSameRings x c) → NotesFaults failed [] U V
 notes-nothing failed U V R whole behind run none = λ c at. ⊎_elim
     (λ old. (c, old, says-to failed c c (the-same c)))
-    (λ new. (new.0, whole.is_left new.0 new.1, says-to failed new.0 c (none new.0 c new.2, let late = behind.left_sized c at in let early = whole.sized new.0 new.1 in let a = run.size in let b = run.behind in omega (arith, late, early, a, b))))
+    (λ new. (new.0, whole.is_left new.0 new.1, says-to failed new.0 c ((none new.0 c new.2).0, (let late = behind.left_sized c at in let early = whole.sized new.0 new.1 in let a = run.size in let b = run.behind in omega (arith, late, early, a, b)), (none new.0 c new.2).1)))
     (run.now c at)
 
 pub notes-none : (failed : Bool) (U : State) → NotesFaults failed [] U U
 notes-none failed U = λ c at. (c, at, says-to failed c c (the-same c))
 
 pub notes-failed : (U V : State) → NotesFaults false [] U V → NotesFaults true [] U V
-notes-failed U V h = λ c at. let x = h c at in (x.0, x.1, ((λ none. x.2.0), but-of CARD_FAULT x.0 c x.2.0))
+notes-failed U V h = λ c at. let x = h c at in (x.0, x.1, ((λ none. x.2.0), but-of CARD_FAULT x.0 c x.2.0, x.2.2))
 
-pub putting-nothing : (number : List ℕ) (e : Entry) (x c : List ℕ) → IsPutting number e x c → SaysNothing x c
-putting-nothing number e x c h = between-nothing OWED.place OWED.size x c h.outside (omega arith) (omega arith)
+pub putting-nothing : (number : List ℕ) (e : Entry) (x c : List ℕ) → IsPutting number e x c → SaysNothing x c × HasSameRings x c
+putting-nothing number e x c h = (between-nothing OWED.place OWED.size x c h.outside (omega arith) (omega arith), outside-both OWED.place OWED.size x c (inl (omega arith)) h.outside)
 
-pub keeping-nothing : (k : UnitMinute) (odometer : ℕ) (x c : List ℕ) → IsKeeping k odometer x c → SaysNothing x c
-keeping-nothing k odometer x c h = keeps-nothing x c (besides-keeps x c h.outside)
+pub keeping-nothing : (k : UnitMinute) (odometer : ℕ) (x c : List ℕ) → IsKeeping k odometer x c → SaysNothing x c × HasSameRings x c
+keeping-nothing k odometer x c h =
+    let keeps = besides-keeps x c h.outside in
+    (keeps-nothing x c keeps, behind-same x c keeps.rest)
 
 -- WHAT BECAME OF AN ENTRY
 now-in : (U V : State) (R : List ℕ → List ℕ → Type 0) → IsCoherent V → LeavesOnly U V R → V.works ≡ true → (c : List ℕ) → V.may_leave c → (x : List ℕ) × (U.image ≡ Some x) × (V.image ≡ Some c)
@@ -145,8 +157,8 @@ fate-notes Fell false second cabin U V u v run works only noted = λ c at.
     let is : IsFaultNoted Fell second (crew_of cabin) n.0 c = subst (λ (q : Option (List ℕ)). IfSome q (IsFaultNoted Fell second (crew_of cabin) n.0)) n.2 one in
     (n.0, u.is_left n.0 n.1, (n.0, c, the-same n.0, is, the-same c))
 fate-notes Fell true second cabin U V u v run works only noted = λ c at. ⊎_elim
-    (λ old. (c, old, ((λ none. absurd (cc)), but-of CARD_FAULT c c (same-events c))))
-    (λ new. (new.0, u.is_left new.0 new.1, ((λ none. absurd (cc)), event-but CARD_FAULT fault-kind _ new.0 c new.2)))
+    (λ old. (c, old, ((λ none. absurd (cc)), but-of CARD_FAULT c c (same-events c), same-rings c)))
+    (λ new. (new.0, u.is_left new.0 new.1, ((λ none. absurd (cc)), event-but CARD_FAULT fault-kind _ new.0 c new.2, table-outside CARD_FAULT new.0 c new.2.outside)))
     (run.now c at)
 
 -- AN ENTRY WAS BROUGHT, where these were the slots and the sessions before
@@ -200,3 +212,10 @@ last-noted k at xs minute round t u p U V W cards told a b =
     let here : Present = present_at k.cabin minute in
     notes-then (faults_of k at xs t) (last_faults here at round (told_by k at xs t).keeper.cabin) true U V W a
     (subst (λ (q : Told). NotesFaults true (last_faults here at round q.keeper.cabin) V W) told (subst (λ (q : Present). NotesFaults true (last_faults q at round u.keeper.cabin) V W) cards b))
+
+-- ---- the rings
+
+-- A KEEPING leaves both rings as they are
+pub faults-leave : (failed : Bool) (vs : List UnitEvent) (U V : State) → NotesFaults failed vs U V → LeavesRings U V
+faults-leave false vs U V h = λ c at. let x = h c at in (x.0, x.1, tells-rings vs x.0 c x.2)
+faults-leave true vs U V h = λ c at. let x = h c at in (x.0, x.1, x.2.2)

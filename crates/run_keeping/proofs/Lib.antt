@@ -17,3 +17,4 @@ pub mod MinuteBooked
 pub mod DecidedBooked
 pub mod MarksBooked
 pub mod Faults
+pub mod Later

@@ -63,6 +63,7 @@ string-same f c b d X same s = record {
   kept = λ x left. subst (λ (es : List Entry). KeepsOf f.image (f.start.entries ++ counted_to (own_view x).mark es) (own_view x).held) same (s.kept x left);
   valid = s.valid;
   sizes = s.sizes;
+  number = s.number;
   rises = subst Rise same s.rises;
 }
 

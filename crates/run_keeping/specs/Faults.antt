@@ -10,6 +10,7 @@ use Rattle.run_crew.specs.declared.cards.Crew.{Crew}
 use Rattle.run_crew.specs.Cabin.{crew_of}
 use Rattle.run_notes.specs.Entries.{entry_of}
 use Rattle.run_events.specs.Shown.{SaysNothing, SaysNothingBut}
+use Rattle.run_rings.specs.Same.{HasSameRings}
 use Rattle.slot_machine.specs.declared.seats.Present.{Present}
 use Rattle.run_keeping.specs.declared.keeper.Keeper.{Keeper}
 use Rattle.run_keeping.specs.declared.keeper.Moment.{Moment}
@@ -44,19 +45,19 @@ abbrev pub faults_to : Keeper → Moment → Reach → Told → List UnitEvent
 faults_to k at (Whole xs) t = faults_of k at xs t
 faults_to k at (Short xs m round) t = faults_of k at xs t ++ last_faults (present_at k.cabin m.minute) at round (told_by k at xs t).keeper.cabin
 
--- an image is as long as another, and says the same of events
+-- an image is as long as another, says the same of events, and has the same rings
 abbrev pub SaysTheSame : (x c : List ℕ) → Type 0
-SaysTheSame x c = SaysNothing x c × (length c ≡ length x)
+SaysTheSame x c = SaysNothing x c × (length c ≡ length x) × HasSameRings x c
 
--- AN IMAGE TELLS OF THESE FAULTS more than another, which were noted one after another, and else says the same of events.
+-- AN IMAGE TELLS OF THESE FAULTS more than another, which were noted one after another, and else says the same of events and has the same rings.
 abbrev pub TellsFaults : List UnitEvent → (x c : List ℕ) → Type 0
 TellsFaults [] x c = SaysTheSame x c
 TellsFaults (v ∷ vs) x c = (y : List ℕ) × (z : List ℕ) × SaysTheSame x y × IsEventNoted CARD_FAULT (fault_bytes v) y z × TellsFaults vs z c
 
--- or the unit failed, and a fault may be noted or not: without one the image says the same of events
+-- or the unit failed, and a fault may be noted or not: without one the image says the same of events; the rings are the same
 abbrev pub TellsTo : (failed : Bool) → List UnitEvent → (x c : List ℕ) → Type 0
 TellsTo false vs x c = TellsFaults vs x c
-TellsTo true vs x c = (vs ≡ [] → SaysNothing x c) × SaysNothingBut CARD_FAULT x c
+TellsTo true vs x c = (vs ≡ [] → SaysNothing x c) × SaysNothingBut CARD_FAULT x c × HasSameRings x c
 
 -- SO DOES EACH IMAGE that a stop may leave behind a call
 abbrev pub NotesFaults : (failed : Bool) → List UnitEvent → (old new : State) → Type 0

@@ -4,3 +4,4 @@ pub mod Books
 pub mod Owing
 pub mod Decided
 pub mod Faults
+pub mod Later

@@ -1,5 +1,5 @@
 -- Why the opening of a run is refused, and that it leaves the devices as they were (profile).
-use Rattle.std.specs.Prelude.{◌≡◌, ℕ, ◌/◌, ◌<◌, ◌≤◌, Some, IfSome}
+use Rattle.std.specs.Prelude.{◌≡◌, ◌⊎◌, ℕ, ◌/◌, ◌<◌, ◌≤◌, Some, IfSome}
 use Rattle.tach_media.specs.Medium.{State, LeavesOnly, Unchanged, Rose}
 use Rattle.run_model.specs.declared.Device.{Device}
 use Rattle.run_model.specs.declared.Device.TheVariants.{Unit as Recorder, CardA, CardB}
@@ -10,12 +10,14 @@ use Rattle.run_opening.specs.Cards.{HasNumber}
 use Rattle.run_opening.specs.declared.fault.RunFault.{RunFault}
 use Rattle.run_opening.specs.declared.fault.RunFault.TheVariants.{MediumFault, BadUnit, ClockBack, SameCard}
 
--- A device is as it was: nothing was written, and each image that a stop leaves it might have left before.
+-- A device is as it was: nothing was written, each image that a stop leaves it might have left before, and it broke down only where a call
+-- failed.
 pub record IsAsItWas (old new : State) : Type 0 where
   pub leaves : LeavesOnly old new Unchanged
   pub clock : new.clock ≡ old.clock
   pub faults : old.faults ≤ new.faults
   pub breakdowns : old.breakdowns ≤ new.breakdowns
+  pub unbroken : Rose old.faults new.faults ⊎ (new.breakdowns ≡ old.breakdowns)
 
 -- the faults of a device so far
 abbrev pub faults_of : Devices → Device → ℕ

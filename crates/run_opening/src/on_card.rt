@@ -3,6 +3,7 @@ ghost use Rattle.std.specs.Prelude.{◌≡◌, ◌≤◌, Some, None, Ok, IfOk, 
 ghost use Rattle.card_layout.specs.Application.{application_in};
 ghost use Rattle.tach_media.specs.Medium.{LeavesOnly, Unchanged, Reads, HasCause, revivable};
 ghost use Rattle.card_commands.specs.Ports.{IsPort, IsJudged, application_file};
+ghost use Rattle.run_opening.specs.Opening.{IsAsItWas};
 ghost use Rattle.run_opening.specs.Cards.{IsFoundOn, AreTwo, IsOneNumber, IsMediumFault};
 
 use crate::fault::RunFault;
@@ -69,6 +70,7 @@ pub fn judge_card<C: Chip>(card: &mut C, device: Device) -> Result<Known, RunFau
     requires size { LARGEST_IMAGE ≤ (C.state card.old).size }
     ensures found { IfOk result (λ known. IsFoundOn known (C.card card.new) (C.state card.new)) }
     ensures refused { IfErr result (IsMediumFault device) }
+    ensures same { IsAsItWas (C.state card.old) (C.state card.new) }
     ensures leaves { LeavesOnly (C.state card.old) (C.state card.new) Unchanged }
     ensures clock { (C.state card.new).clock ≡ (C.state card.old).clock }
     ensures cause { HasCause (revivable (C.state card.old)) (C.state card.new) (is_err result) }

@@ -5,6 +5,7 @@ ghost use Rattle.unit_model.specs.declared.layout.TheConstants.{IMAGE_SIZE};
 ghost use Rattle.unit_model.specs.Image.{IsUnit};
 ghost use Rattle.unit_memory.specs.Fault.{has_failed};
 ghost use Rattle.unit_memory.specs.Identified.{IsIdentity};
+ghost use Rattle.run_opening.specs.Opening.{IsAsItWas};
 ghost use Rattle.run_opening.specs.Units.{IsLoaded, IsNotLoaded, HasBrokenDown, IsClockBack, IsUnitRefused, opening_fault};
 
 use crate::fault::RunFault;
@@ -87,8 +88,7 @@ pub fn judge_unit<M: Medium>(unit: &mut M, start: u32) -> Result<OpenedUnit, Run
     ensures unit { IsUnit (M.state unit.old) → IsUnit (M.state unit.new) }
     ensures leaves { LeavesOnly (M.state unit.old) (M.state unit.new) Unchanged }
     ensures clock { (M.state unit.new).clock ≡ (M.state unit.old).clock }
-    ensures faults { (M.state unit.old).faults ≤ (M.state unit.new).faults }
-    ensures breakdowns { (M.state unit.old).breakdowns ≤ (M.state unit.new).breakdowns }
+    ensures same { IsAsItWas (M.state unit.old) (M.state unit.new) }
     ensures cause { OnOk result (HasCause (revivable (M.state unit.old)) (M.state unit.new) false) }
 {
     match open(unit) {

@@ -1,2 +1,3 @@
 pub mod Items
 pub mod Seams
+pub mod Broken

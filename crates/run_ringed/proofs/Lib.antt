@@ -4,3 +4,5 @@ pub mod Rings
 pub mod Withdrawn
 pub mod Shown
 pub mod Around
+pub mod Bytes
+pub mod SoFar

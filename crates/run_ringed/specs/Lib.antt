@@ -1,1 +1,2 @@
 pub mod Ringed
+pub mod SoFar

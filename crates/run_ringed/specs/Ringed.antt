@@ -1,13 +1,12 @@
 -- What the rings of insertions and places of a unit carry of a run with cards (profile), from note to note.
 use Rattle.std.specs.Prelude.{◌≡◌, ◌⊎◌, ℕ, suc, ◌<◌, ◌≤◌, ◌^◌, Bool, true, false, Option, Some, None, IfSome, option_map, List, [], ◌∷◌, ◌++◌, length}
 use Rattle.std.specs.List.{AllByRecursion, list_any}
-use Rattle.byte_fields.specs.Images.{bytes_at}
 use Rattle.trace_model.specs.declared.Card.{Card}
 use Rattle.trace_model.specs.Trace.{TraceSecond}
 use Rattle.tacho_types.specs.declared.numbers.TimeReal.{TimeReal}
 use Rattle.tacho_types.specs.declared.numbers.Odometer.{Odometer}
 use Rattle.tach_media.specs.Medium.{State}
-use Rattle.gated_ring.specs.Ring.{Shape, PointsInside, IsDense, indices, size_of, taken}
+use Rattle.gated_ring.specs.Ring.{Shape, PointsInside, IsDense, indices, taken}
 use Rattle.gated_ring.specs.Change.{IsAdded, IsAdding}
 use Rattle.message_model.specs.Records.{insertion_ring, unit_place_ring}
 use Rattle.unit_notes.specs.Noting.{IsWithdrawn, IsWithdrawing}
@@ -23,6 +22,7 @@ use Rattle.safety_model.specs.Safe.{Devices, card_of}
 use Rattle.safety_model.specs.Side.{holder_of, IsPrevious}
 use Rattle.run_rule.specs.Found.{found_of}
 use Rattle.run_rings.specs.Carried.{Carries}
+pub use Rattle.run_rings.specs.Same.{HasSameRings, LeavesRings}
 use Rattle.run_recorded.specs.Origin.{Origin}
 use Rattle.run_recorded.specs.Beside.{HaveLeftMore}
 
@@ -116,15 +116,6 @@ pub record Ringed (o : Origin) (log : RunLog) (spans : List SpanFrom) (notes : L
       ShowsNotes unit_place_ring (sure_place o log spans) (IsPlaceIn o log spans) (places_of notes) o.recording.unit x
 
 -- ---- steps
-
--- both rings have the same bytes
-pub record HasSameRings (x c : List ℕ) : Type 0 where
-  pub insertions : bytes_at c insertion_ring.base (size_of insertion_ring) ≡ bytes_at x insertion_ring.base (size_of insertion_ring)
-  pub places : bytes_at c unit_place_ring.base (size_of unit_place_ring) ≡ bytes_at x unit_place_ring.base (size_of unit_place_ring)
-
--- calls that leave both rings as they are
-abbrev pub LeavesRings : (old new : State) → Type 0
-LeavesRings old new = (c : List ℕ) → new.may_leave c → (x : List ℕ) × old.may_leave x × HasSameRings x c
 
 abbrev pub StaysInRings : (d e : Devices) → Type 0
 StaysInRings d e = LeavesRings d.unit e.unit

@@ -3,6 +3,7 @@ ghost use Rattle.trace_model.specs.Trace.{TraceSecond};
 ghost use Rattle.log_model.specs.Log.{RunLog};
 ghost use Rattle.log_model.specs.Same.{SameAt};
 ghost use Rattle.run_rule.specs.Between.{devices};
+ghost use Rattle.run_ringed.specs.SoFar.{ASecondBeginsInRings, RingsGoOn, AnActionNotesNothing, AnActionIsNoted, TheSecondEndsInRings, ACutEndsInRings, DarkSecondsNoteNothing};
 ghost use Rattle.run_ringed.specs.Ringed.{NoRingIsWritten, RingsStay, FewerSit, AnInsertionIsNoted, APlaceIsNoted, AWithdrawalIsNoted, AWithdrawalIsBroken, AnInsertionIsBroken, APlaceIsBroken, RingsAreShown, notes_in, noted_next};
 
 use tach_media::{Chip, Medium};
@@ -116,4 +117,27 @@ pub fn a_withdrawal_is_broken<M: Medium, C: Chip, D: Chip, N: Medium, E: Chip, F
 /// What a run notes is what it noted before, and what the second notes: later lines of the log change nothing of that.
 pub fn a_second_notes()
     ensures { (log later : RunLog) (ss : List TraceSecond) (s : TraceSecond) → All (λ x. SameAt log later x.number) ss → notes_in later (ss ++ s ∷ []) ≡ notes_in log ss ++ noted_next later ss s }
+{}
+
+/// A second begins, and ends behind its actions or at a cut: its notes are carried with those before. An action that notes nothing, and seconds without
+/// power, change nothing.
+pub fn a_second_is_carried_in_rings<M: Medium, C: Chip, D: Chip>(unit: &M, card_a: &C, card_b: &D)
+    ensures begins { ASecondBeginsInRings (devices (M.state unit.now) (C.state card_a.now) (D.state card_b.now)) }
+    ensures nothing { AnActionNotesNothing (devices (M.state unit.now) (C.state card_a.now) (D.state card_b.now)) }
+    ensures ends { TheSecondEndsInRings (devices (M.state unit.now) (C.state card_a.now) (D.state card_b.now)) }
+    ensures cut { ACutEndsInRings (devices (M.state unit.now) (C.state card_a.now) (D.state card_b.now)) }
+    ensures dark { DarkSecondsNoteNothing (devices (M.state unit.now) (C.state card_a.now) (D.state card_b.now)) }
+{}
+
+/// Within a second calls that write no ring leave what is carried, as lines are told; and what an action notes is carried behind the notes so far.
+pub fn rings_go_on_within_a_second<M: Medium, C: Chip, D: Chip, N: Medium, E: Chip, F: Chip>(
+    old_unit: &M,
+    old_a: &C,
+    old_b: &D,
+    unit: &N,
+    card_a: &E,
+    card_b: &F,
+)
+    ensures calls { RingsGoOn (devices (M.state old_unit.now) (C.state old_a.now) (D.state old_b.now)) (devices (N.state unit.now) (E.state card_a.now) (F.state card_b.now)) }
+    ensures noted { AnActionIsNoted (devices (M.state old_unit.now) (C.state old_a.now) (D.state old_b.now)) (devices (N.state unit.now) (E.state card_a.now) (F.state card_b.now)) }
 {}

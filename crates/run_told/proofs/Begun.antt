@@ -46,6 +46,7 @@ held-later f c b y z X later h = record {
   now = λ x there. let was = h.now x there in let le = later x there in (was.0, later_holds (own_sizes f.image) f.image (brought_by c f.start b) (bound_of f y x) (bound_of f z x) x (omega (arith, le)) was.1);
   since = h.since;
   number = h.number;
+  still = h.still;
 }
 
 -- ---- THE ROW IS BEGUN of a card that was put in, where the calls say this

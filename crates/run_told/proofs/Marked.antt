@@ -87,6 +87,7 @@ unit-still : (s : Started) (due : ℕ) (b : Book) (marks ms : List Mark) (unit :
 unit-still s due b marks ms unit same h = record {
   unit_holds = h.unit_holds;
   decodes = h.decodes;
+  issued = h.issued;
   marks_hold = subst (All (IsUnitHeld s b unit)) (sym same) h.marks_hold;
   marks_rise = subst Increase (sym same) h.marks_rise;
   marks_until = subst (All (λ (m : Mark). m.minute < due)) (sym same) h.marks_until;

@@ -122,6 +122,7 @@ module _ (f : CardFound) (c : Card) (b : Book) (sound : IsApplication (own_sizes
     since = λ n left. ⊎_elim (h.since n)
         (λ one. let is = made one.0 n one.1 one.2 (h.now one.0 (whole.is_left one.0 one.1)) in (is.0, holds_kept (own_sizes f.image) sound f.image n refl is.0 (brought_by c f.start b) (bound_of f z n) is.1)) (run.since f.began n began left);
     number = λ n there. ⊎_elim (h.number n) (λ one. same one.0 n one.1 one.2 ∙ h.number one.0 (whole.is_left one.0 one.1)) (run.now n there);
+    still = λ n left. ⊎_elim (h.still n) (λ one. same one.0 n one.1 one.2 ∙ h.still one.0 (whole.counts_now f.began one.0 began (whole.is_left one.0 one.1))) (run.since f.began n began left);
   }
 
 -- a card that was only read
@@ -131,6 +132,7 @@ held-read f c b z X Y began run h = record {
   now = λ n there. ⊎_elim (h.now n) (λ one. absurd one.2) (run.now n there);
   since = λ n left. ⊎_elim (h.since n) (λ one. absurd one.2) (run.since f.began n began left);
   number = λ n there. ⊎_elim (h.number n) (λ one. absurd one.2) (run.now n there);
+  still = λ n left. ⊎_elim (h.still n) (λ one. absurd one.2) (run.since f.began n began left);
 }
 
 -- each image since the start is valid still

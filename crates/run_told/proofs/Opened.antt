@@ -114,6 +114,7 @@ module _ (f : Found) (c : Card) (u x : List ℕ) (card : State) (whole : IsCoher
     since = λ y left. subst (λ (k : List ℕ). (own_sizes k ≡ own_sizes (found_of f c).image) × KeepsSince (found_of f c).image (brought_by c (found_of f c).start not_begun) k) (sym (only y left))
         (same-sizes, holds_kept (own_sizes (found_of f c).image) (subst (λ (i : List ℕ). IsApplication (own_sizes i)) (sym looked.image) sound) (found_of f c).image x refl same-sizes (brought_by c (found_of f c).start not_begun) (bound_of (found_of f c) Out x) found-starts);
     number = λ y there. ap own_number (only-now y there) ∙ sym number;
+    still = λ y left. ap own_number (only y left ∙ sym looked.image);
   }
 
   pub opened-wait : IsHeldDark (found_of f c) c not_begun Out card

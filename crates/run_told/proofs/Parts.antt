@@ -84,6 +84,7 @@ held-same f c b d z X same h = record {
   now = λ x there. subst (λ (es : List Entry). (own_sizes x ≡ own_sizes f.image) × HoldsSince (own_sizes f.image) f.image es (suc (max f.start.word (since z (own_view x).newest))) x) same (h.now x there);
   since = λ x left. subst (λ (es : List Entry). (own_sizes x ≡ own_sizes f.image) × KeepsSince f.image es x) same (h.since x left);
   number = h.number;
+  still = h.still;
 }
 
 -- a book that has no minute but the sure ones

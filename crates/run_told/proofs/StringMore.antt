@@ -91,4 +91,5 @@ held-more f c b d z X es same rise late comes h = record {
             (subst (λ (all : List Entry). KeepsOf f.image (all_since f.image all) (own_view x).held) (sym (counted-more (own_view x).mark (brought_by c f.start b) es (follow-later (own_view x).mark es (late x left)))) was.1),
       );
   number = h.number;
+  still = h.still;
 }

@@ -1,7 +1,16 @@
 -- How a trace with cards ends that is recorded on the unit and both cards.
-use Rattle.std.proofs.Common.{◌≡◌, ◌∙◌, ◌≤◌, ◌<◌, ℕ, ◌/◌, refl, ap, sym, subst, arith, List, Option, Some, None}
-use Rattle.tach_media.specs.Medium.{Rose}
+use Rattle.std.proofs.Common.{◌≡◌, ◌∙◌, ◌≤◌, ◌<◌, ◌⊎◌, inl, inr, ⊎_elim, ℕ, ◌/◌, true, refl, ap, sym, subst, arith, List, [], length, Option, Some, None}
+use Rattle.tach_media.specs.Medium.{State, Rose, HasBroken}
+use Rattle.run_rule.specs.Between.{devices}
+use Rattle.run_model.specs.declared.Device.{Device}
 use Rattle.run_model.specs.declared.Device.TheVariants.{Unit as OfUnit, CardA, CardB}
+use Rattle.log_model.specs.declared.lines.Break.{Break}
+use Rattle.log_model.specs.Log.{RunLog}
+use Rattle.log_model.specs.Causes.{cuts, tears}
+use Rattle.safety_model.specs.Safe.{Devices, breakdowns_of}
+use Rattle.run_keeping.specs.Later.{IsLater, AreLater}
+use Rattle.run_acts.specs.Recording.{log_of}
+use Rattle.run_acts.specs.Going.{IsFoundLater}
 use Rattle.trace_model.specs.declared.Card.TheVariants.{A, B}
 use Rattle.trace_model.specs.declared.Item.{Item}
 use Rattle.trace_text.specs.declared.trace.Form.TheVariants.{Whole}
@@ -10,15 +19,17 @@ use Rattle.run_keeping.specs.Books.{HaveTime}
 use Rattle.run_opening.specs.declared.fault.RunFault.{RunFault}
 use Rattle.run_opening.specs.declared.fault.RunFault.TheVariants as run
 use Rattle.recorder.specs.Trace.{IsForUnit}
+use Rattle.recorder_with_cards.specs.Gone.{IsRefusedBy as IsRefusedAt}
 use Rattle.recorder_with_cards.specs.Ends.{BeginAs, MayRecord, EndsTrace, IsKeptFrom}
 use Rattle.run_outcome.specs.declared.outcome.Outcome.{Outcome}
 use Rattle.tacho.specs.declared.end.Fault.{Fault}
 use Rattle.tacho.specs.declared.end.Fault.TheVariants.{Done, WriteFault}
 use Rattle.tacho.specs.Outside.{Outside}
 use Rattle.tacho.specs.Outcomes.{IsEmpty, IsRun, IsRefusal, IsTold}
-use Rattle.tacho.specs.CardsRecorded.{refusal_with_cards, devices_of, StartWith, AreSound, IsRefusedBy, EndsWithCards}
+use Rattle.tacho.specs.CardsRecorded.{refusal_with_cards, devices_of, StartWith, AreSound, HaveCounts, IsTurnedAway, IsRefusedBy, EndsWithCards}
 use Rattle.tacho.proofs.Recordings.{none-bad, refused-no-run}
 use Rattle.tacho.proofs.UnitRuns.{run-done}
+use Rattle.tacho.proofs.Unbroken.{none-failed, unbroken-log}
 
 -- each fault of such a run is a refusal
 pub cards-refusal : (fault : RunFault) → IsRefusal (refusal_with_cards fault)
@@ -36,7 +47,20 @@ none-caused old new x a b start (run.BadUnit place) sound may h = none-bad x pla
 none-caused old new x a b start (run.ClockBack kept second) sound may h = let p = may.later in let q = h.cause.1 in let r = h.cause.3 in omega (arith, p, q, r)
 none-caused old new x a b start (run.SameCard number) sound may h = may.numbers (h.cause.2 A).0 (h.cause.2 B).0 ((h.cause.2 A).1 ∙ sym (h.cause.2 B).1)
 
+-- when a trace was refused, where the outcome had no line
+pub refused-when : (start : ℕ) (before after : Outcome) (U V X Y Z W : State) (by : RunFault) → IsEmpty before → IsRefusedAt start before after U V X Y Z W by
+    → IsTurnedAway start (devices U X Z) (devices V Y W) after by ⊎ IsFoundLater by
+refused-when start before after U V X Y Z W by empty refused =
+    ⊎_elim (λ h. inl (record { cause = h.0; same_unit = h.1; same_a = h.2; same_b = h.3; empty = subst IsEmpty (sym h.4) empty })) (λ late. inr late) refused
+
+-- where no call failed no device broke down
+none-broke : (old new : Outside) → AreSound old new → AreLater (devices_of old) (devices_of new) → (device : Device) → breakdowns_of (devices_of new) device ≡ breakdowns_of (devices_of old) device
+none-broke old new sound later OfUnit = ⊎_elim (λ rose. absurd (sound.unit rose)) (λ same. same) later.unit.unbroken
+none-broke old new sound later CardA = ⊎_elim (λ rose. absurd (sound.card_a rose)) (λ same. same) later.card_a.unbroken
+none-broke old new sound later CardB = ⊎_elim (λ rose. absurd (sound.card_b rose)) (λ same. same) later.card_b.unbroken
+
 module _ (old new : Outside) (outcome : Outcome) (start : ℕ) (items : List Item) (not_unit : IsForUnit items → ⊥)
+    (later : AreLater (devices_of old) (devices_of new)) (broke : HasBroken old.unit new.unit (length (cuts true (log_of outcome))))
     (is_read : (text : List ℕ) (s : ℕ) (is : List Item) → old.source.left ≡ Some text → IsTraceText Whole text s is → (start ≡ s) × (items ≡ is)) where
   same-trace : (s : ℕ) (is : List Item) → IsTold old s is → (start ≡ s) × (items ≡ is)
   same-trace s is told = is_read told.text s is told.told told.trace
@@ -45,15 +69,23 @@ module _ (old new : Outside) (outcome : Outcome) (start : ℕ) (items : List Ite
   not-unit s is told for = not_unit (subst IsForUnit (sym (same-trace s is told).1) for)
 
   -- THE RUN WAS REFUSED
-  pub cards-refused : (fault : RunFault)
+  pub cards-refused : (fault : RunFault) → IsTurnedAway start (devices_of old) (devices_of new) outcome fault ⊎ IsFoundLater fault
       → ((x a b : List ℕ) → BeginAs x a b (devices_of old) → HaveTime (devices_of new) → IsKeptFrom x a b start (devices_of old) (devices_of new) fault × IsEmpty outcome)
       → EndsWithCards old new outcome (refusal_with_cards fault)
-  cards-refused fault refused = record {
+  cards-refused fault when refused = record {
     with_cards = not-unit;
     run = λ s is x a b starts ran. absurd (refused-no-run (refusal_with_cards fault) (cards-refusal fault) ran);
     refused = λ s is x a b starts ref. (record { by = fault; is = refl; kept = kept-from s is x a b starts }, (refused x a b starts.begins starts.clocks).1);
     records = λ s is x a b starts sound may. absurd (none-caused old new x a b s fault sound may (kept-from s is x a b starts));
     finds = λ s is x a b starts sound not. record { by = fault; is = refl; kept = kept-from s is x a b starts };
+    later = later;
+    broke = broke;
+    early = λ s is told ref. record {
+      by = fault;
+      is = refl;
+      when = subst (λ (t : ℕ). IsTurnedAway t (devices_of old) (devices_of new) outcome fault ⊎ IsFoundLater fault) (same-trace s is told).0 when;
+    };
+    unbroken = λ s is x a b starts sound counts. unbroken-log (log_of outcome) (refused x a b starts.begins starts.clocks).1.breaks;
   }
     where
       kept-from : (s : ℕ) (is : List Item) (x a b : List ℕ) → StartWith x a b s is old new → IsKeptFrom x a b s (devices_of old) (devices_of new) fault
@@ -74,4 +106,9 @@ module _ (old new : Outside) (outcome : Outcome) (start : ℕ) (items : List Ite
     records = λ s is x a b starts sound may. run-done old new fault ran rose sound.sink;
     finds = λ s is x a b starts sound not.
         absurd (not (subst (λ (t : ℕ). MayRecord x a b t) (same-trace s is starts.told).0 (begun x a b starts.begins)));
+    later = later;
+    broke = broke;
+    early = λ s is told ref. absurd (refused-no-run fault ref ran);
+    unbroken = λ s is x a b starts sound counts.
+        none-failed _ (breakdowns_of (devices_of old)) (breakdowns_of (devices_of new)) _ (log_of outcome) counts (none-broke old new sound later) (recorded x a b starts.begins starts.clocks).ends.caused.causes;
   }

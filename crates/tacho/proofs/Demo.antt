@@ -4,7 +4,8 @@ use Rattle.std.specs.Prelude.{Result, Ok, Err, OnOk, IfErr, IfSome}
 use Rattle.std.specs.List.{flat_map}
 use Rattle.std.specs.Io.KnownBytes.{Appends, Keeps}
 use Rattle.byte_fields.specs.Fields.{IsBytes}
-use Rattle.tach_media.specs.Medium.{State, Rose}
+use Rattle.tach_media.specs.Medium.{State, IsCoherent, Rose}
+use Rattle.unit_model.specs.Decoding.{Decodes, first_bad_place}
 use Rattle.tach_media.specs.Streams.{AppendsFront}
 use Rattle.run_model.specs.declared.Device.{Device}
 use Rattle.run_model.specs.declared.Device.TheVariants.{Unit as OfUnit, CardA, CardB}
@@ -16,29 +17,31 @@ use Rattle.safety_model.specs.Safe.{Devices}
 use Rattle.run_rule.specs.Between.{devices}
 use Rattle.run_keeping.specs.Books.{HaveTime}
 use Rattle.run_opening.specs.declared.fault.RunFault.TheVariants as run
+use Rattle.recorder_with_cards.specs.Ends.{MayRecord}
 use Rattle.run_outcome.specs.declared.outcome.Outcome.{Outcome}
 use Rattle.unit_download.specs.declared.fault.DownloadFault.{DownloadFault}
 use Rattle.unit_download.specs.declared.fault.DownloadFault.TheVariants as download
-use Rattle.unit_download.specs.Ending.{has_failed}
+use Rattle.unit_download.specs.Ending.{has_failed, IfBad}
 use Rattle.demo_trace.specs.declared.trace.TheConstants.{PARTS, DAYS, DAY_SECONDS, FIRST_SECOND}
 use Rattle.demo_trace.specs.Demo.{starts, part_of, parts_of, day_of, days_of, demo_items}
 use Rattle.demo_trace.proofs.Groups.{length-starts}
 use Rattle.tacho.specs.declared.anew.AnewFault.{AnewFault}
 use Rattle.tacho.specs.declared.anew.AnewFault.TheVariants.{Unmade, Kept}
-use Rattle.tacho.specs.Anew.{MayBeAnew, EndsAnew, IsFailed}
+use Rattle.tacho.specs.Anew.{MayBeAnew, EndsAnew, IsFailed, IsFailure}
+use Rattle.tacho.proofs.Recordings.{none-bad}
 use Rattle.tacho.proofs.DemoRead.{is-read, anew-read}
 use Rattle.demo_file.specs.declared.measuring.FileSize.{FileSize}
 use Rattle.demo_file.specs.Measures.{IsSizeOf}
 use Rattle.tacho.specs.declared.demo_command.TheConstants.{VEHICLE, CARD}
 use Rattle.tacho.specs.declared.end.Fault.{Fault}
-use Rattle.tacho.specs.declared.end.Fault.TheVariants.{WriteFault, MediumFault, Memory, Changed}
+use Rattle.tacho.specs.declared.end.Fault.TheVariants.{ReadFault, WriteFault, MediumFault, Memory, Changed}
 use Rattle.tacho.specs.declared.forms.Form.TheVariants.{Demo}
 use Rattle.tacho.specs.End.{end_of, ended_by}
 use Rattle.tacho.specs.Outside.{Outside, memory_of}
 use Rattle.tacho.specs.Outcomes.{IsEmpty, IsRun}
-use Rattle.tacho.specs.CardsRecorded.{devices_of}
+use Rattle.tacho.specs.CardsRecorded.{devices_of, AreSound}
 use Rattle.tacho.specs.Formatting.{card_image, unit_image}
-use Rattle.tacho.specs.Program.{Ends, HasDemoCauses}
+use Rattle.tacho.specs.Program.{Ends, HasCauses}
 use Rattle.tacho.specs.Demo.{demo_text, refusal_anew, refusal_of_file, IsDemoEnd, StartAnew, IsDemonstrated, EndsDemo}
 
 -- HOW MANY ITEMS a demonstration has
@@ -110,9 +113,65 @@ file-changed download.Memory is = absurd (cc)
 same-image : (old new : State) (failed : Bool) → failed ≡ false → ReadsIfAny old new failed → new.image ≡ old.image
 same-image old new failed fine reads = ⊎_elim (λ none. none.1.same) (λ some. some.same fine) reads
 
+-- the cause of a failed download: the unit had failed no less often before it than at the start
+unread-cause : (old new : Outside) (unit : State) (fault : DownloadFault) (device : Device) → old.unit.faults ≤ unit.faults → ReadsIfAny unit new.unit (has_failed {T = FileSize} (Err fault)) → refusal_of_file fault ≡ MediumFault device
+    → Rose (memory_of device old).faults (memory_of device new).faults
+unread-cause old new unit download.Failed device before reads is =
+    let same : OfUnit ≡ device = cc in
+    let rose : Rose unit.faults new.unit.faults = ⊎_elim (λ none. absurd (let e = none.0 in cc)) (λ some. some.cause.fault refl) reads in
+    let since : Rose old.unit.faults new.unit.faults = omega (arith, before, rose) in
+    subst (λ (d : Device). Rose (memory_of d old).faults (memory_of d new).faults) same since
+unread-cause old new unit (download.BadUnit place) device before reads is = absurd (cc)
+unread-cause old new unit download.Changed device before reads is = absurd (cc)
+unread-cause old new unit download.WriteFault device before reads is = absurd (cc)
+unread-cause old new unit download.Memory device before reads is = absurd (cc)
+
+-- where nothing failed, and a run may begin on what was made, it is recorded
+anew-unfinished : (old new : Outside) (fault : AnewFault) → AreSound old new → IsFailed fault (devices_of old) (devices_of new) → IsFailure fault → ⊥
+anew-unfinished old new (Unmade OfUnit) sound failed only = sound.unit failed
+anew-unfinished old new (Unmade CardA) sound failed only = sound.card_a failed
+anew-unfinished old new (Unmade CardB) sound failed only = sound.card_b failed
+anew-unfinished old new (Kept (run.MediumFault OfUnit)) sound failed only = sound.unit failed
+anew-unfinished old new (Kept (run.MediumFault CardA)) sound failed only = sound.card_a failed
+anew-unfinished old new (Kept (run.MediumFault CardB)) sound failed only = sound.card_b failed
+anew-unfinished old new (Kept (run.BadUnit place)) sound failed only = only
+anew-unfinished old new (Kept (run.ClockBack kept second)) sound failed only = only
+anew-unfinished old new (Kept (run.SameCard number)) sound failed only = only
+
+-- and then its unit is downloaded
+unread-unfinished : (seed : ℕ) (old new : Outside) (outcome : Outcome) (unit : State) (b u : List ℕ) (fault : DownloadFault) → AreSound old new → (refusal_of_file fault ≡ Memory → ⊥) → old.unit.faults ≤ unit.faults → IsCoherent new.unit
+    → ReadsIfAny unit new.unit (has_failed {T = FileSize} (Err fault)) → IfBad fault (λ place. IfSome unit.image (λ x. first_bad_place x ≡ Some place)) → (fault ≡ download.Changed → IfSome unit.image (λ x. IsBytes x → ⊥))
+    → IsDemonstrated seed b old new outcome → new.unit.image ≡ Some u → IsBytes u → ⊥
+unread-unfinished seed old new outcome unit b u download.Failed sound memory before whole reads bad changed recorded told bytes = sound.unit (unread-cause old new unit download.Failed OfUnit before reads refl)
+unread-unfinished seed old new outcome unit b u (download.BadUnit place) sound memory before whole reads bad changed recorded told bytes =
+    let same : unit.image ≡ Some u = sym (same-image unit new.unit false refl reads) ∙ told in
+    let fails : first_bad_place u ≡ Some place = subst (λ (image : Option (List ℕ)). IfSome image (λ x. first_bad_place x ≡ Some place)) same bad in
+    let decodes : Decodes u = recorded.ends.ends.safe.unit.decodes u (whole.counts_now recorded.unit_clock u recorded.unit_before (whole.is_left u told)) in
+    none-bad u place decodes fails
+unread-unfinished seed old new outcome unit b u download.Changed sound memory before whole reads bad changed recorded told bytes =
+    let same : unit.image ≡ Some u = sym (same-image unit new.unit false refl reads) ∙ told in
+    let none = subst (λ (image : Option (List ℕ)). IfSome image (λ x. IsBytes x → ⊥)) same (changed refl) in
+    none bytes
+unread-unfinished seed old new outcome unit b u download.WriteFault sound memory before whole reads bad changed recorded told bytes = memory refl
+unread-unfinished seed old new outcome unit b u download.Memory sound memory before whole reads bad changed recorded told bytes = memory refl
+
+-- THERE WAS NO MEMORY, before a device was used
+pub demo-memory : (seed : ℕ) (old new : Outside) (outcome : Outcome) → new.sink.held ≡ old.sink.held → IsEmpty outcome → EndsDemo seed old new outcome Memory
+demo-memory seed old new outcome sink empty = record {
+  ends = tt;
+  run = λ b starts is. absurd is;
+  put_down = λ b starts. inr empty;
+  printed = λ is. absurd (cc);
+  front = λ is. absurd (cc);
+  nothing = λ undone fine. subst (λ (held : Option (List ℕ)). Keeps old.sink.held held) (sym sink) (keeps-same old.sink.held);
+  changed = λ is. absurd (cc);
+  finishes = λ b u starts sound memory may told bytes. absurd (memory refl);
+}
+
 -- THE DEVICES WERE NOT MADE NEW, or the trace was kept from being recorded
-pub demo-refused : (seed : ℕ) (old new : Outside) (outcome : Outcome) (fault : AnewFault) → new.sink.held ≡ old.sink.held → ((b : List ℕ) → StartAnew b old new → IsEmpty outcome) → EndsDemo seed old new outcome (refusal_anew fault)
-demo-refused seed old new outcome fault sink empty = record {
+pub demo-refused : (seed : ℕ) (old new : Outside) (outcome : Outcome) (fault : AnewFault) → new.sink.held ≡ old.sink.held → ((b : List ℕ) → StartAnew b old new → IsEmpty outcome)
+    → IsFailed fault (devices_of old) (devices_of new) → ((b : List ℕ) → StartAnew b old new → MayRecord (unit_image VEHICLE) (card_image CARD) b FIRST_SECOND → IsFailure fault) → EndsDemo seed old new outcome (refusal_anew fault)
+demo-refused seed old new outcome fault sink empty failed only = record {
   ends = anew-ends fault;
   run = λ b starts is. absurd (anew-refused fault is);
   put_down = λ b starts. inr (empty b starts);
@@ -120,6 +179,7 @@ demo-refused seed old new outcome fault sink empty = record {
   front = λ is. absurd (anew-refused fault (subst IsRun (sym is) tt));
   nothing = λ undone fine. subst (λ (held : Option (List ℕ)). Keeps old.sink.held held) (sym sink) (keeps-same old.sink.held);
   changed = λ is. absurd (anew-unchanged fault is);
+  finishes = λ b u starts sound memory may told bytes. absurd (anew-unfinished old new fault sound failed (only b starts may));
 }
 
 -- what was recorded, and then the unit was read
@@ -135,8 +195,9 @@ recorded-so seed old new outcome unit failed reads recorded b starts =
 pub demo-unread : (seed : ℕ) (old new : Outside) (outcome : Outcome) (unit : State) (fault : DownloadFault) → new.sink.held ≡ old.sink.held → ReadsIfAny unit new.unit (has_failed {T = FileSize} (Err fault))
     → ((b : List ℕ) → MayBeAnew b (devices_of old) → HaveTime (devices unit new.card_a.memory new.card_b.memory) → EndsAnew (unit_image VEHICLE) (card_image CARD) b FIRST_SECOND (demo_items seed) outcome (devices_of old) (devices unit new.card_a.memory new.card_b.memory))
     → (fault ≡ download.Changed → IfSome unit.image (λ x. IsBytes x → ⊥))
+    → old.unit.faults ≤ unit.faults → IsCoherent new.unit → IfBad fault (λ place. IfSome unit.image (λ x. first_bad_place x ≡ Some place))
     → EndsDemo seed old new outcome (refusal_of_file fault)
-demo-unread seed old new outcome unit fault sink reads recorded changed = record {
+demo-unread seed old new outcome unit fault sink reads recorded changed before whole bad = record {
   ends = file-ends fault;
   run = λ b starts is. absurd (file-refused fault is);
   put_down = λ b starts. inl (recorded-so seed old new outcome unit (has_failed {T = FileSize} (Err fault)) reads recorded b starts);
@@ -147,6 +208,8 @@ demo-unread seed old new outcome unit fault sink reads recorded changed = record
       let of = file-changed fault is in
       let fine : has_failed {T = FileSize} (Err fault) ≡ false = subst (λ (f : DownloadFault). has_failed {T = FileSize} (Err f) ≡ false) (sym of) refl in
       subst (λ (image : Option (List ℕ)). IfSome image (λ u. IsBytes u → ⊥)) (sym (same-image unit new.unit (has_failed {T = FileSize} (Err fault)) fine reads)) (changed of);
+  finishes = λ b u starts sound memory may told bytes.
+      absurd (unread-unfinished seed old new outcome unit b u fault sound memory before whole reads bad changed (recorded-so seed old new outcome unit (has_failed {T = FileSize} (Err fault)) reads recorded b starts) told bytes);
 }
 
 -- ALL IS DONE, and the seven lines were printed or the sink failed
@@ -155,8 +218,9 @@ pub demo-done : {T : Type 0} (seed : ℕ) (old new : Outside) (outcome : Outcome
     → IfSome unit.image (λ x. IsBytes x → IsSizeOf x size)
     → OnOk r (Appends old.sink.held new.sink.held (demo_text outcome size))
     → IfErr r (λ fault. (fault ≡ WriteFault) × AppendsFront old.sink.held new.sink.held (demo_text outcome size))
+    → IfErr r (λ fault. Rose old.sink.faults new.sink.faults)
     → EndsDemo seed old new outcome (end_of r)
-demo-done seed old new outcome unit size (Ok u) reads recorded measured appends front = record {
+demo-done seed old new outcome unit size (Ok u) reads recorded measured appends front rose = record {
   ends = tt;
   run = λ b starts is. recorded-so seed old new outcome unit false reads recorded b starts;
   put_down = λ b starts. inl (recorded-so seed old new outcome unit false reads recorded b starts);
@@ -164,8 +228,9 @@ demo-done seed old new outcome unit size (Ok u) reads recorded measured appends 
   front = λ is. absurd (cc);
   nothing = λ undone fine. absurd (undone refl);
   changed = λ is. absurd (cc);
+  finishes = λ b v starts sound memory may told bytes. refl;
 }
-demo-done seed old new outcome unit size (Err fault) reads recorded measured appends front =
+demo-done seed old new outcome unit size (Err fault) reads recorded measured appends front rose =
     subst (λ (f : Fault). EndsDemo seed old new outcome f) (sym front.0) (record {
       ends = tt;
       run = λ b starts is. recorded-so seed old new outcome unit false reads recorded b starts;
@@ -174,19 +239,8 @@ demo-done seed old new outcome unit size (Err fault) reads recorded measured app
       front = λ is. record { size = size; puts = front.1; measured = subst (λ (image : Option (List ℕ)). IfSome image (λ x. IsBytes x → IsSizeOf x size)) (sym (same-image unit new.unit false refl reads)) measured };
       nothing = λ undone fine. absurd (fine refl);
       changed = λ is. absurd (cc);
+      finishes = λ b v starts sound memory may told bytes. absurd (sound.sink rose);
     })
-
--- the cause of a failed download
-unread-cause : (old new : Outside) (unit : State) (fault : DownloadFault) (device : Device) → ReadsIfAny unit new.unit (has_failed {T = FileSize} (Err fault)) → refusal_of_file fault ≡ MediumFault device
-    → Rose (memory_of device old).faults (memory_of device new).faults ⊎ ((device ≡ OfUnit) × (0 < new.unit.faults))
-unread-cause old new unit download.Failed device reads is =
-    let same : OfUnit ≡ device = cc in
-    let rose : Rose unit.faults new.unit.faults = ⊎_elim (λ none. absurd (let e = none.0 in cc)) (λ some. some.cause.fault refl) reads in
-    inr (sym same, omega (arith, rose))
-unread-cause old new unit (download.BadUnit place) device reads is = absurd (cc)
-unread-cause old new unit download.Changed device reads is = absurd (cc)
-unread-cause old new unit download.WriteFault device reads is = absurd (cc)
-unread-cause old new unit download.Memory device reads is = absurd (cc)
 
 never-write : (fault : DownloadFault) → refusal_of_file fault ≡ WriteFault → ⊥
 never-write download.Failed is = cc
@@ -195,10 +249,11 @@ never-write download.Changed is = cc
 never-write download.WriteFault is = cc
 never-write download.Memory is = cc
 
-pub unread-causes : (old new : Outside) (unit : State) (fault : DownloadFault) → ReadsIfAny unit new.unit (has_failed {T = FileSize} (Err fault)) → old.source.faults ≤ new.source.faults → old.sink.faults ≤ new.sink.faults → HasDemoCauses old new (refusal_of_file fault)
-unread-causes old new unit fault reads source sink = record {
+pub unread-causes : (old new : Outside) (unit : State) (fault : DownloadFault) → old.unit.faults ≤ unit.faults → ReadsIfAny unit new.unit (has_failed {T = FileSize} (Err fault)) → old.source.faults ≤ new.source.faults → old.sink.faults ≤ new.sink.faults → HasCauses old new (refusal_of_file fault)
+unread-causes old new unit fault before reads source sink = record {
+  read_fault = λ is. absurd (subst IsDemoEnd is (file-ends fault));
   write_fault = λ is. absurd (never-write fault is);
-  medium_fault = λ device is. unread-cause old new unit fault device reads is;
+  medium_fault = λ device is. unread-cause old new unit fault device before reads is;
   reads = source;
   writes = sink;
 }
@@ -215,22 +270,23 @@ anew-cause old new (Kept (run.BadUnit place)) failed device is = absurd (cc)
 anew-cause old new (Kept (run.ClockBack kept second)) failed device is = absurd (cc)
 anew-cause old new (Kept (run.SameCard number)) failed device is = absurd (cc)
 
-pub anew-causes : (old new : Outside) (fault : AnewFault) → IsFailed fault (devices_of old) (devices_of new) → old.source.faults ≤ new.source.faults → old.sink.faults ≤ new.sink.faults → HasDemoCauses old new (refusal_anew fault)
+pub anew-causes : (old new : Outside) (fault : AnewFault) → IsFailed fault (devices_of old) (devices_of new) → old.source.faults ≤ new.source.faults → old.sink.faults ≤ new.sink.faults → HasCauses old new (refusal_anew fault)
 anew-causes old new fault failed source sink = record {
+  read_fault = λ is. absurd (subst IsDemoEnd is (anew-ends fault));
   write_fault = λ is. absurd (anew-refused fault (subst IsRun (sym is) tt));
-  medium_fault = λ device is. inl (anew-cause old new fault failed device is);
+  medium_fault = λ device is. anew-cause old new fault failed device is;
   reads = source;
   writes = sink;
 }
 
 -- there was no memory
-pub memory-causes : (old new : Outside) → old.source.faults ≤ new.source.faults → old.sink.faults ≤ new.sink.faults → HasDemoCauses old new Memory
-memory-causes old new source sink = record { write_fault = λ is. absurd (cc); medium_fault = λ device is. absurd (cc); reads = source; writes = sink }
+pub memory-causes : (old new : Outside) → old.source.faults ≤ new.source.faults → old.sink.faults ≤ new.sink.faults → HasCauses old new Memory
+memory-causes old new source sink = record { read_fault = λ is. absurd (cc); write_fault = λ is. absurd (cc); medium_fault = λ device is. absurd (cc); reads = source; writes = sink }
 
 -- the lines were printed, or the sink failed
-pub printed-causes : {T : Type 0} (old new : Outside) (r : Result T Fault) → IfErr r (λ fault. fault ≡ WriteFault) → IfErr r (λ fault. Rose old.sink.faults new.sink.faults) → old.source.faults ≤ new.source.faults → old.sink.faults ≤ new.sink.faults → HasDemoCauses old new (end_of r)
-printed-causes old new (Ok u) write rose source sink = record { write_fault = λ is. absurd (cc); medium_fault = λ device is. absurd (cc); reads = source; writes = sink }
-printed-causes old new (Err fault) write rose source sink = record { write_fault = λ is. rose; medium_fault = λ device is. absurd (let bad : WriteFault ≡ MediumFault device = sym write ∙ is in cc); reads = source; writes = sink }
+pub printed-causes : {T : Type 0} (old new : Outside) (r : Result T Fault) → IfErr r (λ fault. fault ≡ WriteFault) → IfErr r (λ fault. Rose old.sink.faults new.sink.faults) → old.source.faults ≤ new.source.faults → old.sink.faults ≤ new.sink.faults → HasCauses old new (end_of r)
+printed-causes old new (Ok u) write rose source sink = record { read_fault = λ is. absurd (cc); write_fault = λ is. absurd (cc); medium_fault = λ device is. absurd (cc); reads = source; writes = sink }
+printed-causes old new (Err fault) write rose source sink = record { read_fault = λ is. absurd (let bad : WriteFault ≡ ReadFault = sym write ∙ is in cc); write_fault = λ is. rose; medium_fault = λ device is. absurd (let bad : WriteFault ≡ MediumFault device = sym write ∙ is in cc); reads = source; writes = sink }
 
 -- the first of two facts of a fault
 pub first-of : {T : Type 0} (P Q : Fault → Type 0) (r : Result T Fault) → IfErr r (λ fault. P fault × Q fault) → IfErr r P
@@ -245,7 +301,7 @@ as-demo seed x a b start items out old now image first all h =
     (subst (λ (l : List ℕ). EndsAnew x l b start items out old now) image h))
 
 -- so the call ends that was asked for it
-pub demo-ends : {T : Type 0} (seed : ℕ) (old new : Outside) (outcome : Outcome) (r : Result T Fault) → EndsDemo seed old new outcome (end_of r) → HasDemoCauses old new (end_of r) → Ends (Some (Demo seed)) old new (ended_by outcome (end_of r))
+pub demo-ends : {T : Type 0} (seed : ℕ) (old new : Outside) (outcome : Outcome) (r : Result T Fault) → EndsDemo seed old new outcome (end_of r) → HasCauses old new (end_of r) → Ends (Some (Demo seed)) old new (ended_by outcome (end_of r))
 demo-ends seed old new outcome (Ok u) ends causes = record {
   status = refl;
   usage = (λ is. absurd (cc), λ none. absurd (cc));

@@ -1,5 +1,5 @@
 -- A unit and a card that were made new: a run begins with their images alone.
-use Rattle.std.proofs.Common.{⊎_elim, ◌≡◌, ◌∙◌, ap, sym, refl, ℕ, ◌+◌, ◌<◌, ◌≤◌, true, List, [], ◌++◌, length, drop, All, is_some, Option, None, Some, option_map, arith, append-nil}
+use Rattle.std.proofs.Common.{⊎_elim, ◌/◌, ◌≡◌, ◌∙◌, ap, sym, refl, ℕ, ◌+◌, ◌<◌, ◌≤◌, true, List, [], ◌++◌, length, drop, All, is_some, Option, None, Some, option_map, arith, append-nil}
 use Rattle.std.proofs.lemmas.List.{drop_all}
 use Rattle.trace_model.specs.declared.Card.{Card}
 use Rattle.trace_model.specs.declared.Card.TheVariants.{A, B}
@@ -14,10 +14,12 @@ use Rattle.run_keeping.specs.Books.{HaveTime}
 use Rattle.run_outcome.specs.declared.outcome.Outcome.{Outcome}
 use Rattle.run_opening.specs.declared.fault.RunFault.{RunFault}
 use Rattle.run_opening.specs.declared.fault.RunFault.TheVariants.{MediumFault, BadUnit, ClockBack, SameCard}
-use Rattle.recorder_with_cards.specs.Ends.{AreLater, BeginAs, EndsTrace}
+use Rattle.run_keeping.specs.Later.{AreLater}
+use Rattle.recorder_with_cards.specs.Ends.{BeginAs, MayRecord, EndsTrace, IsKeptFrom}
 use Rattle.recorder_with_cards.specs.Gone.{IsRefusedBy}
 use Rattle.tacho.specs.declared.anew.AnewFault.TheVariants.{Kept}
-use Rattle.tacho.specs.Anew.{began_at, MayBeAnew, EndsAnew, IsFailed}
+use Rattle.tacho.specs.Anew.{began_at, MayBeAnew, EndsAnew, IsFailed, IsFailure}
+use Rattle.tacho.proofs.Recordings.{none-bad}
 use Rattle.tacho.proofs.DemoNumbers.{ends-by}
 
 -- an image that covers all of the old one
@@ -65,7 +67,11 @@ ends-anew x a b start items out U V X Y Z now unit card unit_same card_same befo
 
 -- no clock stood at its last value before, where none does now
 pub time-before : (d e : Devices) → AreLater d e → HaveTime e → HaveTime d
-time-before d e later time = record { unit = omega (arith, later.unit, time.unit); card_a = omega (arith, later.card_a, time.card_a); card_b = omega (arith, later.card_b, time.card_b) }
+time-before d e later time = record {
+  unit = let clock = later.unit.clock in omega (arith, clock, time.unit);
+  card_a = let clock = later.card_a.clock in omega (arith, clock, time.card_a);
+  card_b = let clock = later.card_b.clock in omega (arith, clock, time.card_b);
+}
 
 -- what is told to have failed
 pub kept-failed : (start : ℕ) (before after : Outcome) (U V W X Y Z S T : State) (fault : RunFault) → U.faults ≤ V.faults → X.faults ≤ Y.faults → IsRefusedBy start before after V W Y Z S T fault → IsFailed (Kept fault) (devices U X S) (devices W Z T)
@@ -75,6 +81,17 @@ kept-failed start before after U V W X Y Z S T (MediumFault CardB) unit card h =
 kept-failed start before after U V W X Y Z S T (BadUnit place) unit card h = tt
 kept-failed start before after U V W X Y Z S T (ClockBack kept second) unit card h = tt
 kept-failed start before after U V W X Y Z S T (SameCard number) unit card h = tt
+
+-- where a run may begin with these images only a failed call keeps it from being recorded
+pub only-failed : (x a b : List ℕ) (start : ℕ) (began now : Devices) (fault : RunFault) → MayRecord x a b start → IsKeptFrom x a b start began now fault → IsFailure (Kept fault)
+only-failed x a b start began now (MediumFault device) may h = tt
+only-failed x a b start began now (BadUnit place) may h = none-bad x place may.decodes h.cause
+only-failed x a b start began now (ClockBack kept second) may h =
+    let late = may.later in
+    let same = h.cause.1 in
+    let back = h.cause.3 in
+    omega (arith, late, same, back)
+only-failed x a b start began now (SameCard number) may h = may.numbers (h.cause.2 A).0 (h.cause.2 B).0 ((h.cause.2 A).1 ∙ sym (h.cause.2 B).1)
 
 -- once the unit and card a are new, each device has its image alone
 pub begins-new : (x a b : List ℕ) (U V X Y Z : State) → IsCoherent X → length a ≡ X.size → X.behind ≡ 0 → All (λ n. n < 256) a → MayBeAnew b (devices U X Z)

@@ -5,7 +5,7 @@ use Rattle.trace_model.specs.declared.Item.{Item}
 use Rattle.run_model.specs.declared.Device.{Device}
 use Rattle.log_model.specs.Causes.{HasCauses}
 use Rattle.safety_model.specs.Recording.{Recording, history_of, lost_of}
-use Rattle.safety_model.specs.Unit.{UnitSafe}
+use Rattle.safety_model.specs.Unit.{UnitSafe, issued_bytes}
 use Rattle.safety_model.specs.Cards.{CardSafe}
 use Rattle.safety_model.specs.Safe.{Devices, card_of, breakdowns_of, IsVerdict}
 use Rattle.unit_model.specs.Image.{recorded}
@@ -25,6 +25,7 @@ module _ (x a b : List ℕ) (start : ℕ) (items : List Item) (out : Outcome) (p
     ends = record {
       safe = record {
         unit = subst (λ (n : ℕ). UnitSafe (recorded r.unit) (history_of r) (lost_of r) out.marks.items n now.unit) unit h.ends.safe.unit;
+        issued = subst (λ (n : ℕ). (y : List ℕ) → now.unit.left_since n y → issued_bytes y ≡ issued_bytes r.unit) unit h.ends.safe.issued;
         card = λ c. subst (λ (n : ℕ). CardSafe r c out.marks.items n (card_of now c)) (cards c) (h.ends.safe.card c);
         both = h.ends.safe.both;
       };

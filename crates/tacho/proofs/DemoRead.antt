@@ -97,6 +97,7 @@ module _ (U V : State) (is : IsRead U V) where
           ends = record {
             safe = record {
               unit = unit-read (recorded r.unit) (history_of r) (lost_of r) out.marks.items p.unit.clock before h.ends.safe.unit;
+              issued = λ y left. h.ends.safe.issued y (back p.unit.clock y before left);
               card = λ c. cards c (h.ends.safe.card c);
               both = λ c u y valid. both-read c u y (h.ends.safe.both c u y valid);
             };

@@ -18,7 +18,7 @@ use Rattle.tacho.specs.Minutes.{PrintsMinutes, IsMinutesEnd, EndsMinutes}
 use Rattle.tacho.specs.View.{PrintsFile, IsBadFile, IsViewEnd, EndsView, most_bytes}
 use Rattle.run_outcome.specs.declared.outcome.Outcome.{Outcome}
 use Rattle.tacho.specs.Outcomes.{IsEmpty}
-use Rattle.tacho.specs.Program.{Ends, EndsForm, IsUnrecorded, IsUnpassed, HasCauses, CausesOf}
+use Rattle.tacho.specs.Program.{Ends, EndsForm, IsUnrecorded, IsUnpassed}
 use Rattle.tacho.proofs.EndLaws.{prints-end, wanted-end, judges-trace}
 
 pub ends-minutes : {T : Type 0} (old new : Outside) (r : Result T Fault)
@@ -103,35 +103,34 @@ streams-end : {T : Type 0} (form : Form) (old new : Outside) (outcome : Outcome)
     → (r ≡ Err ReadFault → Rose old.source.faults new.source.faults)
     → (r ≡ Err WriteFault → Rose old.sink.faults new.sink.faults)
     → (old.source.faults ≤ new.source.faults) × (old.sink.faults ≤ new.sink.faults)
-    → (HasCauses old new (end_of r) → CausesOf (Some form) old new (end_of r))
     → Ends (Some form) old new (ended_by outcome (end_of r))
-streams-end form old new outcome (Ok u) ends none none_passed no_usage no_medium read_fault write_fault counts so = record {
+streams-end form old new outcome (Ok u) ends none none_passed no_usage no_medium read_fault write_fault counts = record {
   status = refl;
   usage = (λ is. absurd (cc), λ none. absurd (cc));
   form = ends;
   unrecorded = none;
   unpassed = none_passed;
-  causes = so (record {
+  causes = record {
     read_fault = λ is. absurd (cc);
     write_fault = λ is. absurd (cc);
     medium_fault = λ device is. absurd (cc);
     reads = counts.0;
     writes = counts.1;
-  });
+  };
 }
-streams-end form old new outcome (Err fault) ends none none_passed no_usage no_medium read_fault write_fault counts so = record {
+streams-end form old new outcome (Err fault) ends none none_passed no_usage no_medium read_fault write_fault counts = record {
   status = refl;
   usage = (λ is. absurd (no_usage is), λ none. absurd (cc));
   form = ends;
   unrecorded = none;
   unpassed = none_passed;
-  causes = so (record {
+  causes = record {
     read_fault = λ is. read_fault (ap Err is);
     write_fault = λ is. write_fault (ap Err is);
     medium_fault = λ device is. absurd (no_medium device is);
     reads = counts.0;
     writes = counts.1;
-  });
+  };
 }
 
 pub minutes-ends : {T : Type 0} (old new : Outside) (r : Result T Fault)
@@ -142,7 +141,7 @@ pub minutes-ends : {T : Type 0} (old new : Outside) (r : Result T Fault)
     → (outcome : Outcome) → IsEmpty outcome
     → Ends (Some Minutes) old new (ended_by outcome (end_of r))
 minutes-ends old new r ends read_fault write_fault counts outcome none =
-    streams-end Minutes old new outcome r ends none refl (λ is. subst IsMinutesEnd is ends.ends) (λ device is. subst IsMinutesEnd is ends.ends) read_fault write_fault counts (λ causes. causes)
+    streams-end Minutes old new outcome r ends none refl (λ is. subst IsMinutesEnd is ends.ends) (λ device is. subst IsMinutesEnd is ends.ends) read_fault write_fault counts
 
 pub view-ends : {T : Type 0} (last : Option ℕ) (old new : Outside) (r : Result T Fault)
     → EndsView last old new (end_of r)
@@ -152,4 +151,4 @@ pub view-ends : {T : Type 0} (last : Option ℕ) (old new : Outside) (r : Result
     → (outcome : Outcome) → IsEmpty outcome
     → Ends (Some (View last)) old new (ended_by outcome (end_of r))
 view-ends last old new r ends read_fault write_fault counts outcome none =
-    streams-end (View last) old new outcome r ends none refl (λ is. subst IsViewEnd is ends.ends) (λ device is. subst IsViewEnd is ends.ends) read_fault write_fault counts (λ causes. causes)
+    streams-end (View last) old new outcome r ends none refl (λ is. subst IsViewEnd is ends.ends) (λ device is. subst IsViewEnd is ends.ends) read_fault write_fault counts

@@ -12,6 +12,7 @@ pub mod Formats
 pub mod WordRows
 pub mod Lines
 pub mod Recordings
+pub mod Unbroken
 pub mod UnitRuns
 pub mod CardRuns
 pub mod Services

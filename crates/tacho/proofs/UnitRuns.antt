@@ -1,8 +1,9 @@
 -- How a trace without a card's line ends that is recorded on the unit alone.
-use Rattle.std.proofs.Common.{◌≡◌, ◌∙◌, ◌≤◌, ◌<◌, ℕ, ◌/◌, ⊎_elim, refl, ap, sym, subst, arith, true, Bool, List, Option, Some, None}
+use Rattle.std.proofs.Common.{◌≡◌, ◌∙◌, ◌≤◌, ◌<◌, ◌⊎◌, ℕ, ◌/◌, inl, inr, ⊎_elim, refl, ap, sym, subst, arith, true, Bool, List, length, Option, Some, None}
 use Rattle.std.specs.Prelude.{IfSome, is_some}
-use Rattle.tach_media.specs.Medium.{State, IsCoherent, LeavesOnly, Unchanged, Rose, last_count}
+use Rattle.tach_media.specs.Medium.{State, IsCoherent, LeavesOnly, Unchanged, Rose, HasBroken, last_count}
 use Rattle.run_model.specs.declared.Device.{Device}
+use Rattle.run_model.specs.declared.Device.TheVariants.{Unit as OfUnit, CardA, CardB}
 use Rattle.trace_model.specs.declared.Item.{Item}
 use Rattle.trace_text.specs.declared.trace.Form.TheVariants.{Whole}
 use Rattle.trace_text.specs.Judged.{IsTraceText}
@@ -12,14 +13,18 @@ use Rattle.recorder.specs.declared.opening.RunFault.{RunFault}
 use Rattle.recorder.specs.declared.opening.RunFault.TheVariants as run
 use Rattle.recorder.specs.Trace.{IsForUnit}
 use Rattle.recorder.specs.Booked.{StartsAs}
-use Rattle.recorder.specs.Opening.{IsRefused, IsUnitFault}
+use Rattle.recorder.specs.Gone.{IsRefusedBy}
+use Rattle.recorder.specs.Opening.{IsRefused, IsFoundLater, IsUnitFault}
+use Rattle.recorder.specs.Followed.{NoVerdict, run_log}
+use Rattle.log_model.specs.Causes.{cuts}
 use Rattle.run_outcome.specs.declared.outcome.Outcome.{Outcome}
 use Rattle.tacho.specs.declared.end.Fault.{Fault}
 use Rattle.tacho.specs.declared.end.Fault.TheVariants.{Done, Usage, BadTrace, TooLong, BadUnit, ClockBack, SameCard, ReadFault, WriteFault, MediumFault, Memory, BadFile, BadCard, Changed}
 use Rattle.tacho.specs.Outside.{Outside}
 use Rattle.tacho.specs.Outcomes.{IsEmpty, IsRun, IsRefusal, IsTold}
-use Rattle.tacho.specs.UnitRecorded.{IsOfUnit, refusal_on_unit, IsSound, Starts, IsRecorded, IsCaused, EndsOnUnit}
+use Rattle.tacho.specs.UnitRecorded.{IsOfUnit, refusal_on_unit, breakdowns_in, IsSound, Starts, IsRecorded, IsCaused, EndsOnUnit}
 use Rattle.tacho.proofs.Recordings.{none-bad, refused-no-run}
+use Rattle.tacho.proofs.Unbroken.{none-failed, unbroken-log}
 
 -- the image that a unit tells behind reads alone is the one that it started with
 told-still : (x y : List ℕ) (old new : State) → IsCoherent old → IsCoherent new → StartsAs x old → LeavesOnly old new Unchanged → new.image ≡ Some y → y ≡ x
@@ -36,6 +41,11 @@ still x old new P before after alone only holds = by_image new.image refl holds
         let e : is_some new.image ≡ true = only.tells ∙ alone.tells in
         let f = rw told at e in absurd (cc)
 
+-- when a trace was refused, where the outcome had no line
+pub refused-on-unit : (start : ℕ) (before after : Outcome) (U V : State) (by : RunFault) → IsEmpty before → IsRefusedBy start before after U V by
+    → (IsRefused start U V by × LeavesOnly U V Unchanged × IsEmpty after) ⊎ IsFoundLater by
+refused-on-unit start before after U V by empty refused = ⊎_elim (λ h. inl (h.0, h.1, subst IsEmpty (sym h.2) empty)) (λ late. inr late) refused
+
 -- THE RUN WAS REFUSED by the unit
 module _ (old new : Outside) (outcome : Outcome) (start : ℕ) (items : List Item)
     (whole : IsCoherent old.unit) (whole_new : IsCoherent new.unit) (for_unit : IsForUnit items)
@@ -43,10 +53,16 @@ module _ (old new : Outside) (outcome : Outcome) (start : ℕ) (items : List Ite
   only-lines : (s : ℕ) (is : List Item) → IsTold old s is → IsForUnit is
   only-lines s is told = subst IsForUnit (is_read told.text s is told.told told.trace).1 for_unit
 
-  pub unit-refused : (fault : RunFault) → IsUnitFault old.unit new.unit fault
+  on-read : (fault : RunFault) → (IsRefused start old.unit new.unit fault × LeavesOnly old.unit new.unit Unchanged × IsEmpty outcome) ⊎ IsFoundLater fault → (s : ℕ) (is : List Item) → IsTold old s is
+      → (IsRefused s old.unit new.unit fault × LeavesOnly old.unit new.unit Unchanged × IsEmpty outcome) ⊎ IsFoundLater fault
+  on-read fault when s is told =
+      subst (λ (t : ℕ). (IsRefused t old.unit new.unit fault × LeavesOnly old.unit new.unit Unchanged × IsEmpty outcome) ⊎ IsFoundLater fault) (is_read told.text s is told.told told.trace).0 when
+
+  pub unit-refused : (fault : RunFault) → IsUnitFault old.unit new.unit fault → HasBroken old.unit new.unit (length (cuts true (run_log outcome)))
+      → (IsRefused start old.unit new.unit fault × LeavesOnly old.unit new.unit Unchanged × IsEmpty outcome) ⊎ IsFoundLater fault
       → ((x : List ℕ) → StartsAs x old.unit → new.unit.clock < last_count → IsRefused start old.unit new.unit fault × LeavesOnly old.unit new.unit Unchanged × IsEmpty outcome)
       → EndsOnUnit old new outcome (refusal_on_unit fault)
-  unit-refused (run.MediumFault device) of_unit refused = record {
+  unit-refused (run.MediumFault device) of_unit broke when refused = record {
     for_unit = only-lines;
     only = λ d is. let e : device ≡ d = cc in sym e ∙ of_unit.0;
     run = λ s is x told starts no. absurd no;
@@ -57,8 +73,11 @@ module _ (old new : Outside) (outcome : Outcome) (start : ℕ) (items : List Ite
     records = λ s is x told starts sound decodes late. absurd (sound.unit of_unit.1);
     finds_bad_unit = λ s is x place told starts sound bad. absurd (sound.unit of_unit.1);
     finds_clock_back = λ s is x told starts sound decodes back. absurd (sound.unit of_unit.1);
+    broke = broke;
+    early = λ s is told ref. record { by = (run.MediumFault device); is = refl; when = on-read (run.MediumFault device) when s is told };
+    unbroken = λ s is x told starts sound counts. unbroken-log (run_log outcome) (refused x starts.alone starts.clock).2.breaks;
   }
-  unit-refused (run.BadUnit place) of_unit refused =
+  unit-refused (run.BadUnit place) of_unit broke when refused =
       let bad : (x : List ℕ) → Starts x old.unit new.unit → first_bad_place x ≡ Some place = λ x starts.
       let r = refused x starts.alone starts.clock in still x old.unit new.unit (λ y. first_bad_place y ≡ Some place) whole whole_new starts.alone r.1 r.0 in
       record {
@@ -72,8 +91,11 @@ module _ (old new : Outside) (outcome : Outcome) (start : ℕ) (items : List Ite
         records = λ s is x told starts sound decodes late. absurd (none-bad x place decodes (bad x starts));
         finds_bad_unit = λ s is x p told starts sound found. let e : Some place ≡ Some p = sym (bad x starts) ∙ found in let f : place ≡ p = cc in ap BadUnit f;
         finds_clock_back = λ s is x told starts sound decodes back. absurd (none-bad x place decodes (bad x starts));
+        broke = broke;
+        early = λ s is told ref. record { by = (run.BadUnit place); is = refl; when = on-read (run.BadUnit place) when s is told };
+        unbroken = λ s is x told starts sound counts. unbroken-log (run_log outcome) (refused x starts.alone starts.clock).2.breaks;
       }
-  unit-refused (run.ClockBack kept second) of_unit refused =
+  unit-refused (run.ClockBack kept second) of_unit broke when refused =
       let found : (x : List ℕ) → Starts x old.unit new.unit → Decodes x × (last_kept x ≡ kept) = λ x starts.
       let r = refused x starts.alone starts.clock in still x old.unit new.unit (λ y. Decodes y × (last_kept y ≡ kept)) whole whole_new starts.alone r.1 r.0.2 in
       let when : (x : List ℕ) → Starts x old.unit new.unit → (second ≡ start) × (start / 60 ≤ kept) = λ x starts.
@@ -99,8 +121,11 @@ module _ (old new : Outside) (outcome : Outcome) (start : ℕ) (items : List Ite
             let same = (is_read told.text s is told.told told.trace).0 in
             let kept_is = (found x starts).1 in let w = (when x starts).0 in
             ap (λ (k : ℕ). ClockBack k second) (sym kept_is) ∙ ap (ClockBack (last_kept x)) (w ∙ same);
+        broke = broke;
+        early = λ s is told ref. record { by = (run.ClockBack kept second); is = refl; when = on-read (run.ClockBack kept second) when s is told };
+        unbroken = λ s is x told starts sound counts. unbroken-log (run_log outcome) (refused x starts.alone starts.clock).2.breaks;
       }
-  unit-refused (run.SameCard number) of_unit refused = absurd of_unit
+  unit-refused (run.SameCard number) of_unit broke when refused = absurd of_unit
 
 -- a fault of the run is the unit's
 pub of-unit : (old new : State) (fault : RunFault) → IsUnitFault old new fault → IsOfUnit fault
@@ -139,8 +164,9 @@ pub unit-run : (old new : Outside) (outcome : Outcome) (start : ℕ) (items : Li
     → ((x : List ℕ) → StartsAs x old.unit → new.unit.clock < last_count → IsRecorded x start items old.unit.clock outcome new.unit)
     → ((x : List ℕ) → StartsAs x old.unit → new.unit.clock < last_count → IsCaused old new start items outcome)
     → ((x : List ℕ) → StartsAs x old.unit → Decodes x × (last_kept x < start / 60))
+    → HasBroken old.unit new.unit (length (cuts true (run_log outcome))) → Rose old.unit.faults new.unit.faults ⊎ (new.unit.breakdowns ≡ old.unit.breakdowns) → new.card_a.memory ≡ old.card_a.memory → new.card_b.memory ≡ old.card_b.memory
     → (fault : Fault) → IsRun fault → (fault ≡ WriteFault → Rose old.sink.faults new.sink.faults) → EndsOnUnit old new outcome fault
-unit-run old new outcome start items for_unit is_read recorded caused begun fault ran rose = record {
+unit-run old new outcome start items for_unit is_read recorded caused begun broke unit_unbroken same_a same_b fault ran rose = record {
   for_unit = λ s is told. subst IsForUnit (is_read told.text s is told.told told.trace).1 for_unit;
   only = λ device is. absurd (subst IsRun is ran);
   run = λ s is x told starts done. of_trace s is x (is_read told.text s is told.told told.trace) (recorded x starts.alone starts.clock);
@@ -151,8 +177,16 @@ unit-run old new outcome start items for_unit is_read recorded caused begun faul
   records = λ s is x told starts sound decodes late. run-done old new fault ran rose sound.sink;
   finds_bad_unit = λ s is x place told starts sound bad. absurd (none-bad x place (begun x starts.alone).0 bad);
   finds_clock_back = λ s is x told starts sound decodes back. absurd (not_back s x (is_read told.text s is told.told told.trace).0 (begun x starts.alone).1 back);
+  broke = broke;
+  early = λ s is told ref. absurd (refused-no-run fault ref ran);
+  unbroken = λ s is x told starts sound counts. none-failed NoVerdict (breakdowns_in old) (breakdowns_in new) _ (run_log outcome) counts (none_broke sound) (caused x starts.alone starts.clock);
 }
   where
+    none_broke : IsSound old new → (device : Device) → breakdowns_in new device ≡ breakdowns_in old device
+    none_broke sound OfUnit = ⊎_elim (λ failed. absurd (sound.unit failed)) (λ same. same) unit_unbroken
+    none_broke sound CardA = ap (λ (s : State). s.breakdowns) same_a
+    none_broke sound CardB = ap (λ (s : State). s.breakdowns) same_b
+
     of_trace : (s : ℕ) (is : List Item) (x : List ℕ) → (start ≡ s) × (items ≡ is) → IsRecorded x start items old.unit.clock outcome new.unit → IsRecorded x s is old.unit.clock outcome new.unit
     of_trace s is x same h = subst (λ (t : ℕ). IsRecorded x t is old.unit.clock outcome new.unit) same.0 (subst (λ (l : List Item). IsRecorded x start l old.unit.clock outcome new.unit) same.1 h)
 

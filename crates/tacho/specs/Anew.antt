@@ -49,3 +49,11 @@ IsFailed (Kept (MediumFault device)) old now = Rose (faults_of old device) (faul
 IsFailed (Kept (BadUnit place)) old now = Unit {0}
 IsFailed (Kept (ClockBack kept second)) old now = Unit {0}
 IsFailed (Kept (SameCard number)) old now = Unit {0}
+
+-- it is a device that failed, as it was made new or in the opening
+abbrev pub IsFailure : AnewFault → Type 0
+IsFailure (Unmade device) = Unit {0}
+IsFailure (Kept (MediumFault device)) = Unit {0}
+IsFailure (Kept (BadUnit place)) = ⊥
+IsFailure (Kept (ClockBack kept second)) = ⊥
+IsFailure (Kept (SameCard number)) = ⊥

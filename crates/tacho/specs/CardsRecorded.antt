@@ -1,9 +1,15 @@
 -- How a trace with cards is recorded on the unit and both cards (profile).
-use Rattle.std.specs.Prelude.{◌≡◌, ℕ, List}
-use Rattle.tach_media.specs.Medium.{Rose}
-use Rattle.safety_model.specs.Safe.{Devices}
+use Rattle.std.specs.Prelude.{◌≡◌, ◌⊎◌, ◌<◌, ℕ, true, List, [], length}
+use Rattle.tach_media.specs.Medium.{Rose, HasBroken, last_count}
+use Rattle.run_model.specs.declared.Device.{Device}
+use Rattle.log_model.specs.Causes.{cuts, tears}
+use Rattle.safety_model.specs.Safe.{Devices, breakdowns_of}
 use Rattle.run_rule.specs.Between.{devices}
 use Rattle.run_keeping.specs.Books.{HaveTime}
+use Rattle.run_keeping.specs.Later.{AreLater}
+use Rattle.run_acts.specs.Recording.{log_of}
+use Rattle.run_acts.specs.Going.{IsFoundLater}
+use Rattle.run_opening.specs.Opening.{IsRefused, IsAsItWas}
 use Rattle.run_opening.specs.declared.fault.RunFault.{RunFault}
 use Rattle.run_opening.specs.declared.fault.RunFault.TheVariants as run
 use Rattle.recorder.specs.Trace.{IsForUnit}
@@ -40,6 +46,24 @@ pub record AreSound (old new : Outside) : Type 0 where
   pub card_a : Rose old.card_a.memory.faults new.card_a.memory.faults → ⊥
   pub card_b : Rose old.card_b.memory.faults new.card_b.memory.faults → ⊥
 
+-- no device has broken down so often that its count stands at the last value
+abbrev pub HaveCounts : Devices → Type 0
+HaveCounts d = (device : Device) → breakdowns_of d device < last_count
+
+-- IT WAS REFUSED IN THE OPENING, whatever the devices tell: for the cause that this names, with each device as it was and no outcome.
+pub record IsTurnedAway (start : ℕ) (old new : Devices) (outcome : Outcome) (by : RunFault) : Type 0 where
+  pub cause : IsRefused start old new by
+  pub same_unit : IsAsItWas old.unit new.unit
+  pub same_a : IsAsItWas old.card_a new.card_a
+  pub same_b : IsAsItWas old.card_b new.card_b
+  pub empty : IsEmpty outcome
+
+-- or by a unit that was read anew at a power-on
+pub record IsNotRecorded (start : ℕ) (old new : Devices) (outcome : Outcome) (fault : Fault) : Type 0 where
+  pub by : RunFault
+  pub is : fault ≡ refusal_with_cards by
+  pub when : IsTurnedAway start old new outcome by ⊎ IsFoundLater by
+
 -- THE TRACE WAS KEPT FROM BEING RECORDED, for the cause that this end names: a call failed in the opening; or by these images the unit's does
 -- not decode, the clock is back, or both cards have one number. Each device is as it was.
 pub record IsRefusedBy (unit card_a card_b : List ℕ) (start : ℕ) (old new : Outside) (fault : Fault) : Type 0 where
@@ -62,3 +86,12 @@ pub record EndsWithCards (old new : Outside) (outcome : Outcome) (fault : Fault)
       → MayRecord unit card_a card_b start → fault ≡ Done
   pub finds : (start : ℕ) (items : List Item) (unit card_a card_b : List ℕ) → StartWith unit card_a card_b start items old new → AreSound old new
       → (MayRecord unit card_a card_b start → ⊥) → IsRefusedBy unit card_a card_b start old new fault
+  -- WHATEVER THE DEVICES TELL: no clock and no count has fallen, and none broke down but where a call failed; and a refusal came in the opening,
+  -- with each device as it was and no outcome, or of a unit that was read anew at a power-on.
+  pub later : AreLater (devices_of old) (devices_of new)
+  pub early : (start : ℕ) (items : List Item) → IsTold old start items → IsRefusal fault → IsNotRecorded start (devices_of old) (devices_of new) outcome fault
+  -- Each cut that a failed call made is a breakdown of the unit more.
+  pub broke : HasBroken old.unit new.unit (length (cuts true (log_of outcome)))
+  -- Where nothing failed, no call has cut the power or torn out a card.
+  pub unbroken : (start : ℕ) (items : List Item) (unit card_a card_b : List ℕ) → StartWith unit card_a card_b start items old new → AreSound old new
+      → HaveCounts (devices_of old) → (cuts true (log_of outcome) ≡ []) × (tears true (log_of outcome) ≡ [])

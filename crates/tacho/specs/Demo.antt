@@ -1,11 +1,12 @@
 -- How `demo` ends: a unit and a card are made new, a demonstration is recorded on them, and the unit is downloaded (profile).
-use Rattle.std.specs.Prelude.{◌≡◌, ◌⊎◌, ℕ, List, ◌++◌, codes, IfSome}
+use Rattle.std.specs.Prelude.{◌≡◌, ◌⊎◌, ℕ, List, ◌++◌, codes, Some, IfSome}
 use Rattle.std.specs.Io.KnownBytes.{Appends, Keeps}
 use Rattle.byte_fields.specs.Fields.{IsBytes}
 use Rattle.tach_media.specs.Medium.{State}
 use Rattle.tach_media.specs.Streams.{AppendsFront}
 use Rattle.run_model.specs.declared.Device.TheVariants.{Unit as OfUnit}
 use Rattle.run_keeping.specs.Books.{HaveTime}
+use Rattle.recorder_with_cards.specs.Ends.{MayRecord}
 use Rattle.run_outcome.specs.declared.outcome.Outcome.{Outcome}
 use Rattle.unit_download.specs.declared.fault.DownloadFault.{DownloadFault}
 use Rattle.unit_download.specs.declared.fault.DownloadFault.TheVariants as download
@@ -21,7 +22,7 @@ use Rattle.tacho.specs.declared.end.Fault.{Fault}
 use Rattle.tacho.specs.declared.end.Fault.TheVariants.{Done, Usage, BadTrace, TooLong, BadUnit, ReadFault, WriteFault, MediumFault, Memory, BadFile, BadCard, Changed}
 use Rattle.tacho.specs.Outside.{Outside}
 use Rattle.tacho.specs.Outcomes.{IsEmpty, IsRun, count_line, outcome_text}
-use Rattle.tacho.specs.CardsRecorded.{refusal_with_cards, devices_of}
+use Rattle.tacho.specs.CardsRecorded.{refusal_with_cards, devices_of, AreSound}
 use Rattle.tacho.specs.Formatting.{card_image, unit_image}
 
 -- THE SEVEN LINES: those of the outcome, the bytes of the unit's file, and its messages of a day
@@ -79,3 +80,7 @@ pub record EndsDemo (seed : ℕ) (old new : Outside) (outcome : Outcome) (fault 
   pub nothing : (fault ≡ Done → ⊥) → (fault ≡ WriteFault → ⊥) → Keeps old.sink.held new.sink.held
   -- No unit that tells its image, of bytes, gives no answer, or one that the loader refuses.
   pub changed : fault ≡ Changed → IfSome new.unit.image (λ u. IsBytes u → ⊥)
+  -- Where nothing failed, memory was there, a run may begin on what was made with card b, whose number is then another than the new card's, and
+  -- the unit's image is of bytes, all is done.
+  pub finishes : (card_b u : List ℕ) → StartAnew card_b old new → AreSound old new → (fault ≡ Memory → ⊥) → MayRecord (unit_image VEHICLE) (card_image CARD) card_b FIRST_SECOND
+      → new.unit.image ≡ Some u → IsBytes u → fault ≡ Done

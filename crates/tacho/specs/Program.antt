@@ -1,10 +1,10 @@
 -- THE PROGRAM: how its one call ends, and what it leaves untouched (profile). What each form promises stands in the form's own
 -- file: Minutes, Recorded, Serving, Downloading, View, CardFile, Formatting, Demo.
-use Rattle.std.specs.Prelude.{◌≡◌, ◌↔◌, ◌⊎◌, ◌<◌, ◌≤◌, List, [], Option, Some, None, IfSome}
+use Rattle.std.specs.Prelude.{◌≡◌, ◌↔◌, ◌≤◌, List, [], Option, Some, None, IfSome}
 use Rattle.tach_media.specs.Medium.{State, Rose}
 use Rattle.trace_model.specs.declared.Card.TheVariants.{A, B}
 use Rattle.run_model.specs.declared.Device.{Device}
-use Rattle.run_model.specs.declared.Device.TheVariants.{Unit as OfUnit, CardA, CardB}
+use Rattle.run_model.specs.declared.Device.TheVariants.{CardA, CardB}
 use Rattle.unit_model.specs.Image.{IsUnit}
 use Rattle.tacho.specs.declared.end.Fault.{Fault}
 use Rattle.tacho.specs.declared.end.Fault.TheVariants.{Done, Usage, ReadFault, WriteFault, MediumFault, BadCard}
@@ -81,17 +81,6 @@ pub record HasCauses (old new : Outside) (fault : Fault) : Type 0 where
   pub reads : old.source.faults ≤ new.source.faults
   pub writes : old.sink.faults ≤ new.sink.faults
 
--- The same of `demo`, but for a unit that failed in the download behind the run: of it this alone is said, that it has failed.
-pub record HasDemoCauses (old new : Outside) (fault : Fault) : Type 0 where
-  pub write_fault : fault ≡ WriteFault → Rose old.sink.faults new.sink.faults
-  pub medium_fault : (device : Device) → fault ≡ MediumFault device → Rose (memory_of device old).faults (memory_of device new).faults ⊎ ((device ≡ OfUnit) × (0 < new.unit.faults))
-  pub reads : old.source.faults ≤ new.source.faults
-  pub writes : old.sink.faults ≤ new.sink.faults
-
-abbrev pub CausesOf : Option Form → (old new : Outside) → Fault → Type 0
-CausesOf (Some (Demo seed)) old new fault = HasDemoCauses old new fault
-CausesOf asked old new fault = HasCauses old new fault
-
 -- HOW THE CALL ENDS, whose words ask for this form, or are in none.
 pub record Ends (asked : Option Form) (old new : Outside) (ended : Ended) : Type 0 where
   pub status : ended.status ≡ status_of ended.fault
@@ -100,7 +89,7 @@ pub record Ends (asked : Option Form) (old new : Outside) (ended : Ended) : Type
   pub form : IfSome asked (λ form. EndsForm form old new ended)
   pub unrecorded : IsUnrecorded asked ended.outcome
   pub unpassed : IsUnpassed asked ended.wire
-  pub causes : CausesOf asked old new ended.fault
+  pub causes : HasCauses old new ended.fault
 
 -- what reads all of its source before it uses a device or prints: each form but `serve`, `serve --hex`, `download`, `card a` and
 -- `card b`, which write as they read, and `demo`, which reads none

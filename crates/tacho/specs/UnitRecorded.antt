@@ -1,12 +1,13 @@
 -- How a trace without a card's line is recorded on the unit alone (profile).
-use Rattle.std.specs.Prelude.{◌≡◌, ◌⊎◌, ℕ, ◌/◌, ◌<◌, ◌≤◌, Some, List}
-use Rattle.tach_media.specs.Medium.{State, Rose, LeavesOnly, Unchanged, last_count}
+use Rattle.std.specs.Prelude.{◌≡◌, ◌⊎◌, ℕ, ◌/◌, ◌<◌, ◌≤◌, true, Some, List, [], length}
+use Rattle.tach_media.specs.Medium.{State, Rose, HasBroken, LeavesOnly, Unchanged, last_count}
 use Rattle.run_model.specs.declared.Device.{Device}
 use Rattle.run_model.specs.declared.Device.TheVariants.{Unit as OfUnit}
-use Rattle.log_model.specs.Causes.{HasCauses}
+use Rattle.log_model.specs.Causes.{HasCauses, cuts, tears}
 use Rattle.history_model.specs.Presence.{Start}
 use Rattle.recorder.specs.Booked.{StartsAs}
 use Rattle.recorder.specs.Followed.{IsFollowed, NoVerdict, breakdowns_of, run_log}
+use Rattle.recorder.specs.Opening.{IsRefused, IsFoundLater}
 use Rattle.recorder.specs.Trace.{IsForUnit}
 use Rattle.recorder.specs.declared.opening.RunFault.{RunFault}
 use Rattle.recorder.specs.declared.opening.RunFault.TheVariants as run
@@ -57,6 +58,17 @@ breakdowns_in told = breakdowns_of told.unit told.card_a.memory told.card_b.memo
 abbrev pub IsCaused : (old new : Outside) → (start : ℕ) → List Item → Outcome → Type 0
 IsCaused old new start items outcome = HasCauses NoVerdict (breakdowns_in old) (breakdowns_in new) (seconds_of start items) (run_log outcome)
 
+-- no device has broken down so often that its count stands at the last value
+abbrev pub HaveCounts : Outside → Type 0
+HaveCounts told = (device : Device) → breakdowns_in told device < last_count
+
+-- IT WAS REFUSED, whatever the unit tells: in the opening, for the cause that this names, with the unit as it was and no outcome; or by a unit that was
+-- read anew at a power-on.
+pub record IsNotRecorded (start : ℕ) (old new : State) (outcome : Outcome) (fault : Fault) : Type 0 where
+  pub by : RunFault
+  pub is : fault ≡ refusal_on_unit by
+  pub when : (IsRefused start old new by × LeavesOnly old new Unchanged × IsEmpty outcome) ⊎ IsFoundLater by
+
 -- THE TRACE WAS RECORDED ON THE UNIT ALONE, or the unit kept it from being recorded.
 pub record EndsOnUnit (old new : Outside) (outcome : Outcome) (fault : Fault) : Type 0 where
   -- None of its lines is a card's.
@@ -80,3 +92,10 @@ pub record EndsOnUnit (old new : Outside) (outcome : Outcome) (fault : Fault) : 
       → first_bad_place x ≡ Some place → fault ≡ BadUnit place
   pub finds_clock_back : (start : ℕ) (items : List Item) (x : List ℕ) → IsTold old start items → Starts x old.unit new.unit → IsSound old new
       → Decodes x → start / 60 ≤ last_kept x → fault ≡ ClockBack (last_kept x) start
+  -- Whatever the unit tells, a refusal came in the opening, with the unit as it was and no outcome, or of a unit that was read anew at a power-on.
+  pub early : (start : ℕ) (items : List Item) → IsTold old start items → IsRefusal fault → IsNotRecorded start old.unit new.unit outcome fault
+  -- Each cut that a failed call made is a breakdown of the unit more.
+  pub broke : HasBroken old.unit new.unit (length (cuts true (run_log outcome)))
+  -- Where nothing failed, no call has cut the power.
+  pub unbroken : (start : ℕ) (items : List Item) (x : List ℕ) → IsTold old start items → Starts x old.unit new.unit → IsSound old new → HaveCounts old
+      → (cuts true (run_log outcome) ≡ []) × (tears true (run_log outcome) ≡ [])

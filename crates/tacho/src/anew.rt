@@ -10,7 +10,8 @@ ghost use Rattle.run_outcome.specs.Room.{IsReserved};
 ghost use Rattle.run_rule.specs.Between.{devices};
 ghost use Rattle.run_keeping.specs.Books.{HaveTime};
 ghost use Rattle.run_acts.specs.Going.{largest_number};
-ghost use Rattle.tacho.specs.Anew.{unit_image, MayBeAnew, EndsAnew, IsFailed};
+ghost use Rattle.recorder_with_cards.specs.Ends.{MayRecord};
+ghost use Rattle.tacho.specs.Anew.{unit_image, MayBeAnew, EndsAnew, IsFailed, IsFailure};
 
 use recorder_with_cards::{RunFault, run_trace};
 use run_model::Device;
@@ -55,8 +56,12 @@ pub fn run_anew<U: Medium, C: Chip>(
     // Where it was not recorded nothing is put down.
     ensures nothing { (b : List ℕ) → MayBeAnew b (devices (U.state unit.old) (C.state card_a.old) (C.state card_b.old)) → HaveTime (devices (U.state unit.new) (C.state card_a.new) (C.state card_b.new)) → length trace.now.items ≤ largest_number
         → IfErr result (λ fault. outcome.new ≡ outcome.old) }
+    // Where a run may begin with the new images and card b's, only a failed call keeps it from being recorded.
+    ensures kept { (b : List ℕ) → MayBeAnew b (devices (U.state unit.old) (C.state card_a.old) (C.state card_b.old)) → HaveTime (devices (U.state unit.new) (C.state card_a.new) (C.state card_b.new)) → length trace.now.items ≤ largest_number
+        → MayRecord (unit_image vehicle.now) image.now b trace.now.start → IfErr result IsFailure }
     // A device that is told to have failed has failed.
     ensures failed { IfErr result (λ fault. IsFailed fault (devices (U.state unit.old) (C.state card_a.old) (C.state card_b.old)) (devices (U.state unit.new) (C.state card_a.new) (C.state card_b.new))) }
+    ensures faults { (U.state unit.old).faults ≤ (U.state unit.new).faults }
     ensures unit { IsUnit (U.state unit.new) }
 {
     if format_unit(unit, vehicle).is_err() {

@@ -6,7 +6,7 @@ ghost use Rattle.tach_media.specs.Streams.{AppendsFront};
 ghost use Rattle.unit_model.specs.Image.{IsUnit};
 ghost use Rattle.tacho.specs.End.{end_of};
 ghost use Rattle.tacho.specs.Outside.{outside};
-ghost use Rattle.tacho.specs.Program.{HasDemoCauses};
+ghost use Rattle.tacho.specs.Program.{HasCauses};
 ghost use Rattle.tacho.specs.Formatting.{IsCard};
 ghost use Rattle.tacho.specs.Outcomes.{IsEmpty};
 ghost use Rattle.tacho.specs.Demo.{demo_text as text_of_demo, refusal_anew, refusal_of_file, EndsDemo};
@@ -72,7 +72,7 @@ pub fn demo<S: Source, K: Sink, U: Medium, C: Chip>(
         (outside S.left S.faults K.held K.faults U.state C.state C.card source.old sink.old unit.old card_a.old card_b.old)
         (outside S.left S.faults K.held K.faults U.state C.state C.card source.new sink.new unit.new card_a.new card_b.new) outcome.new (end_of result) }
     ensures source { source.new ≡ source.old }
-    ensures causes { HasDemoCauses
+    ensures causes { HasCauses
         (outside S.left S.faults K.held K.faults U.state C.state C.card source.old sink.old unit.old card_a.old card_b.old)
         (outside S.left S.faults K.held K.faults U.state C.state C.card source.new sink.new unit.new card_a.new card_b.new) (end_of result) }
 {

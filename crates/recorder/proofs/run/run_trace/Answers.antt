@@ -1,5 +1,7 @@
-use Rattle.std.proofs.Common.{◌≡◌, ℕ, ◌+◌, ◌-◌, ◌/◌, ◌<◌, ◌≤◌, true, List, [], length, take, drop, is_some, refl, ap, sym, subst, ◌∙◌, arith}
+use Rattle.std.proofs.Common.{rules, inl, inr, ◌≡◌, ℕ, ◌+◌, ◌-◌, ◌/◌, ◌<◌, ◌≤◌, true, List, [], length, take, drop, is_some, refl, ap, sym, subst, ◌∙◌, arith}
 use Rattle.std.specs.Prelude.{IfErr, Result, Ok, Err}
+use Rattle.std.proofs.lemmas.Grind.{common_steps}
+use Rattle.recorder.specs.Opening.{IsRefused, IsFoundLater}
 use Rattle.tach_media.specs.Medium.{State, LiesInside}
 use Rattle.std.proofs.lemmas.List.{take_all}
 use Rattle.trace_model.specs.declared.Item.{Item}
@@ -50,7 +52,7 @@ use Rattle.run_outcome.proofs.Items.{seconds-here, offs-here}
 use Rattle.recorder.proofs.Items.{each-at, room-less, room-behind, waiting-most, total-parts}
 use Rattle.recorder.proofs.Standing.{may-show}
 use Rattle.recorder.proofs.Turning.{booked-at, goes-then}
-use Rattle.recorder.proofs.Broken.{broke-none, broke-then, broke-all, rose-by}
+use Rattle.run_outcome.proofs.Broken.{broke-none, broke-then, broke-all, rose-by}
 use Rattle.recorder.proofs.run.run_trace.Goals as goal
 
 -- what no card brings
@@ -97,7 +99,7 @@ loop-i-init g c =
         refused = omega (arith, f, fr);
       };
       unfound = let u = c.new-run.ensures.unfound in omega (arith, u);
-      goes_on = record { clock = let k = c.judge.ensures.clock in omega (arith, k); tells = run.tells; faults = c.judge.ensures.faults; breakdowns = c.judge.ensures.breakdowns };
+      goes_on = record { clock = let k = c.judge.ensures.clock in omega (arith, k); tells = run.tells; faults = c.judge.ensures.faults; breakdowns = c.judge.ensures.breakdowns; unbroken = inr (c.in_ok-opened.ensures.cause.unbroken refl) };
       broke = broke-none c.args.outcome.now.breaks.items c.judge.ensures.breakdowns;
       waits = waits-none c.args.trace.now.items;
       finds = refl;
@@ -250,6 +252,7 @@ returns-clause-followed g c = λ start x starts below few.
     let all_marked = subst (λ (is : List Item). AreMarked Original (log_of c.loop-i.outcome.breaks.items) (seconds_of c.args.trace.now.start is) c.loop-i.outcome.marks.items) whole r.complete in
     record {
       safe = all_safe;
+      issued = r.booked.stands.holds.issued;
       due = due_of c.loop-i.run;
       book = r.book;
       holds = r.booked.stands.holds;
@@ -306,3 +309,22 @@ returns-in_err-item-clause-broke g c =
 pub returns-in_err-opened-clause-broke : goal.returns-in_err-opened-clause-broke
 returns-in_err-opened-clause-broke g c =
     broke-all (run_log c.args.outcome.now) (ap (λ (l : Listed Break). l.items) c.requires.reserved.breaks) c.judge.ensures.faults (broke-none c.args.outcome.now.breaks.items c.judge.ensures.breakdowns)
+
+-- ---- whatever the unit tells
+
+if_err_then : {A E : Type 0} {P Q : E → Type 0} (r : Result A E) → ((e : E) → P e → Q e) → IfErr r P → IfErr r Q
+if_err_then (Ok a) all h = tt
+if_err_then (Err e) all h = all e h
+
+pub returns-in_err-opened-clause-early : goal.returns-in_err-opened-clause-early
+returns-in_err-opened-clause-early g c =
+    let why : IfErr c.from_residual.result (IsRefused c.args.trace.now.start (g.U.Medium.state c.args.unit.now) (g.U.Medium.state c.judge.new.unit)) = first_of (search rules, grind (arith, common_steps)) in
+    if_err_then c.from_residual.result (λ fault is. inl (is, c.judge.ensures.leaves, refl)) why
+
+pub returns-in_err-item-clause-early : goal.returns-in_err-item-clause-early
+returns-in_err-item-clause-early g c =
+    let late : IfErr c.from_residual-in_err-item.result IsFoundLater = first_of (search rules, grind (arith, common_steps)) in
+    if_err_then c.from_residual-in_err-item.result (λ fault is. inr is) late
+
+pub returns-clause-unbroken : goal.returns-clause-unbroken
+returns-clause-unbroken g c = c.loop-i.invariant.goes_on.unbroken

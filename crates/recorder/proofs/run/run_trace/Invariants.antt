@@ -10,7 +10,7 @@ use Rattle.history_model.specs.Book.{Book}
 use Rattle.recorder.specs.Going.{largest_number, IsGoing}
 use Rattle.recorder.specs.Turn.{HasRoom}
 use Rattle.run_outcome.specs.Room.{offs}
-use Rattle.recorder.specs.Broken.{BreaksDown}
+use Rattle.run_outcome.specs.Broken.{BreaksDown}
 use Rattle.recorder.specs.Booked.{Booked, GoesOn, StartsAs, begun_with, Travel}
 use Rattle.recorder.proofs.run.run_trace.Given as goal
 

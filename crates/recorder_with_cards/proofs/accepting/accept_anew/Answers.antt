@@ -9,6 +9,9 @@ use Rattle.recorder_with_cards.specs.Judged.{JudgesAnew}
 use Rattle.recorder_with_cards.specs.Noting.{NotesAnew}
 use Rattle.recorder_with_cards.proofs.Judged.{none-noting}
 use Rattle.recorder_with_cards.proofs.Goes.{bare-one}
+use Rattle.run_rings.proofs.Same.{rings-left}
+use Rattle.recorder_with_cards.specs.EnteredRings.{RingsAnew}
+use Rattle.run_keeping.proofs.Later.{later-same}
 use Rattle.recorder_with_cards.proofs.accepting.accept_anew.Goals as goal
 
 pub returns-clause-takes : goal.returns-clause-takes
@@ -41,3 +44,24 @@ returns-in_default-clause-noted g c =
     let d : Devices = devices (g.M.Medium.state c.args.unit.now) (g.C.Chip.state c.args.card_a.now) (g.D.Chip.state c.args.card_b.now) in
     subst (λ (q : Option Card). NotesAnew q c.args.slot c.args.at c.args.speed false c.args.run.now c.args.run.now c.args.outcome.now c.args.outcome.now d d) (sym none)
     (none-noting c.args.slot c.args.at c.args.speed c.args.run.now c.args.outcome.now (g.M.Medium.state c.args.unit.now) (g.C.Chip.state c.args.card_a.now) (g.D.Chip.state c.args.card_b.now))
+
+-- ---- the rings
+
+pub returns-clause-rings : goal.returns-clause-rings
+returns-clause-rings g c =
+    let is : card_in (seat_in c.args.run.now.keeper.cabin.slots.seats c.args.slot) ≡ Some c.in-Some.card = sym c.card.ensures ∙ c.in-Some.is in
+    subst (λ (q : Option Card). RingsAnew q c.args.slot c.args.at c.args.speed (is_err c.accept_in.result) c.args.run.now c.accept_in.new.run c.args.outcome.now c.accept_in.new.outcome (g.M.Medium.state c.args.unit.now) (g.M.Medium.state c.accept_in.new.unit)) (sym is) c.accept_in.ensures.rings
+
+pub returns-in_default-clause-rings : goal.returns-in_default-clause-rings
+returns-in_default-clause-rings g c =
+    let none : card_in (seat_in c.args.run.now.keeper.cabin.slots.seats c.args.slot) ≡ None = search rules in
+    let U = g.M.Medium.state c.args.unit.now in
+    subst (λ (q : Option Card). RingsAnew q c.args.slot c.args.at c.args.speed false c.args.run.now c.args.run.now c.args.outcome.now c.args.outcome.now U U) (sym none) (rings-left U)
+
+-- ---- what holds of the devices after any calls
+
+pub returns-in_default-clause-later : goal.returns-in_default-clause-later
+returns-in_default-clause-later g c = later-same (devices (g.M.Medium.state c.args.unit.now) (g.C.Chip.state c.args.card_a.now) (g.D.Chip.state c.args.card_b.now))
+
+pub returns-clause-later : goal.returns-clause-later
+returns-clause-later g c = c.accept_in.ensures.later

@@ -26,6 +26,7 @@ use Rattle.run_acts.proofs.EnteredWhole.{entered-recorded}
 use Rattle.run_acts.specs.declared.run.Run.{Run}
 use Rattle.recorder_with_cards.proofs.Judged.{mine-time, found-by, judged-by, judged-noting}
 use Rattle.recorder_with_cards.proofs.NoSession.{seat-answers}
+use Rattle.recorder_with_cards.proofs.EnteredRings.{accept-writes}
 use Rattle.recorder_with_cards.proofs.accepting.accept_here.Goals as goal
 
 pub returns-clause-beside : goal.returns-clause-beside
@@ -168,3 +169,20 @@ returns-clause-noted g c =
     let a : IsAccepted c.args.entering run new c.args.outcome.now c.accept-answer.new.outcome = record { way = w.0; only = refl; left = w.1.left } in
     judged-noting c.args.entering (is_err c.accept-answer.result) run new c.args.outcome.now c.accept-answer.new.outcome a (g.M.Medium.state c.args.unit.now) (g.M.Medium.state c.accept-answer.new.unit) (g.C.Chip.state c.args.card.now) (g.C.Chip.state c.accept-answer.new.card) (g.D.Chip.state c.args.others.now)
     (g.met.M.Medium.coherent c.args.unit.now) (g.met.M.Medium.coherent c.accept-answer.new.unit) c.requires.held.is_unit c.accept-answer.ensures.cause.works w.1.notes
+
+-- ---- the rings
+
+pub returns-clause-rings : goal.returns-clause-rings
+returns-clause-rings g c =
+    let run = c.args.run.now in
+    let w = c.accept-answer.ensures.entered in
+    record {
+      accepted = record { way = w.0; only = refl; left = w.1.left };
+      writes = λ tells. accept-writes (g.M.Medium.state c.args.unit.now) (g.M.Medium.state c.accept-answer.new.unit) (g.C.Chip.state c.args.card.now) (g.C.Chip.state c.accept-answer.new.card)
+          (g.met.M.Medium.coherent c.args.unit.now) (g.met.M.Medium.coherent c.accept-answer.new.unit) c.args.entering (is_err c.accept-answer.result) run.keeper c.accept-answer.new.keeper run.noted c.accept-answer.new.noted c.args.outcome.now c.accept-answer.new.outcome w.0 tells c.accept-answer.ensures.cause w.1;
+    }
+
+-- ---- what holds of the devices after any calls
+
+pub returns-clause-later : goal.returns-clause-later
+returns-clause-later g c = c.accept-answer.ensures.later

@@ -7,7 +7,8 @@ use Rattle.run_rule.specs.Between.{devices}
 use Rattle.recorder_with_cards.proofs.ActsRecorded.{passed-over}
 use Rattle.recorder_with_cards.proofs.ActsEvented.{evented-over}
 use Rattle.recorder_with_cards.proofs.Allowed.{lit-refused}
-use Rattle.recorder_with_cards.proofs.Later.{later-same}
+use Rattle.run_keeping.proofs.Later.{later-same}
+use Rattle.run_outcome.proofs.Broken.{broke-none}
 use Rattle.recorder_with_cards.proofs.acts.act.Goals as goal
 
 pub returns-clause-none : goal.returns-clause-none
@@ -96,3 +97,14 @@ returns-then-not-is_lit-clause-evented g c = λ power o done s now front rest ar
 
 pub returns-clause-evented : goal.returns-clause-evented
 returns-clause-evented g c = λ power. c.act_lit.ensures.evented
+
+-- ---- how often the unit broke down
+
+pub returns-then-not-has_power-clause-broke : goal.returns-then-not-has_power-clause-broke
+returns-then-not-has_power-clause-broke g c = broke-none c.args.outcome.now.breaks.items {old = (g.M.Medium.state c.args.unit.now)} {new = (g.M.Medium.state c.args.unit.now)} (omega arith)
+
+pub returns-then-not-is_lit-clause-broke : goal.returns-then-not-is_lit-clause-broke
+returns-then-not-is_lit-clause-broke g c = broke-none c.args.outcome.now.breaks.items {old = (g.M.Medium.state c.args.unit.now)} {new = (g.M.Medium.state c.args.unit.now)} (omega arith)
+
+pub returns-clause-broke : goal.returns-clause-broke
+returns-clause-broke g c = c.act_lit.ensures.broke

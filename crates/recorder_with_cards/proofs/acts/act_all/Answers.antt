@@ -19,7 +19,8 @@ use Rattle.recorder_with_cards.specs.Items.{between, insertions_in}
 use Rattle.recorder_with_cards.proofs.Acted.{between-none, between-more, acted-more}
 use Rattle.recorder_with_cards.proofs.Rooms.{room-less}
 use Rattle.recorder_with_cards.proofs.Counted.{none-in, first-in}
-use Rattle.recorder_with_cards.proofs.Later.{later-same, later-then}
+use Rattle.run_keeping.proofs.Later.{later-same, later-then}
+use Rattle.run_outcome.proofs.Broken.{broke-none, broke-then}
 use Rattle.recorder_with_cards.proofs.acts.act_all.Goals as goal
 
 pub act_item-requires-clause-room : goal.act_item-requires-clause-room
@@ -48,6 +49,7 @@ loop-i-init g c = record {
   still = λ dark. (dark, refl, refl, refl);
   time = λ h. h;
   later = later-same (devices (g.M.Medium.state c.args.unit.now) (g.C.Chip.state c.args.card_a.now) (g.D.Chip.state c.args.card_b.now));
+  broke = broke-none c.args.outcome.now.breaks.items {old = (g.M.Medium.state c.args.unit.now)} {new = (g.M.Medium.state c.args.unit.now)} (omega arith);
   dark = c.requires.dark;
   next = refl;
   unfound = refl;
@@ -112,6 +114,7 @@ loop-i-preserved g c =
           (now.0, now.1 ∙ was.1, now.2 ∙ was.2, now.3 ∙ was.3);
       time = λ h. v.time (e.time h);
       later = later-then (devices (g.M.Medium.state c.args.unit.now) (g.C.Chip.state c.args.card_a.now) (g.D.Chip.state c.args.card_b.now)) (devices (g.M.Medium.state c.loop-i.unit) (g.C.Chip.state c.loop-i.card_a) (g.D.Chip.state c.loop-i.card_b)) (devices (g.M.Medium.state c.act_item.new.unit) (g.C.Chip.state c.act_item.new.card_a) (g.D.Chip.state c.act_item.new.card_b)) v.later e.later;
+      broke = broke-then c.loop-i.invariant.broke c.act_item.ensures.broke;
       dark = e.dark;
       next = e.next ∙ v.next;
       unfound = e.unfound ∙ v.unfound;
@@ -159,3 +162,8 @@ returns-clause-evented g c =
     subst (λ (n : ℕ). c.args.has_power ≡ true → length (actions_in (between c.args.from n c.args.items.now)) ≡ n - c.args.from → n - c.args.from ≤ largest_number
     → EventsActions (actions_in (between c.args.from n c.args.items.now)) (n - c.args.from) c.args.speed c.args.run.now c.loop-i.run c.args.outcome.now c.loop-i.outcome (devices (g.M.Medium.state c.args.unit.now) (g.C.Chip.state c.args.card_a.now) (g.D.Chip.state c.args.card_b.now)) (devices (g.M.Medium.state c.loop-i.unit) (g.C.Chip.state c.loop-i.card_a) (g.D.Chip.state c.loop-i.card_b)))
     (let same : c.loop-i.i ≡ c.args.to = omega (arith, end, some) in same) c.loop-i.invariant.evented
+
+-- ---- how often the unit broke down
+
+pub returns-clause-broke : goal.returns-clause-broke
+returns-clause-broke g c = c.loop-i.invariant.broke

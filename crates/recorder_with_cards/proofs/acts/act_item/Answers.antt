@@ -12,6 +12,7 @@ use Rattle.run_acts.specs.Recording.{InSecond}
 use Rattle.run_acts.specs.Evented.{InSecondEvented}
 use Rattle.recorder_with_cards.proofs.ActsRecorded.{no-action}
 use Rattle.recorder_with_cards.proofs.Allowed.{count-is}
+use Rattle.run_outcome.proofs.Broken.{broke-none}
 use Rattle.recorder_with_cards.proofs.acts.act_item.Goals as goal
 
 pub returns-in-Act-clause-room : goal.returns-in-Act-clause-room
@@ -66,3 +67,14 @@ pub returns-in-Off-clause-evented : goal.returns-in-Off-clause-evented
 returns-in-Off-clause-evented g c = λ power.
     let d : Devices = devices (g.M.Medium.state c.args.unit.now) (g.C.Chip.state c.args.card_a.now) (g.D.Chip.state c.args.card_b.now) in
     subst (λ (xs : List Action). EventsActions xs c.args.begun c.args.speed c.args.run.now c.args.run.now c.args.outcome.now c.args.outcome.now d d) (sym (ap action_of c.in-Off.is)) (no-action InSecondEvented c.args.begun c.args.speed c.args.run.now c.args.outcome.now d)
+
+-- ---- how often the unit broke down
+
+pub returns-in-Act-clause-broke : goal.returns-in-Act-clause-broke
+returns-in-Act-clause-broke g c = c.act.ensures.broke
+
+pub returns-in-Run-clause-broke : goal.returns-in-Run-clause-broke
+returns-in-Run-clause-broke g c = broke-none c.args.outcome.now.breaks.items {old = (g.M.Medium.state c.args.unit.now)} {new = (g.M.Medium.state c.args.unit.now)} (omega arith)
+
+pub returns-in-Off-clause-broke : goal.returns-in-Off-clause-broke
+returns-in-Off-clause-broke g c = broke-none c.args.outcome.now.breaks.items {old = (g.M.Medium.state c.args.unit.now)} {new = (g.M.Medium.state c.args.unit.now)} (omega arith)

@@ -18,7 +18,7 @@ use Rattle.safety_model.specs.Safe.{Devices}
 use Rattle.run_acts.specs.declared.run.Run.{Run}
 use Rattle.run_acts.specs.declared.run.Power.{Power}
 use Rattle.run_acts.specs.Power.{is_lit}
-use Rattle.run_acts.specs.Recording.{InSecond, RunWithin, GoesOnOrFails}
+use Rattle.run_acts.specs.Recording.{InSecond, RunWithin, GoesOnOrFails, log_of}
 use Rattle.run_acts.specs.Going.{IsAt}
 use Rattle.run_acts.specs.Room.{falls_of}
 use Rattle.run_acts.proofs.Standing.{cut-at}
@@ -27,13 +27,15 @@ use Rattle.recorder_with_cards.specs.Acting.{put_count, moment_of, IsDone, IsAct
 use Rattle.recorder_with_cards.proofs.ActsRecorded.{as-lit, lit-in, cut-in, refused, cut, left}
 use Rattle.recorder_with_cards.proofs.Allowed.{fine-selected}
 use Rattle.recorder_with_cards.proofs.Rooms.{few-wait, room-cut}
-use Rattle.recorder_with_cards.proofs.Later.{later-same}
 use Rattle.run_evented.specs.Noting.{Acting}
-use Rattle.run_acts.specs.Recording.{log_of}
 use Rattle.run_acts.specs.Evented.{WithinEvented, EventsGoOn}
 use Rattle.recorder_with_cards.proofs.ActsEvented.{in-evented_cut, evented-lit, in-evented_lit, evented-on, evented-cuts, refused-evented}
 use Rattle.run_keeping.specs.Keeping.{with_lines}
 use Rattle.recorder_with_cards.proofs.Staying.{done-watched}
+use Rattle.run_keeping.proofs.Later.{later-same}
+use Rattle.run_outcome.proofs.Broken.{broke-none}
+use Rattle.run_acts.proofs.Uncut.{uncut-broke, cut-broke}
+use Rattle.recorder_with_cards.proofs.Uncut.{done-uncut}
 use Rattle.recorder_with_cards.proofs.acts.act_lit.Goals as goal
 
 -- ---- the unit failed: power is lost
@@ -258,3 +260,15 @@ returns-else-is_err-clause-evented g c =
     let events = subst (λ (b : Bool). EventsGoOn b o done s w.within.b.run (In c.args.begun) Acting (log_of told) e) well (c.carry_out.ensures.evented o done s now front rest are here allowed w h.evented time) in
     in-evented_lit o done s mid told e c.args.begun
     (evented-on o done s (length front) c.args.begun run mid out told d e h goes events (done-watched c.args.action (moment_of c.args.begun run) c.args.speed (is_err c.carry_out.result) run mid out told c.carry_out.ensures.done))
+
+-- ---- how often the unit broke down
+
+pub returns-in-Err-clause-broke : goal.returns-in-Err-clause-broke
+returns-in-Err-clause-broke g c = broke-none c.args.outcome.now.breaks.items {old = (g.M.Medium.state c.args.unit.now)} {new = (g.M.Medium.state c.args.unit.now)} (omega arith)
+
+pub returns-then-is_err-clause-broke : goal.returns-then-is_err-clause-broke
+returns-then-is_err-clause-broke g c =
+    cut-broke _ _ _ _ _ (g.M.Medium.state c.args.unit.now) (g.M.Medium.state c.carry_out.new.unit) (is_err c.carry_out.result) (c.requires.going.lit (ap is_lit c.requires.lit)).ready.unit_ready.works c.carry_out.ensures.cause (sym c.is_err.ensures.value ∙ c.if-is_err.true) (done-uncut c.args.action _ c.args.speed _ _ _ _ _ c.carry_out.ensures.done) (ap (λ (l : Listed Break). l.items) c.cut.ensures.breaks)
+
+pub returns-else-is_err-clause-broke : goal.returns-else-is_err-clause-broke
+returns-else-is_err-clause-broke g c = uncut-broke _ _ (g.M.Medium.state c.args.unit.now) (g.M.Medium.state c.carry_out.new.unit) (is_err c.carry_out.result) c.carry_out.ensures.cause (done-uncut c.args.action _ c.args.speed _ _ _ _ _ c.carry_out.ensures.done)

@@ -14,12 +14,11 @@ use Rattle.run_acts.specs.declared.run.Run.{Run}
 use Rattle.run_acts.specs.Power.{is_lit}
 use Rattle.run_acts.specs.Going.{IsHeld, IsLit}
 use Rattle.run_acts.specs.Room.{Takes}
-use Rattle.run_acts.specs.Acting.{pulled_run}
+use Rattle.run_acts.specs.Acting.{pulled_run, pulled_breaks}
 use Rattle.recorder_with_cards.specs.Acting.{put_count, StaysIn, moment_of, IsDone, CallsNone}
 use Rattle.recorder_with_cards.proofs.ActsRecorded.{selected}
 use Rattle.recorder_with_cards.proofs.Rooms.{few-wait, put-room}
 use Rattle.run_acts.proofs.Pulled.{pulled-recorded}
-use Rattle.run_acts.specs.Acting.{pulled_breaks}
 use Rattle.run_acts.specs.Recording.{RunGoesOn, RecordsAction}
 use Rattle.run_keeping.proofs.DecidedBooked.{time-before}
 use Rattle.run_keeping.specs.Keeping.{with_lines}
@@ -30,9 +29,9 @@ use Rattle.recorder_with_cards.proofs.Allowed.{insert-elsewhere}
 use Rattle.recorder_with_cards.proofs.Picked.{picked-going}
 use Rattle.recorder_with_cards.proofs.Pulled.{pulled-stays, pulled-held, pulled-going, pulled-takes}
 use Rattle.recorder_with_cards.proofs.More.{inserted-more}
-use Rattle.recorder_with_cards.proofs.Later.{later-same}
 use Rattle.run_acts.specs.Evented.{EventsAction}
 use Rattle.recorder_with_cards.proofs.ActsEvented.{pulled-evented}
+use Rattle.run_keeping.proofs.Later.{later-same}
 use Rattle.recorder_with_cards.proofs.acts.carry_out.Goals as goal
 
 pub insert-requires-clause-elsewhere : goal.insert-requires-clause-elsewhere
@@ -217,13 +216,13 @@ pub returns-in-Tear-clause-time : goal.returns-in-Tear-clause-time
 returns-in-Tear-clause-time g c = λ h. h
 
 pub returns-in-Insert-clause-later : goal.returns-in-Insert-clause-later
-returns-in-Insert-clause-later g c = record { unit = c.insert.ensures.clock; card_a = c.insert.ensures.clock_a; card_b = c.insert.ensures.clock_b }
+returns-in-Insert-clause-later g c = c.insert.ensures.later
 
 pub returns-in-Withdraw-clause-later : goal.returns-in-Withdraw-clause-later
-returns-in-Withdraw-clause-later g c = record { unit = c.withdraw.ensures.clock; card_a = c.withdraw.ensures.clock_a; card_b = c.withdraw.ensures.clock_b }
+returns-in-Withdraw-clause-later g c = c.withdraw.ensures.later
 
 pub returns-in-Place-clause-later : goal.returns-in-Place-clause-later
-returns-in-Place-clause-later g c = record { unit = c.note_place.ensures.clock; card_a = c.note_place.ensures.clock_a; card_b = c.note_place.ensures.clock_b }
+returns-in-Place-clause-later g c = c.note_place.ensures.later
 
 pub returns-in-Select-clause-later : goal.returns-in-Select-clause-later
 returns-in-Select-clause-later g c = later-same (devices (g.M.Medium.state c.args.unit.now) (g.C.Chip.state c.args.card_a.now) (g.D.Chip.state c.args.card_b.now))

@@ -21,9 +21,10 @@ use Rattle.recorder_with_cards.specs.Recorded.{actions_in, HasRun}
 use Rattle.recorder_with_cards.proofs.SecondsRecorded.{refused_dark, acted-dark, passes-dark, dark-run, by-power, run-then}
 use Rattle.recorder_with_cards.proofs.Rooms.{room-less}
 use Rattle.recorder_with_cards.proofs.Dark.{away-dark}
-use Rattle.recorder_with_cards.proofs.Later.{later-then}
 use Rattle.run_acts.specs.Evented.{RunEvented, InSecondEvented}
 use Rattle.recorder_with_cards.proofs.SecondsEvented.{dark-evented}
+use Rattle.run_keeping.proofs.Later.{later-then}
+use Rattle.run_outcome.proofs.Broken.{broke-then}
 use Rattle.recorder_with_cards.proofs.driving.drive.Goals as goal
 
 pub begin_second-requires-clause-room : goal.begin_second-requires-clause-room
@@ -190,12 +191,12 @@ pub returns-in_err-has_power-clause-time : goal.returns-in_err-has_power-clause-
 returns-in_err-has_power-clause-time g c = time-before (devices (g.M.Medium.state c.args.unit.now) (g.C.Chip.state c.args.card_a.now) (g.D.Chip.state c.args.card_b.now)) (devices (g.M.Medium.state c.begin_second.new.unit) (g.C.Chip.state c.begin_second.new.card_a) (g.D.Chip.state c.begin_second.new.card_b)) c.in_err-has_power.ensures.clock c.in_err-has_power.ensures.clock_a c.in_err-has_power.ensures.clock_b
 
 pub returns-clause-later : goal.returns-clause-later
-returns-clause-later g c = later-then (devices (g.M.Medium.state c.args.unit.now) (g.C.Chip.state c.args.card_a.now) (g.D.Chip.state c.args.card_b.now)) (devices (g.M.Medium.state c.begin_second.new.unit) (g.C.Chip.state c.begin_second.new.card_a) (g.D.Chip.state c.begin_second.new.card_b)) (devices (g.M.Medium.state c.drive_on.new.unit) (g.C.Chip.state c.drive_on.new.card_a) (g.D.Chip.state c.drive_on.new.card_b)) (record { unit = c.in_ok-has_power.ensures.clock; card_a = c.in_ok-has_power.ensures.clock_a; card_b = c.in_ok-has_power.ensures.clock_b })
+returns-clause-later g c = later-then (devices (g.M.Medium.state c.args.unit.now) (g.C.Chip.state c.args.card_a.now) (g.D.Chip.state c.args.card_b.now)) (devices (g.M.Medium.state c.begin_second.new.unit) (g.C.Chip.state c.begin_second.new.card_a) (g.D.Chip.state c.begin_second.new.card_b)) (devices (g.M.Medium.state c.drive_on.new.unit) (g.C.Chip.state c.drive_on.new.card_a) (g.D.Chip.state c.drive_on.new.card_b)) c.in_ok-has_power.ensures.later
     (later-then (devices (g.M.Medium.state c.begin_second.new.unit) (g.C.Chip.state c.begin_second.new.card_a) (g.D.Chip.state c.begin_second.new.card_b)) (devices (g.M.Medium.state c.act_all.new.unit) (g.C.Chip.state c.act_all.new.card_a) (g.D.Chip.state c.act_all.new.card_b)) (devices (g.M.Medium.state c.drive_on.new.unit) (g.C.Chip.state c.drive_on.new.card_a) (g.D.Chip.state c.drive_on.new.card_b)) c.act_all.ensures.later
-    (later-then (devices (g.M.Medium.state c.act_all.new.unit) (g.C.Chip.state c.act_all.new.card_a) (g.D.Chip.state c.act_all.new.card_b)) (devices (g.M.Medium.state c.turn.new.unit) (g.C.Chip.state c.turn.new.card_a) (g.D.Chip.state c.turn.new.card_b)) (devices (g.M.Medium.state c.drive_on.new.unit) (g.C.Chip.state c.drive_on.new.card_a) (g.D.Chip.state c.drive_on.new.card_b)) (record { unit = c.turn.ensures.clock; card_a = c.turn.ensures.clock_a; card_b = c.turn.ensures.clock_b }) c.drive_on.ensures.later))
+    (later-then (devices (g.M.Medium.state c.act_all.new.unit) (g.C.Chip.state c.act_all.new.card_a) (g.D.Chip.state c.act_all.new.card_b)) (devices (g.M.Medium.state c.turn.new.unit) (g.C.Chip.state c.turn.new.card_a) (g.D.Chip.state c.turn.new.card_b)) (devices (g.M.Medium.state c.drive_on.new.unit) (g.C.Chip.state c.drive_on.new.card_a) (g.D.Chip.state c.drive_on.new.card_b)) c.turn.ensures.later c.drive_on.ensures.later))
 
 pub returns-in_err-has_power-clause-later : goal.returns-in_err-has_power-clause-later
-returns-in_err-has_power-clause-later g c = record { unit = c.in_err-has_power.ensures.clock; card_a = c.in_err-has_power.ensures.clock_a; card_b = c.in_err-has_power.ensures.clock_b }
+returns-in_err-has_power-clause-later g c = c.in_err-has_power.ensures.later
 
 -- ---- and the events with it
 
@@ -257,3 +258,11 @@ pub returns-in_err-has_power-clause-evented : goal.returns-in_err-has_power-clau
 returns-in_err-has_power-clause-evented g c = λ many few o done r time.
     let s : TraceSecond = record { number = c.args.run.now.next; has_power = true; speed = c.args.speed; actions = actions_in (between c.args.from c.args.to c.args.items.now) } in
     absurd (c.in_err-has_power.ensures.evented o done s (record { number = refl; given = refl; speed_is = refl }) r time)
+
+-- ---- how often the unit broke down
+
+pub returns-clause-broke : goal.returns-clause-broke
+returns-clause-broke g c = broke-then c.in_ok-has_power.ensures.broke (broke-then c.act_all.ensures.broke (broke-then c.turn.ensures.broke c.drive_on.ensures.broke))
+
+pub returns-in_err-has_power-clause-broke : goal.returns-in_err-has_power-clause-broke
+returns-in_err-has_power-clause-broke g c = c.in_err-has_power.ensures.broke

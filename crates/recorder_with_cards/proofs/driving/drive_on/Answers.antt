@@ -8,9 +8,10 @@ use Rattle.recorder_with_cards.proofs.SecondsRecorded.{plain-parts}
 use Rattle.std.proofs.lemmas.Grind.{common_steps}
 use Rattle.run_acts.specs.Room.{cuts_from, HasRoom}
 use Rattle.recorder_with_cards.proofs.Rooms.{room-less}
-use Rattle.recorder_with_cards.proofs.Later.{later-same, later-then}
 use Rattle.run_acts.specs.Evented.{RunEvented, LastAt}
 use Rattle.recorder_with_cards.proofs.SecondsEvented.{last-more}
+use Rattle.run_keeping.proofs.Later.{later-same, later-then}
+use Rattle.run_outcome.proofs.Broken.{broke-none, broke-then}
 use Rattle.recorder_with_cards.proofs.driving.drive_on.Goals as goal
 
 pub loop-left-init : goal.loop-left-init
@@ -30,6 +31,7 @@ loop-left-init g c = record {
       (subst (λ (ss : List TraceSecond). LastAt ss c.args.speed × RunEvented o ss c.args.run.now c.args.outcome.now d) (sym (append-nil done)) (last, r));
   time = λ h. h;
   later = later-same (devices (g.M.Medium.state c.args.unit.now) (g.C.Chip.state c.args.card_a.now) (g.D.Chip.state c.args.card_b.now));
+  broke = broke-none c.args.outcome.now.breaks.items {old = (g.M.Medium.state c.args.unit.now)} {new = (g.M.Medium.state c.args.unit.now)} (omega arith);
   unfound = c.requires.unfound;
 }
 
@@ -81,6 +83,7 @@ loop-left-preserved g c =
           (last-more n c.loop-left.run.next c.args.speed (done ++ driven so c.args.run.now.next c.args.speed []) was.0, c.in_ok-step.ensures.evented o (done ++ driven so c.args.run.now.next c.args.speed []) was.0 was.1 time);
       time = λ h. v.time (c.in_ok-step.ensures.time h);
       later = later-then (devices (g.M.Medium.state c.args.unit.now) (g.C.Chip.state c.args.card_a.now) (g.D.Chip.state c.args.card_b.now)) (devices (g.M.Medium.state c.loop-left.unit) (g.C.Chip.state c.loop-left.card_a) (g.D.Chip.state c.loop-left.card_b)) (devices (g.M.Medium.state c.step.new.unit) (g.C.Chip.state c.step.new.card_a) (g.D.Chip.state c.step.new.card_b)) v.later c.in_ok-step.ensures.later;
+      broke = broke-then c.loop-left.invariant.broke c.in_ok-step.ensures.broke;
       unfound = e.unfound;
     }
 
@@ -146,3 +149,11 @@ pub returns-in_err-step-clause-evented : goal.returns-in_err-step-clause-evented
 returns-in_err-step-clause-evented g c = λ o done last r time.
     let was = c.loop-left.invariant.evented o done last r (c.in_err-step.ensures.time time) in
     absurd (c.in_err-step.ensures.evented o (done ++ driven (c.args.seconds - c.loop-left.left) c.args.run.now.next c.args.speed []) was.0 was.1 time)
+
+-- ---- how often the unit broke down
+
+pub returns-clause-broke : goal.returns-clause-broke
+returns-clause-broke g c = c.loop-left.invariant.broke
+
+pub returns-in_err-step-clause-broke : goal.returns-in_err-step-clause-broke
+returns-in_err-step-clause-broke g c = broke-then c.loop-left.invariant.broke c.in_err-step.ensures.broke

@@ -14,9 +14,10 @@ use Rattle.recorder_with_cards.proofs.SecondsRecorded.{refused_dark, none-refuse
 use Rattle.std.proofs.lemmas.Grind.{common_steps}
 use Rattle.run_acts.specs.Room.{cuts_from, cuts_within, HasRoom, HasRoomWithin}
 use Rattle.recorder_with_cards.proofs.Rooms.{room-less}
-use Rattle.recorder_with_cards.proofs.Later.{later-then}
 use Rattle.run_acts.specs.Evented.{RunEvented, InSecondEvented}
 use Rattle.recorder_with_cards.proofs.SecondsEvented.{dark-evented}
+use Rattle.run_keeping.proofs.Later.{later-then}
+use Rattle.run_outcome.proofs.Broken.{broke-then}
 use Rattle.recorder_with_cards.proofs.driving.step.Goals as goal
 
 pub begin_second-requires-clause-room : goal.begin_second-requires-clause-room
@@ -102,10 +103,10 @@ pub returns-in_err-begin_second-clause-time : goal.returns-in_err-begin_second-c
 returns-in_err-begin_second-clause-time g c = time-before (devices (g.M.Medium.state c.args.unit.now) (g.C.Chip.state c.args.card_a.now) (g.D.Chip.state c.args.card_b.now)) (devices (g.M.Medium.state c.begin_second.new.unit) (g.C.Chip.state c.begin_second.new.card_a) (g.D.Chip.state c.begin_second.new.card_b)) c.in_err-begin_second.ensures.clock c.in_err-begin_second.ensures.clock_a c.in_err-begin_second.ensures.clock_b
 
 pub returns-clause-later : goal.returns-clause-later
-returns-clause-later g c = later-then (devices (g.M.Medium.state c.args.unit.now) (g.C.Chip.state c.args.card_a.now) (g.D.Chip.state c.args.card_b.now)) (devices (g.M.Medium.state c.begin_second.new.unit) (g.C.Chip.state c.begin_second.new.card_a) (g.D.Chip.state c.begin_second.new.card_b)) (devices (g.M.Medium.state c.turn.new.unit) (g.C.Chip.state c.turn.new.card_a) (g.D.Chip.state c.turn.new.card_b)) (record { unit = c.in_ok-begin_second.ensures.clock; card_a = c.in_ok-begin_second.ensures.clock_a; card_b = c.in_ok-begin_second.ensures.clock_b }) (record { unit = c.turn.ensures.clock; card_a = c.turn.ensures.clock_a; card_b = c.turn.ensures.clock_b })
+returns-clause-later g c = later-then (devices (g.M.Medium.state c.args.unit.now) (g.C.Chip.state c.args.card_a.now) (g.D.Chip.state c.args.card_b.now)) (devices (g.M.Medium.state c.begin_second.new.unit) (g.C.Chip.state c.begin_second.new.card_a) (g.D.Chip.state c.begin_second.new.card_b)) (devices (g.M.Medium.state c.turn.new.unit) (g.C.Chip.state c.turn.new.card_a) (g.D.Chip.state c.turn.new.card_b)) c.in_ok-begin_second.ensures.later c.turn.ensures.later
 
 pub returns-in_err-begin_second-clause-later : goal.returns-in_err-begin_second-clause-later
-returns-in_err-begin_second-clause-later g c = record { unit = c.in_err-begin_second.ensures.clock; card_a = c.in_err-begin_second.ensures.clock_a; card_b = c.in_err-begin_second.ensures.clock_b }
+returns-in_err-begin_second-clause-later g c = c.in_err-begin_second.ensures.later
 
 -- ---- and the events with it
 
@@ -146,3 +147,11 @@ pub returns-in_err-begin_second-clause-evented : goal.returns-in_err-begin_secon
 returns-in_err-begin_second-clause-evented g c = λ o done last r time.
     let s : TraceSecond = record { number = c.args.run.now.next; has_power = true; speed = c.args.speed; actions = [] } in
     absurd (c.in_err-begin_second.ensures.evented o done s (record { number = refl; given = refl; speed_is = refl }) r time)
+
+-- ---- how often the unit broke down
+
+pub returns-clause-broke : goal.returns-clause-broke
+returns-clause-broke g c = broke-then c.in_ok-begin_second.ensures.broke c.turn.ensures.broke
+
+pub returns-in_err-begin_second-clause-broke : goal.returns-in_err-begin_second-clause-broke
+returns-in_err-begin_second-clause-broke g c = c.in_err-begin_second.ensures.broke

@@ -5,7 +5,7 @@ use Rattle.run_crew.specs.declared.cabin.Cabin.{Cabin}
 use Rattle.run_crew.specs.Cabin.{Stands}
 use Rattle.run_acts.specs.Power.{with_cabin}
 use Rattle.run_acts.specs.Going.{IsHeld, IsLit}
-use Rattle.run_acts.specs.Room.{Takes}
+use Rattle.run_acts.specs.Room.{Takes, waiting}
 use Rattle.slot_machine.specs.Calls.{seat_in}
 use Rattle.run_acts.specs.Acting.{IsSettled, IsBareIn}
 use Rattle.recorder_with_cards.proofs.Puts.{put-held, put-going, put-takes, put-then, put-bare, put-falls, seat-put}
@@ -17,7 +17,6 @@ use Rattle.run_outcome.specs.declared.outcome.Outcome.{Outcome}
 use Rattle.run_keeping.proofs.DecidedBooked.{time-before}
 use Rattle.run_acts.specs.declared.run.Run.{Run}
 use Rattle.run_acts.specs.declared.run.Power.{Power}
-use Rattle.run_acts.specs.Room.{waiting}
 use Rattle.run_acts.specs.Recording.{GoesOnOrFails}
 use Rattle.run_acts.specs.Settling.{RecordsSettling}
 use Rattle.recorder_with_cards.proofs.Inserted.{unsettled, inserted}
@@ -28,6 +27,11 @@ use Rattle.run_acts.specs.Faults.{NotesSettling}
 use Rattle.recorder_with_cards.specs.Accepting.{put_run}
 use Rattle.run_acts.proofs.ActsNoted.{settles-these}
 use Rattle.recorder_with_cards.proofs.WakeNoted.{anew-these}
+use Rattle.run_entering.specs.Entering.{ending_of}
+use Rattle.recorder_with_cards.specs.EnteredRings.{RingsInserting}
+use Rattle.run_acts.proofs.Ringing.{settling-leaves}
+use Rattle.recorder_with_cards.proofs.EnteredRings.{writes-behind}
+use Rattle.run_keeping.proofs.Later.{later-then}
 use Rattle.recorder_with_cards.proofs.inserting.insert.Goals as goal
 
 pub settle-requires-clause-held : goal.settle-requires-clause-held
@@ -184,3 +188,51 @@ returns-clause-noted g c =
       are = inr (record { between = mid; told = told; faults = these.0; judged = judged.0; settles = these.1; judges = judged.1; are = refl });
       notes = then-noted these.0 judged.0 (is_err c.accept_in.result) (devices U X Y) e f these.2 judged.2;
     }
+
+-- ---- the rings
+
+pub returns-in_err-settle-clause-rings : goal.returns-in_err-settle-clause-rings
+returns-in_err-settle-clause-rings g c = λ tells.
+    let run = c.args.run.now in
+    let out = c.args.outcome.now in
+    let mid : Run = c.settle.new.run in
+    let told : Outcome = c.settle.new.outcome in
+    let U : State = g.M.Medium.state c.args.unit.now in
+    let V : State = g.M.Medium.state c.settle.new.unit in
+    let settles = subst (λ (b : Cabin). IsSettled c.args.at true (with_cabin b run) mid out told) c.put_in.ensures.kept c.in_err-settle.ensures.settled in
+    let failed : true ≡ is_err c.from_residual.result = search rules in
+    inl (sym failed, settles, settling-leaves c.args.at true (with_cabin c.put_in.new.self run) mid out told U V c.in_err-settle.ensures.noted)
+
+pub returns-clause-rings : goal.returns-clause-rings
+returns-clause-rings g c = λ tells.
+    let run = c.args.run.now in
+    let out = c.args.outcome.now in
+    let mid : Run = c.settle.new.run in
+    let told : Outcome = c.settle.new.outcome in
+    let U : State = g.M.Medium.state c.args.unit.now in
+    let V : State = g.M.Medium.state c.settle.new.unit in
+    let W : State = g.M.Medium.state c.accept_in.new.unit in
+    let settles = subst (λ (b : Cabin). IsSettled c.args.at false (with_cabin b run) mid out told) c.put_in.ensures.kept c.in_ok-settle.ensures.settled in
+    let leaves = settling-leaves c.args.at false (with_cabin c.put_in.new.self run) mid out told U V c.in_ok-settle.ensures.noted in
+    let j = c.accept_in.ensures.rings in
+    inr (record {
+      between = mid;
+      told = told;
+      settled_first = settles;
+      judges = (
+        j.0,
+        j.1,
+        record {
+          accepted = j.2.accepted;
+          writes = λ here. writes-behind (ending_of j.2.accepted.way) j.0 (is_err c.accept_in.result) U V W leaves (j.2.writes (c.in_ok-settle.ensures.tells ∙ tells));
+        },
+      );
+    })
+
+-- ---- what holds of the devices after any calls
+
+pub returns-in_err-settle-clause-later : goal.returns-in_err-settle-clause-later
+returns-in_err-settle-clause-later g c = c.settle.ensures.later
+
+pub returns-clause-later : goal.returns-clause-later
+returns-clause-later g c = later-then (devices (g.M.Medium.state c.args.unit.now) (g.C.Chip.state c.args.card_a.now) (g.D.Chip.state c.args.card_b.now)) (devices (g.M.Medium.state c.settle.new.unit) (g.C.Chip.state c.settle.new.card_a) (g.D.Chip.state c.settle.new.card_b)) (devices (g.M.Medium.state c.accept_in.new.unit) (g.C.Chip.state c.accept_in.new.card_a) (g.D.Chip.state c.accept_in.new.card_b)) c.settle.ensures.later c.accept_in.ensures.later

@@ -12,6 +12,8 @@ use Rattle.tach_media.specs.Medium.{State}
 use Rattle.run_rule.specs.Between.{devices}
 use Rattle.run_acts.specs.Recording.{InSecondBy, InSecond}
 use Rattle.recorder_with_cards.proofs.GoingOn.{marks-due, second-on}
+use Rattle.run_keeping.proofs.Later.{later-same}
+use Rattle.run_outcome.proofs.Broken.{broke-none}
 use Rattle.recorder_with_cards.proofs.resuming.begin_second.Goals as goal
 
 away-dark : (p : Power) (next : ℕ) → has_power p next ≡ false → is_lit p ≡ false
@@ -122,3 +124,31 @@ returns-then-is_lit-clause-noted g c = λ dark has.
 
 pub returns-clause-noted : goal.returns-clause-noted
 returns-clause-noted g c = λ dark has. c.in_ok-power_on.ensures.noted
+
+-- ---- what holds of the devices after any calls
+
+pub returns-then-not-has_power-clause-later : goal.returns-then-not-has_power-clause-later
+returns-then-not-has_power-clause-later g c = later-same (devices (g.M.Medium.state c.args.unit.now) (g.C.Chip.state c.args.card_a.now) (g.D.Chip.state c.args.card_b.now))
+
+pub returns-then-is_lit-clause-later : goal.returns-then-is_lit-clause-later
+returns-then-is_lit-clause-later g c = later-same (devices (g.M.Medium.state c.args.unit.now) (g.C.Chip.state c.args.card_a.now) (g.D.Chip.state c.args.card_b.now))
+
+pub returns-in_err-power_on-clause-later : goal.returns-in_err-power_on-clause-later
+returns-in_err-power_on-clause-later g c = c.power_on.ensures.later
+
+pub returns-clause-later : goal.returns-clause-later
+returns-clause-later g c = c.power_on.ensures.later
+
+-- ---- how often the unit broke down
+
+pub returns-then-not-has_power-clause-broke : goal.returns-then-not-has_power-clause-broke
+returns-then-not-has_power-clause-broke g c = broke-none c.args.outcome.now.breaks.items {old = (g.M.Medium.state c.args.unit.now)} {new = (g.M.Medium.state c.args.unit.now)} (omega arith)
+
+pub returns-then-is_lit-clause-broke : goal.returns-then-is_lit-clause-broke
+returns-then-is_lit-clause-broke g c = broke-none c.args.outcome.now.breaks.items {old = (g.M.Medium.state c.args.unit.now)} {new = (g.M.Medium.state c.args.unit.now)} (omega arith)
+
+pub returns-in_err-power_on-clause-broke : goal.returns-in_err-power_on-clause-broke
+returns-in_err-power_on-clause-broke g c = c.power_on.ensures.broke
+
+pub returns-clause-broke : goal.returns-clause-broke
+returns-clause-broke g c = c.power_on.ensures.broke

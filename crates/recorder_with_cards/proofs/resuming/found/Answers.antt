@@ -1,5 +1,6 @@
-use Rattle.std.proofs.Common.{◌≡◌, ◌∙◌, ℕ, ◌+◌, ◌*◌, ◌/◌, ◌<◌, ◌≤◌, Bool, true, false, List, [], length, refl, ap, sym, subst, arith}
-use Rattle.std.specs.Prelude.{is_err}
+use Rattle.std.proofs.Common.{rules, ◌≡◌, ◌∙◌, ℕ, ◌+◌, ◌*◌, ◌/◌, ◌<◌, ◌≤◌, Bool, true, false, List, [], length, refl, ap, sym, subst, arith}
+use Rattle.std.specs.Prelude.{is_err, IfErr}
+use Rattle.std.proofs.lemmas.Grind.{common_steps}
 use Rattle.tach_media.specs.Medium.{State}
 use Rattle.tach_media.proofs.Runs.{ok_gives}
 use Rattle.log_model.specs.declared.lines.Break.TheVariants.{Cut}
@@ -7,7 +8,8 @@ use Rattle.run_outcome.specs.Lines.{Listed, cut_at}
 use Rattle.log_model.specs.declared.lines.Break.{Break}
 use Rattle.run_keeping.specs.declared.keeper.Keeper.{Keeper}
 use Rattle.run_acts.specs.declared.run.Run.{Run}
-use Rattle.run_acts.specs.Going.{IsAt}
+use Rattle.run_opening.specs.Units.{IsClockBack}
+use Rattle.run_acts.specs.Going.{IsAt, IsFoundLater}
 use Rattle.run_acts.proofs.Standing.{cut-at}
 use Rattle.recorder_with_cards.proofs.Taken.{up-room, up-awake, up-lost}
 use Rattle.log_model.specs.Log.{In}
@@ -20,9 +22,13 @@ use Rattle.run_acts.specs.Power.{is_lit}
 use Rattle.run_acts.specs.Room.{bare_seats}
 use Rattle.run_acts.specs.Recording.{values_of, InSecondBy, GoesOnOrCut}
 use Rattle.recorder_with_cards.proofs.ActsRecorded.{cut-in, cut}
+use Rattle.recorder_with_cards.proofs.Start.{if-err}
 use Rattle.recorder_with_cards.proofs.Read.{may-of, unit-tells, image-of, at-image, kept-early, learned}
 use Rattle.recorder_with_cards.specs.Noting.{NotesWaking}
 use Rattle.recorder_with_cards.proofs.WakeNoted.{as-read}
+use Rattle.run_keeping.proofs.Later.{later-same}
+use Rattle.run_outcome.proofs.Broken.{broke-found, broke-then}
+use Rattle.run_acts.proofs.Uncut.{uncut-broke, cut-broke}
 use Rattle.recorder_with_cards.proofs.resuming.found.Goals as goal
 
 pub cut-requires-clause-room : goal.cut-requires-clause-room
@@ -139,3 +145,34 @@ returns-clause-noted g c =
           (subst (λ (f : Bool). NotesWaking c.args.journal.kept c.args.speed f c.learn.new.self c.resume.new.run (record out { breaks = c.learn.new.breaks }) c.resume.new.outcome d e) here c.resume.ensures.noted);
       ends = (refl, refl);
     }
+
+-- ---- what holds of the devices after any calls
+
+pub returns-in_err-judge_clock-clause-later : goal.returns-in_err-judge_clock-clause-later
+returns-in_err-judge_clock-clause-later g c = later-same (devices (g.M.Medium.state c.args.unit.now) (g.C.Chip.state c.args.card_a.now) (g.D.Chip.state c.args.card_b.now))
+
+pub returns-then-is_err-clause-later : goal.returns-then-is_err-clause-later
+returns-then-is_err-clause-later g c = c.resume.ensures.later
+
+pub returns-clause-later : goal.returns-clause-later
+returns-clause-later g c = c.resume.ensures.later
+
+-- ---- the clock that was put back
+
+pub returns-in_err-judge_clock-clause-late : goal.returns-in_err-judge_clock-clause-late
+returns-in_err-judge_clock-clause-late g c =
+    let back : IfErr c.from_residual.result (IsClockBack c.last_kept-kept.result c.learn.new.self.next) = first_of (search rules, grind (arith, common_steps)) in
+    if-err c.from_residual.result (λ fault is. subst IsFoundLater (sym is.0) is.1) back
+
+-- ---- how often the unit broke down
+
+pub returns-in_err-judge_clock-clause-broke : goal.returns-in_err-judge_clock-clause-broke
+returns-in_err-judge_clock-clause-broke g c = broke-found _ _ {old = (g.M.Medium.state c.args.unit.now)} {new = (g.M.Medium.state c.args.unit.now)} (ap (λ (l : Listed Break). l.items) c.learn.ensures.breaks) (omega arith)
+
+pub returns-then-is_err-clause-broke : goal.returns-then-is_err-clause-broke
+returns-then-is_err-clause-broke g c =
+    broke-then (broke-found _ _ {old = (g.M.Medium.state c.args.unit.now)} {new = (g.M.Medium.state c.args.unit.now)} (ap (λ (l : Listed Break). l.items) c.learn.ensures.breaks) (omega arith))
+    (cut-broke _ _ _ _ _ (g.M.Medium.state c.args.unit.now) (g.M.Medium.state c.resume.new.unit) (is_err c.resume.result) c.requires.loaded.works c.resume.ensures.cause (sym c.is_err.ensures.value ∙ c.if-is_err.true) c.resume.ensures.uncut (ap (λ (l : Listed Break). l.items) c.cut.ensures.breaks))
+
+pub returns-clause-broke : goal.returns-clause-broke
+returns-clause-broke g c = broke-then (broke-found _ _ {old = (g.M.Medium.state c.args.unit.now)} {new = (g.M.Medium.state c.args.unit.now)} (ap (λ (l : Listed Break). l.items) c.learn.ensures.breaks) (omega arith)) (uncut-broke _ _ (g.M.Medium.state c.args.unit.now) (g.M.Medium.state c.resume.new.unit) (is_err c.resume.result) c.resume.ensures.cause c.resume.ensures.uncut)

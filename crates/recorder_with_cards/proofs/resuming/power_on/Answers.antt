@@ -16,6 +16,8 @@ use Rattle.run_acts.specs.Going.{IsAt}
 use Rattle.run_acts.proofs.Standing.{cut-at}
 use Rattle.tach_media.proofs.Runs.{on_ok, ok_gives}
 use Rattle.recorder_with_cards.proofs.WakeNoted.{read-noted, read-then}
+use Rattle.run_keeping.proofs.Later.{state-revived, later-then, later-of-unit}
+use Rattle.run_outcome.proofs.Broken.{broke-none, broke-once, broke-then}
 use Rattle.recorder_with_cards.proofs.resuming.power_on.Goals as goal
 
 pub returns-in-Err-Failed-clause-going : goal.returns-in-Err-Failed-clause-going
@@ -103,3 +105,27 @@ returns-in-Err-Failed-clause-noted g c =
       ends = (c.cut.ensures.run, ap (λ (l : Listed Break). record c.args.outcome.now { breaks = l }) c.cut.ensures.breaks);
       notes = read-noted U V X Y c.load.ensures.leaves true;
     })
+
+-- ---- what holds of the devices after any calls
+
+pub returns-in-Ok-clause-later : goal.returns-in-Ok-clause-later
+returns-in-Ok-clause-later g c = later-then (devices (g.M.Medium.state c.args.unit.now) (g.C.Chip.state c.args.card_a.now) (g.D.Chip.state c.args.card_b.now)) (devices (g.M.Medium.state c.load.new.unit) (g.C.Chip.state c.args.card_a.now) (g.D.Chip.state c.args.card_b.now)) (devices (g.M.Medium.state c.found.new.unit) (g.C.Chip.state c.found.new.card_a) (g.D.Chip.state c.found.new.card_b)) (later-of-unit (g.M.Medium.state c.args.unit.now) (g.M.Medium.state c.load.new.unit) (g.C.Chip.state c.args.card_a.now) (g.D.Chip.state c.args.card_b.now) (state-revived (g.M.Medium.state c.args.unit.now) (g.M.Medium.state c.load.new.unit) _ (let same = c.load.ensures.clock in omega (arith, same)) c.load.ensures.cause)) c.found.ensures.later
+
+pub returns-in-Err-BadUnit-clause-later : goal.returns-in-Err-BadUnit-clause-later
+returns-in-Err-BadUnit-clause-later g c = later-of-unit (g.M.Medium.state c.args.unit.now) (g.M.Medium.state c.load.new.unit) (g.C.Chip.state c.args.card_a.now) (g.D.Chip.state c.args.card_b.now) (state-revived (g.M.Medium.state c.args.unit.now) (g.M.Medium.state c.load.new.unit) _ (let same = c.load.ensures.clock in omega (arith, same)) c.load.ensures.cause)
+
+pub returns-in-Err-Failed-clause-later : goal.returns-in-Err-Failed-clause-later
+returns-in-Err-Failed-clause-later g c = later-of-unit (g.M.Medium.state c.args.unit.now) (g.M.Medium.state c.load.new.unit) (g.C.Chip.state c.args.card_a.now) (g.D.Chip.state c.args.card_b.now) (state-revived (g.M.Medium.state c.args.unit.now) (g.M.Medium.state c.load.new.unit) _ (let same = c.load.ensures.clock in omega (arith, same)) c.load.ensures.cause)
+
+-- ---- how often the unit broke down
+
+pub returns-in-Ok-clause-broke : goal.returns-in-Ok-clause-broke
+returns-in-Ok-clause-broke g c = broke-then (broke-none c.args.outcome.now.breaks.items {old = (g.M.Medium.state c.args.unit.now)} {new = (g.M.Medium.state c.load.new.unit)} c.load.ensures.cause.breakdowns) c.found.ensures.broke
+
+pub returns-in-Err-BadUnit-clause-broke : goal.returns-in-Err-BadUnit-clause-broke
+returns-in-Err-BadUnit-clause-broke g c = broke-none c.args.outcome.now.breaks.items {old = (g.M.Medium.state c.args.unit.now)} {new = (g.M.Medium.state c.load.new.unit)} c.load.ensures.cause.breakdowns
+
+pub returns-in-Err-Failed-clause-broke : goal.returns-in-Err-Failed-clause-broke
+returns-in-Err-Failed-clause-broke g c =
+    let rose = rw c.in-Err-Failed.field-0-is at c.in-Err-Failed.ensures.broke in
+    broke-once _ _ (ap (λ (l : Listed Break). l.items) c.cut.ensures.breaks) rose

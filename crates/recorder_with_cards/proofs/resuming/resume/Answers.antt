@@ -39,6 +39,9 @@ use Rattle.run_acts.specs.Acting.{now_moment}
 use Rattle.run_acts.specs.Noting.{AreGapEvents}
 use Rattle.recorder_with_cards.specs.Noting.{Unmended, AtDriver, AtCoDriver, NoneBefore, AtGap, HasBegunSpan}
 use Rattle.recorder_with_cards.proofs.WakeNoted.{mended-noted, driver-these, both-these, is-none, is-some}
+use Rattle.run_keeping.proofs.Later.{state-by, later-then, later-of-unit}
+use Rattle.run_acts.proofs.Uncut.{gap-uncut}
+use Rattle.recorder_with_cards.proofs.Uncut.{anew-uncut}
 use Rattle.recorder_with_cards.proofs.resuming.resume.Goals as goal
 
 pub accept_anew-requires-clause-held : goal.accept_anew-requires-clause-held
@@ -573,3 +576,37 @@ returns-clause-noted g c =
       );
       notes = then-noted both.0 gap.1 (is_err c.note_gap.result) dev0 dev2 dev3 (subst (λ (q : Bool). NotesEvents both.0 q dev0 dev2) fine both.2) gap.3;
     }
+
+-- ---- what holds of the devices after any calls
+
+pub returns-in_err-mend-clause-later : goal.returns-in_err-mend-clause-later
+returns-in_err-mend-clause-later g c = later-of-unit (g.M.Medium.state c.args.unit.now) (g.M.Medium.state c.mend.new.unit) (g.C.Chip.state c.args.card_a.now) (g.D.Chip.state c.args.card_b.now) (state-by (g.M.Medium.state c.args.unit.now) (g.M.Medium.state c.mend.new.unit) _ c.mend.ensures.clock c.mend.ensures.cause)
+
+pub returns-in_err-accept_anew-clause-later : goal.returns-in_err-accept_anew-clause-later
+returns-in_err-accept_anew-clause-later g c = later-then (devices (g.M.Medium.state c.args.unit.now) (g.C.Chip.state c.args.card_a.now) (g.D.Chip.state c.args.card_b.now)) (devices (g.M.Medium.state c.mend.new.unit) (g.C.Chip.state c.args.card_a.now) (g.D.Chip.state c.args.card_b.now)) (devices (g.M.Medium.state c.accept_anew.new.unit) (g.C.Chip.state c.accept_anew.new.card_a) (g.D.Chip.state c.accept_anew.new.card_b)) (later-of-unit (g.M.Medium.state c.args.unit.now) (g.M.Medium.state c.mend.new.unit) (g.C.Chip.state c.args.card_a.now) (g.D.Chip.state c.args.card_b.now) (state-by (g.M.Medium.state c.args.unit.now) (g.M.Medium.state c.mend.new.unit) _ c.mend.ensures.clock c.mend.ensures.cause)) c.accept_anew.ensures.later
+
+pub returns-in_err-accept_anew-2-clause-later : goal.returns-in_err-accept_anew-2-clause-later
+returns-in_err-accept_anew-2-clause-later g c = later-then (devices (g.M.Medium.state c.args.unit.now) (g.C.Chip.state c.args.card_a.now) (g.D.Chip.state c.args.card_b.now)) (devices (g.M.Medium.state c.mend.new.unit) (g.C.Chip.state c.args.card_a.now) (g.D.Chip.state c.args.card_b.now)) (devices (g.M.Medium.state c.accept_anew-2.new.unit) (g.C.Chip.state c.accept_anew-2.new.card_a) (g.D.Chip.state c.accept_anew-2.new.card_b)) (later-of-unit (g.M.Medium.state c.args.unit.now) (g.M.Medium.state c.mend.new.unit) (g.C.Chip.state c.args.card_a.now) (g.D.Chip.state c.args.card_b.now) (state-by (g.M.Medium.state c.args.unit.now) (g.M.Medium.state c.mend.new.unit) _ c.mend.ensures.clock c.mend.ensures.cause)) (later-then (devices (g.M.Medium.state c.mend.new.unit) (g.C.Chip.state c.args.card_a.now) (g.D.Chip.state c.args.card_b.now)) (devices (g.M.Medium.state c.accept_anew.new.unit) (g.C.Chip.state c.accept_anew.new.card_a) (g.D.Chip.state c.accept_anew.new.card_b)) (devices (g.M.Medium.state c.accept_anew-2.new.unit) (g.C.Chip.state c.accept_anew-2.new.card_a) (g.D.Chip.state c.accept_anew-2.new.card_b)) c.accept_anew.ensures.later c.accept_anew-2.ensures.later)
+
+pub returns-then-is_first-clause-later : goal.returns-then-is_first-clause-later
+returns-then-is_first-clause-later g c = later-then (devices (g.M.Medium.state c.args.unit.now) (g.C.Chip.state c.args.card_a.now) (g.D.Chip.state c.args.card_b.now)) (devices (g.M.Medium.state c.mend.new.unit) (g.C.Chip.state c.args.card_a.now) (g.D.Chip.state c.args.card_b.now)) (devices (g.M.Medium.state c.accept_anew-2.new.unit) (g.C.Chip.state c.accept_anew-2.new.card_a) (g.D.Chip.state c.accept_anew-2.new.card_b)) (later-of-unit (g.M.Medium.state c.args.unit.now) (g.M.Medium.state c.mend.new.unit) (g.C.Chip.state c.args.card_a.now) (g.D.Chip.state c.args.card_b.now) (state-by (g.M.Medium.state c.args.unit.now) (g.M.Medium.state c.mend.new.unit) _ c.mend.ensures.clock c.mend.ensures.cause)) (later-then (devices (g.M.Medium.state c.mend.new.unit) (g.C.Chip.state c.args.card_a.now) (g.D.Chip.state c.args.card_b.now)) (devices (g.M.Medium.state c.accept_anew.new.unit) (g.C.Chip.state c.accept_anew.new.card_a) (g.D.Chip.state c.accept_anew.new.card_b)) (devices (g.M.Medium.state c.accept_anew-2.new.unit) (g.C.Chip.state c.accept_anew-2.new.card_a) (g.D.Chip.state c.accept_anew-2.new.card_b)) c.accept_anew.ensures.later c.accept_anew-2.ensures.later)
+
+pub returns-clause-later : goal.returns-clause-later
+returns-clause-later g c = later-then (devices (g.M.Medium.state c.args.unit.now) (g.C.Chip.state c.args.card_a.now) (g.D.Chip.state c.args.card_b.now)) (devices (g.M.Medium.state c.mend.new.unit) (g.C.Chip.state c.args.card_a.now) (g.D.Chip.state c.args.card_b.now)) (devices (g.M.Medium.state c.note_gap.new.unit) (g.C.Chip.state c.note_gap.new.card_a) (g.D.Chip.state c.note_gap.new.card_b)) (later-of-unit (g.M.Medium.state c.args.unit.now) (g.M.Medium.state c.mend.new.unit) (g.C.Chip.state c.args.card_a.now) (g.D.Chip.state c.args.card_b.now) (state-by (g.M.Medium.state c.args.unit.now) (g.M.Medium.state c.mend.new.unit) _ c.mend.ensures.clock c.mend.ensures.cause)) (later-then (devices (g.M.Medium.state c.mend.new.unit) (g.C.Chip.state c.args.card_a.now) (g.D.Chip.state c.args.card_b.now)) (devices (g.M.Medium.state c.accept_anew.new.unit) (g.C.Chip.state c.accept_anew.new.card_a) (g.D.Chip.state c.accept_anew.new.card_b)) (devices (g.M.Medium.state c.note_gap.new.unit) (g.C.Chip.state c.note_gap.new.card_a) (g.D.Chip.state c.note_gap.new.card_b)) c.accept_anew.ensures.later (later-then (devices (g.M.Medium.state c.accept_anew.new.unit) (g.C.Chip.state c.accept_anew.new.card_a) (g.D.Chip.state c.accept_anew.new.card_b)) (devices (g.M.Medium.state c.accept_anew-2.new.unit) (g.C.Chip.state c.accept_anew-2.new.card_a) (g.D.Chip.state c.accept_anew-2.new.card_b)) (devices (g.M.Medium.state c.note_gap.new.unit) (g.C.Chip.state c.note_gap.new.card_a) (g.D.Chip.state c.note_gap.new.card_b)) c.accept_anew-2.ensures.later c.note_gap.ensures.later))
+
+-- ---- how often the unit broke down
+
+pub returns-in_err-mend-clause-uncut : goal.returns-in_err-mend-clause-uncut
+returns-in_err-mend-clause-uncut g c = refl
+
+pub returns-in_err-accept_anew-clause-uncut : goal.returns-in_err-accept_anew-clause-uncut
+returns-in_err-accept_anew-clause-uncut g c = anew-uncut _ _ _ _ _ _ _ _ c.accept_anew.ensures.accepted
+
+pub returns-in_err-accept_anew-2-clause-uncut : goal.returns-in_err-accept_anew-2-clause-uncut
+returns-in_err-accept_anew-2-clause-uncut g c = anew-uncut _ _ _ _ _ _ _ _ c.accept_anew-2.ensures.accepted ∙ anew-uncut _ _ _ _ _ _ _ _ c.accept_anew.ensures.accepted
+
+pub returns-then-is_first-clause-uncut : goal.returns-then-is_first-clause-uncut
+returns-then-is_first-clause-uncut g c = anew-uncut _ _ _ _ _ _ _ _ c.accept_anew-2.ensures.accepted ∙ anew-uncut _ _ _ _ _ _ _ _ c.accept_anew.ensures.accepted
+
+pub returns-clause-uncut : goal.returns-clause-uncut
+returns-clause-uncut g c = gap-uncut _ _ _ _ _ _ _ c.note_gap.ensures.noted.0 c.note_gap.ensures.noted.1 ∙ anew-uncut _ _ _ _ _ _ _ _ c.accept_anew-2.ensures.accepted ∙ anew-uncut _ _ _ _ _ _ _ _ c.accept_anew.ensures.accepted

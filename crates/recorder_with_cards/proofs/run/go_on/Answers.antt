@@ -1,7 +1,7 @@
 use Rattle.std.proofs.Common.{◌≡◌, ◌∙◌, ℕ, ◌+◌, ◌-◌, ◌<◌, ◌≤◌, Bool, true, false, List, ◌++◌, length, refl, ap, sym, subst, arith}
 use Rattle.std.proofs.lemmas.List.{append-nil}
 use Rattle.trace_model.specs.declared.Action.{Action}
-use Rattle.trace_model.specs.Trace.{TraceSecond, seconds_at}
+use Rattle.trace_model.specs.Trace.{TraceSecond, seconds_at, item_seconds}
 use Rattle.safety_model.specs.Safe.{Devices}
 use Rattle.run_rule.specs.Between.{devices}
 use Rattle.run_acts.specs.Recording.{RunRecorded}
@@ -12,7 +12,6 @@ use Rattle.recorder_with_cards.proofs.SecondsEvented.{off-evented}
 use Rattle.recorder_with_cards.proofs.SecondsRecorded.{off-seconds}
 use Rattle.tach_media.proofs.Runs.{on_ok, ok_gives}
 use Rattle.trace_model.specs.declared.Item.{Item}
-use Rattle.trace_model.specs.Trace.{item_seconds}
 use Rattle.trace_text.specs.Line.{InRange}
 use Rattle.log_model.specs.declared.lines.Break.{Break}
 use Rattle.run_outcome.specs.Lines.{Listed}
@@ -27,7 +26,9 @@ use Rattle.recorder_with_cards.specs.Items.{between, insertions_in}
 use Rattle.recorder_with_cards.proofs.Rooms.{room-less}
 use Rattle.recorder_with_cards.specs.Gone.{has_seconds, HasGone}
 use Rattle.recorder_with_cards.proofs.Dark.{cut-room, off-room, unfound-same}
-use Rattle.recorder_with_cards.proofs.Later.{later-same}
+use Rattle.run_keeping.proofs.Later.{later-same}
+use Rattle.run_outcome.proofs.Broken.{broke-none, broke-behind}
+use Rattle.recorder_with_cards.proofs.Uncut.{off-uncut}
 use Rattle.recorder_with_cards.proofs.run.go_on.Goals as goal
 
 -- ---- an action waits
@@ -185,3 +186,14 @@ returns-in-Run-clause-evented g c = λ many o done few r time.
     let acts : List Action = actions_in (between c.args.from c.args.to c.args.items.now) in
     subst (λ (i : Item). HasRunBy RunEvented c.drive.result o (done ++ seconds_at c.args.run.now.next acts i) c.drive.new.run c.drive.new.outcome (devices (g.M.Medium.state c.drive.new.unit) (g.C.Chip.state c.drive.new.card_a) (g.D.Chip.state c.drive.new.card_b))) (sym c.in-Run.is)
     (c.drive.ensures.evented many (omega (arith, few, many)) o done r time)
+
+-- ---- how often the unit broke down
+
+pub returns-in-Act-clause-broke : goal.returns-in-Act-clause-broke
+returns-in-Act-clause-broke g c = broke-none c.args.outcome.now.breaks.items {old = (g.M.Medium.state c.args.unit.now)} {new = (g.M.Medium.state c.args.unit.now)} (omega arith)
+
+pub returns-in-Off-clause-broke : goal.returns-in-Off-clause-broke
+returns-in-Off-clause-broke g c = broke-behind _ {old = (g.M.Medium.state c.args.unit.now)} {new = (g.M.Medium.state c.args.unit.now)} (ap (λ (l : Listed Break). l.items) c.off.ensures.breaks) (off-uncut _ _ _) (omega arith)
+
+pub returns-in-Run-clause-broke : goal.returns-in-Run-clause-broke
+returns-in-Run-clause-broke g c = c.drive.ensures.broke

@@ -43,7 +43,10 @@ use Rattle.recorder_with_cards.specs.Items.{insertions_in}
 use Rattle.recorder_with_cards.proofs.Rooms.{room-less}
 use Rattle.recorder_with_cards.proofs.Items.{each-at, insertions-left, waiting-most, room-behind}
 use Rattle.recorder_with_cards.proofs.Start.{if-err, none-yet, no-falls, no-seats, room-start}
-use Rattle.recorder_with_cards.proofs.Later.{later-then}
+use Rattle.run_keeping.proofs.Later.{later-then}
+use Rattle.recorder_with_cards.proofs.Later.{state-as-it-was}
+use Rattle.run_acts.specs.Recording.{log_of}
+use Rattle.run_outcome.proofs.Broken.{broke-none, broke-then, broke-all}
 use Rattle.recorder_with_cards.proofs.run.run_trace.Goals as goal
 
 -- ---- the opening
@@ -89,7 +92,8 @@ loop-i-init g c =
           (room-start run c.args.outcome.now c.args.trace.now.items c.new-run.ensures.power (no-falls run.keeper.cabin slots a_none b_none) (no-seats run.keeper.cabin slots) q.reserved);
       unfound = let none = c.new-run.ensures.unfound in omega (arith, none);
       waits = waits-none c.args.trace.now.items;
-      later = record { unit = (let same = c.judge.ensures.unit.clock in omega (arith, same)); card_a = (let same = c.judge.ensures.card_a.clock in omega (arith, same)); card_b = (let same = c.judge.ensures.card_b.clock in omega (arith, same)) };
+      later = record { unit = state-as-it-was (g.U.Medium.state c.args.unit.now) (g.U.Medium.state c.judge.new.unit) c.judge.ensures.unit; card_a = state-as-it-was (g.C.Chip.state c.args.card_a.now) (g.C.Chip.state c.judge.new.card_a) c.judge.ensures.card_a; card_b = state-as-it-was (g.C.Chip.state c.args.card_b.now) (g.C.Chip.state c.judge.new.card_b) c.judge.ensures.card_b };
+      broke = broke-none c.args.outcome.now.breaks.items {old = (g.U.Medium.state c.args.unit.now)} {new = (g.U.Medium.state c.judge.new.unit)} c.judge.ensures.unit.breakdowns;
       time = λ h.
           let u = c.judge.ensures.unit.clock in
           let p = c.judge.ensures.card_a.clock in
@@ -174,6 +178,7 @@ loop-i-preserved g c =
       waits = subst (λ (n : ℕ). Waits items n (i + 1)) (sym waits) (waits-more items i c.loop-i.first item c.get-item.ensures v.first c.requires.well.runs v.waits);
       time = λ h. v.time (f.time h);
       later = later-then (devices (g.U.Medium.state c.args.unit.now) (g.C.Chip.state c.args.card_a.now) (g.C.Chip.state c.args.card_b.now)) (devices (g.U.Medium.state c.loop-i.unit) (g.C.Chip.state c.loop-i.card_a) (g.C.Chip.state c.loop-i.card_b)) (devices (g.U.Medium.state c.go_on.new.unit) (g.C.Chip.state c.go_on.new.card_a) (g.C.Chip.state c.go_on.new.card_b)) v.later f.later;
+      broke = broke-then v.broke f.broke;
       told = v.told;
       evented = λ x a b h time few.
           let began : Devices = devices (g.U.Medium.state c.args.unit.now) (g.C.Chip.state c.args.card_a.now) (g.C.Chip.state c.args.card_b.now) in
@@ -249,4 +254,18 @@ pub returns-in_err-go_on-clause-later : goal.returns-in_err-go_on-clause-later
 returns-in_err-go_on-clause-later g c = later-then (devices (g.U.Medium.state c.args.unit.now) (g.C.Chip.state c.args.card_a.now) (g.C.Chip.state c.args.card_b.now)) (devices (g.U.Medium.state c.loop-i.unit) (g.C.Chip.state c.loop-i.card_a) (g.C.Chip.state c.loop-i.card_b)) (devices (g.U.Medium.state c.go_on.new.unit) (g.C.Chip.state c.go_on.new.card_a) (g.C.Chip.state c.go_on.new.card_b)) c.loop-i.invariant.later c.in_err-go_on.ensures.later
 
 pub returns-in_err-opened-clause-later : goal.returns-in_err-opened-clause-later
-returns-in_err-opened-clause-later g c = record { unit = (let same = c.judge.ensures.unit.clock in omega (arith, same)); card_a = (let same = c.judge.ensures.card_a.clock in omega (arith, same)); card_b = (let same = c.judge.ensures.card_b.clock in omega (arith, same)) }
+returns-in_err-opened-clause-later g c = record { unit = state-as-it-was (g.U.Medium.state c.args.unit.now) (g.U.Medium.state c.judge.new.unit) c.judge.ensures.unit; card_a = state-as-it-was (g.C.Chip.state c.args.card_a.now) (g.C.Chip.state c.judge.new.card_a) c.judge.ensures.card_a; card_b = state-as-it-was (g.C.Chip.state c.args.card_b.now) (g.C.Chip.state c.judge.new.card_b) c.judge.ensures.card_b }
+
+-- ---- how often the unit broke down
+
+pub returns-clause-broke : goal.returns-clause-broke
+returns-clause-broke g c = broke-all (log_of c.loop-i.outcome) (ap (λ (l : Listed Break). l.items) c.requires.reserved.breaks) c.loop-i.invariant.later.unit.faults c.loop-i.invariant.broke
+
+pub returns-in_err-go_on-clause-broke : goal.returns-in_err-go_on-clause-broke
+returns-in_err-go_on-clause-broke g c =
+    let was = c.loop-i.invariant.later.unit.faults in
+    let more = c.in_err-go_on.ensures.later.unit.faults in
+    broke-all (log_of c.go_on.new.outcome) (ap (λ (l : Listed Break). l.items) c.requires.reserved.breaks) (omega (arith, was, more)) (broke-then c.loop-i.invariant.broke c.in_err-go_on.ensures.broke)
+
+pub returns-in_err-opened-clause-broke : goal.returns-in_err-opened-clause-broke
+returns-in_err-opened-clause-broke g c = broke-all (log_of c.args.outcome.now) (ap (λ (l : Listed Break). l.items) c.requires.reserved.breaks) c.judge.ensures.unit.faults (broke-none c.args.outcome.now.breaks.items {old = (g.U.Medium.state c.args.unit.now)} {new = (g.U.Medium.state c.judge.new.unit)} c.judge.ensures.unit.breakdowns)

@@ -29,6 +29,9 @@ use Rattle.run_acts.specs.Recording.{GoesOnOrFails}
 use Rattle.run_acts.proofs.NoteRecorded.{unit-recorded, power-noted}
 use Rattle.run_acts.proofs.Kept.{moved-going}
 use Rattle.run_acts.proofs.Noted.{noted-ready, noted-row}
+use Rattle.run_rings.specs.Same.{LeavesRings}
+use Rattle.run_rings.proofs.Same.{rings-left, rings-moments, rings-then, table-outside}
+use Rattle.run_keeping.proofs.Later.{state-by, later-same, later-then, later-of-unit}
 use Rattle.run_acts.proofs.gap.note_gap.Goals as goal
 
 pub note_in-requires-clause-going : goal.note_in-requires-clause-going
@@ -270,3 +273,43 @@ returns-clause-events g c =
       ),
       then-noted (gap_event span run ∷ []) (fall_events one.fell run.next between ++ fall_events two.fell run.next new) failed (devices U X Y) (devices V X Y) F first falls,
     )
+
+-- ---- the rings
+
+event-leaves : (kind : ℕ) (front : List ℕ) (U V : State) → IsCoherent U → LeavesOnly U V (IsNotingEvent kind front) → LeavesRings U V
+event-leaves kind front U V whole moments = rings-moments U V (IsNotingEvent kind front) whole moments (λ x n moment. table-outside kind x n moment.outside)
+
+pub returns-in_default-clause-rings : goal.returns-in_default-clause-rings
+returns-in_default-clause-rings g c = rings-left (g.M.Medium.state c.args.unit.now)
+
+pub returns-in_err-note_event-clause-rings : goal.returns-in_err-note_event-clause-rings
+returns-in_err-note_event-clause-rings g c =
+    event-leaves c.card_gap-event.result.kind (fault_bytes c.card_gap-event.result) (g.M.Medium.state c.args.unit.now) (g.M.Medium.state c.note_event.new.unit) (g.met.M.Medium.coherent c.args.unit.now) c.note_event.ensures.moments
+
+pub returns-in_err-note_in-clause-rings : goal.returns-in_err-note_in-clause-rings
+returns-in_err-note_in-clause-rings g c =
+    let V = g.M.Medium.state c.note_event.new.unit in
+    rings-then (g.M.Medium.state c.args.unit.now) V (g.M.Medium.state c.note_in.new.unit)
+    (event-leaves c.card_gap-event.result.kind (fault_bytes c.card_gap-event.result) (g.M.Medium.state c.args.unit.now) V (g.met.M.Medium.coherent c.args.unit.now) c.note_event.ensures.moments) c.in_err-note_in.ensures.rings
+
+pub returns-clause-rings : goal.returns-clause-rings
+returns-clause-rings g c =
+    let V = g.M.Medium.state c.note_event.new.unit in
+    let W = g.M.Medium.state c.note_in.new.unit in
+    rings-then (g.M.Medium.state c.args.unit.now) V (g.M.Medium.state c.note_in-2.new.unit)
+    (event-leaves c.card_gap-event.result.kind (fault_bytes c.card_gap-event.result) (g.M.Medium.state c.args.unit.now) V (g.met.M.Medium.coherent c.args.unit.now) c.note_event.ensures.moments)
+    (rings-then V W (g.M.Medium.state c.note_in-2.new.unit) c.in_ok-note_in.ensures.rings c.note_in-2.ensures.rings)
+
+-- ---- what holds of the devices after any calls
+
+pub returns-in_default-clause-later : goal.returns-in_default-clause-later
+returns-in_default-clause-later g c = later-same (devices (g.M.Medium.state c.args.unit.now) (g.C.Chip.state c.args.card_a.now) (g.D.Chip.state c.args.card_b.now))
+
+pub returns-in_err-note_event-clause-later : goal.returns-in_err-note_event-clause-later
+returns-in_err-note_event-clause-later g c = later-of-unit (g.M.Medium.state c.args.unit.now) (g.M.Medium.state c.note_event.new.unit) (g.C.Chip.state c.args.card_a.now) (g.D.Chip.state c.args.card_b.now) (state-by (g.M.Medium.state c.args.unit.now) (g.M.Medium.state c.note_event.new.unit) _ c.note_event.ensures.journal.later c.note_event.ensures.cause)
+
+pub returns-in_err-note_in-clause-later : goal.returns-in_err-note_in-clause-later
+returns-in_err-note_in-clause-later g c = later-then (devices (g.M.Medium.state c.args.unit.now) (g.C.Chip.state c.args.card_a.now) (g.D.Chip.state c.args.card_b.now)) (devices (g.M.Medium.state c.note_event.new.unit) (g.C.Chip.state c.args.card_a.now) (g.D.Chip.state c.args.card_b.now)) (devices (g.M.Medium.state c.note_in.new.unit) (g.C.Chip.state c.note_in.new.card_a) (g.D.Chip.state c.note_in.new.card_b)) (later-of-unit (g.M.Medium.state c.args.unit.now) (g.M.Medium.state c.note_event.new.unit) (g.C.Chip.state c.args.card_a.now) (g.D.Chip.state c.args.card_b.now) (state-by (g.M.Medium.state c.args.unit.now) (g.M.Medium.state c.note_event.new.unit) _ c.note_event.ensures.journal.later c.note_event.ensures.cause)) c.note_in.ensures.later
+
+pub returns-clause-later : goal.returns-clause-later
+returns-clause-later g c = later-then (devices (g.M.Medium.state c.args.unit.now) (g.C.Chip.state c.args.card_a.now) (g.D.Chip.state c.args.card_b.now)) (devices (g.M.Medium.state c.note_event.new.unit) (g.C.Chip.state c.args.card_a.now) (g.D.Chip.state c.args.card_b.now)) (devices (g.M.Medium.state c.note_in-2.new.unit) (g.C.Chip.state c.note_in-2.new.card_a) (g.D.Chip.state c.note_in-2.new.card_b)) (later-of-unit (g.M.Medium.state c.args.unit.now) (g.M.Medium.state c.note_event.new.unit) (g.C.Chip.state c.args.card_a.now) (g.D.Chip.state c.args.card_b.now) (state-by (g.M.Medium.state c.args.unit.now) (g.M.Medium.state c.note_event.new.unit) _ c.note_event.ensures.journal.later c.note_event.ensures.cause)) (later-then (devices (g.M.Medium.state c.note_event.new.unit) (g.C.Chip.state c.args.card_a.now) (g.D.Chip.state c.args.card_b.now)) (devices (g.M.Medium.state c.note_in.new.unit) (g.C.Chip.state c.note_in.new.card_a) (g.D.Chip.state c.note_in.new.card_b)) (devices (g.M.Medium.state c.note_in-2.new.unit) (g.C.Chip.state c.note_in-2.new.card_a) (g.D.Chip.state c.note_in-2.new.card_b)) c.note_in.ensures.later c.note_in-2.ensures.later)

@@ -26,6 +26,8 @@ use Rattle.run_acts.proofs.NoteRecorded.{noted-some}
 use Rattle.run_rule.specs.Between.{devices}
 use Rattle.run_acts.specs.Noting.{fall_events}
 use Rattle.run_acts.proofs.NotedEvents.{same-noted, noted-any}
+use Rattle.run_rings.proofs.Same.{rings-left}
+use Rattle.run_keeping.proofs.Later.{state-by, later-same, later-of-a, later-of-b}
 use Rattle.run_acts.proofs.gap.note_in.Goals as goal
 
 -- ---- card a
@@ -249,3 +251,25 @@ returns-in_default-number_in-clause-events g c =
       failing = λ bad. bad;
       notes = same-noted (g.M.Medium.state c.args.unit.now) (g.C.Chip.state c.args.card_a.now) (g.D.Chip.state c.args.card_b.now);
     }
+
+-- ---- the rings
+
+pub returns-in_default-clause-rings : goal.returns-in_default-clause-rings
+returns-in_default-clause-rings g c = rings-left (g.M.Medium.state c.args.unit.now)
+
+pub returns-in_default-number_in-clause-rings : goal.returns-in_default-number_in-clause-rings
+returns-in_default-number_in-clause-rings g c = rings-left (g.M.Medium.state c.args.unit.now)
+
+-- ---- what holds of the devices after any calls
+
+pub returns-in_default-clause-later : goal.returns-in_default-clause-later
+returns-in_default-clause-later g c = later-same (devices (g.M.Medium.state c.args.unit.now) (g.C.Chip.state c.args.card_a.now) (g.D.Chip.state c.args.card_b.now))
+
+pub returns-in_default-number_in-clause-later : goal.returns-in_default-number_in-clause-later
+returns-in_default-number_in-clause-later g c = later-same (devices (g.M.Medium.state c.args.unit.now) (g.C.Chip.state c.args.card_a.now) (g.D.Chip.state c.args.card_b.now))
+
+pub returns-in-A-clause-later : goal.returns-in-A-clause-later
+returns-in-A-clause-later g c = later-of-a (g.M.Medium.state c.args.unit.now) (g.M.Medium.state c.note_on.new.unit) (g.C.Chip.state c.args.card_a.now) (g.C.Chip.state c.note_on.new.card) (g.D.Chip.state c.args.card_b.now) (state-by (g.M.Medium.state c.args.unit.now) (g.M.Medium.state c.note_on.new.unit) _ c.note_on.ensures.journal.later c.note_on.ensures.cause) (state-by (g.C.Chip.state c.args.card_a.now) (g.C.Chip.state c.note_on.new.card) c.note_on.ensures.noted.0 c.note_on.ensures.clock_card c.note_on.ensures.noted.3)
+
+pub returns-in-B-clause-later : goal.returns-in-B-clause-later
+returns-in-B-clause-later g c = later-of-b (g.M.Medium.state c.args.unit.now) (g.M.Medium.state c.note_on-in-B.new.unit) (g.C.Chip.state c.args.card_a.now) (g.D.Chip.state c.args.card_b.now) (g.D.Chip.state c.note_on-in-B.new.card) (state-by (g.M.Medium.state c.args.unit.now) (g.M.Medium.state c.note_on-in-B.new.unit) _ c.note_on-in-B.ensures.journal.later c.note_on-in-B.ensures.cause) (state-by (g.D.Chip.state c.args.card_b.now) (g.D.Chip.state c.note_on-in-B.new.card) c.note_on-in-B.ensures.noted.0 c.note_on-in-B.ensures.clock_card c.note_on-in-B.ensures.noted.3)

@@ -23,6 +23,7 @@ use Rattle.run_rule.specs.Between.{devices}
 use Rattle.run_keeping.specs.Keeping.{fault_of}
 use Rattle.run_acts.proofs.NotedEvents.{one-noted, same-noted, noted-any}
 use Rattle.run_acts.specs.Acting.{IsNotedOn}
+use Rattle.run_rings.proofs.Same.{rings-left, rings-moments, table-outside}
 use Rattle.run_acts.proofs.gap.note_on.Goals as goal
 
 pub note_event_on-requires-clause-port : goal.note_event_on-requires-clause-port
@@ -177,3 +178,13 @@ returns-clause-events g c =
       failing = λ bad. bad;
       notes = noted-any [] false (devices U X X) (devices U X X) (devices U X X) (devices U Y Y) refl refl (same-noted U X X);
     }
+
+-- ---- the rings
+
+pub returns-then-is_err-clause-rings : goal.returns-then-is_err-clause-rings
+returns-then-is_err-clause-rings g c =
+    rings-moments (g.M.Medium.state c.args.unit.now) (g.M.Medium.state c.tear.new.unit) (IsNotingEvent CARD_FAULT (fault_of c.moment-at.result.second (crew_of c.tear.new.self.cabin))) (g.met.M.Medium.coherent c.args.unit.now) c.tear.ensures.moments
+    (λ x n moment. table-outside CARD_FAULT x n moment.outside)
+
+pub returns-clause-rings : goal.returns-clause-rings
+returns-clause-rings g c = rings-left (g.M.Medium.state c.args.unit.now)

@@ -1,26 +1,26 @@
 use Rattle.std.proofs.Common.{◌≡◌, ◌∙◌, inr, ℕ, Bool, true, false, Some, None, refl, ap, sym, subst}
 use Rattle.std.specs.Prelude.{Ok, is_err, List, [], ◌∷◌, ◌/◌, ◌≤◌}
 use Rattle.tach_media.specs.Medium.{HasCause}
-use Rattle.tach_media.proofs.Runs.{weaken}
+use Rattle.tach_media.proofs.Runs.{weaken, ok_gives}
 use Rattle.unit_notes.specs.Journal.{LeavesJournal}
 use Rattle.run_crew.specs.declared.cards.Known.{Known}
 use Rattle.run_crew.specs.declared.cards.Cards.{Cards}
 use Rattle.run_crew.specs.declared.cabin.Cabin.{Cabin}
 use Rattle.run_crew.specs.Cards.{known_of, session_of, with_session}
-use Rattle.run_crew.specs.Cabin.{Stands, torn_out}
+use Rattle.run_crew.specs.Cabin.{Stands, torn_out, crew_of}
 use Rattle.run_keeping.specs.declared.keeper.Keeper.{Keeper}
 use Rattle.run_keeping.specs.declared.keeper.Moment.{Moment}
-use Rattle.run_keeping.specs.Keeping.{CardReady, HasItsRow, UnitReady, tear_of, with_lines}
+use Rattle.run_keeping.specs.Keeping.{CardReady, HasItsRow, UnitReady, tear_of, with_lines, fault_of}
 use Rattle.run_keeping.proofs.Sessions.{number-set, torn-stands}
 use Rattle.run_keeping.proofs.CardBooked.{no-session, none-there}
 use Rattle.run_keeping.proofs.Fates.{no-lines}
 use Rattle.run_acts.proofs.Apart.{not-both, session-back, torn-apart, noted-sizes, ready-again, session-works, fell-broken, well-broken}
 use Rattle.event_model.specs.declared.kinds.TheConstants.{CARD_FAULT}
-use Rattle.tach_media.proofs.Runs.{ok_gives}
 use Rattle.run_notes.specs.Entries.{entry_of}
-use Rattle.run_crew.specs.Cabin.{crew_of}
 use Rattle.run_rule.specs.Between.{devices}
 use Rattle.run_acts.proofs.NotedEvents.{one-noted, same-noted, noted-any}
+use Rattle.unit_notes.specs.Noting.{IsNotingEvent}
+use Rattle.run_rings.proofs.Same.{rings-left, rings-moments, table-outside}
 use Rattle.run_acts.proofs.placing.note_place_in.Goals as goal
 
 pub note_place_on-requires-clause-port : goal.note_place_on-requires-clause-port
@@ -170,3 +170,13 @@ returns-clause-events g c =
       failing = λ bad. bad;
       notes = noted-any [] false (devices U X X) (devices U X X) (devices U X X) (devices U Y Y) refl refl (same-noted U X X);
     }
+
+-- ---- the rings
+
+pub returns-then-is_err-clause-rings : goal.returns-then-is_err-clause-rings
+returns-then-is_err-clause-rings g c =
+    rings-moments (g.M.Medium.state c.args.unit.now) (g.M.Medium.state c.tear.new.unit) (IsNotingEvent CARD_FAULT (fault_of c.args.at.second (crew_of c.tear.new.self.cabin))) (g.met.M.Medium.coherent c.args.unit.now) c.tear.ensures.moments
+    (λ x n moment. table-outside CARD_FAULT x n moment.outside)
+
+pub returns-clause-rings : goal.returns-clause-rings
+returns-clause-rings g c = rings-left (g.M.Medium.state c.args.unit.now)

@@ -196,3 +196,8 @@ returns-clause-evented g c =
           })
           (g.met.M.Medium.coherent c.args.unit.now) c.requires.held.is_unit b.3 o done s n waits here r time untold evented,
     )
+
+-- ---- what holds of the devices after any calls
+
+pub returns-clause-later : goal.returns-clause-later
+returns-clause-later g c = c.keep_all.ensures.later

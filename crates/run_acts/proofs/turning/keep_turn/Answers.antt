@@ -14,6 +14,7 @@ use Rattle.run_acts.proofs.GoesOn.{same-left, noted-devices}
 use Rattle.run_acts.specs.Faults.{NotesKeeping}
 use Rattle.run_acts.proofs.TurnBooked.{turn-cut, turn-noted}
 use Rattle.run_acts.proofs.TurnNoted.{keeping-then, keeping-cut}
+use Rattle.run_keeping.proofs.Later.{state-by, later-then, later-of-unit}
 use Rattle.run_acts.proofs.turning.keep_turn.Goals as goal
 
 pub returns-clause-kept : goal.returns-clause-kept
@@ -138,3 +139,11 @@ returns-in_err-keep_all-clause-noted g c =
     let V = g.M.Medium.state c.keep_all.new.unit in
     subst (λ (f : Bool). NotesKeeping c.args.decided.now c.args.n c.args.speed c.args.at f c.args.run.now run c.args.outcome.now told U V) failed
     (keeping-cut c.args.decided.now c.args.n c.args.speed c.args.at c.args.run.now run c.args.outcome.now told U V was.0 was.1 refl was.3)
+
+-- ---- what holds of the devices after any calls
+
+pub returns-in_err-keep_all-clause-later : goal.returns-in_err-keep_all-clause-later
+returns-in_err-keep_all-clause-later g c = c.keep_all.ensures.later
+
+pub returns-clause-later : goal.returns-clause-later
+returns-clause-later g c = later-then (devices (g.M.Medium.state c.args.unit.now) (g.C.Chip.state c.args.card_a.now) (g.D.Chip.state c.args.card_b.now)) (devices (g.M.Medium.state c.keep_all.new.unit) (g.C.Chip.state c.keep_all.new.card_a) (g.D.Chip.state c.keep_all.new.card_b)) (devices (g.M.Medium.state c.turn.new.unit) (g.C.Chip.state c.keep_all.new.card_a) (g.D.Chip.state c.keep_all.new.card_b)) c.keep_all.ensures.later (later-of-unit (g.M.Medium.state c.keep_all.new.unit) (g.M.Medium.state c.turn.new.unit) (g.C.Chip.state c.keep_all.new.card_a) (g.D.Chip.state c.keep_all.new.card_b) (state-by (g.M.Medium.state c.keep_all.new.unit) (g.M.Medium.state c.turn.new.unit) _ c.turn.ensures.journal.later c.turn.ensures.cause))

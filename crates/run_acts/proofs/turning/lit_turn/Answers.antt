@@ -22,6 +22,7 @@ use Rattle.run_acts.proofs.Torn.{cut-falls}
 use Rattle.run_acts.specs.Turning.{IsKeptInTurn, cut_where, cut_breaks}
 use Rattle.run_acts.proofs.Turned.{turn-end, turn-later, turn-most, turn-decides, turned-held, turned-cut, turned-lit}
 use Rattle.run_acts.proofs.Room.{Spends, room-lit, room-lost}
+use Rattle.run_acts.proofs.Uncut.{turn-uncut, uncut-broke, cut-broke}
 use Rattle.run_acts.proofs.turning.lit_turn.Goals as goal
 
 -- ---- what the keeping is given
@@ -368,3 +369,21 @@ returns-else-is_err-clause-noted g c =
       },
       b,
     )
+
+-- ---- what holds of the devices after any calls
+
+pub returns-then-is_err-clause-later : goal.returns-then-is_err-clause-later
+returns-then-is_err-clause-later g c = c.keep_turn-kept.ensures.later
+
+pub returns-else-is_err-clause-later : goal.returns-else-is_err-clause-later
+returns-else-is_err-clause-later g c = c.keep_turn-kept.ensures.later
+
+-- ---- how often the unit broke down
+
+pub returns-then-is_err-clause-broke : goal.returns-then-is_err-clause-broke
+returns-then-is_err-clause-broke g c =
+    cut-broke _ _ _ _ _ (g.M.Medium.state c.args.unit.now) (g.M.Medium.state c.keep_turn-kept.new.unit) (is_err c.keep_turn-kept.result) (c.requires.going.lit (ap is_lit c.requires.lit)).ready.unit_ready.works c.keep_turn-kept.ensures.cause
+    (sym c.is_err.ensures.value ∙ c.if-is_err.true) (turn-uncut _ _ _ _ _ _ _ _ _ c.keep_turn-kept.ensures.kept) (ap (λ (l : Listed Break). l.items) c.cut.ensures.breaks)
+
+pub returns-else-is_err-clause-broke : goal.returns-else-is_err-clause-broke
+returns-else-is_err-clause-broke g c = uncut-broke _ _ (g.M.Medium.state c.args.unit.now) (g.M.Medium.state c.keep_turn-kept.new.unit) (is_err c.keep_turn-kept.result) c.keep_turn-kept.ensures.cause (turn-uncut _ _ _ _ _ _ _ _ _ c.keep_turn-kept.ensures.kept)

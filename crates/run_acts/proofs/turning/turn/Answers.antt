@@ -12,6 +12,8 @@ use Rattle.run_acts.specs.Turning.{IsTurnOf}
 use Rattle.run_acts.specs.Recording.{InSecondBy, RunWithin, RunCut, RunRecorded}
 use Rattle.run_acts.proofs.TurnRecorded.{turn-lit, turn-dark}
 use Rattle.run_acts.proofs.Room.{room-dark}
+use Rattle.run_keeping.proofs.Later.{later-same}
+use Rattle.run_outcome.proofs.Broken.{broke-none}
 use Rattle.run_acts.proofs.turning.turn.Goals as goal
 
 -- ---- without power
@@ -89,3 +91,19 @@ returns-then-not-is_lit-clause-noted g c = λ lit. let dark : is_lit c.args.run.
 
 pub returns-clause-noted : goal.returns-clause-noted
 returns-clause-noted g c = λ lit. (c.lit_turn.new.run, c.lit_turn.ensures.noted, c.pass-2.ensures)
+
+-- ---- what holds of the devices after any calls
+
+pub returns-then-not-is_lit-clause-later : goal.returns-then-not-is_lit-clause-later
+returns-then-not-is_lit-clause-later g c = later-same (devices (g.M.Medium.state c.args.unit.now) (g.C.Chip.state c.args.card_a.now) (g.D.Chip.state c.args.card_b.now))
+
+pub returns-clause-later : goal.returns-clause-later
+returns-clause-later g c = c.lit_turn.ensures.later
+
+-- ---- how often the unit broke down
+
+pub returns-then-not-is_lit-clause-broke : goal.returns-then-not-is_lit-clause-broke
+returns-then-not-is_lit-clause-broke g c = broke-none c.args.outcome.now.breaks.items {old = (g.M.Medium.state c.args.unit.now)} {new = (g.M.Medium.state c.args.unit.now)} (omega arith)
+
+pub returns-clause-broke : goal.returns-clause-broke
+returns-clause-broke g c = c.lit_turn.ensures.broke

@@ -1,6 +1,6 @@
 use Rattle.std.proofs.Common.{◌≡◌, ◌∙◌, ℕ, ◌+◌, ◌≤◌, Bool, true, false, Option, Some, None, Ok, refl, ap, sym, subst, arith}
 use Rattle.run_acts.proofs.Withdrawn.{closed-any}
-use Rattle.std.specs.Prelude.{not, is_err, IfSome}
+use Rattle.std.specs.Prelude.{not, is_err, IfSome, List, []}
 use Rattle.card_layout.specs.declared.files.Application.{Application}
 use Rattle.card_commands.specs.Ports.{IsPort}
 use Rattle.activity_codec.specs.declared.values.Activity.{Activity}
@@ -8,31 +8,31 @@ use Rattle.card_session.specs.Sessions.{IsSession}
 use Rattle.activity_codec.specs.Activity.{activity_of}
 use Rattle.card_session.specs.Cards.{IsCardClosing}
 use Rattle.tach_media.specs.Medium.{LeavesOnly, broken_by}
-use Rattle.tach_media.proofs.Runs.{on_ok}
+use Rattle.tach_media.proofs.Runs.{on_ok, ok_gives}
 use Rattle.tach_media.proofs.Breakdowns.{none_broken, call_broken, fewer_broken}
 use Rattle.run_crew.specs.declared.cards.Accepted.{Accepted}
 use Rattle.run_crew.specs.declared.cards.Cards.{Cards}
 use Rattle.run_crew.specs.declared.cabin.Cabin.{Cabin}
 use Rattle.run_crew.specs.Cards.{known_of, session_of, with_session}
-use Rattle.run_crew.specs.Cabin.{torn_out}
+use Rattle.run_crew.specs.Cabin.{torn_out, crew_of}
 use Rattle.run_keeping.specs.declared.keeper.Keeper.{Keeper}
-use Rattle.run_keeping.specs.Keeping.{UnitReady, CardReady, HasItsRow}
+use Rattle.run_keeping.specs.Keeping.{UnitReady, CardReady, HasItsRow, fault_of}
 use Rattle.run_keeping.proofs.Sessions.{number-set}
 use Rattle.run_acts.specs.declared.run.Run.{Run}
 use Rattle.run_acts.proofs.Noted.{noted-ready, noted-row}
-use Rattle.run_acts.specs.Acting.{Fell, IsClosingOf}
+use Rattle.run_acts.specs.Acting.{Fell, IsClosingOf, Bare, Closed}
 use Rattle.run_acts.proofs.Cabins.{session-known, twice-ready}
-use Rattle.std.specs.Prelude.{List, []}
 use Rattle.event_model.specs.declared.kinds.TheConstants.{CARD_FAULT}
-use Rattle.tach_media.proofs.Runs.{ok_gives}
 use Rattle.run_notes.specs.Entries.{entry_of}
-use Rattle.run_crew.specs.Cabin.{crew_of}
 use Rattle.run_rule.specs.Between.{devices}
-use Rattle.run_keeping.proofs.CardBooked.{none-there}
+use Rattle.run_keeping.proofs.CardBooked.{none-there, no-session}
 use Rattle.run_keeping.proofs.Fates.{no-lines}
-use Rattle.run_acts.specs.Acting.{Bare, Closed}
 use Rattle.run_acts.proofs.NotedEvents.{one-noted, same-noted}
 use Rattle.run_acts.proofs.ActsNoted.{quiet-any}
+use Rattle.unit_notes.specs.Noting.{IsNotingEvent}
+use Rattle.run_rings.proofs.Same.{rings-left, rings-moments, table-outside}
+use Rattle.run_acts.specs.Ringing.{ClosesRings}
+use Rattle.run_keeping.proofs.Later.{state-same, state-by}
 use Rattle.run_acts.proofs.withdrawing.close.Goals as goal
 
 pub returns-in-Ok-leave-clause-ready : goal.returns-in-Ok-leave-clause-ready
@@ -167,3 +167,52 @@ returns-in-Err-clause-events g c =
       notes = one-noted U V X X Y Y (g.met.M.Medium.coherent c.args.unit.now) (g.met.M.Medium.coherent c.tear.new.unit) c.requires.ready.is_unit (entry_of CARD_FAULT c.args.at.second c.args.at.second crew crew) (is_err c.tear.result)
           (λ well. ok_gives c.tear.result c.tear.ensures.noted well) c.tear.ensures.moments c.tear.ensures.cause.works;
     }
+
+-- ---- the rings
+
+pub returns-in-Ok-leave-clause-rings : goal.returns-in-Ok-leave-clause-rings
+returns-in-Ok-leave-clause-rings g c = λ tells.
+    let run = c.args.run.now in
+    let which = c.args.which in
+    let U = g.M.Medium.state c.args.unit.now in
+    let V = g.M.Medium.state c.note_withdrawal.new.unit in
+    let some : session_of run.keeper.cabin.cards which ≡ Some c.in-Some.accepted = sym c.in-Some.ensures.session in
+    record {
+      closing = Closed;
+      closed = record {
+        is = subst (λ (o : Option Accepted). IsClosingOf o Closed) (sym some) tt;
+        run = ap (λ (b : Cabin). record run { keeper = record run.keeper { cabin = b } }) c.close.ensures.kept;
+        told = no-lines c.args.breaks.now;
+      };
+      rings = subst (λ (o : Option Accepted). ClosesRings Closed o c.args.at (is_err c.note_withdrawal.result) run U V) (sym some) (c.note_withdrawal.ensures.rings tells);
+    }
+
+pub returns-in-Err-clause-rings : goal.returns-in-Err-clause-rings
+returns-in-Err-clause-rings g c = λ tells.
+    let run = c.args.run.now in
+    let which = c.args.which in
+    let some : session_of run.keeper.cabin.cards which ≡ Some c.in-Some.accepted = sym c.in-Some.ensures.session in
+    record {
+      closing = Fell;
+      closed = record {
+        is = subst (λ (o : Option Accepted). IsClosingOf o Fell) (sym some) tt;
+        run = ap (λ (k : Keeper). record run { keeper = k }) (c.tear.ensures.keeper ∙ ap (λ (b : Cabin). record run.keeper { cabin = torn_out which c.args.at.second b }) c.close.ensures.kept);
+        told = c.tear.ensures.told;
+      };
+      rings = rings-moments (g.M.Medium.state c.args.unit.now) (g.M.Medium.state c.tear.new.unit) (IsNotingEvent CARD_FAULT (fault_of c.args.at.second (crew_of c.tear.new.self.cabin))) (g.met.M.Medium.coherent c.args.unit.now) c.tear.ensures.moments
+          (λ x n moment. table-outside CARD_FAULT x n moment.outside);
+    }
+
+-- ---- what holds of the devices after any calls
+
+pub returns-in_default-clause-later : goal.returns-in_default-clause-later
+returns-in_default-clause-later g c = state-same (g.C.Chip.state c.args.card.now)
+
+pub returns-in_default-sizes-clause-later : goal.returns-in_default-sizes-clause-later
+returns-in_default-sizes-clause-later g c = state-same (g.C.Chip.state c.args.card.now)
+
+pub returns-in-Ok-leave-clause-later : goal.returns-in-Ok-leave-clause-later
+returns-in-Ok-leave-clause-later g c = state-by (g.C.Chip.state c.args.card.now) (g.C.Chip.state c.leave.new.card) (is_err c.leave.result) c.leave.ensures.moments.later c.leave.ensures.cause
+
+pub returns-in-Err-clause-later : goal.returns-in-Err-clause-later
+returns-in-Err-clause-later g c = state-by (g.C.Chip.state c.args.card.now) (g.C.Chip.state c.leave.new.card) (is_err c.leave.result) c.leave.ensures.moments.later c.leave.ensures.cause

@@ -1,5 +1,5 @@
-use Rattle.std.proofs.Common.{rules, ◌≡◌, ◌∙◌, inl, inr, ℕ, ◌+◌, ◌-◌, ◌*◌, ◌/◌, ◌^◌, ◌<◌, ◌≤◌, Bool, true, false, not, Option, Some, None, is_some, List, ◌++◌, length, refl, ap, sym, subst, arith}
-use Rattle.std.specs.Prelude.{is_err}
+use Rattle.std.proofs.Common.{rules, ◌≡◌, ◌∙◌, inl, inr, ℕ, ◌+◌, ◌-◌, ◌*◌, ◌/◌, ◌≤◌, Bool, true, false, not, Option, Some, None, is_some, List, ◌++◌, length, refl, ap, sym, subst, arith, ◌^◌, ◌<◌}
+use Rattle.std.specs.Prelude.{is_err, suc, []}
 use Rattle.trace_model.specs.declared.Card.{Card}
 use Rattle.trace_model.specs.declared.Card.TheVariants.{A, B}
 use Rattle.tach_media.proofs.Runs.{on_ok, ok_gives, cause_after}
@@ -26,27 +26,27 @@ use Rattle.run_acts.specs.Going.{IsHeld, IsGoingOn, IsLit}
 use Rattle.run_acts.specs.Room.{waiting_of, falls_of}
 use Rattle.run_acts.proofs.Torn.{tears-without}
 use Rattle.run_acts.specs.Behind.{BooksWithdrawn}
-use Rattle.run_acts.proofs.Withdrawn.{withdrawn-cut, withdrawn-closed}
-use Rattle.run_acts.specs.Acting.{Closing, told_of, IsSettled, IsWithdrawn, closed_cabin, closed_breaks, left_run}
+use Rattle.run_acts.proofs.Withdrawn.{withdrawn-cut, withdrawn-closed, time-before}
+use Rattle.run_acts.specs.Acting.{Closing, told_of, IsSettled, IsWithdrawn, closed_cabin, closed_breaks, left_run, IsClosed}
 use Rattle.run_acts.proofs.Leaving.{left-going, left-held, left-falls, closed-past, closed-minute, closed-sessions, closed-falls, closed-a, closed-b}
 use Rattle.run_acts.proofs.Cabins.{cabin-only, cabin-going, cabin-held, ready-same, at-same}
-use Rattle.std.specs.Prelude.{suc, []}
 use Rattle.log_model.specs.Log.{In}
-use Rattle.run_acts.specs.Acting.{IsClosed}
-use Rattle.run_acts.specs.Recording.{RunFails, GoesOnOrFails}
+use Rattle.run_acts.specs.Recording.{RunFails, GoesOnOrFails, GoesOnOrCut, log_of}
 use Rattle.run_acts.specs.Settling.{RecordsSettling}
 use Rattle.run_acts.proofs.Asked.{withdraws-one}
-use Rattle.run_acts.proofs.Withdrawn.{time-before}
 use Rattle.run_acts.proofs.WithdrawnRecorded.{acting_at, moment-is, settling-cut, closing-recorded, settled-evented, closing-evented}
 use Rattle.run_acts.specs.Faults.{NotesSettling}
 use Rattle.run_acts.specs.Noting.{NotesClosing, NotesWithdrawing, closed_events}
+use Rattle.run_acts.proofs.NotedEvents.{same-noted, noted-any}
+use Rattle.run_acts.proofs.ActsNoted.{settles-these, withdrawal-cut, withdrawal-noted, closing-any, same-closing}
+use Rattle.run_rings.proofs.Same.{rings-left}
+use Rattle.run_acts.specs.Ringing.{WithdrawsSo}
+use Rattle.run_acts.proofs.Ringing.{settling-leaves, closes-behind}
+use Rattle.run_keeping.proofs.Later.{state-by, later-same, later-then, later-of-a, later-of-b}
 use Rattle.tach_media.specs.Medium.{HasBroken}
 use Rattle.run_evented.specs.Noting.{Acting}
 use Rattle.run_acts.specs.NotedEvents.{NotesEvents}
-use Rattle.run_acts.specs.Recording.{log_of}
 use Rattle.run_acts.specs.Evented.{EventsGoOn, EventsSettling}
-use Rattle.run_acts.proofs.NotedEvents.{same-noted, noted-any}
-use Rattle.run_acts.proofs.ActsNoted.{settles-these, withdrawal-cut, withdrawal-noted, closing-any, same-closing}
 use Rattle.run_acts.proofs.withdrawing.withdraw.Goals as goal
 
 -- ---- it has left its slot
@@ -612,6 +612,83 @@ returns-in-B-clause-events g c =
     let these = settles-these c.args.at false (left_run c.args.slot c.args.at.second run) between c.args.outcome.now told U V A0 B0 A1 B1 (g.met.M.Medium.coherent c.args.unit.now) c.requires.held.is_unit settling in
     let closes = closing-any B c.args.slot c.args.at (is_err c.close-in-B.result) between c.close-in-B.new.run told.breaks c.close-in-B.new.breaks (devices V X1 X1) (devices W Y Y) (devices V A1 B1) (devices W A1 Y) refl refl c.close-in-B.ensures.events in
     withdrawal-noted (card_in (seat_in run.keeper.cabin.slots.seats c.args.slot)) B there c.args.slot c.args.at (is_err c.close-in-B.result) run between c.close-in-B.new.run c.args.outcome.now told c.close-in-B.new.breaks (devices U A0 B0) (devices V A1 B1) (devices W A1 Y) these.0 these.1 these.2 closes
+
+-- ---- the rings
+
+none-sits : (o : Option Card) → ((card : Card) → o ≡ Some card → ⊥) → o ≡ None
+none-sits None never = refl
+none-sits (Some card) never = absurd (never card refl)
+
+pub returns-in_default-clause-rings : goal.returns-in_default-clause-rings
+returns-in_default-clause-rings g c = λ tells.
+    let run = c.args.run.now in
+    let U = g.M.Medium.state c.args.unit.now in
+    let none : card_in (seat_in run.keeper.cabin.slots.seats c.args.slot) ≡ None = sym c.card.ensures ∙ none-sits c.card.result c.in_default.not-Some in
+    subst (λ (o : Option Card). WithdrawsSo o c.args.slot c.args.at false run run c.args.outcome.now c.args.outcome.now U U) (sym none) (rings-left U)
+
+pub returns-in_err-settle-clause-rings : goal.returns-in_err-settle-clause-rings
+returns-in_err-settle-clause-rings g c = λ tells.
+    let run = c.args.run.now in
+    let U = g.M.Medium.state c.args.unit.now in
+    let V = g.M.Medium.state c.settle.new.unit in
+    let there : card_in (seat_in run.keeper.cabin.slots.seats c.args.slot) ≡ Some c.in-Some.card = cc in
+    let failed : true ≡ is_err c.from_residual.result = search rules in
+    let e = c.in_err-settle.ensures in
+    let settled_first : IsSettled c.args.at true (left_run c.args.slot c.args.at.second run) c.settle.new.run c.args.outcome.now c.settle.new.outcome =
+    subst (λ (b : Cabin). IsSettled c.args.at true (with_cabin b run) c.settle.new.run c.args.outcome.now c.settle.new.outcome) c.leave.ensures.kept e.settled in
+    let leaves = settling-leaves c.args.at true (with_cabin c.leave.new.self run) c.settle.new.run c.args.outcome.now c.settle.new.outcome U V e.noted in
+    subst (λ (o : Option Card). WithdrawsSo o c.args.slot c.args.at (is_err c.from_residual.result) run c.settle.new.run c.args.outcome.now c.settle.new.outcome U V) (sym there)
+    (inl (sym failed, settled_first, leaves))
+
+pub returns-in-A-clause-rings : goal.returns-in-A-clause-rings
+returns-in-A-clause-rings g c = λ tells.
+    let run = c.args.run.now in
+    let U = g.M.Medium.state c.args.unit.now in
+    let V = g.M.Medium.state c.settle.new.unit in
+    let W = g.M.Medium.state c.close.new.unit in
+    let there : card_in (seat_in run.keeper.cabin.slots.seats c.args.slot) ≡ Some A = cc in
+    let e = c.in_ok-settle.ensures in
+    let n = c.close.ensures.rings (e.tells ∙ tells) in
+    let settled_first : IsSettled c.args.at false (left_run c.args.slot c.args.at.second run) c.settle.new.run c.args.outcome.now c.settle.new.outcome =
+    subst (λ (b : Cabin). IsSettled c.args.at false (with_cabin b run) c.settle.new.run c.args.outcome.now c.settle.new.outcome) c.leave.ensures.kept e.settled in
+    let leaves = settling-leaves c.args.at false (with_cabin c.leave.new.self run) c.settle.new.run c.args.outcome.now c.settle.new.outcome U V e.noted in
+    subst (λ (o : Option Card). WithdrawsSo o c.args.slot c.args.at (is_err c.close.result) run c.close.new.run c.args.outcome.now (record c.settle.new.outcome { breaks = c.close.new.breaks }) U W) (sym there)
+    (inr (record {
+      closed = record { between = c.settle.new.run; told = c.settle.new.outcome; settled_first = settled_first; closing = n.closing; closed = n.closed; outcome = refl };
+      rings = closes-behind n.closing (session_of c.settle.new.run.keeper.cabin.cards A) c.args.at (is_err c.close.result) c.settle.new.run U V W leaves n.rings;
+    }))
+
+pub returns-in-B-clause-rings : goal.returns-in-B-clause-rings
+returns-in-B-clause-rings g c = λ tells.
+    let run = c.args.run.now in
+    let U = g.M.Medium.state c.args.unit.now in
+    let V = g.M.Medium.state c.settle.new.unit in
+    let W = g.M.Medium.state c.close-in-B.new.unit in
+    let there : card_in (seat_in run.keeper.cabin.slots.seats c.args.slot) ≡ Some B = cc in
+    let e = c.in_ok-settle.ensures in
+    let n = c.close-in-B.ensures.rings (e.tells ∙ tells) in
+    let settled_first : IsSettled c.args.at false (left_run c.args.slot c.args.at.second run) c.settle.new.run c.args.outcome.now c.settle.new.outcome =
+    subst (λ (b : Cabin). IsSettled c.args.at false (with_cabin b run) c.settle.new.run c.args.outcome.now c.settle.new.outcome) c.leave.ensures.kept e.settled in
+    let leaves = settling-leaves c.args.at false (with_cabin c.leave.new.self run) c.settle.new.run c.args.outcome.now c.settle.new.outcome U V e.noted in
+    subst (λ (o : Option Card). WithdrawsSo o c.args.slot c.args.at (is_err c.close-in-B.result) run c.close-in-B.new.run c.args.outcome.now (record c.settle.new.outcome { breaks = c.close-in-B.new.breaks }) U W) (sym there)
+    (inr (record {
+      closed = record { between = c.settle.new.run; told = c.settle.new.outcome; settled_first = settled_first; closing = n.closing; closed = n.closed; outcome = refl };
+      rings = closes-behind n.closing (session_of c.settle.new.run.keeper.cabin.cards B) c.args.at (is_err c.close-in-B.result) c.settle.new.run U V W leaves n.rings;
+    }))
+
+-- ---- what holds of the devices after any calls
+
+pub returns-in_default-clause-later : goal.returns-in_default-clause-later
+returns-in_default-clause-later g c = later-same (devices (g.M.Medium.state c.args.unit.now) (g.C.Chip.state c.args.card_a.now) (g.D.Chip.state c.args.card_b.now))
+
+pub returns-in_err-settle-clause-later : goal.returns-in_err-settle-clause-later
+returns-in_err-settle-clause-later g c = c.settle.ensures.later
+
+pub returns-in-A-clause-later : goal.returns-in-A-clause-later
+returns-in-A-clause-later g c = later-then (devices (g.M.Medium.state c.args.unit.now) (g.C.Chip.state c.args.card_a.now) (g.D.Chip.state c.args.card_b.now)) (devices (g.M.Medium.state c.settle.new.unit) (g.C.Chip.state c.settle.new.card_a) (g.D.Chip.state c.settle.new.card_b)) (devices (g.M.Medium.state c.close.new.unit) (g.C.Chip.state c.close.new.card) (g.D.Chip.state c.settle.new.card_b)) c.settle.ensures.later (later-of-a (g.M.Medium.state c.settle.new.unit) (g.M.Medium.state c.close.new.unit) (g.C.Chip.state c.settle.new.card_a) (g.C.Chip.state c.close.new.card) (g.D.Chip.state c.settle.new.card_b) (state-by (g.M.Medium.state c.settle.new.unit) (g.M.Medium.state c.close.new.unit) _ c.close.ensures.journal.later c.close.ensures.cause) c.close.ensures.later)
+
+pub returns-in-B-clause-later : goal.returns-in-B-clause-later
+returns-in-B-clause-later g c = later-then (devices (g.M.Medium.state c.args.unit.now) (g.C.Chip.state c.args.card_a.now) (g.D.Chip.state c.args.card_b.now)) (devices (g.M.Medium.state c.settle.new.unit) (g.C.Chip.state c.settle.new.card_a) (g.D.Chip.state c.settle.new.card_b)) (devices (g.M.Medium.state c.close-in-B.new.unit) (g.C.Chip.state c.settle.new.card_a) (g.D.Chip.state c.close-in-B.new.card)) c.settle.ensures.later (later-of-b (g.M.Medium.state c.settle.new.unit) (g.M.Medium.state c.close-in-B.new.unit) (g.C.Chip.state c.settle.new.card_a) (g.D.Chip.state c.settle.new.card_b) (g.D.Chip.state c.close-in-B.new.card) (state-by (g.M.Medium.state c.settle.new.unit) (g.M.Medium.state c.close-in-B.new.unit) _ c.close-in-B.ensures.journal.later c.close-in-B.ensures.cause) c.close-in-B.ensures.later)
 
 -- ---- how its events go on
 

@@ -20,6 +20,7 @@ use Rattle.run_entering.proofs.InTime.{woken-early}
 use Rattle.run_entering.proofs.Notes.{fault-noted}
 use Rattle.run_entering.proofs.Judged.{entered-judged, entered-unsized, entered-unread}
 use Rattle.run_entering.proofs.Seats.{unsized-ready}
+use Rattle.run_keeping.proofs.Later.{state-then, state-revived}
 use Rattle.run_entering.proofs.entering.accept.Goals as goal
 
 -- ---- it failed before it told its sizes
@@ -155,3 +156,14 @@ returns-in-Ok-sizes-clause-in_time g c = woken-early c.args.entering (g.C.Chip.s
 
 pub returns-in-Err-clause-in_time : goal.returns-in-Err-clause-in_time
 returns-in-Err-clause-in_time g c = inl c.wake.ensures.leaves
+
+-- ---- what holds of the devices after any calls
+
+pub returns-in_default-clause-later : goal.returns-in_default-clause-later
+returns-in_default-clause-later g c = let same = c.wake.ensures.clock in state-revived (g.C.Chip.state c.args.card.now) (g.C.Chip.state c.wake.new.card) _ (omega (arith, same)) c.in_default.ensures.cause
+
+pub returns-in-Ok-sizes-clause-later : goal.returns-in-Ok-sizes-clause-later
+returns-in-Ok-sizes-clause-later g c = let same = c.wake.ensures.clock in state-then (g.C.Chip.state c.args.card.now) (g.C.Chip.state c.wake.new.card) (g.C.Chip.state c.accept_by.new.card) (state-revived (g.C.Chip.state c.args.card.now) (g.C.Chip.state c.wake.new.card) _ (omega (arith, same)) c.in-Ok.ensures.cause) c.accept_by.ensures.later
+
+pub returns-in-Err-clause-later : goal.returns-in-Err-clause-later
+returns-in-Err-clause-later g c = let same = c.wake.ensures.clock in state-revived (g.C.Chip.state c.args.card.now) (g.C.Chip.state c.wake.new.card) _ (omega (arith, same)) c.in-Ok.ensures.cause

@@ -11,6 +11,7 @@ use Rattle.run_entering.proofs.Booked.{taken-known, unasked-known, fell-known, u
 use Rattle.run_entering.proofs.InTime.{judged-early, taken-early}
 use Rattle.run_entering.proofs.Notes.{fault-noted}
 use Rattle.run_entering.proofs.Judged.{judged-taken, judged-unasked, judged-fell, judged-unfit, judged-ahead, unfit-told, ahead-told, ahead-noted}
+use Rattle.run_keeping.proofs.Later.{state-then, state-by}
 use Rattle.run_entering.proofs.entering.accept_by.Goals as goal
 
 pub returns-in-Ok-clause-ended : goal.returns-in-Ok-clause-ended
@@ -184,3 +185,20 @@ returns-in-Err-NotValid-clause-in_time g c = judged-early c.args.app c.args.ente
 
 pub returns-in-Err-TimeOverlap-clause-in_time : goal.returns-in-Err-TimeOverlap-clause-in_time
 returns-in-Err-TimeOverlap-clause-in_time g c = judged-early c.args.app c.args.entering (g.C.Chip.state c.args.card.now) (g.C.Chip.state c.enter.new.card) c.requires.sized c.enter.ensures.in_time
+
+-- ---- what holds of the devices after any calls
+
+pub returns-in-Ok-clause-later : goal.returns-in-Ok-clause-later
+returns-in-Ok-clause-later g c = state-then (g.C.Chip.state c.args.card.now) (g.C.Chip.state c.enter.new.card) (g.C.Chip.state c.take_in.new.card) (state-by (g.C.Chip.state c.args.card.now) (g.C.Chip.state c.enter.new.card) _ c.enter.ensures.leaves.later c.in-Ok.ensures.enters.cause) c.take_in.ensures.later
+
+pub returns-in-Err-UnitFailed-clause-later : goal.returns-in-Err-UnitFailed-clause-later
+returns-in-Err-UnitFailed-clause-later g c = state-by (g.C.Chip.state c.args.card.now) (g.C.Chip.state c.enter.new.card) _ c.enter.ensures.leaves.later c.in-Err-UnitFailed.ensures.enters.cause
+
+pub returns-in-Err-CardFailed-clause-later : goal.returns-in-Err-CardFailed-clause-later
+returns-in-Err-CardFailed-clause-later g c = state-by (g.C.Chip.state c.args.card.now) (g.C.Chip.state c.enter.new.card) _ c.enter.ensures.leaves.later c.in-Err-CardFailed.ensures.enters.cause
+
+pub returns-in-Err-NotValid-clause-later : goal.returns-in-Err-NotValid-clause-later
+returns-in-Err-NotValid-clause-later g c = state-by (g.C.Chip.state c.args.card.now) (g.C.Chip.state c.enter.new.card) _ c.enter.ensures.leaves.later c.in-Err-NotValid.ensures.enters.cause
+
+pub returns-in-Err-TimeOverlap-clause-later : goal.returns-in-Err-TimeOverlap-clause-later
+returns-in-Err-TimeOverlap-clause-later g c = state-by (g.C.Chip.state c.args.card.now) (g.C.Chip.state c.enter.new.card) _ c.enter.ensures.leaves.later c.in-Err-TimeOverlap.ensures.enters.cause

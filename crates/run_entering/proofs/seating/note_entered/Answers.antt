@@ -6,6 +6,7 @@ use Rattle.run_entering.proofs.Carried.{noted-carried, unclosed-carried}
 use Rattle.run_entering.specs.Entered.{IsNotedOn}
 use Rattle.run_entering.proofs.Notes.{unclosed-noted}
 use Rattle.run_entering.proofs.Accepted.{entered-cut, entered-closed, entered-unclosed, rests-closed, rests-unclosed}
+use Rattle.run_keeping.proofs.Later.{state-same}
 use Rattle.run_entering.proofs.seating.note_entered.Goals as goal
 use Rattle.run_entering.proofs.seating.note_entered.Goals.{then-entering-gt0+in_ok-note_moving, else-entering-gt0}
 
@@ -106,4 +107,21 @@ pub returns-clause-more : goal.returns-clause-more
 returns-clause-more g c = elim c.if-entering-gt0.branch [
   | then-entering-gt0+in_ok-note_moving w ↦ rw w.card-is w.in_ok-note_moving.ensures.more
   | else-entering-gt0 w ↦ rw w.card-is (omega arith)
+]
+
+-- ---- what holds of the devices after any calls
+
+pub returns-in_err-note_moving-clause-later : goal.returns-in_err-note_moving-clause-later
+returns-in_err-note_moving-clause-later g c = c.in_err-note_moving.ensures.later
+
+pub returns-then-session-eq0-clause-later : goal.returns-then-session-eq0-clause-later
+returns-then-session-eq0-clause-later g c = elim c.if-entering-gt0.branch [
+  | then-entering-gt0+in_ok-note_moving w ↦ rw w.card-is w.in_ok-note_moving.ensures.later
+  | else-entering-gt0 w ↦ rw w.card-is (state-same (g.C.Chip.state c.args.card.now))
+]
+
+pub returns-clause-later : goal.returns-clause-later
+returns-clause-later g c = elim c.if-entering-gt0.branch [
+  | then-entering-gt0+in_ok-note_moving w ↦ rw w.card-is w.in_ok-note_moving.ensures.later
+  | else-entering-gt0 w ↦ rw w.card-is (state-same (g.C.Chip.state c.args.card.now))
 ]

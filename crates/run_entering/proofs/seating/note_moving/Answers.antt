@@ -10,6 +10,7 @@ use Rattle.run_told.specs.Told.{arranged}
 use Rattle.run_entering.specs.Told.{BooksNotes}
 use Rattle.run_entering.proofs.Carried as booked
 use Rattle.run_entering.proofs.Accepted.{event-is, moved-cut, moved-kept, moved-torn}
+use Rattle.run_keeping.proofs.Later.{state-same, state-by}
 use Rattle.run_entering.proofs.seating.note_moving.Goals as goal
 
 pub note_event_on-requires-clause-port : goal.note_event_on-requires-clause-port
@@ -78,3 +79,14 @@ returns-in-Ok-clause-more g c = c.in-Ok.ensures.cause.breakdowns
 
 pub returns-in-Err-clause-more : goal.returns-in-Err-clause-more
 returns-in-Err-clause-more g c = c.in-Err.ensures.cause.breakdowns
+
+-- ---- what holds of the devices after any calls
+
+pub returns-in_err-note_driving-clause-later : goal.returns-in_err-note_driving-clause-later
+returns-in_err-note_driving-clause-later g c = state-same (g.C.Chip.state c.args.card.now)
+
+pub returns-in-Ok-clause-later : goal.returns-in-Ok-clause-later
+returns-in-Ok-clause-later g c = state-by (g.C.Chip.state c.args.card.now) (g.C.Chip.state c.note_event_on.new.card) _ c.note_event_on.ensures.moments.later c.in-Ok.ensures.cause
+
+pub returns-in-Err-clause-later : goal.returns-in-Err-clause-later
+returns-in-Err-clause-later g c = state-by (g.C.Chip.state c.args.card.now) (g.C.Chip.state c.note_event_on.new.card) _ c.note_event_on.ensures.moments.later c.in-Err.ensures.cause

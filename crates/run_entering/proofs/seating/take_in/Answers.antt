@@ -8,6 +8,7 @@ use Rattle.run_entering.specs.Told.{BooksTaken}
 use Rattle.run_entering.proofs.Carried.{taken-row, seat-found, taken-notes}
 use Rattle.run_entering.proofs.Accepted.{taken-cut, taken-on}
 use Rattle.run_entering.proofs.Seats.{if-any, seated-ready, seated-minute}
+use Rattle.run_keeping.proofs.Later.{state-same}
 use Rattle.run_entering.proofs.seating.take_in.Goals as goal
 
 pub returns-in_err-seat-clause-ended : goal.returns-in_err-seat-clause-ended
@@ -91,3 +92,11 @@ returns-in_err-seat-clause-most g c = c.tell_replayed.ensures.most
 
 pub returns-clause-most : goal.returns-clause-most
 returns-clause-most g c = c.tell_replayed.ensures.most
+
+-- ---- what holds of the devices after any calls
+
+pub returns-in_err-seat-clause-later : goal.returns-in_err-seat-clause-later
+returns-in_err-seat-clause-later g c = state-same (g.C.Chip.state c.args.card.now)
+
+pub returns-clause-later : goal.returns-clause-later
+returns-clause-later g c = c.note_entered.ensures.later

@@ -5,7 +5,7 @@ use Rattle.tach_media.specs.Medium.{HasCause}
 use Rattle.tach_media.proofs.Runs.{ok_gives}
 use Rattle.run_rule.specs.Between.{devices}
 use Rattle.tacho.specs.Anew.{unit_image}
-use Rattle.tacho.proofs.DemoDevices.{begins-new, ends-anew, time-before, kept-failed}
+use Rattle.tacho.proofs.DemoDevices.{begins-new, ends-anew, time-before, kept-failed, only-failed}
 use Rattle.tacho.proofs.anew.run_anew.Goals as goal
 
 pub returns-in-Err-clause-nothing : goal.returns-in-Err-clause-nothing
@@ -24,6 +24,24 @@ returns-in-Err-clause-nothing g c = λ b may time few.
     (ok_gives c.format_unit.result c.format_unit.ensures.formatted formed) (ok_gives c.format_unit.result c.format_unit.ensures.settled formed then_.unit)
     (ok_gives c.issue.result c.issue.ensures.written issued) (ok_gives c.issue.result c.issue.ensures.settled issued then_.card_a) in
     (e.fault (unit_image c.args.vehicle.now) c.args.image.now b begins time few).1
+
+pub returns-in-Err-clause-kept : goal.returns-in-Err-clause-kept
+returns-in-Err-clause-kept g c = λ b may time few may_record.
+    let U = g.U.Medium.state c.args.unit.now in
+    let V = g.U.Medium.state c.format_unit.new.unit in
+    let X = g.C.Chip.state c.args.card_a.now in
+    let Y = g.C.Chip.state c.issue.new.self in
+    let Z = g.C.Chip.state c.args.card_b.now in
+    let formed : is_err c.format_unit.result ≡ false = sym c.is_err.ensures.value ∙ c.if-is_err.false in
+    let issued : is_err c.issue.result ≡ false = sym c.is_err-2.ensures.value ∙ c.if-is_err-2.false in
+    let e = c.in-Err.ensures in
+    let then_ = time-before (devices V Y Z) (devices (g.U.Medium.state c.run_trace.new.unit) (g.C.Chip.state c.run_trace.new.card_a) (g.C.Chip.state c.run_trace.new.card_b)) e.later time in
+    let begins = begins-new (unit_image c.args.vehicle.now) c.args.image.now b U V X Y Z (g.met.C.Chip.coherent c.args.card_a.now) (c.requires.image ∙ sym c.requires.size_a) c.requires.behind_a
+    (All-from_get_or (λ (n : ℕ). n < 256) c.args.image.now 0 (λ i inside. omega (arith, (c.type_inv.image i).fits))) may
+    (ok_gives c.format_unit.result c.format_unit.ensures.formatted formed) (ok_gives c.format_unit.result c.format_unit.ensures.settled formed then_.unit)
+    (ok_gives c.issue.result c.issue.ensures.written issued) (ok_gives c.issue.result c.issue.ensures.settled issued then_.card_a) in
+    only-failed (unit_image c.args.vehicle.now) c.args.image.now b c.args.trace.now.start (devices V Y Z) (devices (g.U.Medium.state c.run_trace.new.unit) (g.C.Chip.state c.run_trace.new.card_a) (g.C.Chip.state c.run_trace.new.card_b)) c.in-Err.fault may_record
+    (e.fault (unit_image c.args.vehicle.now) c.args.image.now b begins time few).0
 
 pub returns-in-Err-clause-failed : goal.returns-in-Err-clause-failed
 returns-in-Err-clause-failed g c =
@@ -48,5 +66,13 @@ returns-clause-recorded g c = λ b may time few.
     (ok_gives c.format_unit.result c.format_unit.ensures.formatted formed) (ok_gives c.format_unit.result c.format_unit.ensures.settled formed then_.unit)
     (ok_gives c.issue.result c.issue.ensures.written issued) (ok_gives c.issue.result c.issue.ensures.settled issued then_.card_a) in
     ends-anew (unit_image c.args.vehicle.now) c.args.image.now b c.args.trace.now.start c.args.trace.now.items c.run_trace.new.outcome U V X Y Z (devices (g.U.Medium.state c.run_trace.new.unit) (g.C.Chip.state c.run_trace.new.card_a) (g.C.Chip.state c.run_trace.new.card_b))
-    c.format_unit.ensures.moments.later c.issue.ensures.moments.later (unit_cause.unbroken refl) (card_cause.unbroken refl) e.later.unit
+    c.format_unit.ensures.moments.later c.issue.ensures.moments.later (unit_cause.unbroken refl) (card_cause.unbroken refl) e.later.unit.clock
     (e.recorded (unit_image c.args.vehicle.now) c.args.image.now b begins time few)
+
+-- ---- how often the unit has failed
+
+pub returns-in-Err-clause-faults : goal.returns-in-Err-clause-faults
+returns-in-Err-clause-faults g c = let made = c.format_unit.ensures.cause.faults in let run = c.in-Err.ensures.later.unit.faults in omega (arith, made, run)
+
+pub returns-clause-faults : goal.returns-clause-faults
+returns-clause-faults g c = let made = c.format_unit.ensures.cause.faults in let run = c.in_default.ensures.later.unit.faults in omega (arith, made, run)

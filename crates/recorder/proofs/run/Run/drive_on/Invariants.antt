@@ -6,7 +6,7 @@ use Rattle.history_model.specs.Book.{Book}
 use Rattle.recorder.specs.Standing.{Began, Travel}
 use Rattle.recorder.specs.Going.{IsGoing}
 use Rattle.recorder.specs.Turn.{HasRoom}
-use Rattle.recorder.specs.Broken.{BreaksDown}
+use Rattle.run_outcome.specs.Broken.{BreaksDown}
 use Rattle.recorder.specs.Booked.{Booked, GoesOn}
 use Rattle.recorder.specs.Recorded.{Recorded}
 use Rattle.recorder.specs.Watching.{GoesOnAt}

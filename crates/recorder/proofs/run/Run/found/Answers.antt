@@ -1,4 +1,4 @@
-use Rattle.std.proofs.Common.{◌≡◌, inl, inr, ℕ, true, [], ◌∷◌, ◌++◌, length, ◌/◌, ◌<◌, ◌≤◌, refl, ap, sym, subst, ◌∙◌, arith}
+use Rattle.std.proofs.Common.{rules, ◌≡◌, inl, inr, ℕ, true, [], ◌∷◌, ◌++◌, length, ◌/◌, ◌<◌, ◌≤◌, refl, ap, sym, subst, ◌∙◌, arith}
 use Rattle.unit_model.specs.Image.{last_kept}
 use Rattle.minute_rules.specs.Kept.{Kept}
 use Rattle.unit_rule.proofs.Found.{left-earlier}
@@ -15,7 +15,11 @@ use Rattle.log_model.specs.declared.lines.Break.{Break}
 use Rattle.run_outcome.specs.Lines.{Listed, cut_at, found_from}
 use Rattle.recorder.specs.declared.run.Run.{Run}
 use Rattle.recorder.proofs.Turning.{booked-at, lost-booked}
-use Rattle.recorder.proofs.Broken.{broke-found, broke-once, broke-then}
+use Rattle.run_outcome.proofs.Broken.{broke-found, broke-once, broke-then}
+use Rattle.recorder.proofs.Turning.{goes-none}
+use Rattle.std.proofs.lemmas.Grind.{common_steps}
+use Rattle.std.specs.Prelude.{IfErr}
+use Rattle.recorder.specs.Opening.{IsClockBack, IsFoundLater}
 use Rattle.recorder.proofs.run.Run.found.Goals as goal
 
 -- what holds of an answer that is no error
@@ -98,3 +102,25 @@ returns-clause-even g c = λ speed lit. fresh-goes c.begin_span.new.self.watch c
 
 pub returns-then-is_err-clause-even : goal.returns-then-is_err-clause-even
 returns-then-is_err-clause-even g c = λ speed. dark-goes c.cut.new.self speed (λ lit. let is = ap (λ (r : Run). r.power) c.cut.ensures.power in absurd (let no : Lost ≡ Lit = sym is ∙ lit in cc))
+
+-- ---- the unit goes on
+
+pub returns-in_err-judge_clock-clause-goes_on : goal.returns-in_err-judge_clock-clause-goes_on
+returns-in_err-judge_clock-clause-goes_on g c = goes-none (g.M.Medium.state c.args.unit.now)
+
+pub returns-then-is_err-clause-goes_on : goal.returns-then-is_err-clause-goes_on
+returns-then-is_err-clause-goes_on g c = c.resume.ensures.goes_on
+
+pub returns-clause-goes_on : goal.returns-clause-goes_on
+returns-clause-goes_on g c = c.resume.ensures.goes_on
+
+-- ---- the clock that was put back
+
+if_err_then : {A E : Type 0} {P Q : E → Type 0} (r : Result A E) → ((e : E) → P e → Q e) → IfErr r P → IfErr r Q
+if_err_then (Ok a) all h = tt
+if_err_then (Err e) all h = all e h
+
+pub returns-in_err-judge_clock-clause-late : goal.returns-in_err-judge_clock-clause-late
+returns-in_err-judge_clock-clause-late g c =
+    let back : IfErr c.from_residual.result (IsClockBack c.last_kept-kept.result c.args.self.now.next) = first_of (search rules, grind (arith, common_steps)) in
+    if_err_then c.from_residual.result (λ fault is. subst IsFoundLater (sym is.0) is.1) back

@@ -11,7 +11,7 @@ use Rattle.log_model.specs.declared.lines.Break.{Break}
 use Rattle.run_outcome.specs.Lines.{Listed, cut_at}
 use Rattle.recorder.specs.Keeping.{AreDue, kept_after, AreFrom, due_after, kept_all, IsBrokenOff, AreAllMarked}
 use Rattle.recorder.proofs.Turning.{turn-decides, turn-end, turn-low, turn-room, turn-room_lit, turn-room_lost, turn-stands, turn-kept, turn-broken, turn-unnoted, break-lit, break-lost}
-use Rattle.recorder.proofs.Broken.{broke-none, broke-once}
+use Rattle.run_outcome.proofs.Broken.{broke-none, broke-once}
 use Rattle.event_notes.specs.declared.watch.Watch.{Watch}
 use Rattle.recorder.specs.declared.run.Power.TheVariants.{Lit, Lost}
 use Rattle.recorder.specs.Watching.{IsTurnBrokenOff, IsTurnWatched, GoesAt}
@@ -60,7 +60,7 @@ returns-in-Ok-clause-room g c = λ left offs acts h.
     })
 
 pub returns-in-Ok-clause-goes_on : goal.returns-in-Ok-clause-goes_on
-returns-in-Ok-clause-goes_on g c = record { clock = c.in-Ok.ensures.clock; tells = c.in-Ok.ensures.tells; faults = c.in-Ok.ensures.cause.faults; breakdowns = c.in-Ok.ensures.cause.breakdowns }
+returns-in-Ok-clause-goes_on g c = record { clock = c.in-Ok.ensures.clock; tells = c.in-Ok.ensures.tells; faults = c.in-Ok.ensures.cause.faults; breakdowns = c.in-Ok.ensures.cause.breakdowns; unbroken = inr (c.in-Ok.ensures.cause.unbroken refl) }
 
 pub returns-in-Ok-clause-booked : goal.returns-in-Ok-clause-booked
 returns-in-Ok-clause-booked g c = λ s b t h below.
@@ -107,7 +107,7 @@ returns-in-Err-clause-room g c = λ left offs acts h.
     })
 
 pub returns-in-Err-clause-goes_on : goal.returns-in-Err-clause-goes_on
-returns-in-Err-clause-goes_on g c = record { clock = c.in-Err.ensures.clock; tells = c.in-Err.ensures.tells; faults = c.in-Err.ensures.cause.faults; breakdowns = c.in-Err.ensures.cause.breakdowns }
+returns-in-Err-clause-goes_on g c = record { clock = c.in-Err.ensures.clock; tells = c.in-Err.ensures.tells; faults = c.in-Err.ensures.cause.faults; breakdowns = c.in-Err.ensures.cause.breakdowns; unbroken = inl (c.in-Err.ensures.cause.fault refl) }
 
 pub returns-in-Err-clause-booked : goal.returns-in-Err-clause-booked
 returns-in-Err-clause-booked g c = λ s b t h below.

@@ -14,9 +14,10 @@ use Rattle.log_model.specs.declared.lines.Break.{Break}
 use Rattle.run_outcome.specs.Lines.{Listed}
 use Rattle.recorder.specs.Booked.{Booked, due_of}
 use Rattle.recorder.proofs.Turning.{lost-booked, left-decodes}
-use Rattle.recorder.proofs.Broken.{broke-none, broke-once, broke-then}
+use Rattle.run_outcome.proofs.Broken.{broke-none, broke-once, broke-then}
 use Rattle.recorder.specs.declared.run.Power.TheVariants.{Lit, Lost}
 use Rattle.recorder.proofs.Watching.{noted-by-reads, mended-behind, dark-goes}
+use Rattle.recorder.proofs.Turning.{goes-then, goes-revived}
 use Rattle.recorder.proofs.run.Run.power_on.Goals as goal
 
 -- an image that is told
@@ -84,3 +85,14 @@ returns-in-Err-Failed-clause-broke g c =
 
 pub returns-in-Err-Failed-clause-even : goal.returns-in-Err-Failed-clause-even
 returns-in-Err-Failed-clause-even g c = λ speed. dark-goes c.cut.new.self speed (λ lit. let is = ap (λ (r : Run). r.power) c.cut.ensures.power in absurd (let no : Lost ≡ Lit = sym is ∙ lit in cc))
+
+-- ---- the unit goes on
+
+pub returns-in-Ok-clause-goes_on : goal.returns-in-Ok-clause-goes_on
+returns-in-Ok-clause-goes_on g c = goes-then {old = (g.M.Medium.state c.args.unit.now)} {mid = (g.M.Medium.state c.load.new.unit)} {new = (g.M.Medium.state c.found.new.unit)} (goes-revived (g.M.Medium.state c.args.unit.now) (g.M.Medium.state c.load.new.unit) _ c.load.ensures.clock c.load.ensures.leaves.tells c.load.ensures.cause) c.found.ensures.goes_on
+
+pub returns-in-Err-BadUnit-clause-goes_on : goal.returns-in-Err-BadUnit-clause-goes_on
+returns-in-Err-BadUnit-clause-goes_on g c = goes-revived (g.M.Medium.state c.args.unit.now) (g.M.Medium.state c.load.new.unit) _ c.load.ensures.clock c.load.ensures.leaves.tells c.load.ensures.cause
+
+pub returns-in-Err-Failed-clause-goes_on : goal.returns-in-Err-Failed-clause-goes_on
+returns-in-Err-Failed-clause-goes_on g c = goes-revived (g.M.Medium.state c.args.unit.now) (g.M.Medium.state c.load.new.unit) _ c.load.ensures.clock c.load.ensures.leaves.tells c.load.ensures.cause

@@ -6,6 +6,7 @@ use Rattle.recorder.specs.Watching.{gap_resumed}
 use Rattle.recorder.proofs.Stepping.{on-well}
 use Rattle.recorder.proofs.Standing.{stands-mended, stands-noted, agrees-noted}
 use Rattle.recorder.proofs.Watching.{noted-by-mending, unnoted, none-noted, noted-behind}
+use Rattle.recorder.proofs.Turning.{goes-then, goes-by}
 use Rattle.recorder.proofs.run.Run.resume.Goals as goal
 
 pub returns-in_err-mend-clause-noted : goal.returns-in_err-mend-clause-noted
@@ -40,3 +41,14 @@ returns-clause-noted g c =
 pub returns-clause-stands : goal.returns-clause-stands
 returns-clause-stands g c = λ s due b t marks h.
     stands-noted s due b t marks {U = (g.M.Medium.state c.mend.new.unit)} {V = (g.M.Medium.state c.note_gap.new.unit)} (stands-mended s due b t marks h (g.met.M.Medium.coherent c.args.unit.now) c.args.journal.now c.mend.ensures.moments) (g.met.M.Medium.coherent c.mend.new.unit) c.note_gap.ensures.journal
+
+-- ---- the unit goes on
+
+pub returns-in_err-mend-clause-goes_on : goal.returns-in_err-mend-clause-goes_on
+returns-in_err-mend-clause-goes_on g c = goes-by (g.M.Medium.state c.args.unit.now) (g.M.Medium.state c.mend.new.unit) _ c.mend.ensures.moments.later c.mend.ensures.moments.tells c.mend.ensures.cause
+
+pub returns-then-is_first-clause-goes_on : goal.returns-then-is_first-clause-goes_on
+returns-then-is_first-clause-goes_on g c = goes-by (g.M.Medium.state c.args.unit.now) (g.M.Medium.state c.mend.new.unit) _ c.mend.ensures.moments.later c.mend.ensures.moments.tells c.mend.ensures.cause
+
+pub returns-clause-goes_on : goal.returns-clause-goes_on
+returns-clause-goes_on g c = goes-then {old = (g.M.Medium.state c.args.unit.now)} {mid = (g.M.Medium.state c.mend.new.unit)} {new = (g.M.Medium.state c.note_gap.new.unit)} (goes-by (g.M.Medium.state c.args.unit.now) (g.M.Medium.state c.mend.new.unit) _ c.mend.ensures.moments.later c.mend.ensures.moments.tells c.mend.ensures.cause) (goes-by (g.M.Medium.state c.mend.new.unit) (g.M.Medium.state c.note_gap.new.unit) _ c.note_gap.ensures.journal.later c.note_gap.ensures.journal.tells c.note_gap.ensures.cause)

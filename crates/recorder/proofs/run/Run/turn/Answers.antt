@@ -1,9 +1,10 @@
 use Rattle.std.proofs.Common.{◌≡◌, inl, inr, ◌+◌, true, false, refl, ap, sym, ◌∙◌, arith}
 use Rattle.recorder.proofs.Turning.{dark-booked}
-use Rattle.recorder.proofs.Broken.{broke-none}
+use Rattle.run_outcome.proofs.Broken.{broke-none}
 use Rattle.recorder.specs.declared.run.Run.{Run}
 use Rattle.recorder.specs.Power.{is_lit}
 use Rattle.recorder.proofs.Watching.{still-noted, dark-goes}
+use Rattle.recorder.proofs.Turning.{goes-none}
 use Rattle.recorder.proofs.run.Run.turn.Goals as goal
 
 pub returns-then-not-is_lit-clause-booked : goal.returns-then-not-is_lit-clause-booked
@@ -29,3 +30,11 @@ returns-then-not-is_lit-clause-even g c = dark-goes c.pass.new.self c.args.speed
 
 pub returns-clause-booked : goal.returns-clause-booked
 returns-clause-booked g c = λ s b t h below. inr (c.lit_turn.ensures.booked s b t h below)
+
+-- ---- the unit goes on
+
+pub returns-then-not-is_lit-clause-goes_on : goal.returns-then-not-is_lit-clause-goes_on
+returns-then-not-is_lit-clause-goes_on g c = goes-none (g.M.Medium.state c.args.unit.now)
+
+pub returns-clause-goes_on : goal.returns-clause-goes_on
+returns-clause-goes_on g c = c.lit_turn.ensures.goes_on

@@ -9,6 +9,7 @@ use Rattle.run_keeping.specs.declared.keeper.Keeper.{Keeper}
 use Rattle.run_keeping.specs.Keeping.{Fate, IsBrought, IsNotingFault, state_at}
 use Rattle.run_keeping.specs.Owing.{BooksBrought}
 use Rattle.run_keeping.proofs.Brought.{brought-booked}
+use Rattle.run_keeping.proofs.Later.{state-by, later-same, later-of-a, later-of-b}
 use Rattle.run_keeping.proofs.keeper.Keeper.bring.Goals as goal
 
 pub returns-in-Some-A-clause-brought : goal.returns-in-Some-A-clause-brought
@@ -50,3 +51,14 @@ returns-in-Some-B-clause-brought g c =
       was.2,
       brought-booked B c.args.kept.now was.0 k.cabin v.cabin c.args.at.second U V X Y Z (g.met.M.Medium.coherent c.args.unit.now) (ap (λ (q : Keeper). q.cabin) was.1.keeper) c.bring_to-in-Some-B.ensures.journal failed c.bring_to-in-Some-B.ensures.cause.works was.3,
     )
+
+-- ---- what holds of the devices after any calls
+
+pub returns-in-None-clause-later : goal.returns-in-None-clause-later
+returns-in-None-clause-later g c = later-same (devices (g.M.Medium.state c.args.unit.now) (g.C.Chip.state c.args.card_a.now) (g.D.Chip.state c.args.card_b.now))
+
+pub returns-in-Some-A-clause-later : goal.returns-in-Some-A-clause-later
+returns-in-Some-A-clause-later g c = later-of-a (g.M.Medium.state c.args.unit.now) (g.M.Medium.state c.bring_to.new.unit) (g.C.Chip.state c.args.card_a.now) (g.C.Chip.state c.bring_to.new.card) (g.D.Chip.state c.args.card_b.now) (state-by (g.M.Medium.state c.args.unit.now) (g.M.Medium.state c.bring_to.new.unit) (is_err c.bring_to.result) c.bring_to.ensures.journal.later c.bring_to.ensures.cause) c.bring_to.ensures.later
+
+pub returns-in-Some-B-clause-later : goal.returns-in-Some-B-clause-later
+returns-in-Some-B-clause-later g c = later-of-b (g.M.Medium.state c.args.unit.now) (g.M.Medium.state c.bring_to-in-Some-B.new.unit) (g.C.Chip.state c.args.card_a.now) (g.D.Chip.state c.args.card_b.now) (g.D.Chip.state c.bring_to-in-Some-B.new.card) (state-by (g.M.Medium.state c.args.unit.now) (g.M.Medium.state c.bring_to-in-Some-B.new.unit) (is_err c.bring_to-in-Some-B.result) c.bring_to-in-Some-B.ensures.journal.later c.bring_to-in-Some-B.ensures.cause) c.bring_to-in-Some-B.ensures.later

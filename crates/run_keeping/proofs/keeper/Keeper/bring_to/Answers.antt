@@ -16,6 +16,7 @@ use Rattle.run_keeping.specs.Keeping.{Still, Has, Fell, IsNotingFault, with_line
 use Rattle.run_keeping.proofs.Sessions.{session-twice, stands-later, torn-stands}
 use Rattle.run_keeping.proofs.Fates.{has-brought, fell-brought, still-brought}
 use Rattle.run_keeping.proofs.CardBooked.{session-set, no-session, none-there, session-unset, booked-still, booked-fell, booked-has}
+use Rattle.run_keeping.proofs.Later.{state-same, state-by}
 use Rattle.run_keeping.proofs.keeper.Keeper.bring_to.Goals as goal
 
 -- ---- it has no session
@@ -120,3 +121,17 @@ pub returns-clause-bare : goal.returns-clause-bare
 returns-clause-bare g c = λ none.
     let taken : Some c.in-Some.accepted ≡ session_of c.args.self.now.cabin.cards c.args.which = c.in-Some.ensures.taken in
     absurd (cc)
+
+-- ---- what holds of the devices after any calls
+
+pub returns-in_default-clause-later : goal.returns-in_default-clause-later
+returns-in_default-clause-later g c = state-same (g.C.Chip.state c.args.card.now)
+
+pub returns-in_default-take-clause-later : goal.returns-in_default-take-clause-later
+returns-in_default-take-clause-later g c = state-same (g.C.Chip.state c.args.card.now)
+
+pub returns-then-is_err-clause-later : goal.returns-then-is_err-clause-later
+returns-then-is_err-clause-later g c = state-by (g.C.Chip.state c.args.card.now) (g.C.Chip.state c.keep_on_card.new.card) (is_err c.keep_on_card.result) c.keep_on_card.ensures.moments.later c.keep_on_card.ensures.cause
+
+pub returns-clause-later : goal.returns-clause-later
+returns-clause-later g c = state-by (g.C.Chip.state c.args.card.now) (g.C.Chip.state c.keep_on_card.new.card) (is_err c.keep_on_card.result) c.keep_on_card.ensures.moments.later c.keep_on_card.ensures.cause

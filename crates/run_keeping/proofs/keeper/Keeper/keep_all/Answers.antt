@@ -19,6 +19,7 @@ use Rattle.run_keeping.proofs.Rounds.{told-of}
 use Rattle.run_keeping.proofs.Decided.{this, due-here, due-most, kept-here, all-here, kept-on, cut-on, present-here, rows-on}
 use Rattle.run_keeping.proofs.Units.{left-then}
 use Rattle.run_keeping.proofs.Seats.{emptied-none, emptied-then, stays-none, sessions-none, sessions-then}
+use Rattle.run_keeping.proofs.Later.{later-same, later-then}
 use Rattle.run_keeping.proofs.keeper.Keeper.keep_all.Goals as goal
 
 pub present-present-requires : goal.present-present-requires
@@ -116,6 +117,7 @@ loop-minute-init g c = record {
   more_b = omega arith;
   a_bare = λ none. refl;
   b_bare = λ none. refl;
+  later = later-same (devices (g.M.Medium.state c.args.unit.now) (g.C.Chip.state c.args.card_a.now) (g.D.Chip.state c.args.card_b.now));
 }
 
 pub loop-minute-preserved : goal.loop-minute-preserved
@@ -184,6 +186,7 @@ loop-minute-preserved g c =
       more_b = let k = e.more_b in let was = v.more_b in omega (arith, k, was);
       a_bare = λ none. e.a_bare (stays-none c.args.self.now.cabin.cards.a.accepted c.loop-minute.self.cabin.cards.a.accepted v.sessions.a none) ∙ v.a_bare none;
       b_bare = λ none. e.b_bare (stays-none c.args.self.now.cabin.cards.b.accepted c.loop-minute.self.cabin.cards.b.accepted v.sessions.b none) ∙ v.b_bare none;
+      later = later-then (devices (g.M.Medium.state c.args.unit.now) (g.C.Chip.state c.args.card_a.now) (g.D.Chip.state c.args.card_b.now)) (devices (g.M.Medium.state c.loop-minute.unit) (g.C.Chip.state c.loop-minute.card_a) (g.D.Chip.state c.loop-minute.card_b)) (devices (g.M.Medium.state c.keep_minute.new.unit) (g.C.Chip.state c.keep_minute.new.card_a) (g.D.Chip.state c.keep_minute.new.card_b)) v.later e.later;
     }
 
 pub returns-clause-kept : goal.returns-clause-kept
@@ -366,3 +369,11 @@ pub returns-in_err-keep_minute-clause-b_bare : goal.returns-in_err-keep_minute-c
 returns-in_err-keep_minute-clause-b_bare g c = λ none.
     let v = c.loop-minute.invariant in
     c.in_err-keep_minute.ensures.b_bare (stays-none c.args.self.now.cabin.cards.b.accepted c.loop-minute.self.cabin.cards.b.accepted v.sessions.b none) ∙ v.b_bare none
+
+-- ---- what holds of the devices after any calls
+
+pub returns-clause-later : goal.returns-clause-later
+returns-clause-later g c = c.loop-minute.invariant.later
+
+pub returns-in_err-keep_minute-clause-later : goal.returns-in_err-keep_minute-clause-later
+returns-in_err-keep_minute-clause-later g c = later-then (devices (g.M.Medium.state c.args.unit.now) (g.C.Chip.state c.args.card_a.now) (g.D.Chip.state c.args.card_b.now)) (devices (g.M.Medium.state c.loop-minute.unit) (g.C.Chip.state c.loop-minute.card_a) (g.D.Chip.state c.loop-minute.card_b)) (devices (g.M.Medium.state c.keep_minute.new.unit) (g.C.Chip.state c.keep_minute.new.card_a) (g.D.Chip.state c.keep_minute.new.card_b)) c.loop-minute.invariant.later c.in_err-keep_minute.ensures.later

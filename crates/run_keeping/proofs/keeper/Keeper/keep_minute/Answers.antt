@@ -20,6 +20,7 @@ use Rattle.run_keeping.proofs.Counts.{tears-one, lines-length, first-stays, seco
 use Rattle.run_keeping.proofs.Rounds.{told-of, told-same, brought-minute, brought-past, brought-tears, brought-more, brought-tear-room, brought-marks, brought-mark-room, cut-is, cut-told, whole-driver, whole-codriver, whole-is, whole-told}
 use Rattle.run_keeping.proofs.Units.{unit-stays, left-then}
 use Rattle.run_keeping.proofs.Seats.{emptied-then, stays-none, sessions-none, sessions-then}
+use Rattle.run_keeping.proofs.Later.{state-by, later-then, later-of-unit}
 use Rattle.run_keeping.proofs.keeper.Keeper.keep_minute.Goals as goal
 
 -- ---- the unit failed before
@@ -326,3 +327,14 @@ pub returns-clause-b_bare : goal.returns-clause-b_bare
 returns-clause-b_bare g c = λ none.
     let before = ap (λ (q : Keeper). q.cabin.cards.b.accepted) c.commit.ensures.keeper ∙ none in
     c.bring-2.ensures.b_bare (stays-none c.commit.new.self.cabin.cards.b.accepted c.bring.new.self.cabin.cards.b.accepted c.bring.ensures.sessions.b before) ∙ c.bring.ensures.b_bare before
+
+-- ---- what holds of the devices after any calls
+
+pub returns-in_err-commit-clause-later : goal.returns-in_err-commit-clause-later
+returns-in_err-commit-clause-later g c = later-of-unit (g.M.Medium.state c.args.unit.now) (g.M.Medium.state c.commit.new.unit) (g.C.Chip.state c.args.card_a.now) (g.D.Chip.state c.args.card_b.now) (state-by (g.M.Medium.state c.args.unit.now) (g.M.Medium.state c.commit.new.unit) (is_err c.commit.result) c.commit.ensures.clock c.commit.ensures.cause)
+
+pub returns-in_err-bring-clause-later : goal.returns-in_err-bring-clause-later
+returns-in_err-bring-clause-later g c = later-then (devices (g.M.Medium.state c.args.unit.now) (g.C.Chip.state c.args.card_a.now) (g.D.Chip.state c.args.card_b.now)) (devices (g.M.Medium.state c.commit.new.unit) (g.C.Chip.state c.args.card_a.now) (g.D.Chip.state c.args.card_b.now)) (devices (g.M.Medium.state c.bring.new.unit) (g.C.Chip.state c.bring.new.card_a) (g.D.Chip.state c.bring.new.card_b)) (later-of-unit (g.M.Medium.state c.args.unit.now) (g.M.Medium.state c.commit.new.unit) (g.C.Chip.state c.args.card_a.now) (g.D.Chip.state c.args.card_b.now) (state-by (g.M.Medium.state c.args.unit.now) (g.M.Medium.state c.commit.new.unit) (is_err c.commit.result) c.commit.ensures.clock c.commit.ensures.cause)) c.bring.ensures.later
+
+pub returns-clause-later : goal.returns-clause-later
+returns-clause-later g c = later-then (devices (g.M.Medium.state c.args.unit.now) (g.C.Chip.state c.args.card_a.now) (g.D.Chip.state c.args.card_b.now)) (devices (g.M.Medium.state c.commit.new.unit) (g.C.Chip.state c.args.card_a.now) (g.D.Chip.state c.args.card_b.now)) (devices (g.M.Medium.state c.bring-2.new.unit) (g.C.Chip.state c.bring-2.new.card_a) (g.D.Chip.state c.bring-2.new.card_b)) (later-of-unit (g.M.Medium.state c.args.unit.now) (g.M.Medium.state c.commit.new.unit) (g.C.Chip.state c.args.card_a.now) (g.D.Chip.state c.args.card_b.now) (state-by (g.M.Medium.state c.args.unit.now) (g.M.Medium.state c.commit.new.unit) (is_err c.commit.result) c.commit.ensures.clock c.commit.ensures.cause)) (later-then (devices (g.M.Medium.state c.commit.new.unit) (g.C.Chip.state c.args.card_a.now) (g.D.Chip.state c.args.card_b.now)) (devices (g.M.Medium.state c.bring.new.unit) (g.C.Chip.state c.bring.new.card_a) (g.D.Chip.state c.bring.new.card_b)) (devices (g.M.Medium.state c.bring-2.new.unit) (g.C.Chip.state c.bring-2.new.card_a) (g.D.Chip.state c.bring-2.new.card_b)) c.bring.ensures.later c.bring-2.ensures.later)

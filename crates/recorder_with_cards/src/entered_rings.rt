@@ -1,4 +1,4 @@
-ghost use Rattle.entered_rings.specs.Writing.{AcceptWrites};
+ghost use Rattle.recorder_with_cards.specs.EnteredRings.{AcceptWrites};
 
 use tach_media::{Chip, Medium};
 

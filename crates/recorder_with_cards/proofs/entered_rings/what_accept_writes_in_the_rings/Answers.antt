@@ -1,5 +1,5 @@
-use Rattle.entered_rings.proofs.Written.{accept-writes}
-use Rattle.entered_rings.proofs.laws.what_accept_writes_in_the_rings.Goals as goal
+use Rattle.recorder_with_cards.proofs.EnteredRings.{accept-writes}
+use Rattle.recorder_with_cards.proofs.entered_rings.what_accept_writes_in_the_rings.Goals as goal
 
 pub returns : goal.returns
 returns g c = accept-writes

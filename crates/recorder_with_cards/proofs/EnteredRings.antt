@@ -2,15 +2,10 @@
 use Rattle.std.proofs.Common.{◌≡◌, ◌⊎◌, inl, inr, ⊎_elim, ℕ, ◌+◌, ◌≤◌, Bool, true, false, cond, not, Some, IfSome, is_some, List, [], ◌∷◌, ◌++◌, refl, ap, sym, subst, ◌∙◌, arith}
 use Rattle.std.specs.Prelude.{nat_eq, nat_lt}
 use Rattle.std.specs.List.{AllByRecursion}
-use Rattle.byte_fields.specs.Images.{SameOutside}
 use Rattle.tach_media.specs.Medium.{State, IsCoherent, HasCause}
 use Rattle.tach_media.proofs.Runs.{at_image}
-use Rattle.gated_ring.specs.Ring.{PointsInside, size_of, taken}
-use Rattle.gated_ring.specs.Change.{IsAdded, IsAdding}
-use Rattle.gated_ring.proofs.Elsewhere.{ring_outside}
-use Rattle.message_model.specs.Records.{insertion_ring, unit_place_ring}
-use Rattle.event_model.specs.declared.kinds.TheConstants.{OVER_SPEEDING, CARD_FAULT}
-use Rattle.side_model.specs.Tables.{table_of}
+use Rattle.gated_ring.specs.Ring.{PointsInside, taken}
+use Rattle.message_model.specs.Records.{insertion_ring}
 use Rattle.unit_notes.specs.declared.insertion.Insertion.{Insertion}
 use Rattle.unit_notes.specs.Entries.{insertion_bytes}
 use Rattle.run_crew.specs.declared.cabin.Cabin.{Cabin}
@@ -18,36 +13,13 @@ use Rattle.run_told.proofs.Parts.{told-one}
 use Rattle.run_keeping.specs.declared.keeper.Keeper.{Keeper}
 use Rattle.run_outcome.specs.declared.outcome.Outcome.{Outcome}
 use Rattle.run_entering.specs.declared.lines.Entering.{Entering}
-use Rattle.run_entering.specs.Entering.{Way, Unread, Unsized, Judged, Unfit, Ahead, Fell, Unasked, Unnoted, Seated, Lost, ending_of, insertion_of, seated, measured}
+use Rattle.run_entering.specs.Entering.{Ending, Way, Unread, Unsized, Judged, Unfit, Ahead, Fell, Unasked, Unnoted, Seated, Lost, ending_of, insertion_of, seated, measured}
 use Rattle.run_entering.specs.Noted.{AreDone, AreBeingDone, HasNoted, UnitNote, Inserts, BeginsRow, Tells, IsOnUnit, IsComing, fault_of, moving_notes, unclosed_notes, notes_with, row_of}
 use Rattle.run_entering.specs.Entered.{IsPlace, HasEntered}
 use Rattle.run_ringed.specs.Ringed.{HasSameRings, LeavesRings, WritesImages, Around, MayBeAdded}
-use Rattle.entered_rings.specs.Writing.{InsertsAt, WritesBy, AcceptWrites}
-
--- ---- bytes outside both rings
-
-same-rings : (x : List ℕ) → HasSameRings x x
-same-rings x = record { insertions = refl; places = refl }
-
-then-same : (x y z : List ℕ) → HasSameRings x y → HasSameRings y z → HasSameRings x z
-then-same x y z one two = record { insertions = two.insertions ∙ one.insertions; places = two.places ∙ one.places }
-
-outside-both : (base size : ℕ) (x c : List ℕ) → (base + size ≤ 2115044) ⊎ (2386384 ≤ base) → SameOutside base size x c → HasSameRings x c
-outside-both base size x c (inl low) same = record {
-  insertions = ring_outside insertion_ring base size x c (inl (omega (arith, low))) same;
-  places = ring_outside unit_place_ring base size x c (inl (omega (arith, low))) same;
-}
-outside-both base size x c (inr high) same = record {
-  insertions = ring_outside insertion_ring base size x c (inr (omega (arith, high))) same;
-  places = ring_outside unit_place_ring base size x c (inr (omega (arith, high))) same;
-}
-
-high-cond : (b : Bool) (x y : ℕ) → 2386384 ≤ x → 2386384 ≤ y → 2386384 ≤ cond b x y
-high-cond true x y one two = one
-high-cond false x y one two = two
-
-table-high : (kind : ℕ) → 2386384 ≤ (table_of kind).base
-table-high kind = high-cond (nat_eq kind OVER_SPEEDING) _ _ (omega arith) (high-cond (nat_eq kind CARD_FAULT) _ _ (omega arith) (omega arith))
+use Rattle.run_rings.proofs.Same.{same-rings, then-same, outside-both, table-outside, rings-then}
+use Rattle.run_acts.proofs.Ringing.{added-moment, leaves-writes}
+use Rattle.recorder_with_cards.specs.EnteredRings.{InsertsAt, WritesBy, AcceptWrites}
 
 -- ---- notes but an insertion
 
@@ -59,12 +31,12 @@ IsOther (Tells event) = Unit {0}
 other-done : (n : UnitNote) → IsOther n → (x y : List ℕ) → IsOnUnit n x y → HasSameRings x y
 other-done (Inserts insertion) never x y done = absurd never
 other-done (BeginsRow number session spared) other x y done = outside-both 624 384 x y (inl (omega arith)) done.beginning.outside
-other-done (Tells event) other x y done = outside-both (table_of event.kind).base (size_of (table_of event.kind)) x y (inr (table-high event.kind)) done.outside
+other-done (Tells event) other x y done = table-outside event.kind x y done.outside
 
 other-moment : (n : UnitNote) → IsOther n → (x c : List ℕ) → IsComing n x c → HasSameRings x c
 other-moment (Inserts insertion) never x c moment = absurd never
 other-moment (BeginsRow number session spared) other x c moment = outside-both 624 384 x c (inl (omega arith)) moment.outside
-other-moment (Tells event) other x c moment = outside-both (table_of event.kind).base (size_of (table_of event.kind)) x c (inr (table-high event.kind)) moment.outside
+other-moment (Tells event) other x c moment = table-outside event.kind x c moment.outside
 
 abbrev AreOthers : List UnitNote → Type 0
 AreOthers notes = AllByRecursion IsOther notes
@@ -98,21 +70,9 @@ with-others true session e cabin = others-append (moving_notes e cabin) (fault_o
 
 -- ---- an insertion, and others behind it
 
-added-moment : (head x y : List ℕ) → IsAdded insertion_ring head x y → IsAdding insertion_ring head x y
-added-moment head x y added = record {
-  outside = added.outside;
-  step = λ points. record {
-    others = added.others points;
-    pointer_is = inr (added.list points).pointer_is;
-    points = added.points points;
-    list = inr (inr (added.list points));
-    dense = added.dense points;
-  };
-}
-
 inserted-moment : (insertion : Insertion) (notes : List UnitNote) → AreOthers notes → (x c : List ℕ) → AreBeingDone IsOnUnit IsComing (Inserts insertion ∷ notes) x c → Around (MayBeAdded insertion_ring (insertion_bytes insertion)) x c
 inserted-moment insertion notes all x c (inl moment) = (x, c, same-rings x, inr moment, same-rings c)
-inserted-moment insertion notes all x c (inr (z, done, rest)) = (x, z, same-rings x, inr (added-moment (insertion_bytes insertion) x z done), others-moment notes all z c rest)
+inserted-moment insertion notes all x c (inr (z, done, rest)) = (x, z, same-rings x, inr (added-moment insertion_ring (insertion_bytes insertion) x z done), others-moment notes all z c rest)
 
 -- ---- of a unit
 
@@ -165,3 +125,18 @@ module _ (unit unit_after : State) (before : IsCoherent unit) (behind : IsCohere
 
 pub accept-writes : (unit unit_after card card_after : State) → IsCoherent unit → IsCoherent unit_after → AcceptWrites unit unit_after card card_after
 accept-writes unit unit_after card card_after before behind e failed k v noted noted_after o p way tells cause h = by-way unit unit_after before behind failed tells cause card card_after e k v noted noted_after o p way h
+
+-- ---- behind calls that leave the rings
+
+inserts-behind : (failed : Bool) (index : ℕ) (insertion : Insertion) (U V W : State) → LeavesRings U V → InsertsAt failed index insertion V W → InsertsAt failed index insertion U W
+inserts-behind false index insertion U V W a b = leaves-writes _ U V W a b
+inserts-behind true index insertion U V W a b = leaves-writes _ U V W a b
+
+pub writes-behind : (ending : Ending) (e : Entering) (failed : Bool) (U V W : State) → LeavesRings U V → WritesBy ending e failed V W → WritesBy ending e failed U W
+writes-behind (Unfit fid place) e failed U V W a b = rings-then U V W a b
+writes-behind (Ahead stored) e failed U V W a b = rings-then U V W a b
+writes-behind Fell e failed U V W a b = rings-then U V W a b
+writes-behind Unasked e failed U V W a b = rings-then U V W a b
+writes-behind (Unnoted entered clock) e failed U V W a b = leaves-writes _ U V W a b
+writes-behind (Seated entered clock entry) e failed U V W a b = inserts-behind failed entry (insertion_of entered.look e) U V W a b
+writes-behind (Lost entered clock entry) e failed U V W a b = inserts-behind failed entry (insertion_of entered.look e) U V W a b

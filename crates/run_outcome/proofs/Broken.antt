@@ -1,0 +1,66 @@
+-- How often the unit broke down, over each step.
+use Rattle.std.proofs.Common.{◌≡◌, ℕ, ◌+◌, ◌-◌, ◌≤◌, true, List, [], ◌∷◌, ◌++◌, length, map, filter, refl, ap, ◌∙◌, ⊎_elim, inl, inr, arith, length-append}
+use Rattle.std.specs.Prelude.{min, ◌&&◌}
+use Rattle.std.proofs.lemmas.Bool.{cases_lt}
+use Rattle.std.proofs.lemmas.List.{length-map, map-append}
+use Rattle.std.proofs.lemmas.List.Elements.{filter-append}
+use Rattle.tach_media.specs.Medium.{State, Rose, HasBroken, last_count}
+use Rattle.log_model.specs.declared.lines.Break.{Break}
+use Rattle.log_model.specs.Log.{RunLog}
+use Rattle.log_model.specs.Causes.{cuts, is_cut, has_failed, second_of, RoseBy}
+use Rattle.unit_course.specs.Caused.{cuts_by}
+use Rattle.unit_course.proofs.Offs.{by-same, by-found}
+use Rattle.run_outcome.specs.Lines.{cut_at, found_from}
+use Rattle.run_outcome.specs.Broken.{failed_cuts, BreaksDown}
+
+-- the cuts of lines, and of more lines
+pub cuts-behind : (xs ys : List Break) → failed_cuts (xs ++ ys) ≡ failed_cuts xs + failed_cuts ys
+cuts-behind xs ys =
+    ap (λ (bs : List Break). length (map second_of bs)) (filter-append (λ (b : Break). is_cut b && has_failed b) xs ys)
+    ∙ ap (λ (us : List ℕ). length us) (map-append second_of (filter (λ (b : Break). is_cut b && has_failed b) xs) (filter (λ (b : Break). is_cut b && has_failed b) ys))
+    ∙ length-append (cuts_by true xs) (cuts_by true ys)
+
+-- no cut more
+pub broke-same : {before after : List Break} {old new : State} → failed_cuts after ≡ failed_cuts before → old.breakdowns ≤ new.breakdowns → BreaksDown before after old new
+broke-same same le = record { few = omega (arith, same); broke = omega (arith, same, le) }
+
+pub broke-none : (breaks : List Break) {old new : State} → old.breakdowns ≤ new.breakdowns → BreaksDown breaks breaks old new
+broke-none breaks le = record { few = omega arith; broke = omega (arith, le) }
+
+-- what was found of the cuts
+pub broke-found : {before after : List Break} (n k : ℕ) {old new : State} → after ≡ found_from n k before → old.breakdowns ≤ new.breakdowns → BreaksDown before after old new
+broke-found {before} {after} n k is le = broke-same (ap failed_cuts is ∙ ap length (by-found true n k before)) le
+
+-- one more, by a failed call
+pub broke-once : {before after : List Break} (second begun : ℕ) {old new : State} → after ≡ before ++ cut_at second true begun ∷ [] → Rose old.breakdowns new.breakdowns → BreaksDown before after old new
+broke-once {before} {after} second begun {old} {new} is rose =
+    let more : failed_cuts after ≡ failed_cuts before + 1 = ap failed_cuts is ∙ ap length (by-same before second true begun) ∙ length-append (cuts_by true before) (second ∷ []) in
+    record { few = omega (arith, more); broke = omega (arith, more, rose) }
+
+-- lines more, of which none is such a cut
+pub broke-behind : {before after : List Break} (more : List Break) {old new : State} → after ≡ before ++ more → failed_cuts more ≡ 0 → old.breakdowns ≤ new.breakdowns → BreaksDown before after old new
+broke-behind {before} more is none le = broke-same (ap failed_cuts is ∙ cuts-behind before more ∙ (let same : failed_cuts before + failed_cuts more ≡ failed_cuts before = omega (arith, none) in same)) le
+
+-- two steps
+pub broke-then : {before mids after : List Break} {old mid new : State} → BreaksDown before mids old mid → BreaksDown mids after mid new → BreaksDown before after old new
+broke-then first next = record {
+  few = let a = first.few in let b = next.few in omega (arith, a, b);
+  broke = let a = first.few in let b = next.few in let x = first.broke in let y = next.broke in omega (arith, a, b, x, y);
+}
+
+-- a whole run
+pub broke-all : (log : RunLog) {before : List Break} {old new : State} → before ≡ [] → old.faults ≤ new.faults → BreaksDown before log.breaks old new → HasBroken old new (length (cuts true log))
+broke-all log none faults h = record {
+  faults = faults;
+  breakdowns =
+      let zero_cuts : failed_cuts [] ≡ 0 = refl in
+      let start = ap failed_cuts none ∙ zero_cuts in
+      let all : failed_cuts log.breaks ≡ length (cuts true log) = length-map (cuts true log) second_of in
+      let broke = h.broke in
+      omega (arith, start, all, broke);
+}
+
+-- so the count of breakdowns rose by as many
+pub rose-by : {old new : State} {n : ℕ} → HasBroken old new n → RoseBy n old.breakdowns new.breakdowns
+rose-by {old} {new} {n} h =
+    ⊎_elim (λ less. inr (let broke = h.breakdowns in omega (arith, broke, less))) (λ all. inl all) (cases_lt new.breakdowns (old.breakdowns + n))

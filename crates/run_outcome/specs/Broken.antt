@@ -1,0 +1,14 @@
+-- How often a unit broke down, by the cuts that its calls made (profile).
+use Rattle.std.specs.Prelude.{ℕ, ◌+◌, ◌-◌, ◌≤◌, min, true, List, length}
+use Rattle.tach_media.specs.Medium.{State, last_count}
+use Rattle.log_model.specs.declared.lines.Break.{Break}
+use Rattle.unit_course.specs.Caused.{cuts_by}
+
+-- how many of these are cuts that a failed call made
+abbrev pub failed_cuts : List Break → ℕ
+failed_cuts breaks = length (cuts_by true breaks)
+
+-- each such cut more is a breakdown of the unit more, or their count stands at its last value
+pub record BreaksDown (before after : List Break) (old new : State) : Type 0 where
+  pub few : failed_cuts before ≤ failed_cuts after
+  pub broke : min (old.breakdowns + (failed_cuts after - failed_cuts before)) last_count ≤ new.breakdowns
