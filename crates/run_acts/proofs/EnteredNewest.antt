@@ -221,7 +221,7 @@ module _ (o : Origin) (done : List TraceSecond) (s : TraceSecond) (n : ℕ) (wai
   newest = trimmed_by st (st.entries ++ brought_by e.which st book)
 
   -- the history's
-  past-is : w.b.run.book.sure ++ w.new ≡ all book
+  pub past-is : w.b.run.book.sure ++ w.new ≡ all book
   past-is = sym (sure-kept w.new None w.b.run.book) ∙ sym (all-none book (was o done s n waits fewer e k out unfound next_ begun minutes U X Z w m).unit.none)
 
   same-start : card_start (start_at o) e.which ≡ st

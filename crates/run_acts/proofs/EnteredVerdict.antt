@@ -37,6 +37,7 @@ use Rattle.run_acts.specs.Entered.{values_with, MayJudge}
 use Rattle.run_acts.proofs.EnteredFacts.{mine-back, unit-back, before, was, now-is, unit-began, card-began}
 use Rattle.run_acts.proofs.EnteredNewest.{written-or, in-time}
 use Rattle.run_acts.proofs.EnteredLater.{behind, before-here}
+use Rattle.run_acts.proofs.EnteredFirst.{brings}
 
 -- ---- of an image
 
@@ -78,14 +79,17 @@ module _ (o : Origin) (done : List TraceSecond) (s : TraceSecond) (n : ℕ) (wai
 
   -- NOT VALID
   pub not-valid : (fid : Fid) (place : ℕ) (y : List ℕ) → X.may_leave y → own_bad_file y ≡ Some (fid, place) →
-      (many : ℕ) × (many ≤ often o w.b done (course_in w.b done s (In n) (values_with k out unfound next_ begun minutes).log) s.number e.which) × VerdictBy o many ((arranged e.which W Y Z).unit.left_since o.found.unit.began) ((card_of (arranged e.which W Y Z) e.which).left_since (found_of o.found e.which).began) e.which s.number (NotValid fid place)
+      (many : ℕ) × (many ≤ often o w.b done (course_in w.b done s (In n) (values_with k out unfound next_ begun minutes).log) s.number e.which) × VerdictBy o w.b done many ((arranged e.which W Y Z).unit.left_since o.found.unit.began) ((card_of (arranged e.which W Y Z) e.which).left_since (found_of o.found e.which).began) e.which s.number (NotValid fid place)
   not-valid fid place y there bad = (
     0,
     omega arith,
-    ⊎_elim
-        (λ whole. ap own_bad_file (sym (whole y there)) ∙ bad)
-        (λ may. absurd (clash (valid-still may.valid y there)))
-        (written-or o done s n waits fewer e k out unfound next_ begun minutes U X Z w m coherent),
+    (
+      ⊎_elim
+          (λ whole. ap own_bad_file (sym (whole y there)) ∙ bad)
+          (λ may. absurd (clash (valid-still may.valid y there)))
+          (written-or o done s n waits fewer e k out unfound next_ begun minutes U X Z w m coherent),
+      tt,
+    ),
   )
     where
       clash : own_bad_file y ≡ None → ⊥
@@ -93,48 +97,54 @@ module _ (o : Origin) (done : List TraceSecond) (s : TraceSecond) (n : ℕ) (wai
 
   -- OF A LATER TIME
   pub later-time : (app : Application) (stored : ℕ) (y : List ℕ) → X.may_leave y → own_sizes y ≡ app → IsValid app y → stored ≡ (card_view app y).stored → s.number < stored →
-      (many : ℕ) × (many ≤ often o w.b done (course_in w.b done s (In n) (values_with k out unfound next_ begun minutes).log) s.number e.which) × VerdictBy o many ((arranged e.which W Y Z).unit.left_since o.found.unit.began) ((card_of (arranged e.which W Y Z) e.which).left_since (found_of o.found e.which).began) e.which s.number (TimeOverlap stored e.at.second)
+      (many : ℕ) × (many ≤ often o w.b done (course_in w.b done s (In n) (values_with k out unfound next_ begun minutes).log) s.number e.which) × VerdictBy o w.b done many ((arranged e.which W Y Z).unit.left_since o.found.unit.began) ((card_of (arranged e.which W Y Z) e.which).left_since (found_of o.found e.which).began) e.which s.number (TimeOverlap stored e.at.second)
   later-time app stored y there own valid is late =
       let seen : (own_view y).stored ≡ stored = ap (λ (v : CardView). v.stored) (own-is app y own) ∙ sym is in (
         often o w.b done (course_in w.b done s (In n) (values_with k out unfound next_ begun minutes).log) s.number e.which,
         omega arith,
-        ⊎_elim
-            (λ whole. (
-              subst IsOwnValid (whole y there) (valid-own app y own valid),
-              now-is o done s n waits fewer e k out unfound next_ begun minutes U X Z w m,
-              (late, inl (sym seen ∙ ap (λ (x : List ℕ). (own_view x).stored) (whole y there))),
-            ))
-            (λ may.
-            let late_ : s.number < (own_view y).stored = omega (arith, late, seen) in
-            let at_ = behind o done s n waits fewer e k out unfound next_ begun minutes U X Z w m coherent coherent_unit y there late_ may in
-            let low = may.since.stored in
-            let past = may.since.past in (
-              may.valid,
-              now-is o done s n waits fewer e k out unfound next_ begun minutes U X Z w m,
-              (late, inr (omega (arith, low, past), before-here o done s n waits fewer e k out unfound next_ begun minutes U X Z w m coherent coherent_unit y there late_ may, sym seen ∙ at_.0, (y, card-left y there, seen))),
-            ))
-            (written-or o done s n waits fewer e k out unfound next_ begun minutes U X Z w m coherent),
+        (
+          ⊎_elim
+              (λ whole. (
+                subst IsOwnValid (whole y there) (valid-own app y own valid),
+                now-is o done s n waits fewer e k out unfound next_ begun minutes U X Z w m,
+                (late, inl (sym seen ∙ ap (λ (x : List ℕ). (own_view x).stored) (whole y there))),
+              ))
+              (λ may.
+              let late_ : s.number < (own_view y).stored = omega (arith, late, seen) in
+              let at_ = behind o done s n waits fewer e k out unfound next_ begun minutes U X Z w m coherent coherent_unit y there late_ may in
+              let low = may.since.stored in
+              let past = may.since.past in (
+                may.valid,
+                now-is o done s n waits fewer e k out unfound next_ begun minutes U X Z w m,
+                (late, inr (omega (arith, low, past), before-here o done s n waits fewer e k out unfound next_ begun minutes U X Z w m coherent coherent_unit y there late_ may, sym seen ∙ at_.0, (y, card-left y there, seen))),
+              ))
+              (written-or o done s n waits fewer e k out unfound next_ begun minutes U X Z w m coherent),
+          tt,
+        ),
       )
 
   -- ACCEPTED
   pub accepted-may : (entered : Entered) (told : IsToldSo o.found (with_standing e.which Out (before o done s n waits fewer e k out unfound next_ begun minutes U X Z w m)) e entered U X) →
-      (many : ℕ) × (many ≤ often o w.b done (course_in w.b done s (In n) (values_with k out unfound next_ begun minutes).log) s.number e.which) × VerdictBy o many ((arranged e.which W Y Z).unit.left_since o.found.unit.began) ((card_of (arranged e.which W Y Z) e.which).left_since (found_of o.found e.which).began) e.which s.number (Accepted entered.replayed)
+      (many : ℕ) × (many ≤ often o w.b done (course_in w.b done s (In n) (values_with k out unfound next_ begun minutes).log) s.number e.which) × VerdictBy o w.b done many ((arranged e.which W Y Z).unit.left_since o.found.unit.began) ((card_of (arranged e.which W Y Z) e.which).left_since (found_of o.found e.which).began) e.which s.number (Accepted entered.replayed)
   accepted-may entered told =
       let valid = subst IsOwnValid (m.origin.image e.which) told.valid in
       let i = told.found.unit_image in
       let x = told.found.card_image in (
-        0,
+        often o w.b done (course_in w.b done s (In n) (values_with k out unfound next_ begun minutes).log) s.number e.which,
         omega arith,
         (
-          valid,
-          in-time o done s n waits fewer e k out unfound next_ begun minutes U X Z w m coherent entered told,
           (
-            i,
-            x,
-            unit-left i told.found.on,
-            card-left x told.found.there,
-            (let early : (own_view x).stored ≤ e.at.second = told.found.early in let now = now-is o done s n waits fewer e k out unfound next_ begun minutes U X Z w m in omega (arith, early, now)),
-            ap (λ (es : List Entry). length es) (sym (owed-as o e.which i (own_view x) (m.origin.number e.which valid))) ∙ told.found.number,
+            valid,
+            in-time o done s n waits fewer e k out unfound next_ begun minutes U X Z w m coherent entered told,
+            (
+              i,
+              x,
+              unit-left i told.found.on,
+              card-left x told.found.there,
+              (let early : (own_view x).stored ≤ e.at.second = told.found.early in let now = now-is o done s n waits fewer e k out unfound next_ begun minutes U X Z w m in omega (arith, early, now)),
+              ap (λ (es : List Entry). length es) (sym (owed-as o e.which i (own_view x) (m.origin.number e.which valid))) ∙ told.found.number,
+            ),
           ),
+          brings o done s n waits fewer e k out unfound next_ begun minutes U X Z w m coherent entered told,
         ),
       )

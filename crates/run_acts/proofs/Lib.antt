@@ -8,6 +8,7 @@ pub mod EnteredTurned
 pub mod EnteredTaken
 pub mod EnteredNewest
 pub mod EnteredLater
+pub mod EnteredFirst
 pub mod EnteredVerdict
 pub mod EnteredWhole
 pub mod RoundLeaving

@@ -72,7 +72,7 @@ module _ (o : Origin) (done : List TraceSecond) (s : TraceSecond) (q : Point) (a
         let was = w.finds.may x verdict (subst (λ (fs : List (Visit × Verdict)). Contains fs (x, verdict)) same.found at) in (
           was.0,
           let le = was.1 in let times = ap (times_of x.card) same.entered in omega (arith, le, times),
-          verdict-left o was.0 (d.unit.left_since o.found.unit.began) ((card_of d x.card).left_since (found_of o.found x.card).began) (e.unit.left_since o.found.unit.began) ((card_of e x.card).left_since (found_of o.found x.card).began)
+          verdict-left o w.b done was.0 (d.unit.left_since o.found.unit.began) ((card_of d x.card).left_since (found_of o.found x.card).began) (e.unit.left_since o.found.unit.began) ((card_of e x.card).left_since (found_of o.found x.card).began)
               k.goes.left.unit (k.goes.left.card x.card) x.card s.number verdict was.2,
         );
     taken = λ x verdict at accepts.

@@ -44,7 +44,7 @@ use Rattle.run_moments.specs.Lines.{times_of}
 use Rattle.run_moments.specs.Moment.{finds_by}
 use Rattle.run_moments.proofs.Telling.{each-of}
 use Rattle.run_recorded.specs.Origin.{Origin, rule_of, start_at, first_of}
-use Rattle.run_recorded.specs.Ends.{recording_by, AreFound, AreVerdicts, MayBeWritten, AreSpared}
+use Rattle.run_recorded.specs.Ends.{recording_by, BringsAll, AreFound, AreVerdicts, MayBeWritten, AreSpared}
 use Rattle.run_recorded.specs.Beside.{CardsTold, cards_of, TellsMore, HaveLeftMore, MayBeFound, entered_in, overlaps_in, AreFewer, AreIdle, ASecondTellsMore, FoundTellsNoMore, QuietSecondsTellMore, DarkSecondsTellMore, AnOffLineTellsMore, AnOffCutTellsMore, FewerAreFound, AreFewFound, FewAreFoundOn}
 
 -- NUMBERS of the seconds so far
@@ -55,7 +55,7 @@ number-of n (x ∷ told) t h at = ⊎_elim
     (λ rest. let lt = number-of (n + 1) told t h.1 rest in omega (arith, lt))
     (Contains-append_cases (x ∷ []) told t at)
 
-before-next : (o : Origin) (done : List TraceSecond) (p : Progress) → Followed (rule_of o) (start_at o) o.from (first_of o) done p → (t : Told) → Contains (went p.log done).told t → t.second.number < p.next
+pub before-next : (o : Origin) (done : List TraceSecond) (p : Progress) → Followed (rule_of o) (start_at o) o.from (first_of o) done p → (t : Told) → Contains (went p.log done).told t → t.second.number < p.next
 before-next o done p f t at =
     let whole = spanned p.log o.from done f.order in
     let lt = number-of o.from (went p.log done).told t whole.seconds at in
@@ -218,6 +218,23 @@ verdict-on o done now log later unit card unit_now card_now c u (NotValid fid pl
 verdict-on o done now log later unit card unit_now card_now c u (TimeOverlap stored at) left_unit left_card same h =
     (h.0, h.1, (h.2.0, ⊎_elim (λ first. inl first) (λ again. inr (again.0, subst (λ (n : ℕ). 1 < n) (sym same) again.1, again.2, (again.3.0, left_card again.3.0 again.3.1, again.3.2))) h.2.1))
 
+-- and brings as many
+brings-on : (o : Origin) (done now : List TraceSecond) (log later : RunLog) (c : Card) (u : ℕ) (v : Verdict) → ((t : ℕ) → t ≤ u → entered_by (recording_by o now later) c t ≡ entered_by (recording_by o done log) c t) →
+    BringsAll (recording_by o done log) c u v → BringsAll (recording_by o now later) c u v
+brings-on o done now log later c u (Accepted replayed) same h = ⊎_elim
+    (λ all. inl all)
+    (λ before. inr (⊎_elim
+    (λ twice. inl (subst (λ (n : ℕ). 1 < n) (sym (same u (omega arith))) twice))
+    (λ once. let early : once.0 ≤ u = omega (arith, once.1) in inr (once.0, once.1, subst (λ (n : ℕ). 0 < n) (sym (same once.0 early)) once.2))
+    before))
+    h
+brings-on o done now log later c u (NotValid fid place) same h = h
+brings-on o done now log later c u (TimeOverlap stored at) same h = h
+
+-- both, in a second of this number
+abbrev IsSeenOf : Origin → List TraceSecond → RunLog → Devices → Visit → Verdict → ℕ → Type 0
+IsSeenOf o done log d x v n = IsVerdict (recording_by o done log) (d.unit.left_since o.found.unit.began) ((card_of d x.card).left_since (found_of o.found x.card).began) x.card n v × BringsAll (recording_by o done log) x.card n v
+
 pub verdicts-on : (o : Origin) (done now : List TraceSecond) (log later : RunLog) (unfound found : ℕ) (d e : Devices) (more : List Told) (from : ℕ) → AreVerdicts o done log unfound d → HaveLeftMore o d e → TellsMore (went log done).told (went later now).told more from →
     ((t : Told) (x : Visit) (v : Verdict) → Contains more t → Contains t.course.found (x, v) → MayBeFound o now later e t x v) →
     AreFound (e.unit.left_since o.found.unit.began) found later.breaks → AreVerdicts o now later found e
@@ -231,13 +248,15 @@ verdicts-on o done now log later unfound found d e more from old left tells fres
       let number : m.0.second.number ≡ t.second.number = ap (λ (y : CardsTold). y.number) m.2 in
       let was = old.each m.0 x v m.1 (subst (λ (fs : List (Visit × Verdict)). Contains fs (x, v)) (sym (ap (λ (y : CardsTold). y.found) m.2)) seen) in
       let lt = tells.before m.0 m.1 in
-      subst (λ (n : ℕ). IsVerdict (recording_by o now later) (e.unit.left_since o.found.unit.began) ((card_of e x.card).left_since (found_of o.found x.card).began) x.card n v) number
-      (verdict-on o done now log later (d.unit.left_since o.found.unit.began) ((card_of d x.card).left_since (found_of o.found x.card).began) (e.unit.left_since o.found.unit.began) ((card_of e x.card).left_since (found_of o.found x.card).began) x.card m.0.second.number v
-      left.unit (left.card x.card) (entered-same o done now log later more from tells x.card m.0.second.number lt) was))
+      subst (IsSeenOf o now later e x v) number (
+        verdict-on o done now log later (d.unit.left_since o.found.unit.began) ((card_of d x.card).left_since (found_of o.found x.card).began) (e.unit.left_since o.found.unit.began) ((card_of e x.card).left_since (found_of o.found x.card).began) x.card m.0.second.number v
+            left.unit (left.card x.card) (entered-same o done now log later more from tells x.card m.0.second.number lt) was.0,
+        brings-on o done now log later x.card m.0.second.number v (λ n low. entered-same o done now log later more from tells x.card n (omega (arith, low, lt))) was.1,
+      ))
       (λ behind.
       let m = mapped more (cards_of t) behind in
       let number : m.0.second.number ≡ t.second.number = ap (λ (y : CardsTold). y.number) m.2 in
-      subst (λ (n : ℕ). IsVerdict (recording_by o now later) (e.unit.left_since o.found.unit.began) ((card_of e x.card).left_since (found_of o.found x.card).began) x.card n v) number
+      subst (IsSeenOf o now later e x v) number
       (fresh m.0 x v m.1 (subst (λ (fs : List (Visit × Verdict)). Contains fs (x, v)) (sym (ap (λ (y : CardsTold). y.found) m.2)) seen)))
       (Contains-append_cases (map cards_of (went log done).told) (map cards_of more) (cards_of t) there);
 }

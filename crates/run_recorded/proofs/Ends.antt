@@ -90,7 +90,7 @@ module _ (o : Origin) (done : List TraceSecond) (p : Progress) (g : Travel) (mar
           judged = c.judged;
           verdicts = λ t e v at seen.
               subst (λ (n : ℕ). IsVerdict r (now.unit.left_since n) ((card_of now e.card).left_since (card_of began e.card).clock) e.card t.second.number v) unit-began
-              (subst (λ (n : ℕ). IsVerdict r (now.unit.left_since o.found.unit.began) ((card_of now e.card).left_since n) e.card t.second.number v) (found.clock e.card) (beside.verdicts.each t e v at seen));
+              (subst (λ (n : ℕ). IsVerdict r (now.unit.left_since o.found.unit.began) ((card_of now e.card).left_since n) e.card t.second.number v) (found.clock e.card) (beside.verdicts.each t e v at seen).0);
         }
 
     kept : (b : Break) → Contains p.log.breaks b → WasFound (now.unit.left_since began.unit.clock) b
@@ -129,6 +129,7 @@ module _ (o : Origin) (done : List TraceSecond) (p : Progress) (g : Travel) (mar
         record {
           safe = all_safe;
           caused = all_caused;
+          brings = λ t e v at seen. (beside.verdicts.each t e v at seen).1;
           odometer = odometer;
           whole = λ nothing. is-whole r marks began now o.from h.followed.order nothing all_safe all_caused unit_whole unit-later;
         }

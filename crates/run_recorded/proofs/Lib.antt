@@ -1,4 +1,5 @@
 pub mod Seconds
 pub mod Ends
 pub mod Beside
+pub mod Unentered
 pub mod Whole

@@ -24,7 +24,7 @@ use Rattle.run_course.specs.Dark.{all_dark}
 use Rattle.run_moments.specs.Lines.{times_of}
 use Rattle.run_moments.specs.Moment.{finds_by}
 use Rattle.run_recorded.specs.Origin.{Origin, rule_of, start_at, first_of}
-use Rattle.run_recorded.specs.Ends.{recording_by, AreFound, AreVerdicts, MayBeWritten, AreSpared}
+use Rattle.run_recorded.specs.Ends.{recording_by, BringsAll, AreFound, AreVerdicts, MayBeWritten, AreSpared}
 
 -- what a second tells of cards: who entered, and what was found
 pub record CardsTold : Type 0 where
@@ -46,10 +46,11 @@ pub record HaveLeftMore (o : Origin) (d e : Devices) : Type 0 where
   pub unit : (x : List ℕ) → d.unit.left_since o.found.unit.began x → e.unit.left_since o.found.unit.began x
   pub card : (c : Card) (x : List ℕ) → (card_of d c).left_since (found_of o.found c).began x → (card_of e c).left_since (found_of o.found c).began x
 
--- a find is one that may be made, by the images left since the start
+-- a find is one that may be made, by the images left since the start, and so many were brought
 abbrev pub MayBeFound : Origin → List TraceSecond → RunLog → Devices → Told → Visit → Verdict → Type 0
 MayBeFound o done log d t e v =
     IsVerdict (recording_by o done log) (d.unit.left_since o.found.unit.began) ((card_of d e.card).left_since (found_of o.found e.card).began) e.card t.second.number v
+    × BringsAll (recording_by o done log) e.card t.second.number v
 
 -- how often a card entered in some seconds, and how often it was found to tell of a later time
 abbrev pub entered_in : Card → Told → List Visit

@@ -59,8 +59,8 @@ use Rattle.run_moments.proofs.Cutting.{cut-decided}
 use Rattle.run_told.specs.Told.{AreFoundCards}
 use Rattle.run_recorded.specs.Origin.{Origin, rule_of, start_at, first_of, HasRecorded}
 use Rattle.run_recorded.specs.Seconds.{broke_off, seated_now, seated_next, AreTaken}
-use Rattle.run_recorded.specs.Ends.{recording_by, AreFound, AreVerdicts, AreSpared}
-use Rattle.run_recorded.specs.Beside.{AreFewFound}
+use Rattle.run_recorded.specs.Ends.{recording_by, BringsAll, AreFound, AreVerdicts, AreSpared}
+use Rattle.run_recorded.specs.Beside.{MayBeFound, AreFewFound}
 use Rattle.run_recorded.proofs.Seconds.{second-is_broken}
 use Rattle.run_recorded.proofs.Beside.{second-tells, verdicts-on, kept-on_cut}
 use Rattle.run_within.specs.Recorded.{Values, progress, carried, IsWritten, Recorded}
@@ -269,15 +269,15 @@ module _ (o : Origin) (done : List TraceSecond) (s : TraceSecond) (at : Phase) (
   verdicts = verdicts-on o done (done ++ s ∷ []) p.log log p.unfound v.unfound d d (t ∷ []) p.next w.verdicts (record { unit = λ x h. h; card = λ c x h. h }) (second-tells o done p f s log goes number)
       (λ x e verdict among seen.
       let same : t ≡ x = ⊎_elim (λ none. absurd (omega (arith, none.1))) (λ here. here) (Contains-push_cases [] t x among) in
-      subst (λ (y : Told). IsVerdict (recording_by o (done ++ s ∷ []) log) (d.unit.left_since o.found.unit.began) ((card_of d e.card).left_since (found_of o.found e.card).began) e.card y.second.number verdict) same
+      subst (λ (y : Told). MayBeFound o (done ++ s ∷ []) log d y e verdict) same
       (let there : Contains c.found (e, verdict) = subst (λ (fs : List (Visit × Verdict)). Contains fs (e, verdict)) (ap (λ (y : Told). y.course.found) (sym same) ∙ found-is) seen in
       let may = w.finds.may e verdict there in
       let is : t.second.number ≡ s.number = ap (λ (y : Told). y.second.number) ends in
       let count = often-by o done (done ++ s ∷ []) p.log log t e.card s.number told-now is in
       let entered_ : t.course.entered ≡ c.entered = ap (λ (y : Told). y.course.entered) ends in
-      subst (λ (n : ℕ). IsVerdict (recording_by o (done ++ s ∷ []) log) (d.unit.left_since o.found.unit.began) ((card_of d e.card).left_since (found_of o.found e.card).began) e.card n verdict) (sym is)
-      (verdict-by o (done ++ s ∷ []) log may.0 (d.unit.left_since o.found.unit.began) ((card_of d e.card).left_since (found_of o.found e.card).began) e.card s.number verdict
-      (let low = may.1 in let same_times = ap (times_of e.card) entered_ in omega (arith, low, count, same_times)) may.2)))
+      subst (λ (n : ℕ). IsVerdict (recording_by o (done ++ s ∷ []) log) (d.unit.left_since o.found.unit.began) ((card_of d e.card).left_since (found_of o.found e.card).began) e.card n verdict × BringsAll (recording_by o (done ++ s ∷ []) log) e.card n verdict) (sym is)
+      (verdict-by o w.b done (done ++ s ∷ []) log may.0 (d.unit.left_since o.found.unit.began) ((card_of d e.card).left_since (found_of o.found e.card).began) e.card s.number verdict
+      (let low = may.1 in let same_times = ap (times_of e.card) entered_ in omega (arith, low, count, same_times)) (λ n. entered-grows o done (done ++ s ∷ []) p.log log t e.card n told-now) may.2)))
       (subst (λ (n : ℕ). AreFound (d.unit.left_since o.found.unit.began) n log.breaks) (sym w.unfound)
       (subst (λ (bs : List Break). AreFound (d.unit.left_since o.found.unit.began) p.unfound (bs ++ cut_at s.number true (begun_by s at) ∷ [])) (sym w.moment.breaks_are)
       (kept-on_cut (d.unit.left_since o.found.unit.began) p.unfound p.log.breaks w.moment.breaks s.number true (begun_by s at) f.unfound w.verdicts.kept w.moment.uncut)))

@@ -12,25 +12,33 @@ use Rattle.history_model.specs.Book.{Book, kept}
 use Rattle.safety_model.specs.Safe.{IsVerdict}
 use Rattle.run_course.specs.Seconds.{kept_all}
 use Rattle.run_recorded.specs.Origin.{Origin}
-use Rattle.run_recorded.specs.Ends.{recording_by}
-use Rattle.run_within.specs.Within.{VerdictBy}
+use Rattle.run_recorded.specs.Ends.{recording_by, BringsAll}
+use Rattle.run_within.specs.Within.{Beginning, SeenBy, VerdictBy}
 
 -- what was found may be found as more was left
-pub verdict-left : (o : Origin) (n : ℕ) (unit card more_unit more_card : List ℕ → Type 0) → ((x : List ℕ) → unit x → more_unit x) → ((x : List ℕ) → card x → more_card x) → (c : Card) (u : ℕ) (v : Verdict) →
-    VerdictBy o n unit card c u v → VerdictBy o n more_unit more_card c u v
-verdict-left o n unit card more_unit more_card on_unit on_card c u (Accepted replayed) h =
+seen-by : (o : Origin) (n : ℕ) (unit card more_unit more_card : List ℕ → Type 0) → ((x : List ℕ) → unit x → more_unit x) → ((x : List ℕ) → card x → more_card x) → (c : Card) (u : ℕ) (v : Verdict) →
+    SeenBy o n unit card c u v → SeenBy o n more_unit more_card c u v
+seen-by o n unit card more_unit more_card on_unit on_card c u (Accepted replayed) h =
     (h.0, h.1, (h.2.0, h.2.1, on_unit h.2.0 h.2.2, on_card h.2.1 h.2.3, h.2.4, h.2.5))
-verdict-left o n unit card more_unit more_card on_unit on_card c u (NotValid fid place) h = h
-verdict-left o n unit card more_unit more_card on_unit on_card c u (TimeOverlap stored now) h =
+seen-by o n unit card more_unit more_card on_unit on_card c u (NotValid fid place) h = h
+seen-by o n unit card more_unit more_card on_unit on_card c u (TimeOverlap stored now) h =
+    (h.0, h.1, (h.2.0, ⊎_elim (λ first. inl first) (λ again. inr (again.0, again.1, again.2, (again.3.0, on_card again.3.0 again.3.1, again.3.2))) h.2.1))
+
+pub verdict-left : (o : Origin) (b : Beginning) (done : List TraceSecond) (n : ℕ) (unit card more_unit more_card : List ℕ → Type 0) → ((x : List ℕ) → unit x → more_unit x) → ((x : List ℕ) → card x → more_card x) → (c : Card) (u : ℕ) (v : Verdict) →
+    VerdictBy o b done n unit card c u v → VerdictBy o b done n more_unit more_card c u v
+verdict-left o b done n unit card more_unit more_card on_unit on_card c u v h = (seen-by o n unit card more_unit more_card on_unit on_card c u v h.0, h.1)
+
+verdict-so : (o : Origin) (done : List TraceSecond) (log : RunLog) (unit card more_unit more_card : List ℕ → Type 0) → ((x : List ℕ) → unit x → more_unit x) → ((x : List ℕ) → card x → more_card x) → (c : Card) (u : ℕ) (v : Verdict) →
+    IsVerdict (recording_by o done log) unit card c u v → IsVerdict (recording_by o done log) more_unit more_card c u v
+verdict-so o done log unit card more_unit more_card on_unit on_card c u (Accepted replayed) h =
+    (h.0, h.1, (h.2.0, h.2.1, on_unit h.2.0 h.2.2, on_card h.2.1 h.2.3, h.2.4, h.2.5))
+verdict-so o done log unit card more_unit more_card on_unit on_card c u (NotValid fid place) h = h
+verdict-so o done log unit card more_unit more_card on_unit on_card c u (TimeOverlap stored now) h =
     (h.0, h.1, (h.2.0, ⊎_elim (λ first. inl first) (λ again. inr (again.0, again.1, again.2, (again.3.0, on_card again.3.0 again.3.1, again.3.2))) h.2.1))
 
 pub seen-left : (o : Origin) (done : List TraceSecond) (log : RunLog) (unit card more_unit more_card : List ℕ → Type 0) → ((x : List ℕ) → unit x → more_unit x) → ((x : List ℕ) → card x → more_card x) → (c : Card) (u : ℕ) (v : Verdict) →
-    IsVerdict (recording_by o done log) unit card c u v → IsVerdict (recording_by o done log) more_unit more_card c u v
-seen-left o done log unit card more_unit more_card on_unit on_card c u (Accepted replayed) h =
-    (h.0, h.1, (h.2.0, h.2.1, on_unit h.2.0 h.2.2, on_card h.2.1 h.2.3, h.2.4, h.2.5))
-seen-left o done log unit card more_unit more_card on_unit on_card c u (NotValid fid place) h = h
-seen-left o done log unit card more_unit more_card on_unit on_card c u (TimeOverlap stored now) h =
-    (h.0, h.1, (h.2.0, ⊎_elim (λ first. inl first) (λ again. inr (again.0, again.1, again.2, (again.3.0, on_card again.3.0 again.3.1, again.3.2))) h.2.1))
+    IsVerdict (recording_by o done log) unit card c u v × BringsAll (recording_by o done log) c u v → IsVerdict (recording_by o done log) more_unit more_card c u v × BringsAll (recording_by o done log) c u v
+seen-left o done log unit card more_unit more_card on_unit on_card c u v h = (verdict-so o done log unit card more_unit more_card on_unit on_card c u v h.0, h.1)
 
 -- one minute more in the book
 pub kept-more : (new : List HistoryMinute) (i : HistoryMinute) (b : Book) → kept_all (new ++ i ∷ []) b ≡ kept i (kept_all new b)

@@ -82,7 +82,7 @@ module _ (o : Origin) (done : List TraceSecond) (s : TraceSecond) (at next : Pha
           let was = w.finds.may x verdict (same-found x verdict there) in (
             was.0,
             (let a = was.1 in let b = k.enter x.card in omega (arith, a, b)),
-            verdict-left o was.0 (d.unit.left_since o.found.unit.began) ((card_of d x.card).left_since (found_of o.found x.card).began) (e.unit.left_since o.found.unit.began) ((card_of e x.card).left_since (found_of o.found x.card).began)
+            verdict-left o w.b done was.0 (d.unit.left_since o.found.unit.began) ((card_of d x.card).left_since (found_of o.found x.card).began) (e.unit.left_since o.found.unit.began) ((card_of e x.card).left_since (found_of o.found x.card).began)
                 k.goes.left.unit (k.goes.left.card x.card) x.card s.number verdict was.2,
           );
       taken = λ x verdict there accepts. w.finds.taken x verdict (same-found x verdict there) accepts;

@@ -30,8 +30,8 @@ use Rattle.run_brought.specs.Going.{acceptances_in, IsTakenAt}
 use Rattle.run_crew.proofs.Sessions.{same_is}
 use Rattle.run_moments.specs.Lines.{times_of}
 use Rattle.run_recorded.specs.Origin.{Origin, first_of}
-use Rattle.run_recorded.specs.Ends.{recording_by}
-use Rattle.run_within.specs.Within.{Beginning, VerdictBy, often, IsFoundSo}
+use Rattle.run_recorded.specs.Ends.{recording_by, BringsAll}
+use Rattle.run_within.specs.Within.{Beginning, SeenBy, BringsBy, VerdictBy, often, IsFoundSo}
 
 -- EACH MINUTE that was decided is over
 pub over-front : (n : ℕ) (xs ys : List Minute) → All (λ (d : Minute). d.minute < n) (xs ++ ys) → AllByRecursion (λ (d : Minute). d.minute < n) xs
@@ -45,12 +45,26 @@ still start told t past n ds rest is over =
     minutes-still start told t past ds (subst (λ (k : ℕ). AllByRecursion (λ (d : Minute). d.minute < k / 60) ds) (sym is) (over-front (n / 60) ds rest over))
 
 -- WHAT WAS FOUND in a second, by how often the card has entered
-pub verdict-by : (o : Origin) (done : List TraceSecond) (log : RunLog) (n : ℕ) (unit card : List ℕ → Type 0) (c : Card) (u : ℕ) (v : Verdict) → n ≤ entered_by (recording_by o done log) c u → VerdictBy o n unit card c u v →
+seen-by : (o : Origin) (done : List TraceSecond) (log : RunLog) (n : ℕ) (unit card : List ℕ → Type 0) (c : Card) (u : ℕ) (v : Verdict) → n ≤ entered_by (recording_by o done log) c u → SeenBy o n unit card c u v →
     IsVerdict (recording_by o done log) unit card c u v
-verdict-by o done log n unit card c u (Accepted replayed) le h = h
-verdict-by o done log n unit card c u (NotValid fid place) le h = h
-verdict-by o done log n unit card c u (TimeOverlap stored now) le h =
+seen-by o done log n unit card c u (Accepted replayed) le h = h
+seen-by o done log n unit card c u (NotValid fid place) le h = h
+seen-by o done log n unit card c u (TimeOverlap stored now) le h =
     (h.0, h.1, (h.2.0, ⊎_elim (λ first. inl first) (λ again. inr (again.0, (let lt = again.1 in omega (arith, lt, le)), again.2, again.3)) h.2.1))
+
+-- and so many were brought
+brings-by : (o : Origin) (b : Beginning) (done now : List TraceSecond) (log : RunLog) (n : ℕ) (c : Card) (u : ℕ) (v : Verdict) → n ≤ entered_by (recording_by o now log) c u →
+    ((t : ℕ) → entered_by (recording_by o done b.run.log) c t ≤ entered_by (recording_by o now log) c t) → BringsBy o b done n c u v → BringsAll (recording_by o now log) c u v
+brings-by o b done now log n c u (Accepted replayed) le grows h = ⊎_elim
+    (λ all. inl all)
+    (λ before. inr (⊎_elim (λ twice. inl (omega (arith, twice, le))) (λ once. inr (once.0, once.1, (let some = once.2 in let more = grows once.0 in omega (arith, some, more)))) before))
+    h
+brings-by o b done now log n c u (NotValid fid place) le grows h = h
+brings-by o b done now log n c u (TimeOverlap stored at) le grows h = h
+
+pub verdict-by : (o : Origin) (b : Beginning) (done now : List TraceSecond) (log : RunLog) (n : ℕ) (unit card : List ℕ → Type 0) (c : Card) (u : ℕ) (v : Verdict) → n ≤ entered_by (recording_by o now log) c u →
+    ((t : ℕ) → entered_by (recording_by o done b.run.log) c t ≤ entered_by (recording_by o now log) c t) → VerdictBy o b done n unit card c u v → IsVerdict (recording_by o now log) unit card c u v × BringsAll (recording_by o now log) c u v
+verdict-by o b done now log n unit card c u v le grows h = (seen-by o now log n unit card c u v le h.0, brings-by o b done now log n c u v le grows h.1)
 
 -- how often it entered by the end of the second
 visits-as : (c : Card) (vs : List Visit) → times_of c vs ≡ length (filter (λ (e : Visit). same_card c e.card) vs)

@@ -43,7 +43,7 @@ finds-left o b done c u from new brought d e left h = record {
       let was = h.may x verdict at in (
         was.0,
         was.1,
-        verdict-left o was.0 (d.unit.left_since o.found.unit.began) ((card_of d x.card).left_since (found_of o.found x.card).began) (e.unit.left_since o.found.unit.began) ((card_of e x.card).left_since (found_of o.found x.card).began)
+        verdict-left o b done was.0 (d.unit.left_since o.found.unit.began) ((card_of d x.card).left_since (found_of o.found x.card).began) (e.unit.left_since o.found.unit.began) ((card_of e x.card).left_since (found_of o.found x.card).began)
             left.unit (left.card x.card) x.card u verdict was.2,
       );
   taken = h.taken;

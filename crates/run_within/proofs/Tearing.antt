@@ -131,7 +131,7 @@ module _ (o : Origin) (done : List TraceSecond) (s : TraceSecond) (at : Phase) (
         let was = w.finds.may x verdict (same-found x verdict there) in (
           was.0,
           subst (λ (vs : List Visit). was.0 ≤ often o w.b done (record c { entered = vs }) s.number x.card) (sym is.is.entered) was.1,
-          verdict-left o was.0 (d.unit.left_since o.found.unit.began) ((card_of d x.card).left_since (found_of o.found x.card).began) (e.unit.left_since o.found.unit.began) ((card_of e x.card).left_since (found_of o.found x.card).began)
+          verdict-left o w.b done was.0 (d.unit.left_since o.found.unit.began) ((card_of d x.card).left_since (found_of o.found x.card).began) (e.unit.left_since o.found.unit.began) ((card_of e x.card).left_since (found_of o.found x.card).began)
               j.left.unit (j.left.card x.card) x.card s.number verdict was.2,
         );
     taken = λ x verdict there accepts. w.finds.taken x verdict (same-found x verdict there) accepts;

@@ -177,8 +177,8 @@ written-fewer o b done c e at slot card waits fewer u kept after but found enter
     }
 
 -- who is accepted was valid, and told of no later time
-pub accepted-valid : (o : Origin) (n : ℕ) (unit card : List ℕ → Type 0) (c : Card) (u : ℕ) (verdict : Verdict) → is_accepting verdict ≡ true → VerdictBy o n unit card c u verdict →
+pub accepted-valid : (o : Origin) (b : Beginning) (done : List TraceSecond) (n : ℕ) (unit card : List ℕ → Type 0) (c : Card) (u : ℕ) (verdict : Verdict) → is_accepting verdict ≡ true → VerdictBy o b done n unit card c u verdict →
     IsOwnValid (card_image o.recording c) × ((own_view (card_image o.recording c)).stored ≤ u)
-accepted-valid o n unit card c u (Accepted replayed) is h = (h.0, h.1)
-accepted-valid o n unit card c u (NotValid fid place) is h = absurd (cc)
-accepted-valid o n unit card c u (TimeOverlap stored now) is h = absurd (cc)
+accepted-valid o b done n unit card c u (Accepted replayed) is h = (h.0.0, h.0.1)
+accepted-valid o b done n unit card c u (NotValid fid place) is h = absurd (cc)
+accepted-valid o b done n unit card c u (TimeOverlap stored now) is h = absurd (cc)

@@ -35,7 +35,7 @@ use Rattle.unit_model.specs.Image.{odometer_at}
 use Rattle.unit_rule.specs.Odometer.{HasTravelled}
 use Rattle.joint_rule.specs.Views.{owed}
 use Rattle.card_image.specs.Own.{own_view, own_bad_file, IsOwnValid}
-use Rattle.safety_model.specs.Recording.{card_image, unit_seen}
+use Rattle.safety_model.specs.Recording.{card_image, unit_seen, brought as brought_by}
 use Rattle.safety_model.specs.Cards.{entered, overlaps, is_overlap}
 use Rattle.safety_model.specs.Safe.{Devices, card_of, breakdowns_of, entered_by}
 use Rattle.run_rule.specs.Found.{found_of}
@@ -82,15 +82,25 @@ told_before b done = (went b.run.log done).told
 abbrev pub course_in : Beginning → List TraceSecond → TraceSecond → Phase → RunLog → Course
 course_in b done s at log = course_at log (went b.run.log done).before s at
 
--- What may be found of a card in a second in whose minute it has entered so often (the same as `IsVerdict` of safety_model, by that number).
-abbrev pub VerdictBy : Origin → (often : ℕ) → (unit card : List ℕ → Type 0) → Card → ℕ → Verdict → Type 0
-VerdictBy o often unit card c u (Accepted replayed) =
+-- What may be found of a card in a second in whose minute it has entered so often (the same as `IsVerdict` of safety_model, by that number),
+abbrev pub SeenBy : Origin → (often : ℕ) → (unit card : List ℕ → Type 0) → Card → ℕ → Verdict → Type 0
+SeenBy o often unit card c u (Accepted replayed) =
     IsOwnValid (card_image o.recording c) × ((own_view (card_image o.recording c)).stored ≤ u)
     × ((i x : List ℕ) × unit i × card x × ((own_view x).stored ≤ u) × (length (owed c (unit_seen o.recording i) (own_view x)) ≡ replayed))
-VerdictBy o often unit card c u (NotValid fid place) = own_bad_file (card_image o.recording c) ≡ Some (fid, place)
-VerdictBy o often unit card c u (TimeOverlap stored now) = IsOwnValid (card_image o.recording c) × (now ≡ u) × ((u < stored)
+SeenBy o often unit card c u (NotValid fid place) = own_bad_file (card_image o.recording c) ≡ Some (fid, place)
+SeenBy o often unit card c u (TimeOverlap stored now) = IsOwnValid (card_image o.recording c) × (now ≡ u) × ((u < stored)
     × ((stored ≡ (own_view (card_image o.recording c)).stored)
     ⊎ (((own_view (card_image o.recording c)).stored ≤ u) × (1 < often) × (stored ≡ 60 * suc (u / 60)) × ((x : List ℕ) × card x × ((own_view x).stored ≡ stored)))))
+
+-- and what an acceptance brings, by that number and the seconds before (the same as `BringsAll` of run_recorded).
+abbrev pub BringsBy : Origin → Beginning → List TraceSecond → (often : ℕ) → Card → ℕ → Verdict → Type 0
+BringsBy o b done often c u (Accepted replayed) =
+    (replayed ≡ length (brought_by o.recording c).owed) ⊎ ((1 < often) ⊎ ((t : ℕ) × (t < u) × (0 < entered_by (recording_by o done b.run.log) c t)))
+BringsBy o b done often c u (NotValid fid place) = Unit {0}
+BringsBy o b done often c u (TimeOverlap stored now) = Unit {0}
+
+abbrev pub VerdictBy : Origin → Beginning → List TraceSecond → (often : ℕ) → (unit card : List ℕ → Type 0) → Card → ℕ → Verdict → Type 0
+VerdictBy o b done often unit card c u v = SeenBy o often unit card c u v × BringsBy o b done often c u v
 
 -- how often a card entered in the minute of a second, by what has come of that so far
 abbrev pub often : Origin → Beginning → List TraceSecond → Course → ℕ → Card → ℕ
@@ -100,7 +110,7 @@ often o b done c u card = entered_by (recording_by o done b.run.log) card u + ti
 -- behind it no minute before this one is to be kept.
 pub record IsFoundSo (o : Origin) (b : Beginning) (done : List TraceSecond) (c : Course) (u from : ℕ) (new : List HistoryMinute) (brought : Card → List ℕ) (d : Devices) : Type 0 where
   pub may : (e : Visit) (v : Verdict) → Contains c.found (e, v) → (n : ℕ) × (n ≤ often o b done c u e.card)
-      × VerdictBy o n (d.unit.left_since o.found.unit.began) ((card_of d e.card).left_since (found_of o.found e.card).began) e.card u v
+      × VerdictBy o b done n (d.unit.left_since o.found.unit.began) ((card_of d e.card).left_since (found_of o.found e.card).began) e.card u v
   pub taken : (e : Visit) (v : Verdict) → Contains c.found (e, v) → is_accepting v ≡ true → (k : ℕ) × Contains (brought e.card) k × IsTakenAt (first_of o) b.run.book (kept_all new b.run.book) new k
   pub late : (e : Visit) (v : Verdict) → Contains c.found (e, v) → is_accepting v ≡ true → u / 60 ≤ from
 

@@ -35,6 +35,7 @@ module _ (x a b : List ℕ) (start : ℕ) (items : List Item) (out : Outcome) (p
             (subst (λ (n : ℕ). Caused n (λ c. (card_of p c).clock) (breakdowns_of p)) unit h.ends.caused.causes));
         complete = h.ends.caused.complete;
       };
+      brings = h.ends.brings;
       odometer = h.ends.odometer;
       whole = h.ends.whole;
     };
